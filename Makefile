@@ -1,0 +1,56 @@
+# Proves, builds, tests and installs mgr. `make help` lists the targets.
+# All real work is done by rt, the command of the Rattle toolchain.
+
+PREFIX = /usr/local
+
+MAKEFLAGS += --no-print-directory
+
+# Folders too: they are newer once a file in them is gone.
+SOURCES := crates.txt HANDLES \
+	$(shell find $(wildcard crates/*/src crates/*/specs crates/*/proofs))
+
+NEED_RT = command -v rt >/dev/null || { \
+	echo "rt, the Rattle toolchain, is not installed: put KIT/bin on PATH" >&2; exit 1; }
+
+.PHONY: build try test bench install clean help
+
+build: build/mgr
+	@echo "build/mgr is up to date"
+
+# `rt run` proves and builds the crates below mgr first, and runs what it built: on no input,
+# mgr shows an empty text. The copy is dated from before the build, so that an edit made
+# meanwhile is built the next time, and is moved into place, so that a mgr that runs goes on.
+build/mgr: $(SOURCES)
+	@$(NEED_RT)
+	@echo "proving and building mgr; a first build takes minutes"
+	@mkdir -p build && touch build/begun
+	@cd crates/mgr && rt run -- show </dev/null
+	@cp crates/mgr/out/mgr build/mgr.new
+	@touch -r build/begun build/mgr.new
+	@mv build/mgr.new build/mgr
+
+try: build/mgr
+	@examples/try.sh
+
+# The gate's last line is the verdict, so nothing may follow it.
+test:
+	@$(NEED_RT); exec rt ci
+
+bench:
+	@bench/run.sh
+
+install: build/mgr
+	mkdir -p "$(DESTDIR)$(PREFIX)/bin"
+	rm -f "$(DESTDIR)$(PREFIX)/bin/mgr"
+	cp build/mgr "$(DESTDIR)$(PREFIX)/bin/mgr"
+
+clean:
+	rm -rf build crates/*/out
+
+help:
+	@echo "make          proves and builds mgr, and leaves it at build/mgr"
+	@echo "make try      shows one note from two people's logs, in either order"
+	@echo "make test     runs every proof and test from nothing; the last line counts them"
+	@echo "make bench    times mgr on generated logs (needs python3)"
+	@echo "make install  copies mgr to PREFIX/bin (PREFIX=$(PREFIX); DESTDIR is put before it)"
+	@echo "make clean    removes what was built and proved"

@@ -1,0 +1,10 @@
+pub mod IdentifierLaws
+pub mod ContentLaws
+pub mod PathLaws
+pub mod BeforeLaws
+pub mod PlacedLaws
+pub mod OrderLaws
+pub mod OperationLaws
+pub mod AnswerLaws
+pub mod TakenLaws
+pub mod KnownLaws

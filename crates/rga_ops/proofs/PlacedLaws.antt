@@ -1,0 +1,158 @@
+-- Complete elements under their root paths, and the entries of the map that has them.
+use Rattle.std.proofs.Common.{◌≡◌, Bool, true, false, cond, ◌&&◌, ◌||◌, T, List, [], ◌∷◌, map, refl, sym, ap, ◌∙◌, subst, true≢false}
+use Rattle.std.specs.Prelude.{Some, None}
+use Rattle.std.specs.Option.{option_map}
+use Rattle.std.specs.Cmp.{Equal-is, tied_itself}
+use Rattle.std.specs.Ordering.{eq_by_cmp, is_eq, is_lt, ordering_reverse}
+use Rattle.std.specs.List.{list_any, filter_map, cons_option, AllByRecursion}
+use Rattle.std.specs.declared.cmp.Ordering.{Ordering}
+use Rattle.std.specs.declared.cmp.Ordering.TheVariants.{Less, Equal, Greater}
+use Rattle.std.specs.FinMap as finite_map
+use Rattle.std.specs.FinMap.{find, is_sorted}
+use Rattle.std.specs.FinMap.Entries.{same_entries, below_all}
+use Rattle.std.proofs.lemmas.Bool.{or_right}
+use Rattle.std.proofs.lemmas.Option.{same_Some, none-some}
+use Rattle.rga_ops.specs.Identifier.{Identifier, is_root}
+use Rattle.rga_ops.specs.Content.{Content}
+use Rattle.rga_ops.specs.RootPath.{Path, path_cmp, root_path, IsRootPath, at_root, below}
+use Rattle.rga_ops.specs.Order.{placed, by_path, order}
+use Rattle.rga_ops.proofs.IdentifierLaws.{ids_total, is, same_id}
+use Rattle.rga_ops.proofs.BeforeLaws.{paths_total, paths_exact}
+use Rattle.rga_ops.proofs.ContentLaws.{same_option}
+use Rattle.rga_ops.proofs.PathLaws.{root_path-is, is-root_path, one_element, key_of}
+
+same_path : (p q : Path) → eq_by_cmp path_cmp p q ≡ true → p ≡ q
+same_path p q e = paths_exact p q ((Equal-is (path_cmp p q)).0 e)
+
+tied_path : (p : Path) → eq_by_cmp path_cmp p p ≡ true
+tied_path p = ap is_eq (tied_itself paths_total p)
+
+-- an element with its root path
+pub record IsPlaced (c : Content) (id : Identifier) (p : Path) : Type 0 where
+  pub element : is_root id ≡ false
+  pub path : IsRootPath c id p
+
+pub placed-is : (c : Content) (id : Identifier) (e : Path × Identifier) → placed c id ≡ Some e → (e.1 ≡ id) × IsPlaced c id e.0
+placed-is c id e h =
+    elim (is_root id) as (λ b. is_root id ≡ b → cond b None (option_map (λ p. (p, id)) (root_path c id)) ≡ Some e → (e.1 ≡ id) × IsPlaced c id e.0) [
+      | true ↦ λ r h. absurd (none-some _ h)
+      | false ↦ λ r h. elim (root_path c id) as (λ o. root_path c id ≡ o → option_map (λ p. (p, id)) o ≡ Some e → (e.1 ≡ id) × IsPlaced c id e.0) [
+        | None ↦ λ f h. absurd (none-some _ h)
+        | Some p ↦ λ f h. let s : (p, id) ≡ e = same_Some _ _ h in
+            (sym (ap (λ (x : Path × Identifier). x.1) s), record { element = r; path = subst (λ q. IsRootPath c id q) (ap (λ (x : Path × Identifier). x.0) s) (root_path-is f) })
+      ] refl h
+    ] refl h
+
+pub is-placed : (c : Content) (id : Identifier) (p : Path) → IsPlaced c id p → placed c id ≡ Some (p, id)
+is-placed c id p h = ap (λ b. cond b None (option_map (λ p. (p, id)) (root_path c id))) h.element ∙ ap (option_map (λ p. (p, id))) (is-root_path h.path)
+
+-- what the entries of a list of identifiers give under a path
+pub find-placed : (c : Content) (ks : List Identifier) (p : Path) (id : Identifier) → find path_cmp p (filter_map (placed c) ks) ≡ Some id → IsPlaced c id p
+find-placed c [] p id h = absurd (none-some _ h)
+find-placed c (k ∷ ks) p id h =
+    elim (placed c k) as (λ o. placed c k ≡ o → find path_cmp p (cons_option o (filter_map (placed c) ks)) ≡ Some id → IsPlaced c id p) [
+      | None ↦ λ f h. find-placed c ks p id h
+      | Some e ↦ λ f h. elim (eq_by_cmp path_cmp p e.0) as (λ b. eq_by_cmp path_cmp p e.0 ≡ b → cond b (Some e.1) (find path_cmp p (filter_map (placed c) ks)) ≡ Some id → IsPlaced c id p) [
+        | true ↦ λ t h.
+            let w : (e.1 ≡ k) × IsPlaced c k e.0 = placed-is c k e f in
+            subst (λ i. IsPlaced c i p) (sym w.0 ∙ same_Some _ _ h) (subst (λ q. IsPlaced c k q) (sym (same_path p e.0 t)) w.1)
+        | false ↦ λ t h. find-placed c ks p id h
+      ] refl h
+    ] refl h
+
+pub placed-find : (c : Content) (ks : List Identifier) (p : Path) (id : Identifier) → IsPlaced c id p → list_any (is id) ks ≡ true → find path_cmp p (filter_map (placed c) ks) ≡ Some id
+placed-find c [] p id w h = absurd (true≢false (sym h))
+placed-find c (k ∷ ks) p id w h =
+    elim (is id k) as (λ b. is id k ≡ b → (b || list_any (is id) ks) ≡ true → find path_cmp p (cons_option (placed c k) (filter_map (placed c) ks)) ≡ Some id) [
+      | true ↦ λ t h.
+          let here : placed c k ≡ Some (p, id) = ap (placed c) (sym (same_id id k t)) ∙ is-placed c id p w in
+          ap (λ o. find path_cmp p (cons_option o (filter_map (placed c) ks))) here
+          ∙ ap (λ b. cond b (Some id) (find path_cmp p (filter_map (placed c) ks))) (tied_path p)
+      | false ↦ λ t h. elim (placed c k) as (λ o. placed c k ≡ o → find path_cmp p (cons_option o (filter_map (placed c) ks)) ≡ Some id) [
+        | None ↦ λ f. placed-find c ks p id w h
+        | Some e ↦ λ f. elim (eq_by_cmp path_cmp p e.0) as (λ b. eq_by_cmp path_cmp p e.0 ≡ b → cond b (Some e.1) (find path_cmp p (filter_map (placed c) ks)) ≡ Some id) [
+          | true ↦ λ s.
+              let v : (e.1 ≡ k) × IsPlaced c k e.0 = placed-is c k e f in
+              let u : IsPlaced c k p = subst (λ q. IsPlaced c k q) (sym (same_path p e.0 s)) v.1 in
+              let same : id ≡ k = one_element w.element u.element w.path u.path in
+              absurd (true≢false (sym (ap is_eq (tied_itself ids_total k)) ∙ ap (λ i. is i k) (sym same) ∙ t))
+          | false ↦ λ s. placed-find c ks p id w h
+        ] refl
+      ] refl
+    ] refl h
+
+-- an element that has a root path is inserted
+pub placed_key : (c : Content) (id : Identifier) (p : Path) → IsPlaced c id p → list_any (is id) (finite_map.keys c.inserted) ≡ true
+placed_key c id p w = key_of_path w.element w.path
+  where
+    key_of_path : {i : Identifier} {q : Path} → is_root i ≡ false → IsRootPath c i q → list_any (is i) (finite_map.keys c.inserted) ≡ true
+    key_of_path other (at_root r e) = absurd (true≢false (sym r ∙ other))
+    key_of_path {i} other (below x q r g s e) = key_of c i x g
+
+pub get-by_path : (c : Content) (p : Path) (id : Identifier) → finite_map.get (by_path c) p ≡ Some id → IsPlaced c id p
+get-by_path c p id h = find-placed c (finite_map.keys c.inserted) p id (sym (finite_map.get-from_entries paths_total _ p) ∙ h)
+
+pub by_path-get : (c : Content) (p : Path) (id : Identifier) → IsPlaced c id p → finite_map.get (by_path c) p ≡ Some id
+by_path-get c p id w = finite_map.get-from_entries paths_total _ p ∙ placed-find c (finite_map.keys c.inserted) p id w (placed_key c id p w)
+
+-- entries in the order of their paths, of each element that has a root path and of no other, are those of the order
+pub entries_are : (c : Content) (es : List (Path × Identifier)) → T (is_sorted path_cmp es) → ((p : Path) (id : Identifier) → find path_cmp p es ≡ Some id → IsPlaced c id p) → ((p : Path) (id : Identifier) → IsPlaced c id p → find path_cmp p es ≡ Some id) → es ≡ finite_map.entries (by_path c)
+entries_are c es sorted sound full =
+    same_entries path_cmp paths_total paths_exact es (finite_map.entries (by_path c)) sorted (finite_map.entries_sorted (by_path c))
+    (λ p. same_option (find path_cmp p es) (find path_cmp p (finite_map.entries (by_path c)))
+    (λ id h. sym (finite_map.get-entries (by_path c) p) ∙ by_path-get c p id (sound p id h))
+    (λ id h. full p id (get-by_path c p id (finite_map.get-entries (by_path c) p ∙ h))))
+
+pub order_is : (c : Content) (es : List (Path × Identifier)) → T (is_sorted path_cmp es) → ((p : Path) (id : Identifier) → find path_cmp p es ≡ Some id → IsPlaced c id p) → ((p : Path) (id : Identifier) → IsPlaced c id p → find path_cmp p es ≡ Some id) → map (λ e. e.1) es ≡ order c
+order_is c es sorted sound full = ap (map (λ (e : Path × Identifier). e.1)) (entries_are c es sorted sound full)
+
+-- what is found under a path is one of the identifiers that the entries were made of
+pub find-among : (c : Content) (ks : List Identifier) (p : Path) (id : Identifier) → find path_cmp p (filter_map (placed c) ks) ≡ Some id → list_any (is id) ks ≡ true
+find-among c [] p id h = absurd (none-some _ h)
+find-among c (k ∷ ks) p id h =
+    elim (placed c k) as (λ o. placed c k ≡ o → find path_cmp p (cons_option o (filter_map (placed c) ks)) ≡ Some id → (is id k || list_any (is id) ks) ≡ true) [
+      | None ↦ λ f h. or_right (is id k) (list_any (is id) ks) (find-among c ks p id h)
+      | Some e ↦ λ f h. elim (eq_by_cmp path_cmp p e.0) as (λ b. cond b (Some e.1) (find path_cmp p (filter_map (placed c) ks)) ≡ Some id → (is id k || list_any (is id) ks) ≡ true) [
+        | true ↦ λ h.
+            let w : (e.1 ≡ k) × IsPlaced c k e.0 = placed-is c k e f in
+            ap (λ i. is i k || list_any (is id) ks) (sym (same_Some _ _ h) ∙ w.0) ∙ ap (λ b. b || list_any (is id) ks) (ap is_eq (tied_itself ids_total k))
+        | false ↦ λ h. or_right (is id k) (list_any (is id) ks) (find-among c ks p id h)
+      ] h
+    ] refl h
+
+-- ---- entries in the order of their paths
+
+all_zip : {A : Type 0} (P Q S : A → Type 0) → ((x : A) → P x → Q x → S x) → (xs : List A) → AllByRecursion P xs → AllByRecursion Q xs → AllByRecursion S xs
+all_zip P Q S f [] p q = tt
+all_zip P Q S f (x ∷ xs) p q = (f x p.0 q.0, all_zip P Q S f xs p.1 q.1)
+
+pub both_so : (a b : Bool) → T (a && b) → T a × T b
+both_so true b h = (tt, h)
+both_so false b h = absurd h
+
+later_apart : (o : Ordering) → T (is_lt o) → is_eq (ordering_reverse o) ≡ false
+later_apart Less h = refl
+later_apart Equal h = absurd h
+later_apart Greater h = absurd h
+
+apart : (k : Path) (es : List (Path × Identifier)) → T (below_all path_cmp k es) → AllByRecursion (λ (e : Path × Identifier). eq_by_cmp path_cmp e.0 k ≡ false) es
+apart k [] h = tt
+apart k (e ∷ es) h =
+    let s : T (is_lt (path_cmp k e.0)) × T (below_all path_cmp k es) = both_so (is_lt (path_cmp k e.0)) (below_all path_cmp k es) h in
+    (ap is_eq (paths_total.antisymm e.0 k) ∙ later_apart (path_cmp k e.0) s.0, apart k es s.1)
+
+-- each entry of a sorted list is the one that is found under its path
+pub each_found : (es : List (Path × Identifier)) → T (is_sorted path_cmp es) → AllByRecursion (λ (e : Path × Identifier). find path_cmp e.0 es ≡ Some e.1) es
+each_found [] h = tt
+each_found (k ∷ es) h =
+    let s : T (below_all path_cmp k.0 es) × T (is_sorted path_cmp es) = both_so (below_all path_cmp k.0 es) (is_sorted path_cmp es) h in (
+      ap (λ r. cond (is_eq r) (Some k.1) (find path_cmp k.0 es)) (tied_itself paths_total k.0),
+      all_zip (λ (e : Path × Identifier). find path_cmp e.0 es ≡ Some e.1) (λ (e : Path × Identifier). eq_by_cmp path_cmp e.0 k.0 ≡ false) (λ (e : Path × Identifier). find path_cmp e.0 (k ∷ es) ≡ Some e.1)
+          (λ e f a. ap (λ b. cond b (Some k.1) (find path_cmp e.0 es)) a ∙ f) es (each_found es s.1) (apart k.0 es s.0),
+    )
+
+pub entries_placed : (c : Content) → AllByRecursion (λ (e : Path × Identifier). IsPlaced c e.1 e.0) (finite_map.entries (by_path c))
+entries_placed c =
+    let f : AllByRecursion (λ (e : Path × Identifier). find path_cmp e.0 (finite_map.entries (by_path c)) ≡ Some e.1) (finite_map.entries (by_path c)) = each_found (finite_map.entries (by_path c)) (finite_map.entries_sorted (by_path c)) in
+    all_zip (λ (e : Path × Identifier). find path_cmp e.0 (finite_map.entries (by_path c)) ≡ Some e.1) (λ (e : Path × Identifier). find path_cmp e.0 (finite_map.entries (by_path c)) ≡ Some e.1) (λ (e : Path × Identifier). IsPlaced c e.1 e.0)
+    (λ e h _. get-by_path c e.0 e.1 (finite_map.get-entries (by_path c) e.0 ∙ h)) (finite_map.entries (by_path c)) f f

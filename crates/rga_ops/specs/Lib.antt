@@ -1,0 +1,6 @@
+pub mod Identifier
+pub mod Operation
+pub mod Content
+pub mod RootPath
+pub mod Order
+pub mod Answer

@@ -1,0 +1,21 @@
+//! Identifiers and operations of a replicated text, and what they mean.
+//!
+//! The text is a Replicated Growable Array in its timestamped-insertion-tree form (Attiya and
+//! others 2016; Roh and others 2011). This crate has the two things that travel, `Id` and `Op`,
+//! the answers to them, `Taken` and `Refusal`, and in `specs/` the definitions that the contracts
+//! of every crate above cite: content, join, root path, order list, text. It stands on std alone.
+//! The layer above may rest on `Id`'s ranges, on `Op::check`, and on the theorems of `laws`:
+//! each is the contract of a function with no body, so that the check proves it.
+#![tactic(auto)]
+
+mod id;
+pub mod laws;
+mod op;
+mod refusal;
+
+pub use id::Id;
+pub use op::Op;
+pub use refusal::{Refusal, Taken};
+
+#[cfg(test)]
+mod tests;
