@@ -1,0 +1,6 @@
+pub mod Limit
+pub mod Found
+pub mod Kept
+pub mod Entries
+pub mod Growth
+pub mod Placing

@@ -1,0 +1,32 @@
+//! What takes operations.
+ghost use Rattle.std.specs.Prelude.{◌≡◌, ◌≢◌, ℕ, Ok, Err};
+ghost use Rattle.rga_ops.specs.Content.{Content, join, single};
+ghost use Rattle.rga_ops.specs.Answer.{answer};
+ghost use Rattle.rga_ops.specs.declared.op.Op.{Op as Operation};
+
+use rga_ops::{Op, Refusal, Taken};
+
+/// Something that holds a content and takes operations into it.
+pub trait Taker {
+    /// What it holds.
+    ghost content: { Self → Content };
+
+    /// How many identifiers it may know.
+    ghost capacity: { Self → ℕ };
+
+    /// The operations that it may need memory for.
+    ghost may_grow: { Self → Operation → Type 0 };
+
+    /// Takes an operation. `New` adds exactly it to the content; `Known` says that it was there.
+    ///
+    /// Refusals, in this order: `BadId`, `BadOrder`, `Conflict`, `Full`, `Memory`. A refusal
+    /// changes nothing. `Known` and every refusal but `Memory` take no memory.
+    fn apply(&mut self, op: Op) -> Result<Taken, Refusal>
+        ensures exact { result ≢ Err Refusal.Memory → result ≡ answer (capacity self.old) (content self.old) op }
+        ensures memory { result ≡ Err Refusal.Memory → answer (capacity self.old) (content self.old) op ≡ Ok Taken.New }
+        ensures growth { result ≡ Err Refusal.Memory → may_grow self.old op }
+
+        ensures new { result ≡ Ok Taken.New → content self.new ≡ join (content self.old) (single op) }
+        ensures same { result ≢ Ok Taken.New → content self.new ≡ content self.old }
+        ensures limit { capacity self.new ≡ capacity self.old };
+}

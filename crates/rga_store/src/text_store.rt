@@ -1,0 +1,57 @@
+//! What keeps a text.
+ghost use Rattle.std.specs.Prelude.{◌≡◌, ◌≤◌, ℕ, true, false, Ok, Err, IfOk, IfErr, MatchResult};
+ghost use Rattle.std.specs.Option.{option_map};
+ghost use Rattle.std.specs.FinMap as finite_map;
+ghost use Rattle.std.specs.FinSet as finite_set;
+ghost use Rattle.rga_ops.specs.Identifier.{Identifier};
+ghost use Rattle.rga_ops.specs.Content.{nothing, known as known_ids, IsSound};
+ghost use Rattle.rga_ops.specs.Order.{order as order_of};
+ghost use Rattle.rga_ops.specs.declared.op.Op.TheVariants.{Delete};
+ghost use Rattle.rga_store.specs.Limit.{is_limit};
+
+use crate::taker::Taker;
+use rga_ops::{Id, Refusal};
+use std::alloc::Global;
+
+/// The greatest limit of a store.
+pub const MAX_LIMIT: usize = 1000000;
+
+/// A store of a text: what it holds, and its elements in order. All that it answers follows from
+/// its content and its limit.
+pub trait TextStore: Taker + Sized {
+    /// An empty store that may know `limit` identifiers. `Range` unless that is 1 to `MAX_LIMIT`;
+    /// then `Memory`.
+    fn new(alloc: Global, limit: usize) -> Result<Self, Refusal>
+        ensures range { is_limit limit ≡ false → result ≡ Err Refusal.Range }
+        ensures made { is_limit limit ≡ true → MatchResult result
+            (λ s. (Self.content s ≡ nothing) × (Self.capacity s ≡ limit)) (λ e. e ≡ Refusal.Memory) };
+
+    /// The parent and the character of an element that is inserted. Takes no memory.
+    fn get(&self, id: Id) -> Option<(Id, char)>
+        ensures { result ≡ option_map (λ x. (x.parent, x.ch)) (finite_map.get (Self.content self.now).inserted id) };
+
+    /// Whether an identifier is deleted, be it inserted or not. Takes no memory.
+    fn is_deleted(&self, id: Id) -> bool
+        ensures { result ≡ finite_set.contains (Self.content self.now).deleted id };
+
+    /// How many identifiers are inserted, deleted or both. Takes no memory.
+    fn known(&self) -> usize
+        ensures known { result ≡ finite_set.len (known_ids (Self.content self.now)) }
+        ensures within { result ≤ Self.capacity self.now }
+        ensures sound { IsSound (Self.content self.now) };
+
+    /// How many identifiers it may know. Takes no memory.
+    fn limit(&self) -> usize
+        ensures limit { result ≡ Self.capacity self.now }
+        ensures range { is_limit result ≡ true };
+
+    /// The complete elements, deleted ones too, in the order of their root paths: a parent before
+    /// its children, and of siblings the one with the larger identifier first (Attiya and others
+    /// 2016). `Memory` alone.
+    fn order(&self) -> Result<Vec<Id>, Refusal>
+        ensures ok { IfOk result (λ ids. ids.items ≡ order_of (Self.content self.now)) }
+        ensures memory { IfErr result (λ e. e ≡ Refusal.Memory) };
+
+    /// The deletion of an inserted element takes no memory.
+    ghost deletes_freely: { (s : Self) (id : Identifier) → finite_map.contains_key (Self.content s).inserted id ≡ true → ¬ (Self.may_grow s (Delete id)) };
+}
