@@ -1,0 +1,158 @@
+-- What the parts of a line say.
+use Rattle.std.proofs.Common.{◌≡◌, ℕ, ◌<◌, ◌≤◌, ◌&&◌, ◌==◌, Bool, true, false, cond, nat_le, nat_lt, List, [], ◌∷◌, ◌++◌, length, Option, Some, None, Ok, Err, option_and_then, refl, ap, ◌∙◌, arith, lt-ltb, le-ltb, ne_eqb}
+use Rattle.std.proofs.lemmas.Bool.{and_parts, and_left, leb-true}
+use Rattle.std.specs.Prelude.{⊤, codes}
+use Rattle.std.specs.Str.{IsUtf8, is_utf8, chars, bytes_eq}
+use Rattle.std.specs.Char.{encode_utf8}
+use Rattle.std.proofs.lemmas.Str.{chars-nil, chars_past_char, IsUtf8-past_char, is_utf8-from_IsUtf8, IsUtf8-from_is_utf8}
+use Rattle.std.proofs.lemmas.List.{nil_from_length}
+use Rattle.serde_json.specs.declared.value.Value.{Value}
+use Rattle.serde_json.specs.Data.{Data, Items}
+use Rattle.serde_json.specs.Read.{read}
+use Rattle.serde_json.specs.Find.{get, as_str}
+use Rattle.serde_json.specs.View.{items_view}
+use Rattle.rga_ops.specs.Identifier.{Identifier, identifier, is_root, is_in_range}
+use Rattle.rga_ops.specs.Operation.{checked}
+use Rattle.rga_ops.specs.declared.op.Op.{Op}
+use Rattle.rga_ops.specs.declared.op.Op.TheVariants.{Insert}
+use Rattle.rga_lines.specs.Table.{Reading, only_char, two_numbers, if_in_range, element_of, parent_of, with_order, with_char, with_identifiers, with_types, insertion, with_identifier, with_type, deletion, of_kind, with_name, with_op, with_count, count_of, text_at, array_at, has, value_line, text_line, line_at, max_line}
+use Rattle.rga_lines.specs.declared.fault.LineFault.TheVariants as fault
+
+-- ---- one character
+
+pub one_char : (bytes rest : List ℕ) (c : ℕ) → IsUtf8 bytes → bytes ≡ encode_utf8 c ++ rest → length rest ≡ 0 → only_char (chars bytes) ≡ Some c
+one_char bytes rest c text front last =
+    let e : chars bytes ≡ c ∷ [] = chars_past_char bytes rest c text front ∙ ap (λ (r : List ℕ). c ∷ chars r) (nil_from_length rest last) ∙ ap (λ (cs : List ℕ). c ∷ cs) chars-nil in
+    ap only_char e
+
+pub more_chars : (bytes rest more : List ℕ) (c d : ℕ) → IsUtf8 bytes → bytes ≡ encode_utf8 c ++ rest → rest ≡ encode_utf8 d ++ more → only_char (chars bytes) ≡ None
+more_chars bytes rest more c d text front next =
+    let e : chars bytes ≡ c ∷ d ∷ chars more = chars_past_char bytes rest c text front ∙ ap (λ (cs : List ℕ). c ∷ cs) (chars_past_char rest more d (IsUtf8-past_char bytes rest c text front) next) in
+    ap only_char e
+
+-- ---- two numbers
+
+pub too_few : (values : List Value) → length values < 2 → two_numbers (items_view values) ≡ None
+too_few [] h = refl
+too_few (v ∷ []) h = refl
+too_few (v ∷ w ∷ values) h = absurd (omega arith)
+
+pub too_many : (values : List Value) → 3 ≤ length values → two_numbers (items_view values) ≡ None
+too_many [] h = absurd (omega arith)
+too_many (v ∷ []) h = absurd (omega arith)
+too_many (v ∷ w ∷ []) h = absurd (omega arith)
+too_many (v ∷ w ∷ u ∷ values) h = refl
+
+-- ---- the whole
+
+pub too_long : (bytes : List ℕ) → max_line < length bytes → line_at bytes ≡ Err fault.Long
+unfolding line_at
+too_long bytes h = rw (lt-ltb _ _ h)
+
+is_refused : (utf8 : Bool) (value : Option Data) → (utf8 ≡ true → value ≡ None) → text_line utf8 value ≡ Err fault.Json
+is_refused true value h = rw (h refl)
+is_refused false value h = refl
+
+pub refused : (bytes : List ℕ) → length bytes ≤ max_line → (IsUtf8 bytes → read bytes ≡ None) → line_at bytes ≡ Err fault.Json
+unfolding line_at
+refused bytes h none = rw (le-ltb _ _ h) (is_refused (is_utf8 bytes) (read bytes) (λ e. none (IsUtf8-from_is_utf8 bytes e)))
+
+pub accepted : (bytes : List ℕ) (d : Data) → length bytes ≤ max_line → IsUtf8 bytes → read bytes ≡ Some d → line_at bytes ≡ value_line d
+unfolding line_at
+accepted bytes d h text e = rw (le-ltb _ _ h) (ap (λ (b : Bool). text_line b (read bytes)) (is_utf8-from_IsUtf8 bytes text) ∙ ap (text_line true) e)
+
+-- ---- what is read is well-formed
+
+abbrev IsSound : Reading → Type 0
+IsSound (Ok op) = checked op ≡ Ok tt
+IsSound (Err e) = ⊤
+
+-- no identifier of an element is the root
+abbrev IsElement : Option Identifier → Type 0
+IsElement (Some id) = is_root id ≡ false
+IsElement None = ⊤
+
+root_is_out : (counter replica : ℕ) → is_in_range counter replica ≡ true → is_root (identifier counter replica) ≡ false
+root_is_out counter replica e =
+    let counters = and_parts (nat_le 1 counter && nat_le counter 9007199254740991) (nat_le 1 replica && nat_le replica 65535) e in
+    let least = and_parts (nat_le 1 counter) (nat_le counter 9007199254740991) counters.0 in
+    let above : 1 ≤ counter = leb-true 1 counter least.0 in
+    and_left (counter == 0) (replica == 0) (ne_eqb counter 0 (λ zero. omega arith))
+
+element_if : (within : Bool) (id : Identifier) → (within ≡ true → is_root id ≡ false) → IsElement (cond within (Some id) None)
+element_if true id e = e refl
+element_if false id e = tt
+
+element_in_range : (p : Option (ℕ × ℕ)) → IsElement (option_and_then if_in_range p)
+element_in_range None = tt
+element_in_range (Some p) = element_if (is_in_range p.0 p.1) (identifier p.0 p.1) (root_is_out p.0 p.1)
+
+sound_order : (id parent : Identifier) (ch : ℕ) → is_root id ≡ false → IsSound (with_order id parent ch)
+sound_order id parent ch e = by_order (nat_le id.counter parent.counter) refl
+  where
+    by_order : (late : Bool) → nat_le id.counter parent.counter ≡ late → IsSound (cond late (Err fault.Order) (Ok (Insert id parent ch)))
+    by_order true is = tt
+    by_order false is = rw (e, is)
+
+sound_char : (id parent : Identifier) (ch : Option ℕ) → is_root id ≡ false → IsSound (with_char id parent ch)
+sound_char id parent (Some ch) e = sound_order id parent ch e
+sound_char id parent None e = tt
+
+sound_identifiers : (id parent : Option Identifier) (text : List ℕ) → IsElement id → IsSound (with_identifiers id parent text)
+sound_identifiers (Some id) (Some parent) text e = sound_char id parent (only_char (chars text)) e
+sound_identifiers (Some id) None text e = tt
+sound_identifiers None parent text e = tt
+
+sound_types : (text : Option (List ℕ)) (id parent : Option Items) → IsSound (with_types text id parent)
+sound_types (Some text) (Some id) (Some parent) = sound_identifiers (element_of id) (parent_of parent) text (element_in_range (two_numbers id))
+sound_types (Some text) (Some id) None = tt
+sound_types (Some text) None parent = tt
+sound_types None id parent = tt
+
+sound_identifier : (id : Option Identifier) → IsElement id → IsSound (with_identifier id)
+sound_identifier (Some id) e = rw e
+sound_identifier None e = tt
+
+sound_type : (id : Option Items) → IsSound (with_type id)
+sound_type (Some id) = sound_identifier (element_of id) (element_in_range (two_numbers id))
+sound_type None = tt
+
+sound_if : (b : Bool) (r q : Reading) → IsSound r → IsSound q → IsSound (cond b r q)
+sound_if true r q first second = first
+sound_if false r q first second = second
+
+sound_kind : (count : ℕ) (d : Data) (name : List ℕ) → IsSound (of_kind count d name)
+sound_kind count d name =
+    sound_if (bytes_eq name (codes "ins")) (insertion count d) (cond (bytes_eq name (codes "del")) (deletion count d) (Err fault.Kind))
+    (sound_if ((count == 4) && (has (codes "char") d && (has (codes "id") d && has (codes "parent") d))) (with_types (text_at (codes "char") d) (array_at (codes "id") d) (array_at (codes "parent") d)) (Err fault.Member)
+    (sound_types (text_at (codes "char") d) (array_at (codes "id") d) (array_at (codes "parent") d)) tt)
+    (sound_if (bytes_eq name (codes "del")) (deletion count d) (Err fault.Kind)
+    (sound_if ((count == 2) && has (codes "id") d) (with_type (array_at (codes "id") d)) (Err fault.Member) (sound_type (array_at (codes "id") d)) tt) tt)
+
+sound_name : (count : ℕ) (d : Data) (name : Option (List ℕ)) → IsSound (with_name count d name)
+sound_name count d (Some name) = sound_kind count d name
+sound_name count d None = tt
+
+sound_op : (count : ℕ) (d : Data) (op : Option Data) → IsSound (with_op count d op)
+sound_op count d (Some op) = sound_name count d (as_str op)
+sound_op count d None = tt
+
+sound_count : (d : Data) (count : Option ℕ) → IsSound (with_count d count)
+sound_count d (Some count) = sound_op count d (get (codes "op") d)
+sound_count d None = tt
+
+sound_value : (d : Data) → IsSound (value_line d)
+unfolding value_line
+sound_value d = sound_count d (count_of d)
+
+sound_text : (utf8 : Bool) (value : Option Data) → IsSound (text_line utf8 value)
+sound_text true (Some d) = sound_value d
+sound_text true None = tt
+sound_text false value = tt
+
+sound_line : (bytes : List ℕ) → IsSound (line_at bytes)
+unfolding line_at
+sound_line bytes = sound_if (nat_lt max_line (length bytes)) (Err fault.Long) (text_line (is_utf8 bytes) (read bytes)) tt (sound_text (is_utf8 bytes) (read bytes))
+
+pub well_formed : (bytes : List ℕ) (op : Op) → line_at bytes ≡ Ok op → checked op ≡ Ok tt
+well_formed bytes op e = let sound : IsSound (Ok op) = rw e at (sound_line bytes) in sound

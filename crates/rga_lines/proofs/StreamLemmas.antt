@@ -1,0 +1,174 @@
+-- The lines and the rest of a stream.
+use Rattle.std.proofs.Common.{◌≡◌, ◌≢◌, ℕ, ◌+◌, ◌-◌, ◌<◌, ◌≤◌, ◌==◌, Bool, true, false, cond, not, ltb, List, [], ◌∷◌, ◌++◌, length, take, drop, get_or, Some, None, position, refl, sym, ap, ap₂, subst, ◌∙◌, append_assoc, append-nil, arith, lt-ltb, le-ltb, ne_eqb, inl, inr}
+use Rattle.std.specs.Prelude.{All}
+use Rattle.std.specs.List.{position_or_len}
+use Rattle.std.proofs.lemmas.Bool.{cases_lt, eqb-false, eqb-true, ltb-true, ltb-false}
+use Rattle.std.proofs.lemmas.Option.{cond_some}
+use Rattle.std.proofs.lemmas.List.{length-take, length-drop, get_or-take, get_or-drop}
+use Rattle.std.proofs.lemmas.List.Elements.{All-nil, All-cons, All-head, All-tail, All-from_get_or}
+use Rattle.std.proofs.lemmas.List.Sums.{position_or_len_is, prefix_len-le-length, split_at_first, fails_before_first, passes_at_first}
+use Rattle.rga_lines.specs.Stream.{newline, to_first_line, to_rest, lines_of, rest_of, HasNoNewline, bytes_of_lines, IsCut}
+
+abbrev pub IsOther : ℕ → Type 0
+IsOther b = b ≢ newline
+
+-- ---- bytes without a newline
+
+pub lines-none : (bytes : List ℕ) → HasNoNewline bytes → lines_of bytes ≡ []
+lines-none [] none = refl
+lines-none (b ∷ bytes) none = rw (ne_eqb b newline (All-head IsOther b bytes none)) (ap (to_first_line b) (lines-none bytes (All-tail IsOther b bytes none)))
+
+pub rest-none : (bytes : List ℕ) → HasNoNewline bytes → rest_of bytes ≡ bytes
+rest-none [] none = refl
+rest-none (b ∷ bytes) none =
+    let others = All-tail IsOther b bytes none in
+    rw (ne_eqb b newline (All-head IsOther b bytes none)) (ap₂ (to_rest b) (lines-none bytes others) (rest-none bytes others))
+
+pub lines-line : (line more : List ℕ) → HasNoNewline line → lines_of (line ++ newline ∷ more) ≡ line ∷ lines_of more
+lines-line [] more none = refl
+lines-line (b ∷ line) more none = rw (ne_eqb b newline (All-head IsOther b line none)) (ap (to_first_line b) (lines-line line more (All-tail IsOther b line none)))
+
+pub rest-line : (line more : List ℕ) → HasNoNewline line → rest_of (line ++ newline ∷ more) ≡ rest_of more
+rest-line [] more none = refl
+rest-line (b ∷ line) more none =
+    let others = All-tail IsOther b line none in
+    rw (ne_eqb b newline (All-head IsOther b line none)) (ap₂ (to_rest b) (lines-line line more others) (rest-line line more others))
+
+-- ---- the one cut
+
+cut_newline : (bytes : List ℕ) (lines : List (List ℕ)) (rest : List ℕ) → IsCut bytes lines rest → IsCut (newline ∷ bytes) ([] ∷ lines) rest
+cut_newline bytes lines rest cut = record {
+  whole = ap (λ (l : List ℕ). newline ∷ l) cut.whole;
+  lines_have_none = All-cons HasNoNewline [] lines (All-nil IsOther) cut.lines_have_none;
+  rest_has_none = cut.rest_has_none;
+}
+
+cut_other : (b : ℕ) (bytes : List ℕ) (lines : List (List ℕ)) (rest : List ℕ) → b ≢ newline → IsCut bytes lines rest → IsCut (b ∷ bytes) (to_first_line b lines) (to_rest b lines rest)
+cut_other b bytes [] rest other cut = record {
+  whole = ap (λ (l : List ℕ). b ∷ l) cut.whole;
+  lines_have_none = All-nil HasNoNewline;
+  rest_has_none = All-cons IsOther b rest other cut.rest_has_none;
+}
+cut_other b bytes (line ∷ lines) rest other cut = record {
+  whole = ap (λ (l : List ℕ). b ∷ l) cut.whole;
+  lines_have_none = All-cons HasNoNewline (b ∷ line) lines (All-cons IsOther b line other (All-head HasNoNewline line lines cut.lines_have_none)) (All-tail HasNoNewline line lines cut.lines_have_none);
+  rest_has_none = cut.rest_has_none;
+}
+
+cut_step : (stop : Bool) (b : ℕ) (bytes : List ℕ) (lines : List (List ℕ)) (rest : List ℕ) → stop ≡ (b == newline) → IsCut bytes lines rest
+    → IsCut (b ∷ bytes) (cond stop ([] ∷ lines) (to_first_line b lines)) (cond stop rest (to_rest b lines rest))
+cut_step true b bytes lines rest is cut = subst (λ (n : ℕ). IsCut (n ∷ bytes) ([] ∷ lines) rest) (sym (eqb-true b newline (sym is))) (cut_newline bytes lines rest cut)
+cut_step false b bytes lines rest is cut = cut_other b bytes lines rest (eqb-false b newline (sym is)) cut
+
+pub is_cut : (bytes : List ℕ) → IsCut bytes (lines_of bytes) (rest_of bytes)
+is_cut [] = record { whole = refl; lines_have_none = All-nil HasNoNewline; rest_has_none = All-nil IsOther }
+is_cut (b ∷ bytes) = cut_step (b == newline) b bytes (lines_of bytes) (rest_of bytes) refl (is_cut bytes)
+
+-- the first line, its newline, and what follows
+pub bytes_of_lines-cons : (line : List ℕ) (lines : List (List ℕ)) (more : List ℕ) → bytes_of_lines (line ∷ lines) ++ more ≡ line ++ newline ∷ (bytes_of_lines lines ++ more)
+bytes_of_lines-cons line lines more = append_assoc (line ++ newline ∷ []) (bytes_of_lines lines) more ∙ append_assoc line (newline ∷ []) (bytes_of_lines lines ++ more)
+
+lines-ended : (lines : List (List ℕ)) (more : List ℕ) → All HasNoNewline lines → lines_of (bytes_of_lines lines ++ more) ≡ lines ++ lines_of more
+lines-ended [] more none = refl
+lines-ended (line ∷ lines) more none =
+    ap lines_of (bytes_of_lines-cons line lines more) ∙ lines-line line (bytes_of_lines lines ++ more) (All-head HasNoNewline line lines none) ∙ ap (λ (ls : List (List ℕ)). line ∷ ls) (lines-ended lines more (All-tail HasNoNewline line lines none))
+
+rest-ended : (lines : List (List ℕ)) (more : List ℕ) → All HasNoNewline lines → rest_of (bytes_of_lines lines ++ more) ≡ rest_of more
+rest-ended [] more none = refl
+rest-ended (line ∷ lines) more none =
+    ap rest_of (bytes_of_lines-cons line lines more) ∙ rest-line line (bytes_of_lines lines ++ more) (All-head HasNoNewline line lines none) ∙ rest-ended lines more (All-tail HasNoNewline line lines none)
+
+pub only_cut : (bytes : List ℕ) (lines : List (List ℕ)) (rest : List ℕ) → IsCut bytes lines rest → (lines ≡ lines_of bytes) × (rest ≡ rest_of bytes)
+only_cut bytes lines rest cut = (
+  sym (ap lines_of cut.whole ∙ lines-ended lines rest cut.lines_have_none ∙ ap (λ (ls : List (List ℕ)). lines ++ ls) (lines-none rest cut.rest_has_none) ∙ append-nil lines),
+  sym (ap rest_of cut.whole ∙ rest-ended lines rest cut.lines_have_none ∙ rest-none rest cut.rest_has_none),
+)
+
+-- ---- a stream that goes on
+
+whole_more : (bytes more : List ℕ) → bytes ++ more ≡ bytes_of_lines (lines_of bytes) ++ (rest_of bytes ++ more)
+whole_more bytes more = ap (λ (l : List ℕ). l ++ more) (is_cut bytes).whole ∙ append_assoc (bytes_of_lines (lines_of bytes)) (rest_of bytes) more
+
+pub lines-append_ended : (bytes more : List ℕ) → lines_of (bytes ++ more) ≡ lines_of bytes ++ lines_of (rest_of bytes ++ more)
+lines-append_ended bytes more = ap lines_of (whole_more bytes more) ∙ lines-ended (lines_of bytes) (rest_of bytes ++ more) (is_cut bytes).lines_have_none
+
+pub rest-append_ended : (bytes more : List ℕ) → rest_of (bytes ++ more) ≡ rest_of (rest_of bytes ++ more)
+rest-append_ended bytes more = ap rest_of (whole_more bytes more) ∙ rest-ended (lines_of bytes) (rest_of bytes ++ more) (is_cut bytes).lines_have_none
+
+-- ---- the first newline
+
+abbrev pub is_newline : ℕ → Bool
+is_newline b = b == newline
+
+-- the first line, by the place where its newline stands
+pub record FirstLine (bytes : List ℕ) (n : ℕ) : Type 0 where
+  pub within : n < length bytes
+  pub none : HasNoNewline (take n bytes)
+  pub parts : bytes ≡ take n bytes ++ newline ∷ drop (n + 1) bytes
+
+abbrev place : List ℕ → ℕ
+place bytes = position_or_len is_newline bytes
+
+none_before : (bytes : List ℕ) → HasNoNewline (take (place bytes) bytes)
+none_before bytes = All-from_get_or IsOther (take (place bytes) bytes) 0 other
+  where
+    other : (k : ℕ) → k < length (take (place bytes) bytes) → get_or (take (place bytes) bytes) k 0 ≢ newline
+    other k h e =
+        let before : k < place bytes = omega (arith, length-take (place bytes) bytes, h) in
+        eqb-false (get_or bytes k 0) newline (fails_before_first is_newline bytes k 0 before) (sym (get_or-take (place bytes) bytes k 0 before) ∙ e)
+
+line_at_place : (bytes : List ℕ) → place bytes < length bytes → FirstLine bytes (place bytes)
+line_at_place bytes within = record {
+  within = within;
+  none = none_before bytes;
+  parts = split_at_first is_newline bytes 0 within ∙ ap (λ (b : ℕ). take (place bytes) bytes ++ b ∷ drop (place bytes + 1) bytes) (eqb-true (get_or bytes (place bytes) 0) newline (passes_at_first is_newline bytes 0 within));
+}
+
+pub first_line : (bytes : List ℕ) (n : ℕ) → position is_newline bytes ≡ Some n → FirstLine bytes n
+first_line bytes n e =
+    let found = cond_some (ltb (place bytes) (length bytes)) (place bytes) n e in
+    subst (FirstLine bytes) found.1 (line_at_place bytes (ltb-true (place bytes) (length bytes) found.0))
+
+none_within : (within : Bool) (n : ℕ) → cond within (Some n) None ≡ None → within ≡ false
+none_within true n e = absurd cc
+none_within false n e = refl
+
+pub no_first_line : (bytes : List ℕ) → position is_newline bytes ≡ None → HasNoNewline bytes
+no_first_line bytes e =
+    let past : length bytes ≤ place bytes = ltb-false (place bytes) (length bytes) (none_within (ltb (place bytes) (length bytes)) (place bytes) e) in
+    λ k d h. eqb-false (get_or bytes k d) newline (fails_before_first is_newline bytes k d (omega arith))
+
+-- ---- the first newline behind bytes that have none
+
+other_before : (n : ℕ) (bytes : List ℕ) → HasNoNewline (take n bytes) → (k : ℕ) → k < n → k < length bytes → get_or bytes k 0 ≢ newline
+other_before n bytes none k before within e = none k 0 (omega (arith, length-take n bytes)) (get_or-take n bytes k 0 before ∙ e)
+
+fails_before : (n : ℕ) (bytes : List ℕ) → n ≤ length bytes → HasNoNewline (take n bytes) → (k : ℕ) → k < n + place (drop n bytes) → is_newline (get_or bytes k 0) ≡ false
+fails_before n bytes within none k h =
+    elim (cases_lt k n) [
+      | inl before ↦ ne_eqb (get_or bytes k 0) newline (other_before n bytes none k before (omega arith))
+      | inr past ↦
+          let same : n + (k - n) ≡ k = omega arith in
+          let at : get_or (drop n bytes) (k - n) 0 ≡ get_or bytes k 0 = get_or-drop n bytes (k - n) 0 ∙ ap (λ (i : ℕ). get_or bytes i 0) same in
+          rw (← at) (fails_before_first is_newline (drop n bytes) (k - n) 0 (omega arith))
+    ]
+
+place-past : (n : ℕ) (bytes : List ℕ) → n ≤ length bytes → HasNoNewline (take n bytes) → place bytes ≡ n + place (drop n bytes)
+place-past n bytes within none =
+    let most = prefix_len-le-length (λ b. not (is_newline b)) (drop n bytes) in
+    position_or_len_is is_newline bytes (n + place (drop n bytes)) 0 (omega (arith, most, length-drop n bytes)) (fails_before n bytes within none)
+    (λ inside. rw (← get_or-drop n bytes (place (drop n bytes)) 0) (passes_at_first is_newline (drop n bytes) 0 (omega (arith, length-drop n bytes))))
+
+pub position-past : (n : ℕ) (bytes : List ℕ) (k : ℕ) → n ≤ length bytes → HasNoNewline (take n bytes) → Some k ≡ position is_newline (drop n bytes) → Some (n + k) ≡ position is_newline bytes
+position-past n bytes k within none e =
+    let found = cond_some (ltb (place (drop n bytes)) (length (drop n bytes))) (place (drop n bytes)) k (sym e) in
+    let inside = ltb-true (place (drop n bytes)) (length (drop n bytes)) found.0 in
+    let same : place bytes ≡ n + k = place-past n bytes within none ∙ ap (λ (i : ℕ). n + i) found.1 in
+    let below : place bytes < length bytes = omega (arith, place-past n bytes within none, length-drop n bytes) in
+    rw (lt-ltb (place bytes) (length bytes) below) (ap Some (sym same))
+
+pub position-past_none : (n : ℕ) (bytes : List ℕ) → n ≤ length bytes → HasNoNewline (take n bytes) → None ≡ position is_newline (drop n bytes) → None ≡ position is_newline bytes
+position-past_none n bytes within none e =
+    let outside = ltb-false (place (drop n bytes)) (length (drop n bytes)) (none_within (ltb (place (drop n bytes)) (length (drop n bytes))) (place (drop n bytes)) (sym e)) in
+    let above : length bytes ≤ place bytes = omega (arith, place-past n bytes within none, length-drop n bytes) in
+    rw (le-ltb (place bytes) (length bytes) above)

@@ -1,0 +1,4 @@
+pub mod Table
+pub mod Stream
+pub mod Log
+pub mod Counting

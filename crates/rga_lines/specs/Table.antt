@@ -1,0 +1,141 @@
+-- What a line says, or its fault: the first one of this table that holds.
+use Rattle.std.specs.Prelude.{ℕ, Bool, true, false, ◌&&◌, ◌||◌, ◌==◌, nat_le, nat_lt, if◌then◌else◌, List, [], ◌∷◌, length, codes, Option, Some, None, is_some, option_map, option_and_then, Result, Ok, Err}
+use Rattle.std.specs.Str.{is_utf8, chars, bytes_eq}
+use Rattle.serde_json.specs.Data.{Data, Items, no_items, item}
+use Rattle.serde_json.specs.Events.{members_len}
+use Rattle.serde_json.specs.Read.{read}
+use Rattle.serde_json.specs.Find.{get, as_str, as_array, as_object, as_number, as_u64}
+use Rattle.rga_ops.specs.Identifier.{Identifier, identifier, is_root, is_in_range}
+use Rattle.rga_ops.specs.declared.op.Op.{Op}
+use Rattle.rga_ops.specs.declared.op.Op.TheVariants.{Insert, Delete}
+use Rattle.rga_lines.specs.declared.fault.LineFault.{LineFault}
+use Rattle.rga_lines.specs.declared.fault.LineFault.TheVariants as fault
+
+-- the most bytes of a line, its newline left out
+abbrev pub max_line : ℕ
+max_line = 65536
+
+-- an operation, or what is wrong
+abbrev pub Reading : Type 0
+Reading = Result Op LineFault
+
+-- ---- members
+
+abbrev pub has : List ℕ → Data → Bool
+has name d = is_some (get name d)
+
+-- how many members the object has
+abbrev pub count_of : Data → Option ℕ
+count_of d = option_map members_len (as_object d)
+
+abbrev pub text_at : List ℕ → Data → Option (List ℕ)
+text_at name d = option_and_then as_str (get name d)
+
+abbrev pub array_at : List ℕ → Data → Option Items
+array_at name d = option_and_then as_array (get name d)
+
+-- ---- identifiers
+
+-- a whole number below 2 ^ 64
+abbrev pub number_of : Data → Option ℕ
+number_of d = option_and_then as_u64 (as_number d)
+
+abbrev pub pair : Option ℕ → Option ℕ → Option (ℕ × ℕ)
+pair (Some counter) (Some replica) = Some (counter, replica)
+pair _ _ = None
+
+-- exactly two numbers
+abbrev pub two_numbers : Items → Option (ℕ × ℕ)
+two_numbers no_items = None
+two_numbers (item counter no_items) = None
+two_numbers (item counter (item replica no_items)) = pair (number_of counter) (number_of replica)
+two_numbers (item counter (item replica (item d ds))) = None
+
+abbrev pub if_in_range : ℕ × ℕ → Option Identifier
+if_in_range p = if is_in_range p.0 p.1 then Some (identifier p.0 p.1) else None
+
+abbrev pub if_root_or_in_range : ℕ × ℕ → Option Identifier
+if_root_or_in_range p = if is_root (identifier p.0 p.1) || is_in_range p.0 p.1 then Some (identifier p.0 p.1) else None
+
+-- the identifier of an element
+abbrev pub element_of : Items → Option Identifier
+element_of ds = option_and_then if_in_range (two_numbers ds)
+
+-- the identifier of an element, or the root
+abbrev pub parent_of : Items → Option Identifier
+parent_of ds = option_and_then if_root_or_in_range (two_numbers ds)
+
+-- ---- an insertion
+
+abbrev pub with_order : Identifier → Identifier → ℕ → Reading
+with_order id parent ch = if nat_le id.counter parent.counter then Err fault.Order else Ok (Insert id parent ch)
+
+abbrev pub only_char : List ℕ → Option ℕ
+only_char [] = None
+only_char (c ∷ []) = Some c
+only_char (c ∷ d ∷ cs) = None
+
+abbrev pub with_char : Identifier → Identifier → Option ℕ → Reading
+with_char id parent (Some ch) = with_order id parent ch
+with_char id parent None = Err fault.Char
+
+abbrev pub with_identifiers : Option Identifier → Option Identifier → List ℕ → Reading
+with_identifiers (Some id) (Some parent) text = with_char id parent (only_char (chars text))
+with_identifiers _ _ text = Err fault.Id
+
+abbrev pub with_types : Option (List ℕ) → Option Items → Option Items → Reading
+with_types (Some text) (Some id) (Some parent) = with_identifiers (element_of id) (parent_of parent) text
+with_types _ _ _ = Err fault.Kind
+
+-- The members are these four: there are four, and each of the other three is there.
+abbrev pub insertion : ℕ → Data → Reading
+insertion count d = if (count == 4) && (has (codes "char") d && (has (codes "id") d && has (codes "parent") d))
+    then with_types (text_at (codes "char") d) (array_at (codes "id") d) (array_at (codes "parent") d)
+    else Err fault.Member
+
+-- ---- a deletion
+
+abbrev pub with_identifier : Option Identifier → Reading
+with_identifier (Some id) = Ok (Delete id)
+with_identifier None = Err fault.Id
+
+abbrev pub with_type : Option Items → Reading
+with_type (Some id) = with_identifier (element_of id)
+with_type None = Err fault.Kind
+
+abbrev pub deletion : ℕ → Data → Reading
+deletion count d = if (count == 2) && has (codes "id") d then with_type (array_at (codes "id") d) else Err fault.Member
+
+-- ---- the whole
+
+abbrev pub of_kind : ℕ → Data → List ℕ → Reading
+of_kind count d name =
+    if bytes_eq name (codes "ins") then insertion count d
+    else (if bytes_eq name (codes "del") then deletion count d
+    else Err fault.Kind)
+
+abbrev pub with_name : ℕ → Data → Option (List ℕ) → Reading
+with_name count d (Some name) = of_kind count d name
+with_name count d None = Err fault.Kind
+
+abbrev pub with_op : ℕ → Data → Option Data → Reading
+with_op count d (Some op) = with_name count d (as_str op)
+with_op count d None = Err fault.Member
+
+abbrev pub with_count : Data → Option ℕ → Reading
+with_count d (Some count) = with_op count d (get (codes "op") d)
+with_count d None = Err fault.Kind
+
+-- what a value says
+unfoldable pub value_line : Data → Reading
+value_line d = with_count d (count_of d)
+
+-- what a text says: is it UTF-8, and which value is it
+abbrev pub text_line : Bool → Option Data → Reading
+text_line true (Some d) = value_line d
+text_line true None = Err fault.Json
+text_line false d = Err fault.Json
+
+-- what the bytes of a line say, its newline left out
+unfoldable pub line_at : List ℕ → Reading
+line_at bytes = if nat_lt max_line (length bytes) then Err fault.Long else text_line (is_utf8 bytes) (read bytes)

@@ -1,0 +1,40 @@
+//! What can be wrong with a line.
+ghost use Rattle.std.specs.Prelude.{◌≡◌};
+ghost use Rattle.rga_lines.specs.declared.fault.LineFault.TheVariants.{Memory};
+
+use std::alloc::AllocError;
+
+/// Why a line is no operation. Where several hold, the one that is tested first is answered:
+/// `Long`; `Json`; `Kind` where the value is no object; `Member` where it has no `op`; `Kind`
+/// where `op` is no text or is unknown; `Member` where a member of that kind of line is absent or
+/// a further one is there; `Kind` where a member has the wrong type; `Id`; `Char`; `Order`. Want
+/// of memory comes last: it is answered only where a growth was refused.
+#[derive(Clone, Copy, Debug, PartialEq, Eq)]
+pub enum LineFault {
+    /// More than 65536 bytes.
+    Long,
+    /// Not UTF-8, or no JSON value: an empty line too.
+    Json,
+    /// A member is absent, or a further one is there.
+    Member,
+    /// No object; an `op` that is no text or is unknown; a `char` that is no text; an `id` or a
+    /// `parent` that is no array.
+    Kind,
+    /// An `id` or a `parent` that is not exactly two whole numbers in the ranges of an identifier.
+    /// A `parent` may be the root, [0,0].
+    Id,
+    /// A `char` that is not exactly one character.
+    Char,
+    /// An insertion whose counter is not above its parent's.
+    Order,
+    /// A growth of memory was refused.
+    Memory,
+}
+
+impl From<AllocError> for LineFault {
+    ghost from_gives = { λ _ e. e ≡ Memory };
+
+    fn from(_: AllocError) -> LineFault {
+        LineFault::Memory
+    }
+}

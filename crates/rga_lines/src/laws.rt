@@ -1,0 +1,33 @@
+//! Laws over the definitions of `specs/` alone. Each is the contract of a function that does
+//! nothing.
+ghost use Rattle.std.specs.Prelude.{◌≡◌, ℕ, ◌++◌, [], List, true, false, Ok};
+ghost use Rattle.rga_ops.specs.Operation.{checked};
+ghost use Rattle.rga_ops.specs.declared.op.Op.{Op as SpecOp};
+ghost use Rattle.rga_lines.specs.Table.{line_at};
+ghost use Rattle.rga_lines.specs.Stream.{lines_of, rest_of, IsCut, BeginsLong, holds, Call, after_calls, lines_given, bytes_fed};
+
+/// The operation that a line says is well-formed.
+pub fn read_operations_are_well_formed()
+    ensures { (bytes : List ℕ) (op : SpecOp) → line_at bytes ≡ Ok op → checked op ≡ Ok tt }
+{}
+
+/// A stream is cut into lines and a rest in one way.
+pub fn a_stream_has_one_cut()
+    ensures is_cut { (bytes : List ℕ) → IsCut bytes (lines_of bytes) (rest_of bytes) }
+    ensures only { (bytes : List ℕ) (lines : List (List ℕ)) (rest : List ℕ)
+        → IsCut bytes lines rest → (lines ≡ lines_of bytes) × (rest ≡ rest_of bytes) }
+{}
+
+/// The lines that a splitter gives, and what waits in it then, are those of all that it was fed,
+/// in whatever pieces and between whatever calls. Where it gave up, the lines before are those of
+/// the stream, and the next one has more than 65536 bytes, or the rest where there is none.
+pub fn lines_do_not_depend_on_the_cutting()
+    ensures whole { (calls : List Call) → let end = after_calls (holds []) calls in
+        end.broken ≡ false
+        → (lines_of (bytes_fed calls) ≡ lines_given (holds []) calls ++ lines_of end.waiting)
+        × (rest_of (bytes_fed calls) ≡ rest_of end.waiting) }
+    ensures broken { (calls : List Call) → (after_calls (holds []) calls).broken ≡ true
+        → (others : List (List ℕ))
+        × (lines_of (bytes_fed calls) ≡ lines_given (holds []) calls ++ others)
+        × BeginsLong others (rest_of (bytes_fed calls)) }
+{}

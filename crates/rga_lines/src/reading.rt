@@ -1,0 +1,162 @@
+//! What a line says.
+ghost use Rattle.std.specs.Prelude.{◌≡◌, ◌≢◌, ◌<◌, length, Err};
+ghost use Rattle.std.specs.Str.{chars};
+ghost use Rattle.serde_json.specs.View.{view, items_view};
+ghost use Rattle.rga_lines.specs.Table.{max_line, count_of, only_char, two_numbers, element_of, parent_of, insertion, deletion, value_line, line_at};
+ghost use Rattle.rga_lines.specs.declared.fault.LineFault.TheVariants.{Memory, Long};
+
+use crate::fault::LineFault;
+use rga_ops::{Id, Op};
+use serde_json::Value;
+use std::alloc::Global;
+
+/// The most bytes of a line, its newline left out.
+pub const MAX_LINE: usize = 65536;
+
+/// The operation that a line says, given without its newline: a JSON object (RFC 8259), in any
+/// spelling, with exactly the members of one of
+///
+/// ```text
+/// {"char":"a","id":[1,2],"op":"ins","parent":[0,0]}
+/// {"id":[1,2],"op":"del"}
+/// ```
+///
+/// Where a member is named twice its last value counts. The faults are answered in the order that
+/// `LineFault` tells. `Long` takes no memory.
+pub fn read_line(alloc: Global, bytes: &[u8]) -> Result<Op, LineFault>
+    ensures says { result ≢ Err Memory → result ≡ line_at bytes.now }
+    ensures long { max_line < length bytes.now → result ≡ Err Long }
+{
+    if bytes.len() > MAX_LINE {
+        return Err(LineFault::Long);
+    }
+    match Value::from_slice(alloc, bytes) {
+        Ok(value) => operation(&value),
+        Err(e) => {
+            if e.is_memory() {
+                Err(LineFault::Memory)
+            } else {
+                Err(LineFault::Json)
+            }
+        }
+    }
+}
+
+#[tactic(auto, unfolding(crate::specs::Table::value_line))]
+fn operation(value: &Value) -> Result<Op, LineFault>
+    ensures { result ≡ value_line (view value.now) }
+{
+    let Some(count) = count(value) else {
+        return Err(LineFault::Kind);
+    };
+    let Some(op) = value.get("op") else {
+        return Err(LineFault::Member);
+    };
+    let Some(name) = op.as_str() else {
+        return Err(LineFault::Kind);
+    };
+    if name == "ins" {
+        insertion(count, value)
+    } else if name == "del" {
+        deletion(count, value)
+    } else {
+        Err(LineFault::Kind)
+    }
+}
+
+/// How many members the value has, where it is an object.
+fn count(value: &Value) -> Option<usize>
+    ensures { result ≡ count_of (view value.now) }
+{
+    Some(value.as_object()?.len())
+}
+
+fn insertion(count: usize, value: &Value) -> Result<Op, LineFault>
+    ensures { result ≡ insertion count (view value.now) }
+{
+    if count != 4 {
+        return Err(LineFault::Member);
+    }
+    let (Some(text), Some(id), Some(parent)) = (
+        value.get("char"),
+        value.get("id"),
+        value.get("parent"),
+    ) else {
+        return Err(LineFault::Member);
+    };
+    let (Some(text), Some(id), Some(parent)) = (text.as_str(), id.as_array(), parent.as_array())
+    else {
+        return Err(LineFault::Kind);
+    };
+    let (Some(id), Some(parent)) = (element(id), parent_or_root(parent)) else {
+        return Err(LineFault::Id);
+    };
+    let Some(ch) = only_char(text) else {
+        return Err(LineFault::Char);
+    };
+    if id.counter() <= parent.counter() {
+        Err(LineFault::Order)
+    } else {
+        Ok(Op::Insert { id, parent, ch })
+    }
+}
+
+fn deletion(count: usize, value: &Value) -> Result<Op, LineFault>
+    ensures { result ≡ deletion count (view value.now) }
+{
+    if count != 2 {
+        return Err(LineFault::Member);
+    }
+    let Some(id) = value.get("id") else {
+        return Err(LineFault::Member);
+    };
+    let Some(id) = id.as_array() else {
+        return Err(LineFault::Kind);
+    };
+    match element(id) {
+        Some(id) => Ok(Op::Delete { id }),
+        None => Err(LineFault::Id),
+    }
+}
+
+/// The text's only character.
+fn only_char(text: &str) -> Option<char>
+    ensures { result ≡ only_char (chars text.now) }
+{
+    let mut chars = text.chars();
+    let first = chars.next()?;
+    match chars.next() {
+        None => Some(first),
+        Some(_) => None,
+    }
+}
+
+fn two_numbers(items: &Vec<Value>) -> Option<(u64, u64)>
+    ensures { result ≡ two_numbers (items_view items.now.items) }
+{
+    match items.as_slice() {
+        [counter, replica] => Some((counter.as_u64()?, replica.as_u64()?)),
+        _ => None,
+    }
+}
+
+/// The identifier of an element.
+fn element(items: &Vec<Value>) -> Option<Id>
+    ensures { result ≡ element_of (items_view items.now.items) }
+{
+    let (counter, replica) = two_numbers(items)?;
+    let replica = u16::try_from(replica).ok()?;
+    Id::new(counter, replica).ok()
+}
+
+/// The identifier of an element, or the root.
+fn parent_or_root(items: &Vec<Value>) -> Option<Id>
+    ensures { result ≡ parent_of (items_view items.now.items) }
+{
+    let (counter, replica) = two_numbers(items)?;
+    if counter == 0 && replica == 0 {
+        return Some(Id::ROOT);
+    }
+    let replica = u16::try_from(replica).ok()?;
+    Id::new(counter, replica).ok()
+}

@@ -1,0 +1,146 @@
+//! Streams cut into lines.
+ghost use Rattle.std.specs.Prelude.{◌≡◌, ◌≢◌, ◌==◌, ◌≤◌, [], true, Ok, Err, Some, None, option_map, position, vec_items, vec_len, length, take, drop, IsOk, IfOk, IfErr, OnOk};
+ghost use Rattle.rga_lines.specs.Stream.{Splitting, splitting_code, IsKept, HasNoNewline, holds, newline, fed, next_of};
+ghost use Rattle.rga_lines.specs.declared.fault.LineFault.TheVariants.{Long, Memory};
+
+use crate::fault::LineFault;
+use crate::reading::MAX_LINE;
+use std::alloc::Global;
+use std::marker::Model;
+
+/// Cuts a stream into lines, in whatever pieces it comes. A line is what stands before a newline;
+/// what follows the last newline is the rest.
+#[derive(Drop)]
+pub struct Splitter {
+    buffer: Vec<u8>,
+    // The bytes of the buffer before this place were given.
+    start: usize,
+    // So many of the waiting bytes are known to be no newline: they are not searched again.
+    searched: usize,
+    broken: bool,
+}
+
+impl Model for Splitter {
+    ghost Value = { Splitting };
+
+    ghost coded = { splitting_code };
+
+    ghost view = { λ s. record { waiting = drop s.start s.buffer.items; broken = s.broken } };
+
+    ghost invariant = { λ s. IsKept s.buffer.items (vec_len s.buffer) s.start s.searched s.broken };
+}
+
+impl Splitter {
+    /// A splitter that was fed nothing. Takes no memory.
+    pub fn new(alloc: Global) -> Self
+        ensures { result ≡ holds [] }
+    {
+        Splitter {
+            buffer: Vec::new(alloc),
+            start: 0,
+            searched: 0,
+            broken: false,
+        }
+    }
+
+    /// Takes the next piece of the stream. `Memory` alone, and then nothing changed. After a line
+    /// that was too long it takes nothing in, and is `Ok`.
+    pub fn feed(&mut self, piece: &[u8]) -> Result<(), LineFault>
+        ensures ok { OnOk result (self.new ≡ fed piece.now self.old) }
+        ensures err { IfErr result (λ e. (e ≡ Memory) × (self.new ≡ self.old)) }
+        ensures broken { self.old.broken ≡ true → IsOk result }
+    {
+        if self.broken {
+            return Ok(());
+        }
+        self.forget_given();
+        self.buffer.extend_from_slice(piece)?;
+        Ok(())
+    }
+
+    /// Makes room: what was given is kept no longer.
+    fn forget_given(&mut self)
+        ensures { self.new ≡ self.old }
+    {
+        if self.start > 0 {
+            self.buffer.drain(..self.start);
+            self.start = 0;
+        }
+    }
+
+    fn waiting(&self) -> &[u8]
+        ensures { result.now ≡ self.now.waiting }
+    {
+        &self.buffer[self.start..]
+    }
+
+    /// The next whole line, without its newline; `None` where no whole line is left.
+    ///
+    /// `Long` where that line, or the rest if no whole line is left, has more than 65536 bytes,
+    /// and at each later call. `Memory`, and then nothing changed: only where there is a line to
+    /// give.
+    pub fn next_line(&mut self) -> Result<Option<Vec<u8>>, LineFault>
+        ensures ok { IfOk result (λ o. next_of self.old ≡ (Ok (option_map vec_items o), self.new)) }
+        ensures err { IfErr result (λ e. e ≢ Memory → next_of self.old ≡ (Err e, self.new)) }
+        ensures memory { result ≡ Err Memory → self.new ≡ self.old }
+
+        // Neither of these takes memory.
+        ensures long { (next_of self.old).0 ≡ Err Long → result ≡ Err Long }
+        ensures none { (next_of self.old).0 ≡ Ok None → result ≡ Ok None }
+    {
+        if self.broken {
+            return Err(LineFault::Long);
+        }
+        let waiting = self.waiting();
+        match first_newline(waiting, self.searched) {
+            Some(end) if end <= MAX_LINE => {
+                let line = Vec::from_slice(*self.buffer.allocator(), &waiting[..end])?;
+                self.start += end + 1;
+                self.searched = 0;
+                Ok(Some(line))
+            }
+            None if waiting.len() <= MAX_LINE => {
+                self.searched = waiting.len();
+                Ok(None)
+            }
+            _ => {
+                self.buffer.clear();
+                self.start = 0;
+                self.searched = 0;
+                self.broken = true;
+                Err(LineFault::Long)
+            }
+        }
+    }
+
+    /// The rest, with the lines that were not asked for. Nothing after `Long`.
+    pub fn finish(self) -> Vec<u8>
+        ensures rest { result.items ≡ self.waiting }
+        ensures broken { self.broken ≡ true → result.items ≡ [] }
+    {
+        let Splitter {
+            mut buffer,
+            start,
+            searched: _,
+            broken: _,
+        } = self;
+        buffer.drain(..start);
+        buffer
+    }
+}
+
+/// The place of the first newline, which is not among the bytes that were searched.
+fn first_newline(bytes: &[u8], searched: usize) -> Option<usize>
+    requires within { searched ≤ length bytes.now }
+    requires none { HasNoNewline (take searched bytes.now) }
+    ensures { result ≡ position (λ b. b == newline) bytes.now }
+{
+    let place = newline_in(&bytes[searched..])?;
+    Some(searched + place)
+}
+
+fn newline_in(bytes: &[u8]) -> Option<usize>
+    ensures { result ≡ position (λ b. b == newline) bytes.now }
+{
+    bytes.iter().position(|b| *b == b'\n')
+}
