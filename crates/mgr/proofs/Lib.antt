@@ -1,0 +1,4 @@
+pub mod CommandLineLemmas
+pub mod LogLaws
+pub mod ReadLaws
+pub mod ShownLaws

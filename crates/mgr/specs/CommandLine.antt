@@ -1,0 +1,55 @@
+-- What a command line asks for.
+use Rattle.std.specs.Prelude.{◌||◌, ℕ, Bool, true, false, List, [], ◌∷◌, codes, drop, nat_eq, if◌then◌else◌}
+use Rattle.std.specs.List.{starts_with}
+use Rattle.std.specs.Str.{bytes_eq}
+use Rattle.clap.specs.Simple.{App, Shape, new_app, new_shape, on_top, with_subcommand}
+use Rattle.mgr.specs.declared.job.Job.{Job}
+use Rattle.mgr.specs.declared.job.Job.TheVariants.{Show}
+
+abbrev pub Text : Type 0
+Text = List ℕ
+
+-- a job, the text that explains the program, or nothing that the program has
+pub data Wish : Type 0 where
+  work : Job → Wish
+  help : Wish
+  mistake : Wish
+
+-- `--help`, or `-h` with anything behind it in the same word
+abbrev pub is_help_flag : Text → Bool
+is_help_flag word = bytes_eq word (codes "--help") || starts_with nat_eq word (codes "-h")
+
+-- one word, `--`, which ends the flags
+abbrev pub is_end_of_flags : List Text → Bool
+is_end_of_flags (word ∷ []) = bytes_eq word (codes "--")
+is_end_of_flags _ = false
+
+-- the words behind `show`, which takes none
+abbrev pub show_wish : List Text → Wish
+show_wish [] = work Show
+show_wish (word ∷ rest) =
+    if is_help_flag word then help
+    else if is_end_of_flags (word ∷ rest) then work Show else mistake
+
+-- the words behind the program's name
+abbrev pub arguments_wish : List Text → Wish
+arguments_wish [] = mistake
+arguments_wish (word ∷ rest) =
+    if bytes_eq word (codes "show") then show_wish rest
+    else if bytes_eq word (codes "help") || is_help_flag word then help else mistake
+
+-- all words, of which the first is the program's name
+abbrev pub wish_of : List Text → Wish
+wish_of words = arguments_wish (drop 1 words)
+
+-- the first of the words behind the program's name is `help`
+abbrev pub starts_help : List Text → Bool
+starts_help [] = false
+starts_help (word ∷ rest) = bytes_eq word (codes "help")
+
+-- the command line as clap is told of it: `show`, which stands alone
+abbrev pub required : Shape → Shape
+required top = record top { subcommand_required = true; disable_help_subcommand = true }
+
+abbrev pub command_line : App
+command_line = with_subcommand (on_top required (new_app (codes "mgr"))) (new_shape (codes "show"))

@@ -1,0 +1,5 @@
+pub mod CommandLine
+pub mod Job
+pub mod Report
+pub mod Log
+pub mod Shown

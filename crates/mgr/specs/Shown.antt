@@ -1,0 +1,35 @@
+-- What `show_ops` writes.
+use Rattle.std.specs.Prelude.{◌≡◌, ℕ, List, Option, Ok, encode_utf8_all}
+use Rattle.std.specs.Io.KnownBytes.{Appends}
+use Rattle.rga_ops.specs.Content.{Content, content_of, IsAgreed}
+use Rattle.rga_ops.specs.Order.{text}
+use Rattle.rga_lines.specs.Log.{log_operations}
+use Rattle.rga_lines.specs.Counting.{AppendsFront}
+use Rattle.mgr.specs.Log.{log_of}
+
+-- how many identifiers `mgr` may know
+abbrev pub max_known : ℕ
+max_known = 1000000
+
+-- the text of a content in UTF-8
+abbrev pub text_bytes : Content → List ℕ
+text_bytes c = encode_utf8_all (text c)
+
+-- the content of the operations of a log
+abbrev pub log_content : List ℕ → Content
+log_content bytes = content_of (log_operations bytes)
+
+-- the log is accepted: its operations agree, and what they lead to is their content
+pub record IsAccepted (bytes : List ℕ) : Type 0 where
+  pub agreed : IsAgreed (log_operations bytes)
+  pub content : log_of max_known bytes ≡ Ok (log_content bytes)
+
+-- the text of an accepted log was written
+pub record Shows (bytes : List ℕ) (old new : Option (List ℕ)) : Type 0 where
+  pub accepted : IsAccepted bytes
+  pub written : Appends old new (text_bytes (log_content bytes))
+
+-- a beginning of it was written
+pub record BeginsToShow (bytes : List ℕ) (old new : Option (List ℕ)) : Type 0 where
+  pub accepted : IsAccepted bytes
+  pub begun : AppendsFront old new (text_bytes (log_content bytes))

@@ -1,0 +1,27 @@
+//! Why `mgr show` ends without the text.
+use rga_lines::LineFault;
+use rga_ops::Refusal;
+use thiserror::Error;
+
+/// Why `mgr show` ends without the whole text. Lines count from 1.
+#[derive(Clone, Copy, Debug, PartialEq, Eq, Error)]
+pub enum ShowFault {
+    /// The line is no operation.
+    #[error("line {0} is no operation: {1:?}")]
+    Line(u64, LineFault),
+    /// The operation of the line was refused.
+    #[error("the operation of line {0} was refused: {1:?}")]
+    Refused(u64, Refusal),
+    /// The last line, which has this number, has no newline and is no operation.
+    #[error("line {0} was cut off")]
+    Torn(u64),
+    /// The device of the input failed.
+    #[error("reading failed")]
+    Read,
+    /// The device of the output failed.
+    #[error("writing failed")]
+    Write,
+    /// A growth of memory was refused.
+    #[error("out of memory")]
+    Memory,
+}

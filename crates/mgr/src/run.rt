@@ -1,0 +1,61 @@
+//! The job of the command line, done, and what the shell is told of it.
+ghost use Rattle.std.specs.Prelude.{◌≡◌, ◌≤◌};
+ghost use Rattle.mgr.specs.Job.{IsStatusOf};
+ghost use Rattle.mgr.specs.Report.{status_of};
+
+use crate::fault::ShowFault;
+use crate::job::{Job, JobFault, job_of, job_status};
+use crate::report::Report;
+use crate::show::show_ops;
+use crate::words::words;
+use rga_lines::Counted;
+use std::io;
+use std::rt::Env;
+
+/// Does the job that the command line asks for, and answers the exit status: 0 done, 1 the input is
+/// refused, 2 a wrong command line, 3 a device failed, 4 memory was refused. Nothing is written to
+/// standard error where it is 0.
+pub fn run<R: Env + AllocGlobal + Input + Print + Eprint>(rt: &R) -> u8
+    ensures { result ≤ 4 }
+{
+    match words(rt).and_then(|words| job_of(rt.alloc(), &words)) {
+        Ok(Job::Show) => show(rt),
+        Err(fault) => refuse(rt, &fault),
+    }
+}
+
+fn show<R: AllocGlobal + Input + Print + Eprint>(rt: &R) -> u8
+    ensures { result ≤ 4 }
+{
+    let mut reader = Counted::new(rt.reader());
+    let mut writer = Counted::new(io::writer(rt));
+    match show_ops(rt.alloc(), &mut reader, &mut writer) {
+        Ok(()) => 0,
+        Err(fault) => tell(rt, &fault),
+    }
+}
+
+// A line that standard error does not take is lost: there is nowhere left to say so.
+fn tell<R: Eprint>(rt: &R, fault: &ShowFault) -> u8
+    ensures { result ≡ status_of fault.now }
+{
+    let report = Report::of(fault);
+    let _ = rt.eprintln(report);
+    report.status
+}
+
+fn refuse<R: Print + Eprint>(rt: &R, fault: &JobFault) -> u8
+    ensures { IsStatusOf fault.now result }
+{
+    match fault {
+        JobFault::Help(text) => match text.print(rt) {
+            Ok(()) => job_status(fault),
+            Err(_) => tell(rt, &ShowFault::Write),
+        },
+        JobFault::Usage(text) => {
+            let _ = text.print(rt);
+            job_status(fault)
+        }
+        JobFault::Memory => tell(rt, &ShowFault::Memory),
+    }
+}
