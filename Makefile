@@ -51,6 +51,6 @@ help:
 	@echo "make          proves and builds mgr, and leaves it at build/mgr"
 	@echo "make try      shows one note from two people's logs, in either order"
 	@echo "make test     runs every proof and test from nothing; the last line counts them"
-	@echo "make bench    times mgr on generated logs (needs python3)"
+	@echo "make bench    measures mgr beside a native program (needs python3 and rustc)"
 	@echo "make install  copies mgr to PREFIX/bin (PREFIX=$(PREFIX); DESTDIR is put before it)"
 	@echo "make clean    removes what was built and proved"

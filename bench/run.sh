@@ -1,17 +1,22 @@
 #!/bin/sh
-# Builds mgr, generates logs of rising length, and prints what `mgr show` takes for each.
-# `make bench` calls it. It is no test: nothing is compared with anything.
+# Builds mgr, the generator of logs and the native program, and measures `mgr show` against the
+# native program: microseconds an operation, the ratios of user time and of peak memory, and how
+# the cost of an operation grows (`bench/measure.py`). `make bench` calls it. A call by hand may
+# say `--largest N`, to leave out logs of more than N operations, and `--shape SHAPE`.
+#
+# It needs python3 and rustc. It ends with an error where the two programs write different bytes.
 set -eu
 cd "$(dirname "$0")/.."
 
-make build
-mkdir -p build/bench
-set --
-for shape in typing chain; do
-    for count in 300 1000 3000; do
-        log="build/bench/$shape-$count.ops"
-        python3 bench/generate.py "$count" 1 "$shape" >"$log"
-        set -- "$@" "$log"
-    done
+for program in python3 rustc; do
+    command -v "$program" >/dev/null || {
+        echo "$program is not installed" >&2
+        exit 1
+    }
 done
-python3 bench/measure.py "$@"
+
+make build
+for program in generate native; do
+    rustc --edition 2021 -O -o "build/$program" "bench/$program.rs"
+done
+exec python3 bench/measure.py "$@"

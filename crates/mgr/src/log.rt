@@ -74,14 +74,14 @@ fn take_lines<T: Taker>(
     ensures limit { T.capacity taker.new ≡ T.capacity taker.old }
 {
     'lines: loop {
-        match splitter.next_line() {
-            Ok(Some(line)) => {
-                take_line(alloc, taker, *number, &line)?;
+        match splitter.find_line() {
+            Ok(Some(end)) => {
+                take_line(alloc, taker, *number, splitter.line(end))?;
+                splitter.pass_line(end);
                 *number += 1;
             }
             Ok(None) => return Ok(()),
-            Err(LineFault::Long) => return Err(ShowFault::Line(*number, LineFault::Long)),
-            Err(_) => return Err(ShowFault::Memory),
+            Err(fault) => return Err(ShowFault::Line(*number, fault)),
         }
     }
 }

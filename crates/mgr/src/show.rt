@@ -10,7 +10,7 @@ use crate::fault::ShowFault;
 use crate::log::read_log;
 use crate::text::text_of;
 use rga_lines::Counted;
-use rga_store::{ListStore, MAX_LIMIT, TextStore};
+use rga_store::{MAX_LIMIT, TextStore, TreeStore};
 use std::alloc::Global;
 use std::io::{Read, Write};
 
@@ -42,7 +42,7 @@ pub fn show_ops<R: Read, W: Write>(
     ensures read { result ≡ Err ShowFault.Read → HasFailed (counted_failures reader.old) (counted_failures reader.new) }
     ensures write { result ≡ Err ShowFault.Write → HasFailed (counted_failures writer.old) (counted_failures writer.new) }
 {
-    let Ok(mut store) = ListStore::new(alloc, MAX_LIMIT) else {
+    let Ok(mut store) = TreeStore::new(alloc, MAX_LIMIT) else {
         return Err(ShowFault::Memory);
     };
     read_log(alloc, &mut store, reader)?;

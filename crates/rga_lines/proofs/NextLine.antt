@@ -1,8 +1,8 @@
 -- What the next line is, by the place of the first newline in what waits.
-use Rattle.std.proofs.Common.{◌≡◌, ℕ, ◌+◌, ◌<◌, ◌≤◌, Bool, false, List, ◌∷◌, length, take, drop, Some, None, position, sym, ap, ap₂, ◌∙◌, arith, lt-ltb, le-ltb}
-use Rattle.std.proofs.lemmas.List.{drop-drop, length-take-le, take_all}
+use Rattle.std.proofs.Common.{◌≡◌, ℕ, ◌+◌, ◌<◌, ◌≤◌, Bool, false, List, ◌∷◌, length, take, drop, Some, None, position, refl, sym, ap, ap₂, ◌∙◌, arith, lt-ltb, le-ltb}
+use Rattle.std.proofs.lemmas.List.{length-take-le, take_all}
 use Rattle.rga_lines.specs.Table.{max_line}
-use Rattle.rga_lines.specs.Stream.{lines_of, HasNoNewline, Splitting, holds, gave_up, Answer, next_of_lines, next_of}
+use Rattle.rga_lines.specs.Stream.{lines_of, HasNoNewline, EndsNextLine, Splitting, holds, gave_up, Answer, next_of_lines, next_of}
 use Rattle.rga_lines.specs.declared.fault.LineFault.TheVariants as fault
 use Rattle.rga_lines.proofs.SplitterLemmas.{gave, gave_none, failed}
 use Rattle.rga_lines.proofs.StreamLemmas.{is_newline, FirstLine, first_line, no_first_line, lines-line, lines-none}
@@ -39,19 +39,25 @@ gives_up_rest waiting e long = ap (next_of_lines waiting) (lines-none waiting (n
 whole : (s : Splitting) (slice : List ℕ) → s.broken ≡ false → slice ≡ s.waiting → s ≡ holds slice
 whole s slice good waiting = ap₂ state (sym waiting) good
 
--- as the splitter keeps it: the items of its buffer from a start on
-pub after_line : (s : Splitting) (slice items : List ℕ) (start n : ℕ) (broken : Bool) → s ≡ state (drop start items) broken → broken ≡ false → slice ≡ s.waiting → Some n ≡ position is_newline slice → n ≤ max_line
-    → next_of s ≡ (gave (take n slice), state (drop (start + (n + 1)) items) broken)
-after_line s slice items start n broken is good waiting at short =
-    let here : slice ≡ drop start items = waiting ∙ ap (λ (t : Splitting). t.waiting) is in
-    let left : drop (n + 1) slice ≡ drop (start + (n + 1)) items = ap (drop (n + 1)) here ∙ drop-drop (n + 1) start items in
-    ap next_of (whole s slice (ap (λ (t : Splitting). t.broken) is ∙ good) waiting) ∙ gives slice n (first_line slice n (sym at)) short
-    ∙ ap₂ (λ (l : List ℕ) (b : Bool). let p : Answer × Splitting = (gave (take n slice), state l b) in p) left (sym good)
+pub line_waits : (s : Splitting) (slice : List ℕ) (n : ℕ) → s.broken ≡ false → slice ≡ s.waiting → Some n ≡ position is_newline slice → n ≤ max_line → EndsNextLine s n
+line_waits s slice n good waiting at short =
+    let first : FirstLine s.waiting n = first_line s.waiting n (ap (position is_newline) (sym waiting) ∙ sym at) in
+    record {
+      within = first.within;
+      next = ap next_of (whole s s.waiting good refl) ∙ gives s.waiting n first short;
+    }
 
-pub none_waits : (s : Splitting) (slice items : List ℕ) (start : ℕ) (broken : Bool) → s ≡ state (drop start items) broken → broken ≡ false → slice ≡ s.waiting → None ≡ position is_newline slice → length slice ≤ max_line → next_of s ≡ (gave_none, state (drop start items) broken)
-none_waits s slice items start broken is good waiting none short =
-    let same = whole s slice (ap (λ (t : Splitting). t.broken) is ∙ good) waiting in
-    ap next_of same ∙ gives_none slice (sym none) short ∙ ap (λ (t : Splitting). let p : Answer × Splitting = (gave_none, t) in p) (sym same ∙ is)
+pub none_waits : (s : Splitting) (slice : List ℕ) → s.broken ≡ false → slice ≡ s.waiting → None ≡ position is_newline slice → length slice ≤ max_line → next_of s ≡ (gave_none, s)
+none_waits s slice good waiting none short =
+    let same = whole s slice good waiting in
+    ap next_of same ∙ gives_none slice (sym none) short ∙ ap (λ (t : Splitting). let p : Answer × Splitting = (gave_none, t) in p) (sym same)
+
+-- what stands before the newline was searched
+pub none_before : (slice waiting : List ℕ) (n : ℕ) → Some n ≡ position is_newline slice → slice ≡ waiting → HasNoNewline (take n waiting)
+none_before slice waiting n at is = (first_line waiting n (ap (position is_newline) (sym is) ∙ sym at)).none
+
+pub place_within : (slice : List ℕ) (n : ℕ) → Some n ≡ position is_newline slice → n < length slice
+place_within slice n at = (first_line slice n (sym at)).within
 
 -- all of it was searched
 pub none_among : (slice waiting : List ℕ) → None ≡ position is_newline slice → slice ≡ waiting → HasNoNewline (take (length slice) waiting)
@@ -64,17 +70,3 @@ long_line_waits s slice n good waiting at long = ap next_of (whole s slice good 
 
 pub long_rest_waits : (s : Splitting) (slice : List ℕ) → s.broken ≡ false → slice ≡ s.waiting → None ≡ position is_newline slice → max_line < length slice → next_of s ≡ (failed fault.Long, gave_up)
 long_rest_waits s slice good waiting none long = ap next_of (whole s slice good waiting) ∙ gives_up_rest slice (sym none) long
-
--- ---- one answer
-
-pub line_is_not_long : (p : Answer × Splitting) (line : List ℕ) (t : Splitting) → p ≡ (gave line, t) → p.0 ≡ failed fault.Long → ⊥
-line_is_not_long p line t is long = let e : gave line ≡ failed fault.Long = sym (ap (λ (q : Answer × Splitting). q.0) is) ∙ long in cc
-
-pub line_is_not_none : (p : Answer × Splitting) (line : List ℕ) (t : Splitting) → p ≡ (gave line, t) → p.0 ≡ gave_none → ⊥
-line_is_not_none p line t is none = let e : gave line ≡ gave_none = sym (ap (λ (q : Answer × Splitting). q.0) is) ∙ none in cc
-
-pub none_is_not_long : (p : Answer × Splitting) (t : Splitting) → p ≡ (gave_none, t) → p.0 ≡ failed fault.Long → ⊥
-none_is_not_long p t is long = let e : gave_none ≡ failed fault.Long = sym (ap (λ (q : Answer × Splitting). q.0) is) ∙ long in cc
-
-pub long_is_not_none : (p : Answer × Splitting) (t : Splitting) → p ≡ (failed fault.Long, t) → p.0 ≡ gave_none → ⊥
-long_is_not_none p t is none = let e : failed fault.Long ≡ gave_none = sym (ap (λ (q : Answer × Splitting). q.0) is) ∙ none in cc

@@ -1,12 +1,12 @@
 -- What the calls of a splitter give.
-use Rattle.std.proofs.Common.{◌≡◌, ℕ, ◌+◌, ◌<◌, ◌≤◌, Bool, true, false, cond, ltb, List, [], ◌∷◌, ◌++◌, length, drop, Some, None, Ok, Err, refl, sym, ap, subst, ◌∙◌, append_assoc, append-nil, arith, ne_eqb}
+use Rattle.std.proofs.Common.{◌≡◌, ℕ, ◌+◌, ◌<◌, ◌≤◌, Bool, true, false, cond, ltb, List, [], ◌∷◌, ◌++◌, length, take, drop, Some, None, Ok, Err, refl, sym, ap, ap₂, subst, ◌∙◌, append_assoc, append-nil, arith, ne_eqb}
 use Rattle.std.specs.Prelude.{All}
 use Rattle.std.proofs.lemmas.Bool.{ltb-true, ltb-false, true≢false, false≢true}
 use Rattle.std.proofs.lemmas.List.{drop_at, length-append, length-drop, length_push}
 use Rattle.std.proofs.lemmas.List.Elements.{All-head, All-tail}
 use Rattle.serde_json.proofs.OnLiterals.{serde_json_on_literals}
 use Rattle.rga_lines.specs.Table.{max_line, line_at}
-use Rattle.rga_lines.specs.Stream.{newline, to_first_line, to_rest, lines_of, rest_of, HasNoNewline, bytes_of_lines, BeginsLong, Splitting, holds, gave_up, fed, Answer, next_of_lines, next_of, Call, Feed, Next, after_calls, line_in, lines_given, bytes_fed}
+use Rattle.rga_lines.specs.Stream.{newline, to_first_line, to_rest, lines_of, rest_of, HasNoNewline, bytes_of_lines, BeginsLong, Splitting, EndsNextLine, holds, gave_up, fed, Answer, next_of_lines, next_of, Call, Feed, Next, after_calls, line_in, lines_given, bytes_fed}
 use Rattle.rga_lines.specs.declared.fault.LineFault.{LineFault}
 use Rattle.rga_lines.specs.declared.fault.LineFault.TheVariants as fault
 use Rattle.rga_lines.proofs.ReadingLemmas.{too_long, refused}
@@ -151,6 +151,13 @@ gives_line s t line good e =
       lines = λ more. ap lines_of (starts_more s.waiting line more h) ∙ lines-line line (drop (length line + 1) s.waiting ++ more) h.none ∙ ap (λ (l : List ℕ). line ∷ lines_of (l ++ more)) (sym left);
       rest = λ more. ap rest_of (starts_more s.waiting line more h) ∙ rest-line line (drop (length line + 1) s.waiting ++ more) h.none ∙ ap (λ (l : List ℕ). rest_of (l ++ more)) (sym left);
     }
+
+-- the same of a line that was lent, and then passed
+pub passes_line : (s t u : Splitting) (line : List ℕ) (end : ℕ) → s.broken ≡ false → t ≡ s → EndsNextLine s end → line ≡ take end t.waiting → u ≡ holds (drop (end + 1) t.waiting) → GivesLine s u line
+passes_line s t u line end good same next lent left =
+    let is : (gave (take end s.waiting), holds (drop (end + 1) s.waiting)) ≡ (gave line, u) =
+    ap (λ (w : List ℕ). let p : Answer × Splitting = (gave (take end w), holds (drop (end + 1) w)) in p) (ap (λ (v : Splitting). v.waiting) (sym same)) ∙ ap₂ (λ (l : List ℕ) (v : Splitting). let p : Answer × Splitting = (gave l, v) in p) (sym lent) (sym left) in
+    gives_line s u line good (next.next ∙ is)
 
 -- ---- no line
 

@@ -1,12 +1,13 @@
 -- The lines and the rest of a stream.
-use Rattle.std.proofs.Common.{◌≡◌, ◌≢◌, ℕ, ◌+◌, ◌-◌, ◌<◌, ◌≤◌, ◌==◌, Bool, true, false, cond, not, ltb, List, [], ◌∷◌, ◌++◌, length, take, drop, get_or, Some, None, position, refl, sym, ap, ap₂, subst, ◌∙◌, append_assoc, append-nil, arith, lt-ltb, le-ltb, ne_eqb, inl, inr}
+use Rattle.std.proofs.Common.{◌≡◌, ◌≢◌, ℕ, ◌+◌, ◌-◌, ◌<◌, ◌≤◌, ◌==◌, Bool, true, false, cond, not, ltb, List, [], ◌∷◌, ◌++◌, length, take, drop, get_or, Option, Some, None, position, refl, sym, ap, ap₂, subst, ◌∙◌, append_assoc, append-nil, arith, lt-ltb, le-ltb, ne_eqb, inl, inr}
 use Rattle.std.specs.Prelude.{All}
 use Rattle.std.specs.List.{position_or_len}
-use Rattle.std.proofs.lemmas.Bool.{cases_lt, eqb-false, eqb-true, ltb-true, ltb-false}
+use Rattle.std.proofs.lemmas.Bool.{cases_lt, false_from_ne_true, eqb-false, eqb-true, ltb-true, ltb-false}
 use Rattle.std.proofs.lemmas.Option.{cond_some}
 use Rattle.std.proofs.lemmas.List.{length-take, length-drop, get_or-take, get_or-drop}
 use Rattle.std.proofs.lemmas.List.Elements.{All-nil, All-cons, All-head, All-tail, All-from_get_or}
 use Rattle.std.proofs.lemmas.List.Sums.{position_or_len_is, prefix_len-le-length, split_at_first, fails_before_first, passes_at_first}
+use Rattle.memchr.specs.Find.{IsFirstByte, is_byte}
 use Rattle.rga_lines.specs.Stream.{newline, to_first_line, to_rest, lines_of, rest_of, HasNoNewline, bytes_of_lines, IsCut}
 
 abbrev pub IsOther : ℕ → Type 0
@@ -137,6 +138,14 @@ pub no_first_line : (bytes : List ℕ) → position is_newline bytes ≡ None �
 no_first_line bytes e =
     let past : length bytes ≤ place bytes = ltb-false (place bytes) (length bytes) (none_within (ltb (place bytes) (length bytes)) (place bytes) e) in
     λ k d h. eqb-false (get_or bytes k d) newline (fails_before_first is_newline bytes k d (omega arith))
+
+pub position_is : (bytes : List ℕ) (found : Option ℕ) → IsFirstByte (is_byte newline) bytes found → found ≡ position is_newline bytes
+position_is bytes None nowhere =
+    let end : place bytes ≡ length bytes = position_or_len_is is_newline bytes (length bytes) 0 (omega arith) (λ k h. false_from_ne_true _ (nowhere k (omega arith) h)) (λ h. absurd (omega arith)) in
+    rw (le-ltb (place bytes) (length bytes) (omega arith))
+position_is bytes (Some n) first =
+    let at : place bytes ≡ n = position_or_len_is is_newline bytes n 0 (omega (arith, first.0.high)) (λ k h. false_from_ne_true _ (first.0.before k (omega arith) h)) (λ _. first.1) in
+    rw (lt-ltb (place bytes) (length bytes) (omega (arith, first.0.high))) (ap Some (sym at))
 
 -- ---- the first newline behind bytes that have none
 

@@ -2,3 +2,4 @@ pub mod Table
 pub mod Stream
 pub mod Log
 pub mod Counting
+pub mod Spelling

@@ -91,6 +91,11 @@ next_of_lines waiting (line ∷ lines) = if nat_lt max_line (length line) then (
 abbrev pub next_of : Splitting → Answer × Splitting
 next_of s = if s.broken then (Err fault.Long, s) else next_of_lines s.waiting (lines_of s.waiting)
 
+-- the next line is what waits before this place, and what waits behind it is left
+pub record EndsNextLine (s : Splitting) (end : ℕ) : Type 0 where
+  pub within : end < length s.waiting
+  pub next : next_of s ≡ (Ok (Some (take end s.waiting)), holds (drop (end + 1) s.waiting))
+
 -- ---- many calls; one that finds no memory changes nothing, and is left out
 
 pub data Call : Type 0 where

@@ -4,11 +4,17 @@ ghost use Rattle.std.specs.Prelude.{◌≡◌, ℕ, ◌++◌, [], List, true, fa
 ghost use Rattle.rga_ops.specs.Operation.{checked};
 ghost use Rattle.rga_ops.specs.declared.op.Op.{Op as SpecOp};
 ghost use Rattle.rga_lines.specs.Table.{line_at};
+ghost use Rattle.rga_lines.specs.Spelling.{line, IsWritable};
 ghost use Rattle.rga_lines.specs.Stream.{lines_of, rest_of, IsCut, BeginsLong, holds, Call, after_calls, lines_given, bytes_fed};
 
 /// The operation that a line says is well-formed.
 pub fn read_operations_are_well_formed()
     ensures { (bytes : List ℕ) (op : SpecOp) → line_at bytes ≡ Ok op → checked op ≡ Ok tt }
+{}
+
+/// The line of a well-formed operation says that operation.
+pub fn written_lines_read_back()
+    ensures { (op : SpecOp) → IsWritable op → checked op ≡ Ok tt → line_at (line op) ≡ Ok op }
 {}
 
 /// A stream is cut into lines and a rest in one way.

@@ -14,6 +14,7 @@ mod counted;
 mod fault;
 pub mod laws;
 mod reading;
+mod spelled;
 mod splitter;
 
 pub use counted::{Counted, MAX_CALLS};

@@ -6,6 +6,7 @@ ghost use Rattle.rga_lines.specs.Table.{max_line, count_of, only_char, two_numbe
 ghost use Rattle.rga_lines.specs.declared.fault.LineFault.TheVariants.{Memory, Long};
 
 use crate::fault::LineFault;
+use crate::spelled::spelled;
 use rga_ops::{Id, Op};
 use serde_json::Value;
 use std::alloc::Global;
@@ -29,6 +30,9 @@ pub fn read_line(alloc: Global, bytes: &[u8]) -> Result<Op, LineFault>
 {
     if bytes.len() > MAX_LINE {
         return Err(LineFault::Long);
+    }
+    if let Some(op) = spelled(bytes) {
+        return Ok(op);
     }
     match Value::from_slice(alloc, bytes) {
         Ok(value) => operation(&value),
@@ -120,7 +124,7 @@ fn deletion(count: usize, value: &Value) -> Result<Op, LineFault>
 }
 
 /// The text's only character.
-fn only_char(text: &str) -> Option<char>
+pub(crate) fn only_char(text: &str) -> Option<char>
     ensures { result ≡ only_char (chars text.now) }
 {
     let mut chars = text.chars();

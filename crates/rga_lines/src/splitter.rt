@@ -1,10 +1,11 @@
 //! Streams cut into lines.
-ghost use Rattle.std.specs.Prelude.{◌≡◌, ◌≢◌, ◌==◌, ◌≤◌, [], true, Ok, Err, Some, None, option_map, position, vec_items, vec_len, length, take, drop, IsOk, IfOk, IfErr, OnOk};
-ghost use Rattle.rga_lines.specs.Stream.{Splitting, splitting_code, IsKept, HasNoNewline, holds, newline, fed, next_of};
+ghost use Rattle.std.specs.Prelude.{◌≡◌, ◌≢◌, ◌==◌, ◌≤◌, [], true, ◌+◌, ◌<◌, Ok, Err, Some, None, MatchOption, option_map, position, vec_items, vec_len, length, take, drop, IsOk, IfOk, IfErr, OnOk};
+ghost use Rattle.rga_lines.specs.Stream.{Splitting, splitting_code, IsKept, HasNoNewline, EndsNextLine, holds, newline, fed, next_of};
 ghost use Rattle.rga_lines.specs.declared.fault.LineFault.TheVariants.{Long, Memory};
 
 use crate::fault::LineFault;
 use crate::reading::MAX_LINE;
+use memchr::memchr;
 use std::alloc::Global;
 use std::marker::Model;
 
@@ -58,12 +59,15 @@ impl Splitter {
         Ok(())
     }
 
-    /// Makes room: what was given is kept no longer.
+    /// Makes room, where that moves no more bytes than were given. So all that is ever moved is no
+    /// more than what was fed.
     fn forget_given(&mut self)
         ensures { self.new ≡ self.old }
     {
-        if self.start > 0 {
-            self.buffer.drain(..self.start);
+        let waiting = self.buffer.len() - self.start;
+        if waiting <= self.start {
+            self.buffer.copy_within(self.start.., 0);
+            self.buffer.truncate(waiting);
             self.start = 0;
         }
     }
@@ -88,16 +92,31 @@ impl Splitter {
         ensures long { (next_of self.old).0 ≡ Err Long → result ≡ Err Long }
         ensures none { (next_of self.old).0 ≡ Ok None → result ≡ Ok None }
     {
+        let Some(end) = self.find_line()? else {
+            return Ok(None);
+        };
+        let line = Vec::from_slice(*self.buffer.allocator(), self.line(end))?;
+        self.pass_line(end);
+        Ok(Some(line))
+    }
+
+    /// The length of the next whole line, without its newline; `None` where no whole line is left.
+    /// The line still waits: `line` lends it, and `pass_line` goes on behind it. Takes no memory.
+    ///
+    /// `Long` as of `next_line`.
+    pub fn find_line(&mut self) -> Result<Option<usize>, LineFault>
+        ensures found { IfOk result (λ o. (self.new ≡ self.old)
+            × MatchOption o (next_of self.old ≡ (Ok None, self.old)) (EndsNextLine self.old)) }
+        ensures err { IfErr result (λ e. (e ≡ Long) × (next_of self.old ≡ (Err Long, self.new))) }
+    {
         if self.broken {
             return Err(LineFault::Long);
         }
         let waiting = self.waiting();
         match first_newline(waiting, self.searched) {
             Some(end) if end <= MAX_LINE => {
-                let line = Vec::from_slice(*self.buffer.allocator(), &waiting[..end])?;
-                self.start += end + 1;
-                self.searched = 0;
-                Ok(Some(line))
+                self.searched = end;
+                Ok(Some(end))
             }
             None if waiting.len() <= MAX_LINE => {
                 self.searched = waiting.len();
@@ -111,6 +130,24 @@ impl Splitter {
                 Err(LineFault::Long)
             }
         }
+    }
+
+    /// So many of the bytes that wait: the next line, where `find_line` gave its length.
+    pub fn line(&self, end: usize) -> &[u8]
+        requires { end ≤ length self.now.waiting }
+        ensures { result.now ≡ take end self.now.waiting }
+    {
+        &self.waiting()[..end]
+    }
+
+    /// Goes on behind so many bytes and one more: behind the next line and its newline, where
+    /// `find_line` gave its length.
+    pub fn pass_line(&mut self, end: usize)
+        requires { end < length self.old.waiting }
+        ensures { self.new ≡ holds (drop (end + 1) self.old.waiting) }
+    {
+        self.searched = 0;
+        self.start += end + 1;
     }
 
     /// The rest, with the lines that were not asked for. Nothing after `Long`.
@@ -135,12 +172,6 @@ fn first_newline(bytes: &[u8], searched: usize) -> Option<usize>
     requires none { HasNoNewline (take searched bytes.now) }
     ensures { result ≡ position (λ b. b == newline) bytes.now }
 {
-    let place = newline_in(&bytes[searched..])?;
+    let place = memchr(b'\n', &bytes[searched..])?;
     Some(searched + place)
-}
-
-fn newline_in(bytes: &[u8]) -> Option<usize>
-    ensures { result ≡ position (λ b. b == newline) bytes.now }
-{
-    bytes.iter().position(|b| *b == b'\n')
 }

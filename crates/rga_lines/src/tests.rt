@@ -147,6 +147,69 @@ fn faults_of_identifiers_and_characters(rt: HostRuntime) {
 }
 
 #[test]
+fn lines_spelled_in_one_way_and_near_misses(rt: HostRuntime) -> Result<(), Fail> {
+    let table: [(&[u8], Result<Op, LineFault>); 17] = [
+        (
+            b"{\"char\":\"\\\"\",\"id\":[1,1],\"op\":\"ins\",\"parent\":[0,0]}",
+            Ok(inserted('"')?),
+        ),
+        (
+            b"{\"char\":\"\\\\\",\"id\":[1,1],\"op\":\"ins\",\"parent\":[0,0]}",
+            Ok(inserted('\\')?),
+        ),
+        (
+            b"{\"char\":\"\xe2\x82\xac\",\"id\":[1,1],\"op\":\"ins\",\"parent\":[0,0]}",
+            Ok(inserted('\u{20ac}')?),
+        ),
+        (
+            b"{\"char\":\"\xf0\x9f\x98\x80\",\"id\":[1,1],\"op\":\"ins\",\"parent\":[0,0]}",
+            Ok(inserted('\u{1f600}')?),
+        ),
+        (
+            b"{\"char\":\"\x7f\",\"id\":[1,1],\"op\":\"ins\",\"parent\":[0,0]}",
+            Ok(inserted('\x7f')?),
+        ),
+        (
+            b"{\"id\":[1234567890,10],\"op\":\"del\"}",
+            Ok(deleted(1234567890, 10)?),
+        ),
+        (b"{\"op\":\"del\",\"id\":[1,1]}", Ok(deleted(1, 1)?)),
+        (b"{\"id\":[1,1],\"op\":\"del\"} ", Ok(deleted(1, 1)?)),
+        (b"{\"id\":[1,1],\"op\":\"del\"}}", Err(LineFault::Json)),
+        (b"{\"id\":[1,1],\"op\":\"del\"", Err(LineFault::Json)),
+        (b"{\"id\":[1,01],\"op\":\"del\"}", Err(LineFault::Json)),
+        (
+            b"{\"id\":[90071992547409910,1],\"op\":\"del\"}",
+            Err(LineFault::Id),
+        ),
+        (
+            b"{\"char\":\"\xed\xa0\x80\",\"id\":[1,1],\"op\":\"ins\",\"parent\":[0,0]}",
+            Err(LineFault::Json),
+        ),
+        (
+            b"{\"char\":\"\x1f\",\"id\":[1,1],\"op\":\"ins\",\"parent\":[0,0]}",
+            Err(LineFault::Json),
+        ),
+        (
+            b"{\"char\":\"a\",\"id\":[0,0],\"op\":\"ins\",\"parent\":[0,0]}",
+            Err(LineFault::Id),
+        ),
+        (
+            b"{\"char\":\"a\",\"id\":[1,1],\"op\":\"ins\",\"parent\":[0,1]}",
+            Err(LineFault::Id),
+        ),
+        (
+            b"{\"char\":\"a\",\"id\":[1,1],\"op\":\"ins\",\"parent\":[1,1]}",
+            Err(LineFault::Order),
+        ),
+    ];
+    for (k, row) in table.iter().enumerate() {
+        assert_eq!(rt; read_line(rt.alloc(), row.0), row.1, "row {k}");
+    }
+    Ok(())
+}
+
+#[test]
 fn length_comes_before_all_else(rt: HostRuntime) -> Result<(), Fail> {
     let mut line = Vec::from_slice(rt.alloc(), b"{\"id\":[1,1],\"op\":\"del\"}")?;
     line.resize(MAX_LINE, b' ')?;
@@ -206,6 +269,23 @@ fn lines_are_the_same_however_the_stream_is_cut(rt: HostRuntime) -> Result<(), F
             "pieces of {size}"
         );
     }
+    Ok(())
+}
+
+#[test]
+fn a_line_is_lent_until_it_is_passed(rt: HostRuntime) -> Result<(), Fail> {
+    let mut splitter = Splitter::new(rt.alloc());
+    splitter.feed(b"ab\ncde\nf")?;
+    for (end, line) in [(2usize, b"ab".as_slice()), (3, b"cde".as_slice())] {
+        assert_eq!(rt; splitter.find_line()?, Some(end));
+        assert_eq!(rt; splitter.find_line()?, Some(end), "the same line again");
+        assert!(rt; splitter.line(end) == line);
+        splitter.pass_line(end);
+    }
+    assert_eq!(rt; splitter.find_line()?, None);
+    splitter.feed(b"\n")?;
+    assert_eq!(rt; splitter.find_line()?, Some(1));
+    assert!(rt; splitter.finish().as_slice() == b"f\n".as_slice());
     Ok(())
 }
 

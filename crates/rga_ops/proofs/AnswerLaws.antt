@@ -273,8 +273,9 @@ pub record IsNewInsertion (limit : ℕ) (c : Content) (id parent : Identifier) :
   pub absent : finite_map.get c.inserted id ≡ None
   pub room : (finite_set.contains c.deleted id ≡ true) ⊎ (finite_set.len (known c) ≢ limit)
 
--- a deletion that is new: its identifier is not deleted, and is inserted or has room
+-- a deletion that is new: its identifier is an element's, is not deleted, and is inserted or has room
 pub record IsNewDeletion (limit : ℕ) (c : Content) (id : Identifier) : Type 0 where
+  pub element : is_root id ≡ false
   pub absent : finite_set.contains c.deleted id ≡ false
   pub room : (is_some (finite_map.get c.inserted id) ≡ true) ⊎ (finite_set.len (known c) ≢ limit)
 
@@ -286,6 +287,13 @@ falls_if_well_formed id parent ch h =
         | true ↦ λ h. absurd (cc)
         | false ↦ λ h. refl
       ] h
+    ] h
+
+element_if_well_formed : (id : Identifier) → checked (Delete id) ≡ passed → is_root id ≡ false
+element_if_well_formed id h =
+    elim (is_root id) as (λ b. cond b (Err BadId) (Ok tt) ≡ passed → b ≡ false) [
+      | true ↦ λ h. absurd (cc)
+      | false ↦ λ h. refl
     ] h
 
 pub new_insertion : (limit : ℕ) (c : Content) (id parent : Identifier) (ch : ℕ) → answer limit c (Insert id parent ch) ≡ Ok New → IsNewInsertion limit c id parent
@@ -308,6 +316,7 @@ new_deletion limit c id h =
     let new : IsNew limit c (Delete id) = (new-iff limit c (Delete id)).0 h in
     let absent : finite_set.contains c.deleted id ≡ false = false_from_ne_true (finite_set.contains c.deleted id) new.not_held in
     record {
+      element = element_if_well_formed id new.well_formed;
       absent = absent;
       room = elim new.room [
         | inl present ↦ elim (or_cases (is_some (finite_map.get c.inserted id)) (finite_set.contains c.deleted id) (sym (contains-known c id) ∙ present)) [

@@ -25,7 +25,7 @@ same_content c d i x =
     let q = same_set ids_total ids_exact c.deleted d.deleted x in
     λ k. record { inserted = p k; deleted = q k }
 
-or_cond : {A : Type 0} (b : Bool) (x : A) (o r : Option A) → option_or (cond b (Some x) o) r ≡ cond b (Some x) (option_or o r)
+pub or_cond : {A : Type 0} (b : Bool) (x : A) (o r : Option A) → option_or (cond b (Some x) o) r ≡ cond b (Some x) (option_or o r)
 or_cond true x o r = refl
 or_cond false x o r = refl
 

@@ -2,9 +2,14 @@ pub mod IdentifierLaws
 pub mod ContentLaws
 pub mod PathLaws
 pub mod BeforeLaws
+pub mod SortedLaws
 pub mod PlacedLaws
 pub mod OrderLaws
+pub mod VisibleLaws
 pub mod OperationLaws
 pub mod AnswerLaws
 pub mod TakenLaws
 pub mod KnownLaws
+pub mod ClockLaws
+pub mod WaitingLaws
+pub mod OperationsLaws

@@ -29,6 +29,16 @@ Contains-cases x op ops (suc k, within, e) = inr (k, omega (arith, within), e)
 pub Contains-nil : (op : Op) → Contains [] op → ⊥
 Contains-nil op (k, within, e) = omega (arith, within)
 
+pub Contains-append : (xs ys : List Op) (op : Op) → Contains (xs ++ ys) op → Contains xs op ⊎ Contains ys op
+Contains-append [] ys op m = inr m
+Contains-append (x ∷ xs) ys op m = elim (Contains-cases x op (xs ++ ys) m) [
+  | inl here ↦ inl (subst (λ o. Contains (x ∷ xs) o) here (Contains-first x xs))
+  | inr later ↦ elim (Contains-append xs ys op later) [
+    | inl first ↦ inl (Contains-later x op xs first)
+    | inr second ↦ inr second
+  ]
+]
+
 -- ---- one operation
 
 pub get-single : (id parent : Identifier) (ch : ℕ) (q : Identifier) → finite_map.get (single (Insert id parent ch)).inserted q ≡ cond (is q id) (Some (element parent ch)) None

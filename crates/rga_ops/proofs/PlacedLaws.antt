@@ -1,15 +1,13 @@
 -- Complete elements under their root paths, and the entries of the map that has them.
-use Rattle.std.proofs.Common.{◌≡◌, Bool, true, false, cond, ◌&&◌, ◌||◌, T, List, [], ◌∷◌, map, refl, sym, ap, ◌∙◌, subst, true≢false}
+use Rattle.std.proofs.Common.{◌≡◌, true, false, cond, ◌||◌, T, List, [], ◌∷◌, map, refl, sym, ap, ◌∙◌, subst, true≢false}
 use Rattle.std.specs.Prelude.{Some, None}
 use Rattle.std.specs.Option.{option_map}
 use Rattle.std.specs.Cmp.{Equal-is, tied_itself}
-use Rattle.std.specs.Ordering.{eq_by_cmp, is_eq, is_lt, ordering_reverse}
+use Rattle.std.specs.Ordering.{eq_by_cmp, is_eq}
 use Rattle.std.specs.List.{list_any, filter_map, cons_option, AllByRecursion}
-use Rattle.std.specs.declared.cmp.Ordering.{Ordering}
-use Rattle.std.specs.declared.cmp.Ordering.TheVariants.{Less, Equal, Greater}
 use Rattle.std.specs.FinMap as finite_map
 use Rattle.std.specs.FinMap.{find, is_sorted}
-use Rattle.std.specs.FinMap.Entries.{same_entries, below_all}
+use Rattle.std.specs.FinMap.Entries.{same_entries}
 use Rattle.std.proofs.lemmas.Bool.{or_right}
 use Rattle.std.proofs.lemmas.Option.{same_Some, none-some}
 use Rattle.rga_ops.specs.Identifier.{Identifier, is_root}
@@ -19,6 +17,7 @@ use Rattle.rga_ops.specs.Order.{placed, by_path, order}
 use Rattle.rga_ops.proofs.IdentifierLaws.{ids_total, is, same_id}
 use Rattle.rga_ops.proofs.BeforeLaws.{paths_total, paths_exact}
 use Rattle.rga_ops.proofs.ContentLaws.{same_option}
+use Rattle.rga_ops.proofs.SortedLaws.{all_zip, each_found}
 use Rattle.rga_ops.proofs.PathLaws.{root_path-is, is-root_path, one_element, key_of}
 
 same_path : (p q : Path) → eq_by_cmp path_cmp p q ≡ true → p ≡ q
@@ -122,37 +121,8 @@ find-among c (k ∷ ks) p id h =
 
 -- ---- entries in the order of their paths
 
-all_zip : {A : Type 0} (P Q S : A → Type 0) → ((x : A) → P x → Q x → S x) → (xs : List A) → AllByRecursion P xs → AllByRecursion Q xs → AllByRecursion S xs
-all_zip P Q S f [] p q = tt
-all_zip P Q S f (x ∷ xs) p q = (f x p.0 q.0, all_zip P Q S f xs p.1 q.1)
-
-pub both_so : (a b : Bool) → T (a && b) → T a × T b
-both_so true b h = (tt, h)
-both_so false b h = absurd h
-
-later_apart : (o : Ordering) → T (is_lt o) → is_eq (ordering_reverse o) ≡ false
-later_apart Less h = refl
-later_apart Equal h = absurd h
-later_apart Greater h = absurd h
-
-apart : (k : Path) (es : List (Path × Identifier)) → T (below_all path_cmp k es) → AllByRecursion (λ (e : Path × Identifier). eq_by_cmp path_cmp e.0 k ≡ false) es
-apart k [] h = tt
-apart k (e ∷ es) h =
-    let s : T (is_lt (path_cmp k e.0)) × T (below_all path_cmp k es) = both_so (is_lt (path_cmp k e.0)) (below_all path_cmp k es) h in
-    (ap is_eq (paths_total.antisymm e.0 k) ∙ later_apart (path_cmp k e.0) s.0, apart k es s.1)
-
--- each entry of a sorted list is the one that is found under its path
-pub each_found : (es : List (Path × Identifier)) → T (is_sorted path_cmp es) → AllByRecursion (λ (e : Path × Identifier). find path_cmp e.0 es ≡ Some e.1) es
-each_found [] h = tt
-each_found (k ∷ es) h =
-    let s : T (below_all path_cmp k.0 es) × T (is_sorted path_cmp es) = both_so (below_all path_cmp k.0 es) (is_sorted path_cmp es) h in (
-      ap (λ r. cond (is_eq r) (Some k.1) (find path_cmp k.0 es)) (tied_itself paths_total k.0),
-      all_zip (λ (e : Path × Identifier). find path_cmp e.0 es ≡ Some e.1) (λ (e : Path × Identifier). eq_by_cmp path_cmp e.0 k.0 ≡ false) (λ (e : Path × Identifier). find path_cmp e.0 (k ∷ es) ≡ Some e.1)
-          (λ e f a. ap (λ b. cond b (Some k.1) (find path_cmp e.0 es)) a ∙ f) es (each_found es s.1) (apart k.0 es s.0),
-    )
-
 pub entries_placed : (c : Content) → AllByRecursion (λ (e : Path × Identifier). IsPlaced c e.1 e.0) (finite_map.entries (by_path c))
 entries_placed c =
-    let f : AllByRecursion (λ (e : Path × Identifier). find path_cmp e.0 (finite_map.entries (by_path c)) ≡ Some e.1) (finite_map.entries (by_path c)) = each_found (finite_map.entries (by_path c)) (finite_map.entries_sorted (by_path c)) in
+    let f : AllByRecursion (λ (e : Path × Identifier). find path_cmp e.0 (finite_map.entries (by_path c)) ≡ Some e.1) (finite_map.entries (by_path c)) = each_found path_cmp paths_total (finite_map.entries (by_path c)) (finite_map.entries_sorted (by_path c)) in
     all_zip (λ (e : Path × Identifier). find path_cmp e.0 (finite_map.entries (by_path c)) ≡ Some e.1) (λ (e : Path × Identifier). find path_cmp e.0 (finite_map.entries (by_path c)) ≡ Some e.1) (λ (e : Path × Identifier). IsPlaced c e.1 e.0)
     (λ e h _. get-by_path c e.0 e.1 (finite_map.get-entries (by_path c) e.0 ∙ h)) (finite_map.entries (by_path c)) f f

@@ -1,11 +1,12 @@
 -- What a replica holds: insertions and deletions, as a set. Where contents are equal they are one value.
-use Rattle.std.specs.Prelude.{◌≡◌, ◌≢◌, ℕ, ◌<◌, true, List, [], ◌∷◌, ◌++◌, map, Some, Contains, max, ◌↔◌, refl}
+use Rattle.std.specs.Prelude.{◌≡◌, ◌≢◌, ◌≤◌, ℕ, true, List, [], ◌∷◌, ◌++◌, map, Some, Ok, Contains, max, ◌↔◌, refl}
 use Rattle.std.specs.Coded.{Coded, code_by, coded×, coded_ℕ}
 use Rattle.std.specs.FinMap as finite_map
 use Rattle.std.specs.FinSet as finite_set
 use Rattle.std.specs.FinMap.{FinMap}
 use Rattle.std.specs.FinSet.{FinSet}
 use Rattle.rga_ops.specs.Identifier.{Identifier, identifier_code, id_cmp}
+use Rattle.rga_ops.specs.Operation.{checked}
 use Rattle.rga_ops.specs.declared.op.Op.{Op}
 use Rattle.rga_ops.specs.declared.op.Op.TheVariants.{Insert, Delete}
 
@@ -46,9 +47,9 @@ abbrev pub HasAnother : Content → Op → Type 0
 HasAnother c (Insert id parent ch) = (x : Element) × (finite_map.get c.inserted id ≡ Some x) × (x ≢ element parent ch)
 HasAnother c (Delete id) = ⊥
 
--- each insertion's counter is above its parent's
+-- each operation of the content is well-formed
 abbrev pub IsSound : Content → Type 0
-IsSound c = (id : Identifier) (x : Element) → finite_map.get c.inserted id ≡ Some x → x.parent.counter < id.counter
+IsSound c = (op : Op) → Holds c op → checked op ≡ Ok tt
 
 -- ---- agreement and join
 
@@ -101,3 +102,9 @@ clock c =
     max (greatest (map (λ id. id.counter) (finite_map.keys c.inserted)))
     (max (greatest (map (λ x. x.parent.counter) (finite_map.values c.inserted)))
     (greatest (map (λ id. id.counter) (finite_set.items c.deleted))))
+
+-- no counter in the content is above the bound
+pub record HasCountersWithin (c : Content) (n : ℕ) : Type 0 where
+  pub own : (id : Identifier) (x : Element) → finite_map.get c.inserted id ≡ Some x → id.counter ≤ n
+  pub parents : (id : Identifier) (x : Element) → finite_map.get c.inserted id ≡ Some x → x.parent.counter ≤ n
+  pub deleted : (id : Identifier) → finite_set.contains c.deleted id ≡ true → id.counter ≤ n

@@ -4,3 +4,5 @@ pub mod Content
 pub mod RootPath
 pub mod Order
 pub mod Answer
+pub mod Operations
+pub mod Places

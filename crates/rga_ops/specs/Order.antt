@@ -1,5 +1,5 @@
 -- The order of a content's elements, and its text.
-use Rattle.std.specs.Prelude.{◌≡◌, ℕ, List, [], ◌∷◌, Option, Some, None, if◌then◌else◌}
+use Rattle.std.specs.Prelude.{◌≡◌, ℕ, List, [], ◌∷◌, filter, not, Option, Some, None, if◌then◌else◌}
 use Rattle.std.specs.Option.{option_map}
 use Rattle.std.specs.List.{filter_map, list_any}
 use Rattle.std.specs.Ordering.{eq_by_cmp}
@@ -45,6 +45,10 @@ by_path c = finite_map.from_entries (filter_map (placed c) (finite_map.keys c.in
 -- each complete element once, in the order of the root paths
 abbrev pub order : Content → List Identifier
 order c = finite_map.values (by_path c)
+
+-- the inserted elements that wait for an ancestor, by rising identifier
+abbrev pub waiting : Content → List Identifier
+waiting c = filter (λ id. not (is_complete c id)) (finite_map.keys c.inserted)
 
 -- ---- text
 

@@ -3,17 +3,19 @@
 //! Each function does nothing: its contract is a theorem over the definitions of `specs/`, which
 //! the check proves like any other contract.
 
-ghost use Rattle.std.specs.Prelude.{◌≡◌, ◌≢◌, ◌≤◌, ◌↔◌, ◌⊎◌, ◌++◌, ℕ, List, true, false, Some, Ok, Err, Contains};
-ghost use Rattle.std.specs.List.{IsDistinct};
+ghost use Rattle.std.specs.Prelude.{◌≡◌, ◌≢◌, ◌≤◌, ◌↔◌, ◌⊎◌, ◌++◌, ◌+◌, ℕ, List, true, false, Some, None, Ok, Err, Contains, map, length, position};
+ghost use Rattle.std.specs.List.{IsDistinct, list_any, slice_get};
 ghost use Rattle.std.specs.Ordering.{eq_by_cmp};
 ghost use Rattle.std.specs.declared.cmp.Ordering.TheVariants.{Less};
 ghost use Rattle.std.specs.FinMap as finite_map;
 ghost use Rattle.std.specs.FinSet as finite_set;
-ghost use Rattle.rga_ops.specs.Identifier.{Identifier, id_cmp, is_root};
+ghost use Rattle.rga_ops.specs.Identifier.{Identifier, id_cmp, is_id, is_root};
 ghost use Rattle.rga_ops.specs.Operation.{checked, id_of};
-ghost use Rattle.rga_ops.specs.Content.{Element, Content, nothing, known, Holds, HasAnother, Agree, IsWithin, join, content_of, IsAgreed, HasSameOperations};
+ghost use Rattle.rga_ops.specs.Content.{Element, Content, nothing, known, Holds, HasAnother, IsSound, Agree, IsWithin, join, content_of, IsAgreed, HasSameOperations, HasCountersWithin, clock};
 ghost use Rattle.rga_ops.specs.RootPath.{Path, root_path, is_complete, IsComplete, IsRootPath, IsBefore, path_cmp};
-ghost use Rattle.rga_ops.specs.Order.{order, text, IsOrderList, Precedes};
+ghost use Rattle.rga_ops.specs.Order.{order, waiting, text, IsOrderList, Precedes};
+ghost use Rattle.rga_ops.specs.Operations.{operations};
+ghost use Rattle.rga_ops.specs.Places.{is_visible, visible, character, place};
 ghost use Rattle.rga_ops.specs.Answer.{answer, taken_one_by_one};
 ghost use Rattle.rga_ops.specs.declared.op.Op.{Op as Operation};
 ghost use Rattle.rga_ops.specs.declared.refusal.Taken.TheVariants.{New, Known};
@@ -51,6 +53,24 @@ pub fn there_is_one_order_list()
     ensures is_one { (c : Content) → IsOrderList c (order c) }
     ensures only { (c : Content) (ids : List Identifier) → IsOrderList c ids → ids ≡ order c }
     ensures once { (c : Content) → IsDistinct (eq_by_cmp id_cmp) (order c) }
+{}
+
+/// The text is of the visible elements, those that are complete and not deleted: it has the
+/// character of each, in order. Each stands at one index.
+pub fn the_text_is_of_the_visible_elements()
+    ensures visible { (c : Content) (id : Identifier) → list_any (eq_by_cmp id_cmp id) (visible c) ≡ is_visible c id }
+    ensures characters { (c : Content) → map Some (text c) ≡ map (character c) (visible c) }
+    ensures length { (c : Content) → length (text c) ≡ length (visible c) }
+
+    ensures once { (c : Content) → IsDistinct (eq_by_cmp id_cmp) (visible c) }
+    ensures own_index { (c : Content) (id : Identifier) (i : ℕ) → slice_get (visible c) i ≡ Some id → position (λ x. is_id x id) (visible c) ≡ Some i }
+{}
+
+/// What is neither the root nor complete has no place. A visible element's place is one more than
+/// its index in the text.
+pub fn places_in_words()
+    ensures none { (c : Content) (id : Identifier) → (place c id ≡ None) ↔ ((is_root id ≡ false) × (is_complete c id ≡ false)) }
+    ensures of_visible { (c : Content) (id : Identifier) (i : ℕ) → position (λ x. is_id x id) (visible c) ≡ Some i → place c id ≡ Some (i + 1) }
 {}
 
 /// Within is a partial order of contents, and the join of contents that agree is their least
@@ -115,4 +135,25 @@ pub fn answers_in_words()
         (answer limit c op ≡ Err Full) ↔ ((checked op ≡ Ok tt) × (finite_set.contains (known c) (id_of op) ≡ false) × (finite_set.len (known c) ≡ limit)) }
     ensures no_other { (limit : ℕ) (c : Content) (op : Operation) (e : Refused) →
         answer limit c op ≡ Err e → (e ≢ Range) × (e ≢ Clock) × (e ≢ Memory) }
+{}
+
+/// The clock of a content is the least number that no counter in it is above: neither an
+/// insertion's, nor its parent's, nor a deletion's.
+pub fn the_clock_is_the_greatest_counter()
+    ensures bound { (c : Content) → HasCountersWithin c (clock c) }
+    ensures least { (c : Content) (n : ℕ) → HasCountersWithin c n → clock c ≤ n }
+{}
+
+/// Each inserted element either stands in the order or waits.
+pub fn elements_stand_in_the_order_or_wait()
+    ensures { (c : Content) → length (order c) + length (waiting c) ≡ finite_map.len c.inserted }
+{}
+
+/// A content is that of its operations. An empty store takes them one by one, where each of them
+/// is well-formed and the limit suffices.
+pub fn a_content_is_that_of_its_operations()
+    ensures content { (c : Content) → content_of (operations c) ≡ c }
+    ensures held { (c : Content) (op : Operation) → Contains (operations c) op → Holds c op }
+    ensures taken { (limit : ℕ) (c : Content) → IsSound c → finite_set.len (known c) ≤ limit →
+        taken_one_by_one limit nothing (operations c) ≡ Ok c }
 {}

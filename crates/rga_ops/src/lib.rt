@@ -3,8 +3,8 @@
 //! The text is a Replicated Growable Array in its timestamped-insertion-tree form (Attiya and
 //! others 2016; Roh and others 2011). This crate has the two things that travel, `Id` and `Op`,
 //! the answers to them, `Taken` and `Refusal`, and in `specs/` the definitions that the contracts
-//! of every crate above cite: content, join, root path, order list, text. It stands on std alone.
-//! The layer above may rest on `Id`'s ranges, on `Op::check`, and on the theorems of `laws`:
+//! of every crate above cite: content, join, root path, order list, text, place. It stands on std
+//! alone. The layer above may rest on `Id`'s ranges, on `Op::check`, and on the theorems of `laws`:
 //! each is the contract of a function with no body, so that the check proves it.
 #![tactic(auto)]
 

@@ -14,18 +14,19 @@ use Rattle.std.proofs.lemmas.List.Folds.{list_any-append}
 use Rattle.std.proofs.lemmas.Map.Keys.{IsDistinct-push}
 use Rattle.std.proofs.lemmas.Map.Views.{any-filter_same}
 use Rattle.std.proofs.lemmas.Bool.Decides.{nat_tests}
-use Rattle.rga_ops.specs.Identifier.{Identifier, id_cmp, is_id}
+use Rattle.rga_ops.specs.Identifier.{Identifier, id_cmp, is_id, is_root}
 use Rattle.rga_ops.specs.Content.{Element, Content, join, single, known}
 use Rattle.rga_ops.specs.Answer.{answer}
 use Rattle.rga_ops.proofs.IdentifierLaws.{ids_total, ids_exact, is, is_itself, is_swap, same_id, is_id-same, is_id-is}
 use Rattle.rga_ops.proofs.ContentLaws.{same_content, get-join, contains-join, or_false}
 use Rattle.rga_ops.proofs.OperationLaws.{get-single}
+use Rattle.rga_ops.proofs.WaitingLaws.{distinct_filter, distinct_inserted, same_length}
 use Rattle.rga_ops.proofs.AnswerLaws.{IsNewInsertion, IsNewDeletion, new_insertion, new_deletion}
 use Rattle.rga_ops.specs.declared.op.Op.TheVariants.{Insert, Delete}
 use Rattle.rga_ops.specs.declared.refusal.Taken.TheVariants.{New}
 use Rattle.std.specs.Prelude.{Ok}
 use Rattle.rga_store.specs.Limit.{is_limit}
-use Rattle.rga_store.specs.declared.entries.Entry.{Entry}
+use Rattle.rga_store.specs.Entries.{Entry}
 use Rattle.rga_store.specs.Entries.{element_of, ids_of, content_of_entries, marked, is_rising, AreEntries}
 
 -- ---- booleans
@@ -281,15 +282,6 @@ pub ids-append : (es : List Entry) (e : Entry) → ids_of (es ++ e ∷ []) ≡ i
 ids-append [] e = refl
 ids-append (x ∷ es) e = ap (λ r. x.id ∷ r) (ids-append es e)
 
-all-filter : (P : Identifier → Type 0) (p : Identifier → Bool) (xs : List Identifier) → AllByRecursion P xs → AllByRecursion P (filter p xs)
-all-filter P p [] h = tt
-all-filter P p (x ∷ xs) h = elim (p x) as (λ b. AllByRecursion P (cond b (x ∷ filter p xs) (filter p xs))) [ true ↦ (h.0, all-filter P p xs h.1) | false ↦ all-filter P p xs h.1 ]
-
-distinct-filter : (p : Identifier → Bool) (xs : List Identifier) → IsDistinct is xs → IsDistinct is (filter p xs)
-unfolding IsDistinct
-distinct-filter p [] h = tt
-distinct-filter p (x ∷ xs) h = elim (p x) as (λ b. IsDistinct is (cond b (x ∷ filter p xs) (filter p xs))) [ true ↦ (all-filter (λ y. is x y ≡ false) p xs h.0, distinct-filter p xs h.1) | false ↦ distinct-filter p xs h.1 ]
-
 any-filter_none : (t p : Identifier → Bool) (xs : List Identifier) → list_any t xs ≡ false → list_any t (filter p xs) ≡ false
 any-filter_none t p [] h = refl
 any-filter_none t p (x ∷ xs) h =
@@ -319,13 +311,14 @@ all_rising (x ∷ es) e h n =
 pub insertion_kept : (es : List Entry) (early : List Identifier) (e : Entry) (limit : ℕ) → AreEntries es early limit → list_any (is e.id) (ids_of es) ≡ false → nat_lt e.parent.counter e.id.counter ≡ true → (list_any (λ x. is_id x e.id) early ≡ false → length es + length early < limit) → AreEntries (es ++ e ∷ []) (without e.id early) limit
 insertion_kept es early e limit w absent falls room = record {
   distinct = subst (λ xs. IsDistinct is xs) (sym (ids-append es e)) (IsDistinct-push (eq_by_cmp_equiv ids_total) (ids_of es) e.id w.distinct absent);
-  distinct_early = distinct-filter (λ x. not (is_id x e.id)) early w.distinct_early;
+  distinct_early = distinct_filter (λ x. not (is_id x e.id)) early w.distinct_early;
   apart = λ q h. elim (or_cases (list_any (is q) (ids_of es)) (is q e.id || false) (sym (list_any-append (is q) (ids_of es) (e.id ∷ [])) ∙ ap (list_any (is q)) (sym (ids-append es e)) ∙ h)) [
     | inl t ↦ any-filter_none (is q) (λ x. not (is_id x e.id)) early (w.apart q t)
     | inr t ↦ sym (any-ids (without e.id early) q) ∙ any-without e.id q early ∙ ap (λ b. not b && list_any (λ x. is_id x q) early) (sym (or_false (is q e.id)) ∙ t)
   ];
   room = room_kept;
   rising = all_rising es e w.rising falls;
+  elements = any-filter_none is_root (λ x. not (is_id x e.id)) early w.elements;
   limited = w.limited;
 }
   where
@@ -349,16 +342,18 @@ mark_kept es early id limit w = record {
   apart = λ q h. w.apart q (ap (list_any (is q)) (sym (ids-marked id es)) ∙ h);
   room = omega (arith, w.room, length-map es (marked id));
   rising = rising-marked id es ∙ w.rising;
+  elements = w.elements;
   limited = w.limited;
 }
 
-pub early_kept : (es : List Entry) (early : List Identifier) (id : Identifier) (limit : ℕ) → AreEntries es early limit → list_any (is id) (ids_of es) ≡ false → list_any (is id) early ≡ false → length es + length early < limit → AreEntries es (early ++ id ∷ []) limit
-early_kept es early id limit w absent fresh room = record {
+pub early_kept : (es : List Entry) (early : List Identifier) (id : Identifier) (limit : ℕ) → AreEntries es early limit → list_any (is id) (ids_of es) ≡ false → list_any (is id) early ≡ false → is_root id ≡ false → length es + length early < limit → AreEntries es (early ++ id ∷ []) limit
+early_kept es early id limit w absent fresh element room = record {
   distinct = w.distinct;
   distinct_early = IsDistinct-push (eq_by_cmp_equiv ids_total) early id w.distinct_early fresh;
   apart = λ q h. list_any-append (is q) early (id ∷ []) ∙ (λ k. w.apart q h k || (or_false (is q id) ∙ apart_from q h) k);
   room = omega (arith, room, length-append early (id ∷ []));
   rising = w.rising;
+  elements = list_any-append is_root early (id ∷ []) ∙ (λ k. w.elements k || (or_false (is_root id) ∙ element) k);
   limited = w.limited;
 }
   where
@@ -400,7 +395,7 @@ new_insertion_kept es early e limit w answered =
     ]
 
 pub new_deletion_kept : (es : List Entry) (early : List Identifier) (id : Identifier) (limit : ℕ) → AreEntries es early limit → answer limit (content_of_entries es early) (Delete id) ≡ Ok New → list_any (is id) (ids_of es) ≡ false → AreEntries es (early ++ id ∷ []) limit
-new_deletion_kept es early id limit w answered absent = early_kept es early id limit w absent fresh room
+new_deletion_kept es early id limit w answered absent = early_kept es early id limit w absent fresh new.element room
   where
     new : IsNewDeletion limit (content_of_entries es early) id
     new = new_deletion limit (content_of_entries es early) id answered
@@ -424,4 +419,31 @@ found-is es id b h = sym (some-find es id) ∙ some_map (list_find (λ e. is_id 
 
 pub nothing_kept : (limit : ℕ) → is_limit limit ≡ true → AreEntries [] [] limit
 unfolding IsDistinct
-nothing_kept limit h = record { distinct = tt; distinct_early = tt; apart = λ q t. refl; room = omega arith; rising = refl; limited = h }
+nothing_kept limit h = record { distinct = tt; distinct_early = tt; apart = λ q t. refl; room = omega arith; rising = refl; elements = refl; limited = h }
+
+-- each entry is one insertion
+pub inserted-entries : (es : List Entry) (early : List Identifier) (limit : ℕ) → AreEntries es early limit → length (finite_map.keys (content_of_entries es early).inserted) ≡ length es
+inserted-entries es early limit w =
+    same_length (finite_map.keys (content_of_entries es early).inserted) (ids_of es) (distinct_inserted (content_of_entries es early)) w.distinct
+    (λ q. sym (finite_map.contains_key-keys (content_of_entries es early).inserted q) ∙ contains_key-entries es early q)
+    ∙ length-map es (λ e. e.id)
+
+-- ---- the deleted identifiers are distinct
+
+all_ids_filter : (P : Identifier → Type 0) (p : Entry → Bool) (es : List Entry) → AllByRecursion P (ids_of es) → AllByRecursion P (ids_of (filter p es))
+all_ids_filter P p [] h = tt
+all_ids_filter P p (e ∷ es) h = elim (p e) as (λ b. AllByRecursion P (ids_of (cond b (e ∷ filter p es) (filter p es)))) [ true ↦ (h.0, all_ids_filter P p es h.1) | false ↦ all_ids_filter P p es h.1 ]
+
+distinct_ids_filter : (p : Entry → Bool) (es : List Entry) → IsDistinct is (ids_of es) → IsDistinct is (ids_of (filter p es))
+unfolding IsDistinct
+distinct_ids_filter p [] h = tt
+distinct_ids_filter p (e ∷ es) h = elim (p e) as (λ b. IsDistinct is (ids_of (cond b (e ∷ filter p es) (filter p es)))) [ true ↦ (all_ids_filter (λ y. is e.id y ≡ false) p es h.0, distinct_ids_filter p es h.1) | false ↦ distinct_ids_filter p es h.1 ]
+
+pub distinct_deletions : (es : List Entry) (early : List Identifier) (limit : ℕ) → AreEntries es early limit → IsDistinct is (ids_of (filter (λ e. e.deleted) es) ++ early)
+distinct_deletions es early limit w =
+    distinct-append (ids_of (filter (λ e. e.deleted) es)) early (distinct_ids_filter (λ e. e.deleted) es w.distinct) w.distinct_early
+    (λ q h. w.apart q (any-marked_in es q (sym (any-marked es q) ∙ h)))
+
+-- what is known is within the limit
+pub fits : (es : List Entry) (early : List Identifier) (limit : ℕ) → AreEntries es early limit → finite_set.len (known (content_of_entries es early)) ≤ limit
+fits es early limit w = subst (λ n. n ≤ limit) (sym (known-entries es early limit w)) w.room

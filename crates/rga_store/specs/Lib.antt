@@ -3,4 +3,5 @@ pub mod Found
 pub mod Kept
 pub mod Entries
 pub mod Growth
-pub mod Placing
+pub mod Children
+pub mod Nodes

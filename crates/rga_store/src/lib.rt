@@ -1,23 +1,28 @@
 //! Stores: what takes operations, and what shows their elements in order.
 //!
 //! Two traits say what any store does, by the content that it stands for: `Taker` takes
-//! operations, and `TextStore` is a `Taker` of a text, with the order of its elements. `ListStore`
-//! is the plain store, two lists in the order in which operations came. The crate stands on
-//! rga_ops alone. The layer above rests on the traits' contracts and on nothing that a store keeps
-//! inside: a store's answers and its order are functions of its content.
+//! operations, and `TextStore` is a `Taker` of a text, with the order of its elements. `TreeStore`
+//! meets both: it finds an element by its identifier, and walks the tree of parents and children
+//! for the order. The crate stands on rga_ops, and on indexmap and smallvec. The layer above rests
+//! on the traits' contracts and on nothing that a store keeps inside: all that a store answers is a
+//! function of its content and its limit.
 #![tactic(auto)]
 
 mod answer;
-mod entries;
-mod list_store;
-mod placed;
+mod child_list;
+mod children;
+mod nodes;
+mod operations;
 mod taker;
+mod taking;
 mod text_store;
+mod tree_store;
+mod walk;
 
-pub use list_store::ListStore;
 pub use rga_ops::Taken;
 pub use taker::Taker;
 pub use text_store::{MAX_LIMIT, TextStore};
+pub use tree_store::TreeStore;
 
 #[cfg(test)]
 mod tests;

@@ -1,16 +1,17 @@
 //! What keeps a text.
-ghost use Rattle.std.specs.Prelude.{◌≡◌, ◌≤◌, ℕ, true, false, Ok, Err, IfOk, IfErr, MatchResult};
+ghost use Rattle.std.specs.Prelude.{◌≡◌, ◌≤◌, ◌↔◌, ℕ, length, true, false, Ok, Err, IfOk, IfErr, MatchResult};
 ghost use Rattle.std.specs.Option.{option_map};
 ghost use Rattle.std.specs.FinMap as finite_map;
 ghost use Rattle.std.specs.FinSet as finite_set;
 ghost use Rattle.rga_ops.specs.Identifier.{Identifier};
-ghost use Rattle.rga_ops.specs.Content.{nothing, known as known_ids, IsSound};
-ghost use Rattle.rga_ops.specs.Order.{order as order_of};
+ghost use Rattle.rga_ops.specs.Content.{nothing, known as known_ids, Holds, IsSound, clock as greatest_counter};
+ghost use Rattle.rga_ops.specs.Operations.{operations};
+ghost use Rattle.rga_ops.specs.Order.{order as order_of, waiting};
 ghost use Rattle.rga_ops.specs.declared.op.Op.TheVariants.{Delete};
 ghost use Rattle.rga_store.specs.Limit.{is_limit};
 
 use crate::taker::Taker;
-use rga_ops::{Id, Refusal};
+use rga_ops::{Id, Op, Refusal};
 use std::alloc::Global;
 
 /// The greatest limit of a store.
@@ -40,6 +41,15 @@ pub trait TextStore: Taker + Sized {
         ensures within { result ≤ Self.capacity self.now }
         ensures sound { IsSound (Self.content self.now) };
 
+    /// Whether an operation is in the content. Takes no memory.
+    fn contains(&self, op: &Op) -> bool
+        ensures { (result ≡ true) ↔ Holds (Self.content self.now) op.now };
+
+    /// The greatest counter among the insertions, their parents and the deletions; 0 where there
+    /// is none. Takes no memory.
+    fn clock(&self) -> u64
+        ensures { result ≡ greatest_counter (Self.content self.now) };
+
     /// How many identifiers it may know. Takes no memory.
     fn limit(&self) -> usize
         ensures limit { result ≡ Self.capacity self.now }
@@ -50,6 +60,23 @@ pub trait TextStore: Taker + Sized {
     /// 2016). `Memory` alone.
     fn order(&self) -> Result<Vec<Id>, Refusal>
         ensures ok { IfOk result (λ ids. ids.items ≡ order_of (Self.content self.now)) }
+        ensures memory { IfErr result (λ e. e ≡ Refusal.Memory) };
+
+    /// How many inserted elements wait for an ancestor, and so are not in the order. `Memory`
+    /// alone.
+    fn waiting_count(&self) -> Result<usize, Refusal>
+        ensures ok { IfOk result (λ count. count ≡ length (waiting (Self.content self.now))) }
+        ensures memory { IfErr result (λ e. e ≡ Refusal.Memory) };
+
+    /// The content as operations: the insertions by rising identifier, and then the deletions by
+    /// rising identifier. `Memory` alone.
+    fn ops(&self) -> Result<Vec<Op>, Refusal>
+        ensures ok { IfOk result (λ ops. ops.items ≡ operations (Self.content self.now)) }
+        ensures memory { IfErr result (λ e. e ≡ Refusal.Memory) };
+
+    /// A store of its own with the same content and the same limit. `Memory` alone.
+    fn copy(&self) -> Result<Self, Refusal>
+        ensures ok { IfOk result (λ s. (Self.content s ≡ Self.content self.now) × (Self.capacity s ≡ Self.capacity self.now)) }
         ensures memory { IfErr result (λ e. e ≡ Refusal.Memory) };
 
     /// The deletion of an inserted element takes no memory.

@@ -1,0 +1,293 @@
+//! Writes the operation lines of a log to standard output. `generate SHAPE COUNT`: the same words
+//! give the same lines.
+
+use std::env;
+use std::fmt;
+use std::io::{self, BufWriter, Write};
+use std::process::ExitCode;
+
+const USAGE: &str = "usage: generate SHAPE COUNT
+SHAPE is one of
+  typing            three replicas type in rounds, jump and rub out, and merge after each round
+  chain             one replica types on and on, each element behind the one before
+  waiting           the chain with its last line first: all waits until the last line
+  siblings-rising   insertions at the root, in rising order of identifiers
+  siblings-falling  insertions at the root, in falling order of identifiers";
+
+/// How many replicas type at once.
+const REPLICAS: u16 = 3;
+/// The operations of a typing run, on average.
+const RUN: u64 = 12;
+/// While typing, one operation in so many is a deletion.
+const DELETION: u64 = 10;
+/// A replica begins one run in so many elsewhere, and the others where it stopped.
+const JUMP: u64 = 2;
+
+/// What is typed: mostly letters and blanks, with some characters that JSON escapes and some of
+/// more than one byte.
+const CHARACTERS: &str = "eeeeetttaaaooiinnsshhrrddlcumwfgypbvk      .,'\"\\\n\té漢🙂";
+
+#[derive(Clone, Copy, PartialEq)]
+struct Id {
+    counter: u64,
+    replica: u16,
+}
+
+const ROOT: Id = Id {
+    counter: 0,
+    replica: 0,
+};
+
+enum Operation {
+    Insert { id: Id, parent: Id, char: char },
+    Delete { id: Id },
+}
+
+impl fmt::Display for Id {
+    fn fmt(&self, f: &mut fmt::Formatter) -> fmt::Result {
+        write!(f, "[{},{}]", self.counter, self.replica)
+    }
+}
+
+impl fmt::Display for Operation {
+    fn fmt(&self, f: &mut fmt::Formatter) -> fmt::Result {
+        match self {
+            Operation::Insert { id, parent, char } => {
+                f.write_str("{\"char\":\"")?;
+                write_char(f, *char)?;
+                write!(f, "\",\"id\":{id},\"op\":\"ins\",\"parent\":{parent}}}")
+            }
+            Operation::Delete { id } => write!(f, "{{\"id\":{id},\"op\":\"del\"}}"),
+        }
+    }
+}
+
+/// The character as it stands in a JSON string.
+fn write_char(f: &mut fmt::Formatter, char: char) -> fmt::Result {
+    match char {
+        '"' => f.write_str("\\\""),
+        '\\' => f.write_str("\\\\"),
+        '\n' => f.write_str("\\n"),
+        '\t' => f.write_str("\\t"),
+        _ => write!(f, "{char}"),
+    }
+}
+
+/// Numbers that look random, always the same ones (SplitMix64).
+struct Random {
+    state: u64,
+    characters: Vec<char>,
+}
+
+impl Random {
+    fn new() -> Self {
+        Random {
+            state: 1,
+            characters: CHARACTERS.chars().collect(),
+        }
+    }
+
+    fn number(&mut self) -> u64 {
+        self.state = self.state.wrapping_add(0x9e37_79b9_7f4a_7c15);
+        let mut mixed = self.state;
+        mixed = (mixed ^ (mixed >> 30)).wrapping_mul(0xbf58_476d_1ce4_e5b9);
+        mixed = (mixed ^ (mixed >> 27)).wrapping_mul(0x94d0_49bb_1331_11eb);
+        mixed ^ (mixed >> 31)
+    }
+
+    fn below(&mut self, bound: usize) -> usize {
+        (self.number() % bound as u64) as usize
+    }
+
+    /// Is true once in so many times.
+    fn once_in(&mut self, times: u64) -> bool {
+        self.number() % times == 0
+    }
+
+    fn character(&mut self) -> char {
+        let place = self.below(self.characters.len());
+        self.characters[place]
+    }
+}
+
+/// An element of the text that is typed.
+struct Element {
+    id: Id,
+    deleted: bool,
+}
+
+/// Three replicas, and all that they typed so far.
+struct Typing {
+    random: Random,
+    /// The first is the root.
+    elements: Vec<Element>,
+    /// For each replica, the element that it stopped behind.
+    cursors: [usize; REPLICAS as usize],
+    clock: u64,
+    operations: Vec<Operation>,
+}
+
+impl Typing {
+    fn new() -> Self {
+        Typing {
+            random: Random::new(),
+            elements: vec![Element {
+                id: ROOT,
+                deleted: false,
+            }],
+            cursors: [0; REPLICAS as usize],
+            clock: 0,
+            operations: Vec::new(),
+        }
+    }
+
+    /// Each replica types a run in the text that all had after the round before.
+    fn round(&mut self) {
+        let begun = self.clock;
+        let merged = self.elements.len();
+        for replica in 1..=REPLICAS {
+            let start = self.start(replica, merged);
+            self.run(replica, start, begun);
+        }
+    }
+
+    /// Where the replica types next: behind a shown element, one of the first `merged` or its own.
+    fn start(&mut self, replica: u16, merged: usize) -> usize {
+        let cursor = self.cursors[usize::from(replica) - 1];
+        let mut start = if self.random.once_in(JUMP) {
+            self.random.below(merged)
+        } else {
+            cursor
+        };
+        while self.elements[start].deleted {
+            start = self.random.below(merged);
+        }
+        start
+    }
+
+    /// Types behind an element, rubbing out now and then.
+    fn run(&mut self, replica: u16, start: usize, begun: u64) {
+        let mut counter = begun;
+        let mut cursor = start;
+        let mut before_cursor = Vec::new();
+        loop {
+            if cursor != 0 && self.random.once_in(DELETION) {
+                self.delete(cursor);
+                match before_cursor.pop() {
+                    Some(left) => cursor = left,
+                    None => break,
+                }
+            } else {
+                counter += 1;
+                before_cursor.push(cursor);
+                cursor = self.insert(Id { counter, replica }, cursor);
+            }
+            if self.random.once_in(RUN) {
+                break;
+            }
+        }
+        self.cursors[usize::from(replica) - 1] = cursor;
+        self.clock = self.clock.max(counter);
+    }
+
+    fn delete(&mut self, element: usize) {
+        self.elements[element].deleted = true;
+        let id = self.elements[element].id;
+        self.operations.push(Operation::Delete { id });
+    }
+
+    fn insert(&mut self, id: Id, parent: usize) -> usize {
+        self.operations.push(Operation::Insert {
+            id,
+            parent: self.elements[parent].id,
+            char: self.random.character(),
+        });
+        self.elements.push(Element { id, deleted: false });
+        self.elements.len() - 1
+    }
+}
+
+fn typing(count: usize) -> Vec<Operation> {
+    let mut typing = Typing::new();
+    while typing.operations.len() < count {
+        typing.round();
+    }
+    typing.operations.truncate(count);
+    typing.operations
+}
+
+fn chain(count: usize) -> Vec<Operation> {
+    let mut random = Random::new();
+    let mut parent = ROOT;
+    let mut operations = Vec::with_capacity(count);
+    for _ in 0..count {
+        let id = Id {
+            counter: parent.counter + 1,
+            replica: 1,
+        };
+        let char = random.character();
+        operations.push(Operation::Insert { id, parent, char });
+        parent = id;
+    }
+    operations
+}
+
+fn siblings(count: usize) -> Vec<Operation> {
+    let mut random = Random::new();
+    let ids = (1..=count as u64).map(|counter| Id {
+        counter,
+        replica: 1,
+    });
+    ids.map(|id| Operation::Insert {
+        id,
+        parent: ROOT,
+        char: random.character(),
+    })
+    .collect()
+}
+
+fn reversed(mut operations: Vec<Operation>) -> Vec<Operation> {
+    operations.reverse();
+    operations
+}
+
+fn operations_of(shape: &str, count: usize) -> Option<Vec<Operation>> {
+    match shape {
+        "typing" => Some(typing(count)),
+        "chain" => Some(chain(count)),
+        "waiting" => Some(reversed(chain(count))),
+        "siblings-rising" => Some(siblings(count)),
+        "siblings-falling" => Some(reversed(siblings(count))),
+        _ => None,
+    }
+}
+
+fn asked() -> Option<Vec<Operation>> {
+    let words: Vec<String> = env::args().skip(1).collect();
+    let [shape, count] = words.as_slice() else {
+        return None;
+    };
+    operations_of(shape, count.parse().ok()?)
+}
+
+fn write_lines(operations: &[Operation]) -> io::Result<()> {
+    let mut output = BufWriter::new(io::stdout().lock());
+    for operation in operations {
+        writeln!(output, "{operation}")?;
+    }
+    output.flush()
+}
+
+fn main() -> ExitCode {
+    let Some(operations) = asked() else {
+        eprintln!("{USAGE}");
+        return ExitCode::from(2);
+    };
+    match write_lines(&operations) {
+        Ok(()) => ExitCode::SUCCESS,
+        Err(error) => {
+            eprintln!("generate: {error}");
+            ExitCode::FAILURE
+        }
+    }
+}

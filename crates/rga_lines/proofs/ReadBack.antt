@@ -1,0 +1,196 @@
+-- What is written is read back.
+use Rattle.std.proofs.Common.{◌≡◌, ℕ, ◌<◌, ◌≤◌, ◌^◌, Bool, true, false, cond, List, [], ◌∷◌, ◌++◌, length, codes, decimal, Option, Some, option_and_then, Result, Ok, Err, refl, sym, ap, subst, ◌∙◌, arith, append-nil, inl, inr, ◌||◌, ◌&&◌, lit≤, eqb, leb, ltb, ◌/◌, ◌%◌}
+use Rattle.std.specs.Char.{encode_utf8, digit_char, IsScalar}
+use lib.Utf8.{scalar}
+use Rattle.std.specs.Str.{IsUtf8, chars}
+use Rattle.std.proofs.lemmas.Bool.{or_cases, and_parts, eqb-true, leb-true}
+use Rattle.std.proofs.lemmas.List.{length-append}
+use Rattle.std.proofs.lemmas.Str.{chars-encodes, IsUtf8-append, IsUtf8-encode, IsUtf8-from_ascii, length-encode, len_utf8_bounds}
+use Rattle.std.proofs.lemmas.Fmt.{IsAscii-decimal, length-decimal-le}
+use Rattle.json.specs.Json as json
+use Rattle.json.specs.Lex.{tokens}
+use Rattle.json.specs.Print.{quoted}
+use Rattle.json.specs.Tree as tree
+use Rattle.json.proofs.Printed.Decimals.{IsNumber-decimal}
+use Rattle.json.proofs.Printed.Tokens.{tokens-print}
+use Rattle.json.proofs.Printed.Trees.{value-json_tokens, ArePrintable-json_tokens}
+use Rattle.json.proofs.Printed.Utf8.{IsUtf8-are_ascii, IsUtf8-quoted}
+use Rattle.serde_json.specs.Data.{Data, unsigned}
+use Rattle.serde_json.specs.Read.{read, of_json, max_depth, number_of}
+use Rattle.serde_json.specs.Written.{compact_text, outline}
+use Rattle.serde_json.proofs.Numbers.{number_of-decimal}
+use Rattle.serde_json.proofs.OnLiterals.{serde_json_on_literals}
+use Rattle.serde_json.proofs.Texts.{print-outline}
+use Rattle.rga_ops.specs.Identifier.{Identifier, is_root, is_in_range}
+use Rattle.rga_ops.specs.Operation.{checked}
+use Rattle.rga_ops.specs.declared.op.Op.{Op}
+use Rattle.rga_ops.specs.declared.op.Op.TheVariants.{Insert, Delete}
+use Rattle.rga_ops.specs.declared.refusal.Refusal.{Refusal}
+use Rattle.rga_ops.specs.declared.refusal.Refusal.TheVariants.{BadId, BadOrder}
+use Rattle.rga_lines.specs.Spelling.{escaped, pair_text, line, IsWritable}
+use Rattle.rga_lines.specs.Table.{value_line, line_at, max_line}
+use Rattle.rga_lines.proofs.ReadingLemmas.{accepted}
+use Rattle.rga_lines.proofs.SpellingLemmas.{pair_data, op_data, insert_data, insert_text, compact_op}
+
+-- ---- a value without floats is read back from its compact text
+
+tokens-compact : (d : Data) → tree.HasNumbers (outline d) → tokens (compact_text d) ≡ tree.json_tokens (outline d)
+tokens-compact d h = ap tokens (sym (print-outline d)) ∙ tokens-print (tree.json_tokens (outline d)) (ArePrintable-json_tokens (outline d) h)
+
+read-compact : (d : Data) → tree.HasNumbers (outline d) → tree.depth (outline d) ≤ max_depth → of_json (outline d) ≡ Some d → read (compact_text d) ≡ Some d
+read-compact d h shallow back =
+    ap (λ (o : Option (json.Json × List _)). option_and_then of_json (option_and_then (λ p. json.if_last p.0 p.1) o))
+    (ap (json.value max_depth) (tokens-compact d h ∙ sym (append-nil _)) ∙ value-json_tokens (outline d) max_depth [] shallow)
+    ∙ back
+
+-- ---- identifiers
+
+pub record InBounds (id : Identifier) : Type 0 where
+  pub counter : id.counter ≤ 9007199254740991
+  pub replica : id.replica ≤ 65535
+
+within : (id : Identifier) → is_in_range id.counter id.replica ≡ true → InBounds id
+within id e =
+    let p = and_parts (leb 1 id.counter && leb id.counter 9007199254740991) (leb 1 id.replica && leb id.replica 65535) e in
+    let q = and_parts (leb 1 id.counter) (leb id.counter 9007199254740991) p.0 in
+    let r = and_parts (leb 1 id.replica) (leb id.replica 65535) p.1 in
+    record { counter = leb-true _ _ q.1; replica = leb-true _ _ r.1 }
+
+at_root : (id : Identifier) → is_root id ≡ true → InBounds id
+at_root id e =
+    let p = and_parts (eqb id.counter 0) (eqb id.replica 0) e in
+    let c : id.counter ≡ 0 = eqb-true _ _ p.0 in
+    let d : id.replica ≡ 0 = eqb-true _ _ p.1 in
+    record { counter = omega arith; replica = omega arith }
+
+in_bounds : (id : Identifier) → is_root id || is_in_range id.counter id.replica ≡ true → InBounds id
+in_bounds id e = elim (or_cases (is_root id) (is_in_range id.counter id.replica) e) [ inl r ↦ at_root id r | inr i ↦ within id i ]
+
+-- ---- lengths and characters
+
+pair_text-length : (s : Identifier) → InBounds s → length (pair_text s) ≤ 24
+pair_text-length s h =
+    let c = length-decimal-le 16 s.counter (omega arith) (omega (arith, h.counter)) (omega (arith, h.counter)) in
+    let r = length-decimal-le 5 s.replica (omega arith) (omega (arith, h.replica)) (omega (arith, h.replica)) in
+    omega (arith, length-append (decimal s.counter) (44 ∷ (decimal s.replica ++ 93 ∷ [])), length-append (decimal s.replica) (93 ∷ []))
+
+IsUtf8-decimal : (n : ℕ) → n < 2 ^ 64 → IsUtf8 (decimal n)
+IsUtf8-decimal n h = IsUtf8-from_ascii (decimal n) (IsAscii-decimal n h)
+
+IsUtf8-pair_text : (s : Identifier) → InBounds s → IsUtf8 (pair_text s)
+IsUtf8-pair_text s h =
+    IsUtf8-append _ _ (IsUtf8-are_ascii (91 ∷ []) refl)
+    (IsUtf8-append _ _ (IsUtf8-decimal s.counter (omega (arith, h.counter)))
+    (IsUtf8-append _ _ (IsUtf8-are_ascii (44 ∷ []) refl) (IsUtf8-append _ _ (IsUtf8-decimal s.replica (omega (arith, h.replica))) (IsUtf8-are_ascii (93 ∷ []) refl))))
+
+-- ---- values
+
+pair-number : (s : Identifier) → InBounds s → (number_of (decimal s.counter) ≡ Some (unsigned s.counter)) × (number_of (decimal s.replica) ≡ Some (unsigned s.replica))
+pair-number s h = (number_of-decimal s.counter (omega (arith, h.counter)), number_of-decimal s.replica (omega (arith, h.replica)))
+
+pair-numbers : (s : Identifier) → InBounds s → tree.HasNumbers (outline (pair_data s))
+pair-numbers s h = (IsNumber-decimal s.counter (omega (arith, h.counter)), (IsNumber-decimal s.replica (omega (arith, h.replica)), tt))
+
+pair-json : (s : Identifier) → InBounds s → of_json (outline (pair_data s)) ≡ Some (pair_data s)
+pair-json s h = rw ((pair-number s h).0, (pair-number s h).1)
+
+delete-json : (id : Identifier) → InBounds id → of_json (outline (op_data (Delete id))) ≡ Some (op_data (Delete id))
+delete-json id h = rw (pair-json id h)
+
+insert-json : (text : List ℕ) (id parent : Identifier) → InBounds id → InBounds parent → of_json (outline (insert_data text id parent)) ≡ Some (insert_data text id parent)
+insert-json text id parent h k = rw (pair-json id h, pair-json parent k)
+
+delete-line : (id : Identifier) → is_in_range id.counter id.replica ≡ true → value_line (op_data (Delete id)) ≡ Ok (Delete id)
+unfolding value_line
+delete-line id h = rw h
+
+insert-line : (text : List ℕ) (ch : ℕ) (id parent : Identifier) → is_in_range id.counter id.replica ≡ true → is_root parent || is_in_range parent.counter parent.replica ≡ true → leb id.counter parent.counter ≡ false → chars text ≡ ch ∷ []
+    → value_line (insert_data text id parent) ≡ Ok (Insert id parent ch)
+unfolding value_line
+insert-line text ch id parent h k rising one = rw (h, k, one, rising)
+
+-- ---- the whole
+
+abbrev done : Unit {0} → Result (Unit {0}) Refusal
+done x = Ok x
+
+checked_insert : (a b : Bool) → cond a (Err BadId) (cond b (Err BadOrder) (Ok tt)) ≡ done tt → b ≡ false
+checked_insert true b e = absurd cc
+checked_insert false true e = absurd cc
+checked_insert false false e = refl
+
+one_scalar : (b : Bool) → b ≡ true → (b && true) ≡ true
+one_scalar b e = rw e
+
+chars-one : (ch : ℕ) → IsScalar ch → chars (encode_utf8 ch) ≡ ch ∷ []
+chars-one ch h = ap chars (sym (append-nil (encode_utf8 ch))) ∙ chars-encodes (ch ∷ []) (one_scalar (scalar ch) h)
+
+nested : (a b c d e f g : Bool) (x y z : List ℕ) → length x ≤ 6 → length y ≤ 6 → length z ≤ 6
+    → length (cond a x (cond b (codes "\\b") (cond c (codes "\\t") (cond d (codes "\\n") (cond e (codes "\\f") (cond f (codes "\\r") (cond g y z))))))) ≤ 6
+nested true b c d e f g x y z p q r = p
+nested false true c d e f g x y z p q r = omega arith
+nested false false true d e f g x y z p q r = omega arith
+nested false false false true e f g x y z p q r = omega arith
+nested false false false false true f g x y z p q r = omega arith
+nested false false false false false true g x y z p q r = omega arith
+nested false false false false false false true x y z p q r = q
+nested false false false false false false false x y z p q r = r
+
+escaped-length : (c : ℕ) → length (escaped c) ≤ 6
+unfolding escaped
+escaped-length c =
+    nested (eqb c 34 || eqb c 92) (eqb c 8) (eqb c 9) (eqb c 10) (eqb c 12) (eqb c 13) (ltb c 32) (92 ∷ c ∷ []) (codes "\\u00" ++ digit_char (c / 16) ∷ digit_char (c % 16) ∷ []) (encode_utf8 c) (omega arith) (omega arith) (omega (arith, length-encode c, len_utf8_bounds c))
+
+insert-length : (inside : List ℕ) (id parent : Identifier) → length inside ≤ 6 → InBounds id → InBounds parent → length (insert_text inside id parent) ≤ max_line
+insert-length inside id parent small h k =
+    let after = codes ",\"op\":\"ins\",\"parent\":" ++ (pair_text parent ++ codes "}") in
+    omega (
+      arith,
+      length-append inside (codes "\",\"id\":" ++ (pair_text id ++ after)),
+      length-append (pair_text id) after,
+      length-append (pair_text parent) (codes "}"),
+      pair_text-length id h,
+      pair_text-length parent k,
+    )
+
+insert-utf8 : (text : List ℕ) (id parent : Identifier) → IsUtf8 text → InBounds id → InBounds parent → IsUtf8 (compact_text (insert_data text id parent))
+unfolding serde_json_on_literals
+insert-utf8 text id parent u h k =
+    IsUtf8-append (codes "{\"char\":") (quoted text ++ (codes ",\"id\":" ++ (pair_text id ++ (codes ",\"op\":\"ins\",\"parent\":" ++ (pair_text parent ++ codes "}"))))) (IsUtf8-are_ascii _ refl)
+    (IsUtf8-append _ _ (IsUtf8-quoted text u)
+    (IsUtf8-append (codes ",\"id\":") _ (IsUtf8-are_ascii _ refl)
+    (IsUtf8-append _ _ (IsUtf8-pair_text id h)
+    (IsUtf8-append (codes ",\"op\":\"ins\",\"parent\":") _ (IsUtf8-are_ascii _ refl) (IsUtf8-append _ _ (IsUtf8-pair_text parent k) (IsUtf8-are_ascii (codes "}") refl))))))
+
+-- a value whose compact text is a line says what the value says
+pub back : (d : Data) (text : List ℕ) (op : Op) → compact_text d ≡ text → length text ≤ max_line → IsUtf8 text → tree.HasNumbers (outline d) → tree.depth (outline d) ≤ max_depth → of_json (outline d) ≡ Some d → value_line d ≡ Ok op → line_at text ≡ Ok op
+back d text op e short u numbers shallow parsed says = accepted text d short u (ap read (sym e) ∙ read-compact d numbers shallow parsed) ∙ says
+
+insert_back : (id parent : Identifier) (ch : ℕ) → is_in_range id.counter id.replica ≡ true → is_root parent || is_in_range parent.counter parent.replica ≡ true → leb id.counter parent.counter ≡ false → IsScalar ch → line_at (line (Insert id parent ch)) ≡ Ok (Insert id parent ch)
+unfolding line
+insert_back id parent ch h k rising scalar_ch =
+    let f = within id h in
+    let g = in_bounds parent k in
+    let written = compact_op (Insert id parent ch) in
+    back (op_data (Insert id parent ch)) (line (Insert id parent ch)) (Insert id parent ch) written (insert-length (escaped ch) id parent (escaped-length ch) f g)
+    (subst IsUtf8 written (insert-utf8 (encode_utf8 ch) id parent (IsUtf8-encode ch scalar_ch) f g))
+    (tt, (pair-numbers id f, (tt, (pair-numbers parent g, tt))))
+    (lit≤ tt)
+    (insert-json (encode_utf8 ch) id parent f g)
+    (insert-line (encode_utf8 ch) ch id parent h k rising (chars-one ch scalar_ch))
+
+delete_back : (id : Identifier) → is_in_range id.counter id.replica ≡ true → line_at (line (Delete id)) ≡ Ok (Delete id)
+unfolding line
+delete_back id h =
+    let f = within id h in
+    back (op_data (Delete id)) (line (Delete id)) (Delete id) (compact_op (Delete id))
+    (omega (arith, length-append (pair_text id) (codes ",\"op\":\"del\"}"), pair_text-length id f))
+    (IsUtf8-append (codes "{\"id\":") _ (IsUtf8-are_ascii _ refl) (IsUtf8-append _ _ (IsUtf8-pair_text id f) (IsUtf8-are_ascii (codes ",\"op\":\"del\"}") refl)))
+    (pair-numbers id f, (tt, tt))
+    (lit≤ tt)
+    (delete-json id f)
+    (delete-line id h)
+
+pub line_back : (op : Op) → IsWritable op → checked op ≡ Ok tt → line_at (line op) ≡ Ok op
+line_back (Insert id parent ch) h e = insert_back id parent ch h.0 h.1 (checked_insert (is_root id) (leb id.counter parent.counter) e) h.2
+line_back (Delete id) h e = delete_back id h

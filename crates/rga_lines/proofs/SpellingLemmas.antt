@@ -1,0 +1,92 @@
+-- The compact text of an operation's value is its line.
+use Rattle.std.proofs.Common.{◌≡◌, ℕ, ◌+◌, ◌<◌, ◌≤◌, ◌/◌, Bool, true, false, cond, List, [], ◌∷◌, ◌++◌, ◌⊎◌, inl, inr, codes, refl, sym, ap, subst, ◌∙◌, arith, append_assoc, append-nil, ltb, lt-ltb, le-ltb, ne_eqb}
+use Rattle.std.specs.Char.{encode_utf8}
+use lib.Utf8.{next}
+use Rattle.std.proofs.lemmas.Bool.{cases_eq, cases_lt}
+use Rattle.std.proofs.lemmas.Str.{encode_ascii}
+use Rattle.json.specs.Print.{escape, escape_byte}
+use Rattle.json.proofs.Printed.Strings.{escape_byte_plain}
+use Rattle.serde_json.specs.Data.{Data, number, unsigned, string, array, object, item, no_items, member, no_members}
+use Rattle.serde_json.specs.Written.{compact_text}
+use Rattle.serde_json.proofs.OnLiterals.{serde_json_on_literals}
+use Rattle.rga_ops.specs.Identifier.{Identifier}
+use Rattle.rga_ops.specs.declared.op.Op.{Op}
+use Rattle.rga_ops.specs.declared.op.Op.TheVariants.{Insert, Delete}
+use Rattle.rga_lines.specs.Spelling.{escaped, pair_text, line}
+
+-- ---- the value of JSON of an operation
+
+abbrev pub pair_data : Identifier → Data
+pair_data id = array (item (number (unsigned id.counter)) (item (number (unsigned id.replica)) no_items))
+
+abbrev pub op_data : Op → Data
+op_data (Insert id parent ch) = object (member (codes "char") (string (encode_utf8 ch)) (member (codes "id") (pair_data id) (member (codes "op") (string (codes "ins")) (member (codes "parent") (pair_data parent) no_members))))
+op_data (Delete id) = object (member (codes "id") (pair_data id) (member (codes "op") (string (codes "del")) no_members))
+
+-- ---- one character
+
+-- no byte needs an escape
+abbrev pub Plain : List ℕ → Type 0
+Plain [] = Unit {0}
+Plain (x ∷ xs) = (128 ≤ x) × Plain xs
+
+escape-plain : (bs : List ℕ) → Plain bs → escape bs ≡ bs
+escape-plain [] h = refl
+escape-plain (x ∷ xs) h = ap (λ (ys : List ℕ). ys ++ escape xs) (escape_byte_plain x (λ e. omega arith) (λ e. omega arith) (omega arith)) ∙ ap (λ (ys : List ℕ). x ∷ ys) (escape-plain xs h.1)
+
+Plain-choice : (a b : Bool) (x y z : List ℕ) → Plain x → Plain y → Plain z → Plain (cond a x (cond b y z))
+Plain-choice true b x y z p q r = p
+Plain-choice false true x y z p q r = q
+Plain-choice false false x y z p q r = r
+
+pub Plain-encode : (c : ℕ) → 128 ≤ c → Plain (encode_utf8 c)
+unfolding encode_utf8
+Plain-encode c h =
+    let two : Plain ((192 + c / 64) ∷ next c ∷ []) = (omega arith, (omega arith, tt)) in
+    let three : Plain ((224 + c / 4096) ∷ next (c / 64) ∷ next c ∷ []) = (omega arith, (omega arith, (omega arith, tt))) in
+    let four : Plain ((240 + c / 262144) ∷ next (c / 4096) ∷ next (c / 64) ∷ next c ∷ []) = (omega arith, (omega arith, (omega arith, (omega arith, tt)))) in
+    rw (le-ltb c 128 h) (Plain-choice (ltb c 2048) (ltb c 65536) ((192 + c / 64) ∷ next c ∷ []) ((224 + c / 4096) ∷ next (c / 64) ∷ next c ∷ []) ((240 + c / 262144) ∷ next (c / 4096) ∷ next (c / 64) ∷ next c ∷ []) two three four)
+
+-- an ASCII character
+ascii : (c : ℕ) → c < 128 → escape_byte c ≡ escaped c
+unfolding escape_byte escaped encode_utf8
+ascii c lt = go (cases_eq c 34) (cases_eq c 92) (cases_eq c 8) (cases_eq c 9) (cases_eq c 10) (cases_eq c 12) (cases_eq c 13) (cases_lt c 32)
+  where
+    go : (c ≡ 34) ⊎ (c ≡ 34 → ⊥) → (c ≡ 92) ⊎ (c ≡ 92 → ⊥) → (c ≡ 8) ⊎ (c ≡ 8 → ⊥) → (c ≡ 9) ⊎ (c ≡ 9 → ⊥) → (c ≡ 10) ⊎ (c ≡ 10 → ⊥) → (c ≡ 12) ⊎ (c ≡ 12 → ⊥) → (c ≡ 13) ⊎ (c ≡ 13 → ⊥) → (c < 32) ⊎ (32 ≤ c) → escape_byte c ≡ escaped c
+    go (inl e) _ _ _ _ _ _ _ = subst (λ (x : ℕ). escape_byte x ≡ escaped x) (sym e) refl
+    go (inr a) (inl e) _ _ _ _ _ _ = subst (λ (x : ℕ). escape_byte x ≡ escaped x) (sym e) refl
+    go (inr a) (inr b) (inl e) _ _ _ _ _ = subst (λ (x : ℕ). escape_byte x ≡ escaped x) (sym e) refl
+    go (inr a) (inr b) (inr d) (inl e) _ _ _ _ = subst (λ (x : ℕ). escape_byte x ≡ escaped x) (sym e) refl
+    go (inr a) (inr b) (inr d) (inr f) (inl e) _ _ _ = subst (λ (x : ℕ). escape_byte x ≡ escaped x) (sym e) refl
+    go (inr a) (inr b) (inr d) (inr f) (inr g) (inl e) _ _ = subst (λ (x : ℕ). escape_byte x ≡ escaped x) (sym e) refl
+    go (inr a) (inr b) (inr d) (inr f) (inr g) (inr h) (inl e) _ = subst (λ (x : ℕ). escape_byte x ≡ escaped x) (sym e) refl
+    go (inr a) (inr b) (inr d) (inr f) (inr g) (inr h) (inr i) (inl l) = rw (ne_eqb c 34 a, ne_eqb c 92 b, ne_eqb c 8 d, ne_eqb c 9 f, ne_eqb c 10 g, ne_eqb c 12 h, ne_eqb c 13 i, lt-ltb c 32 l)
+    go (inr a) (inr b) (inr d) (inr f) (inr g) (inr h) (inr i) (inr l) = rw (ne_eqb c 34 a, ne_eqb c 92 b, ne_eqb c 8 d, ne_eqb c 9 f, ne_eqb c 10 g, ne_eqb c 12 h, ne_eqb c 13 i, le-ltb c 32 l, lt-ltb c 128 lt)
+
+pub wide : (c : ℕ) → 128 ≤ c → escaped c ≡ encode_utf8 c
+unfolding escaped
+wide c h = rw (ne_eqb c 34 (λ e. omega arith), ne_eqb c 92 (λ e. omega arith), ne_eqb c 8 (λ e. omega arith), ne_eqb c 9 (λ e. omega arith), ne_eqb c 10 (λ e. omega arith), ne_eqb c 12 (λ e. omega arith), ne_eqb c 13 (λ e. omega arith), le-ltb c 32 (omega arith))
+
+pub escape-encode : (c : ℕ) → escape (encode_utf8 c) ≡ escaped c
+escape-encode c = go (cases_lt c 128)
+  where
+    go : (c < 128) ⊎ (128 ≤ c) → escape (encode_utf8 c) ≡ escaped c
+    go (inl lt) = ap escape (encode_ascii c lt) ∙ append-nil (escape_byte c) ∙ ascii c lt
+    go (inr le) = escape-plain (encode_utf8 c) (Plain-encode c le) ∙ sym (wide c le)
+
+-- ---- whole lines
+
+abbrev pub insert_data : List ℕ → Identifier → Identifier → Data
+insert_data text id parent = object (member (codes "char") (string text) (member (codes "id") (pair_data id) (member (codes "op") (string (codes "ins")) (member (codes "parent") (pair_data parent) no_members))))
+
+abbrev pub insert_text : List ℕ → Identifier → Identifier → List ℕ
+insert_text inside id parent = codes "{\"char\":\"" ++ (inside ++ (codes "\",\"id\":" ++ (pair_text id ++ (codes ",\"op\":\"ins\",\"parent\":" ++ (pair_text parent ++ codes "}")))))
+
+pub compact_insert : (text : List ℕ) (id parent : Identifier) → compact_text (insert_data text id parent) ≡ insert_text (escape text) id parent
+unfolding serde_json_on_literals
+compact_insert text id parent = ap (λ (t : List ℕ). codes "{\"char\":\"" ++ t) (append_assoc (escape text) (34 ∷ []) (codes ",\"id\":" ++ (pair_text id ++ (codes ",\"op\":\"ins\",\"parent\":" ++ (pair_text parent ++ codes "}")))))
+
+pub compact_op : (op : Op) → compact_text (op_data op) ≡ line op
+unfolding line serde_json_on_literals
+compact_op (Insert id parent ch) = compact_insert (encode_utf8 ch) id parent ∙ ap (λ (inside : List ℕ). insert_text inside id parent) (escape-encode ch)
+compact_op (Delete id) = refl

@@ -1,0 +1,5 @@
+use Rattle.rga_lines.proofs.ReadBack.{line_back}
+use Rattle.rga_lines.proofs.laws.written_lines_read_back.Goals as goal
+
+pub returns : goal.returns
+returns c = line_back

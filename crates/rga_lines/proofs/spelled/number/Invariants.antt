@@ -1,0 +1,9 @@
+use Rattle.std.proofs.Common.{◌-◌, length}
+use Rattle.rga_lines.proofs.SpelledLemmas.{IsRead}
+use Rattle.rga_lines.proofs.spelled.number.Given as goal
+
+abbrev pub invariant-digits : goal.invariant-digits
+invariant-digits l = IsRead l.fn.bytes l.len l.value
+
+abbrev pub decreases-digits : goal.decreases-digits
+decreases-digits l = length l.fn.bytes - l.len

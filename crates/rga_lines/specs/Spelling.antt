@@ -1,0 +1,32 @@
+-- How an operation is spelled as a line where nothing is left open: no blanks, and the members by their names.
+use Rattle.std.specs.Prelude.{◌≡◌, ℕ, ◌/◌, ◌%◌, true, List, [], ◌∷◌, ◌++◌, ◌||◌, ◌==◌, nat_lt, if◌then◌else◌, codes, decimal}
+use Rattle.std.specs.Char.{digit_char, encode_utf8, IsScalar}
+use Rattle.rga_ops.specs.Identifier.{Identifier, is_root, is_in_range}
+use Rattle.rga_ops.specs.declared.op.Op.{Op}
+use Rattle.rga_ops.specs.declared.op.Op.TheVariants.{Insert, Delete}
+
+-- What stands between the quotes for a character: a short escape, four hexadecimal digits below a space, and else the
+-- character in UTF-8.
+unfoldable pub escaped : ℕ → List ℕ
+escaped c =
+    if c == 34 || c == 92 then 92 ∷ c ∷ []
+    else (if c == 8 then codes "\\b"
+    else (if c == 9 then codes "\\t"
+    else (if c == 10 then codes "\\n"
+    else (if c == 12 then codes "\\f"
+    else (if c == 13 then codes "\\r"
+    else (if nat_lt c 32 then codes "\\u00" ++ digit_char (c / 16) ∷ digit_char (c % 16) ∷ []
+    else encode_utf8 c))))))
+
+abbrev pub pair_text : Identifier → List ℕ
+pair_text id = codes "[" ++ (decimal id.counter ++ (codes "," ++ (decimal id.replica ++ codes "]")))
+
+-- the line of an operation, without its newline
+unfoldable pub line : Op → List ℕ
+line (Insert id parent ch) = codes "{\"char\":\"" ++ (escaped ch ++ (codes "\",\"id\":" ++ (pair_text id ++ (codes ",\"op\":\"ins\",\"parent\":" ++ (pair_text parent ++ codes "}")))))
+line (Delete id) = codes "{\"id\":" ++ (pair_text id ++ codes ",\"op\":\"del\"}")
+
+-- The identifiers are in range, or the parent is the root, and the character is a Unicode scalar value.
+abbrev pub IsWritable : Op → Type 0
+IsWritable (Insert id parent ch) = (is_in_range id.counter id.replica ≡ true) × (is_root parent || is_in_range parent.counter parent.replica ≡ true) × IsScalar ch
+IsWritable (Delete id) = is_in_range id.counter id.replica ≡ true

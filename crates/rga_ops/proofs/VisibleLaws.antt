@@ -1,0 +1,264 @@
+-- The visible elements: which they are, that the text is of them, and how many stand up to an element.
+use Rattle.std.proofs.Common.{◌≡◌, ℕ, ◌+◌, suc, zero, Bool, true, false, cond, not, ◌&&◌, ◌||◌, List, [], ◌∷◌, map, filter, length, position, nat_lt, refl, sym, ap, ◌∙◌, arith, true≢false}
+use Rattle.std.specs.Prelude.{Option, Some, None, ◌↔◌}
+use Rattle.std.specs.Option.{option_map}
+use Rattle.std.specs.List.{list_any, filter_map, cons_option, AllByRecursion, position_or_len, IsDistinct, slice_get}
+use Rattle.std.specs.FinMap as finite_map
+use Rattle.std.specs.FinSet as finite_set
+use Rattle.std.proofs.lemmas.Bool.Decides.{nat_tests}
+use Rattle.std.proofs.lemmas.List.{length-map}
+use Rattle.std.proofs.lemmas.Option.{same_Some, none-some}
+use Rattle.rga_ops.specs.Identifier.{Identifier, is_root, is_id}
+use Rattle.rga_ops.specs.Content.{Element, Content}
+use Rattle.rga_ops.specs.RootPath.{is_complete, IsComplete, below_root, below_element}
+use Rattle.rga_ops.specs.Order.{order, shown, text}
+use Rattle.rga_ops.specs.Places.{is_visible, visible, character, up_to, place}
+use Rattle.rga_ops.proofs.IdentifierLaws.{is, same_id, is_id-same, is_id-is, is_id-itself, is_swap}
+use Rattle.rga_ops.proofs.PathLaws.{is_complete-iff}
+use Rattle.rga_ops.proofs.OrderLaws.{all_members, order_list, order_distinct}
+
+-- ---- the test of an element of the order
+
+-- whether an identifier is not deleted
+abbrev pub is_kept : Content → Identifier → Bool
+is_kept c id = not (finite_set.contains c.deleted id)
+
+pub order_complete : (c : Content) → AllByRecursion (λ id. is_complete c id ≡ true) (order c)
+order_complete c = all_members (λ id. is_complete c id ≡ true) (order c) (λ id m. sym ((order_list c).elements id) ∙ m)
+
+visible_among : (c : Content) (xs : List Identifier) → AllByRecursion (λ id. is_complete c id ≡ true) xs → filter (is_visible c) xs ≡ filter (is_kept c) xs
+visible_among c [] h = refl
+visible_among c (x ∷ xs) h = λ k. cond (h.0 k && not (finite_set.contains c.deleted x)) (x ∷ visible_among c xs h.1 k) (visible_among c xs h.1 k)
+
+-- the visible elements are those of the order that are not deleted
+pub visible_is : (c : Content) → visible c ≡ filter (is_kept c) (order c)
+visible_is c = visible_among c (order c) (order_complete c)
+
+-- ---- the text
+
+inserted_of : {c : Content} {id : Identifier} → IsComplete c id → (x : Element) × (finite_map.get c.inserted id ≡ Some x)
+inserted_of (below_root x other g r) = (x, g)
+inserted_of (below_element x other g s) = (x, g)
+
+complete_inserted : (c : Content) (id : Identifier) → is_complete c id ≡ true → (x : Element) × (finite_map.get c.inserted id ≡ Some x)
+complete_inserted c id h = inserted_of ((is_complete-iff c id).0 h)
+
+characters_among : (c : Content) (xs : List Identifier) → AllByRecursion (λ id. is_complete c id ≡ true) xs → map Some (filter_map (shown c) xs) ≡ map (character c) (filter (is_kept c) xs)
+characters_among c [] h = refl
+characters_among c (x ∷ xs) h =
+    let w : (y : Element) × (finite_map.get c.inserted x ≡ Some y) = complete_inserted c x h.0 in
+    let rest : map Some (filter_map (shown c) xs) ≡ map (character c) (filter (is_kept c) xs) = characters_among c xs h.1 in
+    let here : character c x ≡ Some w.0.ch = ap (option_map (λ (y : Element). y.ch)) w.1 in
+    elim (finite_set.contains c.deleted x) as (λ b. map Some (cons_option (cond b None (character c x)) (filter_map (shown c) xs)) ≡ map (character c) (cond (not b) (x ∷ filter (is_kept c) xs) (filter (is_kept c) xs))) [
+      | true ↦ rest
+      | false ↦ ap (λ o. map Some (cons_option o (filter_map (shown c) xs))) here ∙ (λ k. sym here k ∷ rest k)
+    ]
+
+-- the text has the characters of the visible elements
+pub text_is : (c : Content) → map Some (text c) ≡ map (character c) (visible c)
+text_is c = characters_among c (order c) (order_complete c) ∙ ap (map (character c)) (sym (visible_is c))
+
+pub text_long : (c : Content) → length (text c) ≡ length (visible c)
+text_long c = sym (length-map (text c) Some) ∙ ap length (text_is c) ∙ length-map (visible c) (character c)
+
+-- those that there are, in a row
+pub text_of_visible : (c : Content) → text c ≡ filter_map (character c) (visible c)
+text_of_visible c = among (order c) ∙ ap (filter_map (character c)) (sym (visible_is c))
+  where
+    among : (xs : List Identifier) → filter_map (shown c) xs ≡ filter_map (character c) (filter (is_kept c) xs)
+    among [] = refl
+    among (x ∷ xs) = elim (finite_set.contains c.deleted x) as (λ b. cons_option (cond b None (character c x)) (filter_map (shown c) xs) ≡ filter_map (character c) (cond (not b) (x ∷ filter (is_kept c) xs) (filter (is_kept c) xs))) [
+      | true ↦ among xs
+      | false ↦ ap (cons_option (character c x)) (among xs)
+    ]
+
+-- ---- which elements are visible
+
+and_false : (b : Bool) → (b && false) ≡ false
+and_false true = refl
+and_false false = refl
+
+filtered : (p : Identifier → Bool) (id : Identifier) (xs : List Identifier) → list_any (is id) (filter p xs) ≡ (list_any (is id) xs && p id)
+filtered p id [] = refl
+filtered p id (x ∷ xs) = elim (p x) as (λ b. p x ≡ b → list_any (is id) (cond b (x ∷ filter p xs) (filter p xs)) ≡ ((is id x || list_any (is id) xs) && p id)) [
+  | true ↦ λ t. elim (is id x) as (λ b. is id x ≡ b → (b || list_any (is id) (filter p xs)) ≡ ((b || list_any (is id) xs) && p id)) [
+    | true ↦ λ s. sym (ap p (same_id id x s) ∙ t)
+    | false ↦ λ s. filtered p id xs
+  ] refl
+  | false ↦ λ t. elim (is id x) as (λ b. is id x ≡ b → list_any (is id) (filter p xs) ≡ ((b || list_any (is id) xs) && p id)) [
+    | true ↦ λ s.
+        let no : p id ≡ false = ap p (same_id id x s) ∙ t in
+        filtered p id xs ∙ ap (λ b. list_any (is id) xs && b) no ∙ and_false (list_any (is id) xs) ∙ sym no
+    | false ↦ λ s. filtered p id xs
+  ] refl
+] refl
+
+pub visible_elements : (c : Content) (id : Identifier) → list_any (is id) (visible c) ≡ is_visible c id
+visible_elements c id =
+    filtered (is_visible c) id (order c) ∙ ap (λ b. b && is_visible c id) ((order_list c).elements id) ∙ twice (is_complete c id) (is_kept c id)
+  where
+    twice : (a b : Bool) → (a && (a && b)) ≡ (a && b)
+    twice true b = refl
+    twice false b = refl
+
+-- ---- places
+
+any_id : (id : Identifier) (xs : List Identifier) → list_any (λ x. is_id x id) xs ≡ list_any (is id) xs
+any_id id [] = refl
+any_id id (x ∷ xs) = λ k. is_id-same x id k || any_id id xs k
+
+complete_up_to : (c : Content) (id : Identifier) (xs : List Identifier) → AllByRecursion (λ y. is_complete c y ≡ true) xs → AllByRecursion (λ y. is_complete c y ≡ true) (up_to id xs)
+complete_up_to c id [] h = tt
+complete_up_to c id (x ∷ xs) h = elim (is_id x id) as (λ b. AllByRecursion (λ y. is_complete c y ≡ true) (cond b (x ∷ []) (x ∷ up_to id xs))) [
+  | true ↦ (h.0, tt)
+  | false ↦ (h.0, complete_up_to c id xs h.1)
+]
+
+-- an identifier is complete where it is in the order
+pub complete_is : (c : Content) (id : Identifier) → is_complete c id ≡ list_any (λ x. is_id x id) (order c)
+complete_is c id = sym ((order_list c).elements id) ∙ sym (any_id id (order c))
+
+-- the place, by the order alone
+pub place_is : (c : Content) (id : Identifier) → is_root id ≡ false → place c id ≡ cond (list_any (λ x. is_id x id) (order c)) (Some (length (filter (is_kept c) (up_to id (order c))))) None
+place_is c id other =
+    ap (λ b. cond b (Some 0) (cond (is_complete c id) (Some (length (filter (is_visible c) (up_to id (order c))))) None)) other
+    ∙ ap (λ b. cond b (Some (length (filter (is_visible c) (up_to id (order c))))) None) (complete_is c id)
+    ∙ ap (λ ys. cond (list_any (λ x. is_id x id) (order c)) (Some (length ys)) None) (visible_among c (up_to id (order c)) (complete_up_to c id (order c) (order_complete c)))
+
+pub no_place : (c : Content) (id : Identifier) → (place c id ≡ None) ↔ ((is_root id ≡ false) × (is_complete c id ≡ false))
+no_place c id = (there, back)
+  where
+    there : place c id ≡ None → (is_root id ≡ false) × (is_complete c id ≡ false)
+    there h = elim (is_root id) as (λ b. cond b (Some 0) (cond (is_complete c id) (Some (length (filter (is_visible c) (up_to id (order c))))) None) ≡ None → (b ≡ false) × (is_complete c id ≡ false)) [
+      | true ↦ λ h. absurd (none-some _ (sym h))
+      | false ↦ λ h. (
+        refl,
+        elim (is_complete c id) as (λ b. cond b (Some (length (filter (is_visible c) (up_to id (order c))))) None ≡ None → b ≡ false) [
+          | true ↦ λ h. absurd (none-some _ (sym h))
+          | false ↦ λ h. refl
+        ] h,
+      )
+    ] h
+
+    back : (is_root id ≡ false) × (is_complete c id ≡ false) → place c id ≡ None
+    back h = λ k. cond (h.0 k) (Some 0) (cond (h.1 k) (Some (length (filter (is_visible c) (up_to id (order c))))) None)
+
+-- ---- indices in the text
+
+positive : (n : ℕ) → nat_lt 0 (suc n) ≡ true
+positive n = grind (arith, nat_tests)
+
+both_on : (k n : ℕ) → nat_lt (suc k) (suc n) ≡ nat_lt k n
+both_on k n = by (nat_lt k n) refl
+  where
+    by : (b : Bool) → nat_lt k n ≡ b → nat_lt (suc k) (suc n) ≡ b
+    by true h = grind (arith, nat_tests)
+    by false h = grind (arith, nat_tests)
+
+one_plus : (k : ℕ) → 1 + k ≡ suc k
+one_plus k = omega arith
+
+pub position_here : (p : Identifier → Bool) (x : Identifier) (xs : List Identifier) → p x ≡ true → position p (x ∷ xs) ≡ Some 0
+position_here p x xs h = rw h (ap (λ b. cond b (Some 0) None) (positive (length xs)))
+
+pub position_later : (p : Identifier → Bool) (x : Identifier) (xs : List Identifier) → p x ≡ false → position p (x ∷ xs) ≡ option_map (λ n. suc n) (position p xs)
+position_later p x xs h = rw h (ap (λ m. cond (nat_lt m (suc (length xs))) (Some m) None) (one_plus (position_or_len p xs)) ∙ both (position_or_len p xs) (length xs))
+  where
+    spread : (b : Bool) (k : ℕ) → cond b (Some (suc k)) None ≡ option_map (λ n. suc n) (cond b (Some k) None)
+    spread true k = refl
+    spread false k = refl
+
+    both : (k n : ℕ) → cond (nat_lt (suc k) (suc n)) (Some (suc k)) None ≡ option_map (λ n. suc n) (cond (nat_lt k n) (Some k) None)
+    both k n = ap (λ b. cond b (Some (suc k)) None) (both_on k n) ∙ spread (nat_lt k n) k
+
+-- what a list does not have is at no index of it
+absent : (id : Identifier) (xs : List Identifier) → list_any (is id) xs ≡ false → position (λ x. is_id x id) xs ≡ None
+absent id [] h = refl
+absent id (x ∷ xs) h = elim (is id x) as (λ b. is id x ≡ b → (b || list_any (is id) xs) ≡ false → position (λ y. is_id y id) (x ∷ xs) ≡ None) [
+  | true ↦ λ t h. absurd (true≢false h)
+  | false ↦ λ t h. position_later (λ y. is_id y id) x xs (is_id-same x id ∙ t) ∙ ap (option_map (λ n. suc n)) (absent id xs h)
+] refl h
+
+-- an index of a filtered list: so many pass up to there
+counted : (p : Identifier → Bool) (id : Identifier) (xs : List Identifier) (i : ℕ) → position (λ x. is_id x id) (filter p xs) ≡ Some i → length (filter p (up_to id xs)) ≡ i + 1
+counted p id [] i h = absurd (none-some _ h)
+counted p id (x ∷ xs) i h =
+    elim (is_id x id) as (λ b. is_id x id ≡ b → length (filter p (cond b (x ∷ []) (x ∷ up_to id xs))) ≡ i + 1) [
+      | true ↦ λ s. elim (p x) as (λ b. p x ≡ b → position (λ y. is_id y id) (cond b (x ∷ filter p xs) (filter p xs)) ≡ Some i → length (cond b (x ∷ []) []) ≡ i + 1) [
+        | true ↦ λ t h.
+            let first : 0 ≡ i = same_Some _ _ (sym (position_here (λ y. is_id y id) x (filter p xs) s) ∙ h) in
+            omega (arith, first)
+        | false ↦ λ t h.
+            let no : p id ≡ false = ap p (sym (is_id-is x id s)) ∙ t in
+            let none : list_any (is id) (filter p xs) ≡ false = filtered p id xs ∙ ap (λ b. list_any (is id) xs && b) no ∙ and_false (list_any (is id) xs) in
+            absurd (none-some _ (sym (absent id (filter p xs) none) ∙ h))
+      ] refl h
+      | false ↦ λ s. elim (p x) as (λ b. p x ≡ b → position (λ y. is_id y id) (cond b (x ∷ filter p xs) (filter p xs)) ≡ Some i → length (cond b (x ∷ filter p (up_to id xs)) (filter p (up_to id xs))) ≡ i + 1) [
+        | true ↦ λ t h. later (position (λ y. is_id y id) (filter p xs)) (counted p id xs) (sym (position_later (λ y. is_id y id) x (filter p xs) s) ∙ h)
+        | false ↦ λ t h. counted p id xs i h
+      ] refl h
+    ] refl
+  where
+    later : (o : Option ℕ) → ((j : ℕ) → o ≡ Some j → length (filter p (up_to id xs)) ≡ j + 1) → option_map (λ n. suc n) o ≡ Some i → suc (length (filter p (up_to id xs))) ≡ i + 1
+    later None f h = absurd (none-some _ h)
+    later (Some j) f h =
+        let one : suc j ≡ i = same_Some _ _ h in
+        let rest : length (filter p (up_to id xs)) ≡ j + 1 = f j refl in
+        omega (arith, one, rest)
+
+-- the place of a visible element is one more than its index
+pub place_at : (c : Content) (id : Identifier) (i : ℕ) → position (λ x. is_id x id) (visible c) ≡ Some i → place c id ≡ Some (i + 1)
+place_at c id i h =
+    let shows : is_visible c id ≡ true = sym (visible_elements c id) ∙ among (list_any (is id) (visible c)) refl in
+    let complete : is_complete c id ≡ true = first (is_complete c id) (is_kept c id) shows in
+    let other : is_root id ≡ false = element (is_root id) _ complete in
+    (λ k. cond (other k) (Some 0) (cond (complete k) (Some (length (filter (is_visible c) (up_to id (order c))))) None))
+    ∙ ap Some (counted (is_visible c) id (order c) i h)
+  where
+    among : (b : Bool) → list_any (is id) (visible c) ≡ b → list_any (is id) (visible c) ≡ true
+    among true e = e
+    among false e = absurd (none-some _ (sym (absent id (visible c) e) ∙ h))
+
+    first : (a b : Bool) → (a && b) ≡ true → a ≡ true
+    first true b e = refl
+    first false b e = absurd (true≢false (sym e))
+
+    element : (a b : Bool) → (not a && b) ≡ true → a ≡ false
+    element true b e = absurd (true≢false (sym e))
+    element false b e = refl
+
+-- ---- each visible element stands at one index
+
+pub visible_distinct : (c : Content) → IsDistinct is (visible c)
+unfolding IsDistinct
+visible_distinct c = distinct_filter (is_visible c) (order c) (order_distinct c (order c) (order_list c).in_order)
+  where
+    all_filter : (P : Identifier → Type 0) (p : Identifier → Bool) (xs : List Identifier) → AllByRecursion P xs → AllByRecursion P (filter p xs)
+    all_filter P p [] h = tt
+    all_filter P p (x ∷ xs) h = elim (p x) as (λ b. AllByRecursion P (cond b (x ∷ filter p xs) (filter p xs))) [
+      | true ↦ (h.0, all_filter P p xs h.1)
+      | false ↦ all_filter P p xs h.1
+    ]
+
+    distinct_filter : (p : Identifier → Bool) (xs : List Identifier) → IsDistinct is xs → IsDistinct is (filter p xs)
+    distinct_filter p [] h = tt
+    distinct_filter p (x ∷ xs) h = elim (p x) as (λ b. IsDistinct is (cond b (x ∷ filter p xs) (filter p xs))) [
+      | true ↦ (all_filter (λ y. is x y ≡ false) p xs h.0, distinct_filter p xs h.1)
+      | false ↦ distinct_filter p xs h.1
+    ]
+
+pub own_index : (c : Content) (id : Identifier) (i : ℕ) → slice_get (visible c) i ≡ Some id → position (λ x. is_id x id) (visible c) ≡ Some i
+unfolding IsDistinct
+own_index c id i h = index_of id (visible c) i (visible_distinct c) h
+  where
+    apart : (x id : Identifier) (xs : List Identifier) (i : ℕ) → AllByRecursion (λ y. is x y ≡ false) xs → slice_get xs i ≡ Some id → is x id ≡ false
+    apart x id [] i a h = absurd (none-some _ h)
+    apart x id (y ∷ ys) zero a h = ap (is x) (sym (same_Some y id h)) ∙ a.0
+    apart x id (y ∷ ys) (suc i) a h = apart x id ys i a.1 h
+
+    index_of : (id : Identifier) (xs : List Identifier) (i : ℕ) → IsDistinct is xs → slice_get xs i ≡ Some id → position (λ x. is_id x id) xs ≡ Some i
+    index_of id [] i d h = absurd (none-some _ h)
+    index_of id (x ∷ xs) zero d h = position_here (λ y. is_id y id) x xs (ap (λ y. is_id y id) (same_Some x id h) ∙ is_id-itself id)
+    index_of id (x ∷ xs) (suc i) d h =
+        position_later (λ y. is_id y id) x xs (is_id-same x id ∙ is_swap id x ∙ apart x id xs i d.0 h)
+        ∙ ap (option_map (λ n. suc n)) (index_of id xs i d.1 h)

@@ -1,0 +1,63 @@
+-- The inserted elements are those in the order and those that wait.
+use Rattle.std.proofs.Common.{◌≡◌, ◌+◌, ◌≤◌, Bool, true, false, cond, not, ◌&&◌, List, [], ◌∷◌, filter, length, refl, sym, ap, ◌∙◌, arith}
+use Rattle.std.specs.Cmp.{eq_by_cmp_equiv}
+use Rattle.std.specs.List.{list_any, IsDistinct, AllByRecursion}
+use Rattle.std.specs.FinMap as finite_map
+use Rattle.std.proofs.lemmas.Map.Made.{length-le_from_is_member}
+use Rattle.std.proofs.lemmas.Map.Views.{any-filter_same}
+use Rattle.rga_ops.specs.Identifier.{Identifier, id_cmp}
+use Rattle.rga_ops.specs.Content.{Content}
+use Rattle.rga_ops.specs.RootPath.{is_complete}
+use Rattle.rga_ops.specs.Order.{order, waiting, IsOrderList}
+use Rattle.rga_ops.proofs.IdentifierLaws.{ids_total, is, same_id}
+use Rattle.rga_ops.proofs.PathLaws.{is_complete-iff, path_of_complete, not_complete_root}
+use Rattle.rga_ops.proofs.PlacedLaws.{placed_key}
+use Rattle.rga_ops.proofs.OrderLaws.{order_list, order_distinct}
+use Rattle.rga_ops.proofs.SortedLaws.{distinct_keys}
+
+pub all_filter : (P : Identifier → Type 0) (p : Identifier → Bool) (xs : List Identifier) → AllByRecursion P xs → AllByRecursion P (filter p xs)
+all_filter P p [] h = tt
+all_filter P p (x ∷ xs) h = elim (p x) as (λ b. AllByRecursion P (cond b (x ∷ filter p xs) (filter p xs))) [ true ↦ (h.0, all_filter P p xs h.1) | false ↦ all_filter P p xs h.1 ]
+
+pub distinct_filter : (p : Identifier → Bool) (xs : List Identifier) → IsDistinct is xs → IsDistinct is (filter p xs)
+unfolding IsDistinct
+distinct_filter p [] h = tt
+distinct_filter p (x ∷ xs) h = elim (p x) as (λ b. IsDistinct is (cond b (x ∷ filter p xs) (filter p xs))) [ true ↦ (all_filter (λ y. is x y ≡ false) p xs h.0, distinct_filter p xs h.1) | false ↦ distinct_filter p xs h.1 ]
+
+split_length : (p : Identifier → Bool) (xs : List Identifier) → length (filter p xs) + length (filter (λ x. not (p x)) xs) ≡ length xs
+split_length p [] = refl
+split_length p (x ∷ xs) =
+    elim (p x) as (λ b. length (cond b (x ∷ filter p xs) (filter p xs)) + length (cond (not b) (x ∷ filter (λ x. not (p x)) xs) (filter (λ x. not (p x)) xs)) ≡ length (x ∷ xs)) [
+      | true ↦ omega (arith, split_length p xs)
+      | false ↦ omega (arith, split_length p xs)
+    ]
+
+-- two lists with the same members, each once, have one length
+pub same_length : (xs ys : List Identifier) → IsDistinct is xs → IsDistinct is ys → ((q : Identifier) → list_any (is q) xs ≡ list_any (is q) ys) → length xs ≡ length ys
+same_length xs ys d e h =
+    let p : length xs ≤ length ys = length-le_from_is_member (eq_by_cmp_equiv ids_total) xs ys d (λ q m. sym (h q) ∙ m) in
+    let r : length ys ≤ length xs = length-le_from_is_member (eq_by_cmp_equiv ids_total) ys xs e (λ q m. h q ∙ m) in
+    omega (arith, p, r)
+
+pub distinct_inserted : (c : Content) → IsDistinct is (finite_map.keys c.inserted)
+distinct_inserted c = distinct_keys id_cmp ids_total (finite_map.entries c.inserted) (finite_map.entries_sorted c.inserted)
+
+-- a complete element is inserted
+complete_key : (c : Content) (q : Identifier) → (is_complete c q && list_any (is q) (finite_map.keys c.inserted)) ≡ is_complete c q
+complete_key c q =
+    elim (is_complete c q) as (λ b. is_complete c q ≡ b → (b && list_any (is q) (finite_map.keys c.inserted)) ≡ b) [
+      | true ↦ λ t.
+          let complete = (is_complete-iff c q).0 t in
+          let up = path_of_complete complete in
+          placed_key c q up.0 (record { element = not_complete_root complete; path = up.1 })
+      | false ↦ λ t. refl
+    ] refl
+
+pub ordered_and_waiting : (c : Content) → length (order c) + length (waiting c) ≡ length (finite_map.keys c.inserted)
+ordered_and_waiting c =
+    let keys : List Identifier = finite_map.keys c.inserted in
+    let w : IsOrderList c (order c) = order_list c in
+    let same : length (order c) ≡ length (filter (is_complete c) keys) =
+    same_length (order c) (filter (is_complete c) keys) (order_distinct c (order c) w.in_order) (distinct_filter (is_complete c) keys (distinct_inserted c))
+    (λ q. w.elements q ∙ sym (any-filter_same (is q) (is_complete c) (is_complete c q) (λ x t. ap (is_complete c) (sym (same_id q x t))) keys ∙ complete_key c q)) in
+    omega (arith, same, split_length (is_complete c) keys)

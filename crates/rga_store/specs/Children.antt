@@ -1,0 +1,28 @@
+-- The children of each parent, as a tree store keeps them.
+use Rattle.std.specs.Prelude.{Bool, List, []}
+use Rattle.std.specs.List.{list_any}
+use Rattle.std.specs.List.Sorted.{IsStrictlySortedBy}
+use Rattle.std.specs.Option.{option_map_or}
+use Rattle.std.specs.Map.{lookup}
+use Rattle.rga_ops.specs.Identifier.{Identifier, id_cmp, is_id}
+use Rattle.rga_store.specs.declared.child_list.ChildList.{ChildList}
+use Rattle.rga_store.specs.declared.child_list.ChildList.TheVariants.{Few, Many}
+
+abbrev pub HasChild : List Identifier → Identifier → Bool
+HasChild ks k = list_any (λ x. is_id x k) ks
+
+-- each is less than all that follow
+abbrev pub IsRising : List Identifier → Type 0
+IsRising = IsStrictlySortedBy id_cmp
+
+-- the children in a list, whichever form it has
+abbrev pub children_in : ChildList → List Identifier
+children_in (Few list) = list.items
+children_in (Many set) = set.keys
+
+abbrev pub Lists : Type 0
+Lists = List (Identifier × ChildList)
+
+-- the children that wait under a parent
+abbrev pub orphans_of : Lists → Identifier → List Identifier
+orphans_of lists p = option_map_or children_in (lookup (is_id p) lists) []

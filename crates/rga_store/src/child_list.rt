@@ -1,0 +1,144 @@
+//! The children of one parent.
+ghost use Rattle.std.specs.Prelude.{◌≡◌, ◌||◌, ◌≤◌, ◌++◌, [], ◌∷◌, length, false, IfOk, IfErr, OnOk, OnErr};
+ghost use Rattle.std.specs.List.Sorted.{IsPartitionPoint};
+ghost use Rattle.rga_ops.specs.Identifier.{Identifier, id_cmp, is_id};
+ghost use Rattle.rga_store.specs.Children.{HasChild, IsRising, children_in};
+
+use rga_ops::{Id, Refusal};
+use smallvec::SmallVec;
+use std::alloc::Global;
+use std::cmp::Ordering;
+use std::collections::BTreeSet;
+
+/// How many children stand in one piece.
+const MOST_IN_ONE_PIECE: usize = 64;
+
+/// The children of one parent, by rising identifier. Mostly there is one, which takes no memory of
+/// its own. In one piece a child that comes before others moves these, so that many stand in a tree.
+#[derive(Drop)]
+pub(crate) enum ChildList {
+    Few(SmallVec<Id, 1>),
+    Many(BTreeSet<Id>),
+}
+
+impl ChildList {
+    /// The list of no children. Takes no memory.
+    pub(crate) fn new(alloc: Global) -> ChildList
+        ensures { children_in result ≡ [] }
+    {
+        ChildList::Few(SmallVec::new(alloc))
+    }
+
+    /// The list of one child. Takes no memory.
+    pub(crate) fn of_one(alloc: Global, id: Id) -> ChildList
+        ensures { children_in result ≡ id ∷ [] }
+    {
+        let mut few = SmallVec::new(alloc);
+        few.push_reserved(id);
+        ChildList::Few(few)
+    }
+
+    /// A child that is not there takes its place.
+    pub(crate) fn put(&mut self, alloc: Global, id: Id) -> Result<(), Refusal>
+        requires rising { IsRising (children_in self.old) }
+        requires absent { HasChild (children_in self.old) id ≡ false }
+        ensures ok { OnOk result ((k : Identifier) → HasChild (children_in self.new) k ≡ (HasChild (children_in self.old) k || is_id id k)) }
+        ensures rising { IsRising (children_in self.new) }
+        ensures err { OnErr result (self.new ≡ self.old) }
+        ensures memory { IfErr result (λ e. e ≡ Refusal.Memory) }
+    {
+        match self {
+            ChildList::Few(few) => {
+                if few.as_slice().len() < MOST_IN_ONE_PIECE {
+                    return put_among_few(few, id);
+                }
+                let set = many_with(alloc, few.as_slice(), id)?;
+                *self = ChildList::Many(set);
+                Ok(())
+            }
+            ChildList::Many(set) => put_among_many(set, id),
+        }
+    }
+
+    /// The children go onto a stack, the newest on top.
+    pub(crate) fn push_onto(&self, stack: &mut Vec<Id>) -> Result<(), Refusal>
+        ensures ok { OnOk result (stack.new.items ≡ stack.old.items ++ children_in self.now) }
+        ensures memory { IfErr result (λ e. e ≡ Refusal.Memory) }
+    {
+        match self {
+            ChildList::Few(few) => {
+                if stack.extend_from_slice(few.as_slice()).is_err() {
+                    return Err(Refusal::Memory);
+                }
+                Ok(())
+            }
+            ChildList::Many(set) => push_set(stack, set),
+        }
+    }
+}
+
+/// Where a child goes that is not there.
+fn place_of(few: &[Id], id: Id) -> usize
+    requires rising { IsRising few.now }
+    requires absent { HasChild few.now id ≡ false }
+    ensures within { result ≤ length few.now }
+    ensures place { IsPartitionPoint (λ y. id_cmp y id ≡ Ordering.Less) (λ y. id_cmp y id ≡ Ordering.Greater) few.now result }
+{
+    match few.binary_search(&id) {
+        Ok(place) => place,
+        Err(place) => place,
+    }
+}
+
+fn put_among_few(few: &mut SmallVec<Id, 1>, id: Id) -> Result<(), Refusal>
+    requires rising { IsRising few.old.items }
+    requires absent { HasChild few.old.items id ≡ false }
+    ensures ok { OnOk result ((k : Identifier) → HasChild few.new.items k ≡ (HasChild few.old.items k || is_id id k)) }
+    ensures rising { IsRising few.new.items }
+    ensures err { OnErr result (few.new ≡ few.old) }
+    ensures memory { IfErr result (λ e. e ≡ Refusal.Memory) }
+{
+    let place = place_of(few.as_slice(), id);
+    if few.insert(place, id).is_err() {
+        return Err(Refusal::Memory);
+    }
+    Ok(())
+}
+
+fn put_among_many(set: &mut BTreeSet<Id>, id: Id) -> Result<(), Refusal>
+    ensures ok { OnOk result ((k : Identifier) → HasChild set.new.keys k ≡ (HasChild set.old.keys k || is_id id k)) }
+    ensures rising { IsRising set.new.keys }
+    ensures err { OnErr result (set.new ≡ set.old) }
+    ensures memory { IfErr result (λ e. e ≡ Refusal.Memory) }
+{
+    if set.insert(id).is_err() {
+        return Err(Refusal::Memory);
+    }
+    Ok(())
+}
+
+/// A tree of these children and one more.
+fn many_with(alloc: Global, few: &[Id], id: Id) -> Result<BTreeSet<Id>, Refusal>
+    ensures ok { IfOk result (λ set. (k : Identifier) → HasChild set.keys k ≡ (HasChild few.now k || is_id id k)) }
+    ensures rising { IfOk result (λ set. IsRising set.keys) }
+    ensures memory { IfErr result (λ e. e ≡ Refusal.Memory) }
+{
+    let mut set = BTreeSet::new(alloc);
+    for child in few {
+        put_among_many(&mut set, *child)?;
+    }
+    put_among_many(&mut set, id)?;
+    Ok(set)
+}
+
+fn push_set(stack: &mut Vec<Id>, set: &BTreeSet<Id>) -> Result<(), Refusal>
+    ensures ok { OnOk result (stack.new.items ≡ stack.old.items ++ set.now.keys) }
+    ensures memory { IfErr result (λ e. e ≡ Refusal.Memory) }
+{
+    for id in set {
+        if stack.push(*id).is_err() {
+            return Err(Refusal::Memory);
+        }
+    }
+    Ok(())
+}

@@ -1,0 +1,42 @@
+//! Visible elements by their index in the text.
+ghost use Rattle.std.specs.Prelude.{◌≡◌, ◌≤◌, ◌⊎◌, Ok, Err, Some, IfOk, IfErr, length, position};
+ghost use Rattle.std.specs.List.{slice_get};
+ghost use Rattle.rga_ops.specs.Identifier.{is_id};
+ghost use Rattle.rga_ops.specs.Order.{text as text_of};
+ghost use Rattle.rga_ops.specs.Places.{visible};
+
+use rga_ops::{Id, Refusal};
+use rga_store::TextStore;
+
+/// The visible elements, in order.
+pub(crate) fn visible_elements<S: TextStore>(store: &S) -> Result<Vec<Id>, Refusal>
+    ensures ok { IfOk result (λ ids. ids.items ≡ visible (S.content store.now)) }
+    ensures memory { IfErr result (λ e. e ≡ Refusal.Memory) }
+{
+    let mut ids = store.order()?;
+    ids.retain(|id| !store.is_deleted(*id));
+    Ok(ids)
+}
+
+/// The visible element at an index of the text. `Range` unless the index is below the text's
+/// length; `Memory` where the elements have no room.
+pub fn element_at<S: TextStore>(store: &S, k: usize) -> Result<Id, Refusal>
+    ensures ok { IfOk result (λ id. slice_get (visible (S.content store.now)) k ≡ Some id) }
+    ensures err { IfErr result (λ e. (e ≡ Refusal.Memory)
+        ⊎ ((e ≡ Refusal.Range) × (length (text_of (S.content store.now)) ≤ k))) }
+{
+    let ids = visible_elements(store)?;
+    match ids.get(k) {
+        Some(id) => Ok(*id),
+        None => Err(Refusal::Range),
+    }
+}
+
+/// The index in the text of an element, and `None` where it is not visible. `Memory` alone.
+pub fn position_of<S: TextStore>(store: &S, id: Id) -> Result<Option<usize>, Refusal>
+    ensures ok { IfOk result (λ k. k ≡ position (λ x. is_id x id) (visible (S.content store.now))) }
+    ensures memory { IfErr result (λ e. e ≡ Refusal.Memory) }
+{
+    let ids = visible_elements(store)?;
+    Ok(ids.iter().position(|x| *x == id))
+}

@@ -1,0 +1,32 @@
+//! Places: how many visible elements stand up to an element.
+ghost use Rattle.std.specs.Prelude.{◌≡◌, ◌⊎◌, true, Ok, Err, Some, None, IfOk, IfErr};
+ghost use Rattle.rga_ops.specs.Identifier.{is_root};
+ghost use Rattle.rga_ops.specs.Places.{place};
+
+use rga_ops::{Id, Refusal};
+use rga_store::TextStore;
+
+/// How many visible elements are the element or stand before it; 0 for the root. `Range` where it
+/// is neither the root nor complete; `Memory` where the elements have no room, but never for the
+/// root.
+pub fn place_of<S: TextStore>(store: &S, id: Id) -> Result<usize, Refusal>
+    ensures ok { IfOk result (λ n. place (S.content store.now) id ≡ Some n) }
+    ensures err { IfErr result (λ e. (e ≡ Refusal.Memory)
+        ⊎ ((e ≡ Refusal.Range) × (place (S.content store.now) id ≡ None))) }
+    ensures root { is_root id ≡ true → result ≡ Ok 0 }
+{
+    if id == Id::ROOT {
+        return Ok(0);
+    }
+    let ids = store.order()?;
+    let mut count = 0;
+    for x in &ids {
+        if !store.is_deleted(*x) {
+            count += 1;
+        }
+        if *x == id {
+            return Ok(count);
+        }
+    }
+    Err(Refusal::Range)
+}
