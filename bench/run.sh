@@ -1,8 +1,9 @@
 #!/bin/sh
 # Builds mgr, the generator of logs and the native program, and measures `mgr show` against the
 # native program: microseconds an operation, the ratios of user time and of peak memory, and how
-# the cost of an operation grows (`bench/measure.py`). `make bench` calls it. A call by hand may
-# say `--largest N`, to leave out logs of more than N operations, and `--shape SHAPE`.
+# the cost of an operation grows (`bench/measure.py`); then what an edit of a document costs
+# (`bench/edits.py`). `make bench` calls it. A call by hand may say `--largest N`, to leave out logs
+# of more than N operations, and `--shape SHAPE`.
 #
 # It needs python3 and rustc. It ends with an error where the two programs write different bytes.
 set -eu
@@ -19,4 +20,9 @@ make build
 for program in generate native; do
     rustc --edition 2021 -O -o "build/$program" "bench/$program.rs"
 done
-exec python3 bench/measure.py "$@"
+(cd crates/edit_bench && rt run -- order 1 1 </dev/null >/dev/null)
+cp crates/edit_bench/out/edit_bench build/edit_bench
+
+python3 bench/measure.py "$@"
+echo
+exec python3 bench/edits.py

@@ -6,3 +6,4 @@ pub mod WrittenLemmas
 pub mod SpellingLemmas
 pub mod ReadBack
 pub mod SpelledLemmas
+pub mod NewlineLemmas

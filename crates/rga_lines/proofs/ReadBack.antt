@@ -27,10 +27,13 @@ use Rattle.rga_ops.specs.declared.op.Op.{Op}
 use Rattle.rga_ops.specs.declared.op.Op.TheVariants.{Insert, Delete}
 use Rattle.rga_ops.specs.declared.refusal.Refusal.{Refusal}
 use Rattle.rga_ops.specs.declared.refusal.Refusal.TheVariants.{BadId, BadOrder}
-use Rattle.rga_lines.specs.Spelling.{escaped, pair_text, line, IsWritable}
-use Rattle.rga_lines.specs.Table.{value_line, line_at, max_line}
-use Rattle.rga_lines.proofs.ReadingLemmas.{accepted}
-use Rattle.rga_lines.proofs.SpellingLemmas.{pair_data, op_data, insert_data, insert_text, compact_op}
+use Rattle.rga_lines.specs.declared.reading.Line.{Line}
+use Rattle.rga_lines.specs.declared.reading.Line.TheVariants.{One, Last}
+use Rattle.rga_lines.specs.declared.fault.LineFault.TheVariants.{Kind}
+use Rattle.rga_lines.specs.Spelling.{escaped, pair_text, line, end_line, IsWritable}
+use Rattle.rga_lines.specs.Table.{value_line, any_line_at, line_at, max_line}
+use Rattle.rga_lines.proofs.ReadingLemmas.{accepted, alone}
+use Rattle.rga_lines.proofs.SpellingLemmas.{pair_data, op_data, end_data, insert_data, insert_text, compact_op, compact_end}
 
 -- ---- a value without floats is read back from its compact text
 
@@ -49,7 +52,7 @@ pub record InBounds (id : Identifier) : Type 0 where
   pub counter : id.counter ≤ 9007199254740991
   pub replica : id.replica ≤ 65535
 
-within : (id : Identifier) → is_in_range id.counter id.replica ≡ true → InBounds id
+pub within : (id : Identifier) → is_in_range id.counter id.replica ≡ true → InBounds id
 within id e =
     let p = and_parts (leb 1 id.counter && leb id.counter 9007199254740991) (leb 1 id.replica && leb id.replica 65535) e in
     let q = and_parts (leb 1 id.counter) (leb id.counter 9007199254740991) p.0 in
@@ -63,7 +66,7 @@ at_root id e =
     let d : id.replica ≡ 0 = eqb-true _ _ p.1 in
     record { counter = omega arith; replica = omega arith }
 
-in_bounds : (id : Identifier) → is_root id || is_in_range id.counter id.replica ≡ true → InBounds id
+pub in_bounds : (id : Identifier) → is_root id || is_in_range id.counter id.replica ≡ true → InBounds id
 in_bounds id e = elim (or_cases (is_root id) (is_in_range id.counter id.replica) e) [ inl r ↦ at_root id r | inr i ↦ within id i ]
 
 -- ---- lengths and characters
@@ -100,14 +103,14 @@ delete-json id h = rw (pair-json id h)
 insert-json : (text : List ℕ) (id parent : Identifier) → InBounds id → InBounds parent → of_json (outline (insert_data text id parent)) ≡ Some (insert_data text id parent)
 insert-json text id parent h k = rw (pair-json id h, pair-json parent k)
 
-delete-line : (id : Identifier) → is_in_range id.counter id.replica ≡ true → value_line (op_data (Delete id)) ≡ Ok (Delete id)
+delete-line : (id : Identifier) → is_in_range id.counter id.replica ≡ true → value_line (op_data (Delete id)) ≡ Ok (One (Delete id))
 unfolding value_line
 delete-line id h = rw h
 
 insert-line : (text : List ℕ) (ch : ℕ) (id parent : Identifier) → is_in_range id.counter id.replica ≡ true → is_root parent || is_in_range parent.counter parent.replica ≡ true → leb id.counter parent.counter ≡ false → chars text ≡ ch ∷ []
-    → value_line (insert_data text id parent) ≡ Ok (Insert id parent ch)
+    → value_line (insert_data text id parent) ≡ Ok (One (Insert id parent ch))
 unfolding value_line
-insert-line text ch id parent h k rising one = rw (h, k, one, rising)
+insert-line text ch id parent h k rising single = rw (h, k, single, rising)
 
 -- ---- the whole
 
@@ -163,27 +166,27 @@ insert-utf8 text id parent u h k =
     (IsUtf8-append (codes ",\"op\":\"ins\",\"parent\":") _ (IsUtf8-are_ascii _ refl) (IsUtf8-append _ _ (IsUtf8-pair_text parent k) (IsUtf8-are_ascii (codes "}") refl))))))
 
 -- a value whose compact text is a line says what the value says
-pub back : (d : Data) (text : List ℕ) (op : Op) → compact_text d ≡ text → length text ≤ max_line → IsUtf8 text → tree.HasNumbers (outline d) → tree.depth (outline d) ≤ max_depth → of_json (outline d) ≡ Some d → value_line d ≡ Ok op → line_at text ≡ Ok op
-back d text op e short u numbers shallow parsed says = accepted text d short u (ap read (sym e) ∙ read-compact d numbers shallow parsed) ∙ says
+pub back : (d : Data) (text : List ℕ) (said : Line) → compact_text d ≡ text → length text ≤ max_line → IsUtf8 text → tree.HasNumbers (outline d) → tree.depth (outline d) ≤ max_depth → of_json (outline d) ≡ Some d → value_line d ≡ Ok said → any_line_at text ≡ Ok said
+back d text said e short u numbers shallow parsed says = accepted text d short u (ap read (sym e) ∙ read-compact d numbers shallow parsed) ∙ says
 
-insert_back : (id parent : Identifier) (ch : ℕ) → is_in_range id.counter id.replica ≡ true → is_root parent || is_in_range parent.counter parent.replica ≡ true → leb id.counter parent.counter ≡ false → IsScalar ch → line_at (line (Insert id parent ch)) ≡ Ok (Insert id parent ch)
+insert_back : (id parent : Identifier) (ch : ℕ) → is_in_range id.counter id.replica ≡ true → is_root parent || is_in_range parent.counter parent.replica ≡ true → leb id.counter parent.counter ≡ false → IsScalar ch → any_line_at (line (Insert id parent ch)) ≡ Ok (One (Insert id parent ch))
 unfolding line
 insert_back id parent ch h k rising scalar_ch =
     let f = within id h in
     let g = in_bounds parent k in
     let written = compact_op (Insert id parent ch) in
-    back (op_data (Insert id parent ch)) (line (Insert id parent ch)) (Insert id parent ch) written (insert-length (escaped ch) id parent (escaped-length ch) f g)
+    back (op_data (Insert id parent ch)) (line (Insert id parent ch)) (One (Insert id parent ch)) written (insert-length (escaped ch) id parent (escaped-length ch) f g)
     (subst IsUtf8 written (insert-utf8 (encode_utf8 ch) id parent (IsUtf8-encode ch scalar_ch) f g))
     (tt, (pair-numbers id f, (tt, (pair-numbers parent g, tt))))
     (lit≤ tt)
     (insert-json (encode_utf8 ch) id parent f g)
     (insert-line (encode_utf8 ch) ch id parent h k rising (chars-one ch scalar_ch))
 
-delete_back : (id : Identifier) → is_in_range id.counter id.replica ≡ true → line_at (line (Delete id)) ≡ Ok (Delete id)
+delete_back : (id : Identifier) → is_in_range id.counter id.replica ≡ true → any_line_at (line (Delete id)) ≡ Ok (One (Delete id))
 unfolding line
 delete_back id h =
     let f = within id h in
-    back (op_data (Delete id)) (line (Delete id)) (Delete id) (compact_op (Delete id))
+    back (op_data (Delete id)) (line (Delete id)) (One (Delete id)) (compact_op (Delete id))
     (omega (arith, length-append (pair_text id) (codes ",\"op\":\"del\"}"), pair_text-length id f))
     (IsUtf8-append (codes "{\"id\":") _ (IsUtf8-are_ascii _ refl) (IsUtf8-append _ _ (IsUtf8-pair_text id f) (IsUtf8-are_ascii (codes ",\"op\":\"del\"}") refl)))
     (pair-numbers id f, (tt, tt))
@@ -191,6 +194,32 @@ delete_back id h =
     (delete-json id f)
     (delete-line id h)
 
-pub line_back : (op : Op) → IsWritable op → checked op ≡ Ok tt → line_at (line op) ≡ Ok op
+pub line_back : (op : Op) → IsWritable op → checked op ≡ Ok tt → any_line_at (line op) ≡ Ok (One op)
 line_back (Insert id parent ch) h e = insert_back id parent ch h.0 h.1 (checked_insert (is_root id) (leb id.counter parent.counter) e) h.2
 line_back (Delete id) h e = delete_back id h
+
+pub operation_back : (op : Op) → IsWritable op → checked op ≡ Ok tt → line_at (line op) ≡ Ok op
+operation_back op h e = alone (line op) (Ok (One op)) (line_back op h e)
+
+-- ---- the end of an exchange
+
+end-json : (operations : ℕ) → operations < 2 ^ 64 → of_json (outline (end_data operations)) ≡ Some (end_data operations)
+end-json operations h = rw (number_of-decimal operations h)
+
+end_says : (operations : ℕ) → value_line (end_data operations) ≡ Ok (Last operations)
+unfolding value_line
+end_says operations = refl
+
+pub end_back : (operations : ℕ) → operations < 2 ^ 64 → any_line_at (end_line operations) ≡ Ok (Last operations)
+unfolding end_line
+end_back operations h =
+    back (end_data operations) (end_line operations) (Last operations) (compact_end operations)
+    (omega (arith, length-append (decimal operations) (codes ",\"op\":\"end\"}"), length-decimal-le 20 operations (omega arith) (omega (arith, h)) h))
+    (IsUtf8-append (codes "{\"count\":") _ (IsUtf8-are_ascii _ refl) (IsUtf8-append _ _ (IsUtf8-decimal operations h) (IsUtf8-are_ascii (codes ",\"op\":\"end\"}") refl)))
+    (IsNumber-decimal operations h, (tt, tt))
+    (lit≤ tt)
+    (end-json operations h)
+    (end_says operations)
+
+pub end_is_no_operation : (operations : ℕ) → operations < 2 ^ 64 → line_at (end_line operations) ≡ Err Kind
+end_is_no_operation operations h = alone (end_line operations) (Ok (Last operations)) (end_back operations h)

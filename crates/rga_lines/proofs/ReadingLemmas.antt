@@ -1,5 +1,5 @@
 -- What the parts of a line say.
-use Rattle.std.proofs.Common.{◌≡◌, ℕ, ◌<◌, ◌≤◌, ◌&&◌, ◌==◌, Bool, true, false, cond, nat_le, nat_lt, List, [], ◌∷◌, ◌++◌, length, Option, Some, None, Ok, Err, option_and_then, refl, ap, ◌∙◌, arith, lt-ltb, le-ltb, ne_eqb}
+use Rattle.std.proofs.Common.{◌≡◌, ◌≢◌, ℕ, ◌<◌, ◌≤◌, ◌&&◌, ◌==◌, Bool, true, false, cond, nat_le, nat_lt, List, [], ◌∷◌, ◌++◌, length, Option, Some, None, Result, Ok, Err, option_and_then, refl, sym, ap, ◌∙◌, arith, lt-ltb, le-ltb, ne_eqb}
 use Rattle.std.proofs.lemmas.Bool.{and_parts, and_left, leb-true}
 use Rattle.std.specs.Prelude.{⊤, codes}
 use Rattle.std.specs.Str.{IsUtf8, is_utf8, chars, bytes_eq}
@@ -15,7 +15,9 @@ use Rattle.rga_ops.specs.Identifier.{Identifier, identifier, is_root, is_in_rang
 use Rattle.rga_ops.specs.Operation.{checked}
 use Rattle.rga_ops.specs.declared.op.Op.{Op}
 use Rattle.rga_ops.specs.declared.op.Op.TheVariants.{Insert}
-use Rattle.rga_lines.specs.Table.{Reading, only_char, two_numbers, if_in_range, element_of, parent_of, with_order, with_char, with_identifiers, with_types, insertion, with_identifier, with_type, deletion, of_kind, with_name, with_op, with_count, count_of, text_at, array_at, has, value_line, text_line, line_at, max_line}
+use Rattle.rga_lines.specs.declared.reading.Line.TheVariants.{One, Last}
+use Rattle.rga_lines.specs.declared.fault.LineFault.{LineFault}
+use Rattle.rga_lines.specs.Table.{Reading, AnyReading, only_char, two_numbers, if_in_range, element_of, parent_of, with_order, with_char, with_identifiers, with_types, insertion, with_identifier, with_type, deletion, ending, one, last, of_kind, with_name, with_op, with_count, count_of, text_at, array_at, has, value_line, text_line, any_line_at, operation_alone, line_at, max_line}
 use Rattle.rga_lines.specs.declared.fault.LineFault.TheVariants as fault
 
 -- ---- one character
@@ -45,21 +47,31 @@ too_many (v ∷ w ∷ u ∷ values) h = refl
 
 -- ---- the whole
 
-pub too_long : (bytes : List ℕ) → max_line < length bytes → line_at bytes ≡ Err fault.Long
-unfolding line_at
+pub too_long : (bytes : List ℕ) → max_line < length bytes → any_line_at bytes ≡ Err fault.Long
+unfolding any_line_at
 too_long bytes h = rw (lt-ltb _ _ h)
 
 is_refused : (utf8 : Bool) (value : Option Data) → (utf8 ≡ true → value ≡ None) → text_line utf8 value ≡ Err fault.Json
 is_refused true value h = rw (h refl)
 is_refused false value h = refl
 
-pub refused : (bytes : List ℕ) → length bytes ≤ max_line → (IsUtf8 bytes → read bytes ≡ None) → line_at bytes ≡ Err fault.Json
-unfolding line_at
+pub refused : (bytes : List ℕ) → length bytes ≤ max_line → (IsUtf8 bytes → read bytes ≡ None) → any_line_at bytes ≡ Err fault.Json
+unfolding any_line_at
 refused bytes h none = rw (le-ltb _ _ h) (is_refused (is_utf8 bytes) (read bytes) (λ e. none (IsUtf8-from_is_utf8 bytes e)))
 
-pub accepted : (bytes : List ℕ) (d : Data) → length bytes ≤ max_line → IsUtf8 bytes → read bytes ≡ Some d → line_at bytes ≡ value_line d
-unfolding line_at
+pub accepted : (bytes : List ℕ) (d : Data) → length bytes ≤ max_line → IsUtf8 bytes → read bytes ≡ Some d → any_line_at bytes ≡ value_line d
+unfolding any_line_at
 accepted bytes d h text e = rw (le-ltb _ _ h) (ap (λ (b : Bool). text_line b (read bytes)) (is_utf8-from_IsUtf8 bytes text) ∙ ap (text_line true) e)
+
+-- where operations alone may stand
+pub alone : (bytes : List ℕ) (r : AnyReading) → any_line_at bytes ≡ r → line_at bytes ≡ operation_alone r
+unfolding line_at
+alone bytes r e = ap operation_alone e
+
+-- what was said of the bytes, with no refusal of memory, says of them what it says alone
+pub said_alone : (bytes : List ℕ) (said : AnyReading) (r : Reading) → (said ≢ Err fault.Memory → said ≡ any_line_at bytes) → operation_alone said ≡ r → r ≢ Err fault.Memory → r ≡ line_at bytes
+unfolding line_at
+said_alone bytes said r says is other = sym is ∙ ap operation_alone (says (λ e. other (sym is ∙ ap operation_alone e)))
 
 -- ---- what is read is well-formed
 
@@ -121,38 +133,75 @@ sound_if : (b : Bool) (r q : Reading) → IsSound r → IsSound q → IsSound (c
 sound_if true r q first second = first
 sound_if false r q first second = second
 
-sound_kind : (count : ℕ) (d : Data) (name : List ℕ) → IsSound (of_kind count d name)
-sound_kind count d name =
-    sound_if (bytes_eq name (codes "ins")) (insertion count d) (cond (bytes_eq name (codes "del")) (deletion count d) (Err fault.Kind))
-    (sound_if ((count == 4) && (has (codes "char") d && (has (codes "id") d && has (codes "parent") d))) (with_types (text_at (codes "char") d) (array_at (codes "id") d) (array_at (codes "parent") d)) (Err fault.Member)
-    (sound_types (text_at (codes "char") d) (array_at (codes "id") d) (array_at (codes "parent") d)) tt)
-    (sound_if (bytes_eq name (codes "del")) (deletion count d) (Err fault.Kind)
-    (sound_if ((count == 2) && has (codes "id") d) (with_type (array_at (codes "id") d)) (Err fault.Member) (sound_type (array_at (codes "id") d)) tt) tt)
+sound_insertion : (count : ℕ) (d : Data) → IsSound (insertion count d)
+sound_insertion count d =
+    sound_if ((count == 4) && (has (codes "char") d && (has (codes "id") d && has (codes "parent") d))) (with_types (text_at (codes "char") d) (array_at (codes "id") d) (array_at (codes "parent") d)) (Err fault.Member)
+    (sound_types (text_at (codes "char") d) (array_at (codes "id") d) (array_at (codes "parent") d)) tt
 
-sound_name : (count : ℕ) (d : Data) (name : Option (List ℕ)) → IsSound (with_name count d name)
+sound_deletion : (count : ℕ) (d : Data) → IsSound (deletion count d)
+sound_deletion count d = sound_if ((count == 2) && has (codes "id") d) (with_type (array_at (codes "id") d)) (Err fault.Member) (sound_type (array_at (codes "id") d)) tt
+
+-- the same of what may also be the end of an exchange
+abbrev IsSoundLine : AnyReading → Type 0
+IsSoundLine (Ok (One op)) = checked op ≡ Ok tt
+IsSoundLine (Ok (Last operations)) = ⊤
+IsSoundLine (Err e) = ⊤
+
+sound_one : (r : Reading) → IsSound r → IsSoundLine (one r)
+sound_one (Ok op) sound = sound
+sound_one (Err e) sound = tt
+
+sound_last : (r : Result ℕ LineFault) → IsSoundLine (last r)
+sound_last (Ok operations) = tt
+sound_last (Err e) = tt
+
+sound_line_if : (b : Bool) (r q : AnyReading) → IsSoundLine r → IsSoundLine q → IsSoundLine (cond b r q)
+sound_line_if true r q first second = first
+sound_line_if false r q first second = second
+
+sound_kind : (count : ℕ) (d : Data) (name : List ℕ) → IsSoundLine (of_kind count d name)
+sound_kind count d name =
+    let ends : AnyReading = cond (bytes_eq name (codes "end")) (last (ending count d)) (Err fault.Kind) in
+    sound_line_if (bytes_eq name (codes "ins")) (one (insertion count d)) (cond (bytes_eq name (codes "del")) (one (deletion count d)) ends) (sound_one (insertion count d) (sound_insertion count d))
+    (sound_line_if (bytes_eq name (codes "del")) (one (deletion count d)) ends (sound_one (deletion count d) (sound_deletion count d))
+    (sound_line_if (bytes_eq name (codes "end")) (last (ending count d)) (Err fault.Kind) (sound_last (ending count d)) tt))
+
+sound_name : (count : ℕ) (d : Data) (name : Option (List ℕ)) → IsSoundLine (with_name count d name)
 sound_name count d (Some name) = sound_kind count d name
 sound_name count d None = tt
 
-sound_op : (count : ℕ) (d : Data) (op : Option Data) → IsSound (with_op count d op)
+sound_op : (count : ℕ) (d : Data) (op : Option Data) → IsSoundLine (with_op count d op)
 sound_op count d (Some op) = sound_name count d (as_str op)
 sound_op count d None = tt
 
-sound_count : (d : Data) (count : Option ℕ) → IsSound (with_count d count)
+sound_count : (d : Data) (count : Option ℕ) → IsSoundLine (with_count d count)
 sound_count d (Some count) = sound_op count d (get (codes "op") d)
 sound_count d None = tt
 
-sound_value : (d : Data) → IsSound (value_line d)
+sound_value : (d : Data) → IsSoundLine (value_line d)
 unfolding value_line
 sound_value d = sound_count d (count_of d)
 
-sound_text : (utf8 : Bool) (value : Option Data) → IsSound (text_line utf8 value)
+sound_text : (utf8 : Bool) (value : Option Data) → IsSoundLine (text_line utf8 value)
 sound_text true (Some d) = sound_value d
 sound_text true None = tt
 sound_text false value = tt
 
-sound_line : (bytes : List ℕ) → IsSound (line_at bytes)
+sound_line : (bytes : List ℕ) → IsSoundLine (any_line_at bytes)
+unfolding any_line_at
+sound_line bytes = sound_line_if (nat_lt max_line (length bytes)) (Err fault.Long) (text_line (is_utf8 bytes) (read bytes)) tt (sound_text (is_utf8 bytes) (read bytes))
+
+pub any_well_formed : (bytes : List ℕ) (op : Op) → any_line_at bytes ≡ Ok (One op) → checked op ≡ Ok tt
+any_well_formed bytes op e = let sound : IsSoundLine (Ok (One op)) = rw e at (sound_line bytes) in sound
+
+sound_alone : (r : AnyReading) → IsSoundLine r → IsSound (operation_alone r)
+sound_alone (Ok (One op)) sound = sound
+sound_alone (Ok (Last operations)) sound = tt
+sound_alone (Err e) sound = tt
+
+sound_operation : (bytes : List ℕ) → IsSound (line_at bytes)
 unfolding line_at
-sound_line bytes = sound_if (nat_lt max_line (length bytes)) (Err fault.Long) (text_line (is_utf8 bytes) (read bytes)) tt (sound_text (is_utf8 bytes) (read bytes))
+sound_operation bytes = sound_alone (any_line_at bytes) (sound_line bytes)
 
 pub well_formed : (bytes : List ℕ) (op : Op) → line_at bytes ≡ Ok op → checked op ≡ Ok tt
-well_formed bytes op e = let sound : IsSound (Ok op) = rw e at (sound_line bytes) in sound
+well_formed bytes op e = let sound : IsSound (Ok op) = rw e at (sound_operation bytes) in sound

@@ -1,4 +1,4 @@
--- The compact text of an operation's value is its line.
+-- The compact text of the value of an operation, or of the end of an exchange, is its line.
 use Rattle.std.proofs.Common.{◌≡◌, ℕ, ◌+◌, ◌<◌, ◌≤◌, ◌/◌, Bool, true, false, cond, List, [], ◌∷◌, ◌++◌, ◌⊎◌, inl, inr, codes, refl, sym, ap, subst, ◌∙◌, arith, append_assoc, append-nil, ltb, lt-ltb, le-ltb, ne_eqb}
 use Rattle.std.specs.Char.{encode_utf8}
 use lib.Utf8.{next}
@@ -12,7 +12,7 @@ use Rattle.serde_json.proofs.OnLiterals.{serde_json_on_literals}
 use Rattle.rga_ops.specs.Identifier.{Identifier}
 use Rattle.rga_ops.specs.declared.op.Op.{Op}
 use Rattle.rga_ops.specs.declared.op.Op.TheVariants.{Insert, Delete}
-use Rattle.rga_lines.specs.Spelling.{escaped, pair_text, line}
+use Rattle.rga_lines.specs.Spelling.{escaped, pair_text, line, end_line}
 
 -- ---- the value of JSON of an operation
 
@@ -22,6 +22,9 @@ pair_data id = array (item (number (unsigned id.counter)) (item (number (unsigne
 abbrev pub op_data : Op → Data
 op_data (Insert id parent ch) = object (member (codes "char") (string (encode_utf8 ch)) (member (codes "id") (pair_data id) (member (codes "op") (string (codes "ins")) (member (codes "parent") (pair_data parent) no_members))))
 op_data (Delete id) = object (member (codes "id") (pair_data id) (member (codes "op") (string (codes "del")) no_members))
+
+abbrev pub end_data : ℕ → Data
+end_data operations = object (member (codes "count") (number (unsigned operations)) (member (codes "op") (string (codes "end")) no_members))
 
 -- ---- one character
 
@@ -90,3 +93,7 @@ pub compact_op : (op : Op) → compact_text (op_data op) ≡ line op
 unfolding line serde_json_on_literals
 compact_op (Insert id parent ch) = compact_insert (encode_utf8 ch) id parent ∙ ap (λ (inside : List ℕ). insert_text inside id parent) (escape-encode ch)
 compact_op (Delete id) = refl
+
+pub compact_end : (operations : ℕ) → compact_text (end_data operations) ≡ end_line operations
+unfolding end_line serde_json_on_literals
+compact_end operations = refl

@@ -9,7 +9,7 @@ use Rattle.rga_lines.specs.Table.{max_line, line_at}
 use Rattle.rga_lines.specs.Stream.{newline, to_first_line, to_rest, lines_of, rest_of, HasNoNewline, bytes_of_lines, BeginsLong, Splitting, EndsNextLine, holds, gave_up, fed, Answer, next_of_lines, next_of, Call, Feed, Next, after_calls, line_in, lines_given, bytes_fed}
 use Rattle.rga_lines.specs.declared.fault.LineFault.{LineFault}
 use Rattle.rga_lines.specs.declared.fault.LineFault.TheVariants as fault
-use Rattle.rga_lines.proofs.ReadingLemmas.{too_long, refused}
+use Rattle.rga_lines.proofs.ReadingLemmas.{too_long, refused, alone}
 use Rattle.rga_lines.proofs.StreamLemmas.{IsOther, is_cut, bytes_of_lines-cons, lines-line, rest-line, lines-append_ended}
 
 -- ---- answers
@@ -295,8 +295,8 @@ ends s (Next ∷ calls) good = ends_next s calls good (λ t better. ends t calls
 -- ---- lines by themselves
 
 pub long_line : (bytes : List ℕ) → max_line < length bytes → line_at bytes ≡ Err fault.Long
-long_line = too_long
+long_line bytes h = alone bytes (Err fault.Long) (too_long bytes h)
 
 pub no_line : line_at [] ≡ Err fault.Json
 unfolding serde_json_on_literals
-no_line = refused [] (omega arith) (λ _. refl)
+no_line = alone [] (Err fault.Json) (refused [] (omega arith) (λ _. refl))

@@ -1,4 +1,5 @@
--- How an operation is spelled as a line where nothing is left open: no blanks, and the members by their names.
+-- How an operation, or the end of an exchange, is spelled as a line where nothing is left open: no blanks, and the
+-- members by their names.
 use Rattle.std.specs.Prelude.{◌≡◌, ℕ, ◌/◌, ◌%◌, true, List, [], ◌∷◌, ◌++◌, ◌||◌, ◌==◌, nat_lt, if◌then◌else◌, codes, decimal}
 use Rattle.std.specs.Char.{digit_char, encode_utf8, IsScalar}
 use Rattle.rga_ops.specs.Identifier.{Identifier, is_root, is_in_range}
@@ -25,6 +26,10 @@ pair_text id = codes "[" ++ (decimal id.counter ++ (codes "," ++ (decimal id.rep
 unfoldable pub line : Op → List ℕ
 line (Insert id parent ch) = codes "{\"char\":\"" ++ (escaped ch ++ (codes "\",\"id\":" ++ (pair_text id ++ (codes ",\"op\":\"ins\",\"parent\":" ++ (pair_text parent ++ codes "}")))))
 line (Delete id) = codes "{\"id\":" ++ (pair_text id ++ codes ",\"op\":\"del\"}")
+
+-- the line that ends an exchange of so many operations, without its newline
+unfoldable pub end_line : ℕ → List ℕ
+end_line operations = codes "{\"count\":" ++ (decimal operations ++ codes ",\"op\":\"end\"}")
 
 -- The identifiers are in range, or the parent is the root, and the character is a Unicode scalar value.
 abbrev pub IsWritable : Op → Type 0

@@ -1,5 +1,5 @@
 -- What a line says, or its fault: the first one of this table that holds.
-use Rattle.std.specs.Prelude.{ℕ, Bool, true, false, ◌&&◌, ◌||◌, ◌==◌, nat_le, nat_lt, if◌then◌else◌, List, [], ◌∷◌, length, codes, Option, Some, None, is_some, option_map, option_and_then, Result, Ok, Err}
+use Rattle.std.specs.Prelude.{ℕ, Bool, true, false, ◌&&◌, ◌||◌, ◌==◌, nat_le, nat_lt, if◌then◌else◌, List, [], ◌∷◌, length, codes, Option, Some, None, is_some, option_map, option_and_then, Result, Ok, Err, ok_or}
 use Rattle.std.specs.Str.{is_utf8, chars, bytes_eq}
 use Rattle.serde_json.specs.Data.{Data, Items, no_items, item}
 use Rattle.serde_json.specs.Events.{members_len}
@@ -8,6 +8,8 @@ use Rattle.serde_json.specs.Find.{get, as_str, as_array, as_object, as_number, a
 use Rattle.rga_ops.specs.Identifier.{Identifier, identifier, is_root, is_in_range}
 use Rattle.rga_ops.specs.declared.op.Op.{Op}
 use Rattle.rga_ops.specs.declared.op.Op.TheVariants.{Insert, Delete}
+use Rattle.rga_lines.specs.declared.reading.Line.{Line}
+use Rattle.rga_lines.specs.declared.reading.Line.TheVariants.{One, Last}
 use Rattle.rga_lines.specs.declared.fault.LineFault.{LineFault}
 use Rattle.rga_lines.specs.declared.fault.LineFault.TheVariants as fault
 
@@ -18,6 +20,10 @@ max_line = 65536
 -- an operation, or what is wrong
 abbrev pub Reading : Type 0
 Reading = Result Op LineFault
+
+-- an operation or the end of an exchange, or what is wrong
+abbrev pub AnyReading : Type 0
+AnyReading = Result Line LineFault
 
 -- ---- members
 
@@ -34,11 +40,14 @@ text_at name d = option_and_then as_str (get name d)
 abbrev pub array_at : List ℕ → Data → Option Items
 array_at name d = option_and_then as_array (get name d)
 
--- ---- identifiers
-
 -- a whole number below 2 ^ 64
 abbrev pub number_of : Data → Option ℕ
 number_of d = option_and_then as_u64 (as_number d)
+
+abbrev pub number_at : List ℕ → Data → Option ℕ
+number_at name d = option_and_then number_of (get name d)
+
+-- ---- identifiers
 
 abbrev pub pair : Option ℕ → Option ℕ → Option (ℕ × ℕ)
 pair (Some counter) (Some replica) = Some (counter, replica)
@@ -106,36 +115,61 @@ with_type None = Err fault.Kind
 abbrev pub deletion : ℕ → Data → Reading
 deletion count d = if (count == 2) && has (codes "id") d then with_type (array_at (codes "id") d) else Err fault.Member
 
+-- ---- the end of an exchange
+
+-- how many operations the exchange had
+abbrev pub ending : ℕ → Data → Result ℕ LineFault
+ending count d = if (count == 2) && has (codes "count") d then ok_or (number_at (codes "count") d) fault.Kind else Err fault.Member
+
 -- ---- the whole
 
-abbrev pub of_kind : ℕ → Data → List ℕ → Reading
-of_kind count d name =
-    if bytes_eq name (codes "ins") then insertion count d
-    else (if bytes_eq name (codes "del") then deletion count d
-    else Err fault.Kind)
+abbrev pub one : Reading → AnyReading
+one (Ok op) = Ok (One op)
+one (Err e) = Err e
 
-abbrev pub with_name : ℕ → Data → Option (List ℕ) → Reading
+abbrev pub last : Result ℕ LineFault → AnyReading
+last (Ok operations) = Ok (Last operations)
+last (Err e) = Err e
+
+abbrev pub of_kind : ℕ → Data → List ℕ → AnyReading
+of_kind count d name =
+    if bytes_eq name (codes "ins") then one (insertion count d)
+    else (if bytes_eq name (codes "del") then one (deletion count d)
+    else (if bytes_eq name (codes "end") then last (ending count d)
+    else Err fault.Kind))
+
+abbrev pub with_name : ℕ → Data → Option (List ℕ) → AnyReading
 with_name count d (Some name) = of_kind count d name
 with_name count d None = Err fault.Kind
 
-abbrev pub with_op : ℕ → Data → Option Data → Reading
+abbrev pub with_op : ℕ → Data → Option Data → AnyReading
 with_op count d (Some op) = with_name count d (as_str op)
 with_op count d None = Err fault.Member
 
-abbrev pub with_count : Data → Option ℕ → Reading
+abbrev pub with_count : Data → Option ℕ → AnyReading
 with_count d (Some count) = with_op count d (get (codes "op") d)
 with_count d None = Err fault.Kind
 
 -- what a value says
-unfoldable pub value_line : Data → Reading
+unfoldable pub value_line : Data → AnyReading
 value_line d = with_count d (count_of d)
 
 -- what a text says: is it UTF-8, and which value is it
-abbrev pub text_line : Bool → Option Data → Reading
+abbrev pub text_line : Bool → Option Data → AnyReading
 text_line true (Some d) = value_line d
 text_line true None = Err fault.Json
 text_line false d = Err fault.Json
 
 -- what the bytes of a line say, its newline left out
+unfoldable pub any_line_at : List ℕ → AnyReading
+any_line_at bytes = if nat_lt max_line (length bytes) then Err fault.Long else text_line (is_utf8 bytes) (read bytes)
+
+-- where operations alone may stand, the end of an exchange is a line of another kind
+abbrev pub operation_alone : AnyReading → Reading
+operation_alone (Ok (One op)) = Ok op
+operation_alone (Ok (Last operations)) = Err fault.Kind
+operation_alone (Err e) = Err e
+
+-- the operation that the bytes of a line say
 unfoldable pub line_at : List ℕ → Reading
-line_at bytes = if nat_lt max_line (length bytes) then Err fault.Long else text_line (is_utf8 bytes) (read bytes)
+line_at bytes = operation_alone (any_line_at bytes)

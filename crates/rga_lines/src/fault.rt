@@ -4,11 +4,11 @@ ghost use Rattle.rga_lines.specs.declared.fault.LineFault.TheVariants.{Memory};
 
 use std::alloc::AllocError;
 
-/// Why a line is no operation. Where several hold, the one that is tested first is answered:
-/// `Long`; `Json`; `Kind` where the value is no object; `Member` where it has no `op`; `Kind`
-/// where `op` is no text or is unknown; `Member` where a member of that kind of line is absent or
-/// a further one is there; `Kind` where a member has the wrong type; `Id`; `Char`; `Order`. Want
-/// of memory comes last: it is answered only where a growth was refused.
+/// Why a line is neither an operation nor the end of an exchange. Where several hold, the one that
+/// is tested first is answered: `Long`; `Json`; `Kind` where the value is no object; `Member` where
+/// it has no `op`; `Kind` where `op` is no text or is unknown; `Member` where a member of that kind
+/// of line is absent or a further one is there; `Kind` where a member has the wrong type; `Id`;
+/// `Char`; `Order`. Want of memory comes last: it is answered only where a growth was refused.
 #[derive(Clone, Copy, Debug, PartialEq, Eq)]
 pub enum LineFault {
     /// More than 65536 bytes.
@@ -18,7 +18,8 @@ pub enum LineFault {
     /// A member is absent, or a further one is there.
     Member,
     /// No object; an `op` that is no text or is unknown; a `char` that is no text; an `id` or a
-    /// `parent` that is no array.
+    /// `parent` that is no array; a `count` that is no whole number below 2^64. Also the end of an
+    /// exchange, where an operation was to be read.
     Kind,
     /// An `id` or a `parent` that is not exactly two whole numbers in the ranges of an identifier.
     /// A `parent` may be the root, [0,0].

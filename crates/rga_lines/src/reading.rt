@@ -2,7 +2,7 @@
 ghost use Rattle.std.specs.Prelude.{◌≡◌, ◌≢◌, ◌<◌, length, Err};
 ghost use Rattle.std.specs.Str.{chars};
 ghost use Rattle.serde_json.specs.View.{view, items_view};
-ghost use Rattle.rga_lines.specs.Table.{max_line, count_of, only_char, two_numbers, element_of, parent_of, insertion, deletion, value_line, line_at};
+ghost use Rattle.rga_lines.specs.Table.{max_line, count_of, only_char, two_numbers, element_of, parent_of, insertion, deletion, ending, value_line, any_line_at, line_at};
 ghost use Rattle.rga_lines.specs.declared.fault.LineFault.TheVariants.{Memory, Long};
 
 use crate::fault::LineFault;
@@ -14,28 +14,38 @@ use std::alloc::Global;
 /// The most bytes of a line, its newline left out.
 pub const MAX_LINE: usize = 65536;
 
-/// The operation that a line says, given without its newline: a JSON object (RFC 8259), in any
-/// spelling, with exactly the members of one of
+/// What a line says.
+#[derive(Clone, Copy, Debug, PartialEq, Eq)]
+pub enum Line {
+    /// An operation.
+    One(Op),
+    /// The end of an exchange of so many operations.
+    Last(u64),
+}
+
+/// What a line says, given without its newline: a JSON object (RFC 8259), in any spelling, with
+/// exactly the members of one of
 ///
 /// ```text
 /// {"char":"a","id":[1,2],"op":"ins","parent":[0,0]}
 /// {"id":[1,2],"op":"del"}
+/// {"count":2,"op":"end"}
 /// ```
 ///
 /// Where a member is named twice its last value counts. The faults are answered in the order that
 /// `LineFault` tells. `Long` takes no memory.
-pub fn read_line(alloc: Global, bytes: &[u8]) -> Result<Op, LineFault>
-    ensures says { result ≢ Err Memory → result ≡ line_at bytes.now }
+pub fn read_any(alloc: Global, bytes: &[u8]) -> Result<Line, LineFault>
+    ensures says { result ≢ Err Memory → result ≡ any_line_at bytes.now }
     ensures long { max_line < length bytes.now → result ≡ Err Long }
 {
     if bytes.len() > MAX_LINE {
         return Err(LineFault::Long);
     }
     if let Some(op) = spelled(bytes) {
-        return Ok(op);
+        return Ok(Line::One(op));
     }
     match Value::from_slice(alloc, bytes) {
-        Ok(value) => operation(&value),
+        Ok(value) => line_of(&value),
         Err(e) => {
             if e.is_memory() {
                 Err(LineFault::Memory)
@@ -46,8 +56,21 @@ pub fn read_line(alloc: Global, bytes: &[u8]) -> Result<Op, LineFault>
     }
 }
 
+/// The operation that a line says, given without its newline: what `read_any` gives, but `Kind`
+/// for the end of an exchange.
+pub fn read_line(alloc: Global, bytes: &[u8]) -> Result<Op, LineFault>
+    ensures says { result ≢ Err Memory → result ≡ line_at bytes.now }
+    ensures long { max_line < length bytes.now → result ≡ Err Long }
+{
+    match read_any(alloc, bytes) {
+        Ok(Line::One(op)) => Ok(op),
+        Ok(Line::Last(_)) => Err(LineFault::Kind),
+        Err(e) => Err(e),
+    }
+}
+
 #[tactic(auto, unfolding(crate::specs::Table::value_line))]
-fn operation(value: &Value) -> Result<Op, LineFault>
+fn line_of(value: &Value) -> Result<Line, LineFault>
     ensures { result ≡ value_line (view value.now) }
 {
     let Some(count) = count(value) else {
@@ -60,9 +83,11 @@ fn operation(value: &Value) -> Result<Op, LineFault>
         return Err(LineFault::Kind);
     };
     if name == "ins" {
-        insertion(count, value)
+        Ok(Line::One(insertion(count, value)?))
     } else if name == "del" {
-        deletion(count, value)
+        Ok(Line::One(deletion(count, value)?))
+    } else if name == "end" {
+        Ok(Line::Last(ending(count, value)?))
     } else {
         Err(LineFault::Kind)
     }
@@ -121,6 +146,19 @@ fn deletion(count: usize, value: &Value) -> Result<Op, LineFault>
         Some(id) => Ok(Op::Delete { id }),
         None => Err(LineFault::Id),
     }
+}
+
+/// How many operations the exchange had that ends here, by an object of so many members.
+fn ending(members: usize, value: &Value) -> Result<u64, LineFault>
+    ensures { result ≡ ending members (view value.now) }
+{
+    if members != 2 {
+        return Err(LineFault::Member);
+    }
+    let Some(operations) = value.get("count") else {
+        return Err(LineFault::Member);
+    };
+    operations.as_u64().ok_or(LineFault::Kind)
 }
 
 /// The text's only character.

@@ -3,7 +3,8 @@ ghost use Rattle.std.specs.Prelude.{◌≡◌, ℕ, ◌+◌, ◌<◌, ◌||◌, 
 ghost use Rattle.std.specs.Char.{IsScalar};
 ghost use Rattle.rga_ops.specs.Identifier.{identifier, is_root, is_in_range};
 ghost use Rattle.rga_lines.specs.Spelling.{escaped, pair_text, line, IsWritable};
-ghost use Rattle.rga_lines.specs.Table.{line_at};
+ghost use Rattle.rga_lines.specs.Table.{any_line_at};
+ghost use Rattle.rga_lines.specs.declared.reading.Line.TheVariants.{One};
 
 use crate::reading::only_char;
 use rga_ops::{Id, Op};
@@ -13,7 +14,7 @@ use rga_ops::{Id, Op};
 /// the line: it may be spelled otherwise, or its character have another escape than `\n`, `\"` and
 /// `\\`.
 pub(crate) fn spelled(bytes: &[u8]) -> Option<Op>
-    ensures { IfSome result (λ op. line_at bytes.now ≡ Ok op) }
+    ensures { IfSome result (λ op. any_line_at bytes.now ≡ Ok (One op)) }
 {
     let op = written(bytes)?;
     match op.check() {

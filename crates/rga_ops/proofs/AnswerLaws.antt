@@ -26,12 +26,12 @@ contains-known c q =
     finite_set.contains-union ids_total (finite_set.from_list (finite_map.keys c.inserted)) c.deleted q
     ∙ ap (λ b. b || finite_set.contains c.deleted q) (finite_set.contains-from_list ids_total (finite_map.keys c.inserted) q ∙ sym (finite_map.contains_key-keys c.inserted q))
 
-is_element-is : (x : Element) (parent : Identifier) (ch : ℕ) → is_element x parent ch ≡ true → x ≡ element parent ch
+pub is_element-is : (x : Element) (parent : Identifier) (ch : ℕ) → is_element x parent ch ≡ true → x ≡ element parent ch
 is_element-is x parent ch h =
     let parts = and_parts (is_id x.parent parent) (x.ch == ch) h in
     λ k. element (is_id-is x.parent parent parts.0 k) (eqb-true x.ch ch parts.1 k)
 
-is_element-itself : (parent : Identifier) (ch : ℕ) → is_element (element parent ch) parent ch ≡ true
+pub is_element-itself : (parent : Identifier) (ch : ℕ) → is_element (element parent ch) parent ch ≡ true
 is_element-itself parent ch = and_from (is_id parent parent) (ch == ch) (is_id-itself parent) (eq-eqb ch ch refl)
 
 -- ---- the cases

@@ -79,7 +79,7 @@ contains-known_join c d q =
     either (Some x) y a b = refl
     either None y a b = parted (is_some y) a b
 
-known_join : (c d : Content) → known (join c d) ≡ finite_set.union (known c) (known d)
+pub known_join : (c d : Content) → known (join c d) ≡ finite_set.union (known c) (known d)
 known_join c d = finite_set.same_set ids_total ids_exact _ _ (λ q. contains-known_join c d q ∙ sym (finite_set.contains-union ids_total (known c) (known d) q))
 
 contains-known_single : (op : Op) (q : Identifier) → finite_set.contains (known (single op)) q ≡ is q (id_of op)

@@ -57,7 +57,7 @@ single_holds (Delete id) = contains-single id id ∙ is_itself id
 
 -- ---- what the content of a list has
 
-single_inserted : (op : Op) (id : Identifier) (x : Element) → finite_map.get (single op).inserted id ≡ Some x → op ≡ Insert id x.parent x.ch
+pub single_inserted : (op : Op) (id : Identifier) (x : Element) → finite_map.get (single op).inserted id ≡ Some x → op ≡ Insert id x.parent x.ch
 single_inserted (Insert i parent ch) id x h =
     elim (is id i) as (λ b. is id i ≡ b → cond b (Some (element parent ch)) None ≡ Some x → Insert i parent ch ≡ Insert id x.parent x.ch) [
       | true ↦ λ t h.

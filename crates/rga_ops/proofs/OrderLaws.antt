@@ -160,7 +160,7 @@ value_complete c (e ∷ es) id h m =
       | false ↦ λ t m. value_complete c es id h.1 m
     ] refl m
 
-less_of : (o : Ordering) → T (is_lt o) → o ≡ Less
+pub less_of : (o : Ordering) → T (is_lt o) → o ≡ Less
 less_of Less h = refl
 less_of Equal h = absurd h
 less_of Greater h = absurd h

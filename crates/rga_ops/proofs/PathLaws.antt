@@ -198,3 +198,11 @@ is_complete-iff c id = (there, back)
     back s =
         let up : (p : Path) × IsRootPath c id p = path_of_complete s in
         λ k. not (not_complete_root s k) && is_some (is-root_path up.1 k)
+
+inserted_by : {c : Content} {id : Identifier} → IsComplete c id → (x : Element) × (finite_map.get c.inserted id ≡ Some x)
+inserted_by (below_root x other g r) = (x, g)
+inserted_by (below_element x other g s) = (x, g)
+
+-- a complete element is inserted
+pub inserted_if_complete : (c : Content) (id : Identifier) → is_complete c id ≡ true → (x : Element) × (finite_map.get c.inserted id ≡ Some x)
+inserted_if_complete c id h = inserted_by ((is_complete-iff c id).0 h)

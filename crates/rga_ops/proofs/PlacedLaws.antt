@@ -20,7 +20,7 @@ use Rattle.rga_ops.proofs.ContentLaws.{same_option}
 use Rattle.rga_ops.proofs.SortedLaws.{all_zip, each_found}
 use Rattle.rga_ops.proofs.PathLaws.{root_path-is, is-root_path, one_element, key_of}
 
-same_path : (p q : Path) → eq_by_cmp path_cmp p q ≡ true → p ≡ q
+pub same_path : (p q : Path) → eq_by_cmp path_cmp p q ≡ true → p ≡ q
 same_path p q e = paths_exact p q ((Equal-is (path_cmp p q)).0 e)
 
 tied_path : (p : Path) → eq_by_cmp path_cmp p p ≡ true

@@ -14,7 +14,7 @@ use Rattle.rga_ops.specs.RootPath.{is_complete, IsComplete, below_root, below_el
 use Rattle.rga_ops.specs.Order.{order, shown, text}
 use Rattle.rga_ops.specs.Places.{is_visible, visible, character, up_to, place}
 use Rattle.rga_ops.proofs.IdentifierLaws.{is, same_id, is_id-same, is_id-is, is_id-itself, is_swap}
-use Rattle.rga_ops.proofs.PathLaws.{is_complete-iff}
+use Rattle.rga_ops.proofs.PathLaws.{is_complete-iff, inserted_if_complete}
 use Rattle.rga_ops.proofs.OrderLaws.{all_members, order_list, order_distinct}
 
 -- ---- the test of an element of the order
@@ -36,17 +36,10 @@ visible_is c = visible_among c (order c) (order_complete c)
 
 -- ---- the text
 
-inserted_of : {c : Content} {id : Identifier} → IsComplete c id → (x : Element) × (finite_map.get c.inserted id ≡ Some x)
-inserted_of (below_root x other g r) = (x, g)
-inserted_of (below_element x other g s) = (x, g)
-
-complete_inserted : (c : Content) (id : Identifier) → is_complete c id ≡ true → (x : Element) × (finite_map.get c.inserted id ≡ Some x)
-complete_inserted c id h = inserted_of ((is_complete-iff c id).0 h)
-
 characters_among : (c : Content) (xs : List Identifier) → AllByRecursion (λ id. is_complete c id ≡ true) xs → map Some (filter_map (shown c) xs) ≡ map (character c) (filter (is_kept c) xs)
 characters_among c [] h = refl
 characters_among c (x ∷ xs) h =
-    let w : (y : Element) × (finite_map.get c.inserted x ≡ Some y) = complete_inserted c x h.0 in
+    let w : (y : Element) × (finite_map.get c.inserted x ≡ Some y) = inserted_if_complete c x h.0 in
     let rest : map Some (filter_map (shown c) xs) ≡ map (character c) (filter (is_kept c) xs) = characters_among c xs h.1 in
     let here : character c x ≡ Some w.0.ch = ap (option_map (λ (y : Element). y.ch)) w.1 in
     elim (finite_set.contains c.deleted x) as (λ b. map Some (cons_option (cond b None (character c x)) (filter_map (shown c) xs)) ≡ map (character c) (cond (not b) (x ∷ filter (is_kept c) xs) (filter (is_kept c) xs))) [

@@ -6,3 +6,7 @@ pub mod Order
 pub mod Answer
 pub mod Operations
 pub mod Places
+pub mod Splice
+pub mod ListAnswer
+pub mod Took
+pub mod Placement

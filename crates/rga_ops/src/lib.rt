@@ -12,10 +12,12 @@ mod id;
 pub mod laws;
 mod op;
 mod refusal;
+mod splice;
 
 pub use id::Id;
 pub use op::Op;
 pub use refusal::{Refusal, Taken};
+pub use splice::Splice;
 
 #[cfg(test)]
 mod tests;

@@ -1,15 +1,21 @@
 -- Rising child lists.
-use Rattle.std.proofs.Common.{◌≡◌, ℕ, ◌≤◌, ◌<◌, suc, zero, Bool, true, false, ◌||◌, List, [], ◌∷◌, length, slice_index_or, refl, sym, ap, ◌∙◌, arith}
+use Rattle.std.proofs.Common.{◌≡◌, ℕ, ◌≤◌, ◌<◌, suc, zero, Bool, true, false, cond, not, filter, subst, ◌&&◌, ◌||◌, List, [], ◌∷◌, length, slice_index_or, refl, sym, ap, ◌∙◌, arith}
 use Rattle.std.specs.Prelude.{insert}
 use Rattle.std.specs.Ordering.{eq_by_cmp, ordering_index, ordering_reverse}
-use Rattle.std.specs.List.{AllByRecursion}
+use Rattle.std.specs.List.{list_any, AllByRecursion}
 use Rattle.std.specs.declared.cmp.Ordering.{Ordering}
 use Rattle.std.specs.declared.cmp.Ordering.TheVariants.{Less, Equal, Greater}
 use Rattle.rga_ops.specs.Identifier.{Identifier, id_cmp, is_id}
 use Rattle.std.specs.List.Sorted.{IsStrictlySortedBy}
-use Rattle.rga_ops.proofs.IdentifierLaws.{ids_total, ids_exact, is_itself, is_id-same}
+use Rattle.rga_ops.proofs.IdentifierLaws.{ids_total, ids_exact, is, is_itself, is_swap, is_id-same, is_id-is}
 use Rattle.rga_ops.proofs.ContentLaws.{bool_swap}
-use Rattle.rga_store.specs.Children.{HasChild, IsRising}
+use Rattle.std.specs.List.Retain.{RetainsInTurn}
+use Rattle.std.proofs.lemmas.Map.Views.{any-filter_same}
+use Rattle.rga_store.specs.Children.{HasChild, IsRising, others_than}
+
+-- a child is there as a member is
+pub has-any : (ks : List Identifier) (q : Identifier) → HasChild ks q ≡ list_any (is q) ks
+has-any ks q = ap (λ (p : Identifier → Bool). list_any p ks) (λ k x. is_id-same x q k)
 
 or_in : (x a b : Bool) → (x || (a || b)) ≡ ((x || a) || b)
 or_in true a b = refl
@@ -76,3 +82,24 @@ pub found_has : (id : Identifier) (xs : List Identifier) (i : ℕ) (d : Identifi
 found_has id [] i d l e = absurd (omega arith)
 found_has id (x ∷ xs) zero d l e = ap (λ b. b || HasChild xs id) (is_id-same x id ∙ ap (eq_by_cmp id_cmp id) (ids_exact x id e) ∙ is_itself id)
 found_has id (x ∷ xs) (suc i) d l e = ap (λ b. is_id x id || b) (found_has id xs i d (omega arith) e) ∙ bool_swap (is_id x id) true
+
+-- ---- a child that leaves
+
+pub has-others : (id k : Identifier) (xs : List Identifier) → HasChild (others_than id xs) k ≡ (HasChild xs k && not (is_id id k))
+has-others id k xs =
+    any-filter_same (λ x. is_id x k) (λ x. not (is_id x id)) (not (is_id id k)) (λ x t. ap not (ap (λ y. is_id y id) (is_id-is x k t) ∙ is_id-same k id ∙ is_swap id k ∙ sym (is_id-same id k ∙ is_swap k id ∙ is_swap id k))) xs
+    ∙ and_swap (not (is_id id k)) (HasChild xs k)
+  where
+    and_swap : (a b : Bool) → (a && b) ≡ (b && a)
+    and_swap true true = refl
+    and_swap true false = refl
+    and_swap false true = refl
+    and_swap false false = refl
+
+-- what a `retain` leaves whose closure only tests
+pub filter_retained : {F : Type 0} (R : F → Identifier → Bool → F → Identifier → Type 0) (test : Identifier → Bool) (f : F) → ((x : Identifier) (b : Bool) (g : F) (y : Identifier) → R f x b g y → (b ≡ test x) × (g ≡ f) × (y ≡ x)) → (xs ys : List Identifier) → RetainsInTurn R f xs ys → ys ≡ filter test xs
+filter_retained R test f says [] ys h = h
+filter_retained R test f says (x ∷ xs) ys h =
+    let s = says x h.0 h.1 h.2 h.3 in
+    let rest : h.4 ≡ filter test xs = filter_retained R test f says xs h.4 (subst (λ g. RetainsInTurn R g xs h.4) s.1 h.5) in
+    h.6 ∙ (λ k. cond (s.0 k) (s.2 k ∷ rest k) (rest k))

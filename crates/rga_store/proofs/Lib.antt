@@ -1,8 +1,10 @@
-pub mod EntryLaws
-pub mod RisingLaws
 pub mod ChildListLaws
 pub mod SortedIdLaws
-pub mod NodeLaws
 pub mod ChildLaws
+pub mod NodeLaws
+pub mod StepLaws
+pub mod PickedLaws
 pub mod WalkLaws
 pub mod TreeLaws
+pub mod MergingLaws
+pub mod BackLaws

@@ -1,7 +1,7 @@
 -- A walk over child lists with a stack gives the order.
-use Rattle.std.proofs.Common.{◌≡◌, ◌≤◌, ◌<◌, Bool, true, false, not, ◌&&◌, ◌||◌, List, [], ◌∷◌, ◌++◌, length, refl, sym, ap, ◌∙◌, subst, arith, true≢false, is_some, inl, inr, length-append}
-use Rattle.std.specs.Prelude.{Some, None, ◌⊎◌, unwrap_or}
-use Rattle.std.specs.Option.{option_map}
+use Rattle.std.proofs.Common.{◌≡◌, ◌≤◌, ◌<◌, Bool, true, false, not, ◌&&◌, ◌||◌, List, [], ◌∷◌, ◌++◌, length, refl, sym, ap, ◌∙◌, subst, arith, true≢false, is_some, nat_le, cond, inl, inr, length-append}
+use Rattle.std.specs.Prelude.{Option, Some, None, Ok, Err, ◌⊎◌, unwrap_or}
+use Rattle.std.specs.Option.{option_map, option_map_or}
 use Rattle.std.specs.Cmp.{both_ways, tied_itself, eq_by_cmp_equiv}
 use Rattle.std.specs.Ordering.{ordering_then}
 use Rattle.std.specs.List.{list_any, AllByRecursion}
@@ -9,17 +9,23 @@ use Rattle.std.specs.declared.cmp.Ordering.TheVariants.{Less}
 use Rattle.std.specs.FinMap as finite_map
 use Rattle.std.proofs.lemmas.List.Folds.{list_any-append}
 use Rattle.std.proofs.lemmas.Map.Made.{length-le_from_is_member}
-use Rattle.rga_ops.specs.Identifier.{Identifier, id_cmp, is_root, root}
-use Rattle.rga_ops.specs.Content.{Element, Content}
+use Rattle.rga_ops.specs.Identifier.{Identifier, id_cmp, is_id, is_root, root}
+use Rattle.rga_ops.specs.Content.{Element, Content, IsSound}
 use Rattle.rga_ops.specs.RootPath.{Path, path_cmp, root_path, is_complete, IsRootPath}
 use Rattle.rga_ops.specs.RootPath.IsRootPath.{at_root, below}
 use Rattle.rga_ops.specs.Order.{order, Precedes, IsInOrder, IsOrderList}
-use Rattle.rga_ops.proofs.IdentifierLaws.{ids_total, is, is_itself, same_id, is_id-is}
+use Rattle.rga_ops.proofs.IdentifierLaws.{ids_total, is, is_itself, same_id, is_id-is, is_id-itself}
 use Rattle.rga_ops.proofs.BeforeLaws.{paths_total}
 use Rattle.rga_ops.proofs.PathLaws.{root_path-is, is-root_path, root_path-root, root_path-step}
 use Rattle.rga_ops.proofs.PlacedLaws.{IsPlaced, placed_key}
 use Rattle.rga_ops.proofs.OrderLaws.{order_unique, order_distinct}
+use Rattle.rga_ops.proofs.AnswerLaws.{passed}
+use Rattle.rga_ops.specs.declared.op.Op.TheVariants.{Insert}
+use Rattle.rga_ops.specs.declared.refusal.Refusal.TheVariants.{BadId, BadOrder}
 use Rattle.rga_store.specs.Children.{IsRising}
+use Rattle.rga_store.specs.Tree.{IsFamily}
+use Rattle.rga_store.proofs.ChildListLaws.{has-any}
+use Rattle.rga_store.proofs.StepLaws.{len-keys, IsChild, child_found}
 use Rattle.std.specs.List.Sorted.{IsStrictlySortedBy}
 use Rattle.std.proofs.lemmas.Bool.{or_cases, or_right}
 
@@ -105,18 +111,7 @@ apart-siblings : (p : Path) (k l : Identifier) → id_cmp l k ≡ Less → IsApa
 apart-siblings [] k l h = inl h
 apart-siblings (x ∷ p) k l h = inr (refl, apart-siblings p k l h)
 
--- ---- children
-pub record IsChild (c : Content) (p k : Identifier) : Type 0 where
-  pub element : Element
-  pub found : finite_map.get c.inserted k ≡ Some element
-  pub parent : element.parent ≡ p
-
--- the lists are those of the children of each identifier
-pub record AreChildren (c : Content) (K : Identifier → List Identifier) : Type 0 where
-  pub sound : (p k : Identifier) → list_any (is k) (K p) ≡ true → IsChild c p k
-  pub whole : (k : Identifier) (x : Element) → finite_map.get c.inserted k ≡ Some x → list_any (is k) (K x.parent) ≡ true
-  pub rising : (p : Identifier) → IsRising (K p)
-  pub proper : (k : Identifier) (x : Element) → finite_map.get c.inserted k ≡ Some x → is_root k ≡ false
+-- ---- places and paths
 
 abbrev pub Placed : Content → Identifier → Type 0
 Placed c k = IsPlaced c k (way c k)
@@ -177,7 +172,22 @@ in_order c [] p s = tt
 in_order c (x ∷ []) p s = tt
 in_order c (x ∷ y ∷ xs) p s = (precedes c x y p.0 (p.1).0 (s.0).0, in_order c (y ∷ xs) p.1 s.1)
 
-module _ (c : Content) (K : Identifier → List Identifier) (w : AreChildren c K) where
+module _ (c : Content) (K : Identifier → List Identifier) (w : IsFamily c K) (sound : IsSound c) where
+  -- a child in a list is an insertion that names the parent
+  child_in : (p k : Identifier) → list_any (is k) (K p) ≡ true → IsChild c p k
+  child_in p k m = child_found c p k (sym (w.children p k) ∙ has-any (K p) k ∙ m)
+
+  -- and each insertion is in a list
+  in_list : (k : Identifier) (x : Element) → finite_map.get c.inserted k ≡ Some x → list_any (is k) (K x.parent) ≡ true
+  in_list k x g = sym (has-any (K x.parent) k) ∙ w.children x.parent k ∙ ap (λ (o : Option Element). option_map_or (λ y. is_id y.parent x.parent) o false) g ∙ is_id-itself x.parent
+
+  proper : (k : Identifier) (x : Element) → finite_map.get c.inserted k ≡ Some x → is_root k ≡ false
+  proper k x g =
+      elim (is_root k) as (λ b. cond b (Err BadId) (cond (nat_le k.counter x.parent.counter) (Err BadOrder) (Ok tt)) ≡ passed → b ≡ false) [
+        | true ↦ λ h. absurd (cc)
+        | false ↦ λ h. refl
+      ] (sound (Insert k x.parent x.ch) g)
+
   -- a child of what has a root path
   record IsUnder (r : Path) (k : Identifier) : Type 0 where
     pub path : way c k ≡ r ++ k ∷ []
@@ -185,13 +195,13 @@ module _ (c : Content) (K : Identifier → List Identifier) (w : AreChildren c K
 
   under : (s : Identifier) (r : Path) → root_path c s ≡ Some r → (k : Identifier) → list_any (is k) (K s) ≡ true → IsUnder r k
   under s r h k m =
-      let ch : IsChild c s k = w.sound s k m in
-      let proper : is_root k ≡ false = w.proper k ch.element ch.found in
+      let ch : IsChild c s k = child_in s k m in
+      let other : is_root k ≡ false = proper k ch.element ch.found in
       let path : root_path c k ≡ Some (r ++ k ∷ []) =
-      root_path-step c k ch.element proper ch.found ∙ ap (option_map (λ q. q ++ k ∷ [])) (ap (root_path c) ch.parent ∙ h) in
+      root_path-step c k ch.element other ch.found ∙ ap (option_map (λ q. q ++ k ∷ [])) (ap (root_path c) ch.parent ∙ h) in
       record {
         path = way_is c k (r ++ k ∷ []) path;
-        placed = record { element = proper; path = subst (λ q. IsRootPath c k q) (sym (way_is c k (r ++ k ∷ []) path)) (root_path-is {c = c} path) };
+        placed = record { element = other; path = subst (λ q. IsRootPath c k q) (sym (way_is c k (r ++ k ∷ []) path)) (root_path-is {c = c} path) };
       }
 
   unders : (s : Identifier) (r : Path) → root_path c s ≡ Some r → AllByRecursion (IsUnder r) (K s)
@@ -218,7 +228,7 @@ module _ (c : Content) (K : Identifier → List Identifier) (w : AreChildren c K
     before = tt;
     stacked = stacked_unders [] (K root) (w.rising root) first;
     closed = λ k x g h. elim h [
-      | inl r ↦ inr (ap (λ p. list_any (is k) (K p)) (sym (root_is x.parent r)) ∙ w.whole k x g)
+      | inl r ↦ inr (ap (λ p. list_any (is k) (K p)) (sym (root_is x.parent r)) ∙ in_list k x g)
       | inr m ↦ absurd (true≢false (sym m))
     ];
   }
@@ -275,17 +285,17 @@ module _ (c : Content) (K : Identifier → List Identifier) (w : AreChildren c K
         closed_now k x g (inl r) = after k (walk.closed k x g (inl r))
         closed_now k x g (inr m) = elim (last_member done s x.parent m) [
           | inl d ↦ after k (walk.closed k x g (inr d))
-          | inr e ↦ inr (right_member todo (K s) k (ap (λ p. list_any (is k) (K p)) (sym e) ∙ w.whole k x g))
+          | inr e ↦ inr (right_member todo (K s) k (ap (λ p. list_any (is k) (K p)) (sym e) ∙ in_list k x g))
         ]
 
-    -- and there was room for it among as many as are inserted
-    pub walk_room : (ids : List Identifier) → ((q : Identifier) → finite_map.contains_key c.inserted q ≡ list_any (is q) ids) → length done < length ids
-    walk_room ids same =
+    -- and it was one of those that are inserted
+    pub walk_room : length done < finite_map.len c.inserted
+    walk_room =
         let now : IsWalk c (done ++ s ∷ []) (todo ++ K s) = walk_step in
-        let few : length (done ++ s ∷ []) ≤ length ids =
-        length-le_from_is_member (eq_by_cmp_equiv ids_total) (done ++ s ∷ []) ids (order_distinct c (done ++ s ∷ []) (in_order c (done ++ s ∷ []) now.done_placed now.sorted))
-        (λ q m. sym (same q) ∙ finite_map.contains_key-keys c.inserted q ∙ placed_key c q (way c q) (of_member (Placed c) (done ++ s ∷ []) q now.done_placed m)) in
-        omega (arith, few, length-append done (s ∷ []))
+        let few : length (done ++ s ∷ []) ≤ length (finite_map.keys c.inserted) =
+        length-le_from_is_member (eq_by_cmp_equiv ids_total) (done ++ s ∷ []) (finite_map.keys c.inserted) (order_distinct c (done ++ s ∷ []) (in_order c (done ++ s ∷ []) now.done_placed now.sorted))
+        (λ q m. placed_key c q (way c q) (of_member (Placed c) (done ++ s ∷ []) q now.done_placed m)) in
+        omega (arith, few, len-keys c, length-append done (s ∷ []))
 
   complete_of : (id : Identifier) → Placed c id → is_complete c id ≡ true
   complete_of id h = (λ k. not (h.element k) && is_some (is-root_path {c = c} h.path k))

@@ -1,9 +1,7 @@
 -- The children of each parent, as a tree store keeps them.
-use Rattle.std.specs.Prelude.{Bool, List, []}
+use Rattle.std.specs.Prelude.{Bool, not, List, filter}
 use Rattle.std.specs.List.{list_any}
 use Rattle.std.specs.List.Sorted.{IsStrictlySortedBy}
-use Rattle.std.specs.Option.{option_map_or}
-use Rattle.std.specs.Map.{lookup}
 use Rattle.rga_ops.specs.Identifier.{Identifier, id_cmp, is_id}
 use Rattle.rga_store.specs.declared.child_list.ChildList.{ChildList}
 use Rattle.rga_store.specs.declared.child_list.ChildList.TheVariants.{Few, Many}
@@ -20,9 +18,6 @@ abbrev pub children_in : ChildList → List Identifier
 children_in (Few list) = list.items
 children_in (Many set) = set.keys
 
-abbrev pub Lists : Type 0
-Lists = List (Identifier × ChildList)
-
--- the children that wait under a parent
-abbrev pub orphans_of : Lists → Identifier → List Identifier
-orphans_of lists p = option_map_or children_in (lookup (is_id p) lists) []
+-- the others
+abbrev pub others_than : Identifier → List Identifier → List Identifier
+others_than id = filter (λ x. not (is_id x id))

@@ -1,7 +1,8 @@
 pub mod Limit
 pub mod Found
 pub mod Kept
-pub mod Entries
 pub mod Growth
 pub mod Children
 pub mod Nodes
+pub mod Tree
+pub mod Back

@@ -1,37 +1,50 @@
--- What a tree store keeps: nodes by identifier, and the children of each parent.
-use Rattle.std.specs.Prelude.{◌≡◌, ℕ, ◌&&◌, Bool, List, map}
-use Rattle.std.specs.List.{list_any}
-use Rattle.std.specs.Map.{lookup}
-use Rattle.std.specs.Option.{option_map_or}
+-- What a tree store keeps: a node for each identifier that is inserted, deleted or named as a parent.
+use Rattle.std.specs.Prelude.{◌≡◌, ℕ, Bool, List, [], filter, is_some, Option, Some, slice_get}
+use Rattle.std.specs.List.{IsDistinct, filter_map}
+use Rattle.std.specs.Map.{lookup, keys_of}
+use Rattle.std.specs.Option.{option_map, option_map_or}
+use Rattle.std.specs.FinMap as finite_map
+use Rattle.std.specs.FinSet as finite_set
 use Rattle.rga_ops.specs.Identifier.{Identifier, is_id}
-use Rattle.rga_ops.specs.Content.{clock}
+use Rattle.rga_ops.specs.Content.{Element, element, Content}
 use Rattle.rga_store.specs.declared.nodes.Node.{Node}
-use Rattle.rga_store.specs.Children.{HasChild, IsRising, Lists, children_in, orphans_of}
-use Rattle.rga_store.specs.Entries.{Entry, AreEntries, content_of_entries}
+use Rattle.rga_store.specs.Children.{children_in}
 
-abbrev pub entry_of : Identifier × Node → Entry
-entry_of e = record { id = e.0; parent = e.1.parent; ch = e.1.ch; deleted = e.1.deleted }
+abbrev pub Nodes : Type 0
+Nodes = List (Identifier × Node)
 
--- the nodes as a list of entries
-abbrev pub entries_of : List (Identifier × Node) → List Entry
-entries_of = map entry_of
+-- the element of a node, if it has one
+abbrev pub element_in : Node → Option Element
+element_in v = option_map (λ x. element x.0 x.1) v.element
 
--- the entry is of that identifier, and of that parent
-abbrev pub is_child_of : Identifier → Identifier → Entry → Bool
-is_child_of p k e = is_id e.parent p && is_id e.id k
+abbrev pub insertion_in : Identifier × Node → Option (Identifier × Element)
+insertion_in n = option_map (λ x. (n.0, x)) (element_in n.1)
 
--- the children under a parent: those of its node, or, where it has none, those that wait for it
-abbrev pub kids : List (Identifier × Node) → Lists → Identifier → List Identifier
-kids nodes orphans p = option_map_or (λ v. children_in v.children) (lookup (is_id p) nodes) (orphans_of orphans p)
+-- the identifiers of the nodes that pass the test
+abbrev pub ids_where : (Node → Bool) → Nodes → List Identifier
+ids_where test ns = keys_of (filter (λ n. test n.1) ns)
 
--- under each parent, present or absent, stand exactly the insertions that name it, and they rise
-pub record IsFamily (entries : List Entry) (children_of : Identifier → List Identifier) : Type 0 where
-  pub children : (p k : Identifier) → HasChild (children_of p) k ≡ list_any (is_child_of p k) entries
-  pub rising : (p : Identifier) → IsRising (children_of p)
+abbrev pub inserted_ids : Nodes → List Identifier
+inserted_ids = ids_where (λ v. is_some v.element)
 
--- the nodes and the early deletions are apart and within the limit, the children are those of the nodes, and the clock
--- is that of the content
-pub record IsTree (nodes : List (Identifier × Node)) (orphans : Lists) (early : List Identifier) (latest limit : ℕ) : Type 0 where
-  pub entries : AreEntries (entries_of nodes) early limit
-  pub family : IsFamily (entries_of nodes) (kids nodes orphans)
-  pub clocked : latest ≡ clock (content_of_entries (entries_of nodes) early)
+abbrev pub marked_ids : Nodes → List Identifier
+marked_ids = ids_where (λ v. v.deleted)
+
+-- what the nodes stand for; one with neither an element nor a mark stands for nothing
+abbrev pub content_of_nodes : Nodes → Content
+content_of_nodes ns = record {
+  inserted = finite_map.from_entries (filter_map insertion_in ns);
+  deleted = finite_set.from_list (marked_ids ns);
+}
+
+-- the children under a parent
+abbrev pub kids : Nodes → Identifier → List Identifier
+kids ns p = option_map_or (λ v. children_in v.children) (lookup (is_id p) ns) []
+
+-- no identifier has two nodes
+abbrev pub AreApart : Nodes → Type 0
+AreApart ns = IsDistinct is_id (keys_of ns)
+
+-- the node at that place is the identifier's
+abbrev pub StandsAt : Nodes → ℕ → Identifier → Type 0
+StandsAt ns place id = slice_get (keys_of ns) place ≡ Some id

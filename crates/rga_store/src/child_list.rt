@@ -1,8 +1,8 @@
 //! The children of one parent.
-ghost use Rattle.std.specs.Prelude.{◌≡◌, ◌||◌, ◌≤◌, ◌++◌, [], ◌∷◌, length, false, IfOk, IfErr, OnOk, OnErr};
+ghost use Rattle.std.specs.Prelude.{◌≡◌, ◌&&◌, ◌||◌, not, ◌≤◌, ◌++◌, [], length, false, IfOk, IfErr, OnOk, OnErr};
 ghost use Rattle.std.specs.List.Sorted.{IsPartitionPoint};
 ghost use Rattle.rga_ops.specs.Identifier.{Identifier, id_cmp, is_id};
-ghost use Rattle.rga_store.specs.Children.{HasChild, IsRising, children_in};
+ghost use Rattle.rga_store.specs.Children.{HasChild, IsRising, children_in, others_than};
 
 use rga_ops::{Id, Refusal};
 use smallvec::SmallVec;
@@ -29,15 +29,6 @@ impl ChildList {
         ChildList::Few(SmallVec::new(alloc))
     }
 
-    /// The list of one child. Takes no memory.
-    pub(crate) fn of_one(alloc: Global, id: Id) -> ChildList
-        ensures { children_in result ≡ id ∷ [] }
-    {
-        let mut few = SmallVec::new(alloc);
-        few.push_reserved(id);
-        ChildList::Few(few)
-    }
-
     /// A child that is not there takes its place.
     pub(crate) fn put(&mut self, alloc: Global, id: Id) -> Result<(), Refusal>
         requires rising { IsRising (children_in self.old) }
@@ -57,6 +48,18 @@ impl ChildList {
                 Ok(())
             }
             ChildList::Many(set) => put_among_many(set, id),
+        }
+    }
+
+    /// A child leaves, if it is there. Takes no memory.
+    pub(crate) fn take_out(&mut self, id: Id)
+        requires { IsRising (children_in self.old) }
+        ensures left { (k : Identifier) → HasChild (children_in self.new) k ≡ (HasChild (children_in self.old) k && not (is_id id k)) }
+        ensures rising { IsRising (children_in self.new) }
+    {
+        match self {
+            ChildList::Few(few) => take_from_few(few, id),
+            ChildList::Many(set) => take_from_many(set, id),
         }
     }
 
@@ -115,6 +118,19 @@ fn put_among_many(set: &mut BTreeSet<Id>, id: Id) -> Result<(), Refusal>
         return Err(Refusal::Memory);
     }
     Ok(())
+}
+
+fn take_from_few(few: &mut SmallVec<Id, 1>, id: Id)
+    ensures { few.new.items ≡ others_than id few.old.items }
+{
+    few.retain(|child| *child != id);
+}
+
+fn take_from_many(set: &mut BTreeSet<Id>, id: Id)
+    ensures left { (k : Identifier) → HasChild set.new.keys k ≡ (HasChild set.old.keys k && not (is_id id k)) }
+    ensures rising { IsRising set.new.keys }
+{
+    let _was_there = set.remove(&id);
 }
 
 /// A tree of these children and one more.

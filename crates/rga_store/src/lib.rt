@@ -3,14 +3,18 @@
 //! Two traits say what any store does, by the content that it stands for: `Taker` takes
 //! operations, and `TextStore` is a `Taker` of a text, with the order of its elements. `TreeStore`
 //! meets both: it finds an element by its identifier, and walks the tree of parents and children
-//! for the order. The crate stands on rga_ops, and on indexmap and smallvec. The layer above rests
-//! on the traits' contracts and on nothing that a store keeps inside: all that a store answers is a
-//! function of its content and its limit.
+//! for the order. What it took it can take back without memory, so that a list of operations is
+//! taken whole or not at all. The crate stands on rga_ops, and on indexmap and smallvec. The layer
+//! above rests on the traits' contracts and on nothing that a store keeps inside: all that a store
+//! answers is a function of its content and its limit, so stores of one content show the same
+//! (`laws`).
 #![tactic(auto)]
 
 mod answer;
 mod child_list;
-mod children;
+pub mod laws;
+mod list_answer;
+mod merging;
 mod nodes;
 mod operations;
 mod taker;

@@ -1,36 +1,185 @@
-//! Inserted elements by their identifiers.
-ghost use Rattle.std.specs.Prelude.{◌≡◌, map, is_some, false, true};
+//! A node for each identifier that is inserted, deleted, or named as a parent.
+ghost use Rattle.std.specs.Prelude.{◌≡◌, ◌&&◌, ◌||◌, not, ◌++◌, ℕ, [], false, None, IfOk, IfErr, OnOk, OnErr};
+ghost use Rattle.std.specs.FinMap as finite_map;
+ghost use Rattle.std.specs.FinSet as finite_set;
 ghost use Rattle.std.specs.Map.{lookup};
 ghost use Rattle.rga_ops.specs.Identifier.{Identifier, is_id};
-ghost use Rattle.rga_store.specs.Entries.{marked};
-ghost use Rattle.rga_store.specs.Children.{Lists};
-ghost use Rattle.rga_store.specs.Nodes.{entries_of, kids};
+ghost use Rattle.rga_ops.specs.Content.{join, single};
+ghost use Rattle.rga_store.specs.Children.{children_in, HasChild, IsRising};
+ghost use Rattle.rga_store.specs.Nodes.{content_of_nodes, kids, AreApart, StandsAt};
+ghost use Rattle.rga_store.specs.Back.{without_insertion, without_deletion};
 
 use crate::child_list::ChildList;
 use indexmap::IndexMap;
-use rga_ops::Id;
+use rga_ops::{Id, Op, Refusal};
+use std::alloc::Global;
 
-/// What is kept of an inserted element.
+/// What is kept of an identifier. A node may come before its element: for a deletion that came
+/// early, or for the children that wait. One with neither an element nor a mark means nothing.
 #[derive(Drop)]
 pub(crate) struct Node {
-    pub(crate) parent: Id,
-    pub(crate) ch: char,
+    /// The parent and the character, once the identifier is inserted.
+    pub(crate) element: Option<(Id, char)>,
     pub(crate) deleted: bool,
     pub(crate) children: ChildList,
 }
 
-/// Marks an element as deleted, if it is inserted, and says whether it is.
-pub(crate) fn mark_node(nodes: &mut IndexMap<Id, Node>, id: Id) -> bool
-    ensures found { result ≡ is_some (lookup (is_id id) nodes.old.entries) }
-    ensures marked { result ≡ true → entries_of nodes.new.entries ≡ map (marked id) (entries_of nodes.old.entries) }
-    ensures unmarked { result ≡ false → nodes.new.entries ≡ nodes.old.entries }
-    ensures kids { (orphans : Lists) (p : Identifier) → kids nodes.new.entries orphans p ≡ kids nodes.old.entries orphans p }
+impl Node {
+    /// A node that means nothing yet. Takes no memory.
+    fn new(alloc: Global) -> Node
+        ensures element { result.element ≡ None }
+        ensures unmarked { result.deleted ≡ false }
+        ensures childless { children_in result.children ≡ [] }
+    {
+        Node {
+            element: None,
+            deleted: false,
+            children: ChildList::new(alloc),
+        }
+    }
+}
+
+/// Sees to it that an identifier has a node, and says at which place. A new one means nothing, and
+/// one that was there is put back: so there is one search. Only a new one takes memory.
+pub(crate) fn ensure_node(
+    alloc: Global,
+    nodes: &mut IndexMap<Id, Node>,
+    id: Id,
+) -> Result<usize, Refusal>
+    requires { AreApart nodes.old.entries }
+    ensures place { IfOk result (λ place. StandsAt nodes.new.entries place id) }
+    ensures others { (i : ℕ) (q : Identifier) → StandsAt nodes.old.entries i q → StandsAt nodes.new.entries i q }
+    ensures content { content_of_nodes nodes.new.entries ≡ content_of_nodes nodes.old.entries }
+    ensures kids { (p : Identifier) → kids nodes.new.entries p ≡ kids nodes.old.entries p }
+    ensures apart { AreApart nodes.new.entries }
+    ensures absent { OnErr result (lookup (is_id id) nodes.old.entries ≡ None) }
+    ensures memory { IfErr result (λ e. e ≡ Refusal.Memory) }
+{
+    match nodes.insert_full(id, Node::new(alloc)) {
+        Ok((place, None)) => Ok(place),
+        Ok((place, Some(node))) => {
+            nodes[place] = node;
+            Ok(place)
+        }
+        Err(_) => Err(Refusal::Memory),
+    }
+}
+
+/// A child that is not there takes its place under its parent.
+pub(crate) fn add_child(
+    alloc: Global,
+    nodes: &mut IndexMap<Id, Node>,
+    place: usize,
+    parent: Id,
+    id: Id,
+) -> Result<(), Refusal>
+    requires apart { AreApart nodes.old.entries }
+    requires place { StandsAt nodes.old.entries place parent }
+    requires rising { (p : Identifier) → IsRising (kids nodes.old.entries p) }
+    requires absent { HasChild (kids nodes.old.entries parent) id ≡ false }
+    ensures ok { OnOk result ((p k : Identifier) → HasChild (kids nodes.new.entries p) k ≡ (HasChild (kids nodes.old.entries p) k || (is_id parent p && is_id id k))) }
+    ensures rising { (p : Identifier) → IsRising (kids nodes.new.entries p) }
+    ensures others { (i : ℕ) (q : Identifier) → StandsAt nodes.old.entries i q → StandsAt nodes.new.entries i q }
+    ensures content { content_of_nodes nodes.new.entries ≡ content_of_nodes nodes.old.entries }
+    ensures apart { AreApart nodes.new.entries }
+    ensures err { OnErr result ((p : Identifier) → kids nodes.new.entries p ≡ kids nodes.old.entries p) }
+    ensures memory { IfErr result (λ e. e ≡ Refusal.Memory) }
+{
+    nodes[place].children.put(alloc, id)
+}
+
+/// A node gets its element. Says whether its identifier is deleted already.
+pub(crate) fn set_element(
+    nodes: &mut IndexMap<Id, Node>,
+    place: usize,
+    id: Id,
+    parent: Id,
+    ch: char,
+) -> bool
+    requires apart { AreApart nodes.old.entries }
+    requires place { StandsAt nodes.old.entries place id }
+    requires absent { finite_map.get (content_of_nodes nodes.old.entries).inserted id ≡ None }
+    ensures deleted { result ≡ finite_set.contains (content_of_nodes nodes.old.entries).deleted id }
+    ensures content { content_of_nodes nodes.new.entries ≡ join (content_of_nodes nodes.old.entries) (single (Op.Insert id parent ch)) }
+    ensures kids { (p : Identifier) → kids nodes.new.entries p ≡ kids nodes.old.entries p }
+    ensures apart { AreApart nodes.new.entries }
+{
+    let node = &mut nodes[place];
+    node.element = Some((parent, ch));
+    node.deleted
+}
+
+/// A node gets its mark. Says whether its identifier is inserted already.
+pub(crate) fn mark(nodes: &mut IndexMap<Id, Node>, place: usize, id: Id) -> bool
+    requires apart { AreApart nodes.old.entries }
+    requires place { StandsAt nodes.old.entries place id }
+    ensures inserted { result ≡ finite_map.contains_key (content_of_nodes nodes.old.entries).inserted id }
+    ensures content { content_of_nodes nodes.new.entries ≡ join (content_of_nodes nodes.old.entries) (single (Op.Delete id)) }
+    ensures kids { (p : Identifier) → kids nodes.new.entries p ≡ kids nodes.old.entries p }
+    ensures apart { AreApart nodes.new.entries }
+{
+    let node = &mut nodes[place];
+    node.deleted = true;
+    node.element.is_some()
+}
+
+/// The element of a node goes. Says whether its identifier is deleted.
+pub(crate) fn take_element(nodes: &mut IndexMap<Id, Node>, id: Id) -> bool
+    ensures deleted { result ≡ finite_set.contains (content_of_nodes nodes.old.entries).deleted id }
+    ensures content { content_of_nodes nodes.new.entries ≡ without_insertion id (content_of_nodes nodes.old.entries) }
+    ensures kids { (p : Identifier) → kids nodes.new.entries p ≡ kids nodes.old.entries p }
+    ensures apart { AreApart nodes.new.entries }
 {
     match nodes.get_mut(&id) {
         Some(node) => {
-            node.deleted = true;
-            true
+            node.element = None;
+            node.deleted
         }
         None => false,
+    }
+}
+
+/// The mark of a node goes. Says whether its identifier is inserted.
+pub(crate) fn take_mark(nodes: &mut IndexMap<Id, Node>, id: Id) -> bool
+    ensures inserted { result ≡ finite_map.contains_key (content_of_nodes nodes.old.entries).inserted id }
+    ensures content { content_of_nodes nodes.new.entries ≡ without_deletion id (content_of_nodes nodes.old.entries) }
+    ensures kids { (p : Identifier) → kids nodes.new.entries p ≡ kids nodes.old.entries p }
+    ensures apart { AreApart nodes.new.entries }
+{
+    match nodes.get_mut(&id) {
+        Some(node) => {
+            node.deleted = false;
+            node.element.is_some()
+        }
+        None => false,
+    }
+}
+
+/// A child leaves its parent's list.
+pub(crate) fn take_child(nodes: &mut IndexMap<Id, Node>, parent: Id, id: Id)
+    requires { (p : Identifier) → IsRising (kids nodes.old.entries p) }
+    ensures left { (p k : Identifier) → HasChild (kids nodes.new.entries p) k ≡ (HasChild (kids nodes.old.entries p) k && not (is_id parent p && is_id id k)) }
+    ensures rising { (p : Identifier) → IsRising (kids nodes.new.entries p) }
+    ensures content { content_of_nodes nodes.new.entries ≡ content_of_nodes nodes.old.entries }
+    ensures apart { AreApart nodes.new.entries }
+{
+    match nodes.get_mut(&parent) {
+        Some(node) => node.children.take_out(id),
+        None => (),
+    }
+}
+
+/// The children of a parent go onto a stack, the newest on top.
+pub(crate) fn push_children(
+    stack: &mut Vec<Id>,
+    nodes: &IndexMap<Id, Node>,
+    parent: Id,
+) -> Result<(), Refusal>
+    ensures ok { OnOk result (stack.new.items ≡ stack.old.items ++ kids nodes.now.entries parent) }
+    ensures memory { IfErr result (λ e. e ≡ Refusal.Memory) }
+{
+    match nodes.get(&parent) {
+        Some(node) => node.children.push_onto(stack),
+        None => Ok(()),
     }
 }

@@ -1,7 +1,8 @@
 //! What takes operations.
 ghost use Rattle.std.specs.Prelude.{◌≡◌, ◌≢◌, ℕ, Ok, Err};
-ghost use Rattle.rga_ops.specs.Content.{Content, join, single};
+ghost use Rattle.rga_ops.specs.Content.{Content, join, single, content_of};
 ghost use Rattle.rga_ops.specs.Answer.{answer};
+ghost use Rattle.rga_ops.specs.ListAnswer.{list_answer, all_checked};
 ghost use Rattle.rga_ops.specs.declared.op.Op.{Op as Operation};
 
 use rga_ops::{Op, Refusal, Taken};
@@ -28,5 +29,19 @@ pub trait Taker {
 
         ensures new { result ≡ Ok Taken.New → content self.new ≡ join (content self.old) (single op) }
         ensures same { result ≢ Ok Taken.New → content self.new ≡ content self.old }
+        ensures limit { capacity self.new ≡ capacity self.old };
+
+    /// Takes all operations of a list, or none.
+    ///
+    /// Refusals, in this order: `BadId` or `BadOrder` of the first operation that is ill-formed;
+    /// `Conflict` of the first that conflicts with the content or with one before it in the list;
+    /// `Full` where more identifiers would be known than the limit allows; `Memory`. A refusal
+    /// changes nothing. An ill-formed operation is found without memory.
+    fn apply_all(&mut self, ops: &[Op]) -> Result<(), Refusal>
+        ensures exact { result ≢ Err Refusal.Memory → result ≡ list_answer (capacity self.old) (content self.old) ops.now }
+        ensures memory { result ≡ Err Refusal.Memory → all_checked ops.now ≡ Ok tt }
+
+        ensures whole { result ≡ Ok tt → content self.new ≡ join (content self.old) (content_of ops.now) }
+        ensures none { result ≢ Ok tt → content self.new ≡ content self.old }
         ensures limit { capacity self.new ≡ capacity self.old };
 }

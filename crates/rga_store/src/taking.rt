@@ -3,13 +3,14 @@ ghost use Rattle.std.specs.Prelude.{◌≡◌, Ok, IsOk, OnOk, IfErr};
 ghost use Rattle.rga_ops.specs.Answer.{taken_one_by_one};
 
 use crate::taker::Taker;
+use crate::tree_store::TreeStore;
 use rga_ops::{Op, Refusal};
 
 /// Takes the operations one by one, each of which finds its place.
-pub(crate) fn take_one_by_one<T: Taker>(taker: &mut T, ops: &[Op]) -> Result<(), Refusal>
-    requires { IsOk (taken_one_by_one (T.capacity taker.old) (T.content taker.old) ops.now) }
-    ensures ok { OnOk result (taken_one_by_one (T.capacity taker.old) (T.content taker.old) ops.now ≡ Ok (T.content taker.new)) }
-    ensures limit { T.capacity taker.new ≡ T.capacity taker.old }
+pub(crate) fn take_one_by_one(taker: &mut TreeStore, ops: &[Op]) -> Result<(), Refusal>
+    requires { IsOk (taken_one_by_one taker.old.limit taker.old.content ops.now) }
+    ensures ok { OnOk result (taken_one_by_one taker.old.limit taker.old.content ops.now ≡ Ok taker.new.content) }
+    ensures limit { taker.new.limit ≡ taker.old.limit }
     ensures memory { IfErr result (λ e. e ≡ Refusal.Memory) }
 {
     for op in ops {

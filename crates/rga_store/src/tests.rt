@@ -6,6 +6,8 @@ use std::alloc::Global;
 use std::test::Fail;
 
 mod list_store;
+mod merging;
+mod whole_lists;
 
 fn id(counter: u64, replica: u16) -> Result<Id, Refusal> {
     if counter == 0 {

@@ -1,10 +1,11 @@
 //! What keeps a text.
-ghost use Rattle.std.specs.Prelude.{◌≡◌, ◌≤◌, ◌↔◌, ℕ, length, true, false, Ok, Err, IfOk, IfErr, MatchResult};
+ghost use Rattle.std.specs.Prelude.{◌≡◌, ◌≢◌, ◌≤◌, ◌↔◌, ℕ, length, true, false, Ok, Err, IfOk, IfErr, MatchResult};
 ghost use Rattle.std.specs.Option.{option_map};
 ghost use Rattle.std.specs.FinMap as finite_map;
 ghost use Rattle.std.specs.FinSet as finite_set;
 ghost use Rattle.rga_ops.specs.Identifier.{Identifier};
-ghost use Rattle.rga_ops.specs.Content.{nothing, known as known_ids, Holds, IsSound, clock as greatest_counter};
+ghost use Rattle.rga_ops.specs.Content.{nothing, join, known as known_ids, Holds, IsSound, clock as greatest_counter};
+ghost use Rattle.rga_ops.specs.ListAnswer.{merge_answer};
 ghost use Rattle.rga_ops.specs.Operations.{operations};
 ghost use Rattle.rga_ops.specs.Order.{order as order_of, waiting};
 ghost use Rattle.rga_ops.specs.declared.op.Op.TheVariants.{Delete};
@@ -19,7 +20,7 @@ pub const MAX_LIMIT: usize = 1000000;
 
 /// A store of a text: what it holds, and its elements in order. All that it answers follows from
 /// its content and its limit.
-pub trait TextStore: Taker + Sized {
+pub trait TextStore: Taker + Sized + Drop {
     /// An empty store that may know `limit` identifiers. `Range` unless that is 1 to `MAX_LIMIT`;
     /// then `Memory`.
     fn new(alloc: Global, limit: usize) -> Result<Self, Refusal>
@@ -78,6 +79,20 @@ pub trait TextStore: Taker + Sized {
     fn copy(&self) -> Result<Self, Refusal>
         ensures ok { IfOk result (λ s. (Self.content s ≡ Self.content self.now) × (Self.capacity s ≡ Self.capacity self.now)) }
         ensures memory { IfErr result (λ e. e ≡ Refusal.Memory) };
+
+    /// Takes all that another store holds, or nothing: the content becomes the join of both, the
+    /// limit stays.
+    ///
+    /// Refusals, in this order: `Conflict` with the least identifier that names two insertions;
+    /// `Full` where both together know more identifiers than the own limit allows; `Memory`. A
+    /// refusal changes nothing. The first two take no memory.
+    fn merge(&mut self, other: &Self) -> Result<(), Refusal>
+        ensures exact { result ≢ Err Refusal.Memory → result ≡ merge_answer (Self.capacity self.old) (Self.content self.old) (Self.content other.now) }
+        ensures memory { result ≡ Err Refusal.Memory → merge_answer (Self.capacity self.old) (Self.content self.old) (Self.content other.now) ≡ Ok tt }
+
+        ensures joined { result ≡ Ok tt → Self.content self.new ≡ join (Self.content self.old) (Self.content other.now) }
+        ensures same { result ≢ Ok tt → Self.content self.new ≡ Self.content self.old }
+        ensures limit { Self.capacity self.new ≡ Self.capacity self.old };
 
     /// The deletion of an inserted element takes no memory.
     ghost deletes_freely: { (s : Self) (id : Identifier) → finite_map.contains_key (Self.content s).inserted id ≡ true → ¬ (Self.may_grow s (Delete id)) };

@@ -1,5 +1,5 @@
-//! A store as a tree: nodes by identifier, and the children of each parent.
-ghost use Rattle.std.specs.Prelude.{◌≡◌, ◌≤◌, ◌⊎◌, ◌↔◌, length, Ok, Err, OnOk, OnErr, IfOk, IfErr, true, false, max};
+//! A store as a tree: a node for each identifier, and under it its children.
+ghost use Rattle.std.specs.Prelude.{◌≡◌, ◌≤◌, ◌+◌, ◌⊎◌, ◌↔◌, if◌then◌else◌, length, Ok, Err, OnOk, OnErr, IfOk, IfErr, true, false, max};
 ghost use Rattle.std.specs.Option.{option_map};
 ghost use Rattle.std.specs.FinMap as finite_map;
 ghost use Rattle.std.specs.FinSet as finite_set;
@@ -8,31 +8,35 @@ ghost use Rattle.rga_ops.specs.Answer.{answer as answer_to_op, facts};
 ghost use Rattle.rga_store.specs.Found.{facts_of};
 ghost use Rattle.rga_store.specs.Limit.{is_limit};
 
+mod taking_back;
+
 use crate::answer::{Found, answer_to};
-use crate::child_list::ChildList;
-use crate::children::{add_child, take_orphans};
-use crate::nodes::{Node, mark_node};
+use crate::list_answer::answer_to_list;
+use crate::merging::{count_unknown, least_conflict};
+use crate::nodes::{Node, add_child, ensure_node, mark, set_element};
 use crate::operations::operations_of;
 use crate::taker::Taker;
 use crate::taking::take_one_by_one;
 use crate::text_store::{MAX_LIMIT, TextStore};
 use crate::walk::walked;
-use indexmap::{IndexMap, IndexSet};
+use indexmap::IndexMap;
 use rga_ops::{Id, Op, Refusal, Taken};
 use std::alloc::Global;
 use std::marker::Model;
 
-/// The timestamped insertion tree of Attiya and others 2016: inserted elements by identifier, each
-/// with its children; the children of parents that are not there, among them the root, which never
-/// is; and the deletions that came before their insertions. A new insertion costs a search among
-/// its siblings, any other operation none.
+/// The timestamped insertion tree of Attiya and others 2016: a node for each identifier that is
+/// inserted, deleted or named as a parent, the root among these, and under each node its children.
+/// So what comes early, be it a deletion or a child, waits in the node of what it waits for. A new
+/// insertion costs a search among its siblings, any other operation none.
 #[derive(Drop)]
 pub struct TreeStore {
     alloc: Global,
     nodes: IndexMap<Id, Node>,
-    orphans: IndexMap<Id, ChildList>,
-    early: IndexSet<Id>,
     clock: u64,
+    /// How many identifiers are inserted.
+    inserted: usize,
+    /// How many identifiers are inserted, deleted or both.
+    known: usize,
     limit: usize,
 }
 
@@ -43,12 +47,12 @@ impl Model for TreeStore {
 
     ghost coded = { kept_code };
 
-    ghost use Rattle.rga_store.specs.Entries.{content_of_entries};
-    ghost use Rattle.rga_store.specs.Nodes.{entries_of, IsTree};
+    ghost use Rattle.rga_store.specs.Nodes.{content_of_nodes};
+    ghost use Rattle.rga_store.specs.Tree.{IsTree};
 
-    ghost view = { λ a. record { content = content_of_entries (entries_of a.nodes.entries) a.early.keys; limit = a.limit } };
+    ghost view = { λ a. record { content = content_of_nodes a.nodes.entries; limit = a.limit } };
 
-    ghost invariant = { λ a. IsTree a.nodes.entries a.orphans.entries a.early.keys a.clock a.limit };
+    ghost invariant = { λ a. IsTree a.nodes.entries a.clock a.inserted a.known a.limit };
 }
 
 impl Taker for TreeStore {
@@ -71,6 +75,11 @@ impl Taker for TreeStore {
             Op::Delete { id } => self.delete(*id),
         }
     }
+
+    fn apply_all(&mut self, ops: &[Op]) -> Result<(), Refusal> {
+        answer_to_list(self.alloc, self, ops)?;
+        self.take_whole(ops)
+    }
 }
 
 fn raise(clock: &mut u64, counter: u64)
@@ -78,6 +87,16 @@ fn raise(clock: &mut u64, counter: u64)
 {
     if *clock < counter {
         *clock = counter;
+    }
+}
+
+/// One more, unless it was counted.
+fn count_unless(counted: bool, count: &mut usize)
+    requires { (if counted then count.old else count.old + 1) ≤ 1000000 }
+    ensures { count.new ≡ (if counted then count.old else count.old + 1) }
+{
+    if !counted {
+        *count += 1;
     }
 }
 
@@ -93,23 +112,24 @@ impl TreeStore {
     fn find(&self, id: Id) -> Found
         ensures { facts_of result ≡ facts self.now.limit self.now.content id }
     {
-        let known = self.count();
+        let known = self.known;
+        let limit = self.limit;
         match self.nodes.get(&id) {
             Some(node) => {
-                let parent = node.parent;
-                let ch = node.ch;
+                let element = node.element;
+                let deleted = node.deleted;
                 Found {
-                    element: Some((parent, ch)),
-                    deleted: node.deleted,
+                    element,
+                    deleted,
                     known,
-                    limit: self.limit,
+                    limit,
                 }
             }
             None => Found {
                 element: None,
-                deleted: self.early.contains(&id),
+                deleted: false,
                 known,
-                limit: self.limit,
+                limit,
             },
         }
     }
@@ -117,13 +137,7 @@ impl TreeStore {
     fn element(&self, id: Id) -> Option<(Id, char)>
         ensures { result ≡ option_map (λ x. (x.parent, x.ch)) (finite_map.get self.now.content.inserted id) }
     {
-        match self.nodes.get(&id) {
-            Some(node) => {
-                let ch = node.ch;
-                Some((node.parent, ch))
-            }
-            None => None,
-        }
+        self.nodes.get(&id)?.element
     }
 
     fn has_deleted(&self, id: Id) -> bool
@@ -131,7 +145,7 @@ impl TreeStore {
     {
         match self.nodes.get(&id) {
             Some(node) => node.deleted,
-            None => self.early.contains(&id),
+            None => false,
         }
     }
 
@@ -141,11 +155,11 @@ impl TreeStore {
         ensures sound { IsSound self.now.content }
         ensures range { is_limit self.now.limit ≡ true }
     {
-        self.nodes.len() + self.early.len()
+        self.known
     }
 
-    /// A new insertion stands among its siblings, deleted where its deletion came early. Both
-    /// growths come first, so that a refused one changes nothing.
+    /// A new insertion stands among its siblings. Until it has its element, a refusal for want of
+    /// memory leaves no more than nodes that mean nothing.
     fn insert(&mut self, id: Id, parent: Id, ch: char) -> Result<Taken, Refusal>
         requires { answer_to_op self.old.limit self.old.content (Op.Insert id parent ch) ≡ Ok Taken.New }
         ensures ok { OnOk result (self.new.content ≡ join self.old.content (single (Op.Insert id parent ch))) }
@@ -153,22 +167,17 @@ impl TreeStore {
         ensures answer { (result ≡ Ok Taken.New) ⊎ (result ≡ Err Refusal.Memory) }
         ensures limit { self.new.limit ≡ self.old.limit }
     {
-        if self.nodes.reserve(1).is_err() {
-            return Err(Refusal::Memory);
-        }
-        add_child(self.alloc, &mut self.nodes, &mut self.orphans, parent, id)?;
-        let node = Node {
-            parent,
-            ch,
-            deleted: self.early.swap_remove(&id),
-            children: take_orphans(self.alloc, &mut self.orphans, id),
-        };
-        self.nodes.insert(id, node).unwrap();
+        let place = ensure_node(self.alloc, &mut self.nodes, id)?;
+        let above = ensure_node(self.alloc, &mut self.nodes, parent)?;
+        add_child(self.alloc, &mut self.nodes, above, parent, id)?;
+        let deleted = set_element(&mut self.nodes, place, id, parent, ch);
+        self.inserted += 1;
+        count_unless(deleted, &mut self.known);
         raise(&mut self.clock, id.counter());
         Ok(Taken::New)
     }
 
-    /// Marks an element, which takes no memory, or notes an early deletion.
+    /// Marks an identifier as deleted, which takes memory only where it has no node.
     fn delete(&mut self, id: Id) -> Result<Taken, Refusal>
         requires { answer_to_op self.old.limit self.old.content (Op.Delete id) ≡ Ok Taken.New }
         ensures ok { OnOk result (self.new.content ≡ join self.old.content (single (Op.Delete id))) }
@@ -177,13 +186,9 @@ impl TreeStore {
         ensures growth { result ≡ Err Refusal.Memory → finite_map.contains_key self.old.content.inserted id ≡ false }
         ensures limit { self.new.limit ≡ self.old.limit }
     {
-        if mark_node(&mut self.nodes, id) {
-            raise(&mut self.clock, id.counter());
-            return Ok(Taken::New);
-        }
-        if self.early.insert(id).is_err() {
-            return Err(Refusal::Memory);
-        }
+        let place = ensure_node(self.alloc, &mut self.nodes, id)?;
+        let inserted = mark(&mut self.nodes, place, id);
+        count_unless(inserted, &mut self.known);
         raise(&mut self.clock, id.counter());
         Ok(Taken::New)
     }
@@ -201,9 +206,9 @@ impl TextStore for TreeStore {
         Ok(TreeStore {
             alloc,
             nodes: IndexMap::new(alloc),
-            orphans: IndexMap::new(alloc),
-            early: IndexSet::new(alloc),
             clock: 0,
+            inserted: 0,
+            known: 0,
             limit,
         })
     }
@@ -239,16 +244,16 @@ impl TextStore for TreeStore {
     }
 
     fn order(&self) -> Result<Vec<Id>, Refusal> {
-        walked(self.alloc, &self.nodes, &self.orphans)
+        walked(self.alloc, &self.nodes)
     }
 
     fn waiting_count(&self) -> Result<usize, Refusal> {
-        let order = walked(self.alloc, &self.nodes, &self.orphans)?;
-        Ok(self.nodes.len() - order.as_slice().len())
+        let order = walked(self.alloc, &self.nodes)?;
+        Ok(self.inserted - order.as_slice().len())
     }
 
     fn ops(&self) -> Result<Vec<Op>, Refusal> {
-        operations_of(self.alloc, &self.nodes, &self.early)
+        operations_of(self.alloc, &self.nodes)
     }
 
     fn copy(&self) -> Result<TreeStore, Refusal> {
@@ -256,5 +261,16 @@ impl TextStore for TreeStore {
         let mut copy = TreeStore::new(self.alloc, self.limit)?;
         take_one_by_one(&mut copy, &ops)?;
         Ok(copy)
+    }
+
+    fn merge(&mut self, other: &TreeStore) -> Result<(), Refusal> {
+        if let Some(id) = least_conflict(&self.nodes, &other.nodes) {
+            return Err(Refusal::Conflict(id));
+        }
+        if count_unknown(&self.nodes, &other.nodes) > self.limit - self.known {
+            return Err(Refusal::Full);
+        }
+        let ops = other.ops()?;
+        self.take_whole(&ops)
     }
 }

@@ -8,8 +8,8 @@ ghost use Rattle.rga_ops.specs.Places.{visible};
 use rga_ops::{Id, Refusal};
 use rga_store::TextStore;
 
-/// The visible elements, in order.
-pub(crate) fn visible_elements<S: TextStore>(store: &S) -> Result<Vec<Id>, Refusal>
+/// The visible elements, in order. `Memory` alone.
+pub fn visible_elements<S: TextStore>(store: &S) -> Result<Vec<Id>, Refusal>
     ensures ok { IfOk result (λ ids. ids.items ≡ visible (S.content store.now)) }
     ensures memory { IfErr result (λ e. e ≡ Refusal.Memory) }
 {

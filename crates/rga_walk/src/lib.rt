@@ -15,5 +15,5 @@ mod place;
 mod tests;
 
 pub use characters::{text, visible_len};
-pub use elements::{element_at, position_of};
+pub use elements::{element_at, position_of, visible_elements};
 pub use place::place_of;

@@ -1,7 +1,7 @@
 use Rattle.std.proofs.Common.{◌≡◌, not, Bool, true, false, cond, ◌||◌, refl, sym, ap, ◌∙◌}
 use Rattle.std.specs.List.{list_any}
 use Rattle.rga_ops.proofs.IdentifierLaws.{is, is_swap, is_id-same}
-use Rattle.rga_store.proofs.EntryLaws.{any-ids}
+use Rattle.rga_store.proofs.ChildListLaws.{has-any}
 use Rattle.rga_store.proofs.ChildLaws.{on_ok}
 use Rattle.rga_store.proofs.child_list.put_among_many.Goals as goal
 
@@ -14,7 +14,7 @@ either false false = refl
 
 pub returns-clause-ok : goal.returns-clause-ok
 returns-clause-ok c = λ k.
-    any-ids c.insert.new.self.keys k
+    has-any c.insert.new.self.keys k
     ∙ (on_ok c.insert.result (c.is_err.ensures.negation ∙ ap not c.if-is_err.false) c.insert.ensures.updates).0 k
     ∙ either (is c.args.id k) (list_any (is k) c.args.set.now.keys)
-    ∙ (λ i. sym (any-ids c.args.set.now.keys k) i || (is_swap c.args.id k ∙ sym (is_id-same c.args.id k)) i)
+    ∙ (λ i. sym (has-any c.args.set.now.keys k) i || (is_swap c.args.id k ∙ sym (is_id-same c.args.id k)) i)

@@ -1,19 +1,18 @@
-use Rattle.std.proofs.Common.{◌++◌, [], map, ap, ◌∙◌}
+use Rattle.std.proofs.Common.{◌++◌, map, ap, ◌∙◌}
 use Rattle.std.specs.List.{filter_map}
 use Rattle.std.specs.FinSet as finite_set
 use Rattle.rga_ops.specs.Content.{Content}
 use Rattle.rga_ops.specs.Operations.{insertion_at, rising}
 use Rattle.rga_ops.proofs.OperationsLaws.{insertions_by_keys}
 use Rattle.rga_ops.specs.declared.op.Op.TheVariants.{Delete}
-use Rattle.rga_store.specs.Entries.{content_of_entries}
-use Rattle.rga_store.specs.Nodes.{entries_of}
+use Rattle.rga_store.specs.Nodes.{content_of_nodes}
 use Rattle.rga_store.proofs.operations.operations_of.Goals as goal
 
 pub returns-clause-ok : goal.returns-clause-ok
 returns-clause-ok c =
-    let held : Content = content_of_entries (entries_of c.args.nodes.now.entries) [] in
+    let held : Content = content_of_nodes c.args.nodes.now.entries in
     c.in_ok-push_deletions.ensures.ok
     ∙ (λ k. (c.in_ok-push_insertions.ensures.ok ∙ ap (λ xs. xs ++ filter_map (insertion_at held) c.deref.result.now) c.new-ops.ensures.items) k
     ++ map Delete ((c.deref-2.ensures.value ∙ c.in_ok-deleted.ensures.ok) k))
-    ∙ ap (λ xs. xs ++ map Delete (rising (finite_set.items (content_of_entries (entries_of c.args.nodes.now.entries) c.args.early.now.keys).deleted)))
+    ∙ ap (λ xs. xs ++ map Delete (rising (finite_set.items held.deleted)))
     (ap (filter_map (insertion_at held)) (c.deref.ensures.value ∙ c.in_ok-inserted.ensures.ok) ∙ insertions_by_keys held)

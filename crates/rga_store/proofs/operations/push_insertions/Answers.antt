@@ -5,14 +5,13 @@ use Rattle.std.proofs.lemmas.List.Elements.{filter_map-append}
 use Rattle.rga_ops.specs.Identifier.{Identifier}
 use Rattle.rga_ops.specs.Operations.{insertion_at}
 use Rattle.rga_ops.specs.declared.op.Op.{Op}
-use Rattle.rga_store.specs.Entries.{content_of_entries}
-use Rattle.rga_store.specs.Nodes.{entries_of}
+use Rattle.rga_store.specs.Nodes.{content_of_nodes}
 use Rattle.rga_store.proofs.operations.push_insertions.Goals.{in-Some+else-is_err, in_default}
 use Rattle.rga_store.proofs.operations.push_insertions.Goals as goal
 
 pub loop-id-preserved : goal.loop-id-preserved
 loop-id-preserved c =
-    let h : Identifier → Option Op = insertion_at (content_of_entries (entries_of c.args.nodes.now.entries) []) in
+    let h : Identifier → Option Op = insertion_at (content_of_nodes c.args.nodes.now.entries) in
     let xs : List Identifier = c.args.ids.now in
     let i : ℕ = c.loop-id.id-index in
     let x : Identifier = c.id-item.result in

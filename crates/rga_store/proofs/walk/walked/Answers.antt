@@ -1,56 +1,44 @@
 use Rattle.std.proofs.Common.{◌≡◌, ◌<◌, ◌+◌, ◌-◌, take, not, cond, List, [], ◌∷◌, ◌++◌, length, sym, ap, ◌∙◌, subst, arith, length-append}
-use Rattle.std.proofs.lemmas.List.{length-map}
-use Rattle.rga_store.specs.Entries.{Entry}
+use Rattle.std.specs.FinMap as finite_map
 use Rattle.rga_ops.specs.Identifier.{Identifier, root}
 use Rattle.rga_ops.specs.Content.{Content}
-use Rattle.rga_store.specs.Entries.{content_of_entries, ids_of}
-use Rattle.rga_store.specs.Nodes.{entries_of, kids}
-use Rattle.rga_store.proofs.EntryLaws.{contains_key-entries}
-use Rattle.rga_store.proofs.NodeLaws.{length-entries}
-use Rattle.rga_store.proofs.TreeLaws.{family_children}
-use Rattle.rga_store.proofs.WalkLaws.{IsWalk, AreChildren, walk_start, walk_step, walk_room, walk_order}
+use Rattle.rga_store.specs.Nodes.{content_of_nodes, kids}
+use Rattle.rga_store.proofs.WalkLaws.{IsWalk, walk_start, walk_step, walk_room, walk_order}
 use Rattle.rga_store.proofs.walk.walked.Goals as goal
 
 pub loop-id-init : goal.loop-id-init
 loop-id-init c =
-    let held : Content = content_of_entries (entries_of c.args.nodes.now.entries) [] in
-    let lists : Identifier → List Identifier = kids c.args.nodes.now.entries c.args.orphans.now.entries in
-    let w : AreChildren held lists = family_children (entries_of c.args.nodes.now.entries) (kids c.args.nodes.now.entries c.args.orphans.now.entries) c.requires.family c.requires.distinct c.requires.rising in
+    let held : Content = content_of_nodes c.args.nodes.now.entries in
+    let lists : Identifier → List Identifier = kids c.args.nodes.now.entries in
     subst (λ done. IsWalk held done c.push_children.new.stack.items) (sym c.in-Ok.ensures.items)
-    (subst (λ todo. IsWalk held [] todo) (sym (c.in_ok-push_children.ensures.ok ∙ ap (λ xs. xs ++ lists root) c.new-stack.ensures.items)) (walk_start held lists w))
+    (subst (λ todo. IsWalk held [] todo) (sym (c.in_ok-push_children.ensures.ok ∙ ap (λ xs. xs ++ lists root) c.new-stack.ensures.items)) (walk_start held lists c.requires.family c.requires.sound))
 
 -- the top is taken off, and done
-popped : (c : goal.In_ok-push_children-2) → IsWalk (content_of_entries (entries_of c.args.nodes.now.entries) []) c.loop-id.order.items (c.pop.new.self.items ++ c.in-Some.id ∷ [])
-popped c = subst (λ todo. IsWalk (content_of_entries (entries_of c.args.nodes.now.entries) []) c.loop-id.order.items todo) c.in-Some.ensures.items c.loop-id.invariant
+popped : (c : goal.In_ok-push_children-2) → IsWalk (content_of_nodes c.args.nodes.now.entries) c.loop-id.order.items (c.pop.new.self.items ++ c.in-Some.id ∷ [])
+popped c = subst (λ todo. IsWalk (content_of_nodes c.args.nodes.now.entries) c.loop-id.order.items todo) c.in-Some.ensures.items c.loop-id.invariant
 
 pushed : (c : goal.In_ok-push_children-2) → c.push.new.self.items ≡ c.loop-id.order.items ++ c.in-Some.id ∷ []
 pushed c = c.push.ensures.items ∙ ap (λ b. cond b (c.loop-id.order.items ++ c.in-Some.id ∷ []) c.loop-id.order.items) (c.is_err.ensures.negation ∙ ap not c.if-is_err.false)
 
-children_of : (c : goal.In_ok-push_children-2) → AreChildren (content_of_entries (entries_of c.args.nodes.now.entries) []) (kids c.args.nodes.now.entries c.args.orphans.now.entries)
-children_of c = family_children (entries_of c.args.nodes.now.entries) (kids c.args.nodes.now.entries c.args.orphans.now.entries) c.requires.family c.requires.distinct c.requires.rising
-
 pub loop-id-smaller : goal.loop-id-smaller
 loop-id-smaller c =
-    let es : List Entry = entries_of c.args.nodes.now.entries in
-    let room : length c.loop-id.order.items < length (ids_of es) =
-    walk_room (content_of_entries es []) (kids c.args.nodes.now.entries c.args.orphans.now.entries) (children_of c) c.loop-id.order.items c.pop.new.self.items c.in-Some.id (popped c) (ids_of es) (contains_key-entries es []) in
-    let few : length (ids_of es) ≡ length c.args.nodes.now.entries = length-map es (λ e. e.id) ∙ length-entries c.args.nodes.now.entries in
+    let held : Content = content_of_nodes c.args.nodes.now.entries in
+    let room : length c.loop-id.order.items < finite_map.len held.inserted =
+    walk_room held (kids c.args.nodes.now.entries) c.requires.family c.requires.sound c.loop-id.order.items c.pop.new.self.items c.in-Some.id (popped c) in
     let longer : length c.push.new.self.items ≡ length c.loop-id.order.items + 1 = ap length (pushed c) ∙ length-append c.loop-id.order.items (c.in-Some.id ∷ []) in
-    omega (arith, room, few, longer)
+    omega (arith, room, longer)
 
 pub loop-id-preserved : goal.loop-id-preserved
 loop-id-preserved c =
-    let held : Content = content_of_entries (entries_of c.args.nodes.now.entries) [] in
-    let lists : Identifier → List Identifier = kids c.args.nodes.now.entries c.args.orphans.now.entries in
+    let held : Content = content_of_nodes c.args.nodes.now.entries in
     subst (λ done. IsWalk held done c.push_children-in-Some.new.stack.items) (sym (pushed c))
     (subst (λ todo. IsWalk held (c.loop-id.order.items ++ c.in-Some.id ∷ []) todo) (sym c.in_ok-push_children-2.ensures.ok)
-    (walk_step held lists (children_of c) c.loop-id.order.items c.pop.new.self.items c.in-Some.id (popped c)))
+    (walk_step held (kids c.args.nodes.now.entries) c.requires.family c.requires.sound c.loop-id.order.items c.pop.new.self.items c.in-Some.id (popped c)))
 
 pub returns-clause-ok : goal.returns-clause-ok
 returns-clause-ok c =
-    let held : Content = content_of_entries (entries_of c.args.nodes.now.entries) [] in
-    let w : AreChildren held (kids c.args.nodes.now.entries c.args.orphans.now.entries) = family_children (entries_of c.args.nodes.now.entries) (kids c.args.nodes.now.entries c.args.orphans.now.entries) c.requires.family c.requires.distinct c.requires.rising in
+    let held : Content = content_of_nodes c.args.nodes.now.entries in
     let left : c.loop-id.stack.items ≡ [] =
     c.in_default-pop.ensures.items ∙ ap (λ xs. xs ++ []) (c.in_default-pop.ensures.rest ∙ ap (λ n. take (n - 1) c.loop-id.stack.items) c.in_default-pop.ensures.cases.0) in
-    walk_order held (kids c.args.nodes.now.entries c.args.orphans.now.entries) w c.loop-id.order.items
+    walk_order held (kids c.args.nodes.now.entries) c.requires.family c.requires.sound c.loop-id.order.items
     (subst (λ todo. IsWalk held c.loop-id.order.items todo) left c.loop-id.invariant)

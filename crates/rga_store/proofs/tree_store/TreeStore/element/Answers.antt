@@ -4,26 +4,22 @@ use Rattle.std.specs.FinMap as finite_map
 use Rattle.rga_ops.specs.Identifier.{Identifier}
 use Rattle.rga_ops.specs.Content.{Element}
 use Rattle.rga_store.specs.Kept.{Kept}
-use Rattle.rga_store.specs.declared.nodes.Node.{Node}
-use Rattle.rga_store.proofs.TreeLaws.{found_shown}
+use Rattle.rga_store.proofs.NodeLaws.{element_of, inserted_at, element_shown}
 use Rattle.rga_store.proofs.tree_store.TreeStore.element.Goals as goal
 
 shown : Option Element → Option (Identifier × ℕ)
 shown = option_map (λ x. (x.parent, x.ch))
 
-of_node : Option Node → Option (Identifier × ℕ)
-of_node = option_map (λ v. (v.parent, v.ch))
+pub returns-in_err-get : goal.returns-in_err-get
+unfolding shown
+returns-in_err-get c =
+    c.from_residual.ensures
+    ∙ sym (ap shown (ap (λ (v : Kept). finite_map.get v.content.inserted c.args.id) (sym c.self.view_is) ∙ inserted_at c.self.inside.nodes.entries c.self.invariant.apart c.args.id
+    ∙ ap element_of (sym c.get.ensures.value ∙ ap option_copied c.in_err-get.was)))
 
-pub returns-in-Some : goal.returns-in-Some
-unfolding shown of_node
-returns-in-Some c =
-    ap of_node (ap option_copied (sym c.in-Some.is) ∙ c.get.ensures.value)
-    ∙ sym (found_shown c.self.inside.nodes.entries c.self.inside.early.keys c.args.id)
-    ∙ ap (λ (v : Kept). shown (finite_map.get v.content.inserted c.args.id)) c.self.view_is
-
-pub returns-in-None : goal.returns-in-None
-unfolding shown of_node
-returns-in-None c =
-    ap of_node (ap option_copied (sym c.in-None.is) ∙ c.get.ensures.value)
-    ∙ sym (found_shown c.self.inside.nodes.entries c.self.inside.early.keys c.args.id)
-    ∙ ap (λ (v : Kept). shown (finite_map.get v.content.inserted c.args.id)) c.self.view_is
+pub returns : goal.returns
+unfolding shown
+returns c =
+    sym (ap shown (ap (λ (v : Kept). finite_map.get v.content.inserted c.args.id) (sym c.self.view_is) ∙ inserted_at c.self.inside.nodes.entries c.self.invariant.apart c.args.id
+    ∙ ap element_of (sym c.get.ensures.value ∙ ap option_copied c.in_ok-get.was))
+    ∙ element_shown c.in_ok-get.field-0.now.element)

@@ -1,0 +1,257 @@
+-- Local edits: the operations of an allowed splice, and of several in turn, are taken, and they change the text and the
+-- order at their place.
+use Rattle.std.proofs.Common.{◌≡◌, ℕ, ◌+◌, ◌≤◌, suc, Bool, true, false, cond, not, ◌&&◌, nat_le, nat_lt, leb-true, ltb-false, List, [], ◌∷◌, ◌++◌, map, take, drop, length, refl, sym, ap, ◌∙◌, subst, arith, drop_at, drop-drop, length-take-le}
+use Rattle.std.specs.Prelude.{Some, None, Ok, Err}
+use Rattle.std.specs.Option.{unwrap_or}
+use Rattle.std.specs.List.{slice_get}
+use Rattle.std.specs.FinSet as finite_set
+use Rattle.std.proofs.lemmas.Bool.{and_parts}
+use Rattle.std.proofs.lemmas.Option.{slice_get_within}
+use Rattle.rga_ops.specs.Identifier.{Identifier, identifier, root}
+use Rattle.rga_ops.specs.Content.{Content, known, clock, join, single, content_of}
+use Rattle.rga_ops.specs.Order.{order, text}
+use Rattle.rga_ops.specs.Places.{visible}
+use Rattle.rga_ops.specs.Splice.{spliced}
+use Rattle.rga_ops.specs.ListAnswer.{Verdict, and_check, union_answer, list_answer}
+use Rattle.rga_ops.proofs.VisibleLaws.{text_long}
+use Rattle.rga_ops.proofs.ListAnswerLaws.{union_taken-iff}
+use Rattle.rga_ops.proofs.NewestLaws.{newest_element, order-newest}
+use Rattle.rga_ops.proofs.DeletionLaws.{visible-deletion_at, order-deletion}
+use Rattle.rga_ops.specs.declared.op.Op.{Op}
+use Rattle.rga_ops.specs.declared.op.Op.TheVariants.{Insert, Delete}
+use Rattle.rga_ops.specs.declared.refusal.Refusal.TheVariants.{Full, Range, Clock}
+use Rattle.rga_ops.specs.declared.splice.Splice.{Splice}
+use Rattle.rga_ops.proofs.AnswerLaws.{passed, bad}
+use Rattle.rga_doc.specs.LocalEdit.{left_of, chain, splice_operations, splices_operations, text_after, are_falling, new_characters, greatest_counter, edit_answer, splice_answer, splices_answer, new_ids, put_row_behind}
+use Rattle.rga_doc.proofs.SplicedLists.{cut, length-cut, same_begin, get_at_drop, same_left, put_no_row, put_row_on}
+use Rattle.rga_doc.proofs.EditSteps.{Leads, leads_nowhere, leads_on, Shows, shows_itself, shows_on, shows_begin, shows_long, deletion_leads, deletion_shows, IsLeft, left_is, newer, insertion_leads, insertion_visible, insertion_shows, not_in_order}
+
+-- the operations of several splices, by the visible elements of the old text alone
+abbrev pub drafted : ℕ → List Identifier → ℕ → List Splice → List Op
+drafted replica elements last [] = []
+drafted replica elements last (s ∷ splices) =
+    (map Delete (drop s.lo (take s.hi elements)) ++ chain replica last (left_of elements s.lo) s.put.items)
+    ++ drafted replica elements (last + length s.put.items) splices
+
+-- ---- deletions of visible elements in a row
+
+record Deletes (c : Content) (lo hi : ℕ) (ids : List Identifier) : Type 0 where
+  outcome : Content
+  leads : Leads c outcome (map Delete ids) 0
+  shows : Shows c outcome lo hi [] []
+  stays : order outcome ≡ order c
+
+deletes : (ids : List Identifier) (c : Content) (lo hi : ℕ) (rest : List Identifier) → lo ≤ length (visible c) → drop lo (visible c) ≡ ids ++ rest → hi ≡ lo + length ids → Deletes c lo hi ids
+deletes [] c lo hi rest within split at =
+    let here : lo ≡ hi = omega (arith, at) in
+    record { outcome = c; leads = leads_nowhere c; shows = subst (λ n. Shows c c lo n [] []) here (shows_itself c lo); stays = refl }
+deletes (id ∷ ids) c lo hi rest within split at =
+    let here : slice_get (visible c) lo ≡ Some id = get_at_drop (visible c) lo id (ids ++ rest) split in
+    let d : Content = join c (single (Delete id)) in
+    let first : Shows c d lo (lo + 1) [] [] = deletion_shows c id lo here in
+    let further : drop lo (visible d) ≡ ids ++ rest =
+    ap (drop lo) (visible-deletion_at c id lo here) ∙ drop_at (take lo (visible c)) (drop (lo + 1) (visible c)) lo (length-take-le lo (visible c) within)
+    ∙ sym (drop-drop 1 lo (visible c)) ∙ ap (drop 1) split in
+    let later = deletes ids d lo (lo + length ids) rest (shows_long c d lo (lo + 1) [] [] within first) further refl in
+    record {
+      outcome = later.outcome;
+      leads = leads_on c d later.outcome (Delete id ∷ []) (map Delete ids) 0 0 (deletion_leads c id lo here) later.leads;
+      shows = shows_on c d later.outcome lo (lo + 1) lo (lo + length ids) (length ids) hi [] [] [] [] within refl (omega arith) refl (omega (arith, at)) first later.shows;
+      stays = later.stays ∙ order-deletion c id;
+    }
+
+-- ---- insertions in a row, each newer than all before
+
+record Inserts (c : Content) (replica lo last : ℕ) (after : Identifier) (put : List ℕ) : Type 0 where
+  outcome : Content
+  leads : Leads c outcome (chain replica last after put) (length put)
+  shows : Shows c outcome lo lo (new_ids replica last put) put
+  stands : order outcome ≡ put_row_behind after (new_ids replica last put) (order c)
+
+inserts : (put : List ℕ) (c : Content) (replica lo last : ℕ) (after : Identifier) → last ≡ clock c → lo ≤ length (visible c) → after ≡ left_of (visible c) lo → Inserts c replica lo last after put
+inserts [] c replica lo last after now within is =
+    record { outcome = c; leads = leads_nowhere c; shows = shows_itself c lo; stands = sym (put_no_row after (order c)) }
+inserts (ch ∷ put) c replica lo last after now within is =
+    let id : Identifier = identifier (last + 1) replica in
+    let next : last + 1 ≡ clock c + 1 = ap (λ n. n + 1) now in
+    let at : IsLeft c lo after = left_is c lo after within is in
+    let d : Content = join c (single (Insert id after ch)) in
+    let first : Shows c d lo lo (id ∷ []) (ch ∷ []) = insertion_shows c id after ch lo next at in
+    let leads : Leads c d (Insert id after ch ∷ []) 1 = insertion_leads c id after ch lo next at in
+    let begins : drop lo (visible d) ≡ id ∷ drop lo (visible c) =
+    ap (drop lo) (insertion_visible c id after ch lo next at) ∙ drop_at (take lo (visible c)) (id ∷ drop lo (visible c)) lo (length-take-le lo (visible c) within) in
+    let here : slice_get (visible d) lo ≡ Some id = get_at_drop (visible d) lo id (drop lo (visible c)) begins in
+    let newest = newer c id after ch lo next at in
+    let row : List Identifier = new_ids replica (last + 1) put in
+    let later = inserts put d replica (suc lo) (last + 1) id (next ∙ sym leads.time) (slice_get_within (visible d) lo id here) (sym (ap (λ o. unwrap_or o root) here)) in
+    record {
+      outcome = later.outcome;
+      leads = subst (λ n. Leads c later.outcome (chain replica last after (ch ∷ put)) n) (one_more (length put)) (leads_on c d later.outcome (Insert id after ch ∷ []) (chain replica (last + 1) id put) 1 (length put) leads later.leads);
+      shows = shows_on c d later.outcome lo lo (suc lo) (suc lo) 0 lo (id ∷ []) row (ch ∷ []) put within refl (omega arith) (omega arith) (omega arith) first later.shows;
+      stands =
+          later.stands ∙ ap (put_row_behind id row) (order-newest c id newest after ch)
+          ∙ put_row_on id row (newest_element c id newest) after (order c) (not_in_order c id after ch lo next at);
+    }
+  where
+    one_more : (n : ℕ) → 1 + n ≡ suc n
+    one_more n = omega arith
+
+-- ---- one splice
+
+-- what the operations of a splice lead to, and what it shows
+record SplicesAt (c : Content) (replica lo hi : ℕ) (put : List ℕ) : Type 0 where
+  outcome : Content
+  leads : Leads c outcome (splice_operations replica c lo hi put) (length put)
+  shows : Shows c outcome lo hi (new_ids replica (clock c) put) put
+  stands : order outcome ≡ put_row_behind (left_of (visible c) lo) (new_ids replica (clock c) put) (order c)
+
+-- the deletions, and then the insertions
+splice_of : (c : Content) (replica lo hi : ℕ) (put : List ℕ) → lo ≤ length (visible c) → (gone : Deletes c lo hi (drop lo (take hi (visible c)))) → Inserts gone.outcome replica lo (clock c) (left_of (visible c) lo) put → SplicesAt c replica lo hi put
+splice_of c replica lo hi put reaches gone come =
+    let ids : List Identifier = new_ids replica (clock c) put in
+    let after : Identifier = left_of (visible c) lo in
+    record {
+      outcome = come.outcome;
+      leads = subst (λ n. Leads c come.outcome (splice_operations replica c lo hi put) n) (no_more (length put))
+          (leads_on c gone.outcome come.outcome (map Delete (drop lo (take hi (visible c)))) (chain replica (clock c) after put) 0 (length put) gone.leads come.leads);
+      shows = shows_on c gone.outcome come.outcome lo hi lo lo 0 hi [] ids [] put reaches refl (omega arith) (omega arith) (omega arith) gone.shows come.shows;
+      stands = come.stands ∙ ap (put_row_behind after ids) gone.stays;
+    }
+  where
+    no_more : (n : ℕ) → 0 + n ≡ n
+    no_more n = omega arith
+
+splices_at : (c : Content) (replica lo hi : ℕ) (put : List ℕ) → lo ≤ hi → hi ≤ length (visible c) → SplicesAt c replica lo hi put
+splices_at c replica lo hi put up within =
+    let reaches : lo ≤ length (visible c) = omega (arith, up, within) in
+    let gone : Deletes c lo hi (drop lo (take hi (visible c))) =
+    deletes (drop lo (take hi (visible c))) c lo hi (drop hi (visible c)) reaches (cut (visible c) lo hi up within) (length-cut (visible c) lo hi up within) in
+    let now : clock c ≡ clock gone.outcome = omega (arith, gone.leads.time) in
+    let begins : take lo (visible c) ≡ take lo (visible gone.outcome) = sym (shows_begin c gone.outcome lo hi [] [] reaches gone.shows) in
+    splice_of c replica lo hi put reaches gone
+    (inserts put gone.outcome replica lo (clock c) (left_of (visible c) lo) now (shows_long c gone.outcome lo hi [] [] reaches gone.shows) (same_left (visible c) (visible gone.outcome) lo begins))
+
+-- ---- what is true of an allowed edit
+
+-- what is answered where there is room
+abbrev ranged : Content → Bool → ℕ → Verdict
+ranged c in_range new = cond (not in_range) (Err Range) (cond (nat_lt 0 new && nat_lt greatest_counter (clock c + new)) (Err Clock) (Ok tt))
+
+allowed : (limit : ℕ) (c : Content) (in_range : Bool) (new : ℕ) → edit_answer limit c in_range new ≡ Ok tt → (finite_set.len (known c) + new ≤ limit) × (in_range ≡ true)
+allowed limit c in_range new h =
+    elim (nat_lt limit (finite_set.len (known c) + new)) as (λ b. nat_lt limit (finite_set.len (known c) + new) ≡ b → cond b (Err Full) (ranged c in_range new) ≡ passed → (finite_set.len (known c) + new ≤ limit) × (in_range ≡ true)) [
+      | true ↦ λ t h. let clash : bad Full ≡ passed = h in absurd (cc)
+      | false ↦ λ f h. (ltb-false limit (finite_set.len (known c) + new) f, in_it in_range h)
+    ] refl h
+  where
+    in_it : (b : Bool) → ranged c b new ≡ passed → b ≡ true
+    in_it true h = refl
+    in_it false h = let clash : bad Range ≡ passed = h in absurd (cc)
+
+-- operations that lead to another content are taken where that has no more identifiers than the limit
+taken_if : (limit : ℕ) (c d : Content) (ops : List Op) (new : ℕ) → Leads c d ops new → finite_set.len (known c) + new ≤ limit → list_answer limit c ops ≡ Ok tt
+taken_if limit c d ops new s room =
+    let fits : finite_set.len (known (join c (content_of ops))) ≤ limit = subst (λ e. finite_set.len (known e) ≤ limit) s.joined (omega (arith, s.size, room)) in
+    (λ j. and_check (s.well_formed j) (union_answer limit (s.free j) (join c (content_of ops))))
+    ∙ (union_taken-iff limit None (join c (content_of ops))).1 (refl, fits)
+
+-- ---- the laws of one splice
+
+splicing : (limit replica lo hi : ℕ) (c : Content) (put : List ℕ) → splice_answer limit c lo hi put ≡ Ok tt → SplicesAt c replica lo hi put × (finite_set.len (known c) + length put ≤ limit)
+splicing limit replica lo hi c put h =
+    let s = allowed limit c (nat_le lo hi && nat_le hi (length (text c))) (length put) h in
+    let parts = and_parts (nat_le lo hi) (nat_le hi (length (text c))) s.1 in
+    let within : hi ≤ length (text c) = leb-true hi (length (text c)) parts.1 in
+    (splices_at c replica lo hi put (leb-true lo hi parts.0) (omega (arith, within, text_long c)), s.0)
+
+pub splice_taken : (limit replica lo hi : ℕ) (c : Content) (put : List ℕ) → splice_answer limit c lo hi put ≡ Ok tt → list_answer limit c (splice_operations replica c lo hi put) ≡ Ok tt
+splice_taken limit replica lo hi c put h =
+    let s = splicing limit replica lo hi c put h in
+    taken_if limit c s.0.outcome (splice_operations replica c lo hi put) (length put) s.0.leads s.1
+
+pub splice_text : (limit replica lo hi : ℕ) (c : Content) (put : List ℕ) → splice_answer limit c lo hi put ≡ Ok tt → text (join c (content_of (splice_operations replica c lo hi put))) ≡ spliced (text c) lo hi put
+splice_text limit replica lo hi c put h =
+    let s = splicing limit replica lo hi c put h in
+    ap text (sym s.0.leads.joined) ∙ s.0.shows.characters
+
+pub splice_order : (limit replica lo hi : ℕ) (c : Content) (put : List ℕ) → splice_answer limit c lo hi put ≡ Ok tt → order (join c (content_of (splice_operations replica c lo hi put))) ≡ put_row_behind (left_of (visible c) lo) (new_ids replica (clock c) put) (order c)
+splice_order limit replica lo hi c put h =
+    let s = splicing limit replica lo hi c put h in
+    ap order (sym s.0.leads.joined) ∙ s.0.stands
+
+-- ---- several splices in turn
+
+-- the first of the splices keeps within the bound, and the others before it
+record Falls (s : Splice) (splices : List Splice) (bound : ℕ) : Type 0 where
+  up : s.lo ≤ s.hi
+  within : s.hi ≤ bound
+  further : are_falling s.lo splices ≡ true
+
+falls_first : (s : Splice) (splices : List Splice) (bound : ℕ) → are_falling bound (s ∷ splices) ≡ true → Falls s splices bound
+falls_first s splices bound h =
+    let parts = and_parts (nat_le s.lo s.hi && nat_le s.hi bound) (are_falling s.lo splices) h in
+    let places = and_parts (nat_le s.lo s.hi) (nat_le s.hi bound) parts.0 in
+    record { up = leb-true s.lo s.hi places.0; within = leb-true s.hi bound places.1; further = parts.1 }
+
+record SplicesAll (c : Content) (replica : ℕ) (splices : List Splice) : Type 0 where
+  outcome : Content
+  leads : Leads c outcome (splices_operations replica c splices) (new_characters splices)
+  reads : text outcome ≡ text_after (text c) splices
+
+splices_all : (splices : List Splice) (c : Content) (replica bound : ℕ) → bound ≤ length (visible c) → are_falling bound splices ≡ true → SplicesAll c replica splices
+splices_all [] c replica bound reaches falling = record { outcome = c; leads = leads_nowhere c; reads = refl }
+splices_all (s ∷ splices) c replica bound reaches falling =
+    let falls = falls_first s splices bound falling in
+    let here : s.hi ≤ length (visible c) = omega (arith, falls.within, reaches) in
+    let low : s.lo ≤ length (visible c) = omega (arith, falls.up, here) in
+    let one = splices_at c replica s.lo s.hi s.put.items falls.up here in
+    let own : List Op = splice_operations replica c s.lo s.hi s.put.items in
+    let later = splices_all splices one.outcome replica s.lo (shows_long c one.outcome s.lo s.hi (new_ids replica (clock c) s.put.items) s.put.items low one.shows) falls.further in
+    record {
+      outcome = later.outcome;
+      leads = subst (λ d. Leads c later.outcome (own ++ splices_operations replica d splices) (length s.put.items + new_characters splices)) one.leads.joined
+          (leads_on c one.outcome later.outcome own (splices_operations replica one.outcome splices) (length s.put.items) (new_characters splices) one.leads later.leads);
+      reads = later.reads ∙ ap (λ chars. text_after chars splices) one.shows.characters;
+    }
+
+editing : (limit replica : ℕ) (c : Content) (splices : List Splice) → splices_answer limit c splices ≡ Ok tt → SplicesAll c replica splices × (finite_set.len (known c) + new_characters splices ≤ limit)
+editing limit replica c splices h =
+    let s = allowed limit c (are_falling (length (text c)) splices) (new_characters splices) h in
+    (splices_all splices c replica (length (text c)) (omega (arith, text_long c)) s.1, s.0)
+
+pub splices_taken : (limit replica : ℕ) (c : Content) (splices : List Splice) → splices_answer limit c splices ≡ Ok tt → list_answer limit c (splices_operations replica c splices) ≡ Ok tt
+splices_taken limit replica c splices h =
+    let s = editing limit replica c splices h in
+    taken_if limit c s.0.outcome (splices_operations replica c splices) (new_characters splices) s.0.leads s.1
+
+pub splices_text : (limit replica : ℕ) (c : Content) (splices : List Splice) → splices_answer limit c splices ≡ Ok tt → text (join c (content_of (splices_operations replica c splices))) ≡ text_after (text c) splices
+splices_text limit replica c splices h =
+    let s = editing limit replica c splices h in
+    ap text (sym s.0.leads.joined) ∙ s.0.reads
+
+-- ---- drafts
+
+-- up to the bound the visible elements are those of the old text, and all further splices are there
+drafted_from : (splices : List Splice) (c : Content) (replica : ℕ) (elements : List Identifier) (last bound : ℕ) → last ≡ clock c → bound ≤ length (visible c) → take bound (visible c) ≡ take bound elements → are_falling bound splices ≡ true → splices_operations replica c splices ≡ drafted replica elements last splices
+drafted_from [] c replica elements last bound now reaches same falling = refl
+drafted_from (s ∷ splices) c replica elements last bound now reaches same falling =
+    let falls = falls_first s splices bound falling in
+    let here : s.hi ≤ length (visible c) = omega (arith, falls.within, reaches) in
+    let low : s.lo ≤ length (visible c) = omega (arith, falls.up, here) in
+    let put : List ℕ = s.put.items in
+    let one = splices_at c replica s.lo s.hi put falls.up here in
+    let ids : List Identifier = new_ids replica (clock c) put in
+    let front : take s.hi (visible c) ≡ take s.hi elements = same_begin (visible c) elements s.hi bound falls.within same in
+    let before : take s.lo (visible c) ≡ take s.lo elements = same_begin (visible c) elements s.lo s.hi falls.up front in
+    let after : left_of (visible c) s.lo ≡ left_of elements s.lo = same_left (visible c) elements s.lo before in
+    let begins : take s.lo (visible one.outcome) ≡ take s.lo (visible c) = shows_begin c one.outcome s.lo s.hi ids put low one.shows in
+    let later : splices_operations replica one.outcome splices ≡ drafted replica elements (last + length put) splices =
+    drafted_from splices one.outcome replica elements (last + length put) s.lo (ap (λ n. n + length put) now ∙ sym one.leads.time) (shows_long c one.outcome s.lo s.hi ids put low one.shows) (begins ∙ before) falls.further in
+    ap (λ d. splice_operations replica c s.lo s.hi put ++ splices_operations replica d splices) (sym one.leads.joined)
+    ∙ (λ j. (map Delete (drop s.lo (front j)) ++ chain replica (sym now j) (after j) put) ++ later j)
+
+-- the operations of several splices, each on what the ones before left, are those by the old text alone
+pub splices_drafted : (limit replica : ℕ) (c : Content) (splices : List Splice) → splices_answer limit c splices ≡ Ok tt → splices_operations replica c splices ≡ drafted replica (visible c) (clock c) splices
+splices_drafted limit replica c splices h =
+    let s = allowed limit c (are_falling (length (text c)) splices) (new_characters splices) h in
+    drafted_from splices c replica (visible c) (clock c) (length (text c)) refl (omega (arith, text_long c)) refl s.1

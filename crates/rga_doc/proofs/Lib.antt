@@ -1,0 +1,4 @@
+pub mod SplicedLists
+pub mod EditSteps
+pub mod EditLaws
+pub mod EditAnswers

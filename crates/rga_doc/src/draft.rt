@@ -1,0 +1,78 @@
+//! The operations of an edit that is not taken yet.
+ghost use Rattle.std.specs.Prelude.{◌≡◌, ◌<◌, ◌≤◌, ◌+◌, ◌++◌, map, take, drop, length, OnOk, IfErr};
+ghost use Rattle.rga_doc.specs.LocalEdit.{chain, left_of, greatest_counter};
+
+use rga_ops::{Id, Op, Refusal};
+
+/// Operations in the order in which they are made, and what names the next insertion.
+#[derive(Drop)]
+pub(crate) struct Draft {
+    pub(crate) ops: Vec<Op>,
+    pub(crate) replica: u16,
+    /// The last counter that is in use.
+    pub(crate) last: u64,
+    pub(crate) ghost numbered: { 1 ≤ replica },
+}
+
+impl Draft {
+    /// The operations of a splice, by the visible elements of the text that its places are meant in.
+    pub(crate) fn splice(
+        &mut self,
+        elements: &[Id],
+        lo: usize,
+        hi: usize,
+        put: &[char],
+    ) -> Result<(), Refusal>
+        requires ordered { lo ≤ hi }
+        requires in_text { hi ≤ length elements.now }
+        requires counters { 0 < length put.now → self.old.last + length put.now ≤ greatest_counter }
+        ensures ops { OnOk result (self.new.ops.items ≡ self.old.ops.items ++ (map Op.Delete (drop lo (take hi elements.now)) ++ chain self.old.replica self.old.last (left_of elements.now lo) put.now)) }
+        ensures last { OnOk result (self.new.last ≡ self.old.last + length put.now) }
+        ensures replica { self.new.replica ≡ self.old.replica }
+        ensures memory { IfErr result (λ e. e ≡ Refusal.Memory) }
+    {
+        self.delete(&elements[lo..hi])?;
+        let after = if lo == 0 { Id::ROOT } else { elements[lo - 1] };
+        self.insert(after, put)
+    }
+
+    /// A deletion of each element.
+    fn delete(&mut self, elements: &[Id]) -> Result<(), Refusal>
+        ensures ops { OnOk result (self.new.ops.items ≡ self.old.ops.items ++ map Op.Delete elements.now) }
+        ensures last { self.new.last ≡ self.old.last }
+        ensures replica { self.new.replica ≡ self.old.replica }
+        ensures memory { IfErr result (λ e. e ≡ Refusal.Memory) }
+    {
+        for id in elements {
+            if self.ops.push(Op::Delete { id: *id }).is_err() {
+                return Err(Refusal::Memory);
+            }
+        }
+        Ok(())
+    }
+
+    /// One new element for each character, the first after the given one.
+    fn insert(&mut self, after: Id, put: &[char]) -> Result<(), Refusal>
+        requires { 0 < length put.now → self.old.last + length put.now ≤ greatest_counter }
+        ensures ops { OnOk result (self.new.ops.items ≡ self.old.ops.items ++ chain self.old.replica self.old.last after put.now) }
+        ensures last { OnOk result (self.new.last ≡ self.old.last + length put.now) }
+        ensures replica { self.new.replica ≡ self.old.replica }
+        ensures memory { IfErr result (λ e. e ≡ Refusal.Memory) }
+    {
+        let mut parent = after;
+        for ch in put {
+            let id = Id::new(self.last + 1, self.replica)?;
+            let op = Op::Insert {
+                id,
+                parent,
+                ch: *ch,
+            };
+            if self.ops.push(op).is_err() {
+                return Err(Refusal::Memory);
+            }
+            self.last += 1;
+            parent = id;
+        }
+        Ok(())
+    }
+}

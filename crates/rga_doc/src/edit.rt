@@ -1,0 +1,146 @@
+//! Edits by place.
+ghost use Rattle.std.specs.Prelude.{◌≡◌, ◌⊎◌, ◌+◌, ◌≤◌, ◌&&◌, true, nat_lt, min, [], if◌then◌else◌, length, Ok, Err, IfOk, IfErr, OnOk, OnErr};
+ghost use Rattle.std.specs.FinSet as finite_set;
+ghost use Rattle.rga_ops.specs.Content.{join, content_of, known, clock};
+ghost use Rattle.rga_ops.specs.Order.{order, text as text_of};
+ghost use Rattle.rga_ops.specs.Places.{visible};
+ghost use Rattle.rga_ops.specs.Splice.{spliced};
+ghost use Rattle.rga_store.specs.Limit.{is_limit};
+ghost use Rattle.rga_doc.specs.Document.{store_of, replica_of};
+ghost use Rattle.rga_doc.specs.LocalEdit.{splice_operations, splices_operations, splice_answer, splices_answer, text_after, are_falling, new_characters, greatest_counter, left_of, new_ids, put_row_behind};
+
+use crate::doc::Doc;
+use crate::draft::Draft;
+use rga_ops::{Id, Op, Refusal, Splice};
+use rga_store::{Taker, TextStore};
+use rga_walk::visible_elements;
+
+impl<S: TextStore> Doc<S> {
+    /// Replaces the characters `lo` to `hi - 1` of the text by `put`, and answers the operations:
+    /// deletions of the visible elements there, in order, and then insertions with counters that go
+    /// on from the clock, the first after the visible element `lo - 1`, each further one after the
+    /// one before it (the local insertion of Attiya and others 2016).
+    ///
+    /// Refusals, in this order: `Full` where the new characters exceed the limit; `Range` where
+    /// `lo` is above `hi` or `hi` above the length of the text; `Clock` where there are new
+    /// characters and not that many counters; `Memory`. A refusal changes nothing.
+    pub fn splice(&mut self, lo: usize, hi: usize, put: &[char]) -> Result<Vec<Op>, Refusal>
+        ensures allowed { OnOk result (splice_answer (S.capacity (store_of self.old)) (S.content (store_of self.old)) lo hi put.now ≡ Ok tt) }
+        ensures refused { IfErr result (λ e. (e ≡ Refusal.Memory)
+            ⊎ (splice_answer (S.capacity (store_of self.old)) (S.content (store_of self.old)) lo hi put.now ≡ Err e)) }
+
+        ensures operations { IfOk result (λ ops. ops.items ≡ splice_operations (replica_of self.old) (S.content (store_of self.old)) lo hi put.now) }
+        ensures content { IfOk result (λ ops. S.content (store_of self.new) ≡ join (S.content (store_of self.old)) (content_of ops.items)) }
+        ensures text { OnOk result (text_of (S.content (store_of self.new)) ≡ spliced (text_of (S.content (store_of self.old))) lo hi put.now) }
+        // The new elements stand in a row directly behind their left neighbour, whatever stood there.
+        ensures place { OnOk result (order (S.content (store_of self.new)) ≡ put_row_behind (left_of (visible (S.content (store_of self.old))) lo) (new_ids (replica_of self.old) (clock (S.content (store_of self.old))) put.now) (order (S.content (store_of self.old)))) }
+
+        ensures same { OnErr result (S.content (store_of self.new) ≡ S.content (store_of self.old)) }
+        ensures limit { S.capacity (store_of self.new) ≡ S.capacity (store_of self.old) }
+        ensures replica { replica_of self.new ≡ replica_of self.old }
+    {
+        self.check_room(put.len())?;
+        let elements = visible_elements(&self.store)?;
+        if lo > hi || hi > elements.as_slice().len() {
+            return Err(Refusal::Range);
+        }
+        self.check_counters(put.len())?;
+        let mut draft = self.draft();
+        draft.splice(&elements, lo, hi, put)?;
+        self.store.apply_all(&draft.ops)?;
+        Ok(draft.ops)
+    }
+
+    /// Several splices at once, of places that fall and do not overlap: each ends at or before the
+    /// begin of the one before it. The places are meant in the old text; the splices are done in
+    /// the order given.
+    ///
+    /// Refusals, in this order, for all splices together: `Full`, `Range` (of a place, or of two
+    /// that do not fall), `Clock`, `Memory`. A refusal changes nothing.
+    pub fn splices(&mut self, splices: &[Splice]) -> Result<Vec<Op>, Refusal>
+        ensures allowed { OnOk result (splices_answer (S.capacity (store_of self.old)) (S.content (store_of self.old)) splices.now ≡ Ok tt) }
+        ensures refused { IfErr result (λ e. (e ≡ Refusal.Memory)
+            ⊎ (splices_answer (S.capacity (store_of self.old)) (S.content (store_of self.old)) splices.now ≡ Err e)) }
+
+        ensures operations { IfOk result (λ ops. ops.items ≡ splices_operations (replica_of self.old) (S.content (store_of self.old)) splices.now) }
+        ensures content { IfOk result (λ ops. S.content (store_of self.new) ≡ join (S.content (store_of self.old)) (content_of ops.items)) }
+        ensures text { OnOk result (text_of (S.content (store_of self.new)) ≡ text_after (text_of (S.content (store_of self.old))) splices.now) }
+
+        ensures same { OnErr result (S.content (store_of self.new) ≡ S.content (store_of self.old)) }
+        ensures limit { S.capacity (store_of self.new) ≡ S.capacity (store_of self.old) }
+        ensures replica { replica_of self.new ≡ replica_of self.old }
+    {
+        let new = count_characters(splices);
+        self.check_room(new)?;
+        let elements = visible_elements(&self.store)?;
+        check_falling(elements.as_slice().len(), splices)?;
+        self.check_counters(new)?;
+        let mut draft = self.draft();
+        for splice in splices {
+            draft.splice(&elements, splice.lo, splice.hi, &splice.put)?;
+        }
+        self.store.apply_all(&draft.ops)?;
+        Ok(draft.ops)
+    }
+
+    /// `Full` unless the limit leaves room for so many more. The store says with its limit that this
+    /// is in range.
+    fn check_room(&self, new: usize) -> Result<(), Refusal>
+        ensures answer { result ≡ (if nat_lt (S.capacity (store_of self.now)) (finite_set.len (known (S.content (store_of self.now))) + new) then Err Refusal.Full else Ok tt) }
+        ensures limited { is_limit (S.capacity (store_of self.now)) ≡ true }
+    {
+        if new > self.store.limit() - self.store.known() {
+            return Err(Refusal::Full);
+        }
+        Ok(())
+    }
+
+    /// `Clock` where there are new characters and not that many counters above the clock.
+    fn check_counters(&self, new: usize) -> Result<(), Refusal>
+        ensures { result ≡ (if nat_lt 0 new && nat_lt greatest_counter (clock (S.content (store_of self.now)) + new) then Err Refusal.Clock else Ok tt) }
+    {
+        if new as u64 > Id::MAX_COUNTER.saturating_sub(self.store.clock()) {
+            return Err(Refusal::Clock);
+        }
+        Ok(())
+    }
+
+    /// An edit with no operations yet.
+    fn draft(&self) -> Draft
+        ensures ops { result.ops.items ≡ [] }
+        ensures replica { result.replica ≡ replica_of self.now }
+        ensures last { result.last ≡ clock (S.content (store_of self.now)) }
+    {
+        Draft {
+            ops: Vec::new(self.alloc),
+            replica: self.replica,
+            last: self.store.clock(),
+        }
+    }
+}
+
+/// How many characters the splices put; at most the greatest number.
+fn count_characters(splices: &[Splice]) -> usize
+    ensures { result ≡ min (new_characters splices.now) 18446744073709551615 }
+{
+    let mut count: usize = 0;
+    for splice in splices {
+        count = count.saturating_add(splice.put.len());
+    }
+    count
+}
+
+/// `Range` unless each splice ends at or before the begin of the one before it, the first within
+/// the text.
+fn check_falling(length: usize, splices: &[Splice]) -> Result<(), Refusal>
+    ensures { result ≡ (if are_falling length splices.now then Ok tt else Err Refusal.Range) }
+{
+    let mut bound = length;
+    for splice in splices {
+        if splice.lo > splice.hi || splice.hi > bound {
+            return Err(Refusal::Range);
+        }
+        bound = splice.lo;
+    }
+    Ok(())
+}

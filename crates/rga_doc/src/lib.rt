@@ -1,0 +1,22 @@
+//! Documents: a text of one replica, edited by place.
+//!
+//! A `Doc` is a store with the number of its own replica. Its text is edited by splices: each makes
+//! the operations that a splice stands for, which the document takes itself and the caller passes
+//! on to other replicas. A place among others' edits is kept by an `Anchor`. The crate stands on
+//! rga_ops, on the traits of rga_store and on rga_walk, and is generic over any `TextStore`. The
+//! layer above may rest on the contracts: the operations answered are those of the definition, the
+//! content is joined with them, and the text afterwards is the splice of the text before.
+#![tactic(auto)]
+
+mod anchor;
+mod content;
+mod doc;
+mod draft;
+mod edit;
+pub mod laws;
+#[cfg(test)]
+mod tests;
+
+pub use anchor::Anchor;
+pub use doc::Doc;
+pub use rga_ops::Splice;

@@ -1,0 +1,109 @@
+-- No line that is written has a newline in it.
+use Rattle.std.proofs.Common.{◌≡◌, ◌≢◌, ℕ, ◌+◌, ◌<◌, ◌^◌, ◌/◌, ◌%◌, ◌||◌, ◌&&◌, Bool, true, false, cond, not, eqb, ltb, List, [], ◌∷◌, ◌++◌, ◌⊎◌, inl, inr, codes, decimal, refl, sym, subst, arith}
+use Rattle.std.specs.Char.{encode_utf8, digit_char}
+use Rattle.std.proofs.lemmas.Bool.{cases_eq, cases_lt, and_parts, eqb-false, not-true}
+use Rattle.std.proofs.lemmas.List.Elements.{All-nil, All-cons}
+use Rattle.std.proofs.lemmas.Str.{encode_ascii}
+use Rattle.std.proofs.lemmas.Fmt.{decimal_by_steps}
+use Rattle.rga_ops.specs.Identifier.{Identifier}
+use Rattle.rga_ops.specs.declared.op.Op.{Op}
+use Rattle.rga_ops.specs.declared.op.Op.TheVariants.{Insert, Delete}
+use Rattle.rga_lines.specs.Spelling.{escaped, pair_text, line, end_line, IsWritable}
+use Rattle.rga_lines.specs.Stream.{newline, HasNoNewline}
+use Rattle.rga_lines.proofs.SpellingLemmas.{Plain, Plain-encode}
+use Rattle.rga_lines.proofs.ReadBack.{InBounds, within, in_bounds}
+
+-- by recursion, for the inductions below
+abbrev HasNo : List ℕ → Type 0
+HasNo [] = Unit {0}
+HasNo (x ∷ xs) = (x ≡ newline → ⊥) × HasNo xs
+
+HasNo-append : (xs ys : List ℕ) → HasNo xs → HasNo ys → HasNo (xs ++ ys)
+HasNo-append [] ys h k = k
+HasNo-append (x ∷ xs) ys h k = (h.0, HasNo-append xs ys h.1 k)
+
+abbrev none : List ℕ → Bool
+none [] = true
+none (x ∷ xs) = not (eqb x newline) && none xs
+
+literal : (xs : List ℕ) → none xs ≡ true → HasNo xs
+literal [] e = tt
+literal (x ∷ xs) e = let p = and_parts (not (eqb x newline)) (none xs) e in (eqb-false _ _ (not-true _ p.0), literal xs p.1)
+
+HasNo-Plain : (xs : List ℕ) → Plain xs → HasNo xs
+HasNo-Plain [] h = tt
+HasNo-Plain (x ∷ xs) h = (λ e. omega arith, HasNo-Plain xs h.1)
+
+HasNo-decimal : (n : ℕ) → n < 2 ^ 64 → HasNo (decimal n)
+HasNo-decimal n h =
+    decimal_by_steps (λ _ ds. HasNo ds) (λ k lt. (λ e. omega arith, tt)) (λ k ds le done. HasNo-append ds ((48 + k % 10) ∷ []) done (λ e. omega arith, tt)) n h
+
+digit : (d : ℕ) → digit_char d ≡ newline → ⊥
+digit d = go (ltb d 10)
+  where
+    go : (b : Bool) → cond b (48 + d) (87 + d) ≡ newline → ⊥
+    go true e = omega arith
+    go false e = omega arith
+
+nested : (a b c d e f g : Bool) (x y z : List ℕ) → HasNo x → HasNo y → HasNo z
+    → HasNo (cond a x (cond b (codes "\\b") (cond c (codes "\\t") (cond d (codes "\\n") (cond e (codes "\\f") (cond f (codes "\\r") (cond g y z)))))))
+nested true b c d e f g x y z p q r = p
+nested false true c d e f g x y z p q r = literal (codes "\\b") refl
+nested false false true d e f g x y z p q r = literal (codes "\\t") refl
+nested false false false true e f g x y z p q r = literal (codes "\\n") refl
+nested false false false false true f g x y z p q r = literal (codes "\\f") refl
+nested false false false false false true g x y z p q r = literal (codes "\\r") refl
+nested false false false false false false true x y z p q r = q
+nested false false false false false false false x y z p q r = r
+
+HasNo-encode : (c : ℕ) → (c ≡ newline → ⊥) → HasNo (encode_utf8 c)
+HasNo-encode c ne = elim (cases_lt c 128) [ inl lt ↦ subst HasNo (sym (encode_ascii c lt)) (ne, tt) | inr le ↦ HasNo-Plain (encode_utf8 c) (Plain-encode c le) ]
+
+HasNo-escaped : (c : ℕ) → HasNo (escaped c)
+unfolding escaped
+HasNo-escaped c = go (cases_eq c newline)
+  where
+    go : (c ≡ newline) ⊎ (c ≡ newline → ⊥) → HasNo (escaped c)
+    go (inl e) = subst (λ (x : ℕ). HasNo (escaped x)) (sym e) (literal (codes "\\n") refl)
+    go (inr ne) =
+        nested (eqb c 34 || eqb c 92) (eqb c 8) (eqb c 9) (eqb c 10) (eqb c 12) (eqb c 13) (ltb c 32) (92 ∷ c ∷ []) (codes "\\u00" ++ digit_char (c / 16) ∷ digit_char (c % 16) ∷ []) (encode_utf8 c) (λ e. omega arith, (ne, tt))
+        (HasNo-append (codes "\\u00") (digit_char (c / 16) ∷ digit_char (c % 16) ∷ []) (literal (codes "\\u00") refl) (digit (c / 16), (digit (c % 16), tt))) (HasNo-encode c ne)
+
+record Clear (xs : List ℕ) : Type 0 where
+  all : HasNo xs
+
+infixr 5 ◌then◌
+◌then◌ : {xs ys : List ℕ} → Clear xs → Clear ys → Clear (xs ++ ys)
+p then q = record { all = HasNo-append _ _ p.all q.all }
+
+clear : (xs : List ℕ) → none xs ≡ true → Clear xs
+clear xs e = record { all = literal xs e }
+
+clear_decimal : (n : ℕ) → n < 2 ^ 64 → Clear (decimal n)
+clear_decimal n h = record { all = HasNo-decimal n h }
+
+clear_pair : (s : Identifier) → InBounds s → Clear (pair_text s)
+clear_pair s h = clear (codes "[") refl then (clear_decimal s.counter (omega (arith, h.counter)) then (clear (codes ",") refl then (clear_decimal s.replica (omega (arith, h.replica)) then clear (codes "]") refl)))
+
+clear_line : (op : Op) → IsWritable op → Clear (line op)
+unfolding line
+clear_line (Insert id parent ch) h =
+    let c : Clear (escaped ch) = record { all = HasNo-escaped ch } in
+    clear (codes "{\"char\":\"") refl then (c then (clear (codes "\",\"id\":") refl then (clear_pair id (within id h.0) then (clear (codes ",\"op\":\"ins\",\"parent\":") refl then (clear_pair parent (in_bounds parent h.1) then clear (codes "}") refl)))))
+clear_line (Delete id) h = clear (codes "{\"id\":") refl then (clear_pair id (within id h) then clear (codes ",\"op\":\"del\"}") refl)
+
+clear_end : (operations : ℕ) → operations < 2 ^ 64 → Clear (end_line operations)
+unfolding end_line
+clear_end operations h = clear (codes "{\"count\":") refl then (clear_decimal operations h then clear (codes ",\"op\":\"end\"}") refl)
+
+-- ---- by index, as the definition has it
+
+by_index : (xs : List ℕ) → HasNo xs → HasNoNewline xs
+by_index [] h = All-nil (λ b. b ≢ newline)
+by_index (x ∷ xs) h = All-cons (λ b. b ≢ newline) x xs h.0 (by_index xs h.1)
+
+pub line_has_none : (op : Op) → IsWritable op → HasNoNewline (line op)
+line_has_none op h = by_index (line op) (clear_line op h).all
+
+pub end_has_none : (operations : ℕ) → operations < 2 ^ 64 → HasNoNewline (end_line operations)
+end_has_none operations h = by_index (end_line operations) (clear_end operations h).all

@@ -1,0 +1,120 @@
+//! Lines written: the one spelling of an operation, and of the end of an exchange.
+ghost use Rattle.std.specs.Prelude.{◌≡◌, ◌++◌, ◌<◌, IfOk, IfErr, OnOk, ◌/◌, ◌%◌, ◌∷◌, [], codes, string_bytes};
+ghost use Rattle.std.specs.Char.{digit_char};
+ghost use Rattle.rga_ops.specs.declared.op.Op.TheVariants.{Insert, Delete};
+ghost use Rattle.rga_lines.specs.Spelling.{escaped, pair_text, line, end_line};
+ghost use Rattle.rga_lines.specs.declared.fault.LineFault.TheVariants.{Memory};
+
+use crate::fault::LineFault;
+use itoa::Buffer;
+use rga_ops::{Id, Op};
+use std::alloc::{AllocError, Global};
+
+/// Room for any line that is written. The longest is an insertion's: 38 bytes of names and marks,
+/// an escape of 6, and two identifiers of 24.
+const ROOM: usize = 92;
+
+/// The line of an operation without its newline, as `line` of `specs/Spelling.antt` has it: no
+/// blanks, the members by their names, and escapes only where JSON (RFC 8259, section 7) asks for
+/// them. `Memory` is the only refusal.
+pub fn write_line(alloc: Global, op: &Op) -> Result<String, LineFault>
+    ensures ok { IfOk result (λ s. string_bytes s ≡ line op.now) }
+    ensures err { IfErr result (λ e. e ≡ Memory) }
+{
+    match op {
+        Op::Insert { id, parent, ch } => Ok(insertion(alloc, id, parent, *ch)?),
+        Op::Delete { id } => Ok(deletion(alloc, id)?),
+    }
+}
+
+/// The line that ends an exchange of so many operations, without its newline. `Memory` is the only
+/// refusal.
+#[tactic(auto, unfolding(crate::specs::Spelling::end_line))]
+pub fn write_end(alloc: Global, count: u64) -> Result<String, LineFault>
+    ensures ok { IfOk result (λ s. string_bytes s ≡ end_line count) }
+    ensures err { IfErr result (λ e. e ≡ Memory) }
+{
+    let mut text = String::with_capacity(alloc, ROOM)?;
+    let mut digits = Buffer::new();
+    text.push_str("{\"count\":")?;
+    text.push_str(digits.format(count))?;
+    text.push_str(",\"op\":\"end\"}")?;
+    Ok(text)
+}
+
+#[tactic(auto, unfolding(crate::specs::Spelling::line))]
+fn insertion(alloc: Global, id: &Id, parent: &Id, ch: char) -> Result<String, AllocError>
+    ensures { IfOk result (λ s. string_bytes s ≡ line (Insert id.now parent.now ch)) }
+{
+    let mut text = String::with_capacity(alloc, ROOM)?;
+    text.push_str("{\"char\":\"")?;
+    push_escaped(&mut text, ch)?;
+    text.push_str("\",\"id\":")?;
+    push_pair(&mut text, id)?;
+    text.push_str(",\"op\":\"ins\",\"parent\":")?;
+    push_pair(&mut text, parent)?;
+    text.push_str("}")?;
+    Ok(text)
+}
+
+#[tactic(auto, unfolding(crate::specs::Spelling::line))]
+fn deletion(alloc: Global, id: &Id) -> Result<String, AllocError>
+    ensures { IfOk result (λ s. string_bytes s ≡ line (Delete id.now)) }
+{
+    let mut text = String::with_capacity(alloc, ROOM)?;
+    text.push_str("{\"id\":")?;
+    push_pair(&mut text, id)?;
+    text.push_str(",\"op\":\"del\"}")?;
+    Ok(text)
+}
+
+/// An identifier as two numbers between brackets.
+fn push_pair(text: &mut String, id: &Id) -> Result<(), AllocError>
+    ensures { OnOk result (string_bytes text.new ≡ string_bytes text.old ++ pair_text id.now) }
+{
+    let mut digits = Buffer::new();
+    text.push_str("[")?;
+    text.push_str(digits.format(id.counter()))?;
+    text.push_str(",")?;
+    text.push_str(digits.format(id.replica()))?;
+    text.push_str("]")
+}
+
+/// A character as it stands between quotes.
+#[tactic(auto, unfolding(crate::specs::Spelling::escaped))]
+fn push_escaped(text: &mut String, ch: char) -> Result<(), AllocError>
+    ensures { OnOk result (string_bytes text.new ≡ string_bytes text.old ++ escaped ch) }
+{
+    match ch {
+        '"' => text.push_str("\\\""),
+        '\\' => text.push_str("\\\\"),
+        '\u{8}' => text.push_str("\\b"),
+        '\t' => text.push_str("\\t"),
+        '\n' => text.push_str("\\n"),
+        '\u{c}' => text.push_str("\\f"),
+        '\r' => text.push_str("\\r"),
+        '\0'..='\u{1f}' => push_code(text, ch),
+        _ => text.push(ch),
+    }
+}
+
+/// A character below the space as its code in hexadecimal digits.
+fn push_code(text: &mut String, ch: char) -> Result<(), AllocError>
+    requires { ch < 32 }
+    ensures { OnOk result (string_bytes text.new
+        ≡ string_bytes text.old ++ (codes "\\u00" ++ digit_char (ch / 16) ∷ digit_char (ch % 16) ∷ [])) }
+{
+    let code = u32::from(ch);
+    text.push_str("\\u00")?;
+    text.push(hex_digit(code / 16))?;
+    text.push(hex_digit(code % 16))
+}
+
+/// The lower-case digit of a number below 16.
+fn hex_digit(value: u32) -> char
+    requires { value < 16 }
+    ensures value { result ≡ digit_char value }
+    ensures ascii { result < 128 }
+{
+    char::from_digit(value, 16).unwrap()
+}

@@ -1,0 +1,380 @@
+-- The answers to a list that is taken whole or not at all: which of them comes exactly when.
+use Rattle.std.proofs.Common.{◌≡◌, ℕ, ◌<◌, ◌≤◌, Bool, true, false, cond, List, [], ◌∷◌, ◌++◌, refl, sym, ap, ◌∙◌, subst, nat_le, leb-true, leb-false, le-leb, le_trans, arith, inl, inr, true≢false}
+use Rattle.std.specs.Prelude.{Option, Some, None, Result, Ok, Err, ◌⊎◌, ◌↔◌}
+use Rattle.std.specs.Option.{option_or}
+use Rattle.std.specs.FinSet as finite_set
+use Rattle.std.proofs.lemmas.List.Elements.{Contains-append_left, Contains-append_right}
+use Rattle.std.proofs.lemmas.Option.{same_Some, none-some}
+use Rattle.rga_ops.specs.Identifier.{Identifier}
+use Rattle.rga_ops.specs.Operation.{checked, id_of}
+use Rattle.rga_ops.specs.Content.{Content, nothing, known, join, single, content_of, HasAnother, IsAgreed}
+use Rattle.rga_ops.specs.Answer.{taken, and_take, taken_one_by_one}
+use Rattle.rga_ops.specs.ListAnswer.{Verdict, and_check, all_checked, has_another, first_conflict, union_answer, list_answer, AreWellFormed, IsJoinable, IsFirstIllFormed, IsFirstConflict}
+use Rattle.rga_ops.proofs.ContentLaws.{join_assoc, join_nothing}
+use Rattle.rga_ops.proofs.OperationLaws.{Contains-first, Contains-later, Contains-cases, Contains-nil, Contains-append, content_inserted, content_of-append}
+use Rattle.rga_ops.proofs.AnswerLaws.{passed, bad, IsOfOperation, ill_formed-iff, IsAnswered}
+use Rattle.rga_ops.proofs.TakenLaws.{AreTaken, taken_list_is, taken_list_agrees}
+use Rattle.rga_ops.proofs.KnownLaws.{len-le_union, known_join, taken_list_within, takeable_is_taken}
+use Rattle.rga_ops.proofs.AgreeLaws.{has_another-iff, no_other-iff, joinable_nothing, joinable-iff}
+use Rattle.rga_ops.specs.declared.op.Op.{Op}
+use Rattle.rga_ops.specs.declared.op.Op.TheVariants.{Insert}
+use Rattle.rga_ops.specs.declared.refusal.Refusal.{Refusal}
+use Rattle.rga_ops.specs.declared.refusal.Refusal.TheVariants.{Conflict, Full}
+
+-- ---- two verdicts, one after the other
+
+and_check-ok : (v r : Verdict) → (and_check v r ≡ Ok tt) ↔ ((v ≡ Ok tt) × (r ≡ Ok tt))
+and_check-ok (Ok u) r = (λ h. (refl, h), λ (first, h). h)
+and_check-ok (Err e) r = (λ h. let clash : bad e ≡ passed = h in absurd (cc), λ (first, h). let clash : bad e ≡ passed = first in absurd (cc))
+
+and_check-err : (v r : Verdict) (e : Refusal) → (and_check v r ≡ Err e) ↔ ((v ≡ Err e) ⊎ ((v ≡ Ok tt) × (r ≡ Err e)))
+and_check-err (Ok u) r e = (λ h. inr (refl, h), λ s. elim s [ inl first ↦ let clash : passed ≡ bad e = first in absurd (cc) | inr later ↦ later.1 ])
+and_check-err (Err f) r e = (λ h. inl h, λ s. elim s [ inl first ↦ first | inr later ↦ let clash : bad f ≡ passed = later.0 in absurd (cc) ])
+
+and_check-assoc : (u v r : Verdict) → and_check (and_check u v) r ≡ and_check u (and_check v r)
+and_check-assoc (Ok t) v r = refl
+and_check-assoc (Err e) v r = refl
+
+-- ---- well-formed lists
+
+pub well_formed-iff : (op : Op) (ops : List Op) → AreWellFormed (op ∷ ops) ↔ ((checked op ≡ Ok tt) × AreWellFormed ops)
+well_formed-iff op ops = (
+  λ w. (w op (Contains-first op ops), λ o m. w o (Contains-later op o ops m)),
+  λ (first, later) o m. elim (Contains-cases op o ops m) [ inl here ↦ subst (λ x. checked x ≡ Ok tt) here first | inr there ↦ later o there ],
+)
+
+pub all_checked-iff : (ops : List Op) → (all_checked ops ≡ Ok tt) ↔ AreWellFormed ops
+all_checked-iff [] = (λ h op m. absurd (Contains-nil op m), λ w. refl)
+all_checked-iff (op ∷ ops) = (
+  λ h. let s = (and_check-ok (checked op) (all_checked ops)).0 h in (well_formed-iff op ops).1 (s.0, (all_checked-iff ops).0 s.1),
+  λ w. let s = (well_formed-iff op ops).0 w in (and_check-ok (checked op) (all_checked ops)).1 (s.0, (all_checked-iff ops).1 s.1),
+)
+
+-- two lists in a row
+pub all_checked-append : (xs ys : List Op) → all_checked (xs ++ ys) ≡ and_check (all_checked xs) (all_checked ys)
+all_checked-append [] ys = refl
+all_checked-append (x ∷ xs) ys = ap (and_check (checked x)) (all_checked-append xs ys) ∙ sym (and_check-assoc (checked x) (all_checked xs) (all_checked ys))
+
+-- the first that is ill-formed is refused
+pub all_checked_refused : (xs ys : List Op) (op : Op) (e : Refusal) → all_checked xs ≡ Ok tt → checked op ≡ Err e → all_checked (xs ++ op ∷ ys) ≡ Err e
+all_checked_refused xs ys op e well refused =
+    all_checked-append xs (op ∷ ys)
+    ∙ ap (λ v. and_check v (and_check (checked op) (all_checked ys))) well
+    ∙ ap (λ v. and_check v (all_checked ys)) refused
+
+pub first_ill_formed-iff : (ops : List Op) (e : Refusal) → (all_checked ops ≡ Err e) ↔ IsFirstIllFormed ops e
+first_ill_formed-iff ops e = (tells ops, leads)
+  where
+    behind : (x : Op) (ops : List Op) → checked x ≡ Ok tt → IsFirstIllFormed ops e → IsFirstIllFormed (x ∷ ops) e
+    behind x ops first w = record {
+      before = x ∷ w.before;
+      op = w.op;
+      after = w.after;
+      split = ap (λ os. x ∷ os) w.split;
+      well_formed = (well_formed-iff x w.before).1 (first, w.well_formed);
+      refused = w.refused;
+    }
+
+    here : (x : Op) (ops : List Op) → checked x ≡ Err e → IsFirstIllFormed (x ∷ ops) e
+    here x ops h = record { before = []; op = x; after = ops; split = refl; well_formed = λ o m. absurd (Contains-nil o m); refused = h }
+
+    tells : (ops : List Op) → all_checked ops ≡ Err e → IsFirstIllFormed ops e
+    tells [] h = let clash : passed ≡ bad e = h in absurd (cc)
+    tells (op ∷ ops) h = elim ((and_check-err (checked op) (all_checked ops) e).0 h) [
+      | inl first ↦ here op ops first
+      | inr later ↦ behind op ops later.0 (tells ops later.1)
+    ]
+
+    leads : IsFirstIllFormed ops e → all_checked ops ≡ Err e
+    leads w =
+        ap all_checked w.split ∙ all_checked_refused w.before w.after w.op e ((all_checked-iff w.before).1 w.well_formed) w.refused
+
+-- its refusal is one of an operation
+pub ill_formed_refusal : (ops : List Op) (e : Refusal) → all_checked ops ≡ Err e → IsOfOperation e
+ill_formed_refusal ops e h = let w = (first_ill_formed-iff ops e).0 h in ((ill_formed-iff 0 nothing w.op e).1 w.refused).1
+
+-- ---- the first conflict
+
+abbrev pub here_or : Content → Op → Option Identifier → Option Identifier
+here_or c op later = cond (has_another c op) (Some (id_of op)) later
+
+-- there is none exactly where the list can be joined
+pub no_conflict-iff : (c : Content) (ops : List Op) → (first_conflict c ops ≡ None) ↔ IsJoinable c ops
+no_conflict-iff c [] = (λ h. joinable_nothing c, λ w. refl)
+no_conflict-iff c (op ∷ ops) =
+    elim (has_another c op) as (λ b. has_another c op ≡ b → (cond b (Some (id_of op)) (first_conflict (join c (single op)) ops) ≡ None) ↔ IsJoinable c (op ∷ ops)) [
+      | true ↦ λ t. (
+        λ h. absurd (none-some _ (sym h)),
+        λ w. absurd (true≢false (sym t ∙ (no_other-iff c op).1 ((joinable-iff c op ops).0 w).0)),
+      )
+      | false ↦ λ f. (
+        λ h. (joinable-iff c op ops).1 ((no_other-iff c op).0 f, (no_conflict-iff (join c (single op)) ops).0 h),
+        λ w. (no_conflict-iff (join c (single op)) ops).1 ((joinable-iff c op ops).0 w).1,
+      )
+    ] refl
+
+-- two lists in a row
+pub first_conflict-append : (c : Content) (xs ys : List Op) → first_conflict c (xs ++ ys) ≡ option_or (first_conflict c xs) (first_conflict (join c (content_of xs)) ys)
+first_conflict-append c [] ys = ap (λ d. first_conflict d ys) (sym (join_nothing c))
+first_conflict-append c (x ∷ xs) ys =
+    ap (here_or c x) (first_conflict-append (join c (single x)) xs ys ∙ ap (λ d. option_or (first_conflict (join c (single x)) xs) (first_conflict d ys)) (join_assoc c (single x) (content_of xs)))
+    ∙ either (has_another c x)
+  where
+    either : (b : Bool) → cond b (Some (id_of x)) (option_or (first_conflict (join c (single x)) xs) (first_conflict (join c (content_of (x ∷ xs))) ys)) ≡ option_or (cond b (Some (id_of x)) (first_conflict (join c (single x)) xs)) (first_conflict (join c (content_of (x ∷ xs))) ys)
+    either true = refl
+    either false = refl
+
+-- one operation more
+pub first_conflict-push : (c : Content) (ops : List Op) (op : Op) → first_conflict c (ops ++ op ∷ []) ≡ option_or (first_conflict c ops) (here_or (join c (content_of ops)) op None)
+first_conflict-push c ops op = first_conflict-append c ops (op ∷ [])
+
+-- the first that conflicts is named
+pub first_conflict_found : (c : Content) (xs ys : List Op) (op : Op) → first_conflict c xs ≡ None → has_another (join c (content_of xs)) op ≡ true → first_conflict c (xs ++ op ∷ ys) ≡ Some (id_of op)
+first_conflict_found c xs ys op free another =
+    let d : Content = join c (content_of xs) in
+    first_conflict-append c xs (op ∷ ys)
+    ∙ ap (λ o. option_or o (first_conflict d (op ∷ ys))) free
+    ∙ ap (λ b. cond b (Some (id_of op)) (first_conflict (join d (single op)) ys)) another
+
+pub first_conflict_free : (c : Content) (ops : List Op) (op : Op) → first_conflict c ops ≡ None → has_another (join c (content_of ops)) op ≡ false → first_conflict c (ops ++ op ∷ []) ≡ None
+first_conflict_free c ops op free no_other =
+    first_conflict-push c ops op
+    ∙ ap (λ o. option_or o (here_or (join c (content_of ops)) op None)) free
+    ∙ ap (λ b. cond b (Some (id_of op)) None) no_other
+
+pub first_conflict-iff : (c : Content) (ops : List Op) (id : Identifier) → (first_conflict c ops ≡ Some id) ↔ IsFirstConflict c ops id
+first_conflict-iff c ops id = (tells c ops, leads)
+  where
+    here : (c : Content) (op : Op) (ops : List Op) → has_another c op ≡ true → id_of op ≡ id → IsFirstConflict c (op ∷ ops) id
+    here c op ops t same = record {
+      before = [];
+      op = op;
+      after = ops;
+      split = refl;
+      joinable = joinable_nothing c;
+      another = subst (λ d. HasAnother d op) (sym (join_nothing c)) ((has_another-iff c op).0 t);
+      named = sym same;
+    }
+
+    behind : (c : Content) (op : Op) (ops : List Op) → has_another c op ≡ false → IsFirstConflict (join c (single op)) ops id → IsFirstConflict c (op ∷ ops) id
+    behind c op ops f w = record {
+      before = op ∷ w.before;
+      op = w.op;
+      after = w.after;
+      split = ap (λ os. op ∷ os) w.split;
+      joinable = (joinable-iff c op w.before).1 ((no_other-iff c op).0 f, w.joinable);
+      another = subst (λ d. HasAnother d w.op) (join_assoc c (single op) (content_of w.before)) w.another;
+      named = w.named;
+    }
+
+    tells : (c : Content) (ops : List Op) → first_conflict c ops ≡ Some id → IsFirstConflict c ops id
+    tells c [] h = absurd (none-some _ h)
+    tells c (op ∷ ops) h =
+        elim (has_another c op) as (λ b. has_another c op ≡ b → cond b (Some (id_of op)) (first_conflict (join c (single op)) ops) ≡ Some id → IsFirstConflict c (op ∷ ops) id) [
+          | true ↦ λ t h. here c op ops t (same_Some _ _ h)
+          | false ↦ λ f h. behind c op ops f (tells (join c (single op)) ops h)
+        ] refl h
+
+    leads : IsFirstConflict c ops id → first_conflict c ops ≡ Some id
+    leads w =
+        ap (first_conflict c) w.split
+        ∙ first_conflict_found c w.before w.after w.op ((no_conflict-iff c w.before).1 w.joinable) ((has_another-iff (join c (content_of w.before)) w.op).1 w.another)
+        ∙ ap Some (sym w.named)
+
+-- ---- a conflict, or too many identifiers
+
+abbrev none : Option Identifier
+none = None
+
+pub union_taken-iff : (limit : ℕ) (o : Option Identifier) (c : Content) → (union_answer limit o c ≡ Ok tt) ↔ ((o ≡ None) × (finite_set.len (known c) ≤ limit))
+union_taken-iff limit (Some id) c = (λ h. let clash : bad (Conflict id) ≡ passed = h in absurd (cc), λ (h, fits). absurd (none-some _ (sym h)))
+union_taken-iff limit None c =
+    elim (nat_le (finite_set.len (known c)) limit) as (λ b. nat_le (finite_set.len (known c)) limit ≡ b → (cond b (Ok tt) (Err Full) ≡ passed) ↔ ((none ≡ None) × (finite_set.len (known c) ≤ limit))) [
+      | true ↦ λ t. (λ h. (refl, leb-true (finite_set.len (known c)) limit t), λ w. refl)
+      | false ↦ λ f. (λ h. let clash : bad Full ≡ passed = h in absurd (cc), λ (h, fits). absurd (true≢false (sym (le-leb (finite_set.len (known c)) limit fits) ∙ f)))
+    ] refl
+
+pub union_conflict-iff : (limit : ℕ) (o : Option Identifier) (c : Content) (id : Identifier) → (union_answer limit o c ≡ Err (Conflict id)) ↔ (o ≡ Some id)
+union_conflict-iff limit (Some i) c id = (λ h. let same : bad (Conflict i) ≡ bad (Conflict id) = h in ap Some (cc), λ h. ap (λ i. bad (Conflict i)) (same_Some _ _ h))
+union_conflict-iff limit None c id =
+    elim (nat_le (finite_set.len (known c)) limit) as (λ b. (cond b (Ok tt) (Err Full) ≡ bad (Conflict id)) ↔ (None ≡ Some id)) [
+      | true ↦ (λ h. let clash : passed ≡ bad (Conflict id) = h in absurd (cc), λ h. absurd (none-some _ h))
+      | false ↦ (λ h. let clash : bad Full ≡ bad (Conflict id) = h in absurd (cc), λ h. absurd (none-some _ h))
+    ]
+
+pub union_full-iff : (limit : ℕ) (o : Option Identifier) (c : Content) → (union_answer limit o c ≡ Err Full) ↔ ((o ≡ None) × (limit < finite_set.len (known c)))
+union_full-iff limit (Some id) c = (λ h. let clash : bad (Conflict id) ≡ bad Full = h in absurd (cc), λ (h, more). absurd (none-some _ (sym h)))
+union_full-iff limit None c =
+    elim (nat_le (finite_set.len (known c)) limit) as (λ b. nat_le (finite_set.len (known c)) limit ≡ b → (cond b (Ok tt) (Err Full) ≡ bad Full) ↔ ((none ≡ None) × (limit < finite_set.len (known c)))) [
+      | true ↦ λ t. (λ h. let clash : passed ≡ bad Full = h in absurd (cc), λ (h, more). let fits = leb-true (finite_set.len (known c)) limit t in absurd (omega (arith, more, fits)))
+      | false ↦ λ f. (λ h. (refl, leb-false (finite_set.len (known c)) limit f), λ w. refl)
+    ] refl
+
+-- no other refusal is of a union
+pub union_refusal : (limit : ℕ) (o : Option Identifier) (c : Content) (e : Refusal) → union_answer limit o c ≡ Err e → ((id : Identifier) × (e ≡ Conflict id)) ⊎ (e ≡ Full)
+union_refusal limit (Some id) c e h = let same : bad (Conflict id) ≡ bad e = h in inl (id, cc)
+union_refusal limit None c e h =
+    elim (nat_le (finite_set.len (known c)) limit) as (λ b. cond b (Ok tt) (Err Full) ≡ bad e → ((id : Identifier) × (e ≡ Conflict id)) ⊎ (e ≡ Full)) [
+      | true ↦ λ h. let clash : passed ≡ bad e = h in absurd (cc)
+      | false ↦ λ h. let same : bad Full ≡ bad e = h in inr (cc)
+    ] h
+
+-- ---- the answer to a list
+
+-- from what was found of the operations
+pub list_answer_from : (limit : ℕ) (c : Content) (ops : List Op) (v : Verdict) (o : Option Identifier) → all_checked ops ≡ v → first_conflict c ops ≡ o → list_answer limit c ops ≡ and_check v (union_answer limit o (join c (content_of ops)))
+list_answer_from limit c ops v o checks conflict = λ k. and_check (checks k) (union_answer limit (conflict k) (join c (content_of ops)))
+
+of_one_or_other : (e : Refusal) → IsOfOperation e → ((id : Identifier) × (e ≡ Conflict id)) ⊎ (e ≡ Full) → ⊥
+of_one_or_other e own of_union = elim of_union [
+  | inl conflict ↦ let is : e ≡ Conflict conflict.0 = conflict.1 in elim own [ inl b ↦ absurd (cc) | inr b ↦ absurd (cc) ]
+  | inr full ↦ elim own [ inl b ↦ absurd (cc) | inr b ↦ absurd (cc) ]
+]
+
+-- a refusal of the union comes where all is well-formed
+past_checks : (limit : ℕ) (c : Content) (ops : List Op) (e : Refusal) → ((id : Identifier) × (e ≡ Conflict id)) ⊎ (e ≡ Full) → (list_answer limit c ops ≡ Err e) ↔ (AreWellFormed ops × (union_answer limit (first_conflict c ops) (join c (content_of ops)) ≡ Err e))
+past_checks limit c ops e of_union = (
+  λ h. elim ((and_check-err (all_checked ops) (union_answer limit (first_conflict c ops) (join c (content_of ops))) e).0 h) [
+    | inl first ↦ absurd (of_one_or_other e (ill_formed_refusal ops e first) of_union)
+    | inr later ↦ ((all_checked-iff ops).0 later.0, later.1)
+  ],
+  λ (well, h). (and_check-err (all_checked ops) (union_answer limit (first_conflict c ops) (join c (content_of ops))) e).1 (inr ((all_checked-iff ops).1 well, h)),
+)
+
+pub list_taken-iff : (limit : ℕ) (c : Content) (ops : List Op) → (list_answer limit c ops ≡ Ok tt) ↔ (AreWellFormed ops × IsJoinable c ops × (finite_set.len (known (join c (content_of ops))) ≤ limit))
+list_taken-iff limit c ops = (
+  λ h.
+      let s = (and_check-ok (all_checked ops) (union_answer limit (first_conflict c ops) (join c (content_of ops)))).0 h in
+      let u = (union_taken-iff limit (first_conflict c ops) (join c (content_of ops))).0 s.1 in
+      ((all_checked-iff ops).0 s.0, (no_conflict-iff c ops).0 u.0, u.1),
+  λ (well, joinable, fits). (and_check-ok (all_checked ops) (union_answer limit (first_conflict c ops) (join c (content_of ops)))).1 (
+    (all_checked-iff ops).1 well,
+    (union_taken-iff limit (first_conflict c ops) (join c (content_of ops))).1 ((no_conflict-iff c ops).1 joinable, fits),
+  ),
+)
+
+pub list_ill_formed-iff : (limit : ℕ) (c : Content) (ops : List Op) (e : Refusal) → ((list_answer limit c ops ≡ Err e) × IsOfOperation e) ↔ IsFirstIllFormed ops e
+list_ill_formed-iff limit c ops e = (
+  λ (h, own). elim ((and_check-err (all_checked ops) (union_answer limit (first_conflict c ops) (join c (content_of ops))) e).0 h) [
+    | inl first ↦ (first_ill_formed-iff ops e).0 first
+    | inr later ↦ absurd (of_one_or_other e own (union_refusal limit (first_conflict c ops) (join c (content_of ops)) e later.1))
+  ],
+  λ w.
+      let first : all_checked ops ≡ Err e = (first_ill_formed-iff ops e).1 w in (
+        (and_check-err (all_checked ops) (union_answer limit (first_conflict c ops) (join c (content_of ops))) e).1 (inl first),
+        ill_formed_refusal ops e first,
+      ),
+)
+
+pub list_conflict-iff : (limit : ℕ) (c : Content) (ops : List Op) (id : Identifier) → (list_answer limit c ops ≡ Err (Conflict id)) ↔ (AreWellFormed ops × IsFirstConflict c ops id)
+list_conflict-iff limit c ops id = (
+  λ h.
+      let s = (past_checks limit c ops (Conflict id) (inl (id, refl))).0 h in
+      (s.0, (first_conflict-iff c ops id).0 ((union_conflict-iff limit (first_conflict c ops) (join c (content_of ops)) id).0 s.1)),
+  λ (well, w). (past_checks limit c ops (Conflict id) (inl (id, refl))).1 (
+    well,
+    (union_conflict-iff limit (first_conflict c ops) (join c (content_of ops)) id).1 ((first_conflict-iff c ops id).1 w),
+  ),
+)
+
+pub list_full-iff : (limit : ℕ) (c : Content) (ops : List Op) → (list_answer limit c ops ≡ Err Full) ↔ (AreWellFormed ops × IsJoinable c ops × (limit < finite_set.len (known (join c (content_of ops)))))
+list_full-iff limit c ops = (
+  λ h.
+      let s = (past_checks limit c ops Full (inr refl)).0 h in
+      let u = (union_full-iff limit (first_conflict c ops) (join c (content_of ops))).0 s.1 in
+      (s.0, (no_conflict-iff c ops).0 u.0, u.1),
+  λ (well, joinable, more). (past_checks limit c ops Full (inr refl)).1 (
+    well,
+    (union_full-iff limit (first_conflict c ops) (join c (content_of ops))).1 ((no_conflict-iff c ops).1 joinable, more),
+  ),
+)
+
+pub no_other_list_refusal : (limit : ℕ) (c : Content) (ops : List Op) (e : Refusal) → list_answer limit c ops ≡ Err e → IsAnswered e
+no_other_list_refusal limit c ops e h = elim ((and_check-err (all_checked ops) (union_answer limit (first_conflict c ops) (join c (content_of ops))) e).0 h) [
+  | inl first ↦ elim (ill_formed_refusal ops e first) [ inl b ↦ subst IsAnswered (sym b) tt | inr b ↦ subst IsAnswered (sym b) tt ]
+  | inr later ↦ elim (union_refusal limit (first_conflict c ops) (join c (content_of ops)) e later.1) [
+    | inl conflict ↦ subst IsAnswered (sym conflict.1) tt
+    | inr full ↦ subst IsAnswered (sym full) tt
+  ]
+]
+
+-- a list that is taken whole leads to the same as its operations one by one
+pub list_one_by_one : (limit : ℕ) (c : Content) (ops : List Op) → list_answer limit c ops ≡ Ok tt → taken_one_by_one limit c ops ≡ Ok (join c (content_of ops))
+list_one_by_one limit c ops h =
+    let w = (list_taken-iff limit c ops).0 h in
+    takeable_is_taken limit c ops (record { well_formed = w.0; agreed = w.1.agreed; agrees = w.1.agree; fits = w.2 })
+
+-- operations that are taken one by one can be taken whole
+pub one_by_one_list : (limit : ℕ) (c d : Content) (ops : List Op) → finite_set.len (known c) ≤ limit → taken_one_by_one limit c ops ≡ Ok d → list_answer limit c ops ≡ Ok tt
+one_by_one_list limit c d ops within h =
+    let w : AreTaken c ops d = taken_list_is limit c ops d h in
+    let agreed : IsAgreed ops = taken_list_agrees limit c ops d h in
+    (list_taken-iff limit c ops).1 (
+      w.well_formed,
+      record {
+        agreed = agreed;
+        agree = λ id x y f g. same_Some x y (sym (w.grown.inserted id x f) ∙ w.held (Insert id y.parent y.ch) (content_inserted ops id y g));
+      },
+      subst (λ e. finite_set.len (known e) ≤ limit) w.joined (taken_list_within limit c ops d within h),
+    )
+
+-- ---- a list in parts
+
+pub well_formed_append : (xs ys : List Op) → AreWellFormed (xs ++ ys) ↔ (AreWellFormed xs × AreWellFormed ys)
+well_formed_append xs ys = (
+  λ w. (λ op m. w op (Contains-append_left xs ys op m), λ op m. w op (Contains-append_right xs ys op m)),
+  λ (first, second) op m. elim (Contains-append xs ys op m) [ inl here ↦ first op here | inr there ↦ second op there ],
+)
+
+pub joinable_append : (c : Content) (xs ys : List Op) → IsJoinable c (xs ++ ys) ↔ (IsJoinable c xs × IsJoinable (join c (content_of xs)) ys)
+joinable_append c xs ys = (
+  λ w. apart (first_conflict c xs) refl (sym (first_conflict-append c xs ys) ∙ (no_conflict-iff c (xs ++ ys)).1 w),
+  λ (first, second). (no_conflict-iff c (xs ++ ys)).0 (
+      first_conflict-append c xs ys
+      ∙ ap (λ o. option_or o (first_conflict (join c (content_of xs)) ys)) ((no_conflict-iff c xs).1 first)
+      ∙ (no_conflict-iff (join c (content_of xs)) ys).1 second
+      ),
+)
+  where
+    apart : (o : Option Identifier) → first_conflict c xs ≡ o → option_or o (first_conflict (join c (content_of xs)) ys) ≡ None → IsJoinable c xs × IsJoinable (join c (content_of xs)) ys
+    apart None first second = ((no_conflict-iff c xs).0 first, (no_conflict-iff (join c (content_of xs)) ys).0 second)
+    apart (Some id) first clash = absurd (none-some _ (sym clash))
+
+-- two lists in a row are taken where the first is, and then the second
+pub list_taken_append : (limit : ℕ) (c : Content) (xs ys : List Op) → (list_answer limit c (xs ++ ys) ≡ Ok tt) ↔ ((list_answer limit c xs ≡ Ok tt) × (list_answer limit (join c (content_of xs)) ys ≡ Ok tt))
+list_taken_append limit c xs ys = (
+  λ h.
+      let w = (list_taken-iff limit c (xs ++ ys)).0 h in
+      let well = (well_formed_append xs ys).0 w.0 in
+      let joinable = (joinable_append c xs ys).0 w.1 in
+      let fits : finite_set.len (known (join d (content_of ys))) ≤ limit = subst (λ e. finite_set.len (known e) ≤ limit) (sym whole) w.2 in
+      let fewer : finite_set.len (known d) ≤ finite_set.len (known (join d (content_of ys))) = subst (λ s. finite_set.len (known d) ≤ finite_set.len s) (sym (known_join d (content_of ys))) (len-le_union (known d) (known (content_of ys))) in (
+        (list_taken-iff limit c xs).1 (well.0, joinable.0, le_trans fewer fits),
+        (list_taken-iff limit d ys).1 (well.1, joinable.1, fits),
+      ),
+  λ (first, second).
+      let v = (list_taken-iff limit c xs).0 first in
+      let w = (list_taken-iff limit d ys).0 second in
+      (list_taken-iff limit c (xs ++ ys)).1 (
+        (well_formed_append xs ys).1 (v.0, w.0),
+        (joinable_append c xs ys).1 (v.1, w.1),
+        subst (λ e. finite_set.len (known e) ≤ limit) whole w.2,
+      ),
+)
+  where
+    d : Content
+    d = join c (content_of xs)
+
+    whole : join d (content_of ys) ≡ join c (content_of (xs ++ ys))
+    whole = join_assoc c (content_of xs) (content_of ys) ∙ ap (join c) (sym (content_of-append xs ys))
+
+-- the first operation of a list that is taken whole is taken
+pub list_first_taken : (limit : ℕ) (c : Content) (op : Op) (ops : List Op) → list_answer limit c (op ∷ ops) ≡ Ok tt → taken limit c op ≡ Ok (join c (single op))
+list_first_taken limit c op ops h =
+    sym (alone (taken limit c op))
+    ∙ list_one_by_one limit c (op ∷ []) ((list_taken_append limit c (op ∷ []) ops).0 h).0
+    ∙ ap (λ d. Ok (join c d)) (join_nothing (single op))
+  where
+    alone : (r : Result Content Refusal) → and_take r (λ d. Ok d) ≡ r
+    alone (Ok d) = refl
+    alone (Err e) = refl

@@ -1,0 +1,53 @@
+-- A list of operations, one operation on.
+use Rattle.std.proofs.Common.{◌≡◌, ℕ, Bool, true, false, cond, List, [], ◌∷◌, ◌++◌, refl, sym, ap, ◌∙◌, inl, inr}
+use Rattle.std.specs.Prelude.{Some, None, Err, ◌≢◌}
+use Rattle.std.specs.Option.{option_or}
+use Rattle.std.specs.FinMap as finite_map
+use Rattle.std.specs.FinSet as finite_set
+use Rattle.rga_ops.specs.Identifier.{Identifier}
+use Rattle.rga_ops.specs.Operation.{id_of}
+use Rattle.rga_ops.specs.Content.{element, Content, known, join, single, content_of}
+use Rattle.rga_ops.specs.ListAnswer.{all_checked, has_another, first_conflict}
+use Rattle.rga_ops.proofs.IdentifierLaws.{is, same_id}
+use Rattle.rga_ops.proofs.ContentLaws.{get-join, join_assoc, join_nothing, or_none}
+use Rattle.rga_ops.proofs.OperationLaws.{get-single, content_of-append}
+use Rattle.rga_ops.proofs.KnownLaws.{known_taken}
+use Rattle.rga_ops.proofs.DeletionLaws.{inserted-deletion}
+use Rattle.rga_ops.proofs.ListAnswerLaws.{ill_formed_refusal}
+use Rattle.rga_ops.specs.declared.op.Op.{Op}
+use Rattle.rga_ops.specs.declared.op.Op.TheVariants.{Insert, Delete}
+use Rattle.rga_ops.specs.declared.refusal.Refusal.TheVariants.{Memory}
+
+pub join_more : (c : Content) (ops : List Op) (op : Op) → join c (content_of (ops ++ op ∷ [])) ≡ join (join c (content_of ops)) (single op)
+join_more c ops op =
+    ap (join c) (content_of-append ops (op ∷ []) ∙ ap (join (content_of ops)) (join_nothing (single op)))
+    ∙ sym (join_assoc c (content_of ops) (single op))
+
+-- one identifier more is known, unless it was
+pub known_more : (c : Content) (ops : List Op) (op : Op) → known (join c (content_of (ops ++ op ∷ []))) ≡ finite_set.insert (known (join c (content_of ops))) (id_of op)
+known_more c ops op = ap known (join_more c ops op) ∙ known_taken (join c (content_of ops)) op
+
+-- an insertion of an identifier that is not inserted
+pub get-insertion : (c : Content) (id parent : Identifier) (ch : ℕ) (q : Identifier) → finite_map.get c.inserted id ≡ None → finite_map.get (join c (single (Insert id parent ch))).inserted q ≡ cond (is q id) (Some (element parent ch)) (finite_map.get c.inserted q)
+get-insertion c id parent ch q absent =
+    get-join c (single (Insert id parent ch)) q ∙ ap (option_or (finite_map.get c.inserted q)) (get-single id parent ch q)
+    ∙ by (is q id) (λ t. ap (finite_map.get c.inserted) (same_id q id t) ∙ absent)
+  where
+    by : (b : Bool) → (b ≡ true → finite_map.get c.inserted q ≡ None) → option_or (finite_map.get c.inserted q) (cond b (Some (element parent ch)) None) ≡ cond b (Some (element parent ch)) (finite_map.get c.inserted q)
+    by true h = ap (λ o. option_or o (Some (element parent ch))) (h refl)
+    by false h = or_none (finite_map.get c.inserted q)
+
+-- a deletion leaves the insertions
+pub get-deletion : (c : Content) (id q : Identifier) → finite_map.get (join c (single (Delete id))).inserted q ≡ finite_map.get c.inserted q
+get-deletion c id q = ap (λ inserted. finite_map.get inserted q) (inserted-deletion c id)
+
+-- an operation that does not conflict counts as held for those behind it
+pub first_conflict-next : (c : Content) (op : Op) (ops : List Op) → has_another c op ≡ false → first_conflict c (op ∷ ops) ≡ first_conflict (join c (single op)) ops
+first_conflict-next c op ops h = ap (λ b. cond b (Some (id_of op)) (first_conflict (join c (single op)) ops)) h
+
+-- an ill-formed operation is never refused for want of memory
+pub checked_without_memory : (ops : List Op) → all_checked ops ≢ Err Memory
+checked_without_memory ops h = elim (ill_formed_refusal ops Memory h) [
+  | inl b ↦ absurd (cc)
+  | inr b ↦ absurd (cc)
+]

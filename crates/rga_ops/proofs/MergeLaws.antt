@@ -1,0 +1,227 @@
+-- The answers to a merge: which of them comes exactly when.
+use Rattle.std.proofs.Common.{◌≡◌, ℕ, ◌<◌, ◌≤◌, Bool, true, false, cond, ◌||◌, T, List, [], ◌∷◌, map, is_some, refl, sym, ap, ◌∙◌, subst, true≢false, find}
+use Rattle.std.specs.Prelude.{Option, Some, None, Ok, Err, ◌⊎◌, ◌↔◌}
+use Rattle.std.specs.Option.{option_map_or}
+use Rattle.std.specs.List.{list_any}
+use Rattle.std.specs.Cmp.{tied_itself}
+use Rattle.std.specs.Ordering.{is_lt, ordering_reverse}
+use Rattle.std.specs.declared.cmp.Ordering.{Ordering}
+use Rattle.std.specs.declared.cmp.Ordering.TheVariants.{Less, Equal, Greater}
+use Rattle.std.specs.FinMap as finite_map
+use Rattle.std.specs.FinSet as finite_set
+use Rattle.std.specs.FinMap.{is_sorted}
+use Rattle.std.specs.FinMap.Entries.{below_all}
+use Rattle.std.proofs.lemmas.Bool.{false_from_ne_true}
+use Rattle.std.proofs.lemmas.Option.{same_Some, none-some}
+use Rattle.rga_ops.specs.Identifier.{Identifier, id_cmp}
+use Rattle.rga_ops.specs.Content.{Element, Content, known, join, Agree, IsSound}
+use Rattle.rga_ops.specs.ListAnswer.{has_another, is_conflict, least_conflict, list_answer, merge_answer, IsConflict, IsLeastConflict}
+use Rattle.rga_ops.proofs.IdentifierLaws.{ids_total, ids_exact, is, same_id}
+use Rattle.rga_ops.proofs.ContentLaws.{same_option}
+use Rattle.rga_ops.proofs.OperationLaws.{single_holds}
+use Rattle.rga_ops.specs.Operations.{operations}
+use Rattle.rga_ops.proofs.OperationsLaws.{content_of-operations, operations_hold, operations_agree}
+use Rattle.rga_ops.proofs.SortedLaws.{both_so}
+use Rattle.rga_ops.proofs.AgreeLaws.{has_another-iff, no_other-iff}
+use Rattle.rga_ops.proofs.ListAnswerLaws.{list_taken-iff, union_taken-iff, union_conflict-iff, union_full-iff, union_refusal}
+use Rattle.rga_ops.specs.declared.op.Op.TheVariants.{Insert}
+use Rattle.rga_ops.specs.declared.refusal.Refusal.{Refusal}
+use Rattle.rga_ops.specs.declared.refusal.Refusal.TheVariants.{Conflict, Full}
+
+-- ---- a conflict
+
+pub is_conflict-iff : (c d : Content) (id : Identifier) → (is_conflict c d id ≡ true) ↔ IsConflict c d id
+is_conflict-iff c d id = (tells (finite_map.get c.inserted id) refl, leads)
+  where
+    tells : (o : Option Element) → finite_map.get c.inserted id ≡ o → option_map_or (λ x. has_another d (Insert id x.parent x.ch)) o false ≡ true → IsConflict c d id
+    tells None g h = absurd (true≢false (sym h))
+    tells (Some x) g h =
+        let (y, there, other) = (has_another-iff d (Insert id x.parent x.ch)).0 h in
+        record { here = x; there = y; inserted_here = g; inserted_there = there; differ = λ e. other (sym e) }
+
+    leads : IsConflict c d id → is_conflict c d id ≡ true
+    leads w =
+        ap (λ o. option_map_or (λ x. has_another d (Insert id x.parent x.ch)) o false) w.inserted_here
+        ∙ (has_another-iff d (Insert id w.here.parent w.here.ch)).1 (w.there, w.inserted_there, λ e. w.differ (sym e))
+
+-- what is inserted in both is the same where it is no conflict
+same_element : (c d : Content) (id : Identifier) (x y : Element) → finite_map.get c.inserted id ≡ Some x → finite_map.get d.inserted id ≡ Some y → is_conflict c d id ≡ false → x ≡ y
+same_element c d id x y f g h =
+    let free : has_another d (Insert id x.parent x.ch) ≡ false = sym (ap (λ o. option_map_or (λ x. has_another d (Insert id x.parent x.ch)) o false) f) ∙ h in
+    sym ((no_other-iff d (Insert id x.parent x.ch)).0 free id y x g (single_holds (Insert id x.parent x.ch)))
+
+-- contents that agree have none, and those that have none agree
+pub agree-iff : (c d : Content) → Agree c d ↔ ((id : Identifier) → is_conflict c d id ≡ false)
+agree-iff c d = (
+  λ agree id. false_from_ne_true (is_conflict c d id) (λ t. let w = (is_conflict-iff c d id).0 t in w.differ (agree id w.here w.there w.inserted_here w.inserted_there)),
+  λ none id x y f g. same_element c d id x y f g (none id),
+)
+
+-- ---- the least conflict
+
+-- where a search finds nothing, nothing passes
+none_passes : (p : Identifier → Bool) (ks : List Identifier) → find p ks ≡ None → (q : Identifier) → list_any (is q) ks ≡ true → p q ≡ false
+none_passes p [] h q m = absurd (true≢false (sym m))
+none_passes p (k ∷ ks) h q m =
+    elim (p k) as (λ b. p k ≡ b → cond b (Some k) (find p ks) ≡ None → p q ≡ false) [
+      | true ↦ λ t h. absurd (none-some _ (sym h))
+      | false ↦ λ f h. elim (is q k) as (λ b. is q k ≡ b → (b || list_any (is q) ks) ≡ true → p q ≡ false) [
+        | true ↦ λ t m. ap p (same_id q k t) ∙ f
+        | false ↦ λ _ m. none_passes p ks h q m
+      ] refl m
+    ] refl h
+
+less_from_test : (o : Ordering) → T (is_lt o) → o ≡ Less
+less_from_test Less h = refl
+less_from_test Equal h = absurd h
+less_from_test Greater h = absurd h
+
+not_both_less : (a b : Identifier) → id_cmp a b ≡ Less → id_cmp b a ≡ Less → ⊥
+not_both_less a b h k = let clash : Less ≡ ordering_reverse Less = sym h ∙ ids_total.antisymm a b ∙ ap ordering_reverse k in absurd (cc)
+
+not_less_itself : (a : Identifier) → id_cmp a a ≡ Less → ⊥
+not_less_itself a h = let clash : Less ≡ Equal = sym h ∙ tied_itself ids_total a in absurd (cc)
+
+-- a key is below those behind it
+below_later : (k : Identifier) (es : List (Identifier × Element)) → T (below_all id_cmp k es) → (q : Identifier) → list_any (is q) (map (λ e. e.0) es) ≡ true → id_cmp k q ≡ Less
+below_later k [] h q m = absurd (true≢false (sym m))
+below_later k (e ∷ es) h q m =
+    let s : T (is_lt (id_cmp k e.0)) × T (below_all id_cmp k es) = both_so (is_lt (id_cmp k e.0)) (below_all id_cmp k es) h in
+    elim (is q e.0) as (λ b. is q e.0 ≡ b → (b || list_any (is q) (map (λ e. e.0) es)) ≡ true → id_cmp k q ≡ Less) [
+      | true ↦ λ t m. ap (id_cmp k) (same_id q e.0 t) ∙ less_from_test (id_cmp k e.0) s.0
+      | false ↦ λ _ m. below_later k es s.1 q m
+    ] refl m
+
+-- what passes, and no smaller key does
+record IsLeast (p : Identifier → Bool) (ks : List Identifier) (k : Identifier) : Type 0 where
+  passes : p k ≡ true
+  least : (q : Identifier) → list_any (is q) ks ≡ true → p q ≡ true → id_cmp q k ≡ Less → ⊥
+
+-- a search of keys that rise finds the least
+found_least : (p : Identifier → Bool) (es : List (Identifier × Element)) (k : Identifier) → T (is_sorted id_cmp es) → find p (map (λ e. e.0) es) ≡ Some k → IsLeast p (map (λ e. e.0) es) k
+found_least p [] k sorted h = absurd (none-some _ h)
+found_least p (e ∷ es) k sorted h =
+    let s : T (below_all id_cmp e.0 es) × T (is_sorted id_cmp es) = both_so (below_all id_cmp e.0 es) (is_sorted id_cmp es) sorted in
+    elim (p e.0) as (λ b. p e.0 ≡ b → cond b (Some e.0) (find p (map (λ e. e.0) es)) ≡ Some k → IsLeast p (map (λ e. e.0) (e ∷ es)) k) [
+      | true ↦ λ t h. first t s.0 (same_Some _ _ h)
+      | false ↦ λ f h. later f (found_least p es k s.1 h)
+    ] refl h
+  where
+    first : p e.0 ≡ true → T (below_all id_cmp e.0 es) → e.0 ≡ k → IsLeast p (map (λ e. e.0) (e ∷ es)) k
+    first t below same = record {
+      passes = ap p (sym same) ∙ t;
+      least = λ q m _ less.
+          let under : id_cmp q e.0 ≡ Less = ap (id_cmp q) same ∙ less in
+          elim (is q e.0) as (λ b. is q e.0 ≡ b → (b || list_any (is q) (map (λ e. e.0) es)) ≡ true → ⊥) [
+            | true ↦ λ t _. not_less_itself e.0 (ap (λ x. id_cmp x e.0) (sym (same_id q e.0 t)) ∙ under)
+            | false ↦ λ _ m. not_both_less e.0 q (below_later e.0 es below q m) under
+          ] refl m;
+    }
+
+    later : p e.0 ≡ false → IsLeast p (map (λ e. e.0) es) k → IsLeast p (map (λ e. e.0) (e ∷ es)) k
+    later f w = record {
+      passes = w.passes;
+      least = λ q m t less.
+          elim (is q e.0) as (λ b. is q e.0 ≡ b → (b || list_any (is q) (map (λ e. e.0) es)) ≡ true → ⊥) [
+            | true ↦ λ same _. true≢false (sym t ∙ ap p (same_id q e.0 same) ∙ f)
+            | false ↦ λ _ m. w.least q m t less
+          ] refl m;
+    }
+
+inserted_key : (c : Content) (id : Identifier) (x : Element) → finite_map.get c.inserted id ≡ Some x → list_any (is id) (finite_map.keys c.inserted) ≡ true
+inserted_key c id x g = sym (finite_map.contains_key-keys c.inserted id) ∙ ap is_some g
+
+-- there is none exactly where the contents agree
+pub no_least_conflict-iff : (c d : Content) → (least_conflict c d ≡ None) ↔ Agree c d
+no_least_conflict-iff c d = (
+  λ h id x y f g. same_element c d id x y f g (none_passes (is_conflict c d) (finite_map.keys c.inserted) h id (inserted_key c id x f)),
+  λ agree. by_search agree (least_conflict c d) refl,
+)
+  where
+    by_search : Agree c d → (o : Option Identifier) → least_conflict c d ≡ o → o ≡ None
+    by_search agree None h = refl
+    by_search agree (Some id) h =
+        let w = found_least (is_conflict c d) (finite_map.entries c.inserted) id (finite_map.entries_sorted c.inserted) h in
+        absurd (true≢false (sym w.passes ∙ (agree-iff c d).0 agree id))
+
+found_conflict : (c d : Content) (id : Identifier) → least_conflict c d ≡ Some id → IsLeastConflict c d id
+found_conflict c d id h =
+    let w = found_least (is_conflict c d) (finite_map.entries c.inserted) id (finite_map.entries_sorted c.inserted) h in
+    record {
+      conflict = (is_conflict-iff c d id).0 w.passes;
+      least = λ other at smaller. w.least other (inserted_key c other at.here at.inserted_here) ((is_conflict-iff c d other).1 at) smaller;
+    }
+
+-- there is but one
+pub one_least_conflict : (c d : Content) (a b : Identifier) → IsLeastConflict c d a → IsLeastConflict c d b → a ≡ b
+one_least_conflict c d a b v w =
+    elim (id_cmp a b) as (λ o. id_cmp a b ≡ o → a ≡ b) [
+      | Less ↦ λ h. absurd (w.least a v.conflict h)
+      | Equal ↦ λ h. ids_exact a b h
+      | Greater ↦ λ h. absurd (v.least b w.conflict (ids_total.antisymm b a ∙ ap ordering_reverse h))
+    ] refl
+
+pub least_conflict-iff : (c d : Content) (id : Identifier) → (least_conflict c d ≡ Some id) ↔ IsLeastConflict c d id
+least_conflict-iff c d id = (found_conflict c d id, λ w. by_search w (least_conflict c d) refl)
+  where
+    by_search : IsLeastConflict c d id → (o : Option Identifier) → least_conflict c d ≡ o → o ≡ Some id
+    by_search w None h = let at = w.conflict in absurd (at.differ ((no_least_conflict-iff c d).0 h id at.here at.there at.inserted_here at.inserted_there))
+    by_search w (Some k) h = ap Some (one_least_conflict c d k id (found_conflict c d k h) w)
+
+-- ---- the answer to a merge
+
+pub merge_taken-iff : (limit : ℕ) (c d : Content) → (merge_answer limit c d ≡ Ok tt) ↔ (Agree c d × (finite_set.len (known (join c d)) ≤ limit))
+merge_taken-iff limit c d = (
+  λ h. let u = (union_taken-iff limit (least_conflict c d) (join c d)).0 h in ((no_least_conflict-iff c d).0 u.0, u.1),
+  λ (agree, fits). (union_taken-iff limit (least_conflict c d) (join c d)).1 ((no_least_conflict-iff c d).1 agree, fits),
+)
+
+pub merge_conflict-iff : (limit : ℕ) (c d : Content) (id : Identifier) → (merge_answer limit c d ≡ Err (Conflict id)) ↔ IsLeastConflict c d id
+merge_conflict-iff limit c d id = (
+  λ h. (least_conflict-iff c d id).0 ((union_conflict-iff limit (least_conflict c d) (join c d) id).0 h),
+  λ w. (union_conflict-iff limit (least_conflict c d) (join c d) id).1 ((least_conflict-iff c d id).1 w),
+)
+
+pub merge_full-iff : (limit : ℕ) (c d : Content) → (merge_answer limit c d ≡ Err Full) ↔ (Agree c d × (limit < finite_set.len (known (join c d))))
+merge_full-iff limit c d = (
+  λ h. let u = (union_full-iff limit (least_conflict c d) (join c d)).0 h in ((no_least_conflict-iff c d).0 u.0, u.1),
+  λ (agree, more). (union_full-iff limit (least_conflict c d) (join c d)).1 ((no_least_conflict-iff c d).1 agree, more),
+)
+
+pub merge_refusal : (limit : ℕ) (c d : Content) (e : Refusal) → merge_answer limit c d ≡ Err e → ((id : Identifier) × (e ≡ Conflict id)) ⊎ (e ≡ Full)
+merge_refusal limit c d = union_refusal limit (least_conflict c d) (join c d)
+
+-- ---- either way round
+
+pub conflict_swap : (c d : Content) (id : Identifier) → IsConflict c d id → IsConflict d c id
+conflict_swap c d id w = record { here = w.there; there = w.here; inserted_here = w.inserted_there; inserted_there = w.inserted_here; differ = λ e. w.differ (sym e) }
+
+least_swap : (c d : Content) (id : Identifier) → IsLeastConflict c d id → IsLeastConflict d c id
+least_swap c d id w = record { conflict = conflict_swap c d id w.conflict; least = λ other at. w.least other (conflict_swap d c other at) }
+
+-- the least conflict may be sought in either content
+pub least_conflict_swap : (c d : Content) → least_conflict c d ≡ least_conflict d c
+least_conflict_swap c d = same_option (least_conflict c d) (least_conflict d c) (one_way c d) (one_way d c)
+  where
+    one_way : (c d : Content) (id : Identifier) → least_conflict c d ≡ Some id → least_conflict d c ≡ Some id
+    one_way c d id h = (least_conflict-iff d c id).1 (least_swap c d id ((least_conflict-iff c d id).0 h))
+
+-- ---- as a list
+
+-- a merge is taken where the other's operations are taken as a list
+pub merge_list-iff : (limit : ℕ) (c d : Content) → IsSound d → (merge_answer limit c d ≡ Ok tt) ↔ (list_answer limit c (operations d) ≡ Ok tt)
+merge_list-iff limit c d sound = (
+  λ h.
+      let w = (merge_taken-iff limit c d).0 h in
+      (list_taken-iff limit c (operations d)).1 (
+        λ op m. sound op (operations_hold d op m),
+        record { agreed = operations_agree d; agree = subst (Agree c) (sym (content_of-operations d)) w.0 },
+        subst (λ e. finite_set.len (known (join c e)) ≤ limit) (sym (content_of-operations d)) w.1,
+      ),
+  λ h.
+      let w = (list_taken-iff limit c (operations d)).0 h in
+      (merge_taken-iff limit c d).1 (
+        subst (Agree c) (content_of-operations d) w.1.agree,
+        subst (λ e. finite_set.len (known (join c e)) ≤ limit) (content_of-operations d) w.2,
+      ),
+)

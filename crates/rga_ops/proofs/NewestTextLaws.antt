@@ -1,0 +1,167 @@
+-- An insertion whose counter is above all others: which elements are complete and visible then, and the text as a splice.
+use Rattle.std.proofs.Common.{◌≡◌, ℕ, ◌+◌, ◌<◌, ◌≤◌, Bool, true, false, cond, not, ◌&&◌, ◌||◌, nat_le, List, [], ◌∷◌, ◌++◌, map, filter, take, drop, refl, sym, ap, ◌∙◌, arith, true≢false, inl, inr}
+use Rattle.std.specs.Prelude.{Some, Ok, Err, max}
+use Rattle.std.specs.Option.{option_map}
+use Rattle.std.specs.List.{list_any, slice_get, AllByRecursion}
+use Rattle.std.specs.FinMap as finite_map
+use Rattle.std.proofs.lemmas.Bool.{and_parts, or_cases, or_left, or_right, false_from_ne_true}
+use Rattle.std.proofs.lemmas.Bool.Decides.{nat_tests}
+use Rattle.rga_ops.specs.Identifier.{Identifier, root, is_root}
+use Rattle.rga_ops.specs.Operation.{checked}
+use Rattle.rga_ops.specs.Content.{Element, element, Content, IsSound, join, single, clock}
+use Rattle.rga_ops.specs.RootPath.{is_complete}
+use Rattle.rga_ops.specs.Order.{order, text}
+use Rattle.rga_ops.specs.Places.{is_visible, visible, character}
+use Rattle.rga_ops.specs.Placement.{change_after, put_behind}
+use Rattle.rga_ops.proofs.PathLaws.{inserted_if_complete}
+use Rattle.rga_ops.proofs.IdentifierLaws.{is, same_id, is_itself, is_id-is}
+use Rattle.rga_ops.proofs.OrderLaws.{all_members}
+use Rattle.rga_ops.proofs.VisibleLaws.{is_kept, visible_is, visible_elements, text_is, own_index}
+use Rattle.rga_ops.proofs.ClockLaws.{within_clock, clock_insertion}
+use Rattle.rga_ops.proofs.InsertionLaws.{not_complete_before, is_root_or_complete, contains-insertion, get-elsewhere, get-inserted, is_complete-insertion}
+use Rattle.rga_ops.proofs.PlacementLaws.{member_at, put_at, change_after-at, filter-put_after}
+use Rattle.rga_ops.proofs.SpliceLaws.{same_characters, characters_with}
+use Rattle.rga_ops.proofs.SoundLaws.{sound_after}
+use Rattle.rga_ops.proofs.NewestLaws.{newest_element, newest_absent, newest_kept, newest_leaf, order-newest}
+use Rattle.rga_ops.specs.declared.op.Op.TheVariants.{Insert}
+use Rattle.rga_ops.specs.declared.refusal.Refusal.TheVariants.{BadId, BadOrder}
+
+-- what stands at an index of the visible elements is visible
+pub visible_at : (c : Content) (i : ℕ) (id : Identifier) → slice_get (visible c) i ≡ Some id → (is_complete c id ≡ true) × (is_kept c id ≡ true)
+visible_at c i id h = and_parts (is_complete c id) (is_kept c id) (sym (visible_elements c id) ∙ member_at (visible c) i id h)
+
+-- the root or a complete element has no counter above the clock
+pub root_or_complete_within : (c : Content) (parent : Identifier) → is_root_or_complete c parent ≡ true → parent.counter ≤ clock c
+root_or_complete_within c parent h = elim (or_cases (is_root parent) (is_complete c parent) h) [
+  | inl at_root ↦ let zero_counter : parent.counter ≡ 0 = ap (λ (i : Identifier). i.counter) (is_id-is parent root at_root) in omega (arith, zero_counter)
+  | inr complete ↦ let at : (x : Element) × (finite_map.get c.inserted parent ≡ Some x) = inserted_if_complete c parent complete in (within_clock c).own parent at.0 at.1
+]
+
+module _ (c : Content) (id parent : Identifier) (ch : ℕ) (newer : clock c < id.counter) where
+  abbrev d : Content
+  d = join c (single (Insert id parent ch))
+
+  -- ---- what the new content has
+
+  pub clock-newest_falls : parent.counter ≤ id.counter → clock d ≡ id.counter
+  clock-newest_falls falls = clock_insertion c id (element parent ch) (newest_absent c id newer) falls ∙ larger (clock c) id.counter newer
+    where
+      larger : (m n : ℕ) → m < n → max m n ≡ n
+      larger m n h = omega arith
+
+  pub get-newest : finite_map.get d.inserted id ≡ Some (element parent ch)
+  get-newest = get-inserted c id parent ch (newest_absent c id newer)
+
+  pub kept-newest : is_kept d id ≡ true
+  kept-newest = ap not (contains-insertion c id parent ch id ∙ newest_kept c id newer)
+
+  kept_same : is_kept d ≡ is_kept c
+  kept_same = λ k q. not (contains-insertion c id parent ch q k)
+
+  -- the new element is complete where its parent is the root or complete, and no other is complete anew
+  pub is_complete-newest_or_waits : (q : Identifier) → is_complete d q ≡ ((is q id && is_root_or_complete c parent) || is_complete c q)
+  is_complete-newest_or_waits = is_complete-insertion c id parent ch (newest_leaf c id newer)
+
+  -- ---- the visible elements
+
+  pub visible-newest : (is_root parent || is_kept c parent) ≡ true → visible d ≡ put_behind parent id (visible c)
+  visible-newest stays =
+      visible_is d
+      ∙ (λ k. filter (kept_same k) (order-newest c id newer parent ch k))
+      ∙ elim (is_root parent) as (λ b. (b || is_kept c parent) ≡ true → filter (is_kept c) (cond b (id ∷ order c) (change_after parent (λ ys. id ∷ ys) (order c))) ≡ cond b (id ∷ filter (is_kept c) (order c)) (change_after parent (λ ys. id ∷ ys) (filter (is_kept c) (order c)))) [
+        | true ↦ λ s. ap (λ b. cond b (id ∷ filter (is_kept c) (order c)) (filter (is_kept c) (order c))) keeps
+        | false ↦ λ s. filter-put_after (is_kept c) parent id (order c) s keeps
+      ] stays
+      ∙ ap (put_behind parent id) (sym (visible_is c))
+    where
+      keeps : is_kept c id ≡ true
+      keeps = ap not (newest_kept c id newer)
+
+  -- in front of all where the parent is the root,
+  pub visible-newest_front : is_root parent ≡ true → visible d ≡ id ∷ visible c
+  visible-newest_front at_root =
+      visible-newest (or_left (is_root parent) (is_kept c parent) at_root)
+      ∙ ap (λ b. cond b (id ∷ visible c) (change_after parent (λ ys. id ∷ ys) (visible c))) at_root
+
+  -- and else behind the parent, at its index
+  pub visible-newest_at : (i : ℕ) → slice_get (visible c) i ≡ Some parent → visible d ≡ take (i + 1) (visible c) ++ id ∷ drop (i + 1) (visible c)
+  visible-newest_at i h =
+      let shows : (is_complete c parent ≡ true) × (is_kept c parent ≡ true) = visible_at c i parent h in
+      let other : is_root parent ≡ false = element_of (is_root parent) _ shows.0 in
+      visible-newest (or_right (is_root parent) (is_kept c parent) shows.1)
+      ∙ ap (λ b. cond b (id ∷ visible c) (change_after parent (λ ys. id ∷ ys) (visible c))) other
+      ∙ change_after-at parent (λ ys. id ∷ ys) (visible c) i (own_index c parent i h)
+    where
+      element_of : (a b : Bool) → (not a && b) ≡ true → a ≡ false
+      element_of true b e = absurd (true≢false (sym e))
+      element_of false b e = refl
+
+  -- the new element is at the index of its place
+  pub newest_at_front : is_root parent ≡ true → slice_get (visible d) 0 ≡ Some id
+  newest_at_front at_root = ap (λ xs. slice_get xs 0) (visible-newest_front at_root)
+
+  pub newest_at : (i : ℕ) → slice_get (visible c) i ≡ Some parent → slice_get (visible d) (i + 1) ≡ Some id
+  newest_at i h = ap (λ xs. slice_get xs (i + 1)) (visible-newest_at i h) ∙ put_at (visible c) i parent id (drop (i + 1) (visible c)) h
+
+  -- ---- the text
+
+  character_here : character d id ≡ Some ch
+  character_here = ap (option_map (λ (x : Element). x.ch)) get-newest
+
+  characters_stay : map Some (text c) ≡ map (character d) (visible c)
+  characters_stay = text_is c ∙ among (visible c) (all_members (λ q. character c q ≡ character d q) (visible c) same)
+    where
+      among : (xs : List Identifier) → AllByRecursion (λ q. character c q ≡ character d q) xs → map (character c) xs ≡ map (character d) xs
+      among [] h = refl
+      among (x ∷ xs) h = λ k. h.0 k ∷ among xs h.1 k
+
+      same : (q : Identifier) → list_any (is q) (visible c) ≡ true → character c q ≡ character d q
+      same q m =
+          let complete : is_complete c q ≡ true = (and_parts (is_complete c q) (is_kept c q) (sym (visible_elements c q) ∙ m)).0 in
+          let other : is q id ≡ false = false_from_ne_true (is q id) (λ t. true≢false (sym complete ∙ ap (is_complete c) (same_id q id t) ∙ not_complete_before c id (newest_leaf c id newer))) in
+          ap (option_map (λ (x : Element). x.ch)) (sym (get-elsewhere c id parent ch q other))
+
+  pub text-newest_front : is_root parent ≡ true → text d ≡ ch ∷ text c
+  text-newest_front at_root = same_characters _ _ (
+      text_is d ∙ ap (map (character d)) (visible-newest_front at_root)
+      ∙ (λ k. character_here k ∷ sym characters_stay k))
+
+  pub text-newest_at : (i : ℕ) → slice_get (visible c) i ≡ Some parent → text d ≡ take (i + 1) (text c) ++ ch ∷ drop (i + 1) (text c)
+  text-newest_at i h = same_characters _ _ (
+      text_is d ∙ ap (map (character d)) (visible-newest_at i h)
+      ∙ characters_with (character d) (i + 1) id ch (visible c) (text c) characters_stay character_here)
+
+  -- ---- where the parent is the root or complete
+
+  module _ (stands : is_root_or_complete c parent ≡ true) where
+    lower : parent.counter ≤ clock c
+    lower = root_or_complete_within c parent stands
+
+    pub newest_well_formed : checked (Insert id parent ch) ≡ Ok tt
+    newest_well_formed =
+        ap (λ b. cond b (Err BadId) (cond (nat_le id.counter parent.counter) (Err BadOrder) (Ok tt))) (newest_element c id newer)
+        ∙ ap (λ b. cond b (Err BadOrder) (Ok tt)) (above id.counter parent.counter (omega (arith, newer, lower)))
+      where
+        above : (m n : ℕ) → n < m → nat_le m n ≡ false
+        above m n h = grind (arith, nat_tests)
+
+    pub sound-newest : IsSound c → IsSound d
+    sound-newest sound = sound_after c (Insert id parent ch) sound newest_well_formed
+
+    pub clock-newest : clock d ≡ id.counter
+    clock-newest = clock-newest_falls (omega (arith, newer, lower))
+
+    pub complete_anew : is_complete d id ≡ true
+    complete_anew =
+        is_complete-newest_or_waits id
+        ∙ or_left (is id id && is_root_or_complete c parent) (is_complete c id) ((λ k. is_itself id k && is_root_or_complete c parent) ∙ stands)
+
+    pub is_complete-newest : (q : Identifier) → is_complete d q ≡ (is q id || is_complete c q)
+    is_complete-newest q = is_complete-newest_or_waits q ∙ ap (λ b. (is q id && b) || is_complete c q) stands ∙ ap (λ b. b || is_complete c q) (and_true (is q id))
+      where
+        and_true : (b : Bool) → (b && true) ≡ b
+        and_true true = refl
+        and_true false = refl
+
+    pub visible_anew : is_visible d id ≡ true
+    visible_anew = (λ k. complete_anew k && kept-newest k)

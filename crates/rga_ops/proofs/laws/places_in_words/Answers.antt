@@ -1,5 +1,0 @@
-use Rattle.rga_ops.proofs.VisibleLaws.{no_place, place_at}
-use Rattle.rga_ops.proofs.laws.places_in_words.Goals as goal
-
-pub returns : goal.returns
-returns c = record { none = no_place; of_visible = place_at }

@@ -1,0 +1,241 @@
+-- What taking an operation back leaves: the content from before it, with its counts and its children.
+use Rattle.std.proofs.Common.{◌≡◌, ℕ, ◌+◌, ◌-◌, ◌≤◌, Bool, true, false, cond, not, ◌&&◌, ◌||◌, List, [], ◌∷◌, ◌++◌, is_some, refl, sym, ap, ◌∙◌, subst, arith}
+use Rattle.std.specs.Prelude.{Option, Some, None, Ok}
+use Rattle.std.specs.Option.{option_map_or}
+use Rattle.std.specs.FinMap as finite_map
+use Rattle.std.specs.FinSet as finite_set
+use Rattle.rga_ops.specs.Identifier.{Identifier, is_id}
+use Rattle.rga_ops.specs.Content.{Element, element, Content, join, single, known, clock, Holds, IsWithin}
+use Rattle.rga_ops.specs.Answer.{answer, after_answer}
+use Rattle.rga_ops.proofs.IdentifierLaws.{ids_total, is, is_itself, same_id, is_id-same, is_id-is}
+use Rattle.rga_ops.proofs.ContentLaws.{same_content, within_join, or_false}
+use Rattle.rga_ops.proofs.AnswerLaws.{contains-known, new_insertion, new_deletion}
+use Rattle.rga_ops.proofs.TakenLaws.{taken_is}
+use Rattle.rga_ops.specs.declared.op.Op.{Op}
+use Rattle.rga_ops.specs.declared.op.Op.TheVariants.{Insert, Delete}
+use Rattle.rga_ops.specs.declared.refusal.Taken.TheVariants.{New}
+use Rattle.rga_store.specs.declared.tree_store.taking_back.Step.{Step}
+use Rattle.rga_store.specs.Back.{without_insertion, without_deletion, without, gone_back, CanGoBack, IsLastStep}
+use Rattle.rga_store.specs.Children.{HasChild, IsRising}
+use Rattle.rga_store.specs.Nodes.{Nodes, AreApart, content_of_nodes, kids}
+use Rattle.rga_store.specs.Tree.{is_child, IsFamily, IsCounted, IsTree}
+use Rattle.rga_store.proofs.StepLaws.{inserted_now, deleted_then, inserted_then, deleted_now, more_known, more_inserted, sound_within, IsChild, child_found, family_same}
+
+-- ---- what is left, joined again
+
+left_inserted : (c : Content) (id q : Identifier) → finite_map.get (without_insertion id c).inserted q ≡ cond (is q id) None (finite_map.get c.inserted q)
+left_inserted c id q = finite_map.get-remove ids_total c.inserted id q
+
+uninserted : (c : Content) (id : Identifier) → finite_map.get (without_insertion id c).inserted id ≡ None
+uninserted c id = left_inserted c id id ∙ ap (λ b. cond b None (finite_map.get c.inserted id)) (is_itself id)
+
+left_deleted : (c : Content) (id q : Identifier) → finite_set.contains (without_deletion id c).deleted q ≡ (not (is q id) && finite_set.contains c.deleted q)
+left_deleted c id q = finite_set.contains-remove ids_total c.deleted id q
+
+undeleted : (c : Content) (id : Identifier) → finite_set.contains (without_deletion id c).deleted id ≡ false
+undeleted c id = left_deleted c id id ∙ ap (λ b. not b && finite_set.contains c.deleted id) (is_itself id)
+
+insertion_again : (c : Content) (id : Identifier) (x : Element) → finite_map.get c.inserted id ≡ Some x → join (without_insertion id c) (single (Insert id x.parent x.ch)) ≡ c
+insertion_again c id x g = same_content _ _
+    (λ q. inserted_now (without_insertion id c) id x.parent x.ch q (uninserted c id)
+    ∙ ap (cond (is q id) (Some (element x.parent x.ch))) (left_inserted c id q)
+    ∙ elim (is q id) as (λ b. is q id ≡ b → cond b (Some x) (cond b None (finite_map.get c.inserted q)) ≡ finite_map.get c.inserted q) [
+      | true ↦ λ t. sym (ap (finite_map.get c.inserted) (same_id q id t) ∙ g)
+      | false ↦ λ t. refl
+    ] refl)
+    (λ q. deleted_then (without_insertion id c) id x.parent x.ch q)
+
+deletion_again : (c : Content) (id : Identifier) → finite_set.contains c.deleted id ≡ true → join (without_deletion id c) (single (Delete id)) ≡ c
+deletion_again c id g = same_content _ _
+    (λ q. inserted_then (without_deletion id c) id q)
+    (λ q. deleted_now (without_deletion id c) id q ∙ ap (λ b. b || is q id) (left_deleted c id q)
+    ∙ elim (is q id) as (λ b. is q id ≡ b → ((not b && finite_set.contains c.deleted q) || b) ≡ finite_set.contains c.deleted q) [
+      | true ↦ λ t. sym (ap (finite_set.contains c.deleted) (same_id q id t) ∙ g)
+      | false ↦ λ t. or_false (finite_set.contains c.deleted q)
+    ] refl)
+
+-- ---- a new operation, taken back
+
+pub without_new : (limit : ℕ) (c : Content) (op : Op) → answer limit c op ≡ Ok New → without op (join c (single op)) ≡ c
+without_new limit c (Insert id parent ch) h =
+    let none : finite_map.get c.inserted id ≡ None = (new_insertion limit c id parent ch h).absent in
+    same_content _ _
+    (λ q. left_inserted (join c (single (Insert id parent ch))) id q ∙ ap (cond (is q id) None) (inserted_now c id parent ch q none)
+    ∙ elim (is q id) as (λ b. is q id ≡ b → cond b None (cond b (Some (element parent ch)) (finite_map.get c.inserted q)) ≡ finite_map.get c.inserted q) [
+      | true ↦ λ t. sym (ap (finite_map.get c.inserted) (same_id q id t) ∙ none)
+      | false ↦ λ t. refl
+    ] refl)
+    (λ q. deleted_then c id parent ch q)
+without_new limit c (Delete id) h =
+    let none : finite_set.contains c.deleted id ≡ false = (new_deletion limit c id h).absent in
+    same_content _ _
+    (λ q. inserted_then c id q)
+    (λ q. left_deleted (join c (single (Delete id))) id q ∙ ap (λ b. not (is q id) && b) (deleted_now c id q)
+    ∙ elim (is q id) as (λ b. is q id ≡ b → (not b && (finite_set.contains c.deleted q || b)) ≡ finite_set.contains c.deleted q) [
+      | true ↦ λ t. sym (ap (finite_set.contains c.deleted) (same_id q id t) ∙ none)
+      | false ↦ λ t. or_false (finite_set.contains c.deleted q)
+    ] refl)
+
+pub new_held : (limit : ℕ) (c : Content) (op : Op) → answer limit c op ≡ Ok New → Holds (join c (single op)) op
+new_held limit c op h = (taken_is limit c op (join c (single op)) (ap (after_answer c op) h)).held
+
+-- ---- counts
+
+counted_less : (b : Bool) (n m : ℕ) → n ≡ cond b m (m + 1) → cond b n (n - 1) ≡ m
+counted_less true n m h = h
+counted_less false n m h = omega arith
+
+one_counted : (b : Bool) (n m : ℕ) → n ≡ cond b m (m + 1) → cond b 0 1 ≤ n
+one_counted true n m h = omega arith
+one_counted false n m h = omega arith
+
+no_more : (b : Bool) (n limit : ℕ) → n ≤ limit → cond b n (n - 1) ≤ limit
+no_more true n limit h = h
+no_more false n limit h = omega arith
+
+module _ (c : Content) (latest insertions identifiers limit : ℕ) (w : IsCounted c latest insertions identifiers limit) where
+  module _ (id : Identifier) (x : Element) (g : finite_map.get c.inserted id ≡ Some x) where
+    known_before : identifiers ≡ cond (finite_set.contains c.deleted id) (finite_set.len (known (without_insertion id c))) (finite_set.len (known (without_insertion id c)) + 1)
+    known_before =
+        w.known ∙ ap (λ d. finite_set.len (known d)) (sym (insertion_again c id x g)) ∙ more_known (without_insertion id c) (Insert id x.parent x.ch)
+        ∙ ap (λ b. cond b (finite_set.len (known (without_insertion id c))) (finite_set.len (known (without_insertion id c)) + 1)) (contains-known (without_insertion id c) id ∙ ap (λ (o : Option Element). is_some o || finite_set.contains c.deleted id) (uninserted c id))
+
+    inserted_before : insertions ≡ finite_map.len (without_insertion id c).inserted + 1
+    inserted_before = w.inserted ∙ ap (λ (d : Content). finite_map.len d.inserted) (sym (insertion_again c id x g)) ∙ more_inserted (without_insertion id c) id x.parent x.ch (uninserted c id)
+
+    pub one_inserted : 1 ≤ insertions
+    one_inserted = omega (arith, inserted_before)
+
+    pub one_insertion_known : cond (finite_set.contains c.deleted id) 0 1 ≤ identifiers
+    one_insertion_known = one_counted (finite_set.contains c.deleted id) identifiers _ known_before
+
+    pub counted_without_insertion : IsCounted (without_insertion id c) (clock (without_insertion id c)) (insertions - 1) (cond (finite_set.contains c.deleted id) identifiers (identifiers - 1)) limit
+    counted_without_insertion = record {
+      sound = sound_within (without_insertion id c) c (subst (λ d. IsWithin (without_insertion id c) d) (insertion_again c id x g) (within_join (without_insertion id c) (single (Insert id x.parent x.ch)))) w.sound;
+      clocked = refl;
+      inserted = one_less insertions (finite_map.len (without_insertion id c).inserted) inserted_before;
+      known = counted_less (finite_set.contains c.deleted id) identifiers _ known_before;
+      room = no_more (finite_set.contains c.deleted id) identifiers limit w.room;
+      limited = w.limited;
+    }
+      where
+        one_less : (n m : ℕ) → n ≡ m + 1 → n - 1 ≡ m
+        one_less n m h = omega arith
+
+  module _ (id : Identifier) (g : finite_set.contains c.deleted id ≡ true) where
+    known_then : identifiers ≡ cond (finite_map.contains_key c.inserted id) (finite_set.len (known (without_deletion id c))) (finite_set.len (known (without_deletion id c)) + 1)
+    known_then =
+        w.known ∙ ap (λ d. finite_set.len (known d)) (sym (deletion_again c id g)) ∙ more_known (without_deletion id c) (Delete id)
+        ∙ ap (λ b. cond b (finite_set.len (known (without_deletion id c))) (finite_set.len (known (without_deletion id c)) + 1)) (contains-known (without_deletion id c) id ∙ ap (λ b. finite_map.contains_key c.inserted id || b) (undeleted c id) ∙ or_false (finite_map.contains_key c.inserted id))
+
+    pub one_deletion_known : cond (finite_map.contains_key c.inserted id) 0 1 ≤ identifiers
+    one_deletion_known = one_counted (finite_map.contains_key c.inserted id) identifiers _ known_then
+
+    pub counted_without_deletion : IsCounted (without_deletion id c) (clock (without_deletion id c)) insertions (cond (finite_map.contains_key c.inserted id) identifiers (identifiers - 1)) limit
+    counted_without_deletion = record {
+      sound = sound_within (without_deletion id c) c (subst (λ d. IsWithin (without_deletion id c) d) (deletion_again c id g) (within_join (without_deletion id c) (single (Delete id)))) w.sound;
+      clocked = refl;
+      inserted = w.inserted;
+      known = counted_less (finite_map.contains_key c.inserted id) identifiers _ known_then;
+      room = no_more (finite_map.contains_key c.inserted id) identifiers limit w.room;
+      limited = w.limited;
+    }
+
+-- ---- children
+
+child_left : (c : Content) (id parent p k : Identifier) → is_child c parent id ≡ true → is_child (without_insertion id c) p k ≡ (is_child c p k && not (is_id parent p && is_id id k))
+child_left c id parent p k its =
+    let found : IsChild c parent id = child_found c parent id its in
+    ap (λ (o : Option Element). option_map_or (λ x. is_id x.parent p) o false) (left_inserted c id k)
+    ∙ ap (λ b. option_map_or (λ x. is_id x.parent p) (cond b None (finite_map.get c.inserted k)) false) (sym (is_id-same id k))
+    ∙ elim (is_id id k) as (λ b. is_id id k ≡ b → option_map_or (λ x. is_id x.parent p) (cond b None (finite_map.get c.inserted k)) false ≡ (is_child c p k && not (is_id parent p && b))) [
+      | true ↦ λ t.
+          let here : is_child c p k ≡ is_id parent p =
+          ap (λ (o : Option Element). option_map_or (λ x. is_id x.parent p) o false) (ap (finite_map.get c.inserted) (sym (is_id-is id k t)) ∙ found.found) ∙ ap (λ q. is_id q p) found.parent in
+          none_left (is_id parent p) ∙ ap (λ b. b && not (is_id parent p && true)) (sym here)
+      | false ↦ λ t. all_left (is_child c p k) (is_id parent p)
+    ] refl
+  where
+    none_left : (a : Bool) → false ≡ (a && not (a && true))
+    none_left true = refl
+    none_left false = refl
+
+    all_left : (a b : Bool) → a ≡ (a && not (b && false))
+    all_left true true = refl
+    all_left true false = refl
+    all_left false b = refl
+
+-- ---- nodes
+
+module _ (ns ms : Nodes) (latest insertions identifiers limit : ℕ) (w : IsTree ns latest insertions identifiers limit) (apart : AreApart ms) where
+  pub tree_without_insertion : (id parent : Identifier) (sooner less : ℕ) → is_child (content_of_nodes ns) parent id ≡ true
+      → content_of_nodes ms ≡ without_insertion id (content_of_nodes ns)
+      → ((p k : Identifier) → HasChild (kids ms p) k ≡ (HasChild (kids ns p) k && not (is_id parent p && is_id id k))) → ((p : Identifier) → IsRising (kids ms p))
+      → sooner ≡ clock (without_insertion id (content_of_nodes ns)) → less ≡ cond (finite_set.contains (content_of_nodes ns).deleted id) identifiers (identifiers - 1) → IsTree ms sooner (insertions - 1) less limit
+  tree_without_insertion id parent sooner less its left children rising is_sooner is_less =
+      let c : Content = content_of_nodes ns in
+      let found : IsChild c parent id = child_found c parent id its in
+      record {
+        apart = apart;
+        family = subst (λ d. IsFamily d (kids ms)) (sym left) (record {
+          children = λ p k. children p k ∙ ap (λ b. b && not (is_id parent p && is_id id k)) (w.family.children p k) ∙ sym (child_left c id parent p k its);
+          rising = rising;
+        });
+        counted =
+            subst (λ d. IsCounted d sooner (insertions - 1) less limit) (sym left)
+            (subst (λ n. IsCounted (without_insertion id c) n (insertions - 1) less limit) (sym is_sooner)
+            (subst (λ n. IsCounted (without_insertion id c) (clock (without_insertion id c)) (insertions - 1) n limit) (sym is_less)
+            (counted_without_insertion c latest insertions identifiers limit w.counted id found.element found.found)));
+      }
+
+  pub tree_without_deletion : (id : Identifier) (sooner less : ℕ) → finite_set.contains (content_of_nodes ns).deleted id ≡ true
+      → content_of_nodes ms ≡ without_deletion id (content_of_nodes ns) → ((p : Identifier) → kids ms p ≡ kids ns p)
+      → sooner ≡ clock (without_deletion id (content_of_nodes ns)) → less ≡ cond (finite_map.contains_key (content_of_nodes ns).inserted id) identifiers (identifiers - 1) → IsTree ms sooner insertions less limit
+  tree_without_deletion id sooner less its left lists is_sooner is_less =
+      let c : Content = content_of_nodes ns in
+      let same : IsFamily c (kids ms) = family_same c (kids ns) (kids ms) w.family lists in
+      record {
+        apart = apart;
+        family = subst (λ d. IsFamily d (kids ms)) (sym left) (record { children = same.children; rising = same.rising });
+        counted =
+            subst (λ d. IsCounted d sooner insertions less limit) (sym left)
+            (subst (λ n. IsCounted (without_deletion id c) n insertions less limit) (sym is_sooner)
+            (subst (λ n. IsCounted (without_deletion id c) (clock (without_deletion id c)) insertions n limit) (sym is_less)
+            (counted_without_deletion c latest insertions identifiers limit w.counted id its)));
+      }
+
+-- ---- steps
+
+pub gone_back-push : (ss : List Step) (s : Step) (c : Content) → gone_back (ss ++ s ∷ []) c ≡ gone_back ss (without s.op c)
+gone_back-push [] s c = refl
+gone_back-push (t ∷ ss) s c = ap (without t.op) (gone_back-push ss s c)
+
+pub last_step : (ss : List Step) (s : Step) (c : Content) → CanGoBack (ss ++ s ∷ []) c → IsLastStep ss s.op s.clock c
+last_step [] s c h = record { held = h.1.0; clocked = h.1.1; rest = tt }
+last_step (t ∷ ss) s c h =
+    let last : IsLastStep ss s.op s.clock c = last_step ss s c h.0 in
+    record {
+      held = last.held;
+      clocked = last.clocked;
+      rest = (last.rest, subst (λ d. Holds d t.op × (t.clock ≡ clock (without t.op d))) (gone_back-push ss s c) h.1);
+    }
+
+pub one_step_more : (ss : List Step) (s : Step) (c : Content) → IsLastStep ss s.op s.clock c → CanGoBack (ss ++ s ∷ []) c
+one_step_more [] s c last = (tt, (last.held, last.clocked))
+one_step_more (t ∷ ss) s c last = (
+  one_step_more ss s c (record { held = last.held; clocked = last.clocked; rest = last.rest.0 }),
+  subst (λ d. Holds d t.op × (t.clock ≡ clock (without t.op d))) (sym (gone_back-push ss s c)) last.rest.1,
+)
+
+-- ---- an operation that was just taken
+
+module _ (limit : ℕ) (n m : Content) (op : Op) (answered : answer limit n op ≡ Ok New) (joined : m ≡ join n (single op)) where
+  pub without_taken : without op m ≡ n
+  without_taken = ap (without op) joined ∙ without_new limit n op answered
+
+  pub last_taken : (ss : List Step) (before : ℕ) → before ≡ clock n → CanGoBack ss n → IsLastStep ss op before m
+  last_taken ss before same back = record {
+    held = subst (λ d. Holds d op) (sym joined) (new_held limit n op answered);
+    clocked = same ∙ ap clock (sym without_taken);
+    rest = subst (λ d. CanGoBack ss d) (sym without_taken) back;
+  }
