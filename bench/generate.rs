@@ -1,13 +1,14 @@
-//! Writes the operation lines of a log to standard output. `generate SHAPE COUNT`: the same words
-//! give the same lines.
+//! Writes the operation lines of a log to standard output. `generate SHAPE COUNT [loose]`: the same
+//! words give the same lines.
 
 use std::env;
 use std::fmt;
 use std::io::{self, BufWriter, Write};
 use std::process::ExitCode;
 
-const USAGE: &str = "usage: generate SHAPE COUNT
-SHAPE is one of
+const USAGE: &str = "usage: generate SHAPE COUNT [loose]
+Where `loose` is said, the members of a line stand in another order, with a blank behind each colon
+and comma. SHAPE is one of
   typing            three replicas type in rounds, jump and rub out, and merge after each round
   chain             one replica types on and on, each element behind the one before
   waiting           the chain with its last line first: all waits until the last line
@@ -59,6 +60,34 @@ impl fmt::Display for Operation {
             }
             Operation::Delete { id } => write!(f, "{{\"id\":{id},\"op\":\"del\"}}"),
         }
+    }
+}
+
+/// A line of the same operation in another spelling.
+struct Loose<'a>(&'a Operation);
+
+impl fmt::Display for Loose<'_> {
+    fn fmt(&self, f: &mut fmt::Formatter) -> fmt::Result {
+        match self.0 {
+            Operation::Insert { id, parent, char } => {
+                let (parent, id) = (LooseId(parent), LooseId(id));
+                write!(
+                    f,
+                    "{{\"parent\": {parent}, \"op\": \"ins\", \"id\": {id}, \"char\": \""
+                )?;
+                write_char(f, *char)?;
+                f.write_str("\"}")
+            }
+            Operation::Delete { id } => write!(f, "{{\"op\": \"del\", \"id\": {}}}", LooseId(id)),
+        }
+    }
+}
+
+struct LooseId<'a>(&'a Id);
+
+impl fmt::Display for LooseId<'_> {
+    fn fmt(&self, f: &mut fmt::Formatter) -> fmt::Result {
+        write!(f, "[{}, {}]", self.0.counter, self.0.replica)
     }
 }
 
@@ -262,28 +291,42 @@ fn operations_of(shape: &str, count: usize) -> Option<Vec<Operation>> {
     }
 }
 
-fn asked() -> Option<Vec<Operation>> {
-    let words: Vec<String> = env::args().skip(1).collect();
-    let [shape, count] = words.as_slice() else {
-        return None;
-    };
-    operations_of(shape, count.parse().ok()?)
+/// How each line is spelled.
+#[derive(Clone, Copy)]
+enum Spelling {
+    Usual,
+    Loose,
 }
 
-fn write_lines(operations: &[Operation]) -> io::Result<()> {
+fn asked() -> Option<(Vec<Operation>, Spelling)> {
+    let words: Vec<String> = env::args().skip(1).collect();
+    let words: Vec<&str> = words.iter().map(String::as_str).collect();
+    let (shape, count, spelling) = match words.as_slice() {
+        [shape, count] => (shape, count, Spelling::Usual),
+        [shape, count, "loose"] => (shape, count, Spelling::Loose),
+        _ => return None,
+    };
+    let operations = operations_of(shape, count.parse().ok()?)?;
+    Some((operations, spelling))
+}
+
+fn write_lines(operations: &[Operation], spelling: Spelling) -> io::Result<()> {
     let mut output = BufWriter::new(io::stdout().lock());
     for operation in operations {
-        writeln!(output, "{operation}")?;
+        match spelling {
+            Spelling::Usual => writeln!(output, "{operation}")?,
+            Spelling::Loose => writeln!(output, "{}", Loose(operation))?,
+        }
     }
     output.flush()
 }
 
 fn main() -> ExitCode {
-    let Some(operations) = asked() else {
+    let Some((operations, spelling)) = asked() else {
         eprintln!("{USAGE}");
         return ExitCode::from(2);
     };
-    match write_lines(&operations) {
+    match write_lines(&operations, spelling) {
         Ok(()) => ExitCode::SUCCESS,
         Err(error) => {
             eprintln!("generate: {error}");

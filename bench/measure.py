@@ -48,17 +48,18 @@ exec "$python" -c "$usage"
 USAGE = """
 import resource
 usage = resource.getrusage(resource.RUSAGE_CHILDREN)
-print(usage.ru_utime, usage.ru_maxrss)
+print(usage.ru_utime, usage.ru_stime, usage.ru_maxrss)
 """
 
-Cost = collections.namedtuple("Cost", "seconds kilobytes")
+# The seconds of user time and of the system's, and the peak memory.
+Cost = collections.namedtuple("Cost", "seconds system kilobytes")
 
 
-def generated(shape, count):
+def generated(shape, count, *spelling):
     """Returns a log of that many operations."""
-    log = LOGS / f"{shape}-{count}.ops"
+    log = LOGS / ("-".join([shape, str(count), *spelling]) + ".ops")
     with open(log, "wb") as output:
-        subprocess.run([BUILD / "generate", shape, str(count)], stdout=output, check=True)
+        subprocess.run([BUILD / "generate", shape, str(count), *spelling], stdout=output, check=True)
     return log
 
 
@@ -76,8 +77,13 @@ def compare(log):
 def measured(words, log, repeats):
     """Returns what one run costs, by so many in a row."""
     shell = ["sh", "-c", RUNS, "sh", log, str(repeats), sys.executable, USAGE, *words]
-    seconds, kilobytes = subprocess.check_output(shell).split()
-    return Cost(float(seconds) / repeats, int(kilobytes))
+    seconds, system, kilobytes = subprocess.check_output(shell).split()
+    return Cost(float(seconds) / repeats, float(system) / repeats, int(kilobytes))
+
+
+def least(costs):
+    """Returns the least of each figure."""
+    return Cost(*map(min, zip(*costs)))
 
 
 def least_costs(log, count):
@@ -86,7 +92,7 @@ def least_costs(log, count):
     for _ in range(MEASUREMENTS[count]):
         for name, words in PROGRAMS.items():
             costs[name].append(measured(words, log, REPEATS[count]))
-    return {name: Cost(*map(min, zip(*each))) for name, each in costs.items()}
+    return {name: least(each) for name, each in costs.items()}
 
 
 def print_row(shape, count, costs):

@@ -2,7 +2,8 @@
 # Builds mgr, the generator of logs and the native program, and measures `mgr show` against the
 # native program: microseconds an operation, the ratios of user time and of peak memory, and how
 # the cost of an operation grows (`bench/measure.py`); then what an edit of a document costs
-# (`bench/edits.py`). `make bench` calls it. A call by hand may say `--largest N`, to leave out logs
+# (`bench/edits.py`), and what it costs to read and to write logs and exchanges (`bench/logs.py`).
+# `make bench` calls it. A call by hand may say `--largest N`, to have `mgr show` measured on no log
 # of more than N operations, and `--shape SHAPE`.
 #
 # It needs python3 and rustc. It ends with an error where the two programs write different bytes.
@@ -22,7 +23,11 @@ for program in generate native; do
 done
 (cd crates/edit_bench && rt run -- order 1 1 </dev/null >/dev/null)
 cp crates/edit_bench/out/edit_bench build/edit_bench
+(cd crates/log_bench && rt run -- bytes </dev/null >/dev/null)
+cp crates/log_bench/out/log_bench build/log_bench
 
 python3 bench/measure.py "$@"
 echo
-exec python3 bench/edits.py
+python3 bench/edits.py
+echo
+exec python3 bench/logs.py

@@ -1,4 +1,2 @@
 pub mod CommandLineLemmas
-pub mod LogLaws
-pub mod ReadLaws
 pub mod ShownLaws

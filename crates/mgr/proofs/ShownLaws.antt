@@ -1,12 +1,58 @@
 -- What is written of an accepted log.
-use Rattle.std.proofs.Common.{◌≡◌, ℕ, List, Option, Some, None, Ok, sym, ap, subst, ◌∙◌, inr}
+use Rattle.std.proofs.Common.{◌≡◌, ℕ, ◌+◌, List, Option, Some, None, Result, Ok, Err, refl, sym, ap, subst, ◌∙◌, inr}
 use Rattle.std.specs.Prelude.{IfSome, ◌⊎◌}
 use Rattle.std.specs.Io.KnownBytes.{Appends, Keeps}
-use Rattle.rga_ops.specs.Content.{Content, nothing}
+use Rattle.rga_ops.specs.Content.{Content, nothing, content_of}
+use Rattle.rga_ops.proofs.TakenLaws.{taken_from_nothing, taken_list_agrees}
 use Rattle.rga_lines.specs.Counting.{AppendsFront}
-use Rattle.mgr.specs.Log.{after_bytes, log_of}
+use Rattle.rga_ops.specs.Content.{IsAgreed}
+use Rattle.rga_lines.specs.Log.{log_operations}
+use Rattle.rga_exchange.specs.declared.fault.LogFault.{LogFault}
+use Rattle.rga_exchange.specs.declared.log.LogEnd.{LogEnd}
+use Rattle.rga_exchange.specs.declared.log.LogEnd.TheVariants.{Whole, Bare, Torn}
+use Rattle.rga_exchange.specs.declared.log.LogRead.{LogRead}
+use Rattle.rga_exchange.specs.Taking.{HasTakenWholeLines}
+use Rattle.rga_exchange.specs.Log.{LogOutcome, log_outcome}
+use Rattle.rga_exchange.proofs.OperationLaws.{log_taken}
+use Rattle.mgr.specs.declared.fault.ShowFault.{ShowFault}
+use Rattle.mgr.specs.declared.fault.ShowFault.TheVariants as fault
+use Rattle.mgr.specs.Log.{Outcome, show_fault, at_end, outcome_of, shown_from, log_of}
 use Rattle.mgr.specs.Shown.{max_known, text_bytes, log_content, IsAccepted, Shows, BeginsToShow}
-use Rattle.mgr.proofs.LogLaws.{log_content_is, log_agrees}
+
+abbrev shows_it : Content → Outcome
+shows_it c = Ok c
+
+abbrev outcome : Content → Result LogRead LogFault → LogOutcome
+outcome c r = (c, r)
+
+abbrev fails : ShowFault → Outcome
+fails e = Err e
+
+-- a log whose text is shown was read to its end
+read_to_end : (limit : ℕ) (c : Content) (bytes : List ℕ) → log_of limit bytes ≡ Ok c → (read : LogRead) × (log_outcome limit nothing bytes ≡ (c, Ok read))
+read_to_end limit c bytes h = by_outcome (log_outcome limit nothing bytes) refl h
+  where
+    by_end : (d : Content) (n : ℕ) (end : LogEnd) → at_end d n end ≡ Ok c → d ≡ c
+    by_end d n Whole h = let same : shows_it d ≡ shows_it c = h in cc
+    by_end d n Bare h = let same : shows_it d ≡ shows_it c = h in cc
+    by_end d n (Torn k) h = let clash : fails (fault.Torn (n + 1)) ≡ shows_it c = h in absurd cc
+
+    by_result : (d : Content) (r : Result LogRead LogFault) → outcome_of d r ≡ Ok c → (read : LogRead) × (outcome d r ≡ (c, Ok read))
+    by_result d (Ok read) h = (read, ap (λ e. outcome e (Ok read)) (by_end d read.lines read.end h))
+    by_result d (Err e) h = let clash : fails (show_fault e) ≡ shows_it c = h in absurd cc
+
+    by_outcome : (p : LogOutcome) → log_outcome limit nothing bytes ≡ p → outcome_of p.0 p.1 ≡ Ok c → (read : LogRead) × (log_outcome limit nothing bytes ≡ (c, Ok read))
+    by_outcome (d, r) is h = let w = by_result d r h in (w.0, is ∙ w.1)
+
+log_content_is : (limit : ℕ) (bytes : List ℕ) (c : Content) → log_of limit bytes ≡ Ok c → c ≡ content_of (log_operations bytes)
+log_content_is limit bytes c h =
+    let w = read_to_end limit c bytes h in
+    taken_from_nothing limit (log_operations bytes) c (log_taken limit nothing c w.0 bytes w.1)
+
+log_agrees : (limit : ℕ) (bytes : List ℕ) (c : Content) → log_of limit bytes ≡ Ok c → IsAgreed (log_operations bytes)
+log_agrees limit bytes c h =
+    let w = read_to_end limit c bytes h in
+    taken_list_agrees limit nothing (log_operations bytes) c (log_taken limit nothing c w.0 bytes w.1)
 
 -- what a store holds that took a log from the start, and the text that was made of it
 pub record IsTextOf (bytes : List ℕ) (written : List ℕ) : Type 0 where
@@ -22,10 +68,10 @@ text_of_log bytes c written h is =
     }
 
 pub text_of_input : (known : Option (List ℕ)) (limit : ℕ) (start c : Content) (written : List ℕ) → limit ≡ max_known → start ≡ nothing
-    → IfSome known (λ bytes. after_bytes limit 1 start bytes ≡ Ok c) → written ≡ text_bytes c → IfSome known (λ bytes. IsTextOf bytes written)
+    → IfSome known (λ bytes. shown_from limit start bytes ≡ Ok c) → written ≡ text_bytes c → IfSome known (λ bytes. IsTextOf bytes written)
 text_of_input None limit start c written same empty h is = tt
 text_of_input (Some bytes) limit start c written same empty h is =
-    text_of_log bytes c written (sym (λ k. after_bytes (same k) 1 (empty k) bytes) ∙ h) is
+    text_of_log bytes c written (sym (λ k. shown_from (same k) (empty k) bytes) ∙ h) is
 
 pub shows : (known old new : Option (List ℕ)) (written : List ℕ) → IfSome known (λ bytes. IsTextOf bytes written) → Appends old new written → IfSome known (λ bytes. Shows bytes old new)
 shows None old new written h w = tt
@@ -34,3 +80,8 @@ shows (Some bytes) old new written h w = record { accepted = h.accepted; written
 pub begins_to_show : (known old new : Option (List ℕ)) (written : List ℕ) → IfSome known (λ bytes. IsTextOf bytes written) → AppendsFront old new written → IfSome known (λ bytes. Keeps old new ⊎ BeginsToShow bytes old new)
 begins_to_show None old new written h w = tt
 begins_to_show (Some bytes) old new written h w = inr (record { accepted = h.accepted; begun = subst (λ l. AppendsFront old new l) h.is w })
+
+-- all whole lines that were read were taken, by a store that was made empty
+pub whole_from : (old new : Option (List ℕ)) (limit : ℕ) (start d : Content) → limit ≡ max_known → start ≡ nothing → HasTakenWholeLines old new limit start d → (c : Content) × HasTakenWholeLines old new max_known nothing c
+whole_from old new limit start d same empty h =
+    (d, subst (λ l. HasTakenWholeLines old new l nothing d) same (subst (λ e. HasTakenWholeLines old new limit e d) empty h))

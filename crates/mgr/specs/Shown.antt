@@ -1,15 +1,26 @@
 -- What `show_ops` writes.
-use Rattle.std.specs.Prelude.{◌≡◌, ℕ, List, Option, Ok, encode_utf8_all}
+use Rattle.std.specs.Prelude.{◌≡◌, ℕ, List, Option, Ok, ⊤, encode_utf8_all}
 use Rattle.std.specs.Io.KnownBytes.{Appends}
 use Rattle.rga_ops.specs.Content.{Content, content_of, IsAgreed}
 use Rattle.rga_ops.specs.Order.{text}
 use Rattle.rga_lines.specs.Log.{log_operations}
 use Rattle.rga_lines.specs.Counting.{AppendsFront}
+use Rattle.mgr.specs.declared.fault.ShowFault.{ShowFault}
+use Rattle.mgr.specs.declared.fault.ShowFault.TheVariants as fault
 use Rattle.mgr.specs.Log.{log_of}
 
 -- how many identifiers `mgr` may know
 abbrev pub max_known : ℕ
 max_known = 1000000
+
+-- faults that the bytes alone decide
+abbrev pub IsOfInput : ShowFault → Type 0
+IsOfInput (fault.Line n e) = ⊤
+IsOfInput (fault.Refused n e) = ⊤
+IsOfInput (fault.Torn n) = ⊤
+IsOfInput fault.Read = ⊥
+IsOfInput fault.Write = ⊥
+IsOfInput fault.Memory = ⊥
 
 -- the text of a content in UTF-8
 abbrev pub text_bytes : Content → List ℕ

@@ -1,4 +1,8 @@
 //! Why `mgr show` ends without the text.
+ghost use Rattle.std.specs.Prelude.{◌≡◌};
+ghost use Rattle.mgr.specs.Log.{show_fault};
+
+use rga_exchange::LogFault;
 use rga_lines::LineFault;
 use rga_ops::Refusal;
 use thiserror::Error;
@@ -24,4 +28,17 @@ pub enum ShowFault {
     /// A growth of memory was refused.
     #[error("out of memory")]
     Memory,
+}
+
+impl From<LogFault> for ShowFault {
+    ghost from_gives = { λ fault e. e ≡ show_fault fault };
+
+    fn from(fault: LogFault) -> ShowFault {
+        match fault {
+            LogFault::Line(number, fault) => ShowFault::Line(number, fault),
+            LogFault::Refused(number, refusal) => ShowFault::Refused(number, refusal),
+            LogFault::Read => ShowFault::Read,
+            LogFault::Memory => ShowFault::Memory,
+        }
+    }
 }

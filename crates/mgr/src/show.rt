@@ -1,16 +1,17 @@
 //! The text of a log.
 ghost use Rattle.std.specs.Prelude.{◌≡◌, ◌≢◌, ◌⊎◌, List, Ok, Err, OnOk, OnErr, IfErr, IfSome};
 ghost use Rattle.std.specs.Io.KnownBytes.{Keeps, Appends};
-ghost use Rattle.rga_ops.specs.Content.{nothing};
+ghost use Rattle.rga_ops.specs.Content.{Content, nothing};
 ghost use Rattle.rga_lines.specs.Counting.{counted_inner, counted_failures, HasFailed, AppendsFront};
-ghost use Rattle.mgr.specs.Log.{log_of, IsOfInput, HasTakenWholeLines};
-ghost use Rattle.mgr.specs.Shown.{max_known, Shows, BeginsToShow};
+ghost use Rattle.rga_exchange.specs.Taking.{HasTakenWholeLines};
+ghost use Rattle.mgr.specs.Log.{log_of, shown_from};
+ghost use Rattle.mgr.specs.Shown.{max_known, IsOfInput, Shows, BeginsToShow};
 
 use crate::fault::ShowFault;
-use crate::log::read_log;
 use crate::text::text_of;
+use rga_exchange::{LogEnd, take_log};
 use rga_lines::Counted;
-use rga_store::{MAX_LIMIT, TextStore, TreeStore};
+use rga_store::{MAX_LIMIT, Taker, TextStore, TreeStore};
 use std::alloc::Global;
 use std::io::{Read, Write};
 
@@ -37,17 +38,40 @@ pub fn show_ops<R: Read, W: Write>(
         (λ bytes. Keeps (W.contents (counted_inner writer.old)) (W.contents (counted_inner writer.new))
         ⊎ BeginsToShow bytes (W.contents (counted_inner writer.old)) (W.contents (counted_inner writer.new)))) }
 
-    ensures taken { result ≡ Err ShowFault.Read → HasTakenWholeLines (R.remaining (counted_inner reader.old))
-        (R.remaining (counted_inner reader.new)) max_known nothing }
+    ensures taken { result ≡ Err ShowFault.Read → (c : Content) × HasTakenWholeLines (R.remaining (counted_inner reader.old))
+        (R.remaining (counted_inner reader.new)) max_known nothing c }
     ensures read { result ≡ Err ShowFault.Read → HasFailed (counted_failures reader.old) (counted_failures reader.new) }
     ensures write { result ≡ Err ShowFault.Write → HasFailed (counted_failures writer.old) (counted_failures writer.new) }
 {
     let Ok(mut store) = TreeStore::new(alloc, MAX_LIMIT) else {
         return Err(ShowFault::Memory);
     };
-    read_log(alloc, &mut store, reader)?;
+    take_whole_log(alloc, &mut store, reader)?;
     let text = text_of(alloc, &store)?;
     write_text(text.as_str(), writer)
+}
+
+/// Takes the operations of a log to its end, where a last line that was cut off is a fault.
+fn take_whole_log<T: Taker, R: Read>(
+    alloc: Global,
+    taker: &mut T,
+    reader: &mut Counted<R>,
+) -> Result<(), ShowFault>
+    ensures ok { OnOk result (IfSome (R.remaining (counted_inner reader.old))
+        (λ bytes. shown_from (T.capacity taker.old) (T.content taker.old) bytes ≡ Ok (T.content taker.new))) }
+    ensures err { IfErr result (λ e. IsOfInput e → IfSome (R.remaining (counted_inner reader.old))
+        (λ bytes. shown_from (T.capacity taker.old) (T.content taker.old) bytes ≡ Err e)) }
+
+    ensures taken { IfErr result (λ e. e ≡ ShowFault.Read → HasTakenWholeLines (R.remaining (counted_inner reader.old))
+        (R.remaining (counted_inner reader.new)) (T.capacity taker.old) (T.content taker.old) (T.content taker.new)) }
+    ensures device { result ≡ Err ShowFault.Read → HasFailed (counted_failures reader.old) (counted_failures reader.new) }
+    ensures no_write { result ≢ Err ShowFault.Write }
+{
+    let log = take_log(alloc, taker, reader)?;
+    match log.end {
+        LogEnd::Whole | LogEnd::Bare => Ok(()),
+        LogEnd::Torn(_) => Err(ShowFault::Torn(log.lines + 1)),
+    }
 }
 
 fn write_text<W: Write>(text: &str, writer: &mut Counted<W>) -> Result<(), ShowFault>

@@ -7,3 +7,4 @@ pub mod SpellingLemmas
 pub mod ReadBack
 pub mod SpelledLemmas
 pub mod NewlineLemmas
+pub mod WritableLemmas

@@ -50,3 +50,9 @@ UsesCall r old new = (new ≤ old) × MatchResult r (λ _. new < old) (λ _. ⊤
 -- known bytes grew by a beginning of bs
 abbrev pub AppendsFront : Option (List ℕ) → Option (List ℕ) → List ℕ → Type 0
 AppendsFront old new bs = (front : List ℕ) × (rest : List ℕ) × (bs ≡ front ++ rest) × Appends old new front
+
+-- what was written of the text, rest being left
+pub record Begun (old new : Option (List ℕ)) (text rest : List ℕ) : Type 0 where
+  pub front : List ℕ
+  pub parts : text ≡ front ++ rest
+  pub written : Appends old new front

@@ -279,13 +279,14 @@ pub record IsNewDeletion (limit : ℕ) (c : Content) (id : Identifier) : Type 0 
   pub absent : finite_set.contains c.deleted id ≡ false
   pub room : (is_some (finite_map.get c.inserted id) ≡ true) ⊎ (finite_set.len (known c) ≢ limit)
 
-falls_if_well_formed : (id parent : Identifier) (ch : ℕ) → checked (Insert id parent ch) ≡ passed → nat_le id.counter parent.counter ≡ false
-falls_if_well_formed id parent ch h =
-    elim (is_root id) as (λ b. cond b (Err BadId) (cond (nat_le id.counter parent.counter) (Err BadOrder) (Ok tt)) ≡ passed → nat_le id.counter parent.counter ≡ false) [
+-- a well-formed insertion is of an element, with a counter above its parent's
+pub well_formed_insertion : (id parent : Identifier) (ch : ℕ) → checked (Insert id parent ch) ≡ Ok tt → (is_root id ≡ false) × (nat_le id.counter parent.counter ≡ false)
+well_formed_insertion id parent ch h =
+    elim (is_root id) as (λ b. cond b (Err BadId) (cond (nat_le id.counter parent.counter) (Err BadOrder) (Ok tt)) ≡ passed → (b ≡ false) × (nat_le id.counter parent.counter ≡ false)) [
       | true ↦ λ h. absurd (cc)
-      | false ↦ λ h. elim (nat_le id.counter parent.counter) as (λ b. cond b (Err BadOrder) (Ok tt) ≡ passed → b ≡ false) [
+      | false ↦ λ h. elim (nat_le id.counter parent.counter) as (λ b. cond b (Err BadOrder) (Ok tt) ≡ passed → (false ≡ false) × (b ≡ false)) [
         | true ↦ λ h. absurd (cc)
-        | false ↦ λ h. refl
+        | false ↦ λ h. (refl, refl)
       ] h
     ] h
 
@@ -302,7 +303,7 @@ new_insertion limit c id parent ch h =
     elim (finite_map.get c.inserted id) as (λ o. finite_map.get c.inserted id ≡ o → IsNewInsertion limit c id parent) [
       | Some x ↦ λ g. absurd (new.no_other (x, g, λ e. new.not_held (g ∙ ap Some e)))
       | None ↦ λ g. record {
-        falls = falls_if_well_formed id parent ch new.well_formed;
+        falls = (well_formed_insertion id parent ch new.well_formed).1;
         absent = g;
         room = elim new.room [
           | inl present ↦ inl (ap (λ o. is_some o || finite_set.contains c.deleted id) (sym g) ∙ sym (contains-known c id) ∙ present)

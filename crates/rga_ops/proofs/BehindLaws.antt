@@ -5,8 +5,7 @@ use Rattle.std.specs.Prelude.{Some, None}
 use Rattle.std.specs.Cmp.{tied_itself}
 use Rattle.std.specs.Ordering.{eq_by_cmp, is_eq, is_lt, ordering_then, ordering_reverse}
 use Rattle.std.specs.List.{list_any, AllByRecursion}
-use Rattle.std.specs.declared.cmp.Ordering.{Ordering}
-use Rattle.std.specs.declared.cmp.Ordering.TheVariants.{Less, Equal, Greater}
+use Rattle.std.specs.declared.cmp.Ordering.TheVariants.{Less, Greater}
 use Rattle.std.specs.FinMap as finite_map
 use Rattle.std.specs.FinMap.{find, is_sorted}
 use Rattle.std.specs.FinMap.Entries.{put, by_order, below_all}
@@ -17,6 +16,7 @@ use Rattle.rga_ops.specs.Content.{Content, join, single}
 use Rattle.rga_ops.specs.RootPath.{Path, path_cmp, root_path, IsRootPath, at_root}
 use Rattle.rga_ops.specs.Order.{by_path, order}
 use Rattle.rga_ops.specs.Placement.{change_after, change_behind}
+use Rattle.rga_ops.proofs.MemberLaws.{all_map, all_append}
 use Rattle.rga_ops.proofs.OrderLaws.{less_of}
 use Rattle.rga_ops.proofs.IdentifierLaws.{ids_total, is, is_id-same, is_id-is, is_id-itself}
 use Rattle.rga_ops.proofs.BeforeLaws.{paths_total}
@@ -59,16 +59,8 @@ AreLater p = AllByRecursion (λ (e : Entry). path_cmp p e.0 ≡ Less)
 abbrev pub AreEarlier : Path → List Entry → Type 0
 AreEarlier p = AllByRecursion (λ (e : Entry). path_cmp p e.0 ≡ Greater)
 
-pub all_map : {A : Type 0} (P Q : A → Type 0) → ((x : A) → P x → Q x) → (xs : List A) → AllByRecursion P xs → AllByRecursion Q xs
-all_map P Q f [] h = tt
-all_map P Q f (x ∷ xs) h = (f x h.0, all_map P Q f xs h.1)
-
-all-push : {A : Type 0} (P : A → Type 0) (xs : List A) (x : A) → AllByRecursion P xs → P x → AllByRecursion P (xs ++ x ∷ [])
-all-push P [] x h g = (g, tt)
-all-push P (y ∷ ys) x h g = (h.0, all-push P ys x h.1 g)
-
 pub earlier-push : (p : Path) (es : List Entry) (e : Entry) → AreEarlier p es → path_cmp p e.0 ≡ Greater → AreEarlier p (es ++ e ∷ [])
-earlier-push p es e = all-push (λ (y : Entry). path_cmp p y.0 ≡ Greater) es e
+earlier-push p es e h g = all_append (λ (y : Entry). path_cmp p y.0 ≡ Greater) es (e ∷ []) h (g, tt)
 
 pub all_later : (p : Path) (es : List Entry) → T (below_all path_cmp p es) → AreLater p es
 all_later p [] h = tt

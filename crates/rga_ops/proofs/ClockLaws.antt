@@ -12,17 +12,11 @@ use Rattle.std.proofs.lemmas.Bool.Decides.{nat_tests}
 use Rattle.rga_ops.specs.Identifier.{Identifier, id_cmp}
 use Rattle.rga_ops.specs.Content.{Element, Content, join, single, greatest, clock, HasCountersWithin}
 use Rattle.rga_ops.proofs.IdentifierLaws.{ids_total, is, is_itself, same_id}
+use Rattle.rga_ops.proofs.MemberLaws.{all_members}
 use Rattle.rga_ops.proofs.ContentLaws.{get-join, contains-join, or_none, or_false}
 use Rattle.rga_ops.proofs.SortedLaws.{all_zip, each_found}
 use Rattle.rga_ops.proofs.PathLaws.{key_of}
 use Rattle.rga_ops.specs.declared.op.Op.TheVariants.{Insert, Delete}
-
-all_members : (P : Identifier → Type 0) (xs : List Identifier) → ((q : Identifier) → list_any (is q) xs ≡ true → P q) → AllByRecursion P xs
-all_members P [] h = tt
-all_members P (x ∷ xs) h = (
-  h x (ap (λ b. b || list_any (is x) xs) (is_itself x)),
-  all_members P xs (λ q m. h q (or_right (is q x) (list_any (is q) xs) m)),
-)
 
 bounded : {A : Type 0} (f : A → ℕ) (m : ℕ) (xs : List A) → AllByRecursion (λ x. f x ≤ m) xs → greatest (map f xs) ≤ m
 bounded f m [] h = omega arith

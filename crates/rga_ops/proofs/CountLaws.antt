@@ -1,6 +1,6 @@
 -- How many identifiers a set has once others are added.
 use Rattle.std.proofs.Common.{◌≡◌, ◌+◌, Bool, true, false, cond, not, ◌&&◌, ◌||◌, List, [], ◌∷◌, filter, length, refl, sym, ap, ◌∙◌, arith, true≢false}
-use Rattle.std.specs.List.{list_any, IsDistinct, AllByRecursion}
+use Rattle.std.specs.List.{list_any, IsDistinct}
 use Rattle.std.specs.FinSet as finite_set
 use Rattle.std.specs.FinSet.{FinSet}
 use Rattle.std.proofs.lemmas.Bool.{or_right, or_from, not-true, and_parts}
@@ -8,13 +8,9 @@ use Rattle.std.proofs.lemmas.Map.Views.{any-filter_same}
 use Rattle.rga_ops.specs.Identifier.{Identifier, id_cmp}
 use Rattle.rga_ops.specs.Content.{Content, known, join}
 use Rattle.rga_ops.proofs.IdentifierLaws.{ids_total, ids_exact, is, same_id, is_itself}
+use Rattle.rga_ops.proofs.MemberLaws.{none_among, distinct_filter}
 use Rattle.rga_ops.proofs.ContentLaws.{or_false}
 use Rattle.rga_ops.proofs.KnownLaws.{contains-known_join}
-use Rattle.rga_ops.proofs.WaitingLaws.{distinct_filter}
-
-none_among : (k : Identifier) (ks : List Identifier) → AllByRecursion (λ y. is k y ≡ false) ks → list_any (is k) ks ≡ false
-none_among k [] h = refl
-none_among k (x ∷ ks) h = or_from (is k x) (list_any (is k) ks) h.0 (none_among k ks h.1)
 
 -- distinct identifiers that a set lacks are that many more
 pub len-added : (s u : FinSet id_cmp) (ks : List Identifier) → IsDistinct is ks → ((q : Identifier) → list_any (is q) ks ≡ true → finite_set.contains s q ≡ false) → ((q : Identifier) → finite_set.contains u q ≡ (finite_set.contains s q || list_any (is q) ks)) → finite_set.len u ≡ finite_set.len s + length ks

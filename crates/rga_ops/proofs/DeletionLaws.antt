@@ -1,28 +1,26 @@
 -- A content with one deletion more: the insertions and the order stay, and the element is no longer visible.
-use Rattle.std.proofs.Common.{◌≡◌, ℕ, ◌+◌, ◌≤◌, Bool, true, false, cond, not, ◌&&◌, ◌||◌, List, [], ◌∷◌, ◌++◌, map, filter, take, drop, refl, sym, ap, ◌∙◌, arith}
-use Rattle.std.specs.Prelude.{Some, Ok, Err, max}
+use Rattle.std.proofs.Common.{◌≡◌, ℕ, ◌+◌, ◌≤◌, true, false, cond, not, ◌||◌, List, [], ◌∷◌, ◌++◌, map, filter, take, drop, refl, sym, ap, ◌∙◌, arith}
+use Rattle.std.specs.Prelude.{Some, max}
 use Rattle.std.specs.Option.{option_map, option_or}
-use Rattle.std.specs.List.{slice_get, filter_map}
+use Rattle.std.specs.List.{slice_get}
 use Rattle.std.specs.FinMap as finite_map
 use Rattle.std.specs.FinSet as finite_set
 use Rattle.std.specs.FinMap.{same_map}
-use Rattle.rga_ops.specs.Identifier.{Identifier, id_cmp, is_id, is_root}
-use Rattle.rga_ops.specs.Content.{Element, Content, IsSound, join, single, clock}
+use Rattle.rga_ops.specs.Identifier.{Identifier, id_cmp, is_id}
+use Rattle.rga_ops.specs.Content.{Element, Content, join, single, clock}
 use Rattle.rga_ops.specs.RootPath.{is_complete}
 use Rattle.rga_ops.specs.Order.{order, text}
 use Rattle.rga_ops.specs.Placement.{without}
-use Rattle.rga_ops.specs.Places.{is_visible, visible, character}
+use Rattle.rga_ops.specs.Places.{visible, character}
 use Rattle.rga_ops.proofs.PathLaws.{inserted_if_complete}
 use Rattle.rga_ops.proofs.IdentifierLaws.{ids_total, ids_exact, is, is_swap, is_id-same}
 use Rattle.rga_ops.proofs.ContentLaws.{get-join, contains-join, or_none}
 use Rattle.rga_ops.proofs.OperationLaws.{contains-single}
-use Rattle.rga_ops.proofs.VisibleLaws.{is_kept, visible_is, text_of_visible, text_is, visible_distinct, own_index}
+use Rattle.rga_ops.proofs.VisibleLaws.{is_kept, visible_is, text_is, visible_distinct, own_index}
 use Rattle.rga_ops.proofs.PlacementLaws.{without-at}
 use Rattle.rga_ops.proofs.SpliceLaws.{same_characters, characters_without}
-use Rattle.rga_ops.proofs.SoundLaws.{sound_after}
 use Rattle.rga_ops.proofs.ClockLaws.{within_clock, clock_deletion}
 use Rattle.rga_ops.specs.declared.op.Op.TheVariants.{Delete}
-use Rattle.rga_ops.specs.declared.refusal.Refusal.TheVariants.{BadId}
 
 module _ (c : Content) (id : Identifier) where
   abbrev d : Content
@@ -37,9 +35,6 @@ module _ (c : Content) (id : Identifier) where
 
   pub order-deletion : order d ≡ order c
   order-deletion = ap (λ m. order (record { inserted = m; deleted = c.deleted })) inserted-deletion
-
-  pub is_complete-deletion : (q : Identifier) → is_complete d q ≡ is_complete c q
-  is_complete-deletion q = ap (λ m. is_complete (record { inserted = m; deleted = c.deleted }) q) inserted-deletion
 
   -- ---- visible elements and text
 
@@ -59,9 +54,6 @@ module _ (c : Content) (id : Identifier) where
   pub character-deletion : character d ≡ character c
   character-deletion = λ k q. option_map (λ (x : Element). x.ch) (finite_map.get (inserted-deletion k) q)
 
-  pub text-deletion : text d ≡ filter_map (character c) (without id (visible c))
-  text-deletion = text_of_visible d ∙ (λ k. filter_map (character-deletion k) (visible-deletion k))
-
   -- a visible element is left out at its index
   pub visible-deletion_at : (i : ℕ) → slice_get (visible c) i ≡ Some id → visible d ≡ take i (visible c) ++ drop (i + 1) (visible c)
   visible-deletion_at i h = visible-deletion ∙ without-at id (visible c) i (visible_distinct c) (own_index c id i h)
@@ -70,20 +62,6 @@ module _ (c : Content) (id : Identifier) where
   text-deletion_at i h = same_characters _ _ (
       text_is d ∙ (λ k. map (character-deletion k) (visible-deletion_at i h k))
       ∙ characters_without (character c) i (visible c) (text c) (text_is c))
-
-  -- those that were visible, without the deleted one
-  pub is_visible-deletion : (q : Identifier) → is_visible d q ≡ (is_visible c q && not (is q id))
-  is_visible-deletion q =
-      (λ k. is_complete-deletion q k && not (contains-deletion q k))
-      ∙ apart (is_complete c q) (finite_set.contains c.deleted q) (is q id)
-    where
-      apart : (a b e : Bool) → (a && not (b || e)) ≡ ((a && not b) && not e)
-      apart true true e = refl
-      apart true false e = refl
-      apart false b e = refl
-
-  pub sound-deletion : IsSound c → is_root id ≡ false → IsSound d
-  sound-deletion sound element = sound_after c (Delete id) sound (ap (λ b. cond b (Err BadId) (Ok tt)) element)
 
   -- ---- the clock
 

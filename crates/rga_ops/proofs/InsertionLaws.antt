@@ -3,7 +3,7 @@
 use Rattle.std.proofs.Common.{◌≡◌, ℕ, true, false, cond, not, ◌&&◌, ◌||◌, Bool, [], ◌∷◌, ◌++◌, length, refl, sym, ap, ◌∙◌, subst, is_some, true≢false, arith, length-append}
 use Rattle.std.specs.Prelude.{Some, None}
 use Rattle.std.specs.Option.{option_or}
-use Rattle.std.specs.Cmp.{Equal-is, tied_itself}
+use Rattle.std.specs.Cmp.{tied_itself}
 use Rattle.std.specs.Ordering.{eq_by_cmp, is_eq}
 use Rattle.std.specs.FinMap as finite_map
 use Rattle.std.specs.FinSet as finite_set
@@ -12,13 +12,13 @@ use Rattle.std.specs.FinMap.Entries.{put}
 use Rattle.std.proofs.lemmas.Option.{same_Some, none-some}
 use Rattle.rga_ops.specs.Identifier.{Identifier, id_cmp, is_root}
 use Rattle.rga_ops.specs.Content.{Element, element, Content, IsWithin, join, single}
-use Rattle.rga_ops.specs.RootPath.{Path, path_cmp, root_path, is_complete, IsRootPath, at_root, below, IsComplete, below_root, below_element}
+use Rattle.rga_ops.specs.RootPath.{Path, path_cmp, root_path, is_complete, IsRootPath, at_root, below}
 use Rattle.rga_ops.specs.Order.{by_path, order}
 use Rattle.rga_ops.proofs.IdentifierLaws.{is, same_id, is_itself}
 use Rattle.rga_ops.proofs.BeforeLaws.{paths_total, paths_exact}
 use Rattle.rga_ops.proofs.ContentLaws.{same_option, get-join, contains-join, or_none, or_false, within_join}
 use Rattle.rga_ops.proofs.OperationLaws.{get-single}
-use Rattle.rga_ops.proofs.PathLaws.{root_path-is, is-root_path, one_path, one_element, path_stays, root_path-root, root_path-absent, is_complete-iff}
+use Rattle.rga_ops.proofs.PathLaws.{root_path-is, is-root_path, one_path, one_element, path_stays, root_path-root, root_path-absent}
 use Rattle.rga_ops.proofs.PlacedLaws.{same_path, IsPlaced, get-by_path, by_path-get}
 use Rattle.rga_ops.specs.declared.op.Op.TheVariants.{Insert}
 

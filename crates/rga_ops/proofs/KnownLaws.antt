@@ -5,15 +5,16 @@ use Rattle.std.specs.Option.{option_or}
 use Rattle.std.specs.FinMap as finite_map
 use Rattle.std.specs.FinSet as finite_set
 use Rattle.std.specs.FinSet.{FinSet}
-use Rattle.std.proofs.lemmas.Option.{same_Some, none-some}
 use Rattle.rga_ops.specs.Identifier.{Identifier, id_cmp}
 use Rattle.rga_ops.specs.Operation.{checked, id_of}
-use Rattle.rga_ops.specs.Content.{Element, element, Content, nothing, known, join, single, content_of, Agree, IsAgreed, HasAnother}
+use Rattle.rga_ops.specs.Content.{Element, element, Content, nothing, known, join, single, content_of, IsAgreed, HasAnother}
 use Rattle.rga_ops.specs.Answer.{answer, after_answer, taken, and_take, taken_one_by_one}
+use Rattle.rga_ops.specs.ListAnswer.{IsJoinable}
 use Rattle.rga_ops.proofs.IdentifierLaws.{ids_total, ids_exact, is}
-use Rattle.rga_ops.proofs.ContentLaws.{get-join, contains-join, join_assoc, join_nothing, nothing_join, either_option, or_false, bool_swap}
-use Rattle.rga_ops.proofs.OperationLaws.{Contains-first, Contains-later, get-single, contains-single, single_holds, content_inserted, inserted-iff}
+use Rattle.rga_ops.proofs.ContentLaws.{get-join, contains-join, join_assoc, join_nothing, nothing_join, or_false, bool_swap}
+use Rattle.rga_ops.proofs.OperationLaws.{Contains-first, Contains-later, get-single, contains-single}
 use Rattle.rga_ops.proofs.AnswerLaws.{Answer, passed, bad, Outcome, ill_formed, held, another, fresh, no_room, outcome, contains-known, IsNew, new-iff}
+use Rattle.rga_ops.proofs.AgreeLaws.{agree_swap, agree_nothing, has_another-iff, no_other-iff, joinable-iff}
 use Rattle.rga_ops.proofs.TakenLaws.{took, refused, held_adds_nothing}
 use Rattle.rga_ops.specs.declared.op.Op.{Op}
 use Rattle.rga_ops.specs.declared.op.Op.TheVariants.{Insert, Delete}
@@ -151,17 +152,11 @@ taken_list_within limit c (op ∷ ops) d within h =
 -- nothing stands in the way of taking the list
 pub record IsTakeable (limit : ℕ) (c : Content) (ops : List Op) : Type 0 where
   pub well_formed : (op : Op) → Contains ops op → checked op ≡ Ok tt
-  pub agreed : IsAgreed ops
-  pub agrees : Agree c (content_of ops)
+  pub joinable : IsJoinable c ops
   pub fits : finite_set.len (known (join c (content_of ops))) ≤ limit
 
-has_first : (op : Op) (ops : List Op) (id : Identifier) (x : Element) → finite_map.get (single op).inserted id ≡ Some x → finite_map.get (content_of (op ∷ ops)).inserted id ≡ Some x
-has_first op ops id x h = get-join (single op) (content_of ops) id ∙ ap (λ o. option_or o (finite_map.get (content_of ops).inserted id)) h
-
-no_conflict : (c : Content) (op : Op) (ops : List Op) → Agree c (content_of (op ∷ ops)) → HasAnother c op → ⊥
-no_conflict c (Insert id parent ch) ops agrees (x, g, other) =
-    other (agrees id x (element parent ch) g (has_first (Insert id parent ch) ops id (element parent ch) (single_holds (Insert id parent ch))))
-no_conflict c (Delete id) ops agrees h = h
+no_conflict : (c : Content) (op : Op) (ops : List Op) → IsJoinable c (op ∷ ops) → HasAnother c op → ⊥
+no_conflict c op ops w h = true≢false (sym ((has_another-iff c op).1 h) ∙ (no_other-iff c op).1 ((joinable-iff c op ops).0 w).0)
 
 -- a new identifier exceeds a limit that is reached
 no_space : (limit : ℕ) (c : Content) (op : Op) (ops : List Op) → finite_set.len (known (join c (content_of (op ∷ ops)))) ≤ limit → finite_set.contains (known c) (id_of op) ≡ false → finite_set.len (known c) ≡ limit → ⊥
@@ -180,26 +175,16 @@ first_taken limit c op ops w = by_outcome (answer limit c op) (outcome limit c o
     by_outcome : (r : Answer) → Outcome limit c op r → after_answer c op r ≡ Ok (join c (single op))
     by_outcome r (ill_formed e k s) = let clash : bad e ≡ passed = sym k ∙ w.well_formed op (Contains-first op ops) in absurd (cc)
     by_outcome r (held k h s) = ap (after_answer c op) s ∙ ap Ok (sym (held_adds_nothing c op h))
-    by_outcome r (another k h s) = absurd (no_conflict c op ops w.agrees h)
+    by_outcome r (another k h s) = absurd (no_conflict c op ops w.joinable h)
     by_outcome r (fresh k h other room s) = ap (after_answer c op) s
     by_outcome r (no_room k unknown full s) = absurd (no_space limit c op ops w.fits unknown full)
 
 later_takeable : (limit : ℕ) (c : Content) (op : Op) (ops : List Op) → IsTakeable limit c (op ∷ ops) → IsTakeable limit (join c (single op)) ops
 later_takeable limit c op ops w = record {
   well_formed = λ o m. w.well_formed o (Contains-later op o ops m);
-  agreed = λ id parent other ch char a b. w.agreed id parent other ch char (Contains-later op (Insert id parent ch) ops a) (Contains-later op (Insert id other char) ops b);
-  agrees = agrees;
+  joinable = ((joinable-iff c op ops).0 w.joinable).1;
   fits = subst (λ d. finite_set.len (known d) ≤ limit) (sym (join_assoc c (single op) (content_of ops))) w.fits;
 }
-  where
-    agrees : Agree (join c (single op)) (content_of ops)
-    agrees id x y f g =
-        let here : finite_map.get (content_of (op ∷ ops)).inserted id ≡ Some y =
-        (inserted-iff (op ∷ ops) w.agreed id y).1 (Contains-later op (Insert id y.parent y.ch) ops (content_inserted ops id y g)) in
-        either_option (finite_map.get c.inserted id) (finite_map.get (single op).inserted id) x
-        (λ old. w.agrees id x y old here)
-        (λ new. same_Some x y (sym (has_first op ops id x new) ∙ here))
-        (sym (get-join c (single op) id) ∙ f)
 
 pub takeable_is_taken : (limit : ℕ) (c : Content) (ops : List Op) → IsTakeable limit c ops → taken_one_by_one limit c ops ≡ Ok (join c (content_of ops))
 takeable_is_taken limit c [] w = ap Ok (sym (join_nothing c))
@@ -213,8 +198,7 @@ pub takeable_from_nothing : (limit : ℕ) (ops : List Op) → ((op : Op) → Con
 takeable_from_nothing limit ops well_formed agreed fits =
     takeable_is_taken limit nothing ops (record {
       well_formed = well_formed;
-      agreed = agreed;
-      agrees = λ id x y f g. absurd (none-some _ (sym (finite_map.get-empty id_cmp id) ∙ f));
+      joinable = record { agreed = agreed; agree = agree_swap (content_of ops) nothing (agree_nothing (content_of ops)) };
       fits = subst (λ d. finite_set.len (known d) ≤ limit) (sym (nothing_join (content_of ops))) fits;
     })
     ∙ ap Ok (nothing_join (content_of ops))

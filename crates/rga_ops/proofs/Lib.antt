@@ -1,4 +1,5 @@
 pub mod IdentifierLaws
+pub mod MemberLaws
 pub mod ContentLaws
 pub mod PathLaws
 pub mod BeforeLaws

@@ -1,6 +1,6 @@
 -- The answers to a list that is taken whole or not at all: which of them comes exactly when.
 use Rattle.std.proofs.Common.{◌≡◌, ℕ, ◌<◌, ◌≤◌, Bool, true, false, cond, List, [], ◌∷◌, ◌++◌, refl, sym, ap, ◌∙◌, subst, nat_le, leb-true, leb-false, le-leb, le_trans, arith, inl, inr, true≢false}
-use Rattle.std.specs.Prelude.{Option, Some, None, Result, Ok, Err, ◌⊎◌, ◌↔◌}
+use Rattle.std.specs.Prelude.{Option, Some, None, Ok, Err, ◌⊎◌, ◌↔◌}
 use Rattle.std.specs.Option.{option_or}
 use Rattle.std.specs.FinSet as finite_set
 use Rattle.std.proofs.lemmas.List.Elements.{Contains-append_left, Contains-append_right}
@@ -8,7 +8,7 @@ use Rattle.std.proofs.lemmas.Option.{same_Some, none-some}
 use Rattle.rga_ops.specs.Identifier.{Identifier}
 use Rattle.rga_ops.specs.Operation.{checked, id_of}
 use Rattle.rga_ops.specs.Content.{Content, nothing, known, join, single, content_of, HasAnother, IsAgreed}
-use Rattle.rga_ops.specs.Answer.{taken, and_take, taken_one_by_one}
+use Rattle.rga_ops.specs.Answer.{taken_one_by_one}
 use Rattle.rga_ops.specs.ListAnswer.{Verdict, and_check, all_checked, has_another, first_conflict, union_answer, list_answer, AreWellFormed, IsJoinable, IsFirstIllFormed, IsFirstConflict}
 use Rattle.rga_ops.proofs.ContentLaws.{join_assoc, join_nothing}
 use Rattle.rga_ops.proofs.OperationLaws.{Contains-first, Contains-later, Contains-cases, Contains-nil, Contains-append, content_inserted, content_of-append}
@@ -124,10 +124,6 @@ first_conflict-append c (x ∷ xs) ys =
     either true = refl
     either false = refl
 
--- one operation more
-pub first_conflict-push : (c : Content) (ops : List Op) (op : Op) → first_conflict c (ops ++ op ∷ []) ≡ option_or (first_conflict c ops) (here_or (join c (content_of ops)) op None)
-first_conflict-push c ops op = first_conflict-append c ops (op ∷ [])
-
 -- the first that conflicts is named
 pub first_conflict_found : (c : Content) (xs ys : List Op) (op : Op) → first_conflict c xs ≡ None → has_another (join c (content_of xs)) op ≡ true → first_conflict c (xs ++ op ∷ ys) ≡ Some (id_of op)
 first_conflict_found c xs ys op free another =
@@ -135,12 +131,6 @@ first_conflict_found c xs ys op free another =
     first_conflict-append c xs (op ∷ ys)
     ∙ ap (λ o. option_or o (first_conflict d (op ∷ ys))) free
     ∙ ap (λ b. cond b (Some (id_of op)) (first_conflict (join d (single op)) ys)) another
-
-pub first_conflict_free : (c : Content) (ops : List Op) (op : Op) → first_conflict c ops ≡ None → has_another (join c (content_of ops)) op ≡ false → first_conflict c (ops ++ op ∷ []) ≡ None
-first_conflict_free c ops op free no_other =
-    first_conflict-push c ops op
-    ∙ ap (λ o. option_or o (here_or (join c (content_of ops)) op None)) free
-    ∙ ap (λ b. cond b (Some (id_of op)) None) no_other
 
 pub first_conflict-iff : (c : Content) (ops : List Op) (id : Identifier) → (first_conflict c ops ≡ Some id) ↔ IsFirstConflict c ops id
 first_conflict-iff c ops id = (tells c ops, leads)
@@ -221,10 +211,6 @@ union_refusal limit None c e h =
 
 -- ---- the answer to a list
 
--- from what was found of the operations
-pub list_answer_from : (limit : ℕ) (c : Content) (ops : List Op) (v : Verdict) (o : Option Identifier) → all_checked ops ≡ v → first_conflict c ops ≡ o → list_answer limit c ops ≡ and_check v (union_answer limit o (join c (content_of ops)))
-list_answer_from limit c ops v o checks conflict = λ k. and_check (checks k) (union_answer limit (conflict k) (join c (content_of ops)))
-
 of_one_or_other : (e : Refusal) → IsOfOperation e → ((id : Identifier) × (e ≡ Conflict id)) ⊎ (e ≡ Full) → ⊥
 of_one_or_other e own of_union = elim of_union [
   | inl conflict ↦ let is : e ≡ Conflict conflict.0 = conflict.1 in elim own [ inl b ↦ absurd (cc) | inr b ↦ absurd (cc) ]
@@ -302,7 +288,7 @@ no_other_list_refusal limit c ops e h = elim ((and_check-err (all_checked ops) (
 pub list_one_by_one : (limit : ℕ) (c : Content) (ops : List Op) → list_answer limit c ops ≡ Ok tt → taken_one_by_one limit c ops ≡ Ok (join c (content_of ops))
 list_one_by_one limit c ops h =
     let w = (list_taken-iff limit c ops).0 h in
-    takeable_is_taken limit c ops (record { well_formed = w.0; agreed = w.1.agreed; agrees = w.1.agree; fits = w.2 })
+    takeable_is_taken limit c ops (record { well_formed = w.0; joinable = w.1; fits = w.2 })
 
 -- operations that are taken one by one can be taken whole
 pub one_by_one_list : (limit : ℕ) (c d : Content) (ops : List Op) → finite_set.len (known c) ≤ limit → taken_one_by_one limit c ops ≡ Ok d → list_answer limit c ops ≡ Ok tt
@@ -367,14 +353,3 @@ list_taken_append limit c xs ys = (
 
     whole : join d (content_of ys) ≡ join c (content_of (xs ++ ys))
     whole = join_assoc c (content_of xs) (content_of ys) ∙ ap (join c) (sym (content_of-append xs ys))
-
--- the first operation of a list that is taken whole is taken
-pub list_first_taken : (limit : ℕ) (c : Content) (op : Op) (ops : List Op) → list_answer limit c (op ∷ ops) ≡ Ok tt → taken limit c op ≡ Ok (join c (single op))
-list_first_taken limit c op ops h =
-    sym (alone (taken limit c op))
-    ∙ list_one_by_one limit c (op ∷ []) ((list_taken_append limit c (op ∷ []) ops).0 h).0
-    ∙ ap (λ d. Ok (join c d)) (join_nothing (single op))
-  where
-    alone : (r : Result Content Refusal) → and_take r (λ d. Ok d) ≡ r
-    alone (Ok d) = refl
-    alone (Err e) = refl

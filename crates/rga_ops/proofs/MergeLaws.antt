@@ -1,11 +1,10 @@
 -- The answers to a merge: which of them comes exactly when.
-use Rattle.std.proofs.Common.{◌≡◌, ℕ, ◌<◌, ◌≤◌, Bool, true, false, cond, ◌||◌, T, List, [], ◌∷◌, map, is_some, refl, sym, ap, ◌∙◌, subst, true≢false, find}
+use Rattle.std.proofs.Common.{◌≡◌, ℕ, ◌<◌, ◌≤◌, Bool, true, false, cond, ◌||◌, T, List, [], ◌∷◌, map, refl, sym, ap, ◌∙◌, subst, true≢false, find}
 use Rattle.std.specs.Prelude.{Option, Some, None, Ok, Err, ◌⊎◌, ◌↔◌}
 use Rattle.std.specs.Option.{option_map_or}
 use Rattle.std.specs.List.{list_any}
 use Rattle.std.specs.Cmp.{tied_itself}
 use Rattle.std.specs.Ordering.{is_lt, ordering_reverse}
-use Rattle.std.specs.declared.cmp.Ordering.{Ordering}
 use Rattle.std.specs.declared.cmp.Ordering.TheVariants.{Less, Equal, Greater}
 use Rattle.std.specs.FinMap as finite_map
 use Rattle.std.specs.FinSet as finite_set
@@ -22,6 +21,8 @@ use Rattle.rga_ops.proofs.OperationLaws.{single_holds}
 use Rattle.rga_ops.specs.Operations.{operations}
 use Rattle.rga_ops.proofs.OperationsLaws.{content_of-operations, operations_hold, operations_agree}
 use Rattle.rga_ops.proofs.SortedLaws.{both_so}
+use Rattle.rga_ops.proofs.PathLaws.{key_of}
+use Rattle.rga_ops.proofs.OrderLaws.{less_of}
 use Rattle.rga_ops.proofs.AgreeLaws.{has_another-iff, no_other-iff}
 use Rattle.rga_ops.proofs.ListAnswerLaws.{list_taken-iff, union_taken-iff, union_conflict-iff, union_full-iff, union_refusal}
 use Rattle.rga_ops.specs.declared.op.Op.TheVariants.{Insert}
@@ -71,11 +72,6 @@ none_passes p (k ∷ ks) h q m =
       ] refl m
     ] refl h
 
-less_from_test : (o : Ordering) → T (is_lt o) → o ≡ Less
-less_from_test Less h = refl
-less_from_test Equal h = absurd h
-less_from_test Greater h = absurd h
-
 not_both_less : (a b : Identifier) → id_cmp a b ≡ Less → id_cmp b a ≡ Less → ⊥
 not_both_less a b h k = let clash : Less ≡ ordering_reverse Less = sym h ∙ ids_total.antisymm a b ∙ ap ordering_reverse k in absurd (cc)
 
@@ -88,7 +84,7 @@ below_later k [] h q m = absurd (true≢false (sym m))
 below_later k (e ∷ es) h q m =
     let s : T (is_lt (id_cmp k e.0)) × T (below_all id_cmp k es) = both_so (is_lt (id_cmp k e.0)) (below_all id_cmp k es) h in
     elim (is q e.0) as (λ b. is q e.0 ≡ b → (b || list_any (is q) (map (λ e. e.0) es)) ≡ true → id_cmp k q ≡ Less) [
-      | true ↦ λ t m. ap (id_cmp k) (same_id q e.0 t) ∙ less_from_test (id_cmp k e.0) s.0
+      | true ↦ λ t m. ap (id_cmp k) (same_id q e.0 t) ∙ less_of (id_cmp k e.0) s.0
       | false ↦ λ _ m. below_later k es s.1 q m
     ] refl m
 
@@ -128,13 +124,10 @@ found_least p (e ∷ es) k sorted h =
           ] refl m;
     }
 
-inserted_key : (c : Content) (id : Identifier) (x : Element) → finite_map.get c.inserted id ≡ Some x → list_any (is id) (finite_map.keys c.inserted) ≡ true
-inserted_key c id x g = sym (finite_map.contains_key-keys c.inserted id) ∙ ap is_some g
-
 -- there is none exactly where the contents agree
 pub no_least_conflict-iff : (c d : Content) → (least_conflict c d ≡ None) ↔ Agree c d
 no_least_conflict-iff c d = (
-  λ h id x y f g. same_element c d id x y f g (none_passes (is_conflict c d) (finite_map.keys c.inserted) h id (inserted_key c id x f)),
+  λ h id x y f g. same_element c d id x y f g (none_passes (is_conflict c d) (finite_map.keys c.inserted) h id (key_of c id x f)),
   λ agree. by_search agree (least_conflict c d) refl,
 )
   where
@@ -149,7 +142,7 @@ found_conflict c d id h =
     let w = found_least (is_conflict c d) (finite_map.entries c.inserted) id (finite_map.entries_sorted c.inserted) h in
     record {
       conflict = (is_conflict-iff c d id).0 w.passes;
-      least = λ other at smaller. w.least other (inserted_key c other at.here at.inserted_here) ((is_conflict-iff c d other).1 at) smaller;
+      least = λ other at smaller. w.least other (key_of c other at.here at.inserted_here) ((is_conflict-iff c d other).1 at) smaller;
     }
 
 -- there is but one

@@ -9,13 +9,13 @@ use Rattle.std.specs.FinSet as finite_set
 use Rattle.std.specs.FinMap.Entries.{put, by_order}
 use Rattle.std.proofs.lemmas.Bool.{false_from_ne_true}
 use Rattle.rga_ops.specs.Identifier.{Identifier, id_cmp, root, is_root}
-use Rattle.rga_ops.specs.Content.{element, Content, join, single, clock, HasCountersWithin}
+use Rattle.rga_ops.specs.Content.{Content, join, single, clock, HasCountersWithin}
 use Rattle.rga_ops.specs.RootPath.{Path, path_cmp, newest_first, IsRootPath}
 use Rattle.rga_ops.specs.Order.{order}
 use Rattle.rga_ops.specs.Placement.{put_behind}
 use Rattle.rga_ops.proofs.IdentifierLaws.{is, same_id, is_id-is}
 use Rattle.rga_ops.proofs.PathLaws.{on_path}
-use Rattle.rga_ops.proofs.OrderLaws.{all_members}
+use Rattle.rga_ops.proofs.MemberLaws.{all_members}
 use Rattle.rga_ops.proofs.ClockLaws.{within_clock}
 use Rattle.rga_ops.proofs.InsertionLaws.{IsNewLeaf}
 use Rattle.rga_ops.proofs.BehindLaws.{ids, GoesIn, order-change}

@@ -8,20 +8,19 @@ use Rattle.std.proofs.lemmas.Bool.{and_parts, or_cases, or_left, or_right, false
 use Rattle.std.proofs.lemmas.Bool.Decides.{nat_tests}
 use Rattle.rga_ops.specs.Identifier.{Identifier, root, is_root}
 use Rattle.rga_ops.specs.Operation.{checked}
-use Rattle.rga_ops.specs.Content.{Element, element, Content, IsSound, join, single, clock}
+use Rattle.rga_ops.specs.Content.{Element, element, Content, join, single, clock}
 use Rattle.rga_ops.specs.RootPath.{is_complete}
 use Rattle.rga_ops.specs.Order.{order, text}
-use Rattle.rga_ops.specs.Places.{is_visible, visible, character}
+use Rattle.rga_ops.specs.Places.{visible, character}
 use Rattle.rga_ops.specs.Placement.{change_after, put_behind}
 use Rattle.rga_ops.proofs.PathLaws.{inserted_if_complete}
-use Rattle.rga_ops.proofs.IdentifierLaws.{is, same_id, is_itself, is_id-is}
-use Rattle.rga_ops.proofs.OrderLaws.{all_members}
+use Rattle.rga_ops.proofs.IdentifierLaws.{is, same_id, is_id-is}
+use Rattle.rga_ops.proofs.MemberLaws.{all_members}
 use Rattle.rga_ops.proofs.VisibleLaws.{is_kept, visible_is, visible_elements, text_is, own_index}
 use Rattle.rga_ops.proofs.ClockLaws.{within_clock, clock_insertion}
-use Rattle.rga_ops.proofs.InsertionLaws.{not_complete_before, is_root_or_complete, contains-insertion, get-elsewhere, get-inserted, is_complete-insertion}
-use Rattle.rga_ops.proofs.PlacementLaws.{member_at, put_at, change_after-at, filter-put_after}
+use Rattle.rga_ops.proofs.InsertionLaws.{not_complete_before, is_root_or_complete, contains-insertion, get-elsewhere, get-inserted}
+use Rattle.rga_ops.proofs.PlacementLaws.{member_at, change_after-at, filter-put_after}
 use Rattle.rga_ops.proofs.SpliceLaws.{same_characters, characters_with}
-use Rattle.rga_ops.proofs.SoundLaws.{sound_after}
 use Rattle.rga_ops.proofs.NewestLaws.{newest_element, newest_absent, newest_kept, newest_leaf, order-newest}
 use Rattle.rga_ops.specs.declared.op.Op.TheVariants.{Insert}
 use Rattle.rga_ops.specs.declared.refusal.Refusal.TheVariants.{BadId, BadOrder}
@@ -52,15 +51,8 @@ module _ (c : Content) (id parent : Identifier) (ch : ℕ) (newer : clock c < id
   pub get-newest : finite_map.get d.inserted id ≡ Some (element parent ch)
   get-newest = get-inserted c id parent ch (newest_absent c id newer)
 
-  pub kept-newest : is_kept d id ≡ true
-  kept-newest = ap not (contains-insertion c id parent ch id ∙ newest_kept c id newer)
-
   kept_same : is_kept d ≡ is_kept c
   kept_same = λ k q. not (contains-insertion c id parent ch q k)
-
-  -- the new element is complete where its parent is the root or complete, and no other is complete anew
-  pub is_complete-newest_or_waits : (q : Identifier) → is_complete d q ≡ ((is q id && is_root_or_complete c parent) || is_complete c q)
-  is_complete-newest_or_waits = is_complete-insertion c id parent ch (newest_leaf c id newer)
 
   -- ---- the visible elements
 
@@ -95,13 +87,6 @@ module _ (c : Content) (id parent : Identifier) (ch : ℕ) (newer : clock c < id
       element_of : (a b : Bool) → (not a && b) ≡ true → a ≡ false
       element_of true b e = absurd (true≢false (sym e))
       element_of false b e = refl
-
-  -- the new element is at the index of its place
-  pub newest_at_front : is_root parent ≡ true → slice_get (visible d) 0 ≡ Some id
-  newest_at_front at_root = ap (λ xs. slice_get xs 0) (visible-newest_front at_root)
-
-  pub newest_at : (i : ℕ) → slice_get (visible c) i ≡ Some parent → slice_get (visible d) (i + 1) ≡ Some id
-  newest_at i h = ap (λ xs. slice_get xs (i + 1)) (visible-newest_at i h) ∙ put_at (visible c) i parent id (drop (i + 1) (visible c)) h
 
   -- ---- the text
 
@@ -145,23 +130,5 @@ module _ (c : Content) (id parent : Identifier) (ch : ℕ) (newer : clock c < id
         above : (m n : ℕ) → n < m → nat_le m n ≡ false
         above m n h = grind (arith, nat_tests)
 
-    pub sound-newest : IsSound c → IsSound d
-    sound-newest sound = sound_after c (Insert id parent ch) sound newest_well_formed
-
     pub clock-newest : clock d ≡ id.counter
     clock-newest = clock-newest_falls (omega (arith, newer, lower))
-
-    pub complete_anew : is_complete d id ≡ true
-    complete_anew =
-        is_complete-newest_or_waits id
-        ∙ or_left (is id id && is_root_or_complete c parent) (is_complete c id) ((λ k. is_itself id k && is_root_or_complete c parent) ∙ stands)
-
-    pub is_complete-newest : (q : Identifier) → is_complete d q ≡ (is q id || is_complete c q)
-    is_complete-newest q = is_complete-newest_or_waits q ∙ ap (λ b. (is q id && b) || is_complete c q) stands ∙ ap (λ b. b || is_complete c q) (and_true (is q id))
-      where
-        and_true : (b : Bool) → (b && true) ≡ b
-        and_true true = refl
-        and_true false = refl
-
-    pub visible_anew : is_visible d id ≡ true
-    visible_anew = (λ k. complete_anew k && kept-newest k)

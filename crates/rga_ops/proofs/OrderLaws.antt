@@ -16,6 +16,7 @@ use Rattle.rga_ops.specs.Content.{Content}
 use Rattle.rga_ops.specs.RootPath.{Path, path_cmp, root_path, is_complete, IsComplete, IsRootPath}
 use Rattle.rga_ops.specs.Order.{placed, by_path, order, Precedes, IsInOrder, IsOrderList}
 use Rattle.rga_ops.proofs.IdentifierLaws.{is, same_id, is_itself}
+use Rattle.rga_ops.proofs.MemberLaws.{all_members}
 use Rattle.rga_ops.proofs.BeforeLaws.{paths_total, not_less, before-iff, before_total}
 use Rattle.rga_ops.proofs.PathLaws.{root_path-is, is-root_path, one_element, path_of_complete, not_complete_root}
 use Rattle.rga_ops.proofs.PlacedLaws.{IsPlaced, is-placed, find-placed, placed-find, by_path-get, order_is, entries_placed}
@@ -82,13 +83,6 @@ complete-placed c id h =
 
 placed-complete : (c : Content) (id : Identifier) (p : Path) → IsPlaced c id p → is_complete c id ≡ true
 placed-complete c id p h = (λ k. not (h.element k) && is_some (is-root_path h.path k))
-
-pub all_members : (P : Identifier → Type 0) (xs : List Identifier) → ((q : Identifier) → list_any (is q) xs ≡ true → P q) → AllByRecursion P xs
-all_members P [] h = tt
-all_members P (x ∷ xs) h = (
-  h x (or_left (is x x) (list_any (is x) xs) (is_itself x)),
-  all_members P xs (λ q m. h q (or_right (is q x) (list_any (is q) xs) m)),
-)
 
 entry : Content → Identifier → Path × Identifier
 entry c id = (path_of c id, id)

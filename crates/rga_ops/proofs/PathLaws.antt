@@ -105,9 +105,6 @@ pub path_stays : {c d : Content} {id : Identifier} {p : Path} → IsWithin c d �
 path_stays w (at_root r e) = at_root r e
 path_stays {c} {d} {id} w (below x q r g s e) = below x q r (w.inserted id x g) (path_stays w s) e
 
-pub root_path-stays : (c d : Content) → IsWithin c d → (id : Identifier) (p : Path) → root_path c id ≡ Some p → root_path d id ≡ Some p
-root_path-stays c d w id p e = is-root_path (path_stays w (root_path-is e))
-
 -- a path ends in its element
 pub ends : {c : Content} {id : Identifier} {p : Path} → is_root id ≡ false → IsRootPath c id p → (q : Path) × (p ≡ q ++ id ∷ [])
 ends other (at_root r e) = absurd (true≢false (sym r ∙ other))

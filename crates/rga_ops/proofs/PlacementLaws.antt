@@ -30,15 +30,6 @@ first_index p x xs i here h = let same : 0 ≡ i = same_Some _ _ (sym (position_
 one_more : (i : ℕ) → i + 1 ≡ suc i
 one_more i = omega arith
 
--- what is put behind an index is at the next
-pub put_at : (xs : List Identifier) (i : ℕ) (x new : Identifier) (rest : List Identifier) → slice_get xs i ≡ Some x → slice_get (take (i + 1) xs ++ new ∷ rest) (i + 1) ≡ Some new
-put_at xs i x new rest h = ap (λ n. slice_get (take n xs ++ new ∷ rest) n) (one_more i) ∙ at_suc xs i h
-  where
-    at_suc : (xs : List Identifier) (i : ℕ) → slice_get xs i ≡ Some x → slice_get (take (suc i) xs ++ new ∷ rest) (suc i) ≡ Some new
-    at_suc [] i h = absurd (none-some _ h)
-    at_suc (y ∷ ys) zero h = refl
-    at_suc (y ∷ ys) (suc i) h = at_suc ys i h
-
 -- a change behind an identifier, at the index of that
 pub change_after-at : (id : Identifier) (change : List Identifier → List Identifier) (xs : List Identifier) (i : ℕ) → position (λ x. is_id x id) xs ≡ Some i → change_after id change xs ≡ take (i + 1) xs ++ change (drop (i + 1) xs)
 change_after-at id change xs i h = at_suc xs i h ∙ ap (λ n. take n xs ++ change (drop n xs)) (sym (one_more i))

@@ -1,7 +1,7 @@
 -- The skip rule: where parents are smaller than their children, a new element goes in behind its parent, past the larger
 -- identifiers that stand there.
 use Rattle.std.proofs.Common.{◌≡◌, ◌≢◌, ℕ, ◌<◌, true, false, cond, nat_le, T, List, [], ◌∷◌, ◌++◌, refl, sym, ap, ◌∙◌, subst, true≢false, append_assoc, arith}
-use Rattle.std.specs.Prelude.{Some, None, Result, Ok, Err}
+use Rattle.std.specs.Prelude.{Some, None, Ok}
 use Rattle.std.specs.Ordering.{eq_by_cmp, is_eq, is_gt}
 use Rattle.std.specs.declared.cmp.Ordering.TheVariants.{Less, Equal, Greater}
 use Rattle.std.specs.FinMap as finite_map
@@ -17,17 +17,17 @@ use Rattle.rga_ops.specs.RootPath.{Path, path_cmp, IsRootPath, at_root, below}
 use Rattle.rga_ops.specs.Order.{by_path, order}
 use Rattle.rga_ops.specs.Placement.{put_past_larger, put_by_skip_rule}
 use Rattle.rga_ops.proofs.IdentifierLaws.{is, same_id}
+use Rattle.rga_ops.proofs.MemberLaws.{all_map}
 use Rattle.rga_ops.proofs.BeforeLaws.{paths_total, paths_exact}
 use Rattle.rga_ops.proofs.SortedLaws.{both_so}
 use Rattle.rga_ops.proofs.PathLaws.{one_path}
 use Rattle.rga_ops.proofs.PlacedLaws.{IsPlaced, by_path-get, same_path}
 use Rattle.rga_ops.proofs.RisingPathLaws.{IsRisingTo, ParentsAreSmaller, between, beyond, rising-push, rising_path}
+use Rattle.rga_ops.proofs.AnswerLaws.{well_formed_insertion}
 use Rattle.rga_ops.proofs.InsertionLaws.{IsNewLeaf}
 use Rattle.rga_ops.proofs.NewestLaws.{lower_counter}
-use Rattle.rga_ops.proofs.BehindLaws.{behind_beginning, earlier_than, Entry, ids, AreLater, AreEarlier, GoesIn, all_map, all_later, earlier-push, path_is_new, order-change}
+use Rattle.rga_ops.proofs.BehindLaws.{behind_beginning, earlier_than, Entry, ids, AreLater, AreEarlier, GoesIn, all_later, earlier-push, path_is_new, order-change}
 use Rattle.rga_ops.specs.declared.op.Op.TheVariants.{Insert}
-use Rattle.rga_ops.specs.declared.refusal.Refusal.{Refusal}
-use Rattle.rga_ops.specs.declared.refusal.Refusal.TheVariants.{BadId, BadOrder}
 
 -- ---- entries before and behind the new path
 
@@ -107,25 +107,14 @@ module _ (c : Content) (id parent : Identifier) (ch : ℕ) (w : IsNewLeaf c id) 
 
 -- ---- well-formed insertions
 
-abbrev passed_check : Result (Unit {0}) Refusal
-passed_check = Ok tt
-
 falls : (id parent : Identifier) → nat_le id.counter parent.counter ≡ false → parent.counter < id.counter
 falls id parent h = grind (arith, nat_tests)
 
--- the identifier of a well-formed insertion is no root, and its parent is smaller
-pub well_formed-insertion : (id parent : Identifier) (ch : ℕ) → checked (Insert id parent ch) ≡ Ok tt → (is_root id ≡ false) × (id_cmp parent id ≡ Less)
-well_formed-insertion id parent ch h =
-    elim (is_root id) as (λ b. cond b (Err BadId) (cond (nat_le id.counter parent.counter) (Err BadOrder) (Ok tt)) ≡ passed_check → (b ≡ false) × (id_cmp parent id ≡ Less)) [
-      | true ↦ λ h. absurd (cc)
-      | false ↦ λ h. elim (nat_le id.counter parent.counter) as (λ b. nat_le id.counter parent.counter ≡ b → cond b (Err BadOrder) (Ok tt) ≡ passed_check → (false ≡ false) × (id_cmp parent id ≡ Less)) [
-        | true ↦ λ t h. absurd (cc)
-        | false ↦ λ f h. (refl, lower_counter parent id (falls id parent f))
-      ] refl h
-    ] h
+smaller_parent : (id parent : Identifier) (ch : ℕ) → checked (Insert id parent ch) ≡ Ok tt → id_cmp parent id ≡ Less
+smaller_parent id parent ch h = lower_counter parent id (falls id parent (well_formed_insertion id parent ch h).1)
 
 pub sound_rises : (c : Content) → IsSound c → ParentsAreSmaller c
-sound_rises c sound k x g = (well_formed-insertion k x.parent x.ch (sound (Insert k x.parent x.ch) g)).1
+sound_rises c sound k x g = smaller_parent k x.parent x.ch (sound (Insert k x.parent x.ch) g)
 
 -- a well-formed insertion goes into a sound content by the skip rule
 pub order-skip :
@@ -133,7 +122,6 @@ pub order-skip :
     → ((k : Identifier) (x : Element) → finite_map.get c.inserted k ≡ Some x → x.parent ≢ id)
     → order (join c (single (Insert id parent ch))) ≡ put_by_skip_rule parent id (order c)
 order-skip c id parent ch sound well_formed absent childless =
-    let parts : (is_root id ≡ false) × (id_cmp parent id ≡ Less) = well_formed-insertion id parent ch well_formed in
     order_by_skip_rule c id parent ch
-    (record { element = parts.0; absent = absent; childless = λ k x g. false_from_ne_true (is x.parent id) (λ t. childless k x g (same_id x.parent id t)) })
-    (sound_rises c sound) parts.1
+    (record { element = (well_formed_insertion id parent ch well_formed).0; absent = absent; childless = λ k x g. false_from_ne_true (is x.parent id) (λ t. childless k x g (same_id x.parent id t)) })
+    (sound_rises c sound) (smaller_parent id parent ch well_formed)

@@ -5,17 +5,20 @@ use Rattle.std.specs.Option.{option_map}
 use Rattle.std.specs.List.{list_any, filter_map, cons_option, AllByRecursion, position_or_len, IsDistinct, slice_get}
 use Rattle.std.specs.FinMap as finite_map
 use Rattle.std.specs.FinSet as finite_set
+use Rattle.std.proofs.Math.Bool.{and-false}
+use Rattle.std.proofs.lemmas.Bool.{and_parts}
 use Rattle.std.proofs.lemmas.Bool.Decides.{nat_tests}
 use Rattle.std.proofs.lemmas.List.{length-map}
 use Rattle.std.proofs.lemmas.Option.{same_Some, none-some}
 use Rattle.rga_ops.specs.Identifier.{Identifier, is_root, is_id}
 use Rattle.rga_ops.specs.Content.{Element, Content}
-use Rattle.rga_ops.specs.RootPath.{is_complete, IsComplete, below_root, below_element}
+use Rattle.rga_ops.specs.RootPath.{is_complete}
 use Rattle.rga_ops.specs.Order.{order, shown, text}
 use Rattle.rga_ops.specs.Places.{is_visible, visible, character, up_to, place}
 use Rattle.rga_ops.proofs.IdentifierLaws.{is, same_id, is_id-same, is_id-is, is_id-itself, is_swap}
-use Rattle.rga_ops.proofs.PathLaws.{is_complete-iff, inserted_if_complete}
-use Rattle.rga_ops.proofs.OrderLaws.{all_members, order_list, order_distinct}
+use Rattle.rga_ops.proofs.PathLaws.{is_complete-iff, not_complete_root, inserted_if_complete}
+use Rattle.rga_ops.proofs.MemberLaws.{all_members, distinct_filter}
+use Rattle.rga_ops.proofs.OrderLaws.{order_list, order_distinct}
 
 -- ---- the test of an element of the order
 
@@ -54,22 +57,7 @@ text_is c = characters_among c (order c) (order_complete c) ∙ ap (map (charact
 pub text_long : (c : Content) → length (text c) ≡ length (visible c)
 text_long c = sym (length-map (text c) Some) ∙ ap length (text_is c) ∙ length-map (visible c) (character c)
 
--- those that there are, in a row
-pub text_of_visible : (c : Content) → text c ≡ filter_map (character c) (visible c)
-text_of_visible c = among (order c) ∙ ap (filter_map (character c)) (sym (visible_is c))
-  where
-    among : (xs : List Identifier) → filter_map (shown c) xs ≡ filter_map (character c) (filter (is_kept c) xs)
-    among [] = refl
-    among (x ∷ xs) = elim (finite_set.contains c.deleted x) as (λ b. cons_option (cond b None (character c x)) (filter_map (shown c) xs) ≡ filter_map (character c) (cond (not b) (x ∷ filter (is_kept c) xs) (filter (is_kept c) xs))) [
-      | true ↦ among xs
-      | false ↦ ap (cons_option (character c x)) (among xs)
-    ]
-
 -- ---- which elements are visible
-
-and_false : (b : Bool) → (b && false) ≡ false
-and_false true = refl
-and_false false = refl
 
 filtered : (p : Identifier → Bool) (id : Identifier) (xs : List Identifier) → list_any (is id) (filter p xs) ≡ (list_any (is id) xs && p id)
 filtered p id [] = refl
@@ -81,7 +69,7 @@ filtered p id (x ∷ xs) = elim (p x) as (λ b. p x ≡ b → list_any (is id) (
   | false ↦ λ t. elim (is id x) as (λ b. is id x ≡ b → list_any (is id) (filter p xs) ≡ ((b || list_any (is id) xs) && p id)) [
     | true ↦ λ s.
         let no : p id ≡ false = ap p (same_id id x s) ∙ t in
-        filtered p id xs ∙ ap (λ b. list_any (is id) xs && b) no ∙ and_false (list_any (is id) xs) ∙ sym no
+        filtered p id xs ∙ ap (λ b. list_any (is id) xs && b) no ∙ and-false (list_any (is id) xs) ∙ sym no
     | false ↦ λ s. filtered p id xs
   ] refl
 ] refl
@@ -183,7 +171,7 @@ counted p id (x ∷ xs) i h =
             omega (arith, first)
         | false ↦ λ t h.
             let no : p id ≡ false = ap p (sym (is_id-is x id s)) ∙ t in
-            let none : list_any (is id) (filter p xs) ≡ false = filtered p id xs ∙ ap (λ b. list_any (is id) xs && b) no ∙ and_false (list_any (is id) xs) in
+            let none : list_any (is id) (filter p xs) ≡ false = filtered p id xs ∙ ap (λ b. list_any (is id) xs && b) no ∙ and-false (list_any (is id) xs) in
             absurd (none-some _ (sym (absent id (filter p xs) none) ∙ h))
       ] refl h
       | false ↦ λ s. elim (p x) as (λ b. p x ≡ b → position (λ y. is_id y id) (cond b (x ∷ filter p xs) (filter p xs)) ≡ Some i → length (cond b (x ∷ filter p (up_to id xs)) (filter p (up_to id xs))) ≡ i + 1) [
@@ -203,8 +191,8 @@ counted p id (x ∷ xs) i h =
 pub place_at : (c : Content) (id : Identifier) (i : ℕ) → position (λ x. is_id x id) (visible c) ≡ Some i → place c id ≡ Some (i + 1)
 place_at c id i h =
     let shows : is_visible c id ≡ true = sym (visible_elements c id) ∙ among (list_any (is id) (visible c)) refl in
-    let complete : is_complete c id ≡ true = first (is_complete c id) (is_kept c id) shows in
-    let other : is_root id ≡ false = element (is_root id) _ complete in
+    let complete : is_complete c id ≡ true = (and_parts (is_complete c id) (is_kept c id) shows).0 in
+    let other : is_root id ≡ false = not_complete_root ((is_complete-iff c id).0 complete) in
     (λ k. cond (other k) (Some 0) (cond (complete k) (Some (length (filter (is_visible c) (up_to id (order c))))) None))
     ∙ ap Some (counted (is_visible c) id (order c) i h)
   where
@@ -212,33 +200,10 @@ place_at c id i h =
     among true e = e
     among false e = absurd (none-some _ (sym (absent id (visible c) e) ∙ h))
 
-    first : (a b : Bool) → (a && b) ≡ true → a ≡ true
-    first true b e = refl
-    first false b e = absurd (true≢false (sym e))
-
-    element : (a b : Bool) → (not a && b) ≡ true → a ≡ false
-    element true b e = absurd (true≢false (sym e))
-    element false b e = refl
-
 -- ---- each visible element stands at one index
 
 pub visible_distinct : (c : Content) → IsDistinct is (visible c)
-unfolding IsDistinct
 visible_distinct c = distinct_filter (is_visible c) (order c) (order_distinct c (order c) (order_list c).in_order)
-  where
-    all_filter : (P : Identifier → Type 0) (p : Identifier → Bool) (xs : List Identifier) → AllByRecursion P xs → AllByRecursion P (filter p xs)
-    all_filter P p [] h = tt
-    all_filter P p (x ∷ xs) h = elim (p x) as (λ b. AllByRecursion P (cond b (x ∷ filter p xs) (filter p xs))) [
-      | true ↦ (h.0, all_filter P p xs h.1)
-      | false ↦ all_filter P p xs h.1
-    ]
-
-    distinct_filter : (p : Identifier → Bool) (xs : List Identifier) → IsDistinct is xs → IsDistinct is (filter p xs)
-    distinct_filter p [] h = tt
-    distinct_filter p (x ∷ xs) h = elim (p x) as (λ b. IsDistinct is (cond b (x ∷ filter p xs) (filter p xs))) [
-      | true ↦ (all_filter (λ y. is x y ≡ false) p xs h.0, distinct_filter p xs h.1)
-      | false ↦ distinct_filter p xs h.1
-    ]
 
 pub own_index : (c : Content) (id : Identifier) (i : ℕ) → slice_get (visible c) i ≡ Some id → position (λ x. is_id x id) (visible c) ≡ Some i
 unfolding IsDistinct

@@ -1,7 +1,7 @@
 -- The inserted elements are those in the order and those that wait.
 use Rattle.std.proofs.Common.{◌≡◌, ◌+◌, ◌≤◌, Bool, true, false, cond, not, ◌&&◌, List, [], ◌∷◌, filter, length, refl, sym, ap, ◌∙◌, arith}
 use Rattle.std.specs.Cmp.{eq_by_cmp_equiv}
-use Rattle.std.specs.List.{list_any, IsDistinct, AllByRecursion}
+use Rattle.std.specs.List.{list_any, IsDistinct}
 use Rattle.std.specs.FinMap as finite_map
 use Rattle.std.proofs.lemmas.Map.Made.{length-le_from_is_member}
 use Rattle.std.proofs.lemmas.Map.Views.{any-filter_same}
@@ -10,19 +10,11 @@ use Rattle.rga_ops.specs.Content.{Content}
 use Rattle.rga_ops.specs.RootPath.{is_complete}
 use Rattle.rga_ops.specs.Order.{order, waiting, IsOrderList}
 use Rattle.rga_ops.proofs.IdentifierLaws.{ids_total, is, same_id}
+use Rattle.rga_ops.proofs.MemberLaws.{distinct_filter}
 use Rattle.rga_ops.proofs.PathLaws.{is_complete-iff, path_of_complete, not_complete_root}
 use Rattle.rga_ops.proofs.PlacedLaws.{placed_key}
 use Rattle.rga_ops.proofs.OrderLaws.{order_list, order_distinct}
 use Rattle.rga_ops.proofs.SortedLaws.{distinct_keys}
-
-pub all_filter : (P : Identifier → Type 0) (p : Identifier → Bool) (xs : List Identifier) → AllByRecursion P xs → AllByRecursion P (filter p xs)
-all_filter P p [] h = tt
-all_filter P p (x ∷ xs) h = elim (p x) as (λ b. AllByRecursion P (cond b (x ∷ filter p xs) (filter p xs))) [ true ↦ (h.0, all_filter P p xs h.1) | false ↦ all_filter P p xs h.1 ]
-
-pub distinct_filter : (p : Identifier → Bool) (xs : List Identifier) → IsDistinct is xs → IsDistinct is (filter p xs)
-unfolding IsDistinct
-distinct_filter p [] h = tt
-distinct_filter p (x ∷ xs) h = elim (p x) as (λ b. IsDistinct is (cond b (x ∷ filter p xs) (filter p xs))) [ true ↦ (all_filter (λ y. is x y ≡ false) p xs h.0, distinct_filter p xs h.1) | false ↦ distinct_filter p xs h.1 ]
 
 split_length : (p : Identifier → Bool) (xs : List Identifier) → length (filter p xs) + length (filter (λ x. not (p x)) xs) ≡ length xs
 split_length p [] = refl

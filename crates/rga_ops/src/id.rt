@@ -1,6 +1,6 @@
 //! Identifiers of elements.
-ghost use Rattle.std.specs.Prelude.{◌≡◌, Ok, Err, if◌then◌else◌};
-ghost use Rattle.rga_ops.specs.Identifier.{root, is_in_range, identifier};
+ghost use Rattle.std.specs.Prelude.{◌≡◌, ◌||◌, true, Ok, Err, if◌then◌else◌};
+ghost use Rattle.rga_ops.specs.Identifier.{is_root, is_in_range, identifier};
 
 use crate::refusal::Refusal;
 use std::marker::Model;
@@ -55,7 +55,8 @@ impl Id {
 
     /// The counter; 0 at the root.
     pub fn counter(&self) -> u64
-        ensures { result ≡ self.now.counter }
+        ensures value { result ≡ self.now.counter }
+        ensures kept { is_root self.now || is_in_range self.now.counter self.now.replica ≡ true }
     {
         self.counter
     }

@@ -12,6 +12,7 @@ use Rattle.std.proofs.lemmas.Map.Entries.{lookup_from_place}
 use Rattle.std.proofs.lemmas.Option.{same_Some, none-some}
 use Rattle.rga_ops.specs.Identifier.{Identifier, id_cmp, is_id}
 use Rattle.rga_ops.specs.Content.{Element, element, join, single}
+use Rattle.rga_ops.specs.Order.{shown}
 use Rattle.rga_ops.proofs.IdentifierLaws.{ids_total, is, is_swap, same_id, is_id-same, is_id-is, is_id-itself}
 use Rattle.rga_ops.proofs.ContentLaws.{same_content}
 use Rattle.rga_ops.specs.declared.op.Op.TheVariants.{Insert, Delete}
@@ -106,6 +107,14 @@ any_where test q (n ∷ ns) h =
 -- and deleted as its node says
 pub deleted_at : (ns : Nodes) → AreApart ns → (q : Identifier) → finite_set.contains (content_of_nodes ns).deleted q ≡ mark_of (lookup (is_id q) ns)
 deleted_at ns h q = finite_set.contains-from_list ids_total (marked_ids ns) q ∙ any_where (λ v. v.deleted) q ns h
+
+-- the character of an element that is not deleted
+abbrev pub char_at : Option Node → Option ℕ
+char_at o = cond (mark_of o) None (option_map (λ x. x.ch) (element_of o))
+
+-- and shown as its node says
+pub shown_at : (ns : Nodes) → AreApart ns → (q : Identifier) → shown (content_of_nodes ns) q ≡ char_at (lookup (is_id q) ns)
+shown_at ns h q = λ k. cond (deleted_at ns h q k) None (option_map (λ x. x.ch) (inserted_at ns h q k))
 
 -- ---- changes
 

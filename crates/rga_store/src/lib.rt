@@ -11,6 +11,7 @@
 #![tactic(auto)]
 
 mod answer;
+mod characters;
 mod child_list;
 pub mod laws;
 mod list_answer;

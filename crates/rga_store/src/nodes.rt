@@ -1,8 +1,9 @@
 //! A node for each identifier that is inserted, deleted, or named as a parent.
-ghost use Rattle.std.specs.Prelude.{◌≡◌, ◌&&◌, ◌||◌, not, ◌++◌, ℕ, [], false, None, IfOk, IfErr, OnOk, OnErr};
+ghost use Rattle.std.specs.Prelude.{◌≡◌, ◌&&◌, ◌||◌, not, ◌++◌, ℕ, [], false, None, IfOk, IfErr, IfSome, OnOk, OnErr};
 ghost use Rattle.std.specs.FinMap as finite_map;
 ghost use Rattle.std.specs.FinSet as finite_set;
 ghost use Rattle.std.specs.Map.{lookup};
+ghost use Rattle.std.specs.Option.{option_copied};
 ghost use Rattle.rga_ops.specs.Identifier.{Identifier, is_id};
 ghost use Rattle.rga_ops.specs.Content.{join, single};
 ghost use Rattle.rga_store.specs.Children.{children_in, HasChild, IsRising};
@@ -40,7 +41,8 @@ impl Node {
 }
 
 /// Sees to it that an identifier has a node, and says at which place. A new one means nothing, and
-/// one that was there is put back: so there is one search. Only a new one takes memory.
+/// one that was there is put back: so there is one search, and none for the node that was made last,
+/// as an element's parent mostly was. Only a new one takes memory.
 pub(crate) fn ensure_node(
     alloc: Global,
     nodes: &mut IndexMap<Id, Node>,
@@ -55,6 +57,9 @@ pub(crate) fn ensure_node(
     ensures absent { OnErr result (lookup (is_id id) nodes.old.entries ≡ None) }
     ensures memory { IfErr result (λ e. e ≡ Refusal.Memory) }
 {
+    if let Some(place) = last_place(nodes, id) {
+        return Ok(place);
+    }
     match nodes.insert_full(id, Node::new(alloc)) {
         Ok((place, None)) => Ok(place),
         Ok((place, Some(node))) => {
@@ -62,6 +67,17 @@ pub(crate) fn ensure_node(
             Ok(place)
         }
         Err(_) => Err(Refusal::Memory),
+    }
+}
+
+/// The place of the node that was made last, if it is the identifier's.
+fn last_place(nodes: &IndexMap<Id, Node>, id: Id) -> Option<usize>
+    ensures { IfSome result (λ place. StandsAt nodes.now.entries place id) }
+{
+    let place = nodes.len().saturating_sub(1);
+    match nodes.get_index(place) {
+        Some((last, _)) if *last == id => Some(place),
+        _ => None,
     }
 }
 
@@ -173,13 +189,34 @@ pub(crate) fn take_child(nodes: &mut IndexMap<Id, Node>, parent: Id, id: Id)
 pub(crate) fn push_children(
     stack: &mut Vec<Id>,
     nodes: &IndexMap<Id, Node>,
+    next: &mut usize,
     parent: Id,
 ) -> Result<(), Refusal>
     ensures ok { OnOk result (stack.new.items ≡ stack.old.items ++ kids nodes.now.entries parent) }
     ensures memory { IfErr result (λ e. e ≡ Refusal.Memory) }
 {
-    match nodes.get(&parent) {
+    match find_node(nodes, next, parent) {
         Some(node) => node.children.push_onto(stack),
         None => Ok(()),
     }
+}
+
+/// The node of an identifier. It is looked for first at the place `next`, whichever that is, which
+/// then becomes the place behind it: what is asked for in turn was mostly taken in turn.
+pub(crate) fn find_node<'a>(
+    nodes: &'a IndexMap<Id, Node>,
+    next: &mut usize,
+    id: Id,
+) -> Option<&'a Node>
+    ensures { option_copied result ≡ lookup (is_id id) nodes.now.entries }
+{
+    if let Some((found, node)) = nodes.get_index(*next) {
+        if *found == id {
+            *next = next.wrapping_add(1);
+            return Some(node);
+        }
+    }
+    let (place, _, node) = nodes.get_full(&id)?;
+    *next = place.wrapping_add(1);
+    Some(node)
 }

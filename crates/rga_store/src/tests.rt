@@ -178,6 +178,17 @@ fn operations_come_by_identifier(rt: HostRuntime) -> Result<(), Fail> {
     Ok(())
 }
 
+/// Deleted elements and identifiers that are not inserted have no character.
+#[test]
+fn characters_come_as_they_are_asked_for(rt: HostRuntime) -> Result<(), Fail> {
+    let listed = branched_by_identifier()?;
+    let ids = [id(4, 1)?, id(3, 1)?, id(7, 2)?, id(1, 1)?, id(4, 1)?];
+    let store = store_of(rt.alloc(), 7, &listed)?;
+    let chars = store.shown_chars(rt.alloc(), &ids)?;
+    assert_eq!(rt; chars.as_slice(), ['d', 'a', 'd'].as_slice());
+    Ok(())
+}
+
 #[test]
 fn a_copy_has_the_same_content(rt: HostRuntime) -> Result<(), Fail> {
     let listed = branched_by_identifier()?;

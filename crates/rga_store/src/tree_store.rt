@@ -11,6 +11,7 @@ ghost use Rattle.rga_store.specs.Limit.{is_limit};
 mod taking_back;
 
 use crate::answer::{Found, answer_to};
+use crate::characters::chars_of;
 use crate::list_answer::answer_to_list;
 use crate::merging::{count_unknown, least_conflict};
 use crate::nodes::{Node, add_child, ensure_node, mark, set_element};
@@ -167,8 +168,8 @@ impl TreeStore {
         ensures answer { (result ≡ Ok Taken.New) ⊎ (result ≡ Err Refusal.Memory) }
         ensures limit { self.new.limit ≡ self.old.limit }
     {
-        let place = ensure_node(self.alloc, &mut self.nodes, id)?;
         let above = ensure_node(self.alloc, &mut self.nodes, parent)?;
+        let place = ensure_node(self.alloc, &mut self.nodes, id)?;
         add_child(self.alloc, &mut self.nodes, above, parent, id)?;
         let deleted = set_element(&mut self.nodes, place, id, parent, ch);
         self.inserted += 1;
@@ -245,6 +246,10 @@ impl TextStore for TreeStore {
 
     fn order(&self) -> Result<Vec<Id>, Refusal> {
         walked(self.alloc, &self.nodes)
+    }
+
+    fn shown_chars(&self, alloc: Global, ids: &[Id]) -> Result<Vec<char>, Refusal> {
+        chars_of(alloc, &self.nodes, ids)
     }
 
     fn waiting_count(&self) -> Result<usize, Refusal> {

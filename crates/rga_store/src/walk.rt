@@ -22,12 +22,13 @@ pub(crate) fn walked(alloc: Global, nodes: &IndexMap<Id, Node>) -> Result<Vec<Id
         return Err(Refusal::Memory);
     };
     let mut stack = Vec::new(alloc);
-    push_children(&mut stack, nodes, Id::ROOT)?;
+    let mut next = 0;
+    push_children(&mut stack, nodes, &mut next, Id::ROOT)?;
     while let Some(id) = stack.pop() {
         if order.push(id).is_err() {
             return Err(Refusal::Memory);
         }
-        push_children(&mut stack, nodes, id)?;
+        push_children(&mut stack, nodes, &mut next, id)?;
     }
     Ok(order)
 }

@@ -1,9 +1,9 @@
 //! The text of a store, and its length.
 ghost use Rattle.std.specs.Prelude.{◌≡◌, IfOk, IfErr, length};
-ghost use Rattle.rga_ops.specs.Order.{shown, text as text_of};
+ghost use Rattle.rga_ops.specs.Order.{text as text_of};
 
 use crate::elements::visible_elements;
-use rga_ops::{Id, Refusal};
+use rga_ops::Refusal;
 use rga_store::TextStore;
 use std::alloc::Global;
 
@@ -13,33 +13,7 @@ pub fn text<S: TextStore>(alloc: Global, store: &S) -> Result<Vec<char>, Refusal
     ensures memory { IfErr result (λ e. e ≡ Refusal.Memory) }
 {
     let ids = store.order()?;
-    let Ok(mut chars) = Vec::with_capacity(alloc, ids.len()) else {
-        return Err(Refusal::Memory);
-    };
-    for id in &ids {
-        match shown_at(store, *id) {
-            None => {}
-            Some(ch) => {
-                if chars.push(ch).is_err() {
-                    return Err(Refusal::Memory);
-                }
-            }
-        }
-    }
-    Ok(chars)
-}
-
-/// The character of an element that is not deleted.
-fn shown_at<S: TextStore>(store: &S, id: Id) -> Option<char>
-    ensures { result ≡ shown (S.content store.now) id }
-{
-    if store.is_deleted(id) {
-        return None;
-    }
-    match store.get(id) {
-        Some((_, ch)) => Some(ch),
-        None => None,
-    }
+    store.shown_chars(alloc, &ids)
 }
 
 /// The number of characters of the text. `Memory` alone.

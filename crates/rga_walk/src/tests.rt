@@ -1,5 +1,5 @@
 //! The worked example: two people write at once, and then one element is deleted.
-use crate::{element_at, place_of, position_of, text, visible_len};
+use crate::{element_at, place_of, position_of, text, visible_elements, visible_len};
 use rga_ops::{Id, Op, Refusal};
 use rga_store::{Taker, TextStore, TreeStore as Store};
 use std::alloc::Global;
@@ -81,10 +81,12 @@ fn places() -> Result<Places, Refusal> {
 fn what_is_left_after_a_deletion(rt: HostRuntime) -> Result<(), Fail> {
     let ops = with_a_deletion()?;
     let places = places()?;
+    let visible = [id(1, 1)?, id(4, 1)?, id(2, 2)?];
     let store = store_of(rt.alloc(), &ops)?;
     let text = shown(rt.alloc(), &store)?;
     assert_eq!(rt; text.as_str(), "adb");
     assert_eq!(rt; visible_len(&store), Ok(3));
+    assert_eq!(rt; visible_elements(&store)?.as_slice(), visible.as_slice());
     assert_eq!(rt; position_of(&store, places[2].0), Ok(None));
     for (element, place) in places {
         assert_eq!(rt; place_of(&store, element), place, "{element:?}");

@@ -1,6 +1,5 @@
 use Rattle.std.proofs.Common.{◌≡◌, length}
-use Rattle.rga_lines.specs.Counting.{counted_inner, counted_failures}
-use Rattle.rga_lines.proofs.WrittenLemmas.{Begun}
+use Rattle.rga_lines.specs.Counting.{counted_inner, counted_failures, Begun}
 use Rattle.rga_lines.proofs.counted.CountedWrite.write_all.Given as goal
 
 abbrev pub invariant-rest : goal.invariant-rest

@@ -22,5 +22,5 @@ invariant_of-self-2 c =
     (subst (λ (v : Kept). answer v.limit v.content (Delete c.args.id) ≡ Ok New) (sym c.self.view_is) c.requires)
     (c.mark-inserted.ensures.content ∙ ap (λ d. join d (single (Delete c.args.id))) c.in_ok-place.ensures.content)
     (λ p. c.mark-inserted.ensures.kids p ∙ c.in_ok-place.ensures.kids p)
-    (c.raise.ensures ∙ ap (max c.self.inside.clock) c.counter.ensures)
+    (c.raise.ensures ∙ ap (max c.self.inside.clock) c.counter.ensures.value)
     (c.count_unless.ensures ∙ ap (λ b. cond b c.self.inside.known (c.self.inside.known + 1)) (c.mark-inserted.ensures.inserted ∙ ap (λ (d : Content). finite_map.contains_key d.inserted c.args.id) c.in_ok-place.ensures.content))

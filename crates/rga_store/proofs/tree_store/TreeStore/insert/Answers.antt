@@ -19,12 +19,12 @@ overflow_add-self c =
 
 -- until the element comes the content is as it was
 before : (c : goal.After-raise) → content_of_nodes c.add_child.new.nodes.entries ≡ content_of_nodes c.self.inside.nodes.entries
-before c = c.in_ok-add_child.ensures.content ∙ c.in_ok-above.ensures.content ∙ c.in_ok-place.ensures.content
+before c = c.in_ok-add_child.ensures.content ∙ c.in_ok-place.ensures.content ∙ c.in_ok-above.ensures.content
 
 children : (c : goal.After-raise) (p k : Identifier) → HasChild (kids c.set_element-deleted.new.nodes.entries p) k ≡ (HasChild (kids c.self.inside.nodes.entries p) k || (is_id c.args.parent p && is_id c.args.id k))
 children c p k =
     ap (λ ks. HasChild ks k) (c.set_element-deleted.ensures.kids p) ∙ c.in_ok-add_child.ensures.ok p k
-    ∙ ap (λ ks. HasChild ks k || (is_id c.args.parent p && is_id c.args.id k)) (c.in_ok-above.ensures.kids p ∙ c.in_ok-place.ensures.kids p)
+    ∙ ap (λ ks. HasChild ks k || (is_id c.args.parent p && is_id c.args.id k)) (c.in_ok-place.ensures.kids p ∙ c.in_ok-above.ensures.kids p)
 
 pub invariant_of-self-2 : goal.invariant_of-self-2
 invariant_of-self-2 c =
@@ -34,5 +34,5 @@ invariant_of-self-2 c =
     (c.set_element-deleted.ensures.content ∙ ap (λ d. join d (single (Insert c.args.id c.args.parent c.args.ch))) (before c))
     (children c)
     (λ p. subst (λ ks. IsRising ks) (sym (c.set_element-deleted.ensures.kids p)) (c.in_ok-add_child.ensures.rising p))
-    (c.raise.ensures ∙ ap (max c.self.inside.clock) c.counter.ensures)
+    (c.raise.ensures ∙ ap (max c.self.inside.clock) c.counter.ensures.value)
     (c.count_unless.ensures ∙ ap (λ b. cond b c.self.inside.known (c.self.inside.known + 1)) (c.set_element-deleted.ensures.deleted ∙ ap (λ (d : Content). finite_set.contains d.deleted c.args.id) (before c)))

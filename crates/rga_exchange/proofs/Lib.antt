@@ -1,0 +1,10 @@
+pub mod TakingLaws
+pub mod ReadLaws
+pub mod OperationLaws
+pub mod BegunLemmas
+pub mod LogTextLemmas
+pub mod AppendedLaws
+pub mod StopLaws
+pub mod LogLaws
+pub mod MeetingLaws
+pub mod WritableLaws

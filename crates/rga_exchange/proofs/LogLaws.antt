@@ -1,0 +1,162 @@
+-- Logs that are read to their end, in words.
+use Rattle.std.proofs.Common.{◌≡◌, ℕ, ◌+◌, ◌≤◌, Bool, true, false, cond, nat_lt, List, [], ◌∷◌, ◌++◌, length, Result, Ok, Err, refl, sym, ap, subst, ◌∙◌, arith, inl, inr}
+use Rattle.std.specs.Prelude.{◌⊎◌, Contains}
+use Rattle.std.specs.List.{AllByRecursion}
+use Rattle.std.specs.FinSet as finite_set
+use Rattle.std.proofs.lemmas.Bool.{ltb-true}
+use Rattle.rga_ops.specs.Operation.{checked}
+use Rattle.rga_ops.specs.Content.{Content, join, content_of, known}
+use Rattle.rga_ops.specs.Answer.{taken, and_take, taken_one_by_one}
+use Rattle.rga_ops.specs.ListAnswer.{IsJoinable}
+use Rattle.rga_ops.specs.declared.op.Op.{Op}
+use Rattle.rga_ops.specs.declared.refusal.Refusal.{Refusal}
+use Rattle.rga_ops.proofs.OperationLaws.{Contains-nil, Contains-cases}
+use Rattle.rga_ops.proofs.KnownLaws.{takeable_is_taken, taken_list_within}
+use Rattle.rga_ops.proofs.ListAnswerLaws.{one_by_one_list, list_taken-iff}
+use Rattle.rga_lines.specs.Table.{Reading, line_at, max_line}
+use Rattle.rga_lines.specs.Stream.{lines_of, rest_of}
+use Rattle.rga_lines.specs.Log.{operations_of, then_operations, log_operations, IsOperation, HasOnlyOperations}
+use Rattle.rga_lines.specs.declared.fault.LineFault.{LineFault}
+use Rattle.rga_lines.specs.declared.fault.LineFault.TheVariants as line_fault
+use Rattle.rga_lines.proofs.ReadingLemmas.{well_formed}
+use Rattle.rga_lines.proofs.SplitterLemmas.{long_line, no_line}
+use Rattle.rga_exchange.specs.declared.fault.LogFault.{LogFault}
+use Rattle.rga_exchange.specs.declared.fault.LogFault.TheVariants as fault
+use Rattle.rga_exchange.specs.declared.log.LogEnd.{LogEnd}
+use Rattle.rga_exchange.specs.declared.log.LogEnd.TheVariants.{Whole, Bare, Torn}
+use Rattle.rga_exchange.specs.declared.log.LogRead.{LogRead}
+use Rattle.rga_exchange.specs.Taking.{AllTaken, AtFault, taking, stop_at_rest}
+use Rattle.rga_exchange.specs.Log.{LogOutcome, ended, after_bare_operation, after_bare_line, after_rest, after_stop, after_lines, log_outcome}
+use Rattle.rga_exchange.specs.Stops.{HasNothingTorn}
+use Rattle.rga_exchange.proofs.TakingLaws.{are_taken}
+use Rattle.rga_exchange.proofs.OperationLaws.{no_fault, is_read, log_taken}
+use Rattle.rga_exchange.proofs.StopLaws.{operations_are_taken, took_first, lines_counted}
+
+pub log_joinable : (limit : ℕ) (c d : Content) (read : LogRead) (bytes : List ℕ) → finite_set.len (known c) ≤ limit → log_outcome limit c bytes ≡ (d, Ok read) → IsJoinable c (log_operations bytes) × (finite_set.len (known d) ≤ limit)
+log_joinable limit c d read bytes within h =
+    let was = log_taken limit c d read bytes h in (
+      ((list_taken-iff limit c (log_operations bytes)).0 (one_by_one_list limit c d (log_operations bytes) within was)).1,
+      taken_list_within limit c (log_operations bytes) d within was,
+    )
+
+-- ---- what a log that is read to its end is
+
+abbrev told : LogRead → Result LogRead LogFault
+told read = Ok read
+
+-- what is told of an end behind n lines
+record Tells (n : ℕ) (read : LogRead) (rest : List ℕ) : Type 0 where
+  lines : read.lines ≡ n
+  operation : HasNothingTorn read.end → (rest ≡ []) ⊎ IsOperation rest
+
+tells : (n : ℕ) (c d : Content) (end : LogEnd) (read : LogRead) (rest : List ℕ) → ended n c end ≡ (d, Ok read) → (HasNothingTorn end → (rest ≡ []) ⊎ IsOperation rest) → Tells n read rest
+tells n c d end read rest h one =
+    let same : told (record { lines = n; end = end }) ≡ told read = ap (λ (o : LogOutcome). o.1) h in
+    let is : record { lines = n; end = end } ≡ read = cc in
+    record {
+      lines = sym (ap (λ (r : LogRead). r.lines) is);
+      operation = λ whole. one (subst HasNothingTorn (sym (ap (λ (r : LogRead). r.end) is)) whole);
+    }
+
+rest_tells : (limit n : ℕ) (c d : Content) (read : LogRead) (rest : List ℕ) → after_rest limit n c rest ≡ (d, Ok read) → Tells n read rest
+rest_tells limit n c d read [] h = tells n c d Whole read [] h (λ _. inl refl)
+rest_tells limit n c d read (b ∷ bytes) h = by_reading (line_at (b ∷ bytes)) refl h
+  where
+    by_taken : (op : Op) (r : Result Content Refusal) → line_at (b ∷ bytes) ≡ Ok op → after_bare_operation n c r ≡ (d, Ok read) → Tells n read (b ∷ bytes)
+    by_taken op (Ok e) says g = tells n e d Bare read (b ∷ bytes) g (λ _. inr (op, says))
+    by_taken op (Err x) says g = absurd (no_fault (fault.Refused (n + 1) x) read g)
+
+    by_reading : (r : Reading) → line_at (b ∷ bytes) ≡ r → after_bare_line limit n c (length (b ∷ bytes)) r ≡ (d, Ok read) → Tells n read (b ∷ bytes)
+    by_reading (Ok op) says g = by_taken op (taken limit c op) says g
+    by_reading (Err e) says g = tells n c d (Torn (length (b ∷ bytes))) read (b ∷ bytes) g (λ torn. absurd torn)
+
+pub log_lines : (limit : ℕ) (c d : Content) (read : LogRead) (bytes : List ℕ) → log_outcome limit c bytes ≡ (d, Ok read) → read.lines ≡ length (lines_of bytes)
+log_lines limit c d read bytes h =
+    let w = is_read limit c d read bytes h in
+    let count = lines_counted limit 0 w.lines c w.content (lines_of bytes) w.taken in
+    let told = (rest_tells limit w.lines w.content d read (rest_of bytes) w.rest).lines in
+    omega (arith, count, told)
+
+pub log_only_operations : (limit : ℕ) (c d : Content) (read : LogRead) (bytes : List ℕ) → log_outcome limit c bytes ≡ (d, Ok read) → HasNothingTorn read.end → HasOnlyOperations bytes
+log_only_operations limit c d read bytes h whole =
+    let w = is_read limit c d read bytes h in
+    record {
+      lines = (are_taken limit 0 w.lines c w.content (lines_of bytes) w.taken).operations;
+      rest = (rest_tells limit w.lines w.content d read (rest_of bytes) w.rest).operation whole;
+    }
+
+-- ---- what is read to its end
+
+abbrev read : Op → Reading
+read op = Ok op
+
+abbrev unread : LineFault → Reading
+unread e = Err e
+
+operations_well_formed : (lines : List (List ℕ)) (op : Op) → Contains (operations_of lines) op → checked op ≡ Ok tt
+operations_well_formed [] op m = absurd (Contains-nil op m)
+operations_well_formed (line ∷ lines) op m = by_line (line_at line) refl m (λ later. operations_well_formed lines op later)
+  where
+    by_line : (r : Reading) → line_at line ≡ r → Contains (then_operations r (operations_of lines)) op → (Contains (operations_of lines) op → checked op ≡ Ok tt) → checked op ≡ Ok tt
+    by_line (Ok first) says m others = elim (Contains-cases first op (operations_of lines) m) [
+      | inl same ↦ well_formed line op (says ∙ ap read same)
+      | inr later ↦ others later
+    ]
+    by_line (Err e) says m others = absurd (Contains-nil op m)
+
+abbrev held : Content → Result Content Refusal
+held c = Ok c
+
+-- lines that are operations were taken one by one, and then others
+parts_taken : (limit : ℕ) (c d : Content) (lines others : List (List ℕ)) → AllByRecursion IsOperation lines → taken_one_by_one limit c (operations_of (lines ++ others)) ≡ Ok d → (e : Content) × (taken_one_by_one limit c (operations_of lines) ≡ Ok e) × (taken_one_by_one limit e (operations_of others) ≡ Ok d)
+parts_taken limit c d [] others all h = (c, refl, h)
+parts_taken limit c d (line ∷ lines) others all h =
+    let op : Op = all.0.0 in
+    let says : line_at line ≡ Ok op = all.0.1 in
+    let first = took_first limit c d op (operations_of (lines ++ others)) (sym (ap (λ r. taken_one_by_one limit c (then_operations r (operations_of (lines ++ others)))) says) ∙ h) in
+    let later = parts_taken limit first.0 d lines others all.1 first.2 in (
+      later.0,
+      ap (λ r. taken_one_by_one limit c (then_operations r (operations_of lines))) says ∙ ap (λ r. and_take r (λ e. taken_one_by_one limit e (operations_of lines))) first.1 ∙ later.1,
+      later.2,
+    )
+
+-- a rest that is an operation, or none, ends a log with nothing torn off
+rest_read : (limit n : ℕ) (c d : Content) (rest : List ℕ) → (rest ≡ []) ⊎ IsOperation rest → taken_one_by_one limit c (operations_of (rest ∷ [])) ≡ Ok d → (read : LogRead) × (after_rest limit n c rest ≡ (d, Ok read)) × HasNothingTorn read.end
+rest_read limit n c d [] one h =
+    let same : held c ≡ held d = sym (ap (λ r. taken_one_by_one limit c (then_operations r [])) no_line) ∙ h in
+    let is : c ≡ d = cc in
+    (record { lines = n; end = Whole }, ap (λ e. ended n e Whole) is, tt)
+rest_read limit n c d (b ∷ bytes) (inl none) h = absurd cc
+rest_read limit n c d (b ∷ bytes) (inr (op, says)) h =
+    let w = took_first limit c d op [] (sym (ap (λ r. taken_one_by_one limit c (then_operations r [])) says) ∙ h) in
+    let same : held w.0 ≡ held d = w.2 in
+    let is : w.0 ≡ d = cc in (
+      record { lines = n; end = Bare },
+      ap (after_bare_line limit n c (length (b ∷ bytes))) says ∙ ap (after_bare_operation n c) w.1 ∙ ap (λ e. ended n e Bare) is,
+      tt,
+    )
+
+-- such a rest is not too long
+rest_is_short : (rest : List ℕ) → (rest ≡ []) ⊎ IsOperation rest → nat_lt max_line (length rest) ≡ false
+rest_is_short rest one = by_size (nat_lt max_line (length rest)) refl one
+  where
+    by_size : (long : Bool) → nat_lt max_line (length rest) ≡ long → (rest ≡ []) ⊎ IsOperation rest → long ≡ false
+    by_size false size one = refl
+    by_size true size (inl none) = let short : nat_lt max_line (length rest) ≡ false = ap (λ (r : List ℕ). nat_lt max_line (length r)) none in absurd cc
+    by_size true size (inr (op, says)) =
+        let clash : unread line_fault.Long ≡ read op = sym (long_line rest (ltb-true max_line (length rest) size)) ∙ says in
+        absurd cc
+
+pub log_without_fault : (limit : ℕ) (c : Content) (bytes : List ℕ) → HasOnlyOperations bytes → IsJoinable c (log_operations bytes) → finite_set.len (known (join c (content_of (log_operations bytes)))) ≤ limit → (read : LogRead) × (log_outcome limit c bytes ≡ (join c (content_of (log_operations bytes)), Ok read)) × HasNothingTorn read.end
+log_without_fault limit c bytes only joinable fits =
+    let rest : List ℕ = rest_of bytes in
+    let lines : List (List ℕ) = lines_of bytes in
+    let all = takeable_is_taken limit c (log_operations bytes) (record { well_formed = operations_well_formed (lines ++ rest ∷ []); joinable = joinable; fits = fits }) in
+    let parts = parts_taken limit c (join c (content_of (log_operations bytes))) lines (rest ∷ []) only.lines all in
+    let read = rest_read limit (0 + length lines) parts.0 (join c (content_of (log_operations bytes))) rest only.rest parts.2 in (
+      read.0,
+      ap (λ t. after_lines limit rest (taking t.lines t.content (stop_at_rest t.lines rest t.stop))) (operations_are_taken limit 0 c parts.0 lines only.lines parts.1)
+          ∙ ap (λ long. after_stop limit rest (0 + length lines) parts.0 (cond long (AtFault (fault.Line (0 + length lines + 1) line_fault.Long)) AllTaken)) (rest_is_short rest only.rest)
+          ∙ read.1,
+      read.2,
+    )

@@ -1,0 +1,58 @@
+-- The text of a log, operation by operation.
+use Rattle.std.proofs.Common.{◌≡◌, ℕ, ◌+◌, ◌<◌, List, [], ◌∷◌, ◌++◌, map, length, drop, get_or, Option, sym, ap, ◌∙◌, subst, append_assoc, append-nil}
+use Rattle.std.proofs.lemmas.List.{drop_more}
+use Rattle.std.proofs.lemmas.List.Concat.{flat_map-append}
+use Rattle.rga_ops.specs.Content.{Content}
+use Rattle.rga_ops.specs.Operations.{operations}
+use Rattle.rga_ops.specs.declared.op.Op.{Op}
+use Rattle.rga_lines.specs.Counting.{AppendsFront}
+use Rattle.rga_lines.specs.Spelling.{line, end_line}
+use Rattle.rga_lines.specs.Stream.{newline, bytes_of_lines}
+use Rattle.rga_lines.specs.Counting.{Begun}
+use Rattle.rga_exchange.specs.Sending.{log_text, exchange_lines, stream_text}
+use Rattle.rga_exchange.proofs.BegunLemmas.{begun_next, begun_longer, front_longer}
+
+-- the lines from an operation on are its line and the later ones
+log_text-from : (ops : List Op) (i : ℕ) (op : Op) → i < length ops → op ≡ get_or ops i op → log_text (drop i ops) ≡ (line op ++ newline ∷ []) ++ log_text (drop (i + 1) ops)
+log_text-from ops i op within at = ap log_text (drop_more ops i op within) ∙ ap (λ (x : Op). (line x ++ newline ∷ []) ++ log_text (drop (i + 1) ops)) (sym at)
+
+-- the line of the next operation was added to the block
+pub begun_line : (a b c : Option (List ℕ)) (text block next : List ℕ) (ops : List Op) (i : ℕ) (op : Op) → i < length ops → op ≡ get_or ops i op
+    → Begun a b text (block ++ log_text (drop i ops)) → Begun b c (block ++ (line op ++ newline ∷ [])) next → Begun a c text (next ++ log_text (drop (i + 1) ops))
+begun_line a b c text block next ops i op within at h k =
+    let later : List ℕ = log_text (drop (i + 1) ops) in
+    let split : block ++ log_text (drop i ops) ≡ (block ++ (line op ++ newline ∷ [])) ++ later =
+    ap (λ (l : List ℕ). block ++ l) (log_text-from ops i op within at) ∙ sym (append_assoc block (line op ++ newline ∷ []) later) in
+    begun_next a b c text (block ++ (line op ++ newline ∷ [])) later next (subst (Begun a b text) split h) k
+
+-- ---- a log
+
+-- a block that begins empty takes lines, and leaves some of them to be written
+pub log_begun : (a b : Option (List ℕ)) (start text left : List ℕ) → start ≡ [] → Begun a b (start ++ text) left → Begun a b text left
+log_begun a b start text left none h = subst (λ (l : List ℕ). Begun a b (l ++ text) left) none h
+
+pub log_front : (a b : Option (List ℕ)) (start text : List ℕ) → start ≡ [] → AppendsFront a b (start ++ text) → AppendsFront a b text
+log_front a b start text none h = subst (λ (l : List ℕ). AppendsFront a b (l ++ text)) none h
+
+-- ---- an exchange
+
+-- the lines of the operations, and then the end
+stream_text-is : (c : Content) (ops : List Op) → ops ≡ operations c → stream_text c ≡ log_text ops ++ (end_line (length ops) ++ newline ∷ [])
+stream_text-is c ops are =
+    let end : List ℕ = end_line (length ops) in
+    ap (λ (os : List Op). bytes_of_lines (exchange_lines os)) (sym are)
+    ∙ flat_map-append (λ (l : List ℕ). l ++ newline ∷ []) (map line ops) (end ∷ [])
+    ∙ ap (λ (l : List ℕ). log_text ops ++ l) (append-nil (end ++ newline ∷ []))
+
+-- what was left was put before the end
+pub stream_begun : (a b : Option (List ℕ)) (c : Content) (ops : List Op) (start left end last : List ℕ) → ops ≡ operations c → start ≡ [] → end ≡ end_line (length ops) → last ≡ left ++ (end ++ newline ∷ [])
+    → Begun a b (start ++ log_text ops) left → Begun a b (stream_text c) last
+stream_begun a b c ops start left end last are none ends is h =
+    let whole : Begun a b (log_text ops ++ (end ++ newline ∷ [])) (left ++ (end ++ newline ∷ [])) = begun_longer a b (log_text ops) left (end ++ newline ∷ []) (log_begun a b start (log_text ops) left none h) in
+    let text : log_text ops ++ (end ++ newline ∷ []) ≡ stream_text c = ap (λ (l : List ℕ). log_text ops ++ (l ++ newline ∷ [])) ends ∙ sym (stream_text-is c ops are) in
+    subst (Begun a b (stream_text c)) (sym is) (subst (λ (l : List ℕ). Begun a b l (left ++ (end ++ newline ∷ []))) text whole)
+
+-- a beginning of the lines of the operations is one of all
+pub stream_front : (a b : Option (List ℕ)) (c : Content) (ops : List Op) (start : List ℕ) → ops ≡ operations c → start ≡ [] → AppendsFront a b (start ++ log_text ops) → AppendsFront a b (stream_text c)
+stream_front a b c ops start are none h =
+    subst (AppendsFront a b) (sym (stream_text-is c ops are)) (front_longer a b (log_text ops) (end_line (length ops) ++ newline ∷ []) (log_front a b start (log_text ops) none h))

@@ -1,0 +1,58 @@
+use Rattle.std.proofs.Common.{◌≡◌, ◌∙◌, ◌+◌, ◌++◌, ℕ, Ok, Err, drop, refl, sym, ap, subst, arith}
+use Rattle.std.proofs.lemmas.Result.{err_from_is_err_and}
+use Rattle.rga_ops.specs.Content.{Content}
+use Rattle.rga_lines.specs.Table.{any_line_at}
+use Rattle.rga_lines.specs.Stream.{Splitting, lines_of, rest_of, holds}
+use Rattle.rga_lines.specs.declared.fault.LineFault.TheVariants as line_fault
+use Rattle.rga_lines.proofs.SplitterLemmas.{GivesLine, passes_line, gives_up}
+use Rattle.rga_exchange.specs.Taking.{AtEnd, AtFault, taking, after_line}
+use Rattle.rga_exchange.proofs.TakingLaws.{takes_after, takes_chain, takes_line, line_ends, line_fails, begins_long}
+use Rattle.rga_exchange.proofs.taking.take_lines.Goals as goal
+
+pub returns-in-Err-clause-fault : goal.returns-in-Err-clause-fault
+returns-in-Err-clause-fault g c =
+    rw c.in-Err.ensures.err.0 (λ e more.
+    takes_after _ _ _ _ _ _ _ c.lines.invariant.takes more
+    ∙ begins_long _ c.lines.lines (g.T.Taker.content c.lines.taker) (lines_of (c.lines.splitter.waiting ++ more)) (rest_of (c.lines.splitter.waiting ++ more))
+    ((gives_up c.lines.splitter c.find_line.new.self line_fault.Long c.lines.invariant.whole c.in-Err.ensures.err.1).1 more))
+
+pub returns-in_err-number-clause-fault : goal.returns-in_err-number-clause-fault
+returns-in_err-number-clause-fault g c =
+    let p = err_from_is_err_and c.from_residual.result c.from_residual.ensures.1 in
+    let held : Content = g.T.Taker.content c.lines.taker in
+    let e = c.in_err-number.field-0.0 in
+    let found = rw c.in-Ok-Some.field-0-is at c.in-Ok-Some.ensures.found in
+    let behind : Splitting = holds (drop (c.in-Ok-Some.end + 1) c.find_line.new.self.waiting) in
+    let given : GivesLine c.lines.splitter behind c.line.result.now = passes_line c.lines.splitter c.find_line.new.self behind c.line.result.now c.in-Ok-Some.end c.lines.invariant.whole found.0 found.1 c.line.ensures refl in
+    rw (p.1, p.2) (λ not_memory more.
+    takes_after _ _ _ _ _ _ _ c.lines.invariant.takes more
+    ∙ line_fails _ c.lines.lines held c.lines.splitter behind c.line.result.now e given
+    (subst (λ (limit : ℕ). after_line limit (c.lines.lines + 1) held (any_line_at c.line.result.now) ≡ Err (AtFault e)) c.lines.invariant.limit (c.in_err-number.ensures.fault not_memory)) more
+    ∙ ap (λ (d : Content). taking c.lines.lines d (AtFault e)) (sym c.in_err-number.ensures.same))
+
+pub returns-in-Some-clause-end : goal.returns-in-Some-clause-end
+returns-in-Some-clause-end g c =
+    let held : Content = g.T.Taker.content c.lines.taker in
+    let found = rw c.in-Ok-Some.field-0-is at c.in-Ok-Some.ensures.found in
+    let behind : Splitting = holds (drop (c.in-Ok-Some.end + 1) c.find_line.new.self.waiting) in
+    let given : GivesLine c.lines.splitter behind c.line.result.now = passes_line c.lines.splitter c.find_line.new.self behind c.line.result.now c.in-Ok-Some.end c.lines.invariant.whole found.0 found.1 c.line.ensures refl in
+    λ number is more.
+    let ended = c.in_ok-number.ensures.end number (ap Ok c.in-Some.is ∙ is) in
+    takes_after _ _ _ _ _ _ _ c.lines.invariant.takes more
+    ∙ line_ends _ c.lines.lines held c.lines.splitter behind c.line.result.now number given
+    (subst (λ (limit : ℕ). after_line limit (c.lines.lines + 1) held (any_line_at c.line.result.now) ≡ Err (AtEnd number)) c.lines.invariant.limit ended.0) more
+    ∙ ap (λ (d : Content). taking c.lines.lines d (AtEnd number)) (sym ended.1)
+
+pub lines-preserved : goal.lines-preserved
+lines-preserved g c =
+    let held : Content = g.T.Taker.content c.lines.taker in
+    let found = rw c.in-Ok-Some.field-0-is at c.in-Ok-Some.ensures.found in
+    let given : GivesLine c.lines.splitter c.pass_line.new.self c.line.result.now = passes_line c.lines.splitter c.find_line.new.self c.pass_line.new.self c.line.result.now c.in-Ok-Some.end c.lines.invariant.whole found.0 found.1 c.line.ensures c.pass_line.ensures in
+    record {
+      whole = given.good;
+      room = omega (arith, given.shorter, c.lines.invariant.room);
+      limit = c.in_ok-number.ensures.limit ∙ c.lines.invariant.limit;
+      takes = takes_chain _ _ _ _ _ _ _ _ _ _ c.lines.invariant.takes
+          (takes_line _ c.lines.lines held (g.T.Taker.content c.take_line.new.taker) c.lines.splitter c.pass_line.new.self c.line.result.now given
+          (subst (λ (limit : ℕ). after_line limit (c.lines.lines + 1) held (any_line_at c.line.result.now) ≡ Ok (g.T.Taker.content c.take_line.new.taker)) c.lines.invariant.limit (c.in_ok-number.ensures.operation cc)));
+    }

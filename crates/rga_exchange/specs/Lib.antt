@@ -1,0 +1,6 @@
+pub mod Taking
+pub mod Parts
+pub mod Log
+pub mod Receiving
+pub mod Sending
+pub mod Stops

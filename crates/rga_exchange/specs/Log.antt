@@ -1,0 +1,55 @@
+-- What a log leads to.
+use Rattle.std.specs.Prelude.{ℕ, ◌+◌, List, [], ◌∷◌, length, Result, Ok, Err}
+use Rattle.rga_ops.specs.Content.{Content}
+use Rattle.rga_ops.specs.Answer.{taken}
+use Rattle.rga_ops.specs.declared.refusal.Refusal.{Refusal}
+use Rattle.rga_lines.specs.Table.{Reading, line_at}
+use Rattle.rga_lines.specs.Stream.{rest_of}
+use Rattle.rga_lines.specs.declared.fault.LineFault.TheVariants as line_fault
+use Rattle.rga_exchange.specs.declared.fault.LogFault.{LogFault}
+use Rattle.rga_exchange.specs.declared.fault.LogFault.TheVariants as fault
+use Rattle.rga_exchange.specs.declared.log.LogEnd.{LogEnd}
+use Rattle.rga_exchange.specs.declared.log.LogEnd.TheVariants.{Whole, Bare, Torn}
+use Rattle.rga_exchange.specs.declared.log.LogRead.{LogRead}
+use Rattle.rga_exchange.specs.declared.fault.ReceiveFault.{ReceiveFault}
+use Rattle.rga_exchange.specs.Receiving.{receive_fault}
+use Rattle.rga_exchange.specs.Taking.{Stop, AllTaken, AtEnd, AtFault, Taking, stream_taken}
+
+-- the content, and the number of lines with how the log ends, or a fault
+abbrev pub LogOutcome : Type 0
+LogOutcome = Content × Result LogRead LogFault
+
+abbrev pub ended : ℕ → Content → LogEnd → LogOutcome
+ended n c end = (c, Ok (record { lines = n; end = end }))
+
+abbrev pub after_bare_operation : ℕ → Content → Result Content Refusal → LogOutcome
+after_bare_operation n c (Ok d) = ended n d Bare
+after_bare_operation n c (Err e) = (c, Err (fault.Refused (n + 1) e))
+
+-- a last line that no newline ends counts if it is an operation, and else was cut off
+abbrev pub after_bare_line : ℕ → ℕ → Content → ℕ → Reading → LogOutcome
+after_bare_line limit n c bytes (Ok op) = after_bare_operation n c (taken limit c op)
+after_bare_line limit n c bytes (Err e) = ended n c (Torn bytes)
+
+-- the rest of a log behind n lines, at a store that may know that many identifiers and holds c
+abbrev pub after_rest : ℕ → ℕ → Content → List ℕ → LogOutcome
+after_rest limit n c [] = ended n c Whole
+after_rest limit n c (b ∷ bytes) = after_bare_line limit n c (length (b ∷ bytes)) (line_at (b ∷ bytes))
+
+-- the rest comes where all lines were taken; the end of an exchange is no line of a log
+abbrev pub after_stop : ℕ → List ℕ → ℕ → Content → Stop → LogOutcome
+after_stop limit rest n c AllTaken = after_rest limit n c rest
+after_stop limit rest n c (AtEnd number) = (c, Err (fault.Line (n + 1) line_fault.Kind))
+after_stop limit rest n c (AtFault e) = (c, Err e)
+
+abbrev pub after_lines : ℕ → List ℕ → Taking → LogOutcome
+after_lines limit rest t = after_stop limit rest t.lines t.content t.stop
+
+-- a whole log
+abbrev pub log_outcome : ℕ → Content → List ℕ → LogOutcome
+log_outcome limit c bytes = after_lines limit (rest_of bytes) (stream_taken limit c bytes)
+
+-- how the log ends, whatever the number of its lines, or the fault as one of those that an exchange has too
+abbrev pub log_end : Result LogRead LogFault → Result LogEnd ReceiveFault
+log_end (Ok read) = Ok read.end
+log_end (Err e) = Err (receive_fault e)

@@ -1,0 +1,42 @@
+-- What an exchange that is received leads to.
+use Rattle.std.specs.Prelude.{ℕ, ◌≤◌, ◌==◌, if◌then◌else◌, List, ◌++◌, length, Option, Result, Ok, Err}
+use Rattle.std.specs.List.{AllByRecursion}
+use Rattle.std.specs.Io.KnownBytes.{Consumes}
+use Rattle.rga_ops.specs.Content.{Content}
+use Rattle.rga_lines.specs.Stream.{lines_of}
+use Rattle.rga_lines.specs.Log.{IsOperation}
+use Rattle.rga_exchange.specs.declared.fault.LogFault.{LogFault}
+use Rattle.rga_exchange.specs.declared.fault.LogFault.TheVariants as log
+use Rattle.rga_exchange.specs.declared.fault.ReceiveFault.{ReceiveFault}
+use Rattle.rga_exchange.specs.declared.fault.ReceiveFault.TheVariants as fault
+use Rattle.rga_exchange.specs.Taking.{Stop, AllTaken, AtEnd, AtFault, stream_taken}
+
+-- a fault of the lines, as one of an exchange
+abbrev pub receive_fault : LogFault → ReceiveFault
+receive_fault (log.Line n e) = fault.Line n e
+receive_fault (log.Refused n e) = fault.Refused n e
+receive_fault log.Read = fault.Read
+receive_fault log.Memory = fault.Memory
+
+-- the number of operations, where the end line came and names it
+abbrev pub number_received : ℕ → Stop → Result ℕ ReceiveFault
+number_received n AllTaken = Err fault.Cut
+number_received n (AtEnd number) = if number == n then Ok n else Err fault.Count
+number_received n (AtFault e) = Err (receive_fault e)
+
+-- the content after an exchange, and what is answered
+abbrev pub received : ℕ → Content → List ℕ → Content × Result ℕ ReceiveFault
+received limit c bytes = let t = stream_taken limit c bytes in (t.content, number_received t.lines t.stop)
+
+-- the most bytes of one read
+abbrev pub block : ℕ
+block = 65536
+
+-- What a reader gave, from the one state to the other, ended with one read: before that one there were operations alone,
+-- and no end line.
+pub record EndsWithLastRead (old new : Option (List ℕ)) : Type 0 where
+  pub before : List ℕ
+  pub last : List ℕ
+  pub read : Consumes old new (before ++ last)
+  pub one_block : length last ≤ block
+  pub operations : AllByRecursion IsOperation (lines_of before)

@@ -1,0 +1,51 @@
+//! Why operations are not taken, or not all of them.
+ghost use Rattle.std.specs.Prelude.{◌≡◌};
+ghost use Rattle.rga_exchange.specs.Receiving.{receive_fault};
+
+use rga_lines::LineFault;
+use rga_ops::Refusal;
+
+/// Why a log is not read to its end. Lines count from 1. The operations of the lines before the
+/// fault are taken.
+#[derive(Clone, Copy, Debug, PartialEq, Eq)]
+pub enum LogFault {
+    /// The line is no operation.
+    Line(u64, LineFault),
+    /// The operation of the line was refused.
+    Refused(u64, Refusal),
+    /// The device failed.
+    Read,
+    /// A growth of memory was refused.
+    Memory,
+}
+
+/// Why an exchange is not received to its end. Lines count from 1. The operations of the lines
+/// before the fault are taken; for `Cut` and `Count` these are all whole lines.
+#[derive(Clone, Copy, Debug, PartialEq, Eq)]
+pub enum ReceiveFault {
+    /// The line is neither an operation nor the end line.
+    Line(u64, LineFault),
+    /// The input ended before the end line.
+    Cut,
+    /// The end line names another number of operations.
+    Count,
+    /// The device failed.
+    Read,
+    /// The operation of the line was refused.
+    Refused(u64, Refusal),
+    /// A growth of memory was refused.
+    Memory,
+}
+
+impl From<LogFault> for ReceiveFault {
+    ghost from_gives = { λ fault e. e ≡ receive_fault fault };
+
+    fn from(fault: LogFault) -> ReceiveFault {
+        match fault {
+            LogFault::Line(number, fault) => ReceiveFault::Line(number, fault),
+            LogFault::Refused(number, refusal) => ReceiveFault::Refused(number, refusal),
+            LogFault::Read => ReceiveFault::Read,
+            LogFault::Memory => ReceiveFault::Memory,
+        }
+    }
+}

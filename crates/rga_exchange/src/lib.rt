@@ -1,0 +1,33 @@
+//! Replicas that meet: operations written as lines, kept in logs that survive a cut, and sent over
+//! any reader and writer.
+//!
+//! A log is a stream of lines with one operation each; an exchange has one line more, which ends it
+//! and names their number. `append_log` and `send` write them; `read_log` and `receive` take them
+//! into whatever takes operations, and `take_log` is the reader of logs within, which also tells
+//! how many lines there were. The crate stands on rga_lines for the lines and the devices, on the
+//! traits of rga_store for what takes operations (`Taker`) and what has them (`TextStore`), and on
+//! rga_ops for what they mean. The layer above may rest on the contracts, for any taker, any store
+//! and any device that tells its bytes: however the reads cut the bytes, what is held afterwards is
+//! what was held joined with the operations of the lines before the first fault, or before the end;
+//! what is written is exactly the lines of the operations, or a beginning of them where a call
+//! fails; and bytes that stand for a content still do so, for the joined one, once operations were
+//! appended (`laws`).
+#![tactic(auto)]
+
+mod block;
+mod fault;
+pub mod laws;
+mod log;
+mod receiving;
+mod send_fault;
+mod sending;
+mod taking;
+
+pub use fault::{LogFault, ReceiveFault};
+pub use log::{LogEnd, LogRead, read_log, take_log};
+pub use receiving::receive;
+pub use send_fault::SendFault;
+pub use sending::{append_log, send};
+
+#[cfg(test)]
+mod tests;

@@ -1,0 +1,124 @@
+//! Logs, read into whatever takes operations.
+ghost use Rattle.std.specs.Prelude.{◌≡◌, ◌≢◌, ◌<◌, ◌^◌, Ok, Err, OnOk, OnErr, IfOk, IfErr, IfSome};
+ghost use Rattle.rga_ops.specs.Content.{join, content_of};
+ghost use Rattle.rga_lines.specs.Counting.{counted_inner, counted_failures, HasFailed};
+ghost use Rattle.rga_lines.specs.Log.{log_operations};
+ghost use Rattle.rga_exchange.specs.Taking.{HasTakenLines, HasTakenWholeLines};
+ghost use Rattle.rga_exchange.specs.Log.{log_outcome, log_end, after_rest, ended};
+ghost use Rattle.rga_exchange.specs.declared.fault.LogFault.TheVariants.{Memory as NoMemory, Read as ReadFailed};
+
+use crate::fault::{LogFault, ReceiveFault};
+use crate::taking::{Stream, StreamEnd, take, take_stream};
+use rga_lines::{Counted, LineFault, read_line};
+use rga_store::Taker;
+use std::alloc::Global;
+use std::io::Read;
+
+/// What stands behind the last newline of a log.
+#[derive(Clone, Copy, Debug, PartialEq, Eq)]
+pub enum LogEnd {
+    /// Nothing.
+    Whole,
+    /// An operation, which was taken.
+    Bare,
+    /// So many bytes that are no operation: a line that was cut off. They were left out.
+    Torn(u64),
+}
+
+/// A log that was read to its end: the number of its whole lines, which all were taken, and what
+/// stands behind them.
+#[derive(Clone, Copy, Debug, PartialEq, Eq)]
+pub struct LogRead {
+    pub lines: u64,
+    pub end: LogEnd,
+}
+
+/// Takes the operations of a log, to the end of the input: those of its lines, and that of a last
+/// line without newline where it is one. Answers what stands behind the whole lines, and how many
+/// they are. Before each read the whole lines read so far are taken.
+///
+/// Faults, of which the first in the order of the lines is answered: `Line`, where an end line of
+/// an exchange is `Kind` and a rest of more than 65536 bytes is `Long`; `Refused`. `Read` and
+/// `Memory` come where the device fails and where a growth is refused. The lines before a fault
+/// stay taken.
+pub fn take_log<T: Taker, R: Read>(
+    alloc: Global,
+    taker: &mut T,
+    reader: &mut Counted<R>,
+) -> Result<LogRead, LogFault>
+    // However the reads cut the bytes, they lead to what the whole log leads to.
+    ensures outcome { result ≢ Err ReadFailed → result ≢ Err NoMemory → IfSome (R.remaining (counted_inner reader.old))
+        (λ bytes. log_outcome (T.capacity taker.old) (T.content taker.old) bytes ≡ (T.content taker.new, result)) }
+    ensures joined { OnOk result (IfSome (R.remaining (counted_inner reader.old))
+        (λ bytes. T.content taker.new ≡ join (T.content taker.old) (content_of (log_operations bytes)))) }
+
+    ensures read { result ≡ Err ReadFailed → HasTakenWholeLines (R.remaining (counted_inner reader.old))
+        (R.remaining (counted_inner reader.new)) (T.capacity taker.old) (T.content taker.old) (T.content taker.new) }
+    // Whatever the fault, the first lines that were read were taken, and nothing else.
+    ensures lines { OnErr result (HasTakenLines (R.remaining (counted_inner reader.old))
+        (R.remaining (counted_inner reader.new)) (T.capacity taker.old) (T.content taker.old) (T.content taker.new)) }
+    ensures device { result ≡ Err ReadFailed → HasFailed (counted_failures reader.old) (counted_failures reader.new) }
+    ensures limit { T.capacity taker.new ≡ T.capacity taker.old }
+    ensures bound { IfOk result (λ log. log.lines < 2 ^ 63) }
+{
+    let Stream { lines, end } = take_stream(alloc, taker, reader)?;
+    match end {
+        StreamEnd::EndLine(_) => Err(LogFault::Line(lines + 1, LineFault::Kind)),
+        StreamEnd::Input(rest) => {
+            let end = take_rest(alloc, taker, lines, &rest)?;
+            Ok(LogRead { lines, end })
+        }
+    }
+}
+
+/// Takes what stands behind so many lines: an operation, or nothing.
+fn take_rest<T: Taker>(
+    alloc: Global,
+    taker: &mut T,
+    lines: u64,
+    rest: &[u8],
+) -> Result<LogEnd, LogFault>
+    requires { lines < 2 ^ 63 }
+    ensures end { IfOk result (λ end. after_rest (T.capacity taker.old) lines (T.content taker.old) rest.now ≡ ended lines (T.content taker.new) end) }
+    ensures fault { IfErr result (λ e. e ≢ NoMemory → after_rest (T.capacity taker.old) lines (T.content taker.old) rest.now ≡ (T.content taker.new, Err e)) }
+    ensures same { OnErr result (T.content taker.new ≡ T.content taker.old) }
+    ensures device { IfErr result (λ e. e ≢ ReadFailed) }
+    ensures limit { T.capacity taker.new ≡ T.capacity taker.old }
+{
+    if rest.is_empty() {
+        return Ok(LogEnd::Whole);
+    }
+    match read_line(alloc, rest) {
+        Ok(op) => {
+            take(taker, lines + 1, op)?;
+            Ok(LogEnd::Bare)
+        }
+        Err(LineFault::Memory) => Err(LogFault::Memory),
+        Err(_) => Ok(LogEnd::Torn(rest.len() as u64)),
+    }
+}
+
+/// Takes the operations of a log as `take_log` does, and answers what stands behind its whole
+/// lines. `Cut` and `Count` are no faults of a log.
+pub fn read_log<T: Taker, R: Read>(
+    alloc: Global,
+    taker: &mut T,
+    reader: &mut Counted<R>,
+) -> Result<LogEnd, ReceiveFault>
+    // However the reads cut the bytes, they lead to what the whole log leads to.
+    ensures outcome { result ≢ Err ReceiveFault.Read → result ≢ Err ReceiveFault.Memory → IfSome (R.remaining (counted_inner reader.old))
+        (λ bytes. let p = log_outcome (T.capacity taker.old) (T.content taker.old) bytes in (p.0 ≡ T.content taker.new) × (log_end p.1 ≡ result)) }
+    ensures joined { OnOk result (IfSome (R.remaining (counted_inner reader.old))
+        (λ bytes. T.content taker.new ≡ join (T.content taker.old) (content_of (log_operations bytes)))) }
+
+    ensures read { result ≡ Err ReceiveFault.Read → HasTakenWholeLines (R.remaining (counted_inner reader.old))
+        (R.remaining (counted_inner reader.new)) (T.capacity taker.old) (T.content taker.old) (T.content taker.new) }
+    // Whatever the fault, the first lines that were read were taken, and nothing else.
+    ensures lines { OnErr result (HasTakenLines (R.remaining (counted_inner reader.old))
+        (R.remaining (counted_inner reader.new)) (T.capacity taker.old) (T.content taker.old) (T.content taker.new)) }
+    ensures device { result ≡ Err ReceiveFault.Read → HasFailed (counted_failures reader.old) (counted_failures reader.new) }
+    ensures limit { T.capacity taker.new ≡ T.capacity taker.old }
+{
+    let log = take_log(alloc, taker, reader)?;
+    Ok(log.end)
+}

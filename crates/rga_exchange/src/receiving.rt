@@ -1,0 +1,55 @@
+//! Exchanges, received by whatever takes operations.
+ghost use Rattle.std.specs.Prelude.{◌≡◌, ◌≢◌, length, Ok, Err, OnOk, IfOk, IfSome};
+ghost use Rattle.rga_ops.specs.Content.{join, content_of};
+ghost use Rattle.rga_lines.specs.Counting.{counted_inner, counted_failures, HasFailed};
+ghost use Rattle.rga_lines.specs.Log.{stream_operations};
+ghost use Rattle.rga_exchange.specs.Taking.{HasTakenLines, HasTakenWholeLines};
+ghost use Rattle.rga_exchange.specs.Receiving.{received, EndsWithLastRead};
+
+use crate::fault::ReceiveFault;
+use crate::taking::{Stream, StreamEnd, take_stream};
+use rga_lines::Counted;
+use rga_store::Taker;
+use std::alloc::Global;
+use std::io::Read;
+
+/// Takes the operations of an exchange up to its end line, and answers their number. Before each
+/// read the whole lines read so far are taken; no read follows the one that brought the end line,
+/// and what stands behind it in that read is dropped.
+///
+/// Faults, of which the first in the order of the lines is answered: `Line`, where a rest of more
+/// than 65536 bytes is `Long`; `Refused`; `Cut`, where the input ends before an end line that a
+/// newline ends; `Count`, where the end line names another number than that of the lines before
+/// it. `Read` and `Memory` come where the device fails and where a growth is refused. The lines
+/// before a fault stay taken, and nothing behind the last newline ever is.
+pub fn receive<T: Taker, R: Read>(
+    alloc: Global,
+    taker: &mut T,
+    reader: &mut Counted<R>,
+) -> Result<u64, ReceiveFault>
+    // However the reads cut the bytes, they lead to what all of them lead to.
+    ensures outcome { result ≢ Err ReceiveFault.Read → result ≢ Err ReceiveFault.Memory → IfSome (R.remaining (counted_inner reader.old))
+        (λ bytes. received (T.capacity taker.old) (T.content taker.old) bytes ≡ (T.content taker.new, result)) }
+    ensures joined { OnOk result (IfSome (R.remaining (counted_inner reader.old))
+        (λ bytes. T.content taker.new ≡ join (T.content taker.old) (content_of (stream_operations bytes)))) }
+    ensures number { IfOk result (λ n. IfSome (R.remaining (counted_inner reader.old)) (λ bytes. n ≡ length (stream_operations bytes))) }
+
+    // No read follows the one that brought the end line, be its number right or wrong.
+    ensures last { OnOk result (EndsWithLastRead (R.remaining (counted_inner reader.old)) (R.remaining (counted_inner reader.new))) }
+    ensures last_count { result ≡ Err ReceiveFault.Count → EndsWithLastRead (R.remaining (counted_inner reader.old)) (R.remaining (counted_inner reader.new)) }
+
+    ensures read { result ≡ Err ReceiveFault.Read → HasTakenWholeLines (R.remaining (counted_inner reader.old))
+        (R.remaining (counted_inner reader.new)) (T.capacity taker.old) (T.content taker.old) (T.content taker.new) }
+    // Whatever the answer, the first lines that were read were taken, and nothing else.
+    ensures lines { HasTakenLines (R.remaining (counted_inner reader.old))
+        (R.remaining (counted_inner reader.new)) (T.capacity taker.old) (T.content taker.old) (T.content taker.new) }
+    ensures device { result ≡ Err ReceiveFault.Read → HasFailed (counted_failures reader.old) (counted_failures reader.new) }
+    ensures limit { T.capacity taker.new ≡ T.capacity taker.old }
+{
+    let Stream { lines, end } = take_stream(alloc, taker, reader)?;
+    match end {
+        StreamEnd::EndLine(number) if number == lines => Ok(lines),
+        StreamEnd::EndLine(_) => Err(ReceiveFault::Count),
+        StreamEnd::Input(_) => Err(ReceiveFault::Cut),
+    }
+}

@@ -1,0 +1,140 @@
+//! Operations sent: as lines, in blocks.
+ghost use Rattle.std.specs.Prelude.{◌≡◌, ℕ, ◌≤◌, ◌++◌, ◌∷◌, List, [], length, Ok, Err, IfOk, OnOk};
+ghost use Rattle.std.specs.Io.KnownBytes.{Appends};
+ghost use Rattle.std.specs.FinSet as finite_set;
+ghost use Rattle.rga_ops.specs.Operation.{checked};
+ghost use Rattle.rga_ops.specs.Operations.{operations};
+ghost use Rattle.rga_ops.specs.Content.{Content, Agree, IsSound, join, known, content_of};
+ghost use Rattle.rga_ops.specs.ListAnswer.{AreWellFormed, IsJoinable};
+ghost use Rattle.rga_lines.specs.Counting.{counted_inner, counted_failures, HasFailed, AppendsFront};
+ghost use Rattle.rga_lines.specs.Spelling.{line as line_of, IsWritable};
+ghost use Rattle.rga_lines.specs.Stream.{newline, rest_of};
+ghost use Rattle.rga_lines.specs.Counting.{Begun};
+ghost use Rattle.rga_exchange.specs.Sending.{log_text, stream_text, AreWritable, StandsFor};
+ghost use Rattle.rga_exchange.specs.Receiving.{received};
+
+use crate::block::Block;
+use crate::send_fault::SendFault;
+use rga_lines::{Counted, write_end, write_line};
+use rga_ops::Op;
+use rga_store::TextStore;
+use std::alloc::Global;
+use std::io::Write;
+
+/// Writes all that a store holds: the line of each of its operations, the insertions by rising
+/// identifier and then the deletions, and the line that ends an exchange of so many; each with its
+/// newline. Answers how many operations there are.
+///
+/// Beside the list of the operations only one block of some 64 KiB is held. The device is given as
+/// many lines at once as a block has, no failed call is made again, and the device is flushed at
+/// the end. At `Ok` no call failed.
+pub fn send<S: TextStore, W: Write>(
+    alloc: Global,
+    store: &S,
+    writer: &mut Counted<W>,
+) -> Result<u64, SendFault>
+    ensures number { IfOk result (λ number. number ≡ length (operations (S.content store.now))) }
+    ensures written { OnOk result (Appends (W.contents (counted_inner writer.old)) (W.contents (counted_inner writer.new)) (stream_text (S.content store.now))) }
+    // Whatever holds a content that agrees with it, and has room for both, receives it whole.
+    ensures received { IfOk result (λ number. (limit : ℕ) (c : Content) → IsSound (S.content store.now) → Agree c (S.content store.now)
+        → finite_set.len (known (join c (S.content store.now))) ≤ limit
+        → received limit c (stream_text (S.content store.now)) ≡ (join c (S.content store.now), Ok number)) }
+    ensures unfailed { OnOk result (counted_failures writer.new ≡ counted_failures writer.old) }
+    ensures begun { AppendsFront (W.contents (counted_inner writer.old)) (W.contents (counted_inner writer.new)) (stream_text (S.content store.now)) }
+    ensures write { result ≡ Err SendFault.Write → HasFailed (counted_failures writer.old) (counted_failures writer.new) }
+{
+    let Ok(ops) = store.ops() else {
+        return Err(SendFault::Memory);
+    };
+    let number = ops.len() as u64;
+    let Ok(end) = write_end(alloc, number) else {
+        return Err(SendFault::Memory);
+    };
+    let mut block = Block::new(alloc)?;
+    push_lines(alloc, &ops, &mut block, writer)?;
+    block.push(&end)?;
+    finish(block, writer)?;
+    Ok(number)
+}
+
+/// Writes the line of each operation with its newline, in the order of the list, and nothing else.
+/// Answers how many there are.
+///
+/// Only one block of some 64 KiB is held. The device is given as many lines at once as a block has,
+/// no failed call is made again, and the device is flushed at the end. At `Ok` no call failed.
+pub fn append_log<W: Write>(
+    alloc: Global,
+    ops: &[Op],
+    writer: &mut Counted<W>,
+) -> Result<u64, SendFault>
+    ensures number { IfOk result (λ number. number ≡ length ops.now) }
+    ensures written { OnOk result (Appends (W.contents (counted_inner writer.old)) (W.contents (counted_inner writer.new)) (log_text ops.now)) }
+    // A log that is empty or ends in a newline, and stands for a content, then stands for that
+    // content joined with the operations.
+    ensures joined { OnOk result ((bytes : List ℕ) (c : Content) → StandsFor bytes c → rest_of bytes ≡ [] → AreWellFormed ops.now → IsJoinable c ops.now
+        → StandsFor (bytes ++ log_text ops.now) (join c (content_of ops.now))) }
+    ensures unfailed { OnOk result (counted_failures writer.new ≡ counted_failures writer.old) }
+    ensures begun { AppendsFront (W.contents (counted_inner writer.old)) (W.contents (counted_inner writer.new)) (log_text ops.now) }
+    ensures write { result ≡ Err SendFault.Write → HasFailed (counted_failures writer.old) (counted_failures writer.new) }
+{
+    let mut block = Block::new(alloc)?;
+    push_lines(alloc, ops, &mut block, writer)?;
+    finish(block, writer)?;
+    Ok(ops.len() as u64)
+}
+
+/// Adds the lines of the operations to the block, which is written whenever it is full.
+fn push_lines<W: Write>(
+    alloc: Global,
+    ops: &[Op],
+    block: &mut Block,
+    writer: &mut Counted<W>,
+) -> Result<(), SendFault>
+    ensures ok { OnOk result (Begun (W.contents (counted_inner writer.old)) (W.contents (counted_inner writer.new)) (block.old.text.items ++ log_text ops.now) block.new.text.items) }
+    ensures unfailed { OnOk result (counted_failures writer.new ≡ counted_failures writer.old) }
+    ensures writable { OnOk result (AreWellFormed ops.now → AreWritable ops.now) }
+    ensures begun { AppendsFront (W.contents (counted_inner writer.old)) (W.contents (counted_inner writer.new)) (block.old.text.items ++ log_text ops.now) }
+    ensures write { result ≡ Err SendFault.Write → HasFailed (counted_failures writer.old) (counted_failures writer.new) }
+{
+    for op in ops {
+        push_line(alloc, op, block, writer)?;
+    }
+    Ok(())
+}
+
+/// Adds the line of an operation to the block, which is written before if it is full.
+fn push_line<W: Write>(
+    alloc: Global,
+    op: &Op,
+    block: &mut Block,
+    writer: &mut Counted<W>,
+) -> Result<(), SendFault>
+    ensures ok { OnOk result (Begun (W.contents (counted_inner writer.old)) (W.contents (counted_inner writer.new)) (block.old.text.items ++ (line_of op.now ++ newline ∷ [])) block.new.text.items) }
+    ensures unfailed { OnOk result (counted_failures writer.new ≡ counted_failures writer.old) }
+    ensures writable { OnOk result (checked op.now ≡ Ok tt → IsWritable op.now) }
+    ensures begun { AppendsFront (W.contents (counted_inner writer.old)) (W.contents (counted_inner writer.new)) block.old.text.items }
+    ensures write { result ≡ Err SendFault.Write → HasFailed (counted_failures writer.old) (counted_failures writer.new) }
+{
+    if block.is_full() {
+        block.write_to(writer)?;
+    }
+    let Ok(line) = write_line(alloc, op) else {
+        return Err(SendFault::Memory);
+    };
+    block.push(&line)?;
+    Ok(())
+}
+
+/// Writes the lines that are left, and flushes the device.
+fn finish<W: Write>(mut rest: Block, writer: &mut Counted<W>) -> Result<(), SendFault>
+    ensures ok { OnOk result (Appends (W.contents (counted_inner writer.old)) (W.contents (counted_inner writer.new)) rest.text.items) }
+    ensures unfailed { OnOk result (counted_failures writer.new ≡ counted_failures writer.old) }
+    ensures begun { AppendsFront (W.contents (counted_inner writer.old)) (W.contents (counted_inner writer.new)) rest.text.items }
+    ensures write { result ≡ Err SendFault.Write → HasFailed (counted_failures writer.old) (counted_failures writer.new) }
+{
+    rest.write_to(writer)?;
+    let Ok(()) = writer.flush() else {
+        return Err(SendFault::Write);
+    };
+    Ok(())
+}

@@ -1,0 +1,154 @@
+//! The lines of a stream, taken in turn into whatever takes operations.
+ghost use Rattle.std.specs.Prelude.{◌≡◌, ◌≢◌, ◌+◌, ◌^◌, ◌<◌, ◌≤◌, ◌++◌, ℕ, List, length, [], false, Ok, Err, Some, None, OnOk, IfOk, OnErr, IfErr, IfSome};
+ghost use Rattle.rga_lines.specs.Counting.{counted_inner, counted_failures, HasFailed};
+ghost use Rattle.rga_lines.specs.Stream.{lines_of, rest_of};
+ghost use Rattle.rga_lines.specs.Table.{any_line_at, max_line};
+ghost use Rattle.rga_ops.specs.Answer.{taken};
+ghost use Rattle.rga_exchange.specs.Taking.{AtEnd, AtFault, taking, refused_at, after_line, bytes_taken, stream_taken, HasTakenLines, HasTakenWholeLines};
+ghost use Rattle.rga_exchange.specs.Parts.{Takes, EndsAs, StopsReading};
+ghost use Rattle.rga_exchange.specs.declared.fault.LogFault.TheVariants.{Memory, Read as ReadFailed};
+
+use crate::fault::LogFault;
+use rga_lines::{Counted, Line, LineFault, Splitter, read_any};
+use rga_ops::{Op, Refusal};
+use rga_store::Taker;
+use std::alloc::Global;
+use std::io::Read;
+
+/// The most bytes that are asked for at once.
+const BLOCK: usize = 65536;
+
+/// Where the lines of a stream came to an end, and how many were taken before.
+pub(crate) struct Stream {
+    pub(crate) lines: u64,
+    pub(crate) end: StreamEnd,
+}
+
+pub(crate) enum StreamEnd {
+    /// The end line, which names so many operations.
+    EndLine(u64),
+    /// The end of the input, behind this rest.
+    Input(Vec<u8>),
+}
+
+/// Takes the operations of the lines of a stream up to the end line, or to the end of the input.
+/// Before each read the whole lines read so far are taken, and none follows that of the end line.
+pub(crate) fn take_stream<T: Taker, R: Read>(
+    alloc: Global,
+    taker: &mut T,
+    reader: &mut Counted<R>,
+) -> Result<Stream, LogFault>
+    // However the reads cut the bytes, they lead to what all of them lead to.
+    ensures end { IfOk result (λ s. IfSome (R.remaining (counted_inner reader.old))
+        (λ bytes. EndsAs (stream_taken (T.capacity taker.old) (T.content taker.old) bytes) (rest_of bytes) s.lines (T.content taker.new) s.end)) }
+    ensures fault { IfErr result (λ e. e ≢ ReadFailed → e ≢ Memory → IfSome (R.remaining (counted_inner reader.old))
+        (λ bytes. (lines : ℕ) × (stream_taken (T.capacity taker.old) (T.content taker.old) bytes ≡ taking lines (T.content taker.new) (AtFault e)))) }
+
+    ensures lines { HasTakenLines (R.remaining (counted_inner reader.old))
+        (R.remaining (counted_inner reader.new)) (T.capacity taker.old) (T.content taker.old) (T.content taker.new) }
+    ensures whole { IfErr result (λ e. e ≡ ReadFailed → HasTakenWholeLines (R.remaining (counted_inner reader.old))
+        (R.remaining (counted_inner reader.new)) (T.capacity taker.old) (T.content taker.old) (T.content taker.new)) }
+    ensures last { IfOk result (λ s. StopsReading (R.remaining (counted_inner reader.old)) (R.remaining (counted_inner reader.new)) s.end) }
+    ensures device { IfErr result (λ e. e ≡ ReadFailed → HasFailed (counted_failures reader.old) (counted_failures reader.new)) }
+    ensures limit { T.capacity taker.new ≡ T.capacity taker.old }
+    ensures bound { IfOk result (λ s. s.lines < 2 ^ 63) }
+{
+    let mut splitter = Splitter::new(alloc);
+    let mut lines = 0u64;
+    let mut block = [0u8; BLOCK];
+    'reads: loop {
+        if let Some(number) = take_lines(alloc, taker, &mut splitter, &mut lines)? {
+            let end = StreamEnd::EndLine(number);
+            return Ok(Stream { lines, end });
+        }
+        let Ok(count) = reader.read(&mut block) else {
+            return Err(LogFault::Read);
+        };
+        if count == 0 {
+            let end = StreamEnd::Input(splitter.finish());
+            return Ok(Stream { lines, end });
+        }
+        let Ok(()) = splitter.feed(&block[..count]) else {
+            return Err(LogFault::Memory);
+        };
+    }
+}
+
+/// Takes the whole lines that the splitter has, behind so many others, up to the end line: then
+/// the number that it names is the answer.
+fn take_lines<T: Taker>(
+    alloc: Global,
+    taker: &mut T,
+    splitter: &mut Splitter,
+    lines: &mut u64,
+) -> Result<Option<u64>, LogFault>
+    requires whole { splitter.old.broken ≡ false }
+    requires room { lines.old + length splitter.old.waiting < 2 ^ 63 }
+    ensures taken { (waiting : List ℕ) × Takes (T.capacity taker.old) lines.old (T.content taker.old) splitter.old.waiting lines.new (T.content taker.new) waiting }
+    ensures all { result ≡ Ok None → Takes (T.capacity taker.old) lines.old (T.content taker.old) splitter.old.waiting lines.new (T.content taker.new) splitter.new.waiting }
+    ensures end { (number : ℕ) → result ≡ Ok (Some number) → (more : List ℕ) →
+        bytes_taken (T.capacity taker.old) lines.old (T.content taker.old) (splitter.old.waiting ++ more) ≡ taking lines.new (T.content taker.new) (AtEnd number) }
+    ensures fault { IfErr result (λ e. e ≢ Memory → (more : List ℕ) →
+        bytes_taken (T.capacity taker.old) lines.old (T.content taker.old) (splitter.old.waiting ++ more) ≡ taking lines.new (T.content taker.new) (AtFault e)) }
+    ensures device { IfErr result (λ e. e ≢ ReadFailed) }
+
+    ensures none_left { result ≡ Ok None → (lines_of splitter.new.waiting ≡ []) × (length splitter.new.waiting ≤ max_line) }
+    ensures whole { result ≡ Ok None → splitter.new.broken ≡ false }
+    ensures room { result ≡ Ok None → lines.new + length splitter.new.waiting ≤ lines.old + length splitter.old.waiting }
+    ensures bound { lines.new ≤ lines.old + length splitter.old.waiting }
+    ensures limit { T.capacity taker.new ≡ T.capacity taker.old }
+{
+    'lines: loop {
+        let end = match splitter.find_line() {
+            Ok(Some(end)) => end,
+            Ok(None) => return Ok(None),
+            Err(fault) => return Err(LogFault::Line(*lines + 1, fault)),
+        };
+        if let Some(number) = take_line(alloc, taker, *lines + 1, splitter.line(end))? {
+            return Ok(Some(number));
+        }
+        splitter.pass_line(end);
+        *lines += 1;
+    }
+}
+
+/// Takes the operation of a whole line, or answers the number that the end line names.
+fn take_line<T: Taker>(
+    alloc: Global,
+    taker: &mut T,
+    number: u64,
+    line: &[u8],
+) -> Result<Option<u64>, LogFault>
+    ensures operation { result ≡ Ok None → after_line (T.capacity taker.old) number (T.content taker.old) (any_line_at line.now) ≡ Ok (T.content taker.new) }
+    ensures end { (count : ℕ) → result ≡ Ok (Some count) → (after_line (T.capacity taker.old) number (T.content taker.old) (any_line_at line.now) ≡ Err (AtEnd count))
+        × (T.content taker.new ≡ T.content taker.old) }
+    ensures fault { IfErr result (λ e. e ≢ Memory → after_line (T.capacity taker.old) number (T.content taker.old) (any_line_at line.now) ≡ Err (AtFault e)) }
+    ensures device { IfErr result (λ e. e ≢ ReadFailed) }
+    ensures same { OnErr result (T.content taker.new ≡ T.content taker.old) }
+    ensures limit { T.capacity taker.new ≡ T.capacity taker.old }
+{
+    match read_any(alloc, line) {
+        Ok(Line::One(op)) => {
+            take(taker, number, op)?;
+            Ok(None)
+        }
+        Ok(Line::Last(count)) => Ok(Some(count)),
+        Err(LineFault::Memory) => Err(LogFault::Memory),
+        Err(fault) => Err(LogFault::Line(number, fault)),
+    }
+}
+
+/// Takes the operation of the line with this number.
+pub(crate) fn take<T: Taker>(taker: &mut T, number: u64, op: Op) -> Result<(), LogFault>
+    ensures ok { OnOk result (taken (T.capacity taker.old) (T.content taker.old) op ≡ Ok (T.content taker.new)) }
+    ensures fault { IfErr result (λ e. e ≢ Memory → refused_at number (taken (T.capacity taker.old) (T.content taker.old) op) ≡ Err (AtFault e)) }
+    ensures device { IfErr result (λ e. e ≢ ReadFailed) }
+    ensures same { OnErr result (T.content taker.new ≡ T.content taker.old) }
+    ensures limit { T.capacity taker.new ≡ T.capacity taker.old }
+{
+    match taker.apply(op) {
+        Ok(_) => Ok(()),
+        Err(Refusal::Memory) => Err(LogFault::Memory),
+        Err(refusal) => Err(LogFault::Refused(number, refusal)),
+    }
+}

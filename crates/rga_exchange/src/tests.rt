@@ -1,0 +1,3 @@
+//! What is written and what is taken, on worked examples.
+mod receiving;
+mod sending;
