@@ -5,6 +5,8 @@ pub mod NextLine
 pub mod WrittenLemmas
 pub mod SpellingLemmas
 pub mod ReadBack
+pub mod LexedLemmas
+pub mod MembersLemmas
 pub mod SpelledLemmas
 pub mod NewlineLemmas
 pub mod WritableLemmas

@@ -30,20 +30,22 @@ use Rattle.rga_ops.specs.declared.refusal.Refusal.TheVariants.{BadId, BadOrder}
 use Rattle.rga_lines.specs.declared.reading.Line.{Line}
 use Rattle.rga_lines.specs.declared.reading.Line.TheVariants.{One, Last}
 use Rattle.rga_lines.specs.declared.fault.LineFault.TheVariants.{Kind}
+use Rattle.rga_lines.specs.Members.{pair_data}
 use Rattle.rga_lines.specs.Spelling.{escaped, pair_text, line, end_line, IsWritable}
 use Rattle.rga_lines.specs.Table.{value_line, any_line_at, line_at, max_line}
 use Rattle.rga_lines.proofs.ReadingLemmas.{accepted, alone}
-use Rattle.rga_lines.proofs.SpellingLemmas.{pair_data, op_data, end_data, insert_data, insert_text, compact_op, compact_end}
+use Rattle.rga_lines.proofs.SpellingLemmas.{op_data, end_data, insert_data, insert_text, compact_op, compact_end}
 
 -- ---- a value without floats is read back from its compact text
 
 tokens-compact : (d : Data) → tree.HasNumbers (outline d) → tokens (compact_text d) ≡ tree.json_tokens (outline d)
 tokens-compact d h = ap tokens (sym (print-outline d)) ∙ tokens-print (tree.json_tokens (outline d)) (ArePrintable-json_tokens (outline d) h)
 
-read-compact : (d : Data) → tree.HasNumbers (outline d) → tree.depth (outline d) ≤ max_depth → of_json (outline d) ≡ Some d → read (compact_text d) ≡ Some d
-read-compact d h shallow back =
+-- a text whose tokens are those of a value
+pub read_tokens : (text : List ℕ) (j : json.Json) (d : Data) → tokens text ≡ tree.json_tokens j → tree.depth j ≤ max_depth → of_json j ≡ Some d → read text ≡ Some d
+read_tokens text j d e shallow back =
     ap (λ (o : Option (json.Json × List _)). option_and_then of_json (option_and_then (λ p. json.if_last p.0 p.1) o))
-    (ap (json.value max_depth) (tokens-compact d h ∙ sym (append-nil _)) ∙ value-json_tokens (outline d) max_depth [] shallow)
+    (ap (json.value max_depth) (e ∙ sym (append-nil _)) ∙ value-json_tokens j max_depth [] shallow)
     ∙ back
 
 -- ---- identifiers
@@ -94,7 +96,7 @@ pair-number s h = (number_of-decimal s.counter (omega (arith, h.counter)), numbe
 pair-numbers : (s : Identifier) → InBounds s → tree.HasNumbers (outline (pair_data s))
 pair-numbers s h = (IsNumber-decimal s.counter (omega (arith, h.counter)), (IsNumber-decimal s.replica (omega (arith, h.replica)), tt))
 
-pair-json : (s : Identifier) → InBounds s → of_json (outline (pair_data s)) ≡ Some (pair_data s)
+pub pair-json : (s : Identifier) → InBounds s → of_json (outline (pair_data s)) ≡ Some (pair_data s)
 pair-json s h = rw ((pair-number s h).0, (pair-number s h).1)
 
 delete-json : (id : Identifier) → InBounds id → of_json (outline (op_data (Delete id))) ≡ Some (op_data (Delete id))
@@ -117,7 +119,7 @@ insert-line text ch id parent h k rising single = rw (h, k, single, rising)
 abbrev done : Unit {0} → Result (Unit {0}) Refusal
 done x = Ok x
 
-checked_insert : (a b : Bool) → cond a (Err BadId) (cond b (Err BadOrder) (Ok tt)) ≡ done tt → b ≡ false
+pub checked_insert : (a b : Bool) → cond a (Err BadId) (cond b (Err BadOrder) (Ok tt)) ≡ done tt → b ≡ false
 checked_insert true b e = absurd cc
 checked_insert false true e = absurd cc
 checked_insert false false e = refl
@@ -125,7 +127,7 @@ checked_insert false false e = refl
 one_scalar : (b : Bool) → b ≡ true → (b && true) ≡ true
 one_scalar b e = rw e
 
-chars-one : (ch : ℕ) → IsScalar ch → chars (encode_utf8 ch) ≡ ch ∷ []
+pub chars-one : (ch : ℕ) → IsScalar ch → chars (encode_utf8 ch) ≡ ch ∷ []
 chars-one ch h = ap chars (sym (append-nil (encode_utf8 ch))) ∙ chars-encodes (ch ∷ []) (one_scalar (scalar ch) h)
 
 nested : (a b c d e f g : Bool) (x y z : List ℕ) → length x ≤ 6 → length y ≤ 6 → length z ≤ 6
@@ -167,7 +169,7 @@ insert-utf8 text id parent u h k =
 
 -- a value whose compact text is a line says what the value says
 pub back : (d : Data) (text : List ℕ) (said : Line) → compact_text d ≡ text → length text ≤ max_line → IsUtf8 text → tree.HasNumbers (outline d) → tree.depth (outline d) ≤ max_depth → of_json (outline d) ≡ Some d → value_line d ≡ Ok said → any_line_at text ≡ Ok said
-back d text said e short u numbers shallow parsed says = accepted text d short u (ap read (sym e) ∙ read-compact d numbers shallow parsed) ∙ says
+back d text said e short u numbers shallow parsed says = accepted text d short u (read_tokens text (outline d) d (ap tokens (sym e) ∙ tokens-compact d numbers) shallow parsed) ∙ says
 
 insert_back : (id parent : Identifier) (ch : ℕ) → is_in_range id.counter id.replica ≡ true → is_root parent || is_in_range parent.counter parent.replica ≡ true → leb id.counter parent.counter ≡ false → IsScalar ch → any_line_at (line (Insert id parent ch)) ≡ Ok (One (Insert id parent ch))
 unfolding line

@@ -2,4 +2,5 @@ pub mod Table
 pub mod Stream
 pub mod Log
 pub mod Counting
+pub mod Members
 pub mod Spelling

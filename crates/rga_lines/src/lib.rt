@@ -16,6 +16,8 @@
 mod counted;
 mod fault;
 pub mod laws;
+mod lexed;
+mod members;
 mod reading;
 mod spelled;
 mod splitter;

@@ -6,6 +6,7 @@ ghost use Rattle.rga_lines.specs.Table.{max_line, count_of, only_char, two_numbe
 ghost use Rattle.rga_lines.specs.declared.fault.LineFault.TheVariants.{Memory, Long};
 
 use crate::fault::LineFault;
+use crate::members::listed;
 use crate::spelled::spelled;
 use rga_ops::{Id, Op};
 use serde_json::Value;
@@ -42,6 +43,9 @@ pub fn read_any(alloc: Global, bytes: &[u8]) -> Result<Line, LineFault>
         return Err(LineFault::Long);
     }
     if let Some(op) = spelled(bytes) {
+        return Ok(Line::One(op));
+    }
+    if let Some(op) = listed(bytes) {
         return Ok(Line::One(op));
     }
     match Value::from_slice(alloc, bytes) {

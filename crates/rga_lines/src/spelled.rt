@@ -72,7 +72,7 @@ fn deletion(bytes: &[u8]) -> Option<Op>
 }
 
 /// The character that the bytes begin with, and what stands behind it.
-fn character(bytes: &[u8]) -> Option<(char, &[u8])>
+pub(crate) fn character(bytes: &[u8]) -> Option<(char, &[u8])>
     ensures { IfSome result (λ p. (bytes.now ≡ escaped p.0 ++ p.1.now) × IsScalar p.0) }
 {
     let first = *bytes.first()?;
@@ -170,7 +170,7 @@ fn pair(bytes: &[u8]) -> Option<(u64, u16, &[u8])>
 }
 
 /// A number without leading zeros, and what stands behind it.
-fn number(bytes: &[u8]) -> Option<(u64, &[u8])>
+pub(crate) fn number(bytes: &[u8]) -> Option<(u64, &[u8])>
     ensures { IfSome result (λ p. bytes.now ≡ decimal p.0 ++ p.1.now) }
 {
     let mut value = digit(*bytes.first()?)?;
@@ -200,7 +200,7 @@ fn digit(byte: u8) -> Option<u64>
 
 /// What stands behind the literal, with which the bytes begin.
 #[tactic(auto, using(crate::proofs::SpelledLemmas::stripped))]
-fn after<'a>(bytes: &'a [u8], literal: &[u8]) -> Option<&'a [u8]>
+pub(crate) fn after<'a>(bytes: &'a [u8], literal: &[u8]) -> Option<&'a [u8]>
     ensures { IfSome result (λ rest. bytes.now ≡ literal.now ++ rest.now) }
 {
     bytes.strip_prefix(literal)

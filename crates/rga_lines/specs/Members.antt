@@ -1,0 +1,107 @@
+-- The members of an operation's line in any order: as lexemes, between which any blanks may stand, and as a value.
+use Rattle.std.specs.Prelude.{◌≡◌, ℕ, ◌+◌, true, ◌||◌, List, [], ◌∷◌, codes, decimal, Option, Some, None, option_map, IfSome}
+use Rattle.std.specs.Char.{encode_utf8, IsScalar}
+use Rattle.json.specs.Token.{begin_array, end_array, end_object, string, number}
+use Rattle.json.specs.Lex.{Lexeme, token, comma, colon, between, lex}
+use Rattle.serde_json.specs.Data as json
+use Rattle.serde_json.specs.Data.{Data, Members, put}
+use Rattle.serde_json.specs.Events.{members_len}
+use Rattle.serde_json.specs.Find.{get_member}
+use Rattle.rga_ops.specs.Identifier.{Identifier, is_root, is_in_range}
+use Rattle.rga_lines.specs.declared.members.Kind.{Kind}
+use Rattle.rga_lines.specs.declared.members.Kind.TheVariants.{Insertion, Deletion}
+use Rattle.rga_lines.specs.declared.members.Member.{Member}
+use Rattle.rga_lines.specs.declared.members.Member.TheVariants.{Char, Id, Op, Parent}
+use Rattle.rga_lines.specs.declared.members.Found.{Found}
+
+-- ---- one member
+
+abbrev pub name_of_kind : Kind → List ℕ
+name_of_kind Insertion = codes "ins"
+name_of_kind Deletion = codes "del"
+
+abbrev pub name : Member → List ℕ
+name (Char ch) = codes "char"
+name (Id id) = codes "id"
+name (Op kind) = codes "op"
+name (Parent id) = codes "parent"
+
+abbrev pub pair_data : Identifier → Data
+pair_data id = json.array (json.item (json.number (json.unsigned id.counter)) (json.item (json.number (json.unsigned id.replica)) json.no_items))
+
+abbrev pub char_data : ℕ → Data
+char_data ch = json.string (encode_utf8 ch)
+
+abbrev pub kind_data : Kind → Data
+kind_data kind = json.string (name_of_kind kind)
+
+abbrev pub data_of : Member → Data
+data_of (Char ch) = char_data ch
+data_of (Id id) = pair_data id
+data_of (Op kind) = kind_data kind
+data_of (Parent id) = pair_data id
+
+abbrev pub IsElement : Identifier → Type 0
+IsElement id = is_in_range id.counter id.replica ≡ true
+
+abbrev pub IsElementOrRoot : Identifier → Type 0
+IsElementOrRoot id = is_root id || is_in_range id.counter id.replica ≡ true
+
+abbrev pub IsSound : Member → Type 0
+IsSound (Char ch) = IsScalar ch
+IsSound (Id id) = IsElement id
+IsSound (Op kind) = Unit {0}
+IsSound (Parent id) = IsElementOrRoot id
+
+abbrev pub AreSound : List Member → Type 0
+AreSound [] = Unit {0}
+AreSound (m ∷ ms) = IsSound m × AreSound ms
+
+-- ---- lexemes, and those that stand behind
+
+abbrev pub pair_before : Identifier → List Lexeme → List Lexeme
+pair_before id more = token begin_array ∷ token (number (decimal id.counter)) ∷ comma ∷ token (number (decimal id.replica)) ∷ token end_array ∷ more
+
+abbrev pub value_before : Member → List Lexeme → List Lexeme
+value_before (Char ch) more = token (string (encode_utf8 ch)) ∷ more
+value_before (Id id) more = pair_before id more
+value_before (Op kind) more = token (string (name_of_kind kind)) ∷ more
+value_before (Parent id) more = pair_before id more
+
+abbrev pub member_before : Member → List Lexeme → List Lexeme
+member_before m more = token (string (name m)) ∷ colon ∷ value_before m more
+
+-- the members up to the bracket that closes their object, with nothing behind it
+abbrev pub members_lexemes : Member → List Member → List Lexeme
+members_lexemes m [] = member_before m (token end_object ∷ [])
+members_lexemes m (n ∷ ms) = member_before m (comma ∷ members_lexemes n ms)
+
+-- ---- what was found
+
+abbrev pub one : {A : Type 0} → Option A → ℕ
+one None = 0
+one (Some x) = 1
+
+-- the object has exactly the members that were found
+pub record Holds (found : Found) (ms : Members) : Type 0 where
+  pub char : get_member (codes "char") ms ≡ option_map char_data found.ch
+  pub id : get_member (codes "id") ms ≡ option_map pair_data found.id
+  pub op : get_member (codes "op") ms ≡ option_map kind_data found.kind
+  pub parent : get_member (codes "parent") ms ≡ option_map pair_data found.parent
+  pub count : members_len ms ≡ one found.ch + one found.id + one found.kind + one found.parent
+  pub scalar : IfSome found.ch IsScalar
+  pub element : IfSome found.id IsElement
+  pub element_or_root : IfSome found.parent IsElementOrRoot
+
+-- the members go into the object one after another
+abbrev pub put_all : List Member → Members → Members
+put_all [] ms = ms
+put_all (m ∷ others) ms = put_all others (put (name m) (data_of m) ms)
+
+-- the bytes list members, with which all are found
+pub record IsListed (bytes : List ℕ) (found all : Found) : Type 0 where
+  pub first : Member
+  pub others : List Member
+  pub lexemes : lex between bytes ≡ members_lexemes first others
+  pub sound : AreSound (first ∷ others)
+  pub holds : (ms : Members) → Holds found ms → Holds all (put_all (first ∷ others) ms)
