@@ -18,7 +18,7 @@ use Rattle.serde_json.specs.Find.{get_member}
 use Rattle.serde_json.specs.Read.{read, of_json, of_members}
 use Rattle.serde_json.specs.Written.{outline}
 use Rattle.serde_json.proofs.Views.{get_member-put, get_member-put_other}
-use Rattle.rga_lines.specs.Members.{name, data_of, char_data, kind_data, pair_data, IsSound, AreSound, IsElement, IsElementOrRoot, value_before, member_before, members_lexemes, one, Holds, put_all, IsListed}
+use Rattle.rga_lines.specs.Members.{name, data_of, char_data, kind_data, pair_data, IsSound, AreSound, IsElement, IsElementOrRoot, value_before, member_before, members_lexemes, one, Holds, put_all, ListsMembers}
 use Rattle.rga_ops.specs.Identifier.{Identifier, is_root}
 use Rattle.rga_lines.specs.declared.members.Kind.{Kind}
 use Rattle.rga_lines.specs.declared.members.Found.{Found}
@@ -198,7 +198,7 @@ shorter (named.Op kind) more = omega arith
 shorter (Parent id) more = omega arith
 
 module _ (bytes behind : List ℕ) (m : Member) (found next : Found) (member_is : lex between bytes ≡ member_before m (lex between behind)) (sound : IsSound m) (holds : (ms : Members) → Holds found ms → NextHolds next ms m) where
-  pub last_listed : (rest end : List ℕ) → lex between behind ≡ token end_object ∷ lex between rest → lex between end ≡ lex between rest → end ≡ [] → IsListed bytes found next
+  pub last_listed : (rest end : List ℕ) → lex between behind ≡ token end_object ∷ lex between rest → lex between end ≡ lex between rest → end ≡ [] → ListsMembers bytes found next
   unfolding lex
   last_listed rest end closed same empty = record {
     first = m;
@@ -208,7 +208,7 @@ module _ (bytes behind : List ℕ) (m : Member) (found next : Found) (member_is 
     holds = holds;
   }
 
-  listed_before : (rest : List ℕ) (all : Found) → lex between behind ≡ comma ∷ lex between rest → IsListed rest next all → IsListed bytes found all
+  listed_before : (rest : List ℕ) (all : Found) → lex between behind ≡ comma ∷ lex between rest → ListsMembers rest next all → ListsMembers bytes found all
   listed_before rest all separated l = record {
     first = m;
     others = l.first ∷ l.others;
@@ -217,13 +217,13 @@ module _ (bytes behind : List ℕ) (m : Member) (found next : Found) (member_is 
     holds = λ ms h. l.holds (put (name m) (data_of m) ms) (holds ms h);
   }
 
-  pub more_listed : (rest : List ℕ) (r : Option Found) → lex between behind ≡ comma ∷ lex between rest → IfSome r (λ all. IsListed rest next all) → IfSome r (λ all. IsListed bytes found all)
+  pub more_listed : (rest : List ℕ) (r : Option Found) → lex between behind ≡ comma ∷ lex between rest → IfSome r (λ all. ListsMembers rest next all) → IfSome r (λ all. ListsMembers bytes found all)
   more_listed rest None separated l = tt
   more_listed rest (Some all) separated l = listed_before rest all separated l
 
 -- ---- the whole
 
-pub listed_says : (bytes rest : List ℕ) (found all : Found) (op : Op) → length bytes ≤ max_line → IsUtf8 bytes → lex between bytes ≡ token begin_object ∷ lex between rest → Holds found no_members → IsListed rest found all
+pub listed_says : (bytes rest : List ℕ) (found all : Found) (op : Op) → length bytes ≤ max_line → IsUtf8 bytes → lex between bytes ≡ token begin_object ∷ lex between rest → Holds found no_members → ListsMembers rest found all
     → ((ms : Members) → Holds all ms → value_line (object ms) ≡ Ok (One op)) → any_line_at bytes ≡ Ok (One op)
 listed_says bytes rest found all op short utf8 opened none l says =
     let members = l.first ∷ l.others in

@@ -1,8 +1,9 @@
 -- The members of an operation's line in any order: as lexemes, between which any blanks may stand, and as a value.
-use Rattle.std.specs.Prelude.{◌≡◌, ℕ, ◌+◌, true, ◌||◌, List, [], ◌∷◌, codes, decimal, Option, Some, None, option_map, IfSome}
-use Rattle.std.specs.Char.{encode_utf8, IsScalar}
+use Rattle.std.specs.Prelude.{◌≡◌, ℕ, ◌+◌, ◌<◌, true, ◌||◌, List, [], ◌∷◌, codes, decimal, Option, Some, None, option_map, IfSome}
+use Rattle.std.specs.Char.{digit_value, encode_utf8, IsScalar}
+use Rattle.json.specs.Text.{content, plain, prepend}
 use Rattle.json.specs.Token.{begin_array, end_array, end_object, string, number}
-use Rattle.json.specs.Lex.{Lexeme, token, comma, colon, between, lex}
+use Rattle.json.specs.Lex.{Lexeme, token, comma, colon, between, in_string, lex}
 use Rattle.serde_json.specs.Data as json
 use Rattle.serde_json.specs.Data.{Data, Members, put}
 use Rattle.serde_json.specs.Events.{members_len}
@@ -76,6 +77,17 @@ abbrev pub members_lexemes : Member → List Member → List Lexeme
 members_lexemes m [] = member_before m (token end_object ∷ [])
 members_lexemes m (n ∷ ms) = member_before m (comma ∷ members_lexemes n ms)
 
+-- the bytes begin with a hexadecimal digit that stands for the number
+pub record IsHexDigit (bytes : List ℕ) (value : ℕ) (rest : List ℕ) : Type 0 where
+  pub digit : ℕ
+  pub first : bytes ≡ digit ∷ rest
+  pub stands_for : value ≡ digit_value digit
+  pub small : value < 16
+
+-- within a text, the bytes are one character and then the rest
+abbrev pub IsWithinText : List ℕ → ℕ → List ℕ → Type 0
+IsWithinText bytes ch rest = (content plain bytes ≡ prepend (encode_utf8 ch) (content plain rest)) × (lex in_string bytes ≡ lex in_string rest) × IsScalar ch
+
 -- ---- what was found
 
 abbrev pub one : {A : Type 0} → Option A → ℕ
@@ -99,7 +111,7 @@ put_all [] ms = ms
 put_all (m ∷ others) ms = put_all others (put (name m) (data_of m) ms)
 
 -- the bytes list members, with which all are found
-pub record IsListed (bytes : List ℕ) (found all : Found) : Type 0 where
+pub record ListsMembers (bytes : List ℕ) (found all : Found) : Type 0 where
   pub first : Member
   pub others : List Member
   pub lexemes : lex between bytes ≡ members_lexemes first others

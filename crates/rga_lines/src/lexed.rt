@@ -6,6 +6,7 @@ ghost use Rattle.json.specs.Token as tokens;
 ghost use Rattle.json.specs.Word.{is_operator, is_space, ends_word as word_ends};
 ghost use Rattle.json.specs.Lex.{between, lex, token, colon, operator_lexeme};
 ghost use Rattle.json.specs.Print.{escape};
+ghost use Rattle.rga_lines.specs.Members.{IsHexDigit, IsWithinText};
 
 use crate::spelled::{after, character, number as digits};
 
@@ -60,10 +61,37 @@ pub(crate) fn after_name<'a>(bytes: &'a [u8], name: &str) -> Option<&'a [u8]>
 pub(crate) fn only_character(bytes: &[u8]) -> Option<(char, &[u8])>
     ensures { IfSome result (λ p. (lex between bytes.now ≡ token (tokens.string (encode_utf8 p.0)) ∷ lex between p.1.now) × IsScalar p.0) }
 {
-    let rest = after(after_blanks(bytes), b"\"")?;
-    let (ch, rest) = character(rest)?;
-    let rest = after(rest, b"\"")?;
+    let inside = after(after_blanks(bytes), b"\"")?;
+    if let Some((ch, rest)) = character(inside) {
+        let rest = after(rest, b"\"")?;
+        Some((ch, rest))
+    } else {
+        let (ch, rest) = escaped_unit(inside)?;
+        let rest = after(rest, b"\"")?;
+        Some((ch, rest))
+    }
+}
+
+/// The character that `\u` and four hexadecimal digits stand for, and what stands behind them.
+/// `None` for one half of a pair of surrogates.
+fn escaped_unit(bytes: &[u8]) -> Option<(char, &[u8])>
+    ensures { IfSome result (λ p. IsWithinText bytes.now p.0 p.1.now) }
+{
+    let (a, rest) = hex_digit(after(bytes, b"\\u")?)?;
+    let (b, rest) = hex_digit(rest)?;
+    let (c, rest) = hex_digit(rest)?;
+    let (d, rest) = hex_digit(rest)?;
+    let ch = char::from_u32(((a * 16 + b) * 16 + c) * 16 + d)?;
     Some((ch, rest))
+}
+
+/// What a hexadecimal digit stands for, and what stands behind it.
+fn hex_digit(bytes: &[u8]) -> Option<(u32, &[u8])>
+    ensures { IfSome result (λ p. IsHexDigit bytes.now p.0 p.1.now) }
+{
+    let (digit, rest) = bytes.split_first()?;
+    let value = char::from(*digit).to_digit(16)?;
+    Some((value, rest))
 }
 
 /// A whole number that is spelled in digits alone, and what stands behind it.

@@ -246,6 +246,86 @@ fn near_misses_of_the_one_way(rt: HostRuntime) {
 }
 
 #[test]
+fn members_in_any_order_and_blanks(rt: HostRuntime) -> Result<(), Fail> {
+    let table: [(&[u8], Op); 8] = [
+        (
+            b"{\"op\":\"ins\",\"parent\":[0,0],\"char\":\"a\",\"id\":[1,1]}",
+            inserted('a')?,
+        ),
+        (
+            b"{ \"char\" : \"a\" , \"id\" : [ 1 , 1 ] , \"op\" : \"ins\" , \"parent\" : [ 0 , 0 ] }",
+            inserted('a')?,
+        ),
+        (
+            b"{\"char\": \"\\u20aC\", \"id\": [1, 1], \"op\": \"ins\", \"parent\": [0, 0]}",
+            inserted('\u{20ac}')?,
+        ),
+        (
+            b"{\"char\": \"\\u000a\", \"id\": [1, 1], \"op\": \"ins\", \"parent\": [0, 0]}",
+            inserted('\n')?,
+        ),
+        (
+            b"{\"char\": \"\\ud83d\\ude00\", \"id\": [1, 1], \"op\": \"ins\", \"parent\": [0, 0]}",
+            inserted('\u{1f600}')?,
+        ),
+        (
+            b"{\"char\": \"\\/\", \"id\": [1, 1], \"op\": \"ins\", \"parent\": [0, 0]}",
+            inserted('/')?,
+        ),
+        (
+            b"{\"id\": [2, 3], \"parent\": [1, 2], \"op\": \"ins\", \"char\": \"b\"}",
+            inserted_behind(Id::new(1, 2)?, 2, 3, 'b')?,
+        ),
+        (
+            b"\t{\n\"op\"\r:\t\"del\"\n,\"id\":\r[1\t,1]\n}\r\n",
+            deleted(1, 1)?,
+        ),
+    ];
+    for (k, row) in table.iter().enumerate() {
+        assert_eq!(rt; readings(rt.alloc(), row.0), said(&row.1), "row {k}");
+    }
+    Ok(())
+}
+
+#[test]
+fn near_misses_with_blanks(rt: HostRuntime) {
+    let table: [(&[u8], LineFault); 14] = [
+        (b"{\"id\": [1, 1] \"op\": \"del\"}", LineFault::Json),
+        (b"{\"id\": [1, 1], \"op\": \"del\",}", LineFault::Json),
+        (b"{\"id\": [1, 1], \"op\" \"del\"}", LineFault::Json),
+        (b"{\"id\": [1 1], \"op\": \"del\"}", LineFault::Json),
+        (b"{\"id\": [1, 1], \x0c\"op\": \"del\"}", LineFault::Json),
+        (b"{\"id\": [1, 1], \"op\": \"del\"} {}", LineFault::Json),
+        (b"{\"id\": [1, 1], \"op\": \"d\xe9l\"}", LineFault::Json),
+        (b"{\"id\": [1, 1.5], \"op\": \"del\"}", LineFault::Id),
+        (b"{\"id\": [0, 0], \"op\": \"del\"}", LineFault::Id),
+        (
+            b"{\"id\": [1, 1], \"op\": \"del\", \"parent\": [0, 0]}",
+            LineFault::Member,
+        ),
+        (
+            b"{\"char\": \"\\u20a\", \"id\": [1, 1], \"op\": \"ins\", \"parent\": [0, 0]}",
+            LineFault::Json,
+        ),
+        (
+            b"{\"char\": \"\\udc00\", \"id\": [1, 1], \"op\": \"ins\", \"parent\": [0, 0]}",
+            LineFault::Json,
+        ),
+        (
+            b"{\"char\": \"ab\", \"id\": [1, 1], \"op\": \"ins\", \"parent\": [0, 0]}",
+            LineFault::Char,
+        ),
+        (
+            b"{\"char\": \"a\", \"id\": [1, 1], \"op\": \"ins\", \"parent\": [1, 1]}",
+            LineFault::Order,
+        ),
+    ];
+    for (k, row) in table.iter().enumerate() {
+        assert_eq!(rt; readings(rt.alloc(), row.0), refused(row.1), "row {k}");
+    }
+}
+
+#[test]
 fn length_comes_before_all_else(rt: HostRuntime) -> Result<(), Fail> {
     let mut line = Vec::from_slice(rt.alloc(), b"{\"id\":[1,1],\"op\":\"del\"}")?;
     line.resize(MAX_LINE, b' ')?;

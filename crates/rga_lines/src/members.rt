@@ -6,7 +6,7 @@ ghost use Rattle.json.specs.Lex.{token, between, lex};
 ghost use Rattle.serde_json.specs.Data.{Members as Object, object, no_members, put};
 ghost use Rattle.rga_ops.specs.Identifier.{identifier};
 ghost use Rattle.rga_ops.specs.Operation.{checked};
-ghost use Rattle.rga_lines.specs.Members.{name, data_of, kind_data, name_of_kind, pair_before, member_before, IsElement, IsElementOrRoot, IsSound, Holds, IsListed};
+ghost use Rattle.rga_lines.specs.Members.{name, data_of, kind_data, name_of_kind, pair_before, member_before, IsElement, IsElementOrRoot, IsSound, Holds, ListsMembers};
 ghost use Rattle.rga_lines.specs.Table.{max_line, value_line, any_line_at};
 ghost use Rattle.rga_lines.specs.declared.reading.Line.TheVariants.{One};
 
@@ -40,7 +40,7 @@ pub(crate) struct Found {
 
 /// The operation that a line says, where no name stands twice, nothing is escaped but in the
 /// character, and the numbers are digits alone. `None` says nothing of the line.
-pub(crate) fn listed(bytes: &[u8]) -> Option<Op>
+pub(crate) fn by_members(bytes: &[u8]) -> Option<Op>
     requires { length bytes.now ≤ max_line }
     ensures { IfSome result (λ op. any_line_at bytes.now ≡ Ok (One op)) }
 {
@@ -57,7 +57,7 @@ pub(crate) fn listed(bytes: &[u8]) -> Option<Op>
 
 /// The members up to the end of their object, behind which nothing stands, with those found before.
 fn found_in(bytes: &[u8], found: Found) -> Option<Found>
-    ensures { IfSome result (λ all. IsListed bytes.now found all) }
+    ensures { IfSome result (λ all. ListsMembers bytes.now found all) }
 {
     let Some((member, rest)) = first_member(bytes) else {
         return None;

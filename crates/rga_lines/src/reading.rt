@@ -6,7 +6,7 @@ ghost use Rattle.rga_lines.specs.Table.{max_line, count_of, only_char, two_numbe
 ghost use Rattle.rga_lines.specs.declared.fault.LineFault.TheVariants.{Memory, Long};
 
 use crate::fault::LineFault;
-use crate::members::listed;
+use crate::members::by_members;
 use crate::spelled::spelled;
 use rga_ops::{Id, Op};
 use serde_json::Value;
@@ -45,7 +45,7 @@ pub fn read_any(alloc: Global, bytes: &[u8]) -> Result<Line, LineFault>
     if let Some(op) = spelled(bytes) {
         return Ok(Line::One(op));
     }
-    if let Some(op) = listed(bytes) {
+    if let Some(op) = by_members(bytes) {
         return Ok(Line::One(op));
     }
     match Value::from_slice(alloc, bytes) {

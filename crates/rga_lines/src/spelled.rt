@@ -11,8 +11,7 @@ use rga_ops::{Id, Op};
 
 /// The operation that the bytes of a line say, where they are spelled as `line` of
 /// `specs/Spelling.antt` has it: no blanks, and the members by their names. `None` says nothing of
-/// the line: it may be spelled otherwise, or its character have another escape than `\n`, `\"` and
-/// `\\`.
+/// the line: it may be spelled otherwise, or its character have an escape by its number.
 pub(crate) fn spelled(bytes: &[u8]) -> Option<Op>
     ensures { IfSome result (λ op. any_line_at bytes.now ≡ Ok (One op)) }
 {
@@ -99,19 +98,23 @@ fn plain_character(bytes: &[u8]) -> Option<(char, &[u8])>
     }
 }
 
-/// A newline, a quote or a backslash by its escape, and what stands behind it.
+/// A character by its escape of one letter, and what stands behind it.
 #[tactic(auto, unfolding(crate::specs::Spelling::escaped))]
 fn short_escape(bytes: &[u8]) -> Option<(char, &[u8])>
     ensures { IfSome result (λ p. (bytes.now ≡ escaped p.0 ++ p.1.now) × IsScalar p.0) }
 {
-    if let Some(rest) = after(bytes, b"\\n") {
-        Some(('\n', rest))
-    } else if let Some(rest) = after(bytes, b"\\\"") {
-        Some(('"', rest))
-    } else {
-        let rest = after(bytes, b"\\\\")?;
-        Some(('\\', rest))
-    }
+    let (letter, rest) = after(bytes, b"\\")?.split_first()?;
+    let ch = match *letter {
+        b'"' => '"',
+        b'\\' => '\\',
+        b'b' => '\u{8}',
+        b'f' => '\u{c}',
+        b'n' => '\n',
+        b'r' => '\r',
+        b't' => '\t',
+        _ => return None,
+    };
+    Some((ch, rest))
 }
 
 /// A character above ASCII, and what stands behind it.

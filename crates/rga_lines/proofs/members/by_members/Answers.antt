@@ -1,6 +1,6 @@
 use Rattle.std.proofs.Common.{rules, sym, ◌∙◌}
 use Rattle.rga_lines.proofs.MembersLemmas.{listed_says}
-use Rattle.rga_lines.proofs.members.listed.Goals as goal
+use Rattle.rga_lines.proofs.members.by_members.Goals as goal
 
 pub returns-in-Ok : goal.returns-in-Ok
 returns-in-Ok c =
