@@ -20,7 +20,7 @@ use Rattle.indexmap.specs.IndexMap.{IndexMap, insert_entry, set_value_at}
 use Rattle.indexmap.proofs.CallerLemmas.{keys-with_value_at, updates-with_value_at}
 use Rattle.rga_store.proofs.StepLaws.{inserted_now, deleted_then, inserted_then, deleted_now}
 use Rattle.rga_store.specs.declared.nodes.Node.{Node}
-use Rattle.rga_store.specs.Nodes.{Nodes, element_in, insertion_in, ids_where, marked_ids, content_of_nodes, kids, AreApart, StandsAt}
+use Rattle.rga_store.specs.Nodes.{Nodes, element_in, insertion_in, ids_where, marked_ids, content_of_nodes, kids, char_at, AreApart, StandsAt}
 use Rattle.rga_store.specs.Children.{children_in}
 use Rattle.rga_store.specs.Back.{without_insertion, without_deletion}
 
@@ -108,13 +108,17 @@ any_where test q (n ∷ ns) h =
 pub deleted_at : (ns : Nodes) → AreApart ns → (q : Identifier) → finite_set.contains (content_of_nodes ns).deleted q ≡ mark_of (lookup (is_id q) ns)
 deleted_at ns h q = finite_set.contains-from_list ids_total (marked_ids ns) q ∙ any_where (λ v. v.deleted) q ns h
 
--- the character of an element that is not deleted
-abbrev pub char_at : Option Node → Option ℕ
-char_at o = cond (mark_of o) None (option_map (λ x. x.ch) (element_of o))
-
 -- and shown as its node says
 pub shown_at : (ns : Nodes) → AreApart ns → (q : Identifier) → shown (content_of_nodes ns) q ≡ char_at (lookup (is_id q) ns)
-shown_at ns h q = λ k. cond (deleted_at ns h q k) None (option_map (λ x. x.ch) (inserted_at ns h q k))
+shown_at ns h q = (λ k. cond (deleted_at ns h q k) None (option_map (λ x. x.ch) (inserted_at ns h q k))) ∙ found (lookup (is_id q) ns)
+  where
+    kept : (o : Option (Identifier × ℕ)) → option_map {T = Element} {U = ℕ} (λ x. x.ch) (option_map (λ x. element x.0 x.1) o) ≡ option_map (λ x. x.1) o
+    kept None = refl
+    kept (Some x) = refl
+
+    found : (o : Option Node) → cond (mark_of o) None (option_map (λ x. x.ch) (element_of o)) ≡ char_at o
+    found None = refl
+    found (Some v) = ap (cond v.deleted None) (kept v.element)
 
 -- ---- changes
 

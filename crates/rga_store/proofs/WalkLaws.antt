@@ -1,14 +1,13 @@
 -- A walk over child lists with a stack gives the order.
-use Rattle.std.proofs.Common.{◌≡◌, ◌≤◌, ◌<◌, Bool, true, false, not, ◌&&◌, ◌||◌, List, [], ◌∷◌, ◌++◌, length, refl, sym, ap, ◌∙◌, subst, arith, true≢false, is_some, nat_le, cond, inl, inr, length-append}
+use Rattle.std.proofs.Common.{◌≡◌, ◌≤◌, ◌<◌, Bool, true, false, not, ◌&&◌, ◌||◌, ℕ, List, [], ◌∷◌, ◌++◌, length, filter, refl, sym, ap, ◌∙◌, subst, arith, true≢false, is_some, nat_le, cond, inl, inr}
 use Rattle.std.specs.Prelude.{Option, Some, None, Ok, Err, ◌⊎◌, unwrap_or}
 use Rattle.std.specs.Option.{option_map, option_map_or}
-use Rattle.std.specs.Cmp.{both_ways, tied_itself, eq_by_cmp_equiv}
-use Rattle.std.specs.Ordering.{ordering_then}
+use Rattle.std.specs.Cmp.{both_ways, tied_itself}
+use Rattle.std.specs.Ordering.{ordering_then, is_lt}
 use Rattle.std.specs.List.{list_any, AllByRecursion}
-use Rattle.std.specs.declared.cmp.Ordering.TheVariants.{Less}
+use Rattle.std.specs.declared.cmp.Ordering.TheVariants.{Less, Equal, Greater}
 use Rattle.std.specs.FinMap as finite_map
 use Rattle.std.proofs.lemmas.List.Folds.{list_any-append}
-use Rattle.std.proofs.lemmas.Map.Made.{length-le_from_is_member}
 use Rattle.rga_ops.specs.Identifier.{Identifier, id_cmp, is_id, is_root, root}
 use Rattle.rga_ops.specs.Content.{Element, Content, IsSound}
 use Rattle.rga_ops.specs.RootPath.{Path, path_cmp, root_path, is_complete, IsRootPath}
@@ -18,16 +17,16 @@ use Rattle.rga_ops.proofs.IdentifierLaws.{ids_total, is, is_itself, same_id, is_
 use Rattle.rga_ops.proofs.BeforeLaws.{paths_total}
 use Rattle.rga_ops.proofs.PathLaws.{root_path-is, is-root_path, root_path-root, root_path-step}
 use Rattle.rga_ops.proofs.PlacedLaws.{IsPlaced, placed_key}
-use Rattle.rga_ops.proofs.OrderLaws.{order_unique, order_distinct}
+use Rattle.rga_ops.proofs.OrderLaws.{order_unique}
 use Rattle.rga_ops.proofs.AnswerLaws.{passed}
 use Rattle.rga_ops.specs.declared.op.Op.TheVariants.{Insert}
 use Rattle.rga_ops.specs.declared.refusal.Refusal.TheVariants.{BadId, BadOrder}
 use Rattle.rga_store.specs.Children.{IsRising}
 use Rattle.rga_store.specs.Tree.{IsFamily}
 use Rattle.rga_store.proofs.ChildListLaws.{has-any}
-use Rattle.rga_store.proofs.StepLaws.{len-keys, IsChild, child_found}
+use Rattle.rga_store.proofs.StepLaws.{IsChild, child_found}
 use Rattle.std.specs.List.Sorted.{IsStrictlySortedBy}
-use Rattle.std.proofs.lemmas.Bool.{or_cases, or_right}
+use Rattle.std.proofs.lemmas.Bool.{or_cases, or_right, or_from}
 
 -- ---- lists
 member : Identifier → List Identifier → Bool
@@ -80,6 +79,29 @@ last_member xs y q m =
     falls : (a : Bool) → (a || false) ≡ true → a ≡ true
     falls true h = refl
     falls false h = h
+
+-- a stricter test passes no more, and fewer where it leaves out a member that the other passes
+few : (p q : Identifier → Bool) → ((x : Identifier) → q x ≡ true → p x ≡ true) → (xs : List Identifier) → length (filter q xs) ≤ length (filter p xs)
+few p q f [] = omega arith
+few p q f (x ∷ xs) =
+    let rest : length (filter q xs) ≤ length (filter p xs) = few p q f xs in
+    let here : q x ≡ true → p x ≡ true = f x in
+    grind arith
+
+fewer : (p q : Identifier → Bool) → ((x : Identifier) → q x ≡ true → p x ≡ true) → (k : Identifier) (xs : List Identifier) → list_any (is k) xs ≡ true → p k ≡ true → q k ≡ false → length (filter q xs) < length (filter p xs)
+fewer p q f k [] m kept gone = absurd (true≢false (sym m))
+fewer p q f k (x ∷ xs) m kept gone =
+    elim (or_cases (is k x) (list_any (is k) xs) m) [
+      | inl same ↦
+          let rest : length (filter q xs) ≤ length (filter p xs) = few p q f xs in
+          let passes : p x ≡ true = ap p (sym (same_id k x same)) ∙ kept in
+          let fails : q x ≡ false = ap q (sym (same_id k x same)) ∙ gone in
+          grind arith
+      | inr later ↦
+          let rest : length (filter q xs) < length (filter p xs) = fewer p q f k xs later kept gone in
+          let here : q x ≡ true → p x ≡ true = f x in
+          grind arith
+    ]
 
 -- ---- paths
 abbrev pub way : Content → Identifier → Path
@@ -138,6 +160,36 @@ pub record IsWalk (c : Content) (done todo : List Identifier) : Type 0 where
   pub before : AllByRecursion (λ o. AllByRecursion (Goes c o) todo) done
   pub stacked : IsStacked c todo
   pub closed : (k : Identifier) (x : Element) → finite_map.get c.inserted k ≡ Some x → (is_root x.parent ≡ true) ⊎ (list_any (is x.parent) done ≡ true) → (list_any (is k) done ≡ true) ⊎ (list_any (is k) todo ≡ true)
+
+-- whether the first's path is not before the second's
+abbrev is_from : Content → Identifier → Identifier → Bool
+is_from c k t = not (is_lt (path_cmp (way c k) (way c t)))
+
+-- whether an element is on the stack, or behind one that is
+abbrev comes : Content → List Identifier → Identifier → Bool
+comes c todo k = list_any (is_from c k) todo
+
+-- how many are to come
+abbrev pub left : Content → List Identifier → ℕ
+left c todo = length (filter (comes c todo) (finite_map.keys c.inserted))
+
+-- what comes, where all that is on the stack is behind an element, is not before that element
+behind : (c : Content) (s k : Identifier) (todo : List Identifier) → AllByRecursion (Goes c s) todo → comes c todo k ≡ true → is_lt (path_cmp (way c k) (way c s)) ≡ false
+behind c s k [] a h = absurd (true≢false (sym h))
+behind c s k (t ∷ todo) a h =
+    elim (or_cases (is_from c k t) (comes c todo k) h) [
+      | inl here ↦ elim (path_cmp (way c k) (way c s)) as (λ o. path_cmp (way c k) (way c s) ≡ o → is_lt o ≡ false) [
+        | Less ↦ λ l. absurd (true≢false (sym here ∙ ap (λ o. not (is_lt o)) (paths_total.trans (way c k) (way c s) (way c t) l a.0)))
+        | Equal ↦ λ l. refl
+        | Greater ↦ λ l. refl
+      ] refl
+      | inr later ↦ behind c s k todo a.1 later
+    ]
+
+-- nor does that element come again
+gone : (c : Content) (s : Identifier) (todo : List Identifier) → AllByRecursion (Goes c s) todo → comes c todo s ≡ false
+gone c s [] a = refl
+gone c s (t ∷ todo) a = or_from (is_from c s t) (comes c todo s) (ap (λ o. not (is_lt o)) a.0) (gone c s todo a.1)
 
 stacked_front : (c : Content) (xs ys : List Identifier) → IsStacked c (xs ++ ys) → IsStacked c xs
 stacked_front c [] ys h = tt
@@ -219,9 +271,8 @@ module _ (c : Content) (K : Identifier → List Identifier) (w : IsFamily c K) (
         both ys u.1 a.1,
       )
 
-  -- the walk begins with the children of the root
-  pub walk_start : IsWalk c [] (K root)
-  walk_start = record {
+  started : IsWalk c [] (K root)
+  started = record {
     done_placed = tt;
     todo_placed = all_map (IsUnder []) (Placed c) (λ k u. u.placed) (K root) first;
     sorted = tt;
@@ -255,9 +306,8 @@ module _ (c : Content) (K : Identifier → List Identifier) (w : IsFamily c K) (
     apart_s : AllByRecursion (λ t. IsApart (way c s) (way c t)) todo
     apart_s = stacked_last c todo s walk.stacked
 
-    -- the top is done, and its children come onto the stack
-    pub walk_step : IsWalk c (done ++ s ∷ []) (todo ++ K s)
-    walk_step = record {
+    stepped : IsWalk c (done ++ s ∷ []) (todo ++ K s)
+    stepped = record {
       done_placed = all_append (Placed c) done (s ∷ []) walk.done_placed (s_placed, tt);
       todo_placed = all_append (Placed c) todo (K s) (all_front (Placed c) todo (s ∷ []) walk.todo_placed) (all_map (IsUnder (way c s)) (Placed c) (λ k u. u.placed) (K s) kids_under);
       sorted = sorted_push c done s walk.sorted before_s;
@@ -288,14 +338,33 @@ module _ (c : Content) (K : Identifier → List Identifier) (w : IsFamily c K) (
           | inr e ↦ inr (right_member todo (K s) k (ap (λ p. list_any (is k) (K p)) (sym e) ∙ in_list k x g))
         ]
 
-    -- and it was one of those that are inserted
-    pub walk_room : length done < finite_map.len c.inserted
-    walk_room =
-        let now : IsWalk c (done ++ s ∷ []) (todo ++ K s) = walk_step in
-        let few : length (done ++ s ∷ []) ≤ length (finite_map.keys c.inserted) =
-        length-le_from_is_member (eq_by_cmp_equiv ids_total) (done ++ s ∷ []) (finite_map.keys c.inserted) (order_distinct c (done ++ s ∷ []) (in_order c (done ++ s ∷ []) now.done_placed now.sorted))
-        (λ q m. placed_key c q (way c q) (of_member (Placed c) (done ++ s ∷ []) q now.done_placed m)) in
-        omega (arith, few, len-keys c, length-append done (s ∷ []))
+    smaller : left c (todo ++ K s) < left c (todo ++ s ∷ [])
+    smaller = fewer (comes c (todo ++ s ∷ [])) (comes c (todo ++ K s))
+        (λ k h. came k (behind c s k (todo ++ K s) all_behind h))
+        s (finite_map.keys c.inserted) (placed_key c s (way c s) s_placed)
+        (came s (ap is_lt (tied_itself paths_total (way c s)))) (gone c s (todo ++ K s) all_behind)
+      where
+        all_behind : AllByRecursion (Goes c s) (todo ++ K s)
+        all_behind = all_last (λ o. AllByRecursion (Goes c o) (todo ++ K s)) done s stepped.before
+
+        came : (k : Identifier) → is_lt (path_cmp (way c k) (way c s)) ≡ false → comes c (todo ++ s ∷ []) k ≡ true
+        came k h = list_any-append (is_from c k) todo (s ∷ []) ∙ or_right (comes c todo k) (is_from c k s || false) (ap (λ b. not b || false) h)
+
+  -- the walk begins with the children of the root
+  pub walk_start : (todo : List Identifier) → todo ≡ K root → IsWalk c [] todo
+  walk_start todo e = subst (λ xs. IsWalk c [] xs) (sym e) started
+
+  module _ (done old new todo : List Identifier) (s : Identifier) (popped : old ≡ todo ++ s ∷ []) (pushed : new ≡ todo ++ K s) (walk : IsWalk c done old) where
+    now : IsWalk c done (todo ++ s ∷ [])
+    now = subst (λ xs. IsWalk c done xs) popped walk
+
+    -- the top is done, and its children come onto the stack
+    pub walk_step : IsWalk c (done ++ s ∷ []) new
+    walk_step = subst (λ xs. IsWalk c (done ++ s ∷ []) xs) (sym pushed) (stepped done todo s now)
+
+    -- so there is less to come
+    pub walk_smaller : left c new < left c old
+    walk_smaller = subst (λ xs. left c new < left c xs) (sym popped) (subst (λ xs. left c xs < left c (todo ++ s ∷ [])) (sym pushed) (smaller done todo s now))
 
   complete_of : (id : Identifier) → Placed c id → is_complete c id ≡ true
   complete_of id h = (λ k. not (h.element k) && is_some (is-root_path {c = c} h.path k))

@@ -1,5 +1,5 @@
 -- What a tree store keeps: a node for each identifier that is inserted, deleted or named as a parent.
-use Rattle.std.specs.Prelude.{◌≡◌, ℕ, Bool, List, [], filter, is_some, Option, Some, slice_get}
+use Rattle.std.specs.Prelude.{◌≡◌, ℕ, Bool, List, [], filter, is_some, Option, Some, None, if◌then◌else◌, slice_get}
 use Rattle.std.specs.List.{IsDistinct, filter_map}
 use Rattle.std.specs.Map.{lookup, keys_of}
 use Rattle.std.specs.Option.{option_map, option_map_or}
@@ -40,6 +40,11 @@ content_of_nodes ns = record {
 -- the children under a parent
 abbrev pub kids : Nodes → Identifier → List Identifier
 kids ns p = option_map_or (λ v. children_in v.children) (lookup (is_id p) ns) []
+
+-- the character of a node that is inserted and not deleted
+abbrev pub char_at : Option Node → Option ℕ
+char_at None = None
+char_at (Some v) = if v.deleted then None else option_map (λ x. x.1) v.element
 
 -- no identifier has two nodes
 abbrev pub AreApart : Nodes → Type 0

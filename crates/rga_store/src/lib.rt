@@ -11,7 +11,6 @@
 #![tactic(auto)]
 
 mod answer;
-mod characters;
 mod child_list;
 pub mod laws;
 mod list_answer;

@@ -185,20 +185,22 @@ pub(crate) fn take_child(nodes: &mut IndexMap<Id, Node>, parent: Id, id: Id)
     }
 }
 
-/// The children of a parent go onto a stack, the newest on top.
-pub(crate) fn push_children(
+/// The children of a parent go onto a stack, the newest on top. Gives the parent's node.
+pub(crate) fn push_children<'a>(
     stack: &mut Vec<Id>,
-    nodes: &IndexMap<Id, Node>,
+    nodes: &'a IndexMap<Id, Node>,
     next: &mut usize,
     parent: Id,
-) -> Result<(), Refusal>
-    ensures ok { OnOk result (stack.new.items ≡ stack.old.items ++ kids nodes.now.entries parent) }
+) -> Result<Option<&'a Node>, Refusal>
+    ensures node { IfOk result (λ node. option_copied node ≡ lookup (is_id parent) nodes.now.entries) }
+    ensures stack { OnOk result (stack.new.items ≡ stack.old.items ++ kids nodes.now.entries parent) }
     ensures memory { IfErr result (λ e. e ≡ Refusal.Memory) }
 {
-    match find_node(nodes, next, parent) {
-        Some(node) => node.children.push_onto(stack),
-        None => Ok(()),
+    let found = find_node(nodes, next, parent);
+    if let Some(node) = found {
+        node.children.push_onto(stack)?;
     }
+    Ok(found)
 }
 
 /// The node of an identifier. It is looked for first at the place `next`, whichever that is, which

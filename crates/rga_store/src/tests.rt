@@ -30,15 +30,11 @@ fn delete(element: (u64, u16)) -> Result<Op, Refusal> {
     })
 }
 
-/// The characters of the elements in the order that are not deleted.
+/// The text of a store as a string.
 fn text_of<S: TextStore>(alloc: Global, store: &S) -> Result<String, Fail> {
     let mut text = String::new(alloc);
-    for id in &store.order()? {
-        if let Some((_, ch)) = store.get(*id) {
-            if !store.is_deleted(*id) {
-                text.push(ch)?;
-            }
-        }
+    for ch in &store.text(alloc)? {
+        text.push(*ch)?;
     }
     Ok(text)
 }
@@ -175,17 +171,6 @@ fn operations_come_by_identifier(rt: HostRuntime) -> Result<(), Fail> {
     assert_eq!(rt; store.clock(), 7);
     assert_eq!(rt; store.contains(&listed[5]), true);
     assert_eq!(rt; store.ops()?.as_slice(), listed.as_slice());
-    Ok(())
-}
-
-/// Deleted elements and identifiers that are not inserted have no character.
-#[test]
-fn characters_come_as_they_are_asked_for(rt: HostRuntime) -> Result<(), Fail> {
-    let listed = branched_by_identifier()?;
-    let ids = [id(4, 1)?, id(3, 1)?, id(7, 2)?, id(1, 1)?, id(4, 1)?];
-    let store = store_of(rt.alloc(), 7, &listed)?;
-    let chars = store.shown_chars(rt.alloc(), &ids)?;
-    assert_eq!(rt; chars.as_slice(), ['d', 'a', 'd'].as_slice());
     Ok(())
 }
 

@@ -1,6 +1,5 @@
 //! What keeps a text.
 ghost use Rattle.std.specs.Prelude.{◌≡◌, ◌≢◌, ◌≤◌, ◌↔◌, ℕ, length, true, false, Ok, Err, IfOk, IfErr, MatchResult};
-ghost use Rattle.std.specs.List.{filter_map};
 ghost use Rattle.std.specs.Option.{option_map};
 ghost use Rattle.std.specs.FinMap as finite_map;
 ghost use Rattle.std.specs.FinSet as finite_set;
@@ -8,7 +7,7 @@ ghost use Rattle.rga_ops.specs.Identifier.{Identifier};
 ghost use Rattle.rga_ops.specs.Content.{nothing, join, known as known_ids, Holds, IsSound, clock as greatest_counter};
 ghost use Rattle.rga_ops.specs.ListAnswer.{merge_answer};
 ghost use Rattle.rga_ops.specs.Operations.{operations};
-ghost use Rattle.rga_ops.specs.Order.{order as order_of, shown, waiting};
+ghost use Rattle.rga_ops.specs.Order.{order as order_of, text as text_of, waiting};
 ghost use Rattle.rga_ops.specs.declared.op.Op.TheVariants.{Delete};
 ghost use Rattle.rga_store.specs.Limit.{is_limit};
 
@@ -64,10 +63,9 @@ pub trait TextStore: Taker + Sized + Drop {
         ensures ok { IfOk result (λ ids. ids.items ≡ order_of (Self.content self.now)) }
         ensures memory { IfErr result (λ e. e ≡ Refusal.Memory) };
 
-    /// The characters of those of the elements that are inserted and not deleted, in the order of
-    /// the list. `Memory` alone.
-    fn shown_chars(&self, alloc: Global, ids: &[Id]) -> Result<Vec<char>, Refusal>
-        ensures ok { IfOk result (λ chars. chars.items ≡ filter_map (shown (Self.content self.now)) ids.now) }
+    /// The characters of the visible elements, in order. `Memory` alone.
+    fn text(&self, alloc: Global) -> Result<Vec<char>, Refusal>
+        ensures ok { IfOk result (λ chars. chars.items ≡ text_of (Self.content self.now)) }
         ensures memory { IfErr result (λ e. e ≡ Refusal.Memory) };
 
     /// How many inserted elements wait for an ancestor, and so are not in the order. `Memory`

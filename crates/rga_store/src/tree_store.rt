@@ -11,7 +11,6 @@ ghost use Rattle.rga_store.specs.Limit.{is_limit};
 mod taking_back;
 
 use crate::answer::{Found, answer_to};
-use crate::characters::chars_of;
 use crate::list_answer::answer_to_list;
 use crate::merging::{count_unknown, least_conflict};
 use crate::nodes::{Node, add_child, ensure_node, mark, set_element};
@@ -19,7 +18,7 @@ use crate::operations::operations_of;
 use crate::taker::Taker;
 use crate::taking::take_one_by_one;
 use crate::text_store::{MAX_LIMIT, TextStore};
-use crate::walk::walked;
+use crate::walk::{walked, walked_text};
 use indexmap::IndexMap;
 use rga_ops::{Id, Op, Refusal, Taken};
 use std::alloc::Global;
@@ -248,8 +247,8 @@ impl TextStore for TreeStore {
         walked(self.alloc, &self.nodes)
     }
 
-    fn shown_chars(&self, alloc: Global, ids: &[Id]) -> Result<Vec<char>, Refusal> {
-        chars_of(alloc, &self.nodes, ids)
+    fn text(&self, alloc: Global) -> Result<Vec<char>, Refusal> {
+        walked_text(alloc, &self.nodes)
     }
 
     fn waiting_count(&self) -> Result<usize, Refusal> {

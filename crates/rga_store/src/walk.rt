@@ -1,8 +1,11 @@
-//! The elements in order, by a walk over the child lists.
+//! The elements in order, and their characters, by a walk over the child lists. What is on a walk's
+//! stack is still to come, its top next: an element that comes leaves its children there, the newest
+//! on top. So each list of children is looked at once.
 ghost use Rattle.std.specs.Prelude.{◌≡◌, IfOk, IfErr};
+ghost use Rattle.std.specs.Option.{option_copied};
 ghost use Rattle.rga_ops.specs.Content.{IsSound};
-ghost use Rattle.rga_ops.specs.Order.{order};
-ghost use Rattle.rga_store.specs.Nodes.{content_of_nodes, kids};
+ghost use Rattle.rga_ops.specs.Order.{order, text};
+ghost use Rattle.rga_store.specs.Nodes.{content_of_nodes, kids, char_at, AreApart};
 ghost use Rattle.rga_store.specs.Tree.{IsFamily};
 
 use crate::nodes::{Node, push_children};
@@ -10,8 +13,7 @@ use indexmap::IndexMap;
 use rga_ops::{Id, Refusal};
 use std::alloc::Global;
 
-/// The complete elements in order, each with its children behind it, the newest first. What is on
-/// the stack is still to come, its top next; so each list of children is looked at once.
+/// The complete elements in order.
 pub(crate) fn walked(alloc: Global, nodes: &IndexMap<Id, Node>) -> Result<Vec<Id>, Refusal>
     requires family { IsFamily (content_of_nodes nodes.now.entries) (kids nodes.now.entries) }
     requires sound { IsSound (content_of_nodes nodes.now.entries) }
@@ -31,4 +33,44 @@ pub(crate) fn walked(alloc: Global, nodes: &IndexMap<Id, Node>) -> Result<Vec<Id
         push_children(&mut stack, nodes, &mut next, id)?;
     }
     Ok(order)
+}
+
+/// The characters of the visible elements, in order.
+pub(crate) fn walked_text(
+    alloc: Global,
+    nodes: &IndexMap<Id, Node>,
+) -> Result<Vec<char>, Refusal>
+    requires apart { AreApart nodes.now.entries }
+    requires family { IsFamily (content_of_nodes nodes.now.entries) (kids nodes.now.entries) }
+    requires sound { IsSound (content_of_nodes nodes.now.entries) }
+    ensures ok { IfOk result (λ chars. chars.items ≡ text (content_of_nodes nodes.now.entries)) }
+    ensures memory { IfErr result (λ e. e ≡ Refusal.Memory) }
+{
+    let Ok(mut chars) = Vec::with_capacity(alloc, nodes.len()) else {
+        return Err(Refusal::Memory);
+    };
+    let mut stack = Vec::new(alloc);
+    let mut next = 0;
+    push_children(&mut stack, nodes, &mut next, Id::ROOT)?;
+    while let Some(id) = stack.pop() {
+        let node = push_children(&mut stack, nodes, &mut next, id)?;
+        if let Some(ch) = char_of(node) {
+            if chars.push(ch).is_err() {
+                return Err(Refusal::Memory);
+            }
+        }
+    }
+    Ok(chars)
+}
+
+/// The character of a node that is inserted and not deleted.
+fn char_of(node: Option<&Node>) -> Option<char>
+    ensures { result ≡ char_at (option_copied node.entry) }
+{
+    let node = node?;
+    if node.deleted {
+        return None;
+    }
+    let (_, ch) = node.element?;
+    Some(ch)
 }

@@ -12,8 +12,7 @@ pub fn text<S: TextStore>(alloc: Global, store: &S) -> Result<Vec<char>, Refusal
     ensures ok { IfOk result (λ chars. chars.items ≡ text_of (S.content store.now)) }
     ensures memory { IfErr result (λ e. e ≡ Refusal.Memory) }
 {
-    let ids = store.order()?;
-    store.shown_chars(alloc, &ids)
+    store.text(alloc)
 }
 
 /// The number of characters of the text. `Memory` alone.

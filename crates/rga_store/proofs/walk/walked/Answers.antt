@@ -1,9 +1,8 @@
-use Rattle.std.proofs.Common.{◌≡◌, ◌<◌, ◌+◌, ◌-◌, take, not, cond, List, [], ◌∷◌, ◌++◌, length, sym, ap, ◌∙◌, subst, arith, length-append}
-use Rattle.std.specs.FinMap as finite_map
+use Rattle.std.proofs.Common.{◌≡◌, ◌-◌, take, not, cond, List, [], ◌∷◌, ◌++◌, sym, ap, ◌∙◌, subst}
 use Rattle.rga_ops.specs.Identifier.{Identifier, root}
 use Rattle.rga_ops.specs.Content.{Content}
 use Rattle.rga_store.specs.Nodes.{content_of_nodes, kids}
-use Rattle.rga_store.proofs.WalkLaws.{IsWalk, walk_start, walk_step, walk_room, walk_order}
+use Rattle.rga_store.proofs.WalkLaws.{IsWalk, walk_start, walk_step, walk_smaller, walk_order}
 use Rattle.rga_store.proofs.walk.walked.Goals as goal
 
 pub loop-id-init : goal.loop-id-init
@@ -11,29 +10,23 @@ loop-id-init c =
     let held : Content = content_of_nodes c.args.nodes.now.entries in
     let lists : Identifier → List Identifier = kids c.args.nodes.now.entries in
     subst (λ done. IsWalk held done c.push_children.new.stack.items) (sym c.in-Ok.ensures.items)
-    (subst (λ todo. IsWalk held [] todo) (sym (c.in_ok-push_children.ensures.ok ∙ ap (λ xs. xs ++ lists root) c.new-stack.ensures.items)) (walk_start held lists c.requires.family c.requires.sound))
-
--- the top is taken off, and done
-popped : (c : goal.In_ok-push_children-2) → IsWalk (content_of_nodes c.args.nodes.now.entries) c.loop-id.order.items (c.pop.new.self.items ++ c.in-Some.id ∷ [])
-popped c = subst (λ todo. IsWalk (content_of_nodes c.args.nodes.now.entries) c.loop-id.order.items todo) c.in-Some.ensures.items c.loop-id.invariant
-
-pushed : (c : goal.In_ok-push_children-2) → c.push.new.self.items ≡ c.loop-id.order.items ++ c.in-Some.id ∷ []
-pushed c = c.push.ensures.items ∙ ap (λ b. cond b (c.loop-id.order.items ++ c.in-Some.id ∷ []) c.loop-id.order.items) (c.is_err.ensures.negation ∙ ap not c.if-is_err.false)
+    (walk_start held lists c.requires.family c.requires.sound c.push_children.new.stack.items
+    (c.in_ok-push_children.ensures.stack ∙ ap (λ xs. xs ++ lists root) c.new-stack.ensures.items))
 
 pub loop-id-smaller : goal.loop-id-smaller
 loop-id-smaller c =
-    let held : Content = content_of_nodes c.args.nodes.now.entries in
-    let room : length c.loop-id.order.items < finite_map.len held.inserted =
-    walk_room held (kids c.args.nodes.now.entries) c.requires.family c.requires.sound c.loop-id.order.items c.pop.new.self.items c.in-Some.id (popped c) in
-    let longer : length c.push.new.self.items ≡ length c.loop-id.order.items + 1 = ap length (pushed c) ∙ length-append c.loop-id.order.items (c.in-Some.id ∷ []) in
-    omega (arith, room, longer)
+    walk_smaller (content_of_nodes c.args.nodes.now.entries) (kids c.args.nodes.now.entries) c.requires.family c.requires.sound
+    c.loop-id.order.items c.loop-id.stack.items c.push_children-in-Some.new.stack.items c.pop.new.self.items c.in-Some.id
+    c.in-Some.ensures.items c.in_ok-push_children-2.ensures.stack c.loop-id.invariant
 
 pub loop-id-preserved : goal.loop-id-preserved
 loop-id-preserved c =
-    let held : Content = content_of_nodes c.args.nodes.now.entries in
-    subst (λ done. IsWalk held done c.push_children-in-Some.new.stack.items) (sym (pushed c))
-    (subst (λ todo. IsWalk held (c.loop-id.order.items ++ c.in-Some.id ∷ []) todo) (sym c.in_ok-push_children-2.ensures.ok)
-    (walk_step held (kids c.args.nodes.now.entries) c.requires.family c.requires.sound c.loop-id.order.items c.pop.new.self.items c.in-Some.id (popped c)))
+    let pushed : c.push.new.self.items ≡ c.loop-id.order.items ++ c.in-Some.id ∷ [] =
+    c.push.ensures.items ∙ ap (λ b. cond b (c.loop-id.order.items ++ c.in-Some.id ∷ []) c.loop-id.order.items) (c.is_err.ensures.negation ∙ ap not c.if-is_err.false) in
+    subst (λ done. IsWalk (content_of_nodes c.args.nodes.now.entries) done c.push_children-in-Some.new.stack.items) (sym pushed)
+    (walk_step (content_of_nodes c.args.nodes.now.entries) (kids c.args.nodes.now.entries) c.requires.family c.requires.sound
+    c.loop-id.order.items c.loop-id.stack.items c.push_children-in-Some.new.stack.items c.pop.new.self.items c.in-Some.id
+    c.in-Some.ensures.items c.in_ok-push_children-2.ensures.stack c.loop-id.invariant)
 
 pub returns-clause-ok : goal.returns-clause-ok
 returns-clause-ok c =

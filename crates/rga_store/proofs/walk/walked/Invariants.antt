@@ -1,11 +1,9 @@
-use Rattle.std.proofs.Common.{◌-◌, length}
-use Rattle.std.specs.FinMap as finite_map
 use Rattle.rga_store.specs.Nodes.{content_of_nodes}
-use Rattle.rga_store.proofs.WalkLaws.{IsWalk}
+use Rattle.rga_store.proofs.WalkLaws.{IsWalk, left}
 use Rattle.rga_store.proofs.walk.walked.Given as goal
 
 abbrev pub invariant-loop-id : goal.invariant-loop-id
 invariant-loop-id l = IsWalk (content_of_nodes l.nodes.entries) l.order.items l.stack.items
 
 abbrev pub decreases-loop-id : goal.decreases-loop-id
-decreases-loop-id l = finite_map.len (content_of_nodes l.nodes.entries).inserted - length l.order.items
+decreases-loop-id l = left (content_of_nodes l.nodes.entries) l.stack.items
