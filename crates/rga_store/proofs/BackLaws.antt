@@ -19,7 +19,8 @@ use Rattle.rga_store.specs.Back.{without_insertion, without_deletion, without, g
 use Rattle.rga_store.specs.Children.{HasChild, IsRising}
 use Rattle.rga_store.specs.Nodes.{Nodes, AreApart, content_of_nodes, kids}
 use Rattle.rga_store.specs.Tree.{is_child, IsFamily, IsCounted, IsTree}
-use Rattle.rga_store.proofs.StepLaws.{inserted_now, deleted_then, inserted_then, deleted_now, more_known, more_inserted, sound_within, IsChild, child_found, family_same}
+use Rattle.rga_ops.proofs.ListSteps.{get-insertion, get-deletion}
+use Rattle.rga_store.proofs.StepLaws.{deleted_then, deleted_now, more_known, more_inserted, sound_within, IsChild, child_found, family_same}
 
 -- ---- what is left, joined again
 
@@ -37,7 +38,7 @@ undeleted c id = left_deleted c id id ∙ ap (λ b. not b && finite_set.contains
 
 insertion_again : (c : Content) (id : Identifier) (x : Element) → finite_map.get c.inserted id ≡ Some x → join (without_insertion id c) (single (Insert id x.parent x.ch)) ≡ c
 insertion_again c id x g = same_content _ _
-    (λ q. inserted_now (without_insertion id c) id x.parent x.ch q (uninserted c id)
+    (λ q. get-insertion (without_insertion id c) id x.parent x.ch q (uninserted c id)
     ∙ ap (cond (is q id) (Some (element x.parent x.ch))) (left_inserted c id q)
     ∙ elim (is q id) as (λ b. is q id ≡ b → cond b (Some x) (cond b None (finite_map.get c.inserted q)) ≡ finite_map.get c.inserted q) [
       | true ↦ λ t. sym (ap (finite_map.get c.inserted) (same_id q id t) ∙ g)
@@ -47,7 +48,7 @@ insertion_again c id x g = same_content _ _
 
 deletion_again : (c : Content) (id : Identifier) → finite_set.contains c.deleted id ≡ true → join (without_deletion id c) (single (Delete id)) ≡ c
 deletion_again c id g = same_content _ _
-    (λ q. inserted_then (without_deletion id c) id q)
+    (λ q. get-deletion (without_deletion id c) id q)
     (λ q. deleted_now (without_deletion id c) id q ∙ ap (λ b. b || is q id) (left_deleted c id q)
     ∙ elim (is q id) as (λ b. is q id ≡ b → ((not b && finite_set.contains c.deleted q) || b) ≡ finite_set.contains c.deleted q) [
       | true ↦ λ t. sym (ap (finite_set.contains c.deleted) (same_id q id t) ∙ g)
@@ -60,7 +61,7 @@ pub without_new : (limit : ℕ) (c : Content) (op : Op) → answer limit c op �
 without_new limit c (Insert id parent ch) h =
     let none : finite_map.get c.inserted id ≡ None = (new_insertion limit c id parent ch h).absent in
     same_content _ _
-    (λ q. left_inserted (join c (single (Insert id parent ch))) id q ∙ ap (cond (is q id) None) (inserted_now c id parent ch q none)
+    (λ q. left_inserted (join c (single (Insert id parent ch))) id q ∙ ap (cond (is q id) None) (get-insertion c id parent ch q none)
     ∙ elim (is q id) as (λ b. is q id ≡ b → cond b None (cond b (Some (element parent ch)) (finite_map.get c.inserted q)) ≡ finite_map.get c.inserted q) [
       | true ↦ λ t. sym (ap (finite_map.get c.inserted) (same_id q id t) ∙ none)
       | false ↦ λ t. refl
@@ -69,7 +70,7 @@ without_new limit c (Insert id parent ch) h =
 without_new limit c (Delete id) h =
     let none : finite_set.contains c.deleted id ≡ false = (new_deletion limit c id h).absent in
     same_content _ _
-    (λ q. inserted_then c id q)
+    (λ q. get-deletion c id q)
     (λ q. left_deleted (join c (single (Delete id))) id q ∙ ap (λ b. not (is q id) && b) (deleted_now c id q)
     ∙ elim (is q id) as (λ b. is q id ≡ b → (not b && (finite_set.contains c.deleted q || b)) ≡ finite_set.contains c.deleted q) [
       | true ↦ λ t. sym (ap (finite_set.contains c.deleted) (same_id q id t) ∙ none)

@@ -1,7 +1,8 @@
 -- What a child that is added, or that leaves, changes in the lists of all parents.
-use Rattle.std.proofs.Common.{◌≡◌, Bool, true, false, not, ◌&&◌, ◌||◌, List, refl, sym, ap, ◌∙◌, subst, true≢false}
+use Rattle.std.proofs.Common.{◌≡◌, true, false, not, ◌&&◌, ◌||◌, List, refl, sym, ap, ◌∙◌, subst, true≢false}
 use Rattle.std.specs.Prelude.{Result, Ok, Err}
 use Rattle.std.specs.Result.{OnOk, OnErr, is_ok}
+use Rattle.std.proofs.Math.Bool.{and-true}
 use Rattle.rga_ops.specs.Identifier.{Identifier, is_id}
 use Rattle.rga_ops.proofs.IdentifierLaws.{is_id-is}
 use Rattle.rga_ops.proofs.ContentLaws.{or_false}
@@ -33,12 +34,8 @@ pub left : (old new : Identifier → List Identifier) (parent id : Identifier) �
 left old new parent id has others p k =
     elim (is_id parent p) as (λ b. is_id parent p ≡ b → HasChild (new p) k ≡ (HasChild (old p) k && not (b && is_id id k))) [
       | true ↦ λ t. ap (λ q. HasChild (new q) k) (sym (is_id-is parent p t)) ∙ has k ∙ ap (λ q. HasChild (old q) k && not (is_id id k)) (is_id-is parent p t)
-      | false ↦ λ t. ap (λ ks. HasChild ks k) (others p t) ∙ sym (and_true (HasChild (old p) k))
+      | false ↦ λ t. ap (λ ks. HasChild ks k) (others p t) ∙ sym (and-true (HasChild (old p) k))
     ] refl
-  where
-    and_true : (a : Bool) → (a && true) ≡ a
-    and_true true = refl
-    and_true false = refl
 
 pub rising_now : (old new : Identifier → List Identifier) (parent : Identifier) → IsRising (new parent) → ((p : Identifier) → is_id parent p ≡ false → new p ≡ old p) → ((p : Identifier) → IsRising (old p)) → (p : Identifier) → IsRising (new p)
 rising_now old new parent up others all p =

@@ -18,7 +18,8 @@ use Rattle.rga_ops.proofs.ContentLaws.{same_content}
 use Rattle.rga_ops.specs.declared.op.Op.TheVariants.{Insert, Delete}
 use Rattle.indexmap.specs.IndexMap.{IndexMap, insert_entry, set_value_at}
 use Rattle.indexmap.proofs.CallerLemmas.{keys-with_value_at, updates-with_value_at}
-use Rattle.rga_store.proofs.StepLaws.{inserted_now, deleted_then, inserted_then, deleted_now}
+use Rattle.rga_ops.proofs.ListSteps.{get-insertion, get-deletion}
+use Rattle.rga_store.proofs.StepLaws.{deleted_then, deleted_now}
 use Rattle.rga_store.specs.declared.nodes.Node.{Node}
 use Rattle.rga_store.specs.Nodes.{Nodes, element_in, insertion_in, ids_where, marked_ids, content_of_nodes, kids, char_at, AreApart, StandsAt}
 use Rattle.rga_store.specs.Children.{children_in}
@@ -231,7 +232,7 @@ module _ (ns ms : Nodes) (id : Identifier) (old : Option Node) (new : Node) (apa
   content_inserted parent ch comes mark none = same_content _ _
       (λ q. inserted_at ms apart_now q ∙ seen_now element_of ns ms id old new put q
       ∙ (λ k. cond (is_id-same id q k) (comes k) (sym (inserted_at ns apart q) k))
-      ∙ sym (inserted_now (content_of_nodes ns) id parent ch q none))
+      ∙ sym (get-insertion (content_of_nodes ns) id parent ch q none))
       (λ q. deleted_at ms apart_now q ∙ seen_same mark_of ns ms id old new put mark q ∙ sym (deleted_at ns apart q)
       ∙ sym (deleted_then (content_of_nodes ns) id parent ch q))
 
@@ -239,7 +240,7 @@ module _ (ns ms : Nodes) (id : Identifier) (old : Option Node) (new : Node) (apa
   pub content_deleted : element_of (Some new) ≡ element_of old → new.deleted ≡ true → content_of_nodes ms ≡ join (content_of_nodes ns) (single (Delete id))
   content_deleted element comes = same_content _ _
       (λ q. inserted_at ms apart_now q ∙ seen_same element_of ns ms id old new put element q ∙ sym (inserted_at ns apart q)
-      ∙ sym (inserted_then (content_of_nodes ns) id q))
+      ∙ sym (get-deletion (content_of_nodes ns) id q))
       (λ q. deleted_at ms apart_now q ∙ seen_now mark_of ns ms id old new put q
       ∙ (λ k. cond (is_id-same id q k) (comes k) (sym (deleted_at ns apart q) k))
       ∙ either (is q id) (finite_set.contains (content_of_nodes ns).deleted q)

@@ -1,19 +1,22 @@
 -- What a new operation changes in a content: which operations are well-formed, how many are known, and whose children are whose.
 use Rattle.std.proofs.Common.{◌≡◌, ℕ, ◌+◌, ◌≤◌, Bool, true, false, cond, ◌&&◌, ◌||◌, List, [], ◌∷◌, length, is_some, refl, sym, ap, ◌∙◌, subst, arith, true≢false, inl, inr, add-one}
-use Rattle.std.specs.Prelude.{Option, Some, None, Ok, Contains, ◌≢◌, ◌⊎◌, max}
-use Rattle.std.specs.Option.{option_or, option_map_or}
-use Rattle.std.specs.List.{list_any, IsDistinct, AllByRecursion}
+use Rattle.std.specs.Prelude.{Option, Some, None, Ok, ◌≢◌, ◌⊎◌, max}
+use Rattle.std.specs.Option.{option_map_or}
+use Rattle.std.specs.List.{IsDistinct}
 use Rattle.std.specs.FinMap as finite_map
 use Rattle.std.specs.FinSet as finite_set
-use Rattle.std.proofs.lemmas.Bool.{or_cases}
 use Rattle.std.proofs.lemmas.List.{length-map}
+use Rattle.std.proofs.Math.Bool.{and-true, and-false}
 use Rattle.rga_ops.specs.Identifier.{Identifier, id_cmp, is_id}
-use Rattle.rga_ops.specs.Operation.{checked, id_of}
-use Rattle.rga_ops.specs.Content.{Element, element, Content, join, single, known, IsSound, Holds, IsWithin}
+use Rattle.rga_ops.specs.Operation.{id_of}
+use Rattle.rga_ops.specs.Content.{Element, element, Content, join, single, known, IsSound, IsWithin}
 use Rattle.rga_ops.specs.Answer.{answer}
-use Rattle.rga_ops.proofs.IdentifierLaws.{ids_total, ids_exact, is, same_id, is_id-same, is_id-is}
-use Rattle.rga_ops.proofs.ContentLaws.{get-join, contains-join, join_nothing, either_option, or_none, or_false}
-use Rattle.rga_ops.proofs.OperationLaws.{get-single, contains-single, content_inserted, content_deleted, Contains-cases, Contains-nil}
+use Rattle.rga_ops.proofs.IdentifierLaws.{ids_total, ids_exact, is, is_id-same, is_id-is}
+use Rattle.rga_ops.proofs.ContentLaws.{contains-join, or_false}
+use Rattle.rga_ops.proofs.OperationLaws.{contains-single}
+use Rattle.rga_ops.proofs.MemberLaws.{none_among}
+use Rattle.rga_ops.proofs.SoundLaws.{sound_after}
+use Rattle.rga_ops.proofs.ListSteps.{get-insertion, get-deletion}
 use Rattle.rga_ops.proofs.TakenLaws.{held_stays}
 use Rattle.rga_ops.proofs.KnownLaws.{known_taken, len-le_union}
 use Rattle.rga_ops.proofs.ClockLaws.{clock_insertion, clock_deletion, falls_to}
@@ -27,49 +30,14 @@ use Rattle.rga_store.specs.Tree.{is_child, IsFamily, IsCounted}
 
 -- ---- what is well-formed
 
--- an operation of a join is of the content, or it is the one that joined
-pub held_or_joined : (c : Content) (op o : Op) → Holds (join c (single op)) o → Holds c o ⊎ (op ≡ o)
-held_or_joined c op (Insert id parent ch) h =
-    either_option (finite_map.get c.inserted id) (finite_map.get (single op).inserted id) (element parent ch)
-    (λ old. inl old)
-    (λ new. inr (alone op (Insert id parent ch) (content_inserted (op ∷ []) id (element parent ch) (ap (λ d. finite_map.get d.inserted id) (join_nothing (single op)) ∙ new))))
-    (sym (get-join c (single op) id) ∙ h)
-  where
-    alone : (op o : Op) → Contains (op ∷ []) o → op ≡ o
-    alone op o m = elim (Contains-cases op o [] m) [ inl same ↦ same | inr later ↦ absurd (Contains-nil o later) ]
-held_or_joined c op (Delete id) h = elim (or_cases (finite_set.contains c.deleted id) (finite_set.contains (single op).deleted id) (sym (contains-join c (single op) id) ∙ h)) [
-  | inl old ↦ inl old
-  | inr new ↦ inr (alone op (Delete id) (content_deleted (op ∷ []) id (ap (λ d. finite_set.contains d.deleted id) (join_nothing (single op)) ∙ new)))
-]
-  where
-    alone : (op o : Op) → Contains (op ∷ []) o → op ≡ o
-    alone op o m = elim (Contains-cases op o [] m) [ inl same ↦ same | inr later ↦ absurd (Contains-nil o later) ]
-
 -- a part of a content is as well-formed
 pub sound_within : (c d : Content) → IsWithin c d → IsSound d → IsSound c
 sound_within c d w sound o h = sound o (held_stays c d o w h)
 
-sound_taken : (c : Content) (op : Op) → IsSound c → checked op ≡ Ok tt → IsSound (join c (single op))
-sound_taken c op sound well o h = elim (held_or_joined c op o h) [
-  | inl old ↦ sound o old
-  | inr same ↦ subst (λ p. checked p ≡ Ok tt) same well
-]
-
 -- ---- how many are inserted, and how many are known
-
-pub inserted_now : (c : Content) (id parent : Identifier) (ch : ℕ) (q : Identifier) → finite_map.get c.inserted id ≡ None → finite_map.get (join c (single (Insert id parent ch))).inserted q ≡ cond (is q id) (Some (element parent ch)) (finite_map.get c.inserted q)
-inserted_now c id parent ch q none =
-    get-join c (single (Insert id parent ch)) q ∙ ap (option_or (finite_map.get c.inserted q)) (get-single id parent ch q)
-    ∙ elim (is q id) as (λ b. is q id ≡ b → option_or (finite_map.get c.inserted q) (cond b (Some (element parent ch)) None) ≡ cond b (Some (element parent ch)) (finite_map.get c.inserted q)) [
-      | true ↦ λ t. ap (λ o. option_or o (Some (element parent ch))) (ap (finite_map.get c.inserted) (same_id q id t) ∙ none)
-      | false ↦ λ t. or_none (finite_map.get c.inserted q)
-    ] refl
 
 pub deleted_then : (c : Content) (id parent : Identifier) (ch : ℕ) (q : Identifier) → finite_set.contains (join c (single (Insert id parent ch))).deleted q ≡ finite_set.contains c.deleted q
 deleted_then c id parent ch q = contains-join c (single (Insert id parent ch)) q ∙ ap (λ b. finite_set.contains c.deleted q || b) (finite_set.contains-empty id_cmp q) ∙ or_false (finite_set.contains c.deleted q)
-
-pub inserted_then : (c : Content) (id q : Identifier) → finite_map.get (join c (single (Delete id))).inserted q ≡ finite_map.get c.inserted q
-inserted_then c id q = get-join c (single (Delete id)) q ∙ ap (option_or (finite_map.get c.inserted q)) (finite_map.get-empty id_cmp q) ∙ or_none (finite_map.get c.inserted q)
 
 pub deleted_now : (c : Content) (id q : Identifier) → finite_set.contains (join c (single (Delete id))).deleted q ≡ (finite_set.contains c.deleted q || is q id)
 deleted_now c id q = contains-join c (single (Delete id)) q ∙ ap (λ b. finite_set.contains c.deleted q || b) (contains-single id q)
@@ -77,12 +45,12 @@ deleted_now c id q = contains-join c (single (Delete id)) q ∙ ap (λ b. finite
 pub more_inserted : (c : Content) (id parent : Identifier) (ch : ℕ) → finite_map.get c.inserted id ≡ None → finite_map.len (join c (single (Insert id parent ch))).inserted ≡ finite_map.len c.inserted + 1
 more_inserted c id parent ch none =
     ap finite_map.len (finite_map.same_map ids_total ids_exact (join c (single (Insert id parent ch))).inserted (finite_map.insert c.inserted id (element parent ch)) (λ q.
-    inserted_now c id parent ch q none ∙ sym (finite_map.get-insert ids_total c.inserted id (element parent ch) q)))
+    get-insertion c id parent ch q none ∙ sym (finite_map.get-insert ids_total c.inserted id (element parent ch) q)))
     ∙ finite_map.len-insert ids_total c.inserted id (element parent ch)
     ∙ ap (λ (o : Option Element). cond (is_some o) (finite_map.len c.inserted) (finite_map.len c.inserted + 1)) none
 
 as_many_inserted : (c : Content) (id : Identifier) → finite_map.len (join c (single (Delete id))).inserted ≡ finite_map.len c.inserted
-as_many_inserted c id = ap finite_map.len (finite_map.same_map ids_total ids_exact (join c (single (Delete id))).inserted c.inserted (inserted_then c id))
+as_many_inserted c id = ap finite_map.len (finite_map.same_map ids_total ids_exact (join c (single (Delete id))).inserted c.inserted (get-deletion c id))
 
 -- one identifier more, where it was not known
 pub more_known : (c : Content) (op : Op) → finite_set.len (known (join c (single op))) ≡ cond (finite_set.contains (known c) (id_of op)) (finite_set.len (known c)) (finite_set.len (known c) + 1)
@@ -93,12 +61,8 @@ unfolding IsDistinct
 len-from_distinct [] h = finite_set.len-empty id_cmp
 len-from_distinct (k ∷ ks) h =
     finite_set.len-insert ids_total (finite_set.from_list ks) k
-    ∙ ap (λ b. cond b (finite_set.len (finite_set.from_list {R = id_cmp} ks)) (finite_set.len (finite_set.from_list {R = id_cmp} ks) + 1)) (finite_set.contains-from_list ids_total ks k ∙ none_apart k ks h.0)
+    ∙ ap (λ b. cond b (finite_set.len (finite_set.from_list {R = id_cmp} ks)) (finite_set.len (finite_set.from_list {R = id_cmp} ks) + 1)) (finite_set.contains-from_list ids_total ks k ∙ none_among k ks h.0)
     ∙ ap (λ n. n + 1) (len-from_distinct ks h.1) ∙ add-one (length ks)
-  where
-    none_apart : (k : Identifier) (ks : List Identifier) → AllByRecursion (λ y. is k y ≡ false) ks → list_any (is k) ks ≡ false
-    none_apart k [] h = refl
-    none_apart k (x ∷ xs) h = ap (λ b. b || list_any (is k) xs) h.0 ∙ none_apart k xs h.1
 
 pub len-keys : (c : Content) → length (finite_map.keys c.inserted) ≡ finite_map.len c.inserted
 len-keys c = length-map (finite_map.entries c.inserted) (λ e. e.0) ∙ sym (finite_map.len-entries c.inserted)
@@ -127,7 +91,7 @@ module _ (c : Content) (latest insertions identifiers limit : ℕ) (w : IsCounte
       let new : IsNew limit c (Insert id parent ch) = (new-iff limit c (Insert id parent ch)).0 answered in
       let its : IsNewInsertion limit c id parent = new_insertion limit c id parent ch answered in
       record {
-        sound = sound_taken c (Insert id parent ch) w.sound new.well_formed;
+        sound = sound_after c (Insert id parent ch) w.sound new.well_formed;
         clocked = ap (λ n. max n id.counter) w.clocked ∙ sym (clock_insertion c id (element parent ch) its.absent (falls_to id parent its.falls));
         inserted = ap (λ n. n + 1) w.inserted ∙ sym (more_inserted c id parent ch its.absent);
         known = (λ k. cond ((sym (contains-known c id ∙ ap (λ (o : Option Element). is_some o || finite_set.contains c.deleted id) its.absent)) k) (w.known k) (w.known k + 1)) ∙ sym (more_known c (Insert id parent ch));
@@ -141,7 +105,7 @@ module _ (c : Content) (latest insertions identifiers limit : ℕ) (w : IsCounte
       let new : IsNew limit c (Delete id) = (new-iff limit c (Delete id)).0 answered in
       let its : IsNewDeletion limit c id = new_deletion limit c id answered in
       record {
-        sound = sound_taken c (Delete id) w.sound new.well_formed;
+        sound = sound_after c (Delete id) w.sound new.well_formed;
         clocked = ap (λ n. max n id.counter) w.clocked ∙ sym (clock_deletion c id);
         inserted = w.inserted ∙ sym (as_many_inserted c id);
         known = (λ k. cond ((sym (contains-known c id ∙ ap (λ b. finite_map.contains_key c.inserted id || b) its.absent ∙ or_false (finite_map.contains_key c.inserted id))) k) (w.known k) (w.known k + 1)) ∙ sym (more_known c (Delete id));
@@ -165,20 +129,12 @@ child_found c p k h =
 
 child_now : (c : Content) (id parent : Identifier) (ch : ℕ) (p k : Identifier) → finite_map.get c.inserted id ≡ None → is_child (join c (single (Insert id parent ch))) p k ≡ (is_child c p k || (is_id parent p && is_id id k))
 child_now c id parent ch p k none =
-    ap (λ (o : Option Element). option_map_or (λ x. is_id x.parent p) o false) (inserted_now c id parent ch k none)
+    ap (λ (o : Option Element). option_map_or (λ x. is_id x.parent p) o false) (get-insertion c id parent ch k none)
     ∙ ap (λ b. option_map_or (λ x. is_id x.parent p) (cond b (Some (element parent ch)) (finite_map.get c.inserted k)) false) (sym (is_id-same id k))
     ∙ elim (is_id id k) as (λ b. is_id id k ≡ b → option_map_or (λ x. is_id x.parent p) (cond b (Some (element parent ch)) (finite_map.get c.inserted k)) false ≡ (is_child c p k || (is_id parent p && b))) [
-      | true ↦ λ t. sym (ap (λ (o : Option Element). option_map_or (λ x. is_id x.parent p) o false || (is_id parent p && true)) (ap (finite_map.get c.inserted) (sym (is_id-is id k t)) ∙ none) ∙ and_true (is_id parent p))
-      | false ↦ λ t. sym (ap (λ b. is_child c p k || b) (and_false (is_id parent p)) ∙ or_false (is_child c p k))
+      | true ↦ λ t. sym (ap (λ (o : Option Element). option_map_or (λ x. is_id x.parent p) o false || (is_id parent p && true)) (ap (finite_map.get c.inserted) (sym (is_id-is id k t)) ∙ none) ∙ and-true (is_id parent p))
+      | false ↦ λ t. sym (ap (λ b. is_child c p k || b) (and-false (is_id parent p)) ∙ or_false (is_child c p k))
     ] refl
-  where
-    and_true : (a : Bool) → (a && true) ≡ a
-    and_true true = refl
-    and_true false = refl
-
-    and_false : (a : Bool) → (a && false) ≡ false
-    and_false true = refl
-    and_false false = refl
 
 -- one child more
 pub family_insertion : (c : Content) (id parent : Identifier) (ch : ℕ) (old new : Identifier → List Identifier) → finite_map.get c.inserted id ≡ None → IsFamily c old
@@ -191,7 +147,7 @@ family_insertion c id parent ch old new none w h up = record {
 -- a deletion has no children
 pub family_deletion : (c : Content) (id : Identifier) (lists : Identifier → List Identifier) → IsFamily c lists → IsFamily (join c (single (Delete id))) lists
 family_deletion c id lists w = record {
-  children = λ p k. w.children p k ∙ ap (λ (o : Option Element). option_map_or (λ x. is_id x.parent p) o false) (sym (inserted_then c id k));
+  children = λ p k. w.children p k ∙ ap (λ (o : Option Element). option_map_or (λ x. is_id x.parent p) o false) (sym (get-deletion c id k));
   rising = w.rising;
 }
 

@@ -14,6 +14,8 @@ use Rattle.rga_ops.specs.RootPath.{Path, path_cmp, root_path, is_complete, IsRoo
 use Rattle.rga_ops.specs.RootPath.IsRootPath.{at_root, below}
 use Rattle.rga_ops.specs.Order.{order, Precedes, IsInOrder, IsOrderList}
 use Rattle.rga_ops.proofs.IdentifierLaws.{ids_total, is, is_itself, same_id, is_id-is, is_id-itself}
+use Rattle.rga_ops.proofs.MemberLaws.{all_map, all_append, all_members}
+use Rattle.rga_ops.proofs.ContentLaws.{or_false}
 use Rattle.rga_ops.proofs.BeforeLaws.{paths_total}
 use Rattle.rga_ops.proofs.PathLaws.{root_path-is, is-root_path, root_path-root, root_path-step}
 use Rattle.rga_ops.proofs.PlacedLaws.{IsPlaced, placed_key}
@@ -26,16 +28,9 @@ use Rattle.rga_store.specs.Tree.{IsFamily}
 use Rattle.rga_store.proofs.ChildListLaws.{has-any}
 use Rattle.rga_store.proofs.StepLaws.{IsChild, child_found}
 use Rattle.std.specs.List.Sorted.{IsStrictlySortedBy}
-use Rattle.std.proofs.lemmas.Bool.{or_cases, or_right, or_from}
+use Rattle.std.proofs.lemmas.Bool.{or_cases, or_left, or_right, or_from}
 
 -- ---- lists
-member : Identifier → List Identifier → Bool
-member q xs = list_any (is q) xs
-
-all_append : (P : Identifier → Type 0) (xs ys : List Identifier) → AllByRecursion P xs → AllByRecursion P ys → AllByRecursion P (xs ++ ys)
-all_append P [] ys a b = b
-all_append P (x ∷ xs) ys a b = (a.0, all_append P xs ys a.1 b)
-
 all_front : (P : Identifier → Type 0) (xs ys : List Identifier) → AllByRecursion P (xs ++ ys) → AllByRecursion P xs
 all_front P [] ys h = tt
 all_front P (x ∷ xs) ys h = (h.0, all_front P xs ys h.1)
@@ -43,17 +38,6 @@ all_front P (x ∷ xs) ys h = (h.0, all_front P xs ys h.1)
 all_last : (P : Identifier → Type 0) (xs : List Identifier) (y : Identifier) → AllByRecursion P (xs ++ y ∷ []) → P y
 all_last P [] y h = h.0
 all_last P (x ∷ xs) y h = all_last P xs y h.1
-
-all_map : (P Q : Identifier → Type 0) → ((x : Identifier) → P x → Q x) → (xs : List Identifier) → AllByRecursion P xs → AllByRecursion Q xs
-all_map P Q f [] h = tt
-all_map P Q f (x ∷ xs) h = (f x h.0, all_map P Q f xs h.1)
-
-pub all_members : (P : Identifier → Type 0) (xs : List Identifier) → ((q : Identifier) → list_any (is q) xs ≡ true → P q) → AllByRecursion P xs
-all_members P [] h = tt
-all_members P (x ∷ xs) h = (
-  h x (ap (λ b. b || list_any (is x) xs) (is_itself x)),
-  all_members P xs (λ q m. h q (or_right (is q x) (list_any (is q) xs) m)),
-)
 
 of_member : (P : Identifier → Type 0) (xs : List Identifier) (q : Identifier) → AllByRecursion P xs → list_any (is q) xs ≡ true → P q
 of_member P [] q h m = absurd (true≢false (sym m))
@@ -64,7 +48,7 @@ of_member P (x ∷ xs) q h m =
     ]
 
 left_member : (xs ys : List Identifier) (q : Identifier) → list_any (is q) xs ≡ true → list_any (is q) (xs ++ ys) ≡ true
-left_member xs ys q m = list_any-append (is q) xs ys ∙ ap (λ b. b || list_any (is q) ys) m
+left_member xs ys q m = list_any-append (is q) xs ys ∙ or_left (list_any (is q) xs) (list_any (is q) ys) m
 
 right_member : (xs ys : List Identifier) (q : Identifier) → list_any (is q) ys ≡ true → list_any (is q) (xs ++ ys) ≡ true
 right_member xs ys q m = list_any-append (is q) xs ys ∙ or_right (list_any (is q) xs) (list_any (is q) ys) m
@@ -73,12 +57,8 @@ last_member : (xs : List Identifier) (y q : Identifier) → list_any (is q) (xs 
 last_member xs y q m =
     elim (or_cases (list_any (is q) xs) (is q y || false) (sym (list_any-append (is q) xs (y ∷ [])) ∙ m)) [
       | inl before ↦ inl before
-      | inr here ↦ inr (same_id q y (falls (is q y) here))
+      | inr here ↦ inr (same_id q y (sym (or_false (is q y)) ∙ here))
     ]
-  where
-    falls : (a : Bool) → (a || false) ≡ true → a ≡ true
-    falls true h = refl
-    falls false h = h
 
 -- a stricter test passes no more, and fewer where it leaves out a member that the other passes
 few : (p q : Identifier → Bool) → ((x : Identifier) → q x ≡ true → p x ≡ true) → (xs : List Identifier) → length (filter q xs) ≤ length (filter p xs)

@@ -36,10 +36,7 @@ pub(crate) fn walked(alloc: Global, nodes: &IndexMap<Id, Node>) -> Result<Vec<Id
 }
 
 /// The characters of the visible elements, in order.
-pub(crate) fn walked_text(
-    alloc: Global,
-    nodes: &IndexMap<Id, Node>,
-) -> Result<Vec<char>, Refusal>
+pub(crate) fn walked_text(alloc: Global, nodes: &IndexMap<Id, Node>) -> Result<Vec<char>, Refusal>
     requires apart { AreApart nodes.now.entries }
     requires family { IsFamily (content_of_nodes nodes.now.entries) (kids nodes.now.entries) }
     requires sound { IsSound (content_of_nodes nodes.now.entries) }
