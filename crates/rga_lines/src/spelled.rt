@@ -103,7 +103,7 @@ fn plain_character(bytes: &[u8]) -> Option<(char, &[u8])>
 fn short_escape(bytes: &[u8]) -> Option<(char, &[u8])>
     ensures { IfSome result (λ p. (bytes.now ≡ escaped p.0 ++ p.1.now) × IsScalar p.0) }
 {
-    let (letter, rest) = after(bytes, b"\\")?.split_first()?;
+    let (letter, behind) = after(bytes, b"\\")?.split_first()?;
     let ch = match *letter {
         b'"' => '"',
         b'\\' => '\\',
@@ -114,7 +114,7 @@ fn short_escape(bytes: &[u8]) -> Option<(char, &[u8])>
         b't' => '\t',
         _ => return None,
     };
-    Some((ch, rest))
+    Some((ch, behind))
 }
 
 /// A character above ASCII, and what stands behind it.
