@@ -1,19 +1,21 @@
-//! Writes the operation lines of a log to standard output. `generate SHAPE COUNT [loose]`: the same
-//! words give the same lines.
+//! Writes the operation lines of a log to standard output. `generate SHAPE COUNT [SPELLING]`: the
+//! same words give the same lines.
 
 use std::env;
 use std::fmt;
 use std::io::{self, BufWriter, Write};
 use std::process::ExitCode;
 
-const USAGE: &str = "usage: generate SHAPE COUNT [loose]
-Where `loose` is said, the members of a line stand in another order, with a blank behind each colon
-and comma. SHAPE is one of
+const USAGE: &str = "usage: generate SHAPE COUNT [SPELLING]
+SHAPE is one of
   typing            three replicas type in rounds, jump and rub out, and merge after each round
   chain             one replica types on and on, each element behind the one before
   waiting           the chain with its last line first: all waits until the last line
   siblings-rising   insertions at the root, in rising order of identifiers
-  siblings-falling  insertions at the root, in falling order of identifiers";
+  siblings-falling  insertions at the root, in falling order of identifiers
+A SPELLING other than the usual one is one of
+  loose             the members in another order, with a blank behind each colon and comma
+  numbered          each character by its number, as \\u0061";
 
 /// How many replicas type at once.
 const REPLICAS: u16 = 3;
@@ -63,7 +65,7 @@ impl fmt::Display for Operation {
     }
 }
 
-/// A line of the same operation in another spelling.
+/// A line of the same operation with its members in another order, and blanks.
 struct Loose<'a>(&'a Operation);
 
 impl fmt::Display for Loose<'_> {
@@ -88,6 +90,24 @@ struct LooseId<'a>(&'a Id);
 impl fmt::Display for LooseId<'_> {
     fn fmt(&self, f: &mut fmt::Formatter) -> fmt::Result {
         write!(f, "[{}, {}]", self.0.counter, self.0.replica)
+    }
+}
+
+/// A line of the same operation with its character by its number.
+struct Numbered<'a>(&'a Operation);
+
+impl fmt::Display for Numbered<'_> {
+    fn fmt(&self, f: &mut fmt::Formatter) -> fmt::Result {
+        match self.0 {
+            Operation::Insert { id, parent, char } => {
+                f.write_str("{\"char\":\"")?;
+                for unit in char.encode_utf16(&mut [0; 2]) {
+                    write!(f, "\\u{unit:04x}")?;
+                }
+                write!(f, "\",\"id\":{id},\"op\":\"ins\",\"parent\":{parent}}}")
+            }
+            Operation::Delete { .. } => write!(f, "{}", self.0),
+        }
     }
 }
 
@@ -296,6 +316,7 @@ fn operations_of(shape: &str, count: usize) -> Option<Vec<Operation>> {
 enum Spelling {
     Usual,
     Loose,
+    Numbered,
 }
 
 fn asked() -> Option<(Vec<Operation>, Spelling)> {
@@ -304,6 +325,7 @@ fn asked() -> Option<(Vec<Operation>, Spelling)> {
     let (shape, count, spelling) = match words.as_slice() {
         [shape, count] => (shape, count, Spelling::Usual),
         [shape, count, "loose"] => (shape, count, Spelling::Loose),
+        [shape, count, "numbered"] => (shape, count, Spelling::Numbered),
         _ => return None,
     };
     let operations = operations_of(shape, count.parse().ok()?)?;
@@ -316,6 +338,7 @@ fn write_lines(operations: &[Operation], spelling: Spelling) -> io::Result<()> {
         match spelling {
             Spelling::Usual => writeln!(output, "{operation}")?,
             Spelling::Loose => writeln!(output, "{}", Loose(operation))?,
+            Spelling::Numbered => writeln!(output, "{}", Numbered(operation))?,
         }
     }
     output.flush()

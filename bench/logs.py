@@ -6,9 +6,9 @@ the system's, and by their sum the operations and the megabytes of lines in a se
 chain that one replica typed. `bytes` reads it in blocks of 64 KiB and only counts; `native` is the
 native program, which also walks the text. What is written goes to the null device, and the time of
 the same run with nothing written is taken off. Then it prints how many times native's user time on
-the log `append_log` takes, and `mgr show` on a typed log in another spelling, of which native reads
+the log `append_log` takes, and `mgr show` on a typed log in two other spellings, of which native reads
 the usual one. The work is done in turn, and the least of the times counts. That the log is written
-as it was read is tested first, and that the other spelling has the same text.
+as it was read is tested first, and that the other spellings have the same text.
 """
 
 import filecmp
@@ -22,6 +22,9 @@ PROGRAM = BUILD / "log_bench"
 # How often a log is written in one run. It is read so often in a row as measure.py has it.
 TIMES = {10_000: 200, 100_000: 20, 1_000_000: 4}
 MEASUREMENTS = 3
+
+# The spellings of a log other than the usual one.
+SPELLINGS = ("loose", "numbered")
 
 # The calls that write, and the word of the program for each.
 WRITES = {"append_log": "write", "send": "send"}
@@ -77,10 +80,9 @@ def print_costs(count, size, costs):
         print(f"{row} {count / (user + system):>14,.0f} {size / (user + system) / 1e6:>9,.0f}", flush=True)
 
 
-def spelling_ratio(count):
+def spelling_ratio(count, spelling):
     """Returns how many times native's time on a log mgr takes where it is spelled otherwise."""
-    usual, loose = generated("typing", count), generated("typing", count, "loose")
-    logs = {"native": usual, "mgr": loose}
+    logs = {"native": generated("typing", count), "mgr": generated("typing", count, spelling)}
     runs = {name: (PROGRAMS[name], log, REPEATS[count]) for name, log in logs.items()}
     texts = [output_of(words, log, f"{name}.text") for name, (words, log, _) in runs.items()]
     compare(*texts)
@@ -98,11 +100,13 @@ def main():
         costs = costs_of(log, count)
         print_costs(count, log.stat().st_size, costs)
         writing, reading = costs["append_log"][0], costs["native"][0]
-        ratios.append((count, writing / reading, spelling_ratio(count)))
+        spelled = [spelling_ratio(count, spelling) for spelling in SPELLINGS]
+        ratios.append((count, writing / reading, *spelled))
     print("\nuser time over that of native, which reads the log in the usual spelling:")
-    print("operations   append_log   mgr show, another spelling")
-    for count, writing, spelling in ratios:
-        print(f"{count:>10,} {writing:>12.2f} {spelling:>28.2f}")
+    print("                          mgr show, where the members and blanks, or the characters,")
+    print("operations   append_log   are spelled otherwise")
+    for count, writing, loose, numbered in ratios:
+        print(f"{count:>10,} {writing:>12.2f} {loose:>23.2f} {numbered:>13.2f}")
 
 
 if __name__ == "__main__":

@@ -11,6 +11,7 @@ ghost use Rattle.rga_lines.specs.Table.{max_line, value_line, any_line_at};
 ghost use Rattle.rga_lines.specs.declared.reading.Line.TheVariants.{One};
 
 use crate::lexed::{after_blanks, after_name, after_operator, after_text, number, only_character};
+use crate::reading::root_or_element;
 use rga_ops::{Id, Op};
 
 /// A member of the line of an operation.
@@ -127,10 +128,7 @@ fn element_or_root(bytes: &[u8]) -> Option<(Id, &[u8])>
     ensures { IfSome result (λ p. (lex between bytes.now ≡ pair_before p.0 (lex between p.1.now)) × IsElementOrRoot p.0) }
 {
     let (counter, replica, rest) = pair(bytes)?;
-    if counter == 0 && replica == 0 {
-        return Some((Id::ROOT, rest));
-    }
-    let id = Id::new(counter, replica).ok()?;
+    let id = root_or_element(counter, replica)?;
     Some((id, rest))
 }
 

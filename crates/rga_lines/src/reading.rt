@@ -1,8 +1,9 @@
 //! What a line says.
-ghost use Rattle.std.specs.Prelude.{◌≡◌, ◌≢◌, ◌<◌, length, Err};
+ghost use Rattle.std.specs.Prelude.{◌≡◌, ◌≢◌, ◌<◌, ◌||◌, length, true, IfSome, Err};
 ghost use Rattle.std.specs.Str.{chars};
 ghost use Rattle.serde_json.specs.View.{view, items_view};
-ghost use Rattle.rga_lines.specs.Table.{max_line, count_of, only_char, two_numbers, element_of, parent_of, insertion, deletion, ending, value_line, any_line_at, line_at};
+ghost use Rattle.rga_ops.specs.Identifier.{identifier, is_root, is_in_range};
+ghost use Rattle.rga_lines.specs.Table.{max_line, count_of, only_char, two_numbers, element_of, if_root_or_in_range, parent_of, insertion, deletion, ending, value_line, any_line_at, line_at};
 ghost use Rattle.rga_lines.specs.declared.fault.LineFault.TheVariants.{Memory, Long};
 
 use crate::fault::LineFault;
@@ -200,9 +201,17 @@ fn parent_or_root(items: &Vec<Value>) -> Option<Id>
     ensures { result ≡ parent_of (items_view items.now.items) }
 {
     let (counter, replica) = two_numbers(items)?;
+    let replica = u16::try_from(replica).ok()?;
+    root_or_element(counter, replica)
+}
+
+/// The identifier that these numbers are, of an element or of the root.
+pub(crate) fn root_or_element(counter: u64, replica: u16) -> Option<Id>
+    ensures exact { result ≡ if_root_or_in_range (counter, replica) }
+    ensures ok { IfSome result (λ id. (id ≡ identifier counter replica) × (is_root id || is_in_range id.counter id.replica ≡ true)) }
+{
     if counter == 0 && replica == 0 {
         return Some(Id::ROOT);
     }
-    let replica = u16::try_from(replica).ok()?;
     Id::new(counter, replica).ok()
 }

@@ -6,7 +6,7 @@ ghost use Rattle.rga_lines.specs.Spelling.{escaped, pair_text, line, IsWritable}
 ghost use Rattle.rga_lines.specs.Table.{any_line_at};
 ghost use Rattle.rga_lines.specs.declared.reading.Line.TheVariants.{One};
 
-use crate::reading::only_char;
+use crate::reading::{only_char, root_or_element};
 use rga_ops::{Id, Op};
 
 /// The operation that the bytes of a line say, where they are spelled as `line` of
@@ -154,10 +154,7 @@ fn element_or_root(bytes: &[u8]) -> Option<(Id, &[u8])>
         × (is_root p.0 || is_in_range p.0.counter p.0.replica ≡ true)) }
 {
     let (counter, replica, rest) = pair(bytes)?;
-    if counter == 0 && replica == 0 {
-        return Some((Id::ROOT, rest));
-    }
-    let id = Id::new(counter, replica).ok()?;
+    let id = root_or_element(counter, replica)?;
     Some((id, rest))
 }
 
