@@ -95,10 +95,10 @@ outcome limit c op =
 
 -- ---- what an answer tells, and what leads to it
 
-abbrev ok : Taken → Answer
+abbrev pub ok : Taken → Answer
 ok t = Ok t
 
-abbrev err : Refusal → Answer
+abbrev pub err : Refusal → Answer
 err e = Err e
 
 abbrev pub passed : Result (Unit {0}) Refusal

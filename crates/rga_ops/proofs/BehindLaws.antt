@@ -17,11 +17,10 @@ use Rattle.rga_ops.specs.RootPath.{Path, path_cmp, root_path, IsRootPath, at_roo
 use Rattle.rga_ops.specs.Order.{by_path, order}
 use Rattle.rga_ops.specs.Placement.{change_after, change_behind}
 use Rattle.rga_ops.proofs.MemberLaws.{all_map, all_append}
-use Rattle.rga_ops.proofs.OrderLaws.{less_of}
 use Rattle.rga_ops.proofs.IdentifierLaws.{ids_total, is, is_id-same, is_id-is, is_id-itself}
 use Rattle.rga_ops.proofs.BeforeLaws.{paths_total}
 use Rattle.rga_ops.proofs.ContentLaws.{within_join}
-use Rattle.rga_ops.proofs.SortedLaws.{both_so}
+use Rattle.rga_ops.proofs.SortedLaws.{both_so, less_of}
 use Rattle.rga_ops.proofs.PathLaws.{root_path-is, is-root_path, one_path, one_element, ends, path_stays, root_path-root, root_path-absent}
 use Rattle.rga_ops.proofs.PlacedLaws.{IsPlaced, by_path-get, entries_placed, same_path}
 use Rattle.rga_ops.proofs.OrderLaws.{order_list}

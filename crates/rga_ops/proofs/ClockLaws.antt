@@ -6,6 +6,7 @@ use Rattle.std.specs.List.{list_any, AllByRecursion}
 use Rattle.std.specs.FinMap as finite_map
 use Rattle.std.specs.FinSet as finite_set
 use Rattle.std.specs.FinMap.{find}
+use Rattle.std.proofs.Math.Bool.{or-false}
 use Rattle.std.proofs.lemmas.Bool.{or_cases, or_right}
 use Rattle.std.proofs.lemmas.Option.{same_Some, none-some}
 use Rattle.std.proofs.lemmas.Bool.Decides.{nat_tests}
@@ -13,7 +14,7 @@ use Rattle.rga_ops.specs.Identifier.{Identifier, id_cmp}
 use Rattle.rga_ops.specs.Content.{Element, Content, join, single, greatest, clock, HasCountersWithin}
 use Rattle.rga_ops.proofs.IdentifierLaws.{ids_total, is, is_itself, same_id}
 use Rattle.rga_ops.proofs.MemberLaws.{all_members}
-use Rattle.rga_ops.proofs.ContentLaws.{get-join, contains-join, or_none, or_false}
+use Rattle.rga_ops.proofs.ContentLaws.{get-join, contains-join, or_none}
 use Rattle.rga_ops.proofs.SortedLaws.{all_zip, each_found}
 use Rattle.rga_ops.proofs.PathLaws.{key_of}
 use Rattle.rga_ops.specs.declared.op.Op.TheVariants.{Insert, Delete}
@@ -134,7 +135,7 @@ clock_insertion c id e none falls = antisymmetric _ _ (clock_within d m upper) (
         | inl old ↦ max_first (clock c) id.counter x.parent.counter (w.parents q x old)
         | inr new ↦ let same : e.parent.counter ≡ x.parent.counter = ap (λ (y : Element). y.parent.counter) new.1 in max_second (clock c) id.counter x.parent.counter (omega (arith, same, falls))
       ];
-      deleted = λ q h. max_first (clock c) id.counter q.counter (w.deleted q (sym (or_false (finite_set.contains c.deleted q)) ∙ ap (λ b. finite_set.contains c.deleted q || b) (sym (finite_set.contains-empty id_cmp q)) ∙ sym (contains-join c (single (Insert id e.parent e.ch)) q) ∙ h));
+      deleted = λ q h. max_first (clock c) id.counter q.counter (w.deleted q (sym (or-false (finite_set.contains c.deleted q)) ∙ ap (λ b. finite_set.contains c.deleted q || b) (sym (finite_set.contains-empty id_cmp q)) ∙ sym (contains-join c (single (Insert id e.parent e.ch)) q) ∙ h));
     }
 
     lower : HasCountersWithin c (clock (join c (single (Insert id e.parent e.ch))))
@@ -162,7 +163,7 @@ clock_deletion c id = antisymmetric _ _ (clock_within (join c (single (Delete id
     gone : (q : Identifier) → finite_set.contains (join c (single (Delete id))).deleted q ≡ (finite_set.contains c.deleted q || is q id)
     gone q =
         contains-join c (single (Delete id)) q
-        ∙ ap (λ b. finite_set.contains c.deleted q || b) (finite_set.contains-insert ids_total finite_set.empty id q ∙ ap (λ b. is q id || b) (finite_set.contains-empty id_cmp q) ∙ or_false (is q id))
+        ∙ ap (λ b. finite_set.contains c.deleted q || b) (finite_set.contains-insert ids_total finite_set.empty id q ∙ ap (λ b. is q id || b) (finite_set.contains-empty id_cmp q) ∙ or-false (is q id))
 
     upper : HasCountersWithin (join c (single (Delete id))) (max (clock c) id.counter)
     upper = record {

@@ -8,6 +8,7 @@ use Rattle.std.specs.FinSet as finite_set
 use Rattle.std.specs.FinMap.{FinMap, find, same_map}
 use Rattle.std.specs.FinSet.{same_set, contains-union, contains-empty}
 use Rattle.std.proofs.lemmas.Bool.{or_cases, or_left}
+use Rattle.std.proofs.Math.Bool as bool
 use Rattle.rga_ops.specs.Identifier.{Identifier, id_cmp}
 use Rattle.rga_ops.specs.Content.{Element, Content, nothing, union, join, Agree, IsWithin}
 use Rattle.rga_ops.proofs.IdentifierLaws.{ids_total, ids_exact, is}
@@ -61,24 +62,6 @@ pub either_option : {A : Type 0} (a b : Option A) (x : A) {P : Type 0} → (a �
 either_option None b x f g h = g h
 either_option (Some y) b x f g h = f h
 
-bool_assoc : (a b c : Bool) → ((a || b) || c) ≡ (a || (b || c))
-bool_assoc true b c = refl
-bool_assoc false b c = refl
-
-pub bool_swap : (a b : Bool) → (a || b) ≡ (b || a)
-bool_swap true true = refl
-bool_swap true false = refl
-bool_swap false true = refl
-bool_swap false false = refl
-
-bool_same : (a : Bool) → (a || a) ≡ a
-bool_same true = refl
-bool_same false = refl
-
-pub or_false : (a : Bool) → (a || false) ≡ a
-or_false true = refl
-or_false false = refl
-
 pub get-join : (c d : Content) (q : Identifier) → finite_map.get (join c d).inserted q ≡ option_or (finite_map.get c.inserted q) (finite_map.get d.inserted q)
 get-join c d q = get-union c.inserted d.inserted q
 
@@ -91,21 +74,21 @@ join_assoc c d e = same_content _ _
     ∙ or_assoc (finite_map.get c.inserted q) (finite_map.get d.inserted q) (finite_map.get e.inserted q)
     ∙ sym (get-join c (join d e) q ∙ ap (option_or (finite_map.get c.inserted q)) (get-join d e q)))
     (λ q. contains-join (join c d) e q ∙ ap (λ o. o || finite_set.contains e.deleted q) (contains-join c d q)
-    ∙ bool_assoc (finite_set.contains c.deleted q) (finite_set.contains d.deleted q) (finite_set.contains e.deleted q)
+    ∙ bool.or_assoc (finite_set.contains c.deleted q) (finite_set.contains d.deleted q) (finite_set.contains e.deleted q)
     ∙ sym (contains-join c (join d e) q ∙ ap (λ o. finite_set.contains c.deleted q || o) (contains-join d e q)))
 
 pub join_same : (c : Content) → join c c ≡ c
-join_same c = same_content _ _ (λ q. get-join c c q ∙ or_same _) (λ q. contains-join c c q ∙ bool_same _)
+join_same c = same_content _ _ (λ q. get-join c c q ∙ or_same _) (λ q. contains-join c c q ∙ bool.or_self _)
 
 pub join_swap : (c d : Content) → Agree c d → join c d ≡ join d c
 join_swap c d h = same_content _ _
     (λ q. get-join c d q ∙ or_swap _ _ (λ x y. h q x y) ∙ sym (get-join d c q))
-    (λ q. contains-join c d q ∙ bool_swap (finite_set.contains c.deleted q) (finite_set.contains d.deleted q) ∙ sym (contains-join d c q))
+    (λ q. contains-join c d q ∙ bool.or_comm (finite_set.contains c.deleted q) (finite_set.contains d.deleted q) ∙ sym (contains-join d c q))
 
 pub join_nothing : (c : Content) → join c nothing ≡ c
 join_nothing c = same_content _ _
     (λ q. get-join c nothing q ∙ ap (option_or (finite_map.get c.inserted q)) (finite_map.get-empty id_cmp q) ∙ or_none _)
-    (λ q. contains-join c nothing q ∙ ap (λ o. finite_set.contains c.deleted q || o) (contains-empty id_cmp q) ∙ or_false _)
+    (λ q. contains-join c nothing q ∙ ap (λ o. finite_set.contains c.deleted q || o) (contains-empty id_cmp q) ∙ bool.or-false _)
 
 pub nothing_join : (c : Content) → join nothing c ≡ c
 nothing_join c = same_content _ _

@@ -3,20 +3,20 @@ use Rattle.std.proofs.Common.{◌≡◌, ◌+◌, Bool, true, false, cond, not, 
 use Rattle.std.specs.List.{list_any, IsDistinct}
 use Rattle.std.specs.FinSet as finite_set
 use Rattle.std.specs.FinSet.{FinSet}
+use Rattle.std.proofs.Math.Bool.{or-false}
 use Rattle.std.proofs.lemmas.Bool.{or_right, or_from, not-true, and_parts}
 use Rattle.std.proofs.lemmas.Map.Views.{any-filter_same}
 use Rattle.rga_ops.specs.Identifier.{Identifier, id_cmp}
 use Rattle.rga_ops.specs.Content.{Content, known, join}
 use Rattle.rga_ops.proofs.IdentifierLaws.{ids_total, ids_exact, is, same_id, is_itself}
 use Rattle.rga_ops.proofs.MemberLaws.{none_among, distinct_filter}
-use Rattle.rga_ops.proofs.ContentLaws.{or_false}
 use Rattle.rga_ops.proofs.KnownLaws.{contains-known_join}
 
 -- distinct identifiers that a set lacks are that many more
 pub len-added : (s u : FinSet id_cmp) (ks : List Identifier) → IsDistinct is ks → ((q : Identifier) → list_any (is q) ks ≡ true → finite_set.contains s q ≡ false) → ((q : Identifier) → finite_set.contains u q ≡ (finite_set.contains s q || list_any (is q) ks)) → finite_set.len u ≡ finite_set.len s + length ks
 unfolding IsDistinct
 len-added s u [] distinct apart members =
-    let same : finite_set.len u ≡ finite_set.len s = ap finite_set.len (finite_set.same_set ids_total ids_exact u s (λ q. members q ∙ or_false (finite_set.contains s q))) in
+    let same : finite_set.len u ≡ finite_set.len s = ap finite_set.len (finite_set.same_set ids_total ids_exact u s (λ q. members q ∙ or-false (finite_set.contains s q))) in
     omega (arith, same)
 len-added s u (k ∷ ks) distinct apart members =
     let one_more : finite_set.len (finite_set.insert s k) ≡ finite_set.len s + 1 =

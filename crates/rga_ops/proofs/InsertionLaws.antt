@@ -9,6 +9,7 @@ use Rattle.std.specs.FinMap as finite_map
 use Rattle.std.specs.FinSet as finite_set
 use Rattle.std.specs.FinMap.{same_map}
 use Rattle.std.specs.FinMap.Entries.{put}
+use Rattle.std.proofs.Math.Bool.{or-false}
 use Rattle.std.proofs.lemmas.Option.{same_Some, none-some}
 use Rattle.rga_ops.specs.Identifier.{Identifier, id_cmp, is_root}
 use Rattle.rga_ops.specs.Content.{Element, element, Content, IsWithin, join, single}
@@ -16,7 +17,7 @@ use Rattle.rga_ops.specs.RootPath.{Path, path_cmp, root_path, is_complete, IsRoo
 use Rattle.rga_ops.specs.Order.{by_path, order}
 use Rattle.rga_ops.proofs.IdentifierLaws.{is, same_id, is_itself}
 use Rattle.rga_ops.proofs.BeforeLaws.{paths_total, paths_exact}
-use Rattle.rga_ops.proofs.ContentLaws.{same_option, get-join, contains-join, or_none, or_false, within_join}
+use Rattle.rga_ops.proofs.ContentLaws.{same_option, get-join, contains-join, or_none, within_join}
 use Rattle.rga_ops.proofs.OperationLaws.{get-single}
 use Rattle.rga_ops.proofs.PathLaws.{root_path-is, is-root_path, one_path, one_element, path_stays, root_path-root, root_path-absent}
 use Rattle.rga_ops.proofs.PlacedLaws.{same_path, IsPlaced, get-by_path, by_path-get}
@@ -52,7 +53,7 @@ module _ (c : Content) (id parent : Identifier) (ch : ℕ) where
   pub contains-insertion : (q : Identifier) → finite_set.contains d.deleted q ≡ finite_set.contains c.deleted q
   contains-insertion q =
       contains-join c (single (Insert id parent ch)) q
-      ∙ ap (λ b. finite_set.contains c.deleted q || b) (finite_set.contains-empty id_cmp q) ∙ or_false (finite_set.contains c.deleted q)
+      ∙ ap (λ b. finite_set.contains c.deleted q || b) (finite_set.contains-empty id_cmp q) ∙ or-false (finite_set.contains c.deleted q)
 
   -- at other identifiers nothing is new
   pub get-elsewhere : (q : Identifier) → is q id ≡ false → finite_map.get d.inserted q ≡ finite_map.get c.inserted q
@@ -118,7 +119,7 @@ module _ (c : Content) (id parent : Identifier) (ch : ℕ) where
               let same : q ≡ id = same_id q id t in
               let before : is_complete c q ≡ false = ap (is_complete c) same ∙ not_complete_before c id w in
               ap (is_complete d) same ∙ (λ k. not (w.element k) && has_path k) ∙ sym (root_or_complete-is c parent)
-              ∙ sym (or_false (is_root_or_complete c parent)) ∙ ap (λ b. is_root_or_complete c parent || b) (sym before)
+              ∙ sym (or-false (is_root_or_complete c parent)) ∙ ap (λ b. is_root_or_complete c parent || b) (sym before)
           | false ↦ λ f. ap (λ o. not (is_root q) && is_some o) (root_path-elsewhere q f)
         ] refl
 

@@ -5,13 +5,14 @@ use Rattle.std.specs.Option.{option_or}
 use Rattle.std.specs.FinMap as finite_map
 use Rattle.std.specs.FinSet as finite_set
 use Rattle.std.specs.FinSet.{FinSet}
+use Rattle.std.proofs.Math.Bool.{or-false, or_comm}
 use Rattle.rga_ops.specs.Identifier.{Identifier, id_cmp}
 use Rattle.rga_ops.specs.Operation.{checked, id_of}
 use Rattle.rga_ops.specs.Content.{Element, element, Content, nothing, known, join, single, content_of, IsAgreed, HasAnother}
 use Rattle.rga_ops.specs.Answer.{answer, after_answer, taken, and_take, taken_one_by_one}
 use Rattle.rga_ops.specs.ListAnswer.{IsJoinable}
 use Rattle.rga_ops.proofs.IdentifierLaws.{ids_total, ids_exact, is}
-use Rattle.rga_ops.proofs.ContentLaws.{get-join, contains-join, join_assoc, join_nothing, nothing_join, or_false, bool_swap}
+use Rattle.rga_ops.proofs.ContentLaws.{get-join, contains-join, join_assoc, join_nothing, nothing_join}
 use Rattle.rga_ops.proofs.OperationLaws.{Contains-first, Contains-later, get-single, contains-single}
 use Rattle.rga_ops.proofs.AnswerLaws.{Answer, passed, bad, Outcome, ill_formed, held, another, fresh, no_room, outcome, contains-known, IsNew, new-iff}
 use Rattle.rga_ops.proofs.AgreeLaws.{agree_swap, agree_nothing, has_another-iff, no_other-iff, joinable-iff}
@@ -26,24 +27,24 @@ Ids = FinSet id_cmp
 
 -- ---- sets of identifiers
 
+or_swapped : (a b c : Bool) → (a || (b || c)) ≡ (b || (a || c))
+or_swapped true true c = refl
+or_swapped true false c = refl
+or_swapped false b c = refl
+
 union_insert : (s : Ids) (ks : List Identifier) (k : Identifier) → finite_set.union s (finite_set.from_list (k ∷ ks)) ≡ finite_set.insert (finite_set.union s (finite_set.from_list ks)) k
 union_insert s ks k = finite_set.same_set ids_total ids_exact _ _ (λ q.
     finite_set.contains-union ids_total s (finite_set.from_list (k ∷ ks)) q
     ∙ ap (λ b. finite_set.contains s q || b) (finite_set.contains-insert ids_total (finite_set.from_list ks) k q)
-    ∙ between (finite_set.contains s q) (is q k) (finite_set.contains (finite_set.from_list {R = id_cmp} ks) q)
+    ∙ or_swapped (finite_set.contains s q) (is q k) (finite_set.contains (finite_set.from_list {R = id_cmp} ks) q)
     ∙ sym (finite_set.contains-insert ids_total (finite_set.union s (finite_set.from_list ks)) k q
     ∙ ap (λ b. is q k || b) (finite_set.contains-union ids_total s (finite_set.from_list ks) q)))
-  where
-    between : (a b c : Bool) → (a || (b || c)) ≡ (b || (a || c))
-    between true true c = refl
-    between true false c = refl
-    between false b c = refl
 
 len-le_union_list : (s : Ids) (ks : List Identifier) → finite_set.len s ≤ finite_set.len (finite_set.union s (finite_set.from_list ks))
 len-le_union_list s [] =
     let same : finite_set.union s (finite_set.from_list []) ≡ s = finite_set.same_set ids_total ids_exact _ _ (λ q.
     finite_set.contains-union ids_total s (finite_set.from_list []) q
-    ∙ ap (λ b. finite_set.contains s q || b) (finite_set.contains-from_list ids_total [] q) ∙ or_false (finite_set.contains s q)) in
+    ∙ ap (λ b. finite_set.contains s q || b) (finite_set.contains-from_list ids_total [] q) ∙ or-false (finite_set.contains s q)) in
     omega (arith, ap finite_set.len same)
 len-le_union_list s (k ∷ ks) =
     let larger : Ids = finite_set.union s (finite_set.from_list ks) in
@@ -71,14 +72,9 @@ contains-known_join c d q =
     ∙ either (finite_map.get c.inserted q) (finite_map.get d.inserted q) (finite_set.contains c.deleted q) (finite_set.contains d.deleted q)
     ∙ sym (λ k. contains-known c q k || contains-known d q k)
   where
-    parted : (m a b : Bool) → (m || (a || b)) ≡ (a || (m || b))
-    parted true true b = refl
-    parted true false b = refl
-    parted false a b = refl
-
     either : (x y : Option Element) (a b : Bool) → (is_some (option_or x y) || (a || b)) ≡ ((is_some x || a) || (is_some y || b))
     either (Some x) y a b = refl
-    either None y a b = parted (is_some y) a b
+    either None y a b = or_swapped (is_some y) a b
 
 pub known_join : (c d : Content) → known (join c d) ≡ finite_set.union (known c) (known d)
 known_join c d = finite_set.same_set ids_total ids_exact _ _ (λ q. contains-known_join c d q ∙ sym (finite_set.contains-union ids_total (known c) (known d) q))
@@ -87,7 +83,7 @@ contains-known_single : (op : Op) (q : Identifier) → finite_set.contains (know
 contains-known_single (Insert id parent ch) q =
     contains-known (single (Insert id parent ch)) q
     ∙ (λ k. is_some (get-single id parent ch q k) || finite_set.contains-empty id_cmp q k)
-    ∙ or_false (is_some (cond (is q id) (Some (element parent ch)) None)) ∙ some_if (is q id)
+    ∙ or-false (is_some (cond (is q id) (Some (element parent ch)) None)) ∙ some_if (is q id)
   where
     some_if : (b : Bool) → is_some (cond b (Some (element parent ch)) None) ≡ b
     some_if true = refl
@@ -100,7 +96,7 @@ contains-known_single (Delete id) q =
 pub known_taken : (c : Content) (op : Op) → known (join c (single op)) ≡ finite_set.insert (known c) (id_of op)
 known_taken c op = finite_set.same_set ids_total ids_exact _ _ (λ q.
     contains-known_join c (single op) q ∙ ap (λ b. finite_set.contains (known c) q || b) (contains-known_single op q)
-    ∙ bool_swap (finite_set.contains (known c) q) (is q (id_of op)) ∙ sym (finite_set.contains-insert ids_total (known c) (id_of op) q))
+    ∙ or_comm (finite_set.contains (known c) q) (is q (id_of op)) ∙ sym (finite_set.contains-insert ids_total (known c) (id_of op) q))
 
 -- an empty store knows nothing
 pub known_nothing : finite_set.len (known nothing) ≡ 0

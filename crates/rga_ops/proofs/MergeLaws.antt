@@ -20,9 +20,8 @@ use Rattle.rga_ops.proofs.ContentLaws.{same_option}
 use Rattle.rga_ops.proofs.OperationLaws.{single_holds}
 use Rattle.rga_ops.specs.Operations.{operations}
 use Rattle.rga_ops.proofs.OperationsLaws.{content_of-operations, operations_hold, operations_agree}
-use Rattle.rga_ops.proofs.SortedLaws.{both_so}
+use Rattle.rga_ops.proofs.SortedLaws.{both_so, less_of}
 use Rattle.rga_ops.proofs.PathLaws.{key_of}
-use Rattle.rga_ops.proofs.OrderLaws.{less_of}
 use Rattle.rga_ops.proofs.AgreeLaws.{has_another-iff, no_other-iff}
 use Rattle.rga_ops.proofs.ListAnswerLaws.{list_taken-iff, union_taken-iff, union_conflict-iff, union_full-iff, union_refusal}
 use Rattle.rga_ops.specs.declared.op.Op.TheVariants.{Insert}

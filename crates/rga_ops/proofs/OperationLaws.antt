@@ -5,12 +5,13 @@ use Rattle.std.specs.Option.{option_or}
 use Rattle.std.specs.Cmp.{both_ways}
 use Rattle.std.specs.FinMap as finite_map
 use Rattle.std.specs.FinSet as finite_set
+use Rattle.std.proofs.Math.Bool.{or-false}
 use Rattle.std.proofs.lemmas.Bool.{or_cases, or_left, or_right}
 use Rattle.std.proofs.lemmas.Option.{same_Some, none-some}
 use Rattle.rga_ops.specs.Identifier.{Identifier, id_cmp}
 use Rattle.rga_ops.specs.Content.{Element, element, join, single, content_of, Holds, IsAgreed, HasSameOperations}
 use Rattle.rga_ops.proofs.IdentifierLaws.{ids_total, is, same_id, is_itself}
-use Rattle.rga_ops.proofs.ContentLaws.{same_content, same_option, get-join, contains-join, join_assoc, nothing_join, either_option, or_false}
+use Rattle.rga_ops.proofs.ContentLaws.{same_content, same_option, get-join, contains-join, join_assoc, nothing_join, either_option}
 use Rattle.rga_ops.specs.declared.op.Op.{Op}
 use Rattle.rga_ops.specs.declared.op.Op.TheVariants.{Insert, Delete}
 
@@ -49,7 +50,7 @@ get-single id parent ch q =
 pub contains-single : (id q : Identifier) → finite_set.contains (single (Delete id)).deleted q ≡ is q id
 contains-single id q =
     finite_set.contains-insert ids_total finite_set.empty id q
-    ∙ ap (λ b. is q id || b) (finite_set.contains-empty id_cmp q) ∙ or_false (is q id)
+    ∙ ap (λ b. is q id || b) (finite_set.contains-empty id_cmp q) ∙ or-false (is q id)
 
 pub single_holds : (op : Op) → Holds (single op) op
 single_holds (Insert id parent ch) = get-single id parent ch id ∙ ap (λ b. cond b (Some (element parent ch)) None) (is_itself id)

@@ -3,6 +3,7 @@ use Rattle.std.proofs.Common.{◌≡◌, true, false, cond, ◌||◌, List, [], 
 use Rattle.std.specs.Prelude.{◌≤◌, ℕ, Some, None, Ok, Contains}
 use Rattle.std.specs.Option.{option_map, option_or}
 use Rattle.std.specs.List.{list_any, filter_map, cons_option, AllByRecursion}
+use Rattle.std.proofs.Math.Bool.{or-false}
 use Rattle.std.proofs.lemmas.Bool.{or_left, or_right}
 use Rattle.std.proofs.lemmas.Option.{same_Some}
 use Rattle.std.specs.FinMap as finite_map
@@ -12,7 +13,7 @@ use Rattle.rga_ops.specs.Identifier.{Identifier, id_cmp}
 use Rattle.rga_ops.specs.Content.{Element, element, Content, nothing, known, single, content_of, Holds, IsSound, IsAgreed}
 use Rattle.rga_ops.specs.Operations.{insertion_of, insertion_at, alone, rising, insertions, deletions, operations}
 use Rattle.rga_ops.proofs.IdentifierLaws.{ids_total, is, is_itself}
-use Rattle.rga_ops.proofs.ContentLaws.{same_content, get-join, contains-join, or_cond, or_none, or_false}
+use Rattle.rga_ops.proofs.ContentLaws.{same_content, get-join, contains-join, or_cond, or_none}
 use Rattle.rga_ops.proofs.OperationLaws.{content_of-append, Contains-nil, Contains-cases, Contains-append}
 use Rattle.rga_ops.proofs.SortedLaws.{all_zip, each_found}
 use Rattle.rga_ops.proofs.KnownLaws.{takeable_from_nothing}
@@ -40,7 +41,7 @@ deleted-deletions : (ks : List Identifier) (q : Identifier) → finite_set.conta
 deleted-deletions [] q = finite_set.contains-empty id_cmp q
 deleted-deletions (k ∷ ks) q =
     contains-join (single (Delete k)) (content_of (map Delete ks)) q
-    ∙ (λ i. (finite_set.contains-insert ids_total finite_set.empty k q ∙ ap (λ b. is q k || b) (finite_set.contains-empty id_cmp q) ∙ or_false (is q k)) i || deleted-deletions ks q i)
+    ∙ (λ i. (finite_set.contains-insert ids_total finite_set.empty k q ∙ ap (λ b. is q k || b) (finite_set.contains-empty id_cmp q) ∙ or-false (is q k)) i || deleted-deletions ks q i)
 
 is_some-paired : (ks : List Identifier) (q : Identifier) → is_some (find id_cmp q (map alone ks)) ≡ list_any (is q) ks
 is_some-paired [] q = refl

@@ -1,11 +1,10 @@
 -- The order list: the function gives it, nothing else is one, and what precedes what is a strict total order.
-use Rattle.std.proofs.Common.{◌≡◌, Bool, true, false, cond, not, ◌&&◌, ◌||◌, T, List, [], ◌∷◌, map, refl, sym, ap, ◌∙◌, subst, is_some, true≢false, inl, inr}
+use Rattle.std.proofs.Common.{◌≡◌, true, false, cond, not, ◌&&◌, ◌||◌, T, List, [], ◌∷◌, map, refl, sym, ap, ◌∙◌, subst, is_some, true≢false, inl, inr}
 use Rattle.std.specs.Prelude.{Some, None, ◌⊎◌, ◌≢◌, unwrap_or}
 use Rattle.std.specs.Cmp.{both_ways, tied_itself}
 use Rattle.std.specs.Ordering.{eq_by_cmp, is_lt}
 use Rattle.std.specs.List.{list_any, filter_map, cons_option, AllByRecursion, IsDistinct}
-use Rattle.std.specs.declared.cmp.Ordering.{Ordering}
-use Rattle.std.specs.declared.cmp.Ordering.TheVariants.{Less, Equal, Greater}
+use Rattle.std.specs.declared.cmp.Ordering.TheVariants.{Less}
 use Rattle.std.specs.FinMap as finite_map
 use Rattle.std.specs.FinMap.{find, is_sorted}
 use Rattle.std.specs.FinMap.Entries.{below_all}
@@ -20,7 +19,7 @@ use Rattle.rga_ops.proofs.MemberLaws.{all_members}
 use Rattle.rga_ops.proofs.BeforeLaws.{paths_total, not_less, before-iff, before_total}
 use Rattle.rga_ops.proofs.PathLaws.{root_path-is, is-root_path, one_element, path_of_complete, not_complete_root}
 use Rattle.rga_ops.proofs.PlacedLaws.{IsPlaced, is-placed, find-placed, placed-find, by_path-get, order_is, entries_placed}
-use Rattle.rga_ops.proofs.SortedLaws.{both_so}
+use Rattle.rga_ops.proofs.SortedLaws.{both_so, both_hold, less_of}
 
 -- ---- what precedes what
 
@@ -103,11 +102,7 @@ below_of c x (y ∷ ys) h =
 sorted_of : (c : Content) (xs : List Identifier) → IsInOrder c xs → T (is_sorted path_cmp (map (entry c) xs))
 unfolding entry
 sorted_of c [] o = tt
-sorted_of c (x ∷ xs) o = both (below_all path_cmp (path_of c x) (map (entry c) xs)) (is_sorted path_cmp (map (entry c) xs)) (below_of c x xs (precedes_later c x xs o)) (sorted_of c xs (tail_in_order c x xs o))
-  where
-    both : (a b : Bool) → T a → T b → T (a && b)
-    both true b p q = q
-    both false b p q = absurd p
+sorted_of c (x ∷ xs) o = both_hold (below_all path_cmp (path_of c x) (map (entry c) xs)) (is_sorted path_cmp (map (entry c) xs)) (below_of c x xs (precedes_later c x xs o)) (sorted_of c xs (tail_in_order c x xs o))
 
 ids_of_entries : (c : Content) (xs : List Identifier) → map (λ (e : Path × Identifier). e.1) (map (entry c) xs) ≡ xs
 unfolding entry
@@ -153,11 +148,6 @@ value_complete c (e ∷ es) id h m =
       | true ↦ λ t m. ap (is_complete c) (same_id id e.1 t) ∙ placed-complete c e.1 e.0 h.0
       | false ↦ λ t m. value_complete c es id h.1 m
     ] refl m
-
-pub less_of : (o : Ordering) → T (is_lt o) → o ≡ Less
-less_of Less h = refl
-less_of Equal h = absurd h
-less_of Greater h = absurd h
 
 in_order_of : (c : Content) (es : List (Path × Identifier)) → AllByRecursion (λ (e : Path × Identifier). IsPlaced c e.1 e.0) es → T (is_sorted path_cmp es) → IsInOrder c (map (λ e. e.1) es)
 in_order_of c [] h s = tt

@@ -6,6 +6,7 @@ use Rattle.std.specs.Option.{option_map, option_and_then}
 use Rattle.std.specs.Cmp.{eq_by_cmp_equiv}
 use Rattle.std.specs.List.{IsDistinct, list_any}
 use Rattle.std.specs.FinMap as finite_map
+use Rattle.std.proofs.Math.Bool.{or-false}
 use Rattle.std.proofs.lemmas.Bool.{or_cases, false_from_ne_true}
 use Rattle.std.proofs.lemmas.Option.{same_Some, none-some}
 use Rattle.std.proofs.lemmas.List.{length-map}
@@ -16,7 +17,7 @@ use Rattle.rga_ops.specs.Identifier.{Identifier, is_root}
 use Rattle.rga_ops.specs.Content.{Element, Content, IsWithin}
 use Rattle.rga_ops.specs.RootPath.{Path, path_within, root_path, is_complete, IsRootPath, at_root, below, IsComplete, below_root, below_element}
 use Rattle.rga_ops.proofs.IdentifierLaws.{ids_total, is, same_id}
-use Rattle.rga_ops.proofs.ContentLaws.{same_option, or_false}
+use Rattle.rga_ops.proofs.ContentLaws.{same_option}
 
 -- what is found is the root path
 pub found : (n : ℕ) (c : Content) (id : Identifier) (p : Path) → path_within n c.inserted id ≡ Some p → IsRootPath c id p
@@ -72,7 +73,7 @@ on_path {c} {id} {p} (below x q r g s e) a h =
     elim (or_cases (list_any (is a) q) (is a id || false) parts) [
       | inl above ↦ let w : IsOn c q a = on_path s a above in record { path = w.path; is_path = w.is_path; no_longer = omega (arith, w.no_longer, longer); inserted = w.inserted }
       | inr here ↦
-          let same : a ≡ id = same_id a id (sym (or_false (is a id)) ∙ here) in
+          let same : a ≡ id = same_id a id (sym (or-false (is a id)) ∙ here) in
           subst (λ b. IsOn c p b) (sym same) (record { path = p; is_path = below x q r g s e; no_longer = omega arith; inserted = key_of c id x g })
     ]
 

@@ -17,6 +17,15 @@ pub both_so : (a b : Bool) → T (a && b) → T a × T b
 both_so true b h = (tt, h)
 both_so false b h = absurd h
 
+pub both_hold : (a b : Bool) → T a → T b → T (a && b)
+both_hold true b p q = q
+both_hold false b p q = absurd p
+
+pub less_of : (o : Ordering) → T (is_lt o) → o ≡ Less
+less_of Less h = refl
+less_of Equal h = absurd h
+less_of Greater h = absurd h
+
 later_apart : (o : Ordering) → T (is_lt o) → is_eq (ordering_reverse o) ≡ false
 later_apart Less h = refl
 later_apart Equal h = absurd h

@@ -4,6 +4,7 @@ use Rattle.std.specs.Prelude.{Option, Some, None, Result, Ok, Err, Contains}
 use Rattle.std.specs.Option.{option_or}
 use Rattle.std.specs.FinMap as finite_map
 use Rattle.std.specs.FinSet as finite_set
+use Rattle.std.proofs.Math.Bool.{or-false}
 use Rattle.std.proofs.lemmas.Bool.{or_right}
 use Rattle.std.proofs.lemmas.Option.{same_Some}
 use Rattle.rga_ops.specs.Identifier.{id_cmp}
@@ -11,7 +12,7 @@ use Rattle.rga_ops.specs.Operation.{checked}
 use Rattle.rga_ops.specs.Content.{Element, element, Content, nothing, join, single, content_of, IsWithin, IsAgreed, Holds, HasAnother}
 use Rattle.rga_ops.specs.Answer.{answer, after_answer, taken, and_take, taken_one_by_one}
 use Rattle.rga_ops.proofs.IdentifierLaws.{is, same_id}
-use Rattle.rga_ops.proofs.ContentLaws.{same_content, get-join, contains-join, join_assoc, join_nothing, nothing_join, or_none, or_false, within_itself, within_chain, within_join}
+use Rattle.rga_ops.proofs.ContentLaws.{same_content, get-join, contains-join, join_assoc, join_nothing, nothing_join, or_none, within_itself, within_chain, within_join}
 use Rattle.rga_ops.proofs.OperationLaws.{Contains-cases, Contains-nil, get-single, contains-single, single_holds}
 use Rattle.rga_ops.proofs.AnswerLaws.{known-iff, new-iff, IsNew}
 use Rattle.rga_ops.specs.declared.op.Op.{Op}
@@ -37,7 +38,7 @@ pub held_adds_nothing : (c : Content) (op : Op) → Holds c op → join c (singl
 held_adds_nothing c (Insert id parent ch) h = same_content _ _
     (λ q. get-join c (single (Insert id parent ch)) q ∙ ap (option_or (finite_map.get c.inserted q)) (get-single id parent ch q)
     ∙ or_same_if (finite_map.get c.inserted q) (is q id) (element parent ch) (λ t. ap (finite_map.get c.inserted) (same_id q id t) ∙ h))
-    (λ q. contains-join c (single (Insert id parent ch)) q ∙ ap (λ b. finite_set.contains c.deleted q || b) (finite_set.contains-empty id_cmp q) ∙ or_false (finite_set.contains c.deleted q))
+    (λ q. contains-join c (single (Insert id parent ch)) q ∙ ap (λ b. finite_set.contains c.deleted q || b) (finite_set.contains-empty id_cmp q) ∙ or-false (finite_set.contains c.deleted q))
 held_adds_nothing c (Delete id) h = same_content _ _
     (λ q. get-join c (single (Delete id)) q ∙ ap (option_or (finite_map.get c.inserted q)) (finite_map.get-empty id_cmp q) ∙ or_none (finite_map.get c.inserted q))
     (λ q. contains-join c (single (Delete id)) q ∙ ap (λ b. finite_set.contains c.deleted q || b) (contains-single id q)

@@ -4,11 +4,12 @@ use Rattle.std.specs.Prelude.{Option, Some, None, Ok}
 use Rattle.std.specs.Option.{option_map_or}
 use Rattle.std.specs.FinMap as finite_map
 use Rattle.std.specs.FinSet as finite_set
+use Rattle.std.proofs.Math.Bool.{or-false}
 use Rattle.rga_ops.specs.Identifier.{Identifier, is_id}
 use Rattle.rga_ops.specs.Content.{Element, element, Content, join, single, known, clock, Holds, IsWithin}
 use Rattle.rga_ops.specs.Answer.{answer, after_answer}
 use Rattle.rga_ops.proofs.IdentifierLaws.{ids_total, is, is_itself, same_id, is_id-same, is_id-is}
-use Rattle.rga_ops.proofs.ContentLaws.{same_content, within_join, or_false}
+use Rattle.rga_ops.proofs.ContentLaws.{same_content, within_join}
 use Rattle.rga_ops.proofs.AnswerLaws.{contains-known, new_insertion, new_deletion}
 use Rattle.rga_ops.proofs.TakenLaws.{taken_is}
 use Rattle.rga_ops.specs.declared.op.Op.{Op}
@@ -52,7 +53,7 @@ deletion_again c id g = same_content _ _
     (λ q. deleted_now (without_deletion id c) id q ∙ ap (λ b. b || is q id) (left_deleted c id q)
     ∙ elim (is q id) as (λ b. is q id ≡ b → ((not b && finite_set.contains c.deleted q) || b) ≡ finite_set.contains c.deleted q) [
       | true ↦ λ t. sym (ap (finite_set.contains c.deleted) (same_id q id t) ∙ g)
-      | false ↦ λ t. or_false (finite_set.contains c.deleted q)
+      | false ↦ λ t. or-false (finite_set.contains c.deleted q)
     ] refl)
 
 -- ---- a new operation, taken back
@@ -74,7 +75,7 @@ without_new limit c (Delete id) h =
     (λ q. left_deleted (join c (single (Delete id))) id q ∙ ap (λ b. not (is q id) && b) (deleted_now c id q)
     ∙ elim (is q id) as (λ b. is q id ≡ b → (not b && (finite_set.contains c.deleted q || b)) ≡ finite_set.contains c.deleted q) [
       | true ↦ λ t. sym (ap (finite_set.contains c.deleted) (same_id q id t) ∙ none)
-      | false ↦ λ t. or_false (finite_set.contains c.deleted q)
+      | false ↦ λ t. or-false (finite_set.contains c.deleted q)
     ] refl)
 
 pub new_held : (limit : ℕ) (c : Content) (op : Op) → answer limit c op ≡ Ok New → Holds (join c (single op)) op
@@ -127,7 +128,7 @@ module _ (c : Content) (latest insertions identifiers limit : ℕ) (w : IsCounte
     known_then : identifiers ≡ cond (finite_map.contains_key c.inserted id) (finite_set.len (known (without_deletion id c))) (finite_set.len (known (without_deletion id c)) + 1)
     known_then =
         w.known ∙ ap (λ d. finite_set.len (known d)) (sym (deletion_again c id g)) ∙ more_known (without_deletion id c) (Delete id)
-        ∙ ap (λ b. cond b (finite_set.len (known (without_deletion id c))) (finite_set.len (known (without_deletion id c)) + 1)) (contains-known (without_deletion id c) id ∙ ap (λ b. finite_map.contains_key c.inserted id || b) (undeleted c id) ∙ or_false (finite_map.contains_key c.inserted id))
+        ∙ ap (λ b. cond b (finite_set.len (known (without_deletion id c))) (finite_set.len (known (without_deletion id c)) + 1)) (contains-known (without_deletion id c) id ∙ ap (λ b. finite_map.contains_key c.inserted id || b) (undeleted c id) ∙ or-false (finite_map.contains_key c.inserted id))
 
     pub one_deletion_known : cond (finite_map.contains_key c.inserted id) 0 1 ≤ identifiers
     one_deletion_known = one_counted (finite_map.contains_key c.inserted id) identifiers _ known_then

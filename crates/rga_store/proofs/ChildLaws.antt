@@ -2,10 +2,9 @@
 use Rattle.std.proofs.Common.{◌≡◌, true, false, not, ◌&&◌, ◌||◌, List, refl, sym, ap, ◌∙◌, subst, true≢false}
 use Rattle.std.specs.Prelude.{Result, Ok, Err}
 use Rattle.std.specs.Result.{OnOk, OnErr, is_ok}
-use Rattle.std.proofs.Math.Bool.{and-true}
+use Rattle.std.proofs.Math.Bool.{and-true, or-false}
 use Rattle.rga_ops.specs.Identifier.{Identifier, is_id}
 use Rattle.rga_ops.proofs.IdentifierLaws.{is_id-is}
-use Rattle.rga_ops.proofs.ContentLaws.{or_false}
 use Rattle.rga_store.specs.Children.{HasChild, IsRising}
 
 pub on_ok : {T E P : Type 0} (r : Result T E) → is_ok r ≡ true → OnOk r P → P
@@ -26,7 +25,7 @@ pub added : (old new : Identifier → List Identifier) (parent id : Identifier) 
 added old new parent id has others p k =
     elim (is_id parent p) as (λ b. is_id parent p ≡ b → HasChild (new p) k ≡ (HasChild (old p) k || (b && is_id id k))) [
       | true ↦ λ t. ap (λ q. HasChild (new q) k) (sym (is_id-is parent p t)) ∙ has k ∙ ap (λ q. HasChild (old q) k || is_id id k) (is_id-is parent p t)
-      | false ↦ λ t. ap (λ ks. HasChild ks k) (others p t) ∙ sym (or_false (HasChild (old p) k))
+      | false ↦ λ t. ap (λ ks. HasChild ks k) (others p t) ∙ sym (or-false (HasChild (old p) k))
     ] refl
 
 -- and what a child changes that leaves

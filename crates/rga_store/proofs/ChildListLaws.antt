@@ -8,8 +8,8 @@ use Rattle.std.specs.declared.cmp.Ordering.TheVariants.{Less, Equal, Greater}
 use Rattle.rga_ops.specs.Identifier.{Identifier, id_cmp, is_id}
 use Rattle.std.specs.List.Sorted.{IsStrictlySortedBy}
 use Rattle.rga_ops.proofs.IdentifierLaws.{ids_total, ids_exact, is, is_itself, is_swap, is_id-same, is_id-is}
-use Rattle.rga_ops.proofs.ContentLaws.{bool_swap}
 use Rattle.std.specs.List.Retain.{RetainsInTurn}
+use Rattle.std.proofs.Math.Bool.{or_comm}
 use Rattle.std.proofs.lemmas.Map.Views.{any-filter_same}
 use Rattle.rga_store.specs.Children.{HasChild, IsRising, others_than}
 
@@ -22,9 +22,9 @@ or_in true a b = refl
 or_in false a b = refl
 
 pub has-insert : (id k : Identifier) (xs : List Identifier) (i : ℕ) → HasChild (insert xs i id) k ≡ (HasChild xs k || is_id id k)
-has-insert id k [] zero = bool_swap (is_id id k) false
-has-insert id k [] (suc i) = bool_swap (is_id id k) false
-has-insert id k (x ∷ xs) zero = bool_swap (is_id id k) (HasChild (x ∷ xs) k)
+has-insert id k [] zero = or_comm (is_id id k) false
+has-insert id k [] (suc i) = or_comm (is_id id k) false
+has-insert id k (x ∷ xs) zero = or_comm (is_id id k) (HasChild (x ∷ xs) k)
 has-insert id k (x ∷ xs) (suc i) = ap (λ b. is_id x k || b) (has-insert id k xs i) ∙ or_in (is_id x k) (HasChild xs k) (is_id id k)
 
 all-insert : (P : Identifier → Type 0) (xs : List Identifier) (i : ℕ) (id : Identifier) → P id → AllByRecursion P xs → AllByRecursion P (insert xs i id)
@@ -81,7 +81,7 @@ rising-compares id (x ∷ xs) up (suc i) (suc j) d a b = rising-compares id xs u
 pub found_has : (id : Identifier) (xs : List Identifier) (i : ℕ) (d : Identifier) → i < length xs → id_cmp (slice_index_or xs i d) id ≡ Equal → HasChild xs id ≡ true
 found_has id [] i d l e = absurd (omega arith)
 found_has id (x ∷ xs) zero d l e = ap (λ b. b || HasChild xs id) (is_id-same x id ∙ ap (eq_by_cmp id_cmp id) (ids_exact x id e) ∙ is_itself id)
-found_has id (x ∷ xs) (suc i) d l e = ap (λ b. is_id x id || b) (found_has id xs i d (omega arith) e) ∙ bool_swap (is_id x id) true
+found_has id (x ∷ xs) (suc i) d l e = ap (λ b. is_id x id || b) (found_has id xs i d (omega arith) e) ∙ or_comm (is_id x id) true
 
 -- ---- a child that leaves
 

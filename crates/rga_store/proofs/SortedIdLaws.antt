@@ -14,20 +14,20 @@ use Rattle.std.proofs.lemmas.Map.Keys.{sorted_from_all_adjacent, apart_from_dist
 use Rattle.rga_ops.specs.Identifier.{Identifier, root, id_cmp}
 use Rattle.rga_ops.proofs.IdentifierLaws.{ids_total, ids_exact, is, is_swap}
 use Rattle.rga_ops.specs.Operations.{alone, rising}
-use Rattle.rga_ops.proofs.SortedLaws.{both_so}
+use Rattle.rga_ops.proofs.SortedLaws.{both_so, both_hold, less_of}
 use Rattle.rga_ops.proofs.OperationsLaws.{any-rising}
 use Rattle.rga_store.specs.Children.{IsRising}
 
 -- ---- what is sorted and distinct rises
 
-less_of : (o : Ordering) → is_lt (ordering_reverse o) ≡ false → is_eq o ≡ false → o ≡ Less
-less_of Less p q = refl
-less_of Equal p q = absurd (true≢false q)
-less_of Greater p q = absurd (true≢false p)
+not_later : (o : Ordering) → is_lt (ordering_reverse o) ≡ false → is_eq o ≡ false → o ≡ Less
+not_later Less p q = refl
+not_later Equal p q = absurd (true≢false q)
+not_later Greater p q = absurd (true≢false p)
 
 rising_of : (xs : List Identifier) → IsSorted id_cmp xs → IsDistinct is xs → IsRising xs
 rising_of xs sorted distinct = sorted_from_all_adjacent ids_total xs root (λ k l.
-    less_of (id_cmp (get_or xs k root) (get_or xs (k + 1) root))
+    not_later (id_cmp (get_or xs k root) (get_or xs (k + 1) root))
     (ap is_lt (sym (ids_total.antisymm (get_or xs (k + 1) root) (get_or xs k root))) ∙ sorted k root (omega arith) l)
     (apart_from_distinct is xs k (k + 1) root distinct (omega arith) l))
 
@@ -36,13 +36,9 @@ rising_of xs sorted distinct = sorted_from_all_adjacent ids_total xs root (λ k 
 abbrev paired : List Identifier → List (Identifier × Unit {0})
 paired = map alone
 
-both_of : (a b : Bool) → T a → T b → T (a && b)
-both_of true b p q = q
-both_of false b p q = absurd p
-
 below_paired : (x : Identifier) (ys : List Identifier) → AllByRecursion (λ y. id_cmp x y ≡ Less) ys → T (below_all id_cmp x (paired ys))
 below_paired x [] h = tt
-below_paired x (y ∷ ys) h = both_of (is_lt (id_cmp x y)) (below_all id_cmp x (paired ys)) (is_less h.0) (below_paired x ys h.1)
+below_paired x (y ∷ ys) h = both_hold (is_lt (id_cmp x y)) (below_all id_cmp x (paired ys)) (is_less h.0) (below_paired x ys h.1)
   where
     is_less : {o : Ordering} → o ≡ Less → T (is_lt o)
     is_less {o} e = Rattle.std.proofs.Common.subst (λ p. T (is_lt p)) (sym e) tt
@@ -50,7 +46,7 @@ below_paired x (y ∷ ys) h = both_of (is_lt (id_cmp x y)) (below_all id_cmp x (
 sorted_paired : (xs : List Identifier) → IsRising xs → T (is_sorted id_cmp (paired xs))
 unfolding IsStrictlySortedBy
 sorted_paired [] h = tt
-sorted_paired (x ∷ xs) h = both_of (below_all id_cmp x (paired xs)) (is_sorted id_cmp (paired xs)) (below_paired x xs h.0) (sorted_paired xs h.1)
+sorted_paired (x ∷ xs) h = both_hold (below_all id_cmp x (paired xs)) (is_sorted id_cmp (paired xs)) (below_paired x xs h.0) (sorted_paired xs h.1)
 
 find_paired : (q : Identifier) (xs : List Identifier) → find id_cmp q (paired xs) ≡ cond (list_any (is q) xs) (Some tt) None
 find_paired q [] = refl
@@ -76,12 +72,7 @@ keys_below : {A : Type 0} (x : Identifier) (es : List (Identifier × A)) → T (
 keys_below x [] h = tt
 keys_below x (e ∷ es) h =
     let s : T (is_lt (id_cmp x e.0)) × T (below_all id_cmp x es) = both_so (is_lt (id_cmp x e.0)) (below_all id_cmp x es) h in
-    (less (id_cmp x e.0) s.0, keys_below x es s.1)
-  where
-    less : (o : Ordering) → T (is_lt o) → o ≡ Less
-    less Less h = refl
-    less Equal h = absurd h
-    less Greater h = absurd h
+    (less_of (id_cmp x e.0) s.0, keys_below x es s.1)
 
 keys_rise : {A : Type 0} (es : List (Identifier × A)) → T (is_sorted id_cmp es) → IsRising (map (λ e. e.0) es)
 unfolding IsStrictlySortedBy

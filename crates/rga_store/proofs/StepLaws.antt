@@ -5,14 +5,14 @@ use Rattle.std.specs.Option.{option_map_or}
 use Rattle.std.specs.List.{IsDistinct}
 use Rattle.std.specs.FinMap as finite_map
 use Rattle.std.specs.FinSet as finite_set
+use Rattle.std.proofs.Math.Bool.{or-false, and-true, and-false}
 use Rattle.std.proofs.lemmas.List.{length-map}
-use Rattle.std.proofs.Math.Bool.{and-true, and-false}
 use Rattle.rga_ops.specs.Identifier.{Identifier, id_cmp, is_id}
 use Rattle.rga_ops.specs.Operation.{id_of}
 use Rattle.rga_ops.specs.Content.{Element, element, Content, join, single, known, IsSound, IsWithin}
 use Rattle.rga_ops.specs.Answer.{answer}
 use Rattle.rga_ops.proofs.IdentifierLaws.{ids_total, ids_exact, is, is_id-same, is_id-is}
-use Rattle.rga_ops.proofs.ContentLaws.{contains-join, or_false}
+use Rattle.rga_ops.proofs.ContentLaws.{contains-join}
 use Rattle.rga_ops.proofs.OperationLaws.{contains-single}
 use Rattle.rga_ops.proofs.MemberLaws.{none_among}
 use Rattle.rga_ops.proofs.SoundLaws.{sound_after}
@@ -37,7 +37,7 @@ sound_within c d w sound o h = sound o (held_stays c d o w h)
 -- ---- how many are inserted, and how many are known
 
 pub deleted_then : (c : Content) (id parent : Identifier) (ch : ℕ) (q : Identifier) → finite_set.contains (join c (single (Insert id parent ch))).deleted q ≡ finite_set.contains c.deleted q
-deleted_then c id parent ch q = contains-join c (single (Insert id parent ch)) q ∙ ap (λ b. finite_set.contains c.deleted q || b) (finite_set.contains-empty id_cmp q) ∙ or_false (finite_set.contains c.deleted q)
+deleted_then c id parent ch q = contains-join c (single (Insert id parent ch)) q ∙ ap (λ b. finite_set.contains c.deleted q || b) (finite_set.contains-empty id_cmp q) ∙ or-false (finite_set.contains c.deleted q)
 
 pub deleted_now : (c : Content) (id q : Identifier) → finite_set.contains (join c (single (Delete id))).deleted q ≡ (finite_set.contains c.deleted q || is q id)
 deleted_now c id q = contains-join c (single (Delete id)) q ∙ ap (λ b. finite_set.contains c.deleted q || b) (contains-single id q)
@@ -108,7 +108,7 @@ module _ (c : Content) (latest insertions identifiers limit : ℕ) (w : IsCounte
         sound = sound_after c (Delete id) w.sound new.well_formed;
         clocked = ap (λ n. max n id.counter) w.clocked ∙ sym (clock_deletion c id);
         inserted = w.inserted ∙ sym (as_many_inserted c id);
-        known = (λ k. cond ((sym (contains-known c id ∙ ap (λ b. finite_map.contains_key c.inserted id || b) its.absent ∙ or_false (finite_map.contains_key c.inserted id))) k) (w.known k) (w.known k + 1)) ∙ sym (more_known c (Delete id));
+        known = (λ k. cond ((sym (contains-known c id ∙ ap (λ b. finite_map.contains_key c.inserted id || b) its.absent ∙ or-false (finite_map.contains_key c.inserted id))) k) (w.known k) (w.known k + 1)) ∙ sym (more_known c (Delete id));
         room = room_now (finite_map.contains_key c.inserted id) identifiers limit w.room (space its.room);
         limited = w.limited;
       }
@@ -133,7 +133,7 @@ child_now c id parent ch p k none =
     ∙ ap (λ b. option_map_or (λ x. is_id x.parent p) (cond b (Some (element parent ch)) (finite_map.get c.inserted k)) false) (sym (is_id-same id k))
     ∙ elim (is_id id k) as (λ b. is_id id k ≡ b → option_map_or (λ x. is_id x.parent p) (cond b (Some (element parent ch)) (finite_map.get c.inserted k)) false ≡ (is_child c p k || (is_id parent p && b))) [
       | true ↦ λ t. sym (ap (λ (o : Option Element). option_map_or (λ x. is_id x.parent p) o false || (is_id parent p && true)) (ap (finite_map.get c.inserted) (sym (is_id-is id k t)) ∙ none) ∙ and-true (is_id parent p))
-      | false ↦ λ t. sym (ap (λ b. is_child c p k || b) (and-false (is_id parent p)) ∙ or_false (is_child c p k))
+      | false ↦ λ t. sym (ap (λ b. is_child c p k || b) (and-false (is_id parent p)) ∙ or-false (is_child c p k))
     ] refl
 
 -- one child more

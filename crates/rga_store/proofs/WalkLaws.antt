@@ -7,6 +7,7 @@ use Rattle.std.specs.Ordering.{ordering_then, is_lt}
 use Rattle.std.specs.List.{list_any, AllByRecursion}
 use Rattle.std.specs.declared.cmp.Ordering.TheVariants.{Less, Equal, Greater}
 use Rattle.std.specs.FinMap as finite_map
+use Rattle.std.proofs.Math.Bool.{or-false}
 use Rattle.std.proofs.lemmas.List.Folds.{list_any-append}
 use Rattle.rga_ops.specs.Identifier.{Identifier, id_cmp, is_id, is_root, root}
 use Rattle.rga_ops.specs.Content.{Element, Content, IsSound}
@@ -15,7 +16,6 @@ use Rattle.rga_ops.specs.RootPath.IsRootPath.{at_root, below}
 use Rattle.rga_ops.specs.Order.{order, Precedes, IsInOrder, IsOrderList}
 use Rattle.rga_ops.proofs.IdentifierLaws.{ids_total, is, is_itself, same_id, is_id-is, is_id-itself}
 use Rattle.rga_ops.proofs.MemberLaws.{all_map, all_append, all_members}
-use Rattle.rga_ops.proofs.ContentLaws.{or_false}
 use Rattle.rga_ops.proofs.BeforeLaws.{paths_total}
 use Rattle.rga_ops.proofs.PathLaws.{root_path-is, is-root_path, root_path-root, root_path-step}
 use Rattle.rga_ops.proofs.PlacedLaws.{IsPlaced, placed_key}
@@ -57,7 +57,7 @@ last_member : (xs : List Identifier) (y q : Identifier) → list_any (is q) (xs 
 last_member xs y q m =
     elim (or_cases (list_any (is q) xs) (is q y || false) (sym (list_any-append (is q) xs (y ∷ [])) ∙ m)) [
       | inl before ↦ inl before
-      | inr here ↦ inr (same_id q y (sym (or_false (is q y)) ∙ here))
+      | inr here ↦ inr (same_id q y (sym (or-false (is q y)) ∙ here))
     ]
 
 -- a stricter test passes no more, and fewer where it leaves out a member that the other passes

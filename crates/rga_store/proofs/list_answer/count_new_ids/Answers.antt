@@ -4,13 +4,14 @@ use Rattle.std.specs.Result.{IfOk, is_ok}
 use Rattle.std.specs.List.{list_any}
 use Rattle.std.specs.FinSet as finite_set
 use Rattle.std.specs.FinSet.{FinSet}
+use Rattle.std.proofs.Math.Bool.{or-false}
 use Rattle.std.proofs.lemmas.List.{take_more}
 use Rattle.indexmap.specs.IndexSet.{contains, index_set_len}
 use Rattle.rga_ops.specs.Identifier.{Identifier, id_cmp, is_id}
 use Rattle.rga_ops.specs.Operation.{id_of}
 use Rattle.rga_ops.specs.Content.{Content, known, join, content_of}
 use Rattle.rga_ops.proofs.IdentifierLaws.{ids_total, ids_exact, is, same_id, is_id-same}
-use Rattle.rga_ops.proofs.ContentLaws.{join_nothing, or_false}
+use Rattle.rga_ops.proofs.ContentLaws.{join_nothing}
 use Rattle.rga_ops.proofs.ListSteps.{known_more}
 use Rattle.rga_ops.specs.declared.op.Op.{Op}
 use Rattle.rga_store.proofs.ChildLaws.{on_ok}
@@ -24,7 +25,7 @@ loop-op-init c =
       counted = omega (arith, ap (λ d. finite_set.len (known d)) same, c.new-added.ensures.len);
       members = λ q.
           ap (λ ks. finite_set.contains (known c.args.store.now.content) q || list_any (is_id q) ks) c.new-added.ensures.empty
-          ∙ or_false (finite_set.contains (known c.args.store.now.content) q) ∙ ap (λ d. finite_set.contains (known d) q) (sym same);
+          ∙ or-false (finite_set.contains (known c.args.store.now.content) q) ∙ ap (λ d. finite_set.contains (known d) q) (sym same);
     }
 
 -- ---- one operation more

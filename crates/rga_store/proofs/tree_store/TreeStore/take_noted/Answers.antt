@@ -2,7 +2,7 @@ use Rattle.std.proofs.Common.{◌≡◌, sym, ap, ◌∙◌}
 use Rattle.std.specs.Prelude.{Ok, Err}
 use Rattle.rga_ops.specs.Content.{clock}
 use Rattle.rga_ops.specs.Answer.{answer}
-use Rattle.rga_ops.proofs.AnswerLaws.{Answer}
+use Rattle.rga_ops.proofs.AnswerLaws.{Answer, ok, err}
 use Rattle.rga_ops.specs.declared.refusal.Taken.{Taken}
 use Rattle.rga_ops.specs.declared.refusal.Taken.TheVariants.{New}
 use Rattle.rga_ops.specs.declared.refusal.Refusal.{Refusal}
@@ -11,12 +11,6 @@ use Rattle.rga_store.specs.Kept.{Kept}
 use Rattle.rga_store.specs.Back.{gone_back}
 use Rattle.rga_store.proofs.BackLaws.{without_taken, last_taken}
 use Rattle.rga_store.proofs.tree_store.TreeStore.take_noted.Goals as goal
-
-abbrev ok : Taken → Answer
-ok t = Ok t
-
-abbrev err : Refusal → Answer
-err e = Err e
 
 no_want : (r : Answer) → r ≡ ok New → r ≡ err Memory → ⊥
 no_want r h k = let clash : ok New ≡ err Memory = sym h ∙ k in cc
