@@ -1,11 +1,16 @@
 -- What a child that is added, or that leaves, changes in the lists of all parents.
-use Rattle.std.proofs.Common.{◌≡◌, true, false, not, ◌&&◌, ◌||◌, List, refl, sym, ap, ◌∙◌, subst, true≢false}
+use Rattle.std.proofs.Common.{◌≡◌, Bool, true, false, cond, not, ◌&&◌, ◌||◌, List, refl, sym, ap, ◌∙◌, subst, true≢false}
 use Rattle.std.specs.Prelude.{Result, Ok, Err}
 use Rattle.std.specs.Result.{OnOk, OnErr, is_ok}
-use Rattle.std.proofs.Math.Bool.{and-true, or-false}
+use Rattle.std.proofs.Math.Bool.{and-true, or-true, or-false}
 use Rattle.rga_ops.specs.Identifier.{Identifier, is_id}
 use Rattle.rga_ops.proofs.IdentifierLaws.{is_id-is}
 use Rattle.rga_store.specs.Children.{HasChild, IsRising}
+
+-- true here, and elsewhere as it was
+pub true_where : (here there : Bool) → cond here true there ≡ (there || here)
+true_where true there = sym (or-true there)
+true_where false there = sym (or-false there)
 
 pub on_ok : {T E P : Type 0} (r : Result T E) → is_ok r ≡ true → OnOk r P → P
 on_ok (Ok x) e h = h

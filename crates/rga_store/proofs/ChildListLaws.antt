@@ -9,7 +9,7 @@ use Rattle.rga_ops.specs.Identifier.{Identifier, id_cmp, is_id}
 use Rattle.std.specs.List.Sorted.{IsStrictlySortedBy}
 use Rattle.rga_ops.proofs.IdentifierLaws.{ids_total, ids_exact, is, is_itself, is_swap, is_id-same, is_id-is}
 use Rattle.std.specs.List.Retain.{RetainsInTurn}
-use Rattle.std.proofs.Math.Bool.{or_comm}
+use Rattle.std.proofs.Math.Bool.{or_assoc, or_comm}
 use Rattle.std.proofs.lemmas.Map.Views.{any-filter_same}
 use Rattle.rga_store.specs.Children.{HasChild, IsRising, others_than}
 
@@ -17,15 +17,11 @@ use Rattle.rga_store.specs.Children.{HasChild, IsRising, others_than}
 pub has-any : (ks : List Identifier) (q : Identifier) → HasChild ks q ≡ list_any (is q) ks
 has-any ks q = ap (λ (p : Identifier → Bool). list_any p ks) (λ k x. is_id-same x q k)
 
-or_in : (x a b : Bool) → (x || (a || b)) ≡ ((x || a) || b)
-or_in true a b = refl
-or_in false a b = refl
-
 pub has-insert : (id k : Identifier) (xs : List Identifier) (i : ℕ) → HasChild (insert xs i id) k ≡ (HasChild xs k || is_id id k)
 has-insert id k [] zero = or_comm (is_id id k) false
 has-insert id k [] (suc i) = or_comm (is_id id k) false
 has-insert id k (x ∷ xs) zero = or_comm (is_id id k) (HasChild (x ∷ xs) k)
-has-insert id k (x ∷ xs) (suc i) = ap (λ b. is_id x k || b) (has-insert id k xs i) ∙ or_in (is_id x k) (HasChild xs k) (is_id id k)
+has-insert id k (x ∷ xs) (suc i) = ap (λ b. is_id x k || b) (has-insert id k xs i) ∙ sym (or_assoc (is_id x k) (HasChild xs k) (is_id id k))
 
 all-insert : (P : Identifier → Type 0) (xs : List Identifier) (i : ℕ) (id : Identifier) → P id → AllByRecursion P xs → AllByRecursion P (insert xs i id)
 all-insert P [] zero id p h = (p, tt)

@@ -20,6 +20,7 @@ use Rattle.indexmap.specs.IndexMap.{IndexMap, insert_entry, set_value_at}
 use Rattle.indexmap.proofs.CallerLemmas.{keys-with_value_at, updates-with_value_at}
 use Rattle.rga_ops.proofs.ListSteps.{get-insertion, get-deletion}
 use Rattle.rga_store.proofs.StepLaws.{deleted_then, deleted_now}
+use Rattle.rga_store.proofs.ChildLaws.{true_where}
 use Rattle.rga_store.specs.declared.nodes.Node.{Node}
 use Rattle.rga_store.specs.Nodes.{Nodes, element_in, insertion_in, ids_where, marked_ids, content_of_nodes, kids, char_at, AreApart, StandsAt}
 use Rattle.rga_store.specs.Children.{children_in}
@@ -243,14 +244,8 @@ module _ (ns ms : Nodes) (id : Identifier) (old : Option Node) (new : Node) (apa
       ∙ sym (get-deletion (content_of_nodes ns) id q))
       (λ q. deleted_at ms apart_now q ∙ seen_now mark_of ns ms id old new put q
       ∙ (λ k. cond (is_id-same id q k) (comes k) (sym (deleted_at ns apart q) k))
-      ∙ either (is q id) (finite_set.contains (content_of_nodes ns).deleted q)
+      ∙ true_where (is q id) (finite_set.contains (content_of_nodes ns).deleted q)
       ∙ sym (deleted_now (content_of_nodes ns) id q))
-    where
-      either : (here there : Bool) → cond here true there ≡ (there || here)
-      either true true = refl
-      either true false = refl
-      either false true = refl
-      either false false = refl
 
   -- the element goes
   pub content_uninserted : element_of (Some new) ≡ None → mark_of (Some new) ≡ mark_of old → content_of_nodes ms ≡ without_insertion id (content_of_nodes ns)

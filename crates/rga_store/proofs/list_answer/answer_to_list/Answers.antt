@@ -1,15 +1,10 @@
 use Rattle.std.proofs.Common.{sym, ap, ◌∙◌}
-use Rattle.std.specs.Prelude.{Err}
 use Rattle.std.proofs.lemmas.Result.{err_from_is_err_and}
-use Rattle.rga_ops.specs.ListAnswer.{Verdict}
+use Rattle.rga_ops.proofs.AnswerLaws.{bad}
 use Rattle.rga_ops.proofs.ListSteps.{checked_without_memory}
-use Rattle.rga_ops.specs.declared.refusal.Refusal.{Refusal}
 use Rattle.rga_store.proofs.list_answer.answer_to_list.Goals as goal
-
-abbrev refused : Refusal → Verdict
-refused e = Err e
 
 pub returns-in_err-check_each-clause-memory : goal.returns-in_err-check_each-clause-memory
 returns-in_err-check_each-clause-memory c = λ h.
     let p = err_from_is_err_and c.from_residual.result c.from_residual.ensures.1 in
-    absurd (checked_without_memory c.args.ops.now (sym c.check_each.ensures ∙ c.in_err-check_each.was ∙ ap refused (sym p.2) ∙ sym p.1 ∙ h))
+    absurd (checked_without_memory c.args.ops.now (sym c.check_each.ensures ∙ c.in_err-check_each.was ∙ ap bad (sym p.2) ∙ sym p.1 ∙ h))

@@ -1,20 +1,14 @@
-use Rattle.std.proofs.Common.{◌≡◌, Ok, Err, OnOk, is_ok, sym, ap, ◌∙◌, subst}
+use Rattle.std.proofs.Common.{◌≡◌, Ok, OnOk, is_ok, sym, ap, ◌∙◌, subst}
 use Rattle.rga_ops.specs.Content.{join, content_of}
 use Rattle.rga_ops.specs.Answer.{taken_one_by_one}
-use Rattle.rga_ops.specs.ListAnswer.{Verdict}
+use Rattle.rga_ops.proofs.AnswerLaws.{passed, bad}
 use Rattle.rga_ops.specs.declared.refusal.Refusal.TheVariants.{Memory}
 use Rattle.rga_ops.proofs.ListAnswerLaws.{list_one_by_one}
 use Rattle.rga_ops.proofs.TakenLaws.{took}
 use Rattle.rga_store.proofs.tree_store.TreeStoreTaker.apply_all.Goals as goal
 
-abbrev taken : Verdict
-taken = Ok tt
-
-abbrev no_memory : Verdict
-no_memory = Err Memory
-
 -- Ok is no want of memory
-not_refused : taken ≡ no_memory → ⊥
+not_refused : passed ≡ bad Memory → ⊥
 not_refused h = absurd (cc)
 
 pub take_whole-requires : goal.take_whole-requires
