@@ -1,5 +1,5 @@
 -- The visible elements of a list up to an identifier, one element on.
-use Rattle.std.proofs.Common.{◌≡◌, ℕ, ◌+◌, ◌<◌, Bool, true, false, cond, ◌||◌, List, [], ◌∷◌, filter, length, drop, get_or, sym, ap, ◌∙◌, arith}
+use Rattle.std.proofs.Common.{◌≡◌, ℕ, ◌+◌, ◌<◌, Bool, true, false, cond, not, ◌||◌, List, [], ◌∷◌, filter, length, drop, get_or, sym, ap, ◌∙◌, arith}
 use Rattle.std.specs.List.{list_any}
 use Rattle.std.proofs.lemmas.List.{drop_more}
 use Rattle.rga_ops.specs.Identifier.{Identifier, is_id}
@@ -12,6 +12,15 @@ passing p id xs = length (filter p (up_to id xs))
 -- whether the list has the identifier
 abbrev pub among : Identifier → List Identifier → Bool
 among id xs = list_any (λ x. is_id x id) xs
+
+-- an element is counted where it is kept, and not where it is deleted
+pub count_kept : (n m : ℕ) (deleted : Bool) → m ≡ n + 1 → false ≡ deleted → m ≡ n + cond (not deleted) 1 0
+count_kept n m deleted now is = now ∙ ap (λ b. n + cond (not b) 1 0) is
+
+pub count_deleted : (n m : ℕ) (deleted : Bool) → m ≡ n → true ≡ deleted → m ≡ n + cond (not deleted) 1 0
+count_deleted n m deleted now is =
+    let none : n ≡ n + 0 = omega arith in
+    now ∙ none ∙ ap (λ b. n + cond (not b) 1 0) is
 
 one : (p : Identifier → Bool) (x : Identifier) (ys : List Identifier) → length (filter p (x ∷ ys)) ≡ cond (p x) 1 0 + length (filter p ys)
 one p x ys = elim (p x) as (λ b. length (cond b (x ∷ filter p ys) (filter p ys)) ≡ cond b 1 0 + length (filter p ys)) [

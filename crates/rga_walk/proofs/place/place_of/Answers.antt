@@ -4,7 +4,7 @@ use Rattle.rga_ops.specs.Identifier.{Identifier, is_id, is_root}
 use Rattle.rga_ops.specs.Content.{Content}
 use Rattle.rga_ops.specs.Order.{order}
 use Rattle.rga_ops.proofs.VisibleLaws.{is_kept, place_is}
-use Rattle.rga_walk.proofs.PlaceSteps.{passing, among, passing_here, passing_later, among_here, among_later}
+use Rattle.rga_walk.proofs.PlaceSteps.{passing, among, count_kept, count_deleted, passing_here, passing_later, among_here, among_later}
 use Rattle.rga_walk.proofs.place.place_of.Goals as goal
 use Rattle.rga_walk.proofs.place.place_of.Goals.{then-not-is_deleted, else-not-is_deleted}
 
@@ -20,8 +20,8 @@ returns-then-eq-2-clause-ok g c =
     let here : is_id x id ≡ true = sym c.eq-in-loop-x.ensures ∙ c.if-eq-2.true in
     let all : xs ≡ order content = c.deref-x-items.ensures.value ∙ c.in_ok-ids.ensures.ok in
     let now : c.if-not-is_deleted.count ≡ c.loop-x.count + cond (kept x) 1 0 = elim c.if-not-is_deleted.branch [
-      | then-not-is_deleted w ↦ w.count-is ∙ ap (λ b. c.loop-x.count + cond (not b) 1 0) (sym w.if-not-is_deleted.true ∙ c.is_deleted.ensures)
-      | else-not-is_deleted w ↦ let none : c.loop-x.count ≡ c.loop-x.count + 0 = omega arith in w.count-is ∙ none ∙ ap (λ b. c.loop-x.count + cond (not b) 1 0) (sym w.if-not-is_deleted.false ∙ c.is_deleted.ensures)
+      | then-not-is_deleted w ↦ count_kept c.loop-x.count _ _ w.count-is (sym w.if-not-is_deleted.true ∙ c.is_deleted.ensures)
+      | else-not-is_deleted w ↦ count_deleted c.loop-x.count _ _ w.count-is (sym w.if-not-is_deleted.false ∙ c.is_deleted.ensures)
     ] in
     let found : among id (order content) ≡ true = ap (among id) (sym all) ∙ sym c.loop-x.invariant.ahead ∙ among_here id xs c.loop-x.x-index x c.loop-x-test.true c.x-item.is here in
     let count : passing kept id (order content) ≡ c.if-not-is_deleted.count =
@@ -39,8 +39,8 @@ loop-x-preserved g c =
     let x : Identifier = c.x-item.result in
     let other : is_id x id ≡ false = sym c.eq-in-loop-x.ensures ∙ c.if-eq-2.false in
     let now : c.if-not-is_deleted.count ≡ c.loop-x.count + cond (kept x) 1 0 = elim c.if-not-is_deleted.branch [
-      | then-not-is_deleted w ↦ w.count-is ∙ ap (λ b. c.loop-x.count + cond (not b) 1 0) (sym w.if-not-is_deleted.true ∙ c.is_deleted.ensures)
-      | else-not-is_deleted w ↦ let none : c.loop-x.count ≡ c.loop-x.count + 0 = omega arith in w.count-is ∙ none ∙ ap (λ b. c.loop-x.count + cond (not b) 1 0) (sym w.if-not-is_deleted.false ∙ c.is_deleted.ensures)
+      | then-not-is_deleted w ↦ count_kept c.loop-x.count _ _ w.count-is (sym w.if-not-is_deleted.true ∙ c.is_deleted.ensures)
+      | else-not-is_deleted w ↦ count_deleted c.loop-x.count _ _ w.count-is (sym w.if-not-is_deleted.false ∙ c.is_deleted.ensures)
     ] in
     let one : cond (kept x) 1 0 ≤ 1 = elim (kept x) as (λ b. cond b 1 0 ≤ 1) [ true ↦ omega arith | false ↦ omega arith ] in
     let step : passing kept id (drop c.loop-x.x-index xs) ≡ cond (kept x) 1 0 + passing kept id (drop (c.loop-x.x-index + 1) xs) = passing_later kept id xs c.loop-x.x-index x c.loop-x-test.true c.x-item.is other in
