@@ -20,7 +20,7 @@ use Rattle.rga_ops.proofs.AnswerLaws.{bad}
 use Rattle.rga_ops.proofs.VisibleLaws.{text_long}
 use Rattle.rga_store.specs.Limit.{is_limit}
 use Rattle.rga_doc.specs.LocalEdit.{left_of, chain, splice_operations, splices_operations, edit_answer, splice_answer, splices_answer, greatest_counter, are_falling, new_characters}
-use Rattle.rga_doc.proofs.EditLaws.{drafted, splices_drafted}
+use Rattle.rga_doc.proofs.EditLaws.{falls_first, drafted, splices_drafted}
 
 -- ---- places
 
@@ -31,26 +31,19 @@ left_of_later elements (suc k) x other within is =
     let before : suc k - 1 ≡ k = omega arith in
     get_or_read elements (suc k - 1) x within is root ∙ ap (λ i. get_or elements i root) before ∙ sym (unwrap_or-slice_get elements k root)
 
--- the first of the splices that fall is in order and within the bound, and the others fall below it
-falls_first : (s : Splice) (splices : List Splice) (bound : ℕ) → are_falling bound (s ∷ splices) ≡ true → (s.lo ≤ s.hi) × (s.hi ≤ bound) × (are_falling s.lo splices ≡ true)
-falls_first s splices bound h =
-    let split : ((nat_le s.lo s.hi && nat_le s.hi bound) ≡ true) × (are_falling s.lo splices ≡ true) = and_parts (nat_le s.lo s.hi && nat_le s.hi bound) (are_falling s.lo splices) h in
-    let tests : (nat_le s.lo s.hi ≡ true) × (nat_le s.hi bound ≡ true) = and_parts (nat_le s.lo s.hi) (nat_le s.hi bound) split.0 in
-    (leb-true s.lo s.hi tests.0, leb-true s.hi bound tests.1, split.1)
-
--- each of them is in order and within the bound
+-- each of the splices that fall is in order and within the bound
 pub falls_within : (splices : List Splice) (bound i : ℕ) (s : Splice) → are_falling bound splices ≡ true → i < length splices → s ≡ get_or splices i s → (s.lo ≤ s.hi) × (s.hi ≤ bound)
 falls_within [] bound i s h within is = absurd (omega (arith, within))
 falls_within (x ∷ splices) bound zero s h within is =
-    let first : (x.lo ≤ x.hi) × (x.hi ≤ bound) × (are_falling x.lo splices ≡ true) = falls_first x splices bound h in
+    let first = falls_first x splices bound h in
     let same : s ≡ x = is in
     let begin : s.lo ≡ x.lo = ap (λ (t : Splice). t.lo) same in
     let end : s.hi ≡ x.hi = ap (λ (t : Splice). t.hi) same in
-    (omega (arith, first.0, begin, end), omega (arith, first.1, end))
+    (omega (arith, first.up, begin, end), omega (arith, first.within, end))
 falls_within (x ∷ splices) bound (suc i) s h within is =
-    let first : (x.lo ≤ x.hi) × (x.hi ≤ bound) × (are_falling x.lo splices ≡ true) = falls_first x splices bound h in
-    let rest : (s.lo ≤ s.hi) × (s.hi ≤ x.lo) = falls_within splices x.lo i s first.2 (omega (arith, within)) is in
-    (rest.0, omega (arith, rest.1, first.0, first.1))
+    let first = falls_first x splices bound h in
+    let rest : (s.lo ≤ s.hi) × (s.hi ≤ x.lo) = falls_within splices x.lo i s first.further (omega (arith, within)) is in
+    (rest.0, omega (arith, rest.1, first.up, first.within))
 
 -- ---- what is answered
 

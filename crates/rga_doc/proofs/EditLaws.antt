@@ -182,12 +182,12 @@ splice_order limit replica lo hi c put h =
 -- ---- several splices in turn
 
 -- the first of the splices keeps within the bound, and the others before it
-record Falls (s : Splice) (splices : List Splice) (bound : ℕ) : Type 0 where
-  up : s.lo ≤ s.hi
-  within : s.hi ≤ bound
-  further : are_falling s.lo splices ≡ true
+pub record Falls (s : Splice) (splices : List Splice) (bound : ℕ) : Type 0 where
+  pub up : s.lo ≤ s.hi
+  pub within : s.hi ≤ bound
+  pub further : are_falling s.lo splices ≡ true
 
-falls_first : (s : Splice) (splices : List Splice) (bound : ℕ) → are_falling bound (s ∷ splices) ≡ true → Falls s splices bound
+pub falls_first : (s : Splice) (splices : List Splice) (bound : ℕ) → are_falling bound (s ∷ splices) ≡ true → Falls s splices bound
 falls_first s splices bound h =
     let parts = and_parts (nat_le s.lo s.hi && nat_le s.hi bound) (are_falling s.lo splices) h in
     let places = and_parts (nat_le s.lo s.hi) (nat_le s.hi bound) parts.0 in
