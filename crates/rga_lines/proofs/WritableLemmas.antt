@@ -6,20 +6,15 @@ use Rattle.rga_ops.specs.Operation.{checked}
 use Rattle.rga_ops.specs.declared.op.Op.TheVariants.{Insert, Delete}
 use Rattle.rga_ops.specs.declared.refusal.Refusal.{Refusal}
 use Rattle.rga_ops.specs.declared.refusal.Refusal.TheVariants.{BadId, BadOrder}
+use Rattle.rga_ops.proofs.AnswerLaws.{passed, bad}
 use Rattle.rga_lines.specs.Spelling.{IsWritable}
-
-abbrev passed : Result (Unit {0}) Refusal
-passed = Ok tt
-
-abbrev turned_away : Refusal → Result (Unit {0}) Refusal
-turned_away e = Err e
 
 -- an identifier that is the root or in the ranges, and is not the root, is in the ranges
 in_range : (id : Identifier) (rest : Result (Unit {0}) Refusal) → is_root id || is_in_range id.counter id.replica ≡ true → cond (is_root id) (Err BadId) rest ≡ Ok tt → is_in_range id.counter id.replica ≡ true
 in_range id rest = by_root (is_root id)
   where
     by_root : (root : Bool) → (root || is_in_range id.counter id.replica) ≡ true → cond root (Err BadId) rest ≡ Ok tt → is_in_range id.counter id.replica ≡ true
-    by_root true kept ok = let clash : turned_away BadId ≡ passed = ok in absurd cc
+    by_root true kept ok = let clash : bad BadId ≡ passed = ok in absurd cc
     by_root false kept ok = kept
 
 pub insertion_writable : (id parent : Identifier) (ch : ℕ) → is_root id || is_in_range id.counter id.replica ≡ true → is_root parent || is_in_range parent.counter parent.replica ≡ true → IsScalar ch → checked (Insert id parent ch) ≡ Ok tt → IsWritable (Insert id parent ch)
