@@ -11,6 +11,7 @@ use Rattle.rga_ops.specs.ListAnswer.{IsJoinable}
 use Rattle.rga_ops.specs.declared.op.Op.{Op}
 use Rattle.rga_ops.specs.declared.refusal.Refusal.{Refusal}
 use Rattle.rga_ops.proofs.OperationLaws.{Contains-nil, Contains-cases}
+use Rattle.rga_ops.proofs.TakenLaws.{took}
 use Rattle.rga_ops.proofs.KnownLaws.{takeable_is_taken, taken_list_within}
 use Rattle.rga_ops.proofs.ListAnswerLaws.{one_by_one_list, list_taken-iff}
 use Rattle.rga_lines.specs.Table.{Reading, line_at, max_line}
@@ -29,8 +30,8 @@ use Rattle.rga_exchange.specs.Taking.{AllTaken, AtFault, taking, stop_at_rest}
 use Rattle.rga_exchange.specs.Log.{LogOutcome, ended, after_bare_operation, after_bare_line, after_rest, after_stop, after_lines, log_outcome}
 use Rattle.rga_exchange.specs.Stops.{HasNothingTorn}
 use Rattle.rga_exchange.proofs.TakingLaws.{are_taken}
-use Rattle.rga_exchange.proofs.OperationLaws.{no_fault, is_read, log_taken}
-use Rattle.rga_exchange.proofs.StopLaws.{operations_are_taken, took_first, lines_counted}
+use Rattle.rga_exchange.proofs.OperationLaws.{is_read_to_end, no_fault, is_read, log_taken}
+use Rattle.rga_exchange.proofs.StopLaws.{operation, no_operation, operations_are_taken, took_first, lines_counted}
 
 pub log_joinable : (limit : ℕ) (c d : Content) (read : LogRead) (bytes : List ℕ) → finite_set.len (known c) ≤ limit → log_outcome limit c bytes ≡ (d, Ok read) → IsJoinable c (log_operations bytes) × (finite_set.len (known d) ≤ limit)
 log_joinable limit c d read bytes within h =
@@ -41,9 +42,6 @@ log_joinable limit c d read bytes within h =
 
 -- ---- what a log that is read to its end is
 
-abbrev told : LogRead → Result LogRead LogFault
-told read = Ok read
-
 -- what is told of an end behind n lines
 record Tells (n : ℕ) (read : LogRead) (rest : List ℕ) : Type 0 where
   lines : read.lines ≡ n
@@ -51,7 +49,7 @@ record Tells (n : ℕ) (read : LogRead) (rest : List ℕ) : Type 0 where
 
 tells : (n : ℕ) (c d : Content) (end : LogEnd) (read : LogRead) (rest : List ℕ) → ended n c end ≡ (d, Ok read) → (HasNothingTorn end → (rest ≡ []) ⊎ IsOperation rest) → Tells n read rest
 tells n c d end read rest h one =
-    let same : told (record { lines = n; end = end }) ≡ told read = ap (λ (o : LogOutcome). o.1) h in
+    let same : is_read_to_end (record { lines = n; end = end }) ≡ is_read_to_end read = ap (λ (o : LogOutcome). o.1) h in
     let is : record { lines = n; end = end } ≡ read = cc in
     record {
       lines = sym (ap (λ (r : LogRead). r.lines) is);
@@ -87,25 +85,16 @@ log_only_operations limit c d read bytes h whole =
 
 -- ---- what is read to its end
 
-abbrev read : Op → Reading
-read op = Ok op
-
-abbrev unread : LineFault → Reading
-unread e = Err e
-
 operations_well_formed : (lines : List (List ℕ)) (op : Op) → Contains (operations_of lines) op → checked op ≡ Ok tt
 operations_well_formed [] op m = absurd (Contains-nil op m)
 operations_well_formed (line ∷ lines) op m = by_line (line_at line) refl m (λ later. operations_well_formed lines op later)
   where
     by_line : (r : Reading) → line_at line ≡ r → Contains (then_operations r (operations_of lines)) op → (Contains (operations_of lines) op → checked op ≡ Ok tt) → checked op ≡ Ok tt
     by_line (Ok first) says m others = elim (Contains-cases first op (operations_of lines) m) [
-      | inl same ↦ well_formed line op (says ∙ ap read same)
+      | inl same ↦ well_formed line op (says ∙ ap operation same)
       | inr later ↦ others later
     ]
     by_line (Err e) says m others = absurd (Contains-nil op m)
-
-abbrev held : Content → Result Content Refusal
-held c = Ok c
 
 -- lines that are operations were taken one by one, and then others
 parts_taken : (limit : ℕ) (c d : Content) (lines others : List (List ℕ)) → AllByRecursion IsOperation lines → taken_one_by_one limit c (operations_of (lines ++ others)) ≡ Ok d → (e : Content) × (taken_one_by_one limit c (operations_of lines) ≡ Ok e) × (taken_one_by_one limit e (operations_of others) ≡ Ok d)
@@ -123,13 +112,13 @@ parts_taken limit c d (line ∷ lines) others all h =
 -- a rest that is an operation, or none, ends a log with nothing torn off
 rest_read : (limit n : ℕ) (c d : Content) (rest : List ℕ) → (rest ≡ []) ⊎ IsOperation rest → taken_one_by_one limit c (operations_of (rest ∷ [])) ≡ Ok d → (read : LogRead) × (after_rest limit n c rest ≡ (d, Ok read)) × HasNothingTorn read.end
 rest_read limit n c d [] one h =
-    let same : held c ≡ held d = sym (ap (λ r. taken_one_by_one limit c (then_operations r [])) no_line) ∙ h in
+    let same : took c ≡ took d = sym (ap (λ r. taken_one_by_one limit c (then_operations r [])) no_line) ∙ h in
     let is : c ≡ d = cc in
     (record { lines = n; end = Whole }, ap (λ e. ended n e Whole) is, tt)
 rest_read limit n c d (b ∷ bytes) (inl none) h = absurd cc
 rest_read limit n c d (b ∷ bytes) (inr (op, says)) h =
     let w = took_first limit c d op [] (sym (ap (λ r. taken_one_by_one limit c (then_operations r [])) says) ∙ h) in
-    let same : held w.0 ≡ held d = w.2 in
+    let same : took w.0 ≡ took d = w.2 in
     let is : w.0 ≡ d = cc in (
       record { lines = n; end = Bare },
       ap (after_bare_line limit n c (length (b ∷ bytes))) says ∙ ap (after_bare_operation n c) w.1 ∙ ap (λ e. ended n e Bare) is,
@@ -144,7 +133,7 @@ rest_is_short rest one = by_size (nat_lt max_line (length rest)) refl one
     by_size false size one = refl
     by_size true size (inl none) = let short : nat_lt max_line (length rest) ≡ false = ap (λ (r : List ℕ). nat_lt max_line (length r)) none in absurd cc
     by_size true size (inr (op, says)) =
-        let clash : unread line_fault.Long ≡ read op = sym (long_line rest (ltb-true max_line (length rest) size)) ∙ says in
+        let clash : no_operation line_fault.Long ≡ operation op = sym (long_line rest (ltb-true max_line (length rest) size)) ∙ says in
         absurd cc
 
 pub log_without_fault : (limit : ℕ) (c : Content) (bytes : List ℕ) → HasOnlyOperations bytes → IsJoinable c (log_operations bytes) → finite_set.len (known (join c (content_of (log_operations bytes)))) ≤ limit → (read : LogRead) × (log_outcome limit c bytes ≡ (join c (content_of (log_operations bytes)), Ok read)) × HasNothingTorn read.end

@@ -45,11 +45,11 @@ stream_text-is c ops are =
     ∙ ap (λ (l : List ℕ). log_text ops ++ l) (append-nil (end ++ newline ∷ []))
 
 -- what was left was put before the end
-pub stream_begun : (a b : Option (List ℕ)) (c : Content) (ops : List Op) (start left end last : List ℕ) → ops ≡ operations c → start ≡ [] → end ≡ end_line (length ops) → last ≡ left ++ (end ++ newline ∷ [])
+pub stream_begun : (a b : Option (List ℕ)) (c : Content) (ops : List Op) (start left : List ℕ) (number : ℕ) (end last : List ℕ) → ops ≡ operations c → start ≡ [] → number ≡ length ops → end ≡ end_line number → last ≡ left ++ (end ++ newline ∷ [])
     → Begun a b (start ++ log_text ops) left → Begun a b (stream_text c) last
-stream_begun a b c ops start left end last are none ends is h =
+stream_begun a b c ops start left number end last are none count ends is h =
     let whole : Begun a b (log_text ops ++ (end ++ newline ∷ [])) (left ++ (end ++ newline ∷ [])) = begun_longer a b (log_text ops) left (end ++ newline ∷ []) (log_begun a b start (log_text ops) left none h) in
-    let text : log_text ops ++ (end ++ newline ∷ []) ≡ stream_text c = ap (λ (l : List ℕ). log_text ops ++ (l ++ newline ∷ [])) ends ∙ sym (stream_text-is c ops are) in
+    let text : log_text ops ++ (end ++ newline ∷ []) ≡ stream_text c = ap (λ (l : List ℕ). log_text ops ++ (l ++ newline ∷ [])) (ends ∙ ap end_line count) ∙ sym (stream_text-is c ops are) in
     subst (Begun a b (stream_text c)) (sym is) (subst (λ (l : List ℕ). Begun a b l (left ++ (end ++ newline ∷ []))) text whole)
 
 -- a beginning of the lines of the operations is one of all

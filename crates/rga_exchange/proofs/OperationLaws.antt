@@ -81,7 +81,7 @@ stream_joined limit n c d number bytes h = (taken_list_is limit c (stream_operat
 
 -- ---- a whole log
 
-abbrev is_read_to_end : LogRead → Result LogRead LogFault
+abbrev pub is_read_to_end : LogRead → Result LogRead LogFault
 is_read_to_end read = Ok read
 
 pub no_fault : {c d : Content} (e : LogFault) (read : LogRead) → ran (Err e) c ≡ ran (Ok read) d → ⊥

@@ -7,6 +7,7 @@ use Rattle.rga_ops.specs.Content.{Content}
 use Rattle.rga_ops.specs.Answer.{taken, and_take, taken_one_by_one}
 use Rattle.rga_ops.specs.declared.op.Op.{Op}
 use Rattle.rga_ops.specs.declared.refusal.Refusal.{Refusal}
+use Rattle.rga_ops.proofs.TakenLaws.{took, refused}
 use Rattle.rga_lines.specs.Table.{Reading, AnyReading, any_line_at, line_at, max_line}
 use Rattle.rga_lines.specs.Stream.{lines_of, rest_of}
 use Rattle.rga_lines.specs.Log.{operations_of, then_operations, IsOperation}
@@ -17,13 +18,7 @@ use Rattle.rga_lines.proofs.ReadingLemmas.{too_long, alone}
 use Rattle.rga_exchange.specs.declared.fault.LogFault.TheVariants as fault
 use Rattle.rga_exchange.specs.Taking.{Stop, AllTaken, AtEnd, AtFault, Taking, taking, refused_at, after_line, go_on, lines_taken, stream_taken}
 use Rattle.rga_exchange.specs.Stops.{GoesOnWith, IsTakenUpTo, all_lines}
-use Rattle.rga_exchange.proofs.TakingLaws.{lines_taken-append, are_taken}
-
-abbrev on : Content → Result Content Stop
-on c = Ok c
-
-abbrev halt : Stop → Result Content Stop
-halt s = Err s
+use Rattle.rga_exchange.proofs.TakingLaws.{on, halt, lines_taken-append, are_taken}
 
 -- ---- what stops is so
 
@@ -89,20 +84,14 @@ lines_counted limit n m c d lines h =
 
 -- ---- what is so stops
 
-abbrev operation : Op → Reading
+abbrev pub operation : Op → Reading
 operation op = Ok op
 
-abbrev no_operation : LineFault → Reading
+abbrev pub no_operation : LineFault → Reading
 no_operation e = Err e
 
 abbrev says_one : Op → AnyReading
 says_one op = Ok (One op)
-
-abbrev held : Content → Result Content Refusal
-held c = Ok c
-
-abbrev refused : Refusal → Result Content Refusal
-refused e = Err e
 
 -- an operation that is said where operations alone may stand is said anywhere
 said_anywhere : (line : List ℕ) (op : Op) → line_at line ≡ Ok op → any_line_at line ≡ Ok (One op)
@@ -121,11 +110,11 @@ took_first limit c d op ops h = by_first (taken limit c op) refl h
   where
     by_first : (r : Result Content Refusal) → taken limit c op ≡ r → and_take r (λ e. taken_one_by_one limit e ops) ≡ Ok d → (e : Content) × (taken limit c op ≡ Ok e) × (taken_one_by_one limit e ops ≡ Ok d)
     by_first (Ok e) was g = (e, was, g)
-    by_first (Err x) was g = let clash : refused x ≡ held d = g in absurd cc
+    by_first (Err x) was g = let clash : refused x ≡ took d = g in absurd cc
 
 pub operations_are_taken : (limit n : ℕ) (c d : Content) (lines : List (List ℕ)) → AllByRecursion IsOperation lines → taken_one_by_one limit c (operations_of lines) ≡ Ok d → lines_taken limit n c lines ≡ taking (n + length lines) d AllTaken
 operations_are_taken limit n c d [] all h =
-    let same : held c ≡ held d = h in
+    let same : took c ≡ took d = h in
     let is : c ≡ d = cc in
     let count : n ≡ n + 0 = omega arith in
     λ k. taking (count k) (is k) AllTaken

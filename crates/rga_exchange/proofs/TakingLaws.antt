@@ -19,10 +19,10 @@ use Rattle.rga_exchange.specs.declared.fault.LogFault.TheVariants as fault
 use Rattle.rga_exchange.specs.Taking.{Stop, AllTaken, AtEnd, AtFault, Taking, taking, refused_at, after_line, go_on, lines_taken, with_rest, bytes_taken, AreTaken}
 use Rattle.rga_exchange.specs.Parts.{Takes}
 
-abbrev on : Content → Result Content Stop
+abbrev pub on : Content → Result Content Stop
 on c = Ok c
 
-abbrev halt : Stop → Result Content Stop
+abbrev pub halt : Stop → Result Content Stop
 halt s = Err s
 
 -- ---- what is not a stop behind all lines
