@@ -17,11 +17,9 @@ use Rattle.rga_ops.proofs.ListAnswerLaws.{one_by_one_list, list_taken-iff}
 use Rattle.rga_lines.specs.Table.{Reading, line_at, max_line}
 use Rattle.rga_lines.specs.Stream.{lines_of, rest_of}
 use Rattle.rga_lines.specs.Log.{operations_of, then_operations, log_operations, IsOperation, HasOnlyOperations}
-use Rattle.rga_lines.specs.declared.fault.LineFault.{LineFault}
 use Rattle.rga_lines.specs.declared.fault.LineFault.TheVariants as line_fault
 use Rattle.rga_lines.proofs.ReadingLemmas.{well_formed}
 use Rattle.rga_lines.proofs.SplitterLemmas.{long_line, no_line}
-use Rattle.rga_exchange.specs.declared.fault.LogFault.{LogFault}
 use Rattle.rga_exchange.specs.declared.fault.LogFault.TheVariants as fault
 use Rattle.rga_exchange.specs.declared.log.LogEnd.{LogEnd}
 use Rattle.rga_exchange.specs.declared.log.LogEnd.TheVariants.{Whole, Bare, Torn}
