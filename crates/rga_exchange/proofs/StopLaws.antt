@@ -129,18 +129,20 @@ operations_are_taken limit n c d (line ∷ lines) all h =
     ∙ operations_are_taken limit (n + 1) w.0 d lines all.1 w.2
     ∙ ap (λ k. taking k d AllTaken) count
 
+-- what the first line says decides how the lines go on
+said_next : (limit n : ℕ) (c : Content) (lines later : List (List ℕ)) (line : List ℕ) (r : AnyReading) → lines ≡ line ∷ later → any_line_at line ≡ r → lines_taken limit n c lines ≡ go_on n c (after_line limit (n + 1) c r) (λ d. lines_taken limit (n + 1) d later)
+said_next limit n c lines later line r split says =
+    ap (lines_taken limit n c) split
+    ∙ ap (λ r. go_on n c (after_line limit (n + 1) c r) (λ d. lines_taken limit (n + 1) d later)) says
+
 goes_on_so : (limit n : ℕ) (c : Content) (lines : List (List ℕ)) (stop : Stop) → GoesOnWith limit n c lines stop → lines_taken limit n c lines ≡ taking n c stop
 goes_on_so limit n c lines AllTaken none = ap (lines_taken limit n c) none
-goes_on_so limit n c lines (AtEnd number) w =
-    ap (lines_taken limit n c) w.split
-    ∙ ap (λ r. go_on n c (after_line limit (n + 1) c r) (λ d. lines_taken limit (n + 1) d w.later)) w.says
+goes_on_so limit n c lines (AtEnd number) w = said_next limit n c lines w.later w.line (Ok (Last number)) w.split w.says
 goes_on_so limit n c lines (AtFault (fault.Line k e)) (number, w) =
-    ap (lines_taken limit n c) w.split
-    ∙ ap (λ r. go_on n c (after_line limit (n + 1) c r) (λ d. lines_taken limit (n + 1) d w.later)) w.says
+    said_next limit n c lines w.later w.line (Err e) w.split w.says
     ∙ ap (λ i. taking n c (AtFault (fault.Line i e))) (sym number)
 goes_on_so limit n c lines (AtFault (fault.Refused k e)) (number, w) =
-    ap (lines_taken limit n c) w.split
-    ∙ ap (λ r. go_on n c (after_line limit (n + 1) c r) (λ d. lines_taken limit (n + 1) d w.later)) w.says
+    said_next limit n c lines w.later w.line (Ok (One w.op)) w.split w.says
     ∙ ap (λ r. go_on n c (refused_at (n + 1) r) (λ d. lines_taken limit (n + 1) d w.later)) w.refused
     ∙ ap (λ i. taking n c (AtFault (fault.Refused i e))) (sym number)
 goes_on_so limit n c lines (AtFault fault.Read) w = absurd w

@@ -106,15 +106,16 @@ takes_after limit n m c d bytes waiting s more =
     ∙ ap (with_rest (rest_of (waiting ++ more))) (lines_taken-append limit n m c d s.lines (lines_of (waiting ++ more)) s.taken)
 
 -- a line that is not taken ends the stream
-pub line_ends : (limit n : ℕ) (c : Content) (s t : Splitting) (line : List ℕ) (number : ℕ) → GivesLine s t line → after_line limit (n + 1) c (any_line_at line) ≡ Err (AtEnd number) → (more : List ℕ) → bytes_taken limit n c (s.waiting ++ more) ≡ taking n c (AtEnd number)
-line_ends limit n c s t line number given h more =
+line_stops : (limit n : ℕ) (c : Content) (s t : Splitting) (line : List ℕ) (stop : Stop) → GivesLine s t line → after_line limit (n + 1) c (any_line_at line) ≡ Err stop → (more : List ℕ) → bytes_taken limit n c (s.waiting ++ more) ≡ with_rest (rest_of (s.waiting ++ more)) (taking n c stop)
+line_stops limit n c s t line stop given h more =
     ap (λ ls. with_rest (rest_of (s.waiting ++ more)) (lines_taken limit n c ls)) (given.lines more)
     ∙ ap (λ r. with_rest (rest_of (s.waiting ++ more)) (go_on n c r (λ d. lines_taken limit (n + 1) d (lines_of (t.waiting ++ more))))) h
 
+pub line_ends : (limit n : ℕ) (c : Content) (s t : Splitting) (line : List ℕ) (number : ℕ) → GivesLine s t line → after_line limit (n + 1) c (any_line_at line) ≡ Err (AtEnd number) → (more : List ℕ) → bytes_taken limit n c (s.waiting ++ more) ≡ taking n c (AtEnd number)
+line_ends limit n c s t line number given h more = line_stops limit n c s t line (AtEnd number) given h more
+
 pub line_fails : (limit n : ℕ) (c : Content) (s t : Splitting) (line : List ℕ) (e : LogFault) → GivesLine s t line → after_line limit (n + 1) c (any_line_at line) ≡ Err (AtFault e) → (more : List ℕ) → bytes_taken limit n c (s.waiting ++ more) ≡ taking n c (AtFault e)
-line_fails limit n c s t line e given h more =
-    ap (λ ls. with_rest (rest_of (s.waiting ++ more)) (lines_taken limit n c ls)) (given.lines more)
-    ∙ ap (λ r. with_rest (rest_of (s.waiting ++ more)) (go_on n c r (λ d. lines_taken limit (n + 1) d (lines_of (t.waiting ++ more))))) h
+line_fails limit n c s t line e given h more = line_stops limit n c s t line (AtFault e) given h more
 
 -- and so does one that is too long
 pub begins_long : (limit n : ℕ) (c : Content) (lines : List (List ℕ)) (rest : List ℕ) → BeginsLong lines rest → with_rest rest (lines_taken limit n c lines) ≡ taking n c (AtFault (fault.Line (n + 1) line_fault.Long))

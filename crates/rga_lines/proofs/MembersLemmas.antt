@@ -1,5 +1,5 @@
 -- Members in any order, with blanks between them or none, are read as the value that has them.
-use Rattle.std.proofs.Common.{◌≡◌, ℕ, suc, ◌≤◌, true, false, List, [], ◌∷◌, ◌++◌, length, codes, Option, Some, None, IfSome, option_and_then, Ok, refl, sym, true≢false, ap, ◌∙◌, subst, arith, lit≤, ◌<◌, leb}
+use Rattle.std.proofs.Common.{◌≡◌, ℕ, suc, ◌≤◌, true, false, List, [], ◌∷◌, ◌++◌, length, codes, Option, Some, None, IfSome, option_and_then, Ok, refl, sym, true≢false, ap, ◌∙◌, subst, arith, lit≤, ◌<◌}
 use Rattle.std.specs.Ordering.{nat_cmp, match_ordering}
 use Rattle.std.specs.Cmp.Lexicographic.{slice_cmp}
 use Rattle.std.specs.declared.cmp.Ordering.{Ordering}
@@ -19,7 +19,7 @@ use Rattle.serde_json.specs.Read.{read, of_json, of_members}
 use Rattle.serde_json.specs.Written.{outline}
 use Rattle.serde_json.proofs.Views.{get_member-put, get_member-put_other}
 use Rattle.rga_lines.specs.Members.{name, data_of, char_data, kind_data, pair_data, IsSound, AreSound, IsElement, IsElementOrRoot, value_before, member_before, members_lexemes, one, Holds, put_all, ListsMembers}
-use Rattle.rga_ops.specs.Identifier.{Identifier, is_root}
+use Rattle.rga_ops.specs.Identifier.{Identifier}
 use Rattle.rga_lines.specs.declared.members.Kind.{Kind}
 use Rattle.rga_lines.specs.declared.members.Found.{Found}
 use Rattle.rga_lines.specs.declared.members.Member.{Member}
@@ -28,10 +28,11 @@ use Rattle.rga_lines.specs.declared.members.Member.TheVariants as named
 use Rattle.rga_ops.specs.Operation.{checked}
 use Rattle.rga_ops.specs.declared.op.Op.{Op}
 use Rattle.rga_ops.specs.declared.op.Op.TheVariants.{Insert, Delete}
+use Rattle.rga_ops.proofs.AnswerLaws.{well_formed_insertion}
 use Rattle.rga_lines.specs.Table.{max_line, value_line, any_line_at}
 use Rattle.rga_lines.specs.declared.reading.Line.TheVariants.{One}
 use Rattle.rga_lines.specs.declared.members.Kind.TheVariants.{Insertion, Deletion}
-use Rattle.rga_lines.proofs.ReadBack.{within, in_bounds, pair-json, read_tokens, chars-one, checked_insert}
+use Rattle.rga_lines.proofs.ReadBack.{within, in_bounds, pair-json, read_tokens, chars-one}
 use Rattle.rga_lines.proofs.ReadingLemmas.{accepted}
 
 -- ---- tokens
@@ -177,7 +178,7 @@ says_insertion found ms ch id parent a b k d h e =
     let single = chars-one ch (subst (λ (o : Option ℕ). IfSome o IsScalar) a h.scalar) in
     let element : IsElement id = subst (λ (o : Option Identifier). IfSome o IsElement) b h.element in
     let parents : IsElementOrRoot parent = subst (λ (o : Option Identifier). IfSome o IsElementOrRoot) d h.element_or_root in
-    let rising = checked_insert (is_root id) (leb id.counter parent.counter) e in
+    let rising = (well_formed_insertion id parent ch e).1 in
     rw (count, op, char, name, above, element, parents, single, rising)
 
 pub says_deletion : (found : Found) (ms : Members) (id : Identifier) → found.ch ≡ None → found.id ≡ Some id → found.kind ≡ Some Deletion → found.parent ≡ None → Holds found ms → value_line (object ms) ≡ Ok (One (Delete id))

@@ -1,5 +1,5 @@
 -- No line that is written has a newline in it.
-use Rattle.std.proofs.Common.{◌≡◌, ◌≢◌, ℕ, ◌+◌, ◌<◌, ◌^◌, ◌/◌, ◌%◌, ◌||◌, ◌&&◌, Bool, true, false, cond, not, eqb, ltb, List, [], ◌∷◌, ◌++◌, ◌⊎◌, inl, inr, codes, decimal, refl, sym, subst, arith}
+use Rattle.std.proofs.Common.{◌≡◌, ◌≢◌, ℕ, ◌+◌, ◌<◌, ◌^◌, ◌/◌, ◌%◌, ◌&&◌, Bool, true, false, cond, not, eqb, ltb, List, [], ◌∷◌, ◌++◌, ◌⊎◌, inl, inr, codes, decimal, refl, sym, subst, arith}
 use Rattle.std.specs.Char.{encode_utf8, digit_char}
 use Rattle.std.proofs.lemmas.Bool.{cases_eq, cases_lt, and_parts, eqb-false, not-true}
 use Rattle.std.proofs.lemmas.List.Elements.{All-nil, All-cons}
@@ -10,7 +10,7 @@ use Rattle.rga_ops.specs.declared.op.Op.{Op}
 use Rattle.rga_ops.specs.declared.op.Op.TheVariants.{Insert, Delete}
 use Rattle.rga_lines.specs.Spelling.{escaped, pair_text, line, end_line, IsWritable}
 use Rattle.rga_lines.specs.Stream.{newline, HasNoNewline}
-use Rattle.rga_lines.proofs.SpellingLemmas.{Plain, Plain-encode}
+use Rattle.rga_lines.proofs.SpellingLemmas.{escaped_all, Plain, Plain-encode}
 use Rattle.rga_lines.proofs.ReadBack.{InBounds, within, in_bounds}
 
 -- by recursion, for the inductions below
@@ -45,17 +45,6 @@ digit d = go (ltb d 10)
     go true e = omega arith
     go false e = omega arith
 
-nested : (a b c d e f g : Bool) (x y z : List ℕ) → HasNo x → HasNo y → HasNo z
-    → HasNo (cond a x (cond b (codes "\\b") (cond c (codes "\\t") (cond d (codes "\\n") (cond e (codes "\\f") (cond f (codes "\\r") (cond g y z)))))))
-nested true b c d e f g x y z p q r = p
-nested false true c d e f g x y z p q r = literal (codes "\\b") refl
-nested false false true d e f g x y z p q r = literal (codes "\\t") refl
-nested false false false true e f g x y z p q r = literal (codes "\\n") refl
-nested false false false false true f g x y z p q r = literal (codes "\\f") refl
-nested false false false false false true g x y z p q r = literal (codes "\\r") refl
-nested false false false false false false true x y z p q r = q
-nested false false false false false false false x y z p q r = r
-
 HasNo-encode : (c : ℕ) → (c ≡ newline → ⊥) → HasNo (encode_utf8 c)
 HasNo-encode c ne = elim (cases_lt c 128) [ inl lt ↦ subst HasNo (sym (encode_ascii c lt)) (ne, tt) | inr le ↦ HasNo-Plain (encode_utf8 c) (Plain-encode c le) ]
 
@@ -66,7 +55,7 @@ HasNo-escaped c = go (cases_eq c newline)
     go : (c ≡ newline) ⊎ (c ≡ newline → ⊥) → HasNo (escaped c)
     go (inl e) = subst (λ (x : ℕ). HasNo (escaped x)) (sym e) (literal (codes "\\n") refl)
     go (inr ne) =
-        nested (eqb c 34 || eqb c 92) (eqb c 8) (eqb c 9) (eqb c 10) (eqb c 12) (eqb c 13) (ltb c 32) (92 ∷ c ∷ []) (codes "\\u00" ++ digit_char (c / 16) ∷ digit_char (c % 16) ∷ []) (encode_utf8 c) (λ e. omega arith, (ne, tt))
+        escaped_all HasNo c (literal (codes "\\b") refl) (literal (codes "\\t") refl) (literal (codes "\\n") refl) (literal (codes "\\f") refl) (literal (codes "\\r") refl) (λ e. omega arith, (ne, tt))
         (HasNo-append (codes "\\u00") (digit_char (c / 16) ∷ digit_char (c % 16) ∷ []) (literal (codes "\\u00") refl) (digit (c / 16), (digit (c % 16), tt))) (HasNo-encode c ne)
 
 record Clear (xs : List ℕ) : Type 0 where

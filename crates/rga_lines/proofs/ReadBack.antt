@@ -1,6 +1,6 @@
 -- What is written is read back.
-use Rattle.std.proofs.Common.{◌≡◌, ℕ, ◌<◌, ◌≤◌, ◌^◌, Bool, true, false, cond, List, [], ◌∷◌, ◌++◌, length, codes, decimal, Option, Some, option_and_then, Result, Ok, Err, refl, sym, ap, subst, ◌∙◌, arith, append-nil, inl, inr, ◌||◌, ◌&&◌, lit≤, eqb, leb, ltb, ◌/◌, ◌%◌}
-use Rattle.std.specs.Char.{encode_utf8, digit_char, IsScalar}
+use Rattle.std.proofs.Common.{◌≡◌, ℕ, ◌<◌, ◌≤◌, ◌^◌, Bool, true, false, List, [], ◌∷◌, ◌++◌, length, codes, decimal, Option, Some, option_and_then, Ok, Err, refl, sym, ap, subst, ◌∙◌, arith, append-nil, inl, inr, ◌||◌, ◌&&◌, lit≤, eqb, leb}
+use Rattle.std.specs.Char.{encode_utf8, IsScalar}
 use lib.Utf8.{scalar}
 use Rattle.std.specs.Str.{IsUtf8, chars}
 use Rattle.std.proofs.lemmas.Bool.{or_cases, and_parts, eqb-true, leb-true}
@@ -25,8 +25,7 @@ use Rattle.rga_ops.specs.Identifier.{Identifier, is_root, is_in_range}
 use Rattle.rga_ops.specs.Operation.{checked}
 use Rattle.rga_ops.specs.declared.op.Op.{Op}
 use Rattle.rga_ops.specs.declared.op.Op.TheVariants.{Insert, Delete}
-use Rattle.rga_ops.specs.declared.refusal.Refusal.{Refusal}
-use Rattle.rga_ops.specs.declared.refusal.Refusal.TheVariants.{BadId, BadOrder}
+use Rattle.rga_ops.proofs.AnswerLaws.{well_formed_insertion}
 use Rattle.rga_lines.specs.declared.reading.Line.{Line}
 use Rattle.rga_lines.specs.declared.reading.Line.TheVariants.{One, Last}
 use Rattle.rga_lines.specs.declared.fault.LineFault.TheVariants.{Kind}
@@ -34,7 +33,7 @@ use Rattle.rga_lines.specs.Members.{pair_data}
 use Rattle.rga_lines.specs.Spelling.{escaped, pair_text, line, end_line, IsWritable}
 use Rattle.rga_lines.specs.Table.{value_line, any_line_at, line_at, max_line}
 use Rattle.rga_lines.proofs.ReadingLemmas.{accepted, alone}
-use Rattle.rga_lines.proofs.SpellingLemmas.{op_data, end_data, insert_data, insert_text, compact_op, compact_end}
+use Rattle.rga_lines.proofs.SpellingLemmas.{escaped_all, op_data, end_data, insert_data, insert_text, compact_op, compact_end}
 
 -- ---- a value without floats is read back from its compact text
 
@@ -116,35 +115,14 @@ insert-line text ch id parent h k rising single = rw (h, k, single, rising)
 
 -- ---- the whole
 
-abbrev done : Unit {0} → Result (Unit {0}) Refusal
-done x = Ok x
-
-pub checked_insert : (a b : Bool) → cond a (Err BadId) (cond b (Err BadOrder) (Ok tt)) ≡ done tt → b ≡ false
-checked_insert true b e = absurd cc
-checked_insert false true e = absurd cc
-checked_insert false false e = refl
-
 one_scalar : (b : Bool) → b ≡ true → (b && true) ≡ true
 one_scalar b e = rw e
 
 pub chars-one : (ch : ℕ) → IsScalar ch → chars (encode_utf8 ch) ≡ ch ∷ []
 chars-one ch h = ap chars (sym (append-nil (encode_utf8 ch))) ∙ chars-encodes (ch ∷ []) (one_scalar (scalar ch) h)
 
-nested : (a b c d e f g : Bool) (x y z : List ℕ) → length x ≤ 6 → length y ≤ 6 → length z ≤ 6
-    → length (cond a x (cond b (codes "\\b") (cond c (codes "\\t") (cond d (codes "\\n") (cond e (codes "\\f") (cond f (codes "\\r") (cond g y z))))))) ≤ 6
-nested true b c d e f g x y z p q r = p
-nested false true c d e f g x y z p q r = omega arith
-nested false false true d e f g x y z p q r = omega arith
-nested false false false true e f g x y z p q r = omega arith
-nested false false false false true f g x y z p q r = omega arith
-nested false false false false false true g x y z p q r = omega arith
-nested false false false false false false true x y z p q r = q
-nested false false false false false false false x y z p q r = r
-
 escaped-length : (c : ℕ) → length (escaped c) ≤ 6
-unfolding escaped
-escaped-length c =
-    nested (eqb c 34 || eqb c 92) (eqb c 8) (eqb c 9) (eqb c 10) (eqb c 12) (eqb c 13) (ltb c 32) (92 ∷ c ∷ []) (codes "\\u00" ++ digit_char (c / 16) ∷ digit_char (c % 16) ∷ []) (encode_utf8 c) (omega arith) (omega arith) (omega (arith, length-encode c, len_utf8_bounds c))
+escaped-length c = escaped_all (λ (l : List ℕ). length l ≤ 6) c (omega arith) (omega arith) (omega arith) (omega arith) (omega arith) (omega arith) (omega arith) (omega (arith, length-encode c, len_utf8_bounds c))
 
 insert-length : (inside : List ℕ) (id parent : Identifier) → length inside ≤ 6 → InBounds id → InBounds parent → length (insert_text inside id parent) ≤ max_line
 insert-length inside id parent small h k =
@@ -197,7 +175,7 @@ delete_back id h =
     (delete-line id h)
 
 pub line_back : (op : Op) → IsWritable op → checked op ≡ Ok tt → any_line_at (line op) ≡ Ok (One op)
-line_back (Insert id parent ch) h e = insert_back id parent ch h.0 h.1 (checked_insert (is_root id) (leb id.counter parent.counter) e) h.2
+line_back (Insert id parent ch) h e = insert_back id parent ch h.0 h.1 (well_formed_insertion id parent ch e).1 h.2
 line_back (Delete id) h e = delete_back id h
 
 pub operation_back : (op : Op) → IsWritable op → checked op ≡ Ok tt → line_at (line op) ≡ Ok op

@@ -1,6 +1,6 @@
 -- The compact text of the value of an operation, or of the end of an exchange, is its line.
-use Rattle.std.proofs.Common.{◌≡◌, ℕ, ◌+◌, ◌<◌, ◌≤◌, ◌/◌, Bool, true, false, cond, List, [], ◌∷◌, ◌++◌, ◌⊎◌, inl, inr, codes, refl, sym, ap, subst, ◌∙◌, arith, append_assoc, append-nil, ltb, lt-ltb, le-ltb, ne_eqb}
-use Rattle.std.specs.Char.{encode_utf8}
+use Rattle.std.proofs.Common.{◌≡◌, ℕ, ◌+◌, ◌<◌, ◌≤◌, ◌/◌, Bool, true, false, cond, List, [], ◌∷◌, ◌++◌, ◌⊎◌, inl, inr, codes, refl, sym, ap, subst, ◌∙◌, arith, append_assoc, append-nil, ltb, lt-ltb, le-ltb, ne_eqb, eqb, ◌||◌, ◌%◌}
+use Rattle.std.specs.Char.{encode_utf8, digit_char}
 use lib.Utf8.{next}
 use Rattle.std.proofs.lemmas.Bool.{cases_eq, cases_lt}
 use Rattle.std.proofs.lemmas.Str.{encode_ascii}
@@ -25,6 +25,24 @@ abbrev pub end_data : ℕ → Data
 end_data operations = object (member (codes "count") (number (unsigned operations)) (member (codes "op") (string (codes "end")) no_members))
 
 -- ---- one character
+
+-- what holds of a short escape, of a character behind a backslash, of its four digits and of its UTF-8 holds of what is written
+pub escaped_all : (P : List ℕ → Type 0) (c : ℕ) → P (codes "\\b") → P (codes "\\t") → P (codes "\\n") → P (codes "\\f") → P (codes "\\r")
+    → P (92 ∷ c ∷ []) → P (codes "\\u00" ++ digit_char (c / 16) ∷ digit_char (c % 16) ∷ []) → P (encode_utf8 c) → P (escaped c)
+unfolding escaped
+escaped_all P c back tab line feed return behind digits plain =
+    choose (eqb c 34 || eqb c 92) (eqb c 8) (eqb c 9) (eqb c 10) (eqb c 12) (eqb c 13) (ltb c 32)
+  where
+    choose : (m n o p q r s : Bool)
+        → P (cond m (92 ∷ c ∷ []) (cond n (codes "\\b") (cond o (codes "\\t") (cond p (codes "\\n") (cond q (codes "\\f") (cond r (codes "\\r") (cond s (codes "\\u00" ++ digit_char (c / 16) ∷ digit_char (c % 16) ∷ []) (encode_utf8 c))))))))
+    choose true n o p q r s = behind
+    choose false true o p q r s = back
+    choose false false true p q r s = tab
+    choose false false false true q r s = line
+    choose false false false false true r s = feed
+    choose false false false false false true s = return
+    choose false false false false false false true = digits
+    choose false false false false false false false = plain
 
 -- no byte needs an escape
 abbrev pub Plain : List ℕ → Type 0
