@@ -6,7 +6,7 @@ use Rattle.rga_exchange.specs.declared.fault.LogFault.TheVariants as log
 use Rattle.rga_exchange.specs.declared.log.LogEnd.{LogEnd}
 use Rattle.rga_exchange.specs.declared.log.LogEnd.TheVariants.{Whole, Bare, Torn}
 use Rattle.rga_exchange.specs.declared.log.LogRead.{LogRead}
-use Rattle.rga_exchange.specs.Log.{LogOutcome, log_outcome}
+use Rattle.rga_exchange.specs.Log.{log_outcome}
 use Rattle.mgr.specs.declared.fault.ShowFault.{ShowFault}
 use Rattle.mgr.specs.declared.fault.ShowFault.TheVariants as fault
 

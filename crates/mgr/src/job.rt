@@ -83,7 +83,9 @@ fn help(command: Command<'_>) -> JobFault
     }
 }
 
-fn error_of_bytes(alloc: Global) -> Result<Error, AllocError> {
+fn error_of_bytes(alloc: Global) -> Result<Error, AllocError>
+    ensures { IfOk result (λ e. kind_of e ≡ ErrorKind.InvalidValue) }
+{
     command(alloc)?.error(ErrorKind::InvalidValue, "an argument is not UTF-8")
 }
 

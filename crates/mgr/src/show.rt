@@ -2,7 +2,7 @@
 ghost use Rattle.std.specs.Prelude.{◌≡◌, ◌≢◌, ◌⊎◌, List, Ok, Err, OnOk, OnErr, IfErr, IfSome};
 ghost use Rattle.std.specs.Io.KnownBytes.{Keeps, Appends};
 ghost use Rattle.rga_ops.specs.Content.{Content, nothing};
-ghost use Rattle.rga_lines.specs.Counting.{counted_inner, counted_failures, HasFailed, AppendsFront};
+ghost use Rattle.rga_lines.specs.Counting.{counted_inner, counted_failures, one_more, AppendsFront};
 ghost use Rattle.rga_exchange.specs.Taking.{HasTakenWholeLines};
 ghost use Rattle.mgr.specs.Log.{log_of, shown_from};
 ghost use Rattle.mgr.specs.Shown.{max_known, IsOfInput, Shows, BeginsToShow};
@@ -40,8 +40,11 @@ pub fn show_ops<R: Read, W: Write>(
 
     ensures taken { result ≡ Err ShowFault.Read → (c : Content) × HasTakenWholeLines (R.remaining (counted_inner reader.old))
         (R.remaining (counted_inner reader.new)) max_known nothing c }
-    ensures read { result ≡ Err ShowFault.Read → HasFailed (counted_failures reader.old) (counted_failures reader.new) }
-    ensures write { result ≡ Err ShowFault.Write → HasFailed (counted_failures writer.old) (counted_failures writer.new) }
+    ensures read { result ≡ Err ShowFault.Read → counted_failures reader.new ≡ one_more (counted_failures reader.old) }
+    ensures write { result ≡ Err ShowFault.Write → counted_failures writer.new ≡ one_more (counted_failures writer.old) }
+    // A call that failed is told as such, and not as something else.
+    ensures unfailed_reads { result ≢ Err ShowFault.Read → counted_failures reader.new ≡ counted_failures reader.old }
+    ensures unfailed_writes { result ≢ Err ShowFault.Write → counted_failures writer.new ≡ counted_failures writer.old }
 {
     let Ok(mut store) = TreeStore::new(alloc, MAX_LIMIT) else {
         return Err(ShowFault::Memory);
@@ -64,7 +67,8 @@ fn take_whole_log<T: Taker, R: Read>(
 
     ensures taken { IfErr result (λ e. e ≡ ShowFault.Read → HasTakenWholeLines (R.remaining (counted_inner reader.old))
         (R.remaining (counted_inner reader.new)) (T.capacity taker.old) (T.content taker.old) (T.content taker.new)) }
-    ensures device { result ≡ Err ShowFault.Read → HasFailed (counted_failures reader.old) (counted_failures reader.new) }
+    ensures device { result ≡ Err ShowFault.Read → counted_failures reader.new ≡ one_more (counted_failures reader.old) }
+    ensures unfailed { result ≢ Err ShowFault.Read → counted_failures reader.new ≡ counted_failures reader.old }
     ensures no_write { result ≢ Err ShowFault.Write }
 {
     let log = take_log(alloc, taker, reader)?;
@@ -77,7 +81,8 @@ fn take_whole_log<T: Taker, R: Read>(
 fn write_text<W: Write>(text: &str, writer: &mut Counted<W>) -> Result<(), ShowFault>
     ensures ok { OnOk result (Appends (W.contents (counted_inner writer.old)) (W.contents (counted_inner writer.new)) text.now) }
     ensures begun { AppendsFront (W.contents (counted_inner writer.old)) (W.contents (counted_inner writer.new)) text.now }
-    ensures err { IfErr result (λ e. (e ≡ ShowFault.Write) × HasFailed (counted_failures writer.old) (counted_failures writer.new)) }
+    ensures unfailed { OnOk result (counted_failures writer.new ≡ counted_failures writer.old) }
+    ensures err { IfErr result (λ e. (e ≡ ShowFault.Write) × (counted_failures writer.new ≡ one_more (counted_failures writer.old))) }
 {
     let Ok(()) = writer.write_all(text.as_bytes()) else {
         return Err(ShowFault::Write);

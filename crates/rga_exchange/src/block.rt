@@ -20,7 +20,7 @@ pub(crate) struct Block {
 impl Block {
     ghost use Rattle.std.specs.Prelude.{◌≡◌, ◌++◌, ◌∷◌, [], IfOk, OnOk, IfErr};
     ghost use Rattle.std.specs.Io.KnownBytes.{Appends};
-    ghost use Rattle.rga_lines.specs.Counting.{counted_inner, counted_failures, HasFailed, AppendsFront};
+    ghost use Rattle.rga_lines.specs.Counting.{counted_inner, counted_failures, one_more, AppendsFront};
     ghost use Rattle.rga_lines.specs.Stream.{newline};
 
     /// An empty block.
@@ -51,7 +51,7 @@ impl Block {
         ensures empty { OnOk result (self.new.text.items ≡ []) }
         ensures unfailed { OnOk result (counted_failures writer.new ≡ counted_failures writer.old) }
         ensures begun { AppendsFront (W.contents (counted_inner writer.old)) (W.contents (counted_inner writer.new)) self.old.text.items }
-        ensures err { IfErr result (λ e. (e ≡ SendFault.Write) × HasFailed (counted_failures writer.old) (counted_failures writer.new)) }
+        ensures err { IfErr result (λ e. (e ≡ SendFault.Write) × (counted_failures writer.new ≡ one_more (counted_failures writer.old))) }
     {
         let Ok(()) = writer.write_all(&self.text) else {
             return Err(SendFault::Write);

@@ -1,7 +1,7 @@
 //! Logs, read into whatever takes operations.
 ghost use Rattle.std.specs.Prelude.{◌≡◌, ◌≢◌, ◌<◌, ◌^◌, Ok, Err, OnOk, OnErr, IfOk, IfErr, IfSome};
 ghost use Rattle.rga_ops.specs.Content.{join, content_of};
-ghost use Rattle.rga_lines.specs.Counting.{counted_inner, counted_failures, HasFailed};
+ghost use Rattle.rga_lines.specs.Counting.{counted_inner, counted_failures, one_more};
 ghost use Rattle.rga_lines.specs.Log.{log_operations};
 ghost use Rattle.rga_exchange.specs.Taking.{HasTakenLines, HasTakenWholeLines};
 ghost use Rattle.rga_exchange.specs.Log.{log_outcome, log_end, after_rest, ended};
@@ -57,7 +57,8 @@ pub fn take_log<T: Taker, R: Read>(
     // Whatever the fault, the first lines that were read were taken, and nothing else.
     ensures lines { OnErr result (HasTakenLines (R.remaining (counted_inner reader.old))
         (R.remaining (counted_inner reader.new)) (T.capacity taker.old) (T.content taker.old) (T.content taker.new)) }
-    ensures device { result ≡ Err ReadFailed → HasFailed (counted_failures reader.old) (counted_failures reader.new) }
+    ensures device { result ≡ Err ReadFailed → counted_failures reader.new ≡ one_more (counted_failures reader.old) }
+    ensures unfailed { result ≢ Err ReadFailed → counted_failures reader.new ≡ counted_failures reader.old }
     ensures limit { T.capacity taker.new ≡ T.capacity taker.old }
     ensures bound { IfOk result (λ log. log.lines < 2 ^ 63) }
 {
@@ -116,7 +117,8 @@ pub fn read_log<T: Taker, R: Read>(
     // Whatever the fault, the first lines that were read were taken, and nothing else.
     ensures lines { OnErr result (HasTakenLines (R.remaining (counted_inner reader.old))
         (R.remaining (counted_inner reader.new)) (T.capacity taker.old) (T.content taker.old) (T.content taker.new)) }
-    ensures device { result ≡ Err ReceiveFault.Read → HasFailed (counted_failures reader.old) (counted_failures reader.new) }
+    ensures device { result ≡ Err ReceiveFault.Read → counted_failures reader.new ≡ one_more (counted_failures reader.old) }
+    ensures unfailed { result ≢ Err ReceiveFault.Read → counted_failures reader.new ≡ counted_failures reader.old }
     ensures limit { T.capacity taker.new ≡ T.capacity taker.old }
 {
     let log = take_log(alloc, taker, reader)?;

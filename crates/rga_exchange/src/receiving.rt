@@ -1,7 +1,7 @@
 //! Exchanges, received by whatever takes operations.
 ghost use Rattle.std.specs.Prelude.{◌≡◌, ◌≢◌, length, Ok, Err, OnOk, IfOk, IfSome};
 ghost use Rattle.rga_ops.specs.Content.{join, content_of};
-ghost use Rattle.rga_lines.specs.Counting.{counted_inner, counted_failures, HasFailed};
+ghost use Rattle.rga_lines.specs.Counting.{counted_inner, counted_failures, one_more};
 ghost use Rattle.rga_lines.specs.Log.{stream_operations};
 ghost use Rattle.rga_exchange.specs.Taking.{HasTakenLines, HasTakenWholeLines};
 ghost use Rattle.rga_exchange.specs.Receiving.{received, EndsWithLastRead};
@@ -43,7 +43,8 @@ pub fn receive<T: Taker, R: Read>(
     // Whatever the answer, the first lines that were read were taken, and nothing else.
     ensures lines { HasTakenLines (R.remaining (counted_inner reader.old))
         (R.remaining (counted_inner reader.new)) (T.capacity taker.old) (T.content taker.old) (T.content taker.new) }
-    ensures device { result ≡ Err ReceiveFault.Read → HasFailed (counted_failures reader.old) (counted_failures reader.new) }
+    ensures device { result ≡ Err ReceiveFault.Read → counted_failures reader.new ≡ one_more (counted_failures reader.old) }
+    ensures unfailed { result ≢ Err ReceiveFault.Read → counted_failures reader.new ≡ counted_failures reader.old }
     ensures limit { T.capacity taker.new ≡ T.capacity taker.old }
 {
     let Stream { lines, end } = take_stream(alloc, taker, reader)?;

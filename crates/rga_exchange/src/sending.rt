@@ -1,12 +1,12 @@
 //! Operations sent: as lines, in blocks.
-ghost use Rattle.std.specs.Prelude.{◌≡◌, ℕ, ◌≤◌, ◌++◌, ◌∷◌, List, [], length, Ok, Err, IfOk, OnOk};
+ghost use Rattle.std.specs.Prelude.{◌≡◌, ◌≢◌, ℕ, ◌≤◌, ◌++◌, ◌∷◌, List, [], length, Ok, Err, IfOk, OnOk};
 ghost use Rattle.std.specs.Io.KnownBytes.{Appends};
 ghost use Rattle.std.specs.FinSet as finite_set;
 ghost use Rattle.rga_ops.specs.Operation.{checked};
 ghost use Rattle.rga_ops.specs.Operations.{operations};
 ghost use Rattle.rga_ops.specs.Content.{Content, Agree, IsSound, join, known, content_of};
 ghost use Rattle.rga_ops.specs.ListAnswer.{AreWellFormed, IsJoinable};
-ghost use Rattle.rga_lines.specs.Counting.{counted_inner, counted_failures, HasFailed, AppendsFront};
+ghost use Rattle.rga_lines.specs.Counting.{counted_inner, counted_failures, one_more, AppendsFront};
 ghost use Rattle.rga_lines.specs.Spelling.{line as line_of, IsWritable};
 ghost use Rattle.rga_lines.specs.Stream.{newline, rest_of};
 ghost use Rattle.rga_lines.specs.Counting.{Begun};
@@ -27,7 +27,7 @@ use std::io::Write;
 ///
 /// Beside the list of the operations only one block of some 64 KiB is held. The device is given as
 /// many lines at once as a block has, no failed call is made again, and the device is flushed at
-/// the end. At `Ok` no call failed.
+/// the end. `Write` comes exactly where a call failed.
 pub fn send<S: TextStore, W: Write>(
     alloc: Global,
     store: &S,
@@ -39,9 +39,9 @@ pub fn send<S: TextStore, W: Write>(
     ensures received { IfOk result (λ number. (limit : ℕ) (c : Content) → IsSound (S.content store.now) → Agree c (S.content store.now)
         → finite_set.len (known (join c (S.content store.now))) ≤ limit
         → received limit c (stream_text (S.content store.now)) ≡ (join c (S.content store.now), Ok number)) }
-    ensures unfailed { OnOk result (counted_failures writer.new ≡ counted_failures writer.old) }
+    ensures unfailed { result ≢ Err SendFault.Write → counted_failures writer.new ≡ counted_failures writer.old }
     ensures begun { AppendsFront (W.contents (counted_inner writer.old)) (W.contents (counted_inner writer.new)) (stream_text (S.content store.now)) }
-    ensures write { result ≡ Err SendFault.Write → HasFailed (counted_failures writer.old) (counted_failures writer.new) }
+    ensures write { result ≡ Err SendFault.Write → counted_failures writer.new ≡ one_more (counted_failures writer.old) }
 {
     let Ok(ops) = store.ops() else {
         return Err(SendFault::Memory);
@@ -61,7 +61,8 @@ pub fn send<S: TextStore, W: Write>(
 /// Answers how many there are.
 ///
 /// Only one block of some 64 KiB is held. The device is given as many lines at once as a block has,
-/// no failed call is made again, and the device is flushed at the end. At `Ok` no call failed.
+/// no failed call is made again, and the device is flushed at the end. `Write` comes exactly where a
+/// call failed.
 pub fn append_log<W: Write>(
     alloc: Global,
     ops: &[Op],
@@ -73,9 +74,9 @@ pub fn append_log<W: Write>(
     // content joined with the operations.
     ensures joined { OnOk result ((bytes : List ℕ) (c : Content) → StandsFor bytes c → rest_of bytes ≡ [] → AreWellFormed ops.now → IsJoinable c ops.now
         → StandsFor (bytes ++ log_text ops.now) (join c (content_of ops.now))) }
-    ensures unfailed { OnOk result (counted_failures writer.new ≡ counted_failures writer.old) }
+    ensures unfailed { result ≢ Err SendFault.Write → counted_failures writer.new ≡ counted_failures writer.old }
     ensures begun { AppendsFront (W.contents (counted_inner writer.old)) (W.contents (counted_inner writer.new)) (log_text ops.now) }
-    ensures write { result ≡ Err SendFault.Write → HasFailed (counted_failures writer.old) (counted_failures writer.new) }
+    ensures write { result ≡ Err SendFault.Write → counted_failures writer.new ≡ one_more (counted_failures writer.old) }
 {
     let mut block = Block::new(alloc)?;
     push_lines(alloc, ops, &mut block, writer)?;
@@ -91,10 +92,10 @@ fn push_lines<W: Write>(
     writer: &mut Counted<W>,
 ) -> Result<(), SendFault>
     ensures ok { OnOk result (Begun (W.contents (counted_inner writer.old)) (W.contents (counted_inner writer.new)) (block.old.text.items ++ log_text ops.now) block.new.text.items) }
-    ensures unfailed { OnOk result (counted_failures writer.new ≡ counted_failures writer.old) }
+    ensures unfailed { result ≢ Err SendFault.Write → counted_failures writer.new ≡ counted_failures writer.old }
     ensures writable { OnOk result (AreWellFormed ops.now → AreWritable ops.now) }
     ensures begun { AppendsFront (W.contents (counted_inner writer.old)) (W.contents (counted_inner writer.new)) (block.old.text.items ++ log_text ops.now) }
-    ensures write { result ≡ Err SendFault.Write → HasFailed (counted_failures writer.old) (counted_failures writer.new) }
+    ensures write { result ≡ Err SendFault.Write → counted_failures writer.new ≡ one_more (counted_failures writer.old) }
 {
     for op in ops {
         push_line(alloc, op, block, writer)?;
@@ -110,10 +111,10 @@ fn push_line<W: Write>(
     writer: &mut Counted<W>,
 ) -> Result<(), SendFault>
     ensures ok { OnOk result (Begun (W.contents (counted_inner writer.old)) (W.contents (counted_inner writer.new)) (block.old.text.items ++ (line_of op.now ++ newline ∷ [])) block.new.text.items) }
-    ensures unfailed { OnOk result (counted_failures writer.new ≡ counted_failures writer.old) }
+    ensures unfailed { result ≢ Err SendFault.Write → counted_failures writer.new ≡ counted_failures writer.old }
     ensures writable { OnOk result (checked op.now ≡ Ok tt → IsWritable op.now) }
     ensures begun { AppendsFront (W.contents (counted_inner writer.old)) (W.contents (counted_inner writer.new)) block.old.text.items }
-    ensures write { result ≡ Err SendFault.Write → HasFailed (counted_failures writer.old) (counted_failures writer.new) }
+    ensures write { result ≡ Err SendFault.Write → counted_failures writer.new ≡ one_more (counted_failures writer.old) }
 {
     if block.is_full() {
         block.write_to(writer)?;
@@ -128,9 +129,9 @@ fn push_line<W: Write>(
 /// Writes the lines that are left, and flushes the device.
 fn finish<W: Write>(mut rest: Block, writer: &mut Counted<W>) -> Result<(), SendFault>
     ensures ok { OnOk result (Appends (W.contents (counted_inner writer.old)) (W.contents (counted_inner writer.new)) rest.text.items) }
-    ensures unfailed { OnOk result (counted_failures writer.new ≡ counted_failures writer.old) }
+    ensures unfailed { result ≢ Err SendFault.Write → counted_failures writer.new ≡ counted_failures writer.old }
     ensures begun { AppendsFront (W.contents (counted_inner writer.old)) (W.contents (counted_inner writer.new)) rest.text.items }
-    ensures write { result ≡ Err SendFault.Write → HasFailed (counted_failures writer.old) (counted_failures writer.new) }
+    ensures write { result ≡ Err SendFault.Write → counted_failures writer.new ≡ one_more (counted_failures writer.old) }
 {
     rest.write_to(writer)?;
     let Ok(()) = writer.flush() else {

@@ -1,6 +1,6 @@
 //! The lines of a stream, taken in turn into whatever takes operations.
 ghost use Rattle.std.specs.Prelude.{◌≡◌, ◌≢◌, ◌+◌, ◌^◌, ◌<◌, ◌≤◌, ◌++◌, ℕ, List, length, [], false, Ok, Err, Some, None, OnOk, IfOk, OnErr, IfErr, IfSome};
-ghost use Rattle.rga_lines.specs.Counting.{counted_inner, counted_failures, HasFailed};
+ghost use Rattle.rga_lines.specs.Counting.{counted_inner, counted_failures, one_more};
 ghost use Rattle.rga_lines.specs.Stream.{lines_of, rest_of};
 ghost use Rattle.rga_lines.specs.Table.{any_line_at, max_line};
 ghost use Rattle.rga_ops.specs.Answer.{taken};
@@ -49,7 +49,8 @@ pub(crate) fn take_stream<T: Taker, R: Read>(
     ensures whole { IfErr result (λ e. e ≡ ReadFailed → HasTakenWholeLines (R.remaining (counted_inner reader.old))
         (R.remaining (counted_inner reader.new)) (T.capacity taker.old) (T.content taker.old) (T.content taker.new)) }
     ensures last { IfOk result (λ s. StopsReading (R.remaining (counted_inner reader.old)) (R.remaining (counted_inner reader.new)) s.end) }
-    ensures device { IfErr result (λ e. e ≡ ReadFailed → HasFailed (counted_failures reader.old) (counted_failures reader.new)) }
+    ensures device { IfErr result (λ e. e ≡ ReadFailed → counted_failures reader.new ≡ one_more (counted_failures reader.old)) }
+    ensures unfailed { result ≢ Err ReadFailed → counted_failures reader.new ≡ counted_failures reader.old }
     ensures limit { T.capacity taker.new ≡ T.capacity taker.old }
     ensures bound { IfOk result (λ s. s.lines < 2 ^ 63) }
 {

@@ -31,10 +31,6 @@ one_more n = min (n + 1) max_failures
 abbrev pub IsSpent : {T : Type 0} → Counted T → Type 0
 IsSpent c = (counted_left c ≡ 0) ⊎ (counted_failures c ≡ max_failures)
 
--- the count of failures rose, or stands at its greatest
-abbrev pub HasFailed : ℕ → ℕ → Type 0
-HasFailed old new = (old < new) ⊎ (new ≡ max_failures)
-
 -- a call that answers `Ok` leaves the count of failures, and one that answers `Err` adds one to it
 abbrev pub Counts : {A E : Type 0} → Result A E → ℕ → ℕ → Type 0
 Counts r old new = MatchResult r (λ _. new ≡ old) (λ _. new ≡ one_more old)

@@ -118,7 +118,7 @@ impl<W: Write> Write for Counted<W> {
     ghost use Rattle.std.specs.Prelude.{◌≡◌, IsErr, OnOk, OnErr};
     ghost use Rattle.std.specs.Io.{WritesAtMost};
     ghost use Rattle.std.specs.Io.KnownBytes.{Keeps, Appends, WriteAppends};
-    ghost use Rattle.rga_lines.specs.Counting.{counted_inner, counted_failures, counted_left, HasFailed, Counts, WriteCounts, UsesCall, AppendsFront, IsSpent};
+    ghost use Rattle.rga_lines.specs.Counting.{counted_inner, counted_failures, counted_left, one_more, Counts, WriteCounts, UsesCall, AppendsFront, IsSpent};
 
     ghost contents = { λ c. W.contents (counted_inner c) };
 
@@ -180,7 +180,7 @@ impl<W: Write> Write for Counted<W> {
             (W.contents (counted_inner self.new)) buf.now }
         ensures ok { OnOk result (counted_failures self.new ≡ counted_failures self.old) }
         ensures failed { OnErr result
-            (HasFailed (counted_failures self.old) (counted_failures self.new)) }
+            (counted_failures self.new ≡ one_more (counted_failures self.old)) }
     {
         let mut rest = buf;
         'rest: while !rest.is_empty() {

@@ -1,4 +1,5 @@
-use Rattle.std.proofs.Common.{◌∙◌}
+use Rattle.std.proofs.Common.{◌∙◌, ap, true≢false}
+use Rattle.std.specs.Result.{is_ok}
 use Rattle.rga_exchange.proofs.BegunLemmas.{begun_part}
 use Rattle.rga_exchange.proofs.LogTextLemmas.{begun_line}
 use Rattle.rga_exchange.proofs.WritableLaws.{writable_next}
@@ -8,7 +9,7 @@ pub loop-op-preserved : goal.loop-op-preserved
 loop-op-preserved g c = record {
   begun = begun_line _ _ _ _ _ _ c.args.ops.now c.loop-op.op-index c.op-item.result c.loop-op-test.true c.op-item.is c.loop-op.invariant.begun c.in_ok-push_line.ensures.ok;
   writable = writable_next c.args.ops.now c.loop-op.op-index c.op-item.result c.loop-op-test.true c.op-item.is c.loop-op.invariant.writable c.in_ok-push_line.ensures.writable;
-  unfailed = c.in_ok-push_line.ensures.unfailed ∙ c.loop-op.invariant.unfailed;
+  unfailed = c.in_ok-push_line.ensures.unfailed (λ e. true≢false (ap is_ok e)) ∙ c.loop-op.invariant.unfailed;
 }
 
 pub returns-in_err-push_line-clause-begun : goal.returns-in_err-push_line-clause-begun
