@@ -61,12 +61,12 @@ fn take_whole_log<T: Taker, R: Read>(
     reader: &mut Counted<R>,
 ) -> Result<(), ShowFault>
     ensures ok { OnOk result (IfSome (R.remaining (counted_inner reader.old))
-        (λ bytes. shown_from (T.capacity taker.old) (T.content taker.old) bytes ≡ Ok (T.content taker.new))) }
+        (λ bytes. shown_from (T.limit taker.old) (T.content taker.old) bytes ≡ Ok (T.content taker.new))) }
     ensures err { IfErr result (λ e. IsOfInput e → IfSome (R.remaining (counted_inner reader.old))
-        (λ bytes. shown_from (T.capacity taker.old) (T.content taker.old) bytes ≡ Err e)) }
+        (λ bytes. shown_from (T.limit taker.old) (T.content taker.old) bytes ≡ Err e)) }
 
     ensures taken { IfErr result (λ e. e ≡ ShowFault.Read → HasTakenWholeLines (R.remaining (counted_inner reader.old))
-        (R.remaining (counted_inner reader.new)) (T.capacity taker.old) (T.content taker.old) (T.content taker.new)) }
+        (R.remaining (counted_inner reader.new)) (T.limit taker.old) (T.content taker.old) (T.content taker.new)) }
     ensures device { result ≡ Err ShowFault.Read → counted_failures reader.new ≡ one_more (counted_failures reader.old) }
     ensures unfailed { result ≢ Err ShowFault.Read → counted_failures reader.new ≡ counted_failures reader.old }
     ensures no_write { result ≢ Err ShowFault.Write }

@@ -8,7 +8,7 @@ use Rattle.std.specs.FinSet as finite_set
 use Rattle.std.proofs.lemmas.Bool.{and_parts}
 use Rattle.std.proofs.lemmas.Option.{slice_get_within}
 use Rattle.rga_ops.specs.Identifier.{Identifier, identifier, root}
-use Rattle.rga_ops.specs.Content.{Content, known, clock, join, single, content_of}
+use Rattle.rga_ops.specs.Content.{Content, known_ids, clock_of, join, single, content_of}
 use Rattle.rga_ops.specs.Order.{order, text}
 use Rattle.rga_ops.specs.Places.{visible}
 use Rattle.rga_ops.specs.Splice.{spliced}
@@ -68,12 +68,12 @@ record Inserts (c : Content) (replica lo last : ℕ) (after : Identifier) (put :
   shows : Shows c outcome lo lo (new_ids replica last put) put
   stands : order outcome ≡ put_row_behind after (new_ids replica last put) (order c)
 
-inserts : (put : List ℕ) (c : Content) (replica lo last : ℕ) (after : Identifier) → last ≡ clock c → lo ≤ length (visible c) → after ≡ left_of (visible c) lo → Inserts c replica lo last after put
+inserts : (put : List ℕ) (c : Content) (replica lo last : ℕ) (after : Identifier) → last ≡ clock_of c → lo ≤ length (visible c) → after ≡ left_of (visible c) lo → Inserts c replica lo last after put
 inserts [] c replica lo last after now within is =
     record { outcome = c; leads = leads_nowhere c; shows = shows_itself c lo; stands = sym (put_no_row after (order c)) }
 inserts (ch ∷ put) c replica lo last after now within is =
     let id : Identifier = identifier (last + 1) replica in
-    let next : last + 1 ≡ clock c + 1 = ap (λ n. n + 1) now in
+    let next : last + 1 ≡ clock_of c + 1 = ap (λ n. n + 1) now in
     let at : IsLeft c lo after = left_is c lo after within is in
     let d : Content = join c (single (Insert id after ch)) in
     let first : Shows c d lo lo (id ∷ []) (ch ∷ []) = insertion_shows c id after ch lo next at in
@@ -102,18 +102,18 @@ inserts (ch ∷ put) c replica lo last after now within is =
 record SplicesAt (c : Content) (replica lo hi : ℕ) (put : List ℕ) : Type 0 where
   outcome : Content
   leads : Leads c outcome (splice_operations replica c lo hi put) (length put)
-  shows : Shows c outcome lo hi (new_ids replica (clock c) put) put
-  stands : order outcome ≡ put_row_behind (left_of (visible c) lo) (new_ids replica (clock c) put) (order c)
+  shows : Shows c outcome lo hi (new_ids replica (clock_of c) put) put
+  stands : order outcome ≡ put_row_behind (left_of (visible c) lo) (new_ids replica (clock_of c) put) (order c)
 
 -- the deletions, and then the insertions
-splice_of : (c : Content) (replica lo hi : ℕ) (put : List ℕ) → lo ≤ length (visible c) → (gone : Deletes c lo hi (drop lo (take hi (visible c)))) → Inserts gone.outcome replica lo (clock c) (left_of (visible c) lo) put → SplicesAt c replica lo hi put
+splice_of : (c : Content) (replica lo hi : ℕ) (put : List ℕ) → lo ≤ length (visible c) → (gone : Deletes c lo hi (drop lo (take hi (visible c)))) → Inserts gone.outcome replica lo (clock_of c) (left_of (visible c) lo) put → SplicesAt c replica lo hi put
 splice_of c replica lo hi put reaches gone come =
-    let ids : List Identifier = new_ids replica (clock c) put in
+    let ids : List Identifier = new_ids replica (clock_of c) put in
     let after : Identifier = left_of (visible c) lo in
     record {
       outcome = come.outcome;
       leads = subst (λ n. Leads c come.outcome (splice_operations replica c lo hi put) n) (no_more (length put))
-          (leads_on c gone.outcome come.outcome (map Delete (drop lo (take hi (visible c)))) (chain replica (clock c) after put) 0 (length put) gone.leads come.leads);
+          (leads_on c gone.outcome come.outcome (map Delete (drop lo (take hi (visible c)))) (chain replica (clock_of c) after put) 0 (length put) gone.leads come.leads);
       shows = shows_on c gone.outcome come.outcome lo hi lo lo 0 hi [] ids [] put reaches refl (omega arith) (omega arith) (omega arith) gone.shows come.shows;
       stands = come.stands ∙ ap (put_row_behind after ids) gone.stays;
     }
@@ -126,22 +126,22 @@ splices_at c replica lo hi put up within =
     let reaches : lo ≤ length (visible c) = omega (arith, up, within) in
     let gone : Deletes c lo hi (drop lo (take hi (visible c))) =
     deletes (drop lo (take hi (visible c))) c lo hi (drop hi (visible c)) reaches (cut (visible c) lo hi up within) (length-cut (visible c) lo hi up within) in
-    let now : clock c ≡ clock gone.outcome = omega (arith, gone.leads.time) in
+    let now : clock_of c ≡ clock_of gone.outcome = omega (arith, gone.leads.time) in
     let begins : take lo (visible c) ≡ take lo (visible gone.outcome) = sym (shows_begin c gone.outcome lo hi [] [] reaches gone.shows) in
     splice_of c replica lo hi put reaches gone
-    (inserts put gone.outcome replica lo (clock c) (left_of (visible c) lo) now (shows_long c gone.outcome lo hi [] [] reaches gone.shows) (same_left (visible c) (visible gone.outcome) lo begins))
+    (inserts put gone.outcome replica lo (clock_of c) (left_of (visible c) lo) now (shows_long c gone.outcome lo hi [] [] reaches gone.shows) (same_left (visible c) (visible gone.outcome) lo begins))
 
 -- ---- what is true of an allowed edit
 
 -- what is answered where there is room
 abbrev ranged : Content → Bool → ℕ → Verdict
-ranged c in_range new = cond (not in_range) (Err Range) (cond (nat_lt 0 new && nat_lt greatest_counter (clock c + new)) (Err Clock) (Ok tt))
+ranged c in_range new = cond (not in_range) (Err Range) (cond (nat_lt 0 new && nat_lt greatest_counter (clock_of c + new)) (Err Clock) (Ok tt))
 
-allowed : (limit : ℕ) (c : Content) (in_range : Bool) (new : ℕ) → edit_answer limit c in_range new ≡ Ok tt → (finite_set.len (known c) + new ≤ limit) × (in_range ≡ true)
+allowed : (limit : ℕ) (c : Content) (in_range : Bool) (new : ℕ) → edit_answer limit c in_range new ≡ Ok tt → (finite_set.len (known_ids c) + new ≤ limit) × (in_range ≡ true)
 allowed limit c in_range new h =
-    elim (nat_lt limit (finite_set.len (known c) + new)) as (λ b. nat_lt limit (finite_set.len (known c) + new) ≡ b → cond b (Err Full) (ranged c in_range new) ≡ passed → (finite_set.len (known c) + new ≤ limit) × (in_range ≡ true)) [
+    elim (nat_lt limit (finite_set.len (known_ids c) + new)) as (λ b. nat_lt limit (finite_set.len (known_ids c) + new) ≡ b → cond b (Err Full) (ranged c in_range new) ≡ passed → (finite_set.len (known_ids c) + new ≤ limit) × (in_range ≡ true)) [
       | true ↦ λ t h. let clash : bad Full ≡ passed = h in absurd (cc)
-      | false ↦ λ f h. (ltb-false limit (finite_set.len (known c) + new) f, in_it in_range h)
+      | false ↦ λ f h. (ltb-false limit (finite_set.len (known_ids c) + new) f, in_it in_range h)
     ] refl h
   where
     in_it : (b : Bool) → ranged c b new ≡ passed → b ≡ true
@@ -149,15 +149,15 @@ allowed limit c in_range new h =
     in_it false h = let clash : bad Range ≡ passed = h in absurd (cc)
 
 -- operations that lead to another content are taken where that has no more identifiers than the limit
-taken_if : (limit : ℕ) (c d : Content) (ops : List Op) (new : ℕ) → Leads c d ops new → finite_set.len (known c) + new ≤ limit → list_answer limit c ops ≡ Ok tt
+taken_if : (limit : ℕ) (c d : Content) (ops : List Op) (new : ℕ) → Leads c d ops new → finite_set.len (known_ids c) + new ≤ limit → list_answer limit c ops ≡ Ok tt
 taken_if limit c d ops new s room =
-    let fits : finite_set.len (known (join c (content_of ops))) ≤ limit = subst (λ e. finite_set.len (known e) ≤ limit) s.joined (omega (arith, s.size, room)) in
+    let fits : finite_set.len (known_ids (join c (content_of ops))) ≤ limit = subst (λ e. finite_set.len (known_ids e) ≤ limit) s.joined (omega (arith, s.size, room)) in
     (λ j. and_check (s.well_formed j) (union_answer limit (s.free j) (join c (content_of ops))))
     ∙ (union_taken-iff limit None (join c (content_of ops))).1 (refl, fits)
 
 -- ---- the laws of one splice
 
-splicing : (limit replica lo hi : ℕ) (c : Content) (put : List ℕ) → splice_answer limit c lo hi put ≡ Ok tt → SplicesAt c replica lo hi put × (finite_set.len (known c) + length put ≤ limit)
+splicing : (limit replica lo hi : ℕ) (c : Content) (put : List ℕ) → splice_answer limit c lo hi put ≡ Ok tt → SplicesAt c replica lo hi put × (finite_set.len (known_ids c) + length put ≤ limit)
 splicing limit replica lo hi c put h =
     let s = allowed limit c (nat_le lo hi && nat_le hi (length (text c))) (length put) h in
     let parts = and_parts (nat_le lo hi) (nat_le hi (length (text c))) s.1 in
@@ -174,7 +174,7 @@ splice_text limit replica lo hi c put h =
     let s = splicing limit replica lo hi c put h in
     ap text (sym s.0.leads.joined) ∙ s.0.shows.characters
 
-pub splice_order : (limit replica lo hi : ℕ) (c : Content) (put : List ℕ) → splice_answer limit c lo hi put ≡ Ok tt → order (join c (content_of (splice_operations replica c lo hi put))) ≡ put_row_behind (left_of (visible c) lo) (new_ids replica (clock c) put) (order c)
+pub splice_order : (limit replica lo hi : ℕ) (c : Content) (put : List ℕ) → splice_answer limit c lo hi put ≡ Ok tt → order (join c (content_of (splice_operations replica c lo hi put))) ≡ put_row_behind (left_of (visible c) lo) (new_ids replica (clock_of c) put) (order c)
 splice_order limit replica lo hi c put h =
     let s = splicing limit replica lo hi c put h in
     ap order (sym s.0.leads.joined) ∙ s.0.stands
@@ -206,7 +206,7 @@ splices_all (s ∷ splices) c replica bound reaches falling =
     let low : s.lo ≤ length (visible c) = omega (arith, falls.up, here) in
     let one = splices_at c replica s.lo s.hi s.put.items falls.up here in
     let own : List Op = splice_operations replica c s.lo s.hi s.put.items in
-    let later = splices_all splices one.outcome replica s.lo (shows_long c one.outcome s.lo s.hi (new_ids replica (clock c) s.put.items) s.put.items low one.shows) falls.further in
+    let later = splices_all splices one.outcome replica s.lo (shows_long c one.outcome s.lo s.hi (new_ids replica (clock_of c) s.put.items) s.put.items low one.shows) falls.further in
     record {
       outcome = later.outcome;
       leads = subst (λ d. Leads c later.outcome (own ++ splices_operations replica d splices) (length s.put.items + new_characters splices)) one.leads.joined
@@ -214,7 +214,7 @@ splices_all (s ∷ splices) c replica bound reaches falling =
       reads = later.reads ∙ ap (λ chars. text_after chars splices) one.shows.characters;
     }
 
-editing : (limit replica : ℕ) (c : Content) (splices : List Splice) → splices_answer limit c splices ≡ Ok tt → SplicesAll c replica splices × (finite_set.len (known c) + new_characters splices ≤ limit)
+editing : (limit replica : ℕ) (c : Content) (splices : List Splice) → splices_answer limit c splices ≡ Ok tt → SplicesAll c replica splices × (finite_set.len (known_ids c) + new_characters splices ≤ limit)
 editing limit replica c splices h =
     let s = allowed limit c (are_falling (length (text c)) splices) (new_characters splices) h in
     (splices_all splices c replica (length (text c)) (omega (arith, text_long c)) s.1, s.0)
@@ -232,7 +232,7 @@ splices_text limit replica c splices h =
 -- ---- drafts
 
 -- up to the bound the visible elements are those of the old text, and all further splices are there
-drafted_from : (splices : List Splice) (c : Content) (replica : ℕ) (elements : List Identifier) (last bound : ℕ) → last ≡ clock c → bound ≤ length (visible c) → take bound (visible c) ≡ take bound elements → are_falling bound splices ≡ true → splices_operations replica c splices ≡ drafted replica elements last splices
+drafted_from : (splices : List Splice) (c : Content) (replica : ℕ) (elements : List Identifier) (last bound : ℕ) → last ≡ clock_of c → bound ≤ length (visible c) → take bound (visible c) ≡ take bound elements → are_falling bound splices ≡ true → splices_operations replica c splices ≡ drafted replica elements last splices
 drafted_from [] c replica elements last bound now reaches same falling = refl
 drafted_from (s ∷ splices) c replica elements last bound now reaches same falling =
     let falls = falls_first s splices bound falling in
@@ -240,7 +240,7 @@ drafted_from (s ∷ splices) c replica elements last bound now reaches same fall
     let low : s.lo ≤ length (visible c) = omega (arith, falls.up, here) in
     let put : List ℕ = s.put.items in
     let one = splices_at c replica s.lo s.hi put falls.up here in
-    let ids : List Identifier = new_ids replica (clock c) put in
+    let ids : List Identifier = new_ids replica (clock_of c) put in
     let front : take s.hi (visible c) ≡ take s.hi elements = same_begin (visible c) elements s.hi bound falls.within same in
     let before : take s.lo (visible c) ≡ take s.lo elements = same_begin (visible c) elements s.lo s.hi falls.up front in
     let after : left_of (visible c) s.lo ≡ left_of elements s.lo = same_left (visible c) elements s.lo before in
@@ -251,7 +251,7 @@ drafted_from (s ∷ splices) c replica elements last bound now reaches same fall
     ∙ (λ j. (map Delete (drop s.lo (front j)) ++ chain replica (sym now j) (after j) put) ++ later j)
 
 -- the operations of several splices, each on what the ones before left, are those by the old text alone
-pub splices_drafted : (limit replica : ℕ) (c : Content) (splices : List Splice) → splices_answer limit c splices ≡ Ok tt → splices_operations replica c splices ≡ drafted replica (visible c) (clock c) splices
+pub splices_drafted : (limit replica : ℕ) (c : Content) (splices : List Splice) → splices_answer limit c splices ≡ Ok tt → splices_operations replica c splices ≡ drafted replica (visible c) (clock_of c) splices
 splices_drafted limit replica c splices h =
     let s = allowed limit c (are_falling (length (text c)) splices) (new_characters splices) h in
-    drafted_from splices c replica (visible c) (clock c) (length (text c)) refl (omega (arith, text_long c)) refl s.1
+    drafted_from splices c replica (visible c) (clock_of c) (length (text c)) refl (omega (arith, text_long c)) refl s.1

@@ -1,7 +1,7 @@
 //! Edits by place.
 ghost use Rattle.std.specs.Prelude.{◌≡◌, ◌⊎◌, ◌+◌, ◌≤◌, ◌&&◌, true, nat_lt, min, [], if◌then◌else◌, length, Ok, Err, IfOk, IfErr, OnOk, OnErr};
 ghost use Rattle.std.specs.FinSet as finite_set;
-ghost use Rattle.rga_ops.specs.Content.{join, content_of, known, clock};
+ghost use Rattle.rga_ops.specs.Content.{join, content_of, known_ids, clock_of};
 ghost use Rattle.rga_ops.specs.Order.{order, text as text_of};
 ghost use Rattle.rga_ops.specs.Places.{visible};
 ghost use Rattle.rga_ops.specs.Splice.{spliced};
@@ -25,18 +25,18 @@ impl<S: TextStore> Doc<S> {
     /// `lo` is above `hi` or `hi` above the length of the text; `Clock` where there are new
     /// characters and not that many counters; `Memory`. A refusal changes nothing.
     pub fn splice(&mut self, lo: usize, hi: usize, put: &[char]) -> Result<Vec<Op>, Refusal>
-        ensures allowed { OnOk result (splice_answer (S.capacity (store_of self.old)) (S.content (store_of self.old)) lo hi put.now ≡ Ok tt) }
+        ensures allowed { OnOk result (splice_answer (S.limit (store_of self.old)) (S.content (store_of self.old)) lo hi put.now ≡ Ok tt) }
         ensures refused { IfErr result (λ e. (e ≡ Refusal.Memory)
-            ⊎ (splice_answer (S.capacity (store_of self.old)) (S.content (store_of self.old)) lo hi put.now ≡ Err e)) }
+            ⊎ (splice_answer (S.limit (store_of self.old)) (S.content (store_of self.old)) lo hi put.now ≡ Err e)) }
 
         ensures operations { IfOk result (λ ops. ops.items ≡ splice_operations (replica_of self.old) (S.content (store_of self.old)) lo hi put.now) }
         ensures content { IfOk result (λ ops. S.content (store_of self.new) ≡ join (S.content (store_of self.old)) (content_of ops.items)) }
         ensures text { OnOk result (text_of (S.content (store_of self.new)) ≡ spliced (text_of (S.content (store_of self.old))) lo hi put.now) }
         // The new elements stand in a row directly behind their left neighbour, whatever stood there.
-        ensures place { OnOk result (order (S.content (store_of self.new)) ≡ put_row_behind (left_of (visible (S.content (store_of self.old))) lo) (new_ids (replica_of self.old) (clock (S.content (store_of self.old))) put.now) (order (S.content (store_of self.old)))) }
+        ensures place { OnOk result (order (S.content (store_of self.new)) ≡ put_row_behind (left_of (visible (S.content (store_of self.old))) lo) (new_ids (replica_of self.old) (clock_of (S.content (store_of self.old))) put.now) (order (S.content (store_of self.old)))) }
 
         ensures same { OnErr result (S.content (store_of self.new) ≡ S.content (store_of self.old)) }
-        ensures limit { S.capacity (store_of self.new) ≡ S.capacity (store_of self.old) }
+        ensures limit { S.limit (store_of self.new) ≡ S.limit (store_of self.old) }
         ensures replica { replica_of self.new ≡ replica_of self.old }
     {
         self.check_room(put.len())?;
@@ -58,16 +58,16 @@ impl<S: TextStore> Doc<S> {
     /// Refusals, in this order, for all splices together: `Full`, `Range` (of a place, or of two
     /// that do not fall), `Clock`, `Memory`. A refusal changes nothing.
     pub fn splices(&mut self, splices: &[Splice]) -> Result<Vec<Op>, Refusal>
-        ensures allowed { OnOk result (splices_answer (S.capacity (store_of self.old)) (S.content (store_of self.old)) splices.now ≡ Ok tt) }
+        ensures allowed { OnOk result (splices_answer (S.limit (store_of self.old)) (S.content (store_of self.old)) splices.now ≡ Ok tt) }
         ensures refused { IfErr result (λ e. (e ≡ Refusal.Memory)
-            ⊎ (splices_answer (S.capacity (store_of self.old)) (S.content (store_of self.old)) splices.now ≡ Err e)) }
+            ⊎ (splices_answer (S.limit (store_of self.old)) (S.content (store_of self.old)) splices.now ≡ Err e)) }
 
         ensures operations { IfOk result (λ ops. ops.items ≡ splices_operations (replica_of self.old) (S.content (store_of self.old)) splices.now) }
         ensures content { IfOk result (λ ops. S.content (store_of self.new) ≡ join (S.content (store_of self.old)) (content_of ops.items)) }
         ensures text { OnOk result (text_of (S.content (store_of self.new)) ≡ text_after (text_of (S.content (store_of self.old))) splices.now) }
 
         ensures same { OnErr result (S.content (store_of self.new) ≡ S.content (store_of self.old)) }
-        ensures limit { S.capacity (store_of self.new) ≡ S.capacity (store_of self.old) }
+        ensures limit { S.limit (store_of self.new) ≡ S.limit (store_of self.old) }
         ensures replica { replica_of self.new ≡ replica_of self.old }
     {
         let new = count_characters(splices);
@@ -86,8 +86,8 @@ impl<S: TextStore> Doc<S> {
     /// `Full` unless the limit leaves room for so many more. The store says with its limit that this
     /// is in range.
     fn check_room(&self, new: usize) -> Result<(), Refusal>
-        ensures answer { result ≡ (if nat_lt (S.capacity (store_of self.now)) (finite_set.len (known (S.content (store_of self.now))) + new) then Err Refusal.Full else Ok tt) }
-        ensures limited { is_limit (S.capacity (store_of self.now)) ≡ true }
+        ensures answer { result ≡ (if nat_lt (S.limit (store_of self.now)) (finite_set.len (known_ids (S.content (store_of self.now))) + new) then Err Refusal.Full else Ok tt) }
+        ensures limited { is_limit (S.limit (store_of self.now)) ≡ true }
     {
         if new > self.store.limit() - self.store.known() {
             return Err(Refusal::Full);
@@ -97,7 +97,7 @@ impl<S: TextStore> Doc<S> {
 
     /// `Clock` where there are new characters and not that many counters above the clock.
     fn check_counters(&self, new: usize) -> Result<(), Refusal>
-        ensures { result ≡ (if nat_lt 0 new && nat_lt greatest_counter (clock (S.content (store_of self.now)) + new) then Err Refusal.Clock else Ok tt) }
+        ensures { result ≡ (if nat_lt 0 new && nat_lt greatest_counter (clock_of (S.content (store_of self.now)) + new) then Err Refusal.Clock else Ok tt) }
     {
         if new as u64 > Id::MAX_COUNTER.saturating_sub(self.store.clock()) {
             return Err(Refusal::Clock);
@@ -109,7 +109,7 @@ impl<S: TextStore> Doc<S> {
     fn draft(&self) -> Draft
         ensures ops { result.ops.items ≡ [] }
         ensures replica { result.replica ≡ replica_of self.now }
-        ensures last { result.last ≡ clock (S.content (store_of self.now)) }
+        ensures last { result.last ≡ clock_of (S.content (store_of self.now)) }
     {
         Draft {
             ops: Vec::new(self.alloc),

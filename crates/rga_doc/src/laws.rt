@@ -5,7 +5,7 @@ ghost use Rattle.std.specs.Prelude.{◌≡◌, ◌≤◌, true, ℕ, List, lengt
 ghost use Rattle.std.specs.FinMap as finite_map;
 ghost use Rattle.std.specs.FinSet as finite_set;
 ghost use Rattle.rga_ops.specs.Identifier.{Identifier};
-ghost use Rattle.rga_ops.specs.Content.{Content, clock, join, content_of};
+ghost use Rattle.rga_ops.specs.Content.{Content, clock_of, join, content_of};
 ghost use Rattle.rga_ops.specs.ListAnswer.{list_answer};
 ghost use Rattle.rga_ops.specs.Order.{order, text};
 ghost use Rattle.rga_ops.specs.Places.{visible};
@@ -26,7 +26,7 @@ pub fn a_splice_changes_the_text_at_its_place()
     ensures text { (limit replica lo hi : ℕ) (c : Content) (put : List ℕ) → splice_answer limit c lo hi put ≡ Ok tt →
         text (join c (content_of (splice_operations replica c lo hi put))) ≡ spliced (text c) lo hi put }
     ensures order { (limit replica lo hi : ℕ) (c : Content) (put : List ℕ) → splice_answer limit c lo hi put ≡ Ok tt →
-        order (join c (content_of (splice_operations replica c lo hi put))) ≡ put_row_behind (left_of (visible c) lo) (new_ids replica (clock c) put) (order c) }
+        order (join c (content_of (splice_operations replica c lo hi put))) ≡ put_row_behind (left_of (visible c) lo) (new_ids replica (clock_of c) put) (order c) }
 {}
 
 /// The same for several splices in turn.

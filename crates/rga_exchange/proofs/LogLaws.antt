@@ -5,7 +5,7 @@ use Rattle.std.specs.List.{AllByRecursion}
 use Rattle.std.specs.FinSet as finite_set
 use Rattle.std.proofs.lemmas.Bool.{ltb-true}
 use Rattle.rga_ops.specs.Operation.{checked}
-use Rattle.rga_ops.specs.Content.{Content, join, content_of, known}
+use Rattle.rga_ops.specs.Content.{Content, join, content_of, known_ids}
 use Rattle.rga_ops.specs.Answer.{taken, and_take, taken_one_by_one}
 use Rattle.rga_ops.specs.ListAnswer.{IsJoinable}
 use Rattle.rga_ops.specs.declared.op.Op.{Op}
@@ -31,7 +31,7 @@ use Rattle.rga_exchange.proofs.TakingLaws.{are_taken}
 use Rattle.rga_exchange.proofs.OperationLaws.{is_read_to_end, no_fault, is_read, log_taken}
 use Rattle.rga_exchange.proofs.StopLaws.{operation, no_operation, operations_are_taken, took_first, lines_counted}
 
-pub log_joinable : (limit : ℕ) (c d : Content) (read : LogRead) (bytes : List ℕ) → finite_set.len (known c) ≤ limit → log_outcome limit c bytes ≡ (d, Ok read) → IsJoinable c (log_operations bytes) × (finite_set.len (known d) ≤ limit)
+pub log_joinable : (limit : ℕ) (c d : Content) (read : LogRead) (bytes : List ℕ) → finite_set.len (known_ids c) ≤ limit → log_outcome limit c bytes ≡ (d, Ok read) → IsJoinable c (log_operations bytes) × (finite_set.len (known_ids d) ≤ limit)
 log_joinable limit c d read bytes within h =
     let was = log_taken limit c d read bytes h in (
       ((list_taken-iff limit c (log_operations bytes)).0 (one_by_one_list limit c d (log_operations bytes) within was)).1,
@@ -134,7 +134,7 @@ rest_is_short rest one = by_size (nat_lt max_line (length rest)) refl one
         let clash : no_operation line_fault.Long ≡ operation op = sym (long_line rest (ltb-true max_line (length rest) size)) ∙ says in
         absurd cc
 
-pub log_without_fault : (limit : ℕ) (c : Content) (bytes : List ℕ) → HasOnlyOperations bytes → IsJoinable c (log_operations bytes) → finite_set.len (known (join c (content_of (log_operations bytes)))) ≤ limit → (read : LogRead) × (log_outcome limit c bytes ≡ (join c (content_of (log_operations bytes)), Ok read)) × HasNothingTorn read.end
+pub log_without_fault : (limit : ℕ) (c : Content) (bytes : List ℕ) → HasOnlyOperations bytes → IsJoinable c (log_operations bytes) → finite_set.len (known_ids (join c (content_of (log_operations bytes)))) ≤ limit → (read : LogRead) × (log_outcome limit c bytes ≡ (join c (content_of (log_operations bytes)), Ok read)) × HasNothingTorn read.end
 log_without_fault limit c bytes only joinable fits =
     let rest : List ℕ = rest_of bytes in
     let lines : List (List ℕ) = lines_of bytes in

@@ -3,7 +3,7 @@ use Rattle.std.proofs.Common.{◌≡◌, ℕ, ◌+◌, ◌<◌, ◌≤◌, ◌^�
 use Rattle.std.proofs.lemmas.Bool.{eq-eqb}
 use Rattle.std.proofs.lemmas.List.{length-map}
 use Rattle.std.specs.FinSet as finite_set
-use Rattle.rga_ops.specs.Content.{Content, Agree, join, content_of, known, IsSound}
+use Rattle.rga_ops.specs.Content.{Content, Agree, join, content_of, known_ids, IsSound}
 use Rattle.rga_ops.specs.Answer.{taken_one_by_one}
 use Rattle.rga_ops.specs.ListAnswer.{AreWellFormed}
 use Rattle.rga_ops.specs.Operations.{operations}
@@ -22,13 +22,13 @@ use Rattle.rga_exchange.proofs.StopLaws.{operations_are_taken}
 use Rattle.rga_exchange.proofs.AppendedLaws.{are_operations-written, operations_of-written, stream_lines, stream_rest}
 
 -- a content that agrees with another takes its operations, and is the join of both then
-all_taken : (limit : ℕ) (c d : Content) → IsSound c → Agree d c → finite_set.len (known (join d c)) ≤ limit → taken_one_by_one limit d (operations c) ≡ Ok (join d c)
+all_taken : (limit : ℕ) (c d : Content) → IsSound c → Agree d c → finite_set.len (known_ids (join d c)) ≤ limit → taken_one_by_one limit d (operations c) ≡ Ok (join d c)
 all_taken limit c d sound agree fits =
     let is : content_of (operations c) ≡ c = content_of-operations c in
     takeable_is_taken limit d (operations c) (record {
       well_formed = λ op m. sound op (operations_hold c op m);
       joinable = record { agreed = operations_agree c; agree = subst (Agree d) (sym is) agree };
-      fits = subst (λ e. finite_set.len (known (join d e)) ≤ limit) (sym is) fits;
+      fits = subst (λ e. finite_set.len (known_ids (join d e)) ≤ limit) (sym is) fits;
     })
     ∙ ap (λ e. Ok (join d e)) is
 
@@ -38,7 +38,7 @@ written_taken limit d e ops writable well h =
     operations_are_taken limit 0 d e (map line ops) (are_operations-written ops writable well) (ap (taken_one_by_one limit d) (operations_of-written ops writable well) ∙ h)
     ∙ ap (λ n. taking n e AllTaken) count
 
-stream_is_taken : (limit : ℕ) (c d : Content) → IsSound c → AreWritable (operations c) → length (operations c) < 2 ^ 64 → Agree d c → finite_set.len (known (join d c)) ≤ limit
+stream_is_taken : (limit : ℕ) (c d : Content) → IsSound c → AreWritable (operations c) → length (operations c) < 2 ^ 64 → Agree d c → finite_set.len (known_ids (join d c)) ≤ limit
     → stream_taken limit d (stream_text c) ≡ taking (length (operations c)) (join d c) (AtEnd (length (operations c)))
 stream_is_taken limit c d sound writable few agree fits =
     let ops : List Op = operations c in
@@ -56,7 +56,7 @@ outcome c r = (c, r)
 abbrev answer_of : Taking → Content × Result ℕ ReceiveFault
 answer_of t = outcome t.content (number_received t.lines t.stop)
 
-pub sent_is_received : (limit : ℕ) (c d : Content) → IsSound c → AreWritable (operations c) → length (operations c) < 2 ^ 64 → Agree d c → finite_set.len (known (join d c)) ≤ limit
+pub sent_is_received : (limit : ℕ) (c d : Content) → IsSound c → AreWritable (operations c) → length (operations c) < 2 ^ 64 → Agree d c → finite_set.len (known_ids (join d c)) ≤ limit
     → received limit d (stream_text c) ≡ (join d c, Ok (length (operations c)))
 sent_is_received limit c d sound writable few agree fits =
     let number : ℕ = length (operations c) in
@@ -65,7 +65,7 @@ sent_is_received limit c d sound writable few agree fits =
 
 -- the same of the list of its operations, which were written
 pub list_received : (limit : ℕ) (c d : Content) (ops : List Op) (number : ℕ) → ops ≡ operations c → number ≡ length ops → number < 2 ^ 64 → (AreWellFormed ops → AreWritable ops)
-    → IsSound c → Agree d c → finite_set.len (known (join d c)) ≤ limit → received limit d (stream_text c) ≡ (join d c, Ok number)
+    → IsSound c → Agree d c → finite_set.len (known_ids (join d c)) ≤ limit → received limit d (stream_text c) ≡ (join d c, Ok number)
 list_received limit c d ops number are count few writable sound agree fits =
     let all : number ≡ length (operations c) = count ∙ ap (λ (l : List Op). length l) are in
     let well : AreWellFormed ops = subst AreWellFormed (sym are) (λ op m. sound op (operations_hold c op m)) in

@@ -48,18 +48,18 @@ pub fn take_log<T: Taker, R: Read>(
 ) -> Result<LogRead, LogFault>
     // However the reads cut the bytes, they lead to what the whole log leads to.
     ensures outcome { result ≢ Err ReadFailed → result ≢ Err NoMemory → IfSome (R.remaining (counted_inner reader.old))
-        (λ bytes. log_outcome (T.capacity taker.old) (T.content taker.old) bytes ≡ (T.content taker.new, result)) }
+        (λ bytes. log_outcome (T.limit taker.old) (T.content taker.old) bytes ≡ (T.content taker.new, result)) }
     ensures joined { OnOk result (IfSome (R.remaining (counted_inner reader.old))
         (λ bytes. T.content taker.new ≡ join (T.content taker.old) (content_of (log_operations bytes)))) }
 
     ensures read { result ≡ Err ReadFailed → HasTakenWholeLines (R.remaining (counted_inner reader.old))
-        (R.remaining (counted_inner reader.new)) (T.capacity taker.old) (T.content taker.old) (T.content taker.new) }
+        (R.remaining (counted_inner reader.new)) (T.limit taker.old) (T.content taker.old) (T.content taker.new) }
     // Whatever the fault, the first lines that were read were taken, and nothing else.
     ensures lines { OnErr result (HasTakenLines (R.remaining (counted_inner reader.old))
-        (R.remaining (counted_inner reader.new)) (T.capacity taker.old) (T.content taker.old) (T.content taker.new)) }
+        (R.remaining (counted_inner reader.new)) (T.limit taker.old) (T.content taker.old) (T.content taker.new)) }
     ensures device { result ≡ Err ReadFailed → counted_failures reader.new ≡ one_more (counted_failures reader.old) }
     ensures unfailed { result ≢ Err ReadFailed → counted_failures reader.new ≡ counted_failures reader.old }
-    ensures limit { T.capacity taker.new ≡ T.capacity taker.old }
+    ensures limit { T.limit taker.new ≡ T.limit taker.old }
     ensures bound { IfOk result (λ log. log.lines < 2 ^ 63) }
 {
     let Stream { lines, end } = take_stream(alloc, taker, reader)?;
@@ -80,11 +80,11 @@ fn take_rest<T: Taker>(
     rest: &[u8],
 ) -> Result<LogEnd, LogFault>
     requires { lines < 2 ^ 63 }
-    ensures end { IfOk result (λ end. after_rest (T.capacity taker.old) lines (T.content taker.old) rest.now ≡ ended lines (T.content taker.new) end) }
-    ensures fault { IfErr result (λ e. e ≢ NoMemory → after_rest (T.capacity taker.old) lines (T.content taker.old) rest.now ≡ (T.content taker.new, Err e)) }
+    ensures end { IfOk result (λ end. after_rest (T.limit taker.old) lines (T.content taker.old) rest.now ≡ ended lines (T.content taker.new) end) }
+    ensures fault { IfErr result (λ e. e ≢ NoMemory → after_rest (T.limit taker.old) lines (T.content taker.old) rest.now ≡ (T.content taker.new, Err e)) }
     ensures same { OnErr result (T.content taker.new ≡ T.content taker.old) }
     ensures device { IfErr result (λ e. e ≢ ReadFailed) }
-    ensures limit { T.capacity taker.new ≡ T.capacity taker.old }
+    ensures limit { T.limit taker.new ≡ T.limit taker.old }
 {
     if rest.is_empty() {
         return Ok(LogEnd::Whole);
@@ -108,18 +108,18 @@ pub fn read_log<T: Taker, R: Read>(
 ) -> Result<LogEnd, ReceiveFault>
     // However the reads cut the bytes, they lead to what the whole log leads to.
     ensures outcome { result ≢ Err ReceiveFault.Read → result ≢ Err ReceiveFault.Memory → IfSome (R.remaining (counted_inner reader.old))
-        (λ bytes. let p = log_outcome (T.capacity taker.old) (T.content taker.old) bytes in (p.0 ≡ T.content taker.new) × (log_end p.1 ≡ result)) }
+        (λ bytes. let p = log_outcome (T.limit taker.old) (T.content taker.old) bytes in (p.0 ≡ T.content taker.new) × (log_end p.1 ≡ result)) }
     ensures joined { OnOk result (IfSome (R.remaining (counted_inner reader.old))
         (λ bytes. T.content taker.new ≡ join (T.content taker.old) (content_of (log_operations bytes)))) }
 
     ensures read { result ≡ Err ReceiveFault.Read → HasTakenWholeLines (R.remaining (counted_inner reader.old))
-        (R.remaining (counted_inner reader.new)) (T.capacity taker.old) (T.content taker.old) (T.content taker.new) }
+        (R.remaining (counted_inner reader.new)) (T.limit taker.old) (T.content taker.old) (T.content taker.new) }
     // Whatever the fault, the first lines that were read were taken, and nothing else.
     ensures lines { OnErr result (HasTakenLines (R.remaining (counted_inner reader.old))
-        (R.remaining (counted_inner reader.new)) (T.capacity taker.old) (T.content taker.old) (T.content taker.new)) }
+        (R.remaining (counted_inner reader.new)) (T.limit taker.old) (T.content taker.old) (T.content taker.new)) }
     ensures device { result ≡ Err ReceiveFault.Read → counted_failures reader.new ≡ one_more (counted_failures reader.old) }
     ensures unfailed { result ≢ Err ReceiveFault.Read → counted_failures reader.new ≡ counted_failures reader.old }
-    ensures limit { T.capacity taker.new ≡ T.capacity taker.old }
+    ensures limit { T.limit taker.new ≡ T.limit taker.old }
 {
     let log = take_log(alloc, taker, reader)?;
     Ok(log.end)

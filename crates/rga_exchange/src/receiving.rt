@@ -29,7 +29,7 @@ pub fn receive<T: Taker, R: Read>(
 ) -> Result<u64, ReceiveFault>
     // However the reads cut the bytes, they lead to what all of them lead to.
     ensures outcome { result ≢ Err ReceiveFault.Read → result ≢ Err ReceiveFault.Memory → IfSome (R.remaining (counted_inner reader.old))
-        (λ bytes. received (T.capacity taker.old) (T.content taker.old) bytes ≡ (T.content taker.new, result)) }
+        (λ bytes. received (T.limit taker.old) (T.content taker.old) bytes ≡ (T.content taker.new, result)) }
     ensures joined { OnOk result (IfSome (R.remaining (counted_inner reader.old))
         (λ bytes. T.content taker.new ≡ join (T.content taker.old) (content_of (stream_operations bytes)))) }
     ensures number { IfOk result (λ n. IfSome (R.remaining (counted_inner reader.old)) (λ bytes. n ≡ length (stream_operations bytes))) }
@@ -39,13 +39,13 @@ pub fn receive<T: Taker, R: Read>(
     ensures last_count { result ≡ Err ReceiveFault.Count → EndsWithLastRead (R.remaining (counted_inner reader.old)) (R.remaining (counted_inner reader.new)) }
 
     ensures read { result ≡ Err ReceiveFault.Read → HasTakenWholeLines (R.remaining (counted_inner reader.old))
-        (R.remaining (counted_inner reader.new)) (T.capacity taker.old) (T.content taker.old) (T.content taker.new) }
+        (R.remaining (counted_inner reader.new)) (T.limit taker.old) (T.content taker.old) (T.content taker.new) }
     // Whatever the answer, the first lines that were read were taken, and nothing else.
     ensures lines { HasTakenLines (R.remaining (counted_inner reader.old))
-        (R.remaining (counted_inner reader.new)) (T.capacity taker.old) (T.content taker.old) (T.content taker.new) }
+        (R.remaining (counted_inner reader.new)) (T.limit taker.old) (T.content taker.old) (T.content taker.new) }
     ensures device { result ≡ Err ReceiveFault.Read → counted_failures reader.new ≡ one_more (counted_failures reader.old) }
     ensures unfailed { result ≢ Err ReceiveFault.Read → counted_failures reader.new ≡ counted_failures reader.old }
-    ensures limit { T.capacity taker.new ≡ T.capacity taker.old }
+    ensures limit { T.limit taker.new ≡ T.limit taker.old }
 {
     let Stream { lines, end } = take_stream(alloc, taker, reader)?;
     match end {

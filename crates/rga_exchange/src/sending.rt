@@ -4,7 +4,7 @@ ghost use Rattle.std.specs.Io.KnownBytes.{Appends};
 ghost use Rattle.std.specs.FinSet as finite_set;
 ghost use Rattle.rga_ops.specs.Operation.{checked};
 ghost use Rattle.rga_ops.specs.Operations.{operations};
-ghost use Rattle.rga_ops.specs.Content.{Content, Agree, IsSound, join, known, content_of};
+ghost use Rattle.rga_ops.specs.Content.{Content, Agree, IsSound, join, known_ids, content_of};
 ghost use Rattle.rga_ops.specs.ListAnswer.{AreWellFormed, IsJoinable};
 ghost use Rattle.rga_lines.specs.Counting.{counted_inner, counted_failures, one_more, AppendsFront};
 ghost use Rattle.rga_lines.specs.Spelling.{line as line_of, IsWritable};
@@ -37,7 +37,7 @@ pub fn send<S: TextStore, W: Write>(
     ensures written { OnOk result (Appends (W.contents (counted_inner writer.old)) (W.contents (counted_inner writer.new)) (stream_text (S.content store.now))) }
     // Whatever holds a content that agrees with it, and has room for both, receives it whole.
     ensures received { IfOk result (λ number. (limit : ℕ) (c : Content) → IsSound (S.content store.now) → Agree c (S.content store.now)
-        → finite_set.len (known (join c (S.content store.now))) ≤ limit
+        → finite_set.len (known_ids (join c (S.content store.now))) ≤ limit
         → received limit c (stream_text (S.content store.now)) ≡ (join c (S.content store.now), Ok number)) }
     ensures unfailed { result ≢ Err SendFault.Write → counted_failures writer.new ≡ counted_failures writer.old }
     ensures begun { AppendsFront (W.contents (counted_inner writer.old)) (W.contents (counted_inner writer.new)) (stream_text (S.content store.now)) }

@@ -40,18 +40,18 @@ pub(crate) fn take_stream<T: Taker, R: Read>(
 ) -> Result<Stream, LogFault>
     // However the reads cut the bytes, they lead to what all of them lead to.
     ensures end { IfOk result (λ s. IfSome (R.remaining (counted_inner reader.old))
-        (λ bytes. EndsAs (stream_taken (T.capacity taker.old) (T.content taker.old) bytes) (rest_of bytes) s.lines (T.content taker.new) s.end)) }
+        (λ bytes. EndsAs (stream_taken (T.limit taker.old) (T.content taker.old) bytes) (rest_of bytes) s.lines (T.content taker.new) s.end)) }
     ensures fault { IfErr result (λ e. e ≢ ReadFailed → e ≢ Memory → IfSome (R.remaining (counted_inner reader.old))
-        (λ bytes. (lines : ℕ) × (stream_taken (T.capacity taker.old) (T.content taker.old) bytes ≡ taking lines (T.content taker.new) (AtFault e)))) }
+        (λ bytes. (lines : ℕ) × (stream_taken (T.limit taker.old) (T.content taker.old) bytes ≡ taking lines (T.content taker.new) (AtFault e)))) }
 
     ensures lines { HasTakenLines (R.remaining (counted_inner reader.old))
-        (R.remaining (counted_inner reader.new)) (T.capacity taker.old) (T.content taker.old) (T.content taker.new) }
+        (R.remaining (counted_inner reader.new)) (T.limit taker.old) (T.content taker.old) (T.content taker.new) }
     ensures whole { IfErr result (λ e. e ≡ ReadFailed → HasTakenWholeLines (R.remaining (counted_inner reader.old))
-        (R.remaining (counted_inner reader.new)) (T.capacity taker.old) (T.content taker.old) (T.content taker.new)) }
+        (R.remaining (counted_inner reader.new)) (T.limit taker.old) (T.content taker.old) (T.content taker.new)) }
     ensures last { IfOk result (λ s. StopsReading (R.remaining (counted_inner reader.old)) (R.remaining (counted_inner reader.new)) s.end) }
     ensures device { IfErr result (λ e. e ≡ ReadFailed → counted_failures reader.new ≡ one_more (counted_failures reader.old)) }
     ensures unfailed { result ≢ Err ReadFailed → counted_failures reader.new ≡ counted_failures reader.old }
-    ensures limit { T.capacity taker.new ≡ T.capacity taker.old }
+    ensures limit { T.limit taker.new ≡ T.limit taker.old }
     ensures bound { IfOk result (λ s. s.lines < 2 ^ 63) }
 {
     let mut splitter = Splitter::new(alloc);
@@ -85,19 +85,19 @@ fn take_lines<T: Taker>(
 ) -> Result<Option<u64>, LogFault>
     requires whole { splitter.old.broken ≡ false }
     requires room { lines.old + length splitter.old.waiting < 2 ^ 63 }
-    ensures taken { (waiting : List ℕ) × Takes (T.capacity taker.old) lines.old (T.content taker.old) splitter.old.waiting lines.new (T.content taker.new) waiting }
-    ensures all { result ≡ Ok None → Takes (T.capacity taker.old) lines.old (T.content taker.old) splitter.old.waiting lines.new (T.content taker.new) splitter.new.waiting }
+    ensures taken { (waiting : List ℕ) × Takes (T.limit taker.old) lines.old (T.content taker.old) splitter.old.waiting lines.new (T.content taker.new) waiting }
+    ensures all { result ≡ Ok None → Takes (T.limit taker.old) lines.old (T.content taker.old) splitter.old.waiting lines.new (T.content taker.new) splitter.new.waiting }
     ensures end { (number : ℕ) → result ≡ Ok (Some number) → (more : List ℕ) →
-        bytes_taken (T.capacity taker.old) lines.old (T.content taker.old) (splitter.old.waiting ++ more) ≡ taking lines.new (T.content taker.new) (AtEnd number) }
+        bytes_taken (T.limit taker.old) lines.old (T.content taker.old) (splitter.old.waiting ++ more) ≡ taking lines.new (T.content taker.new) (AtEnd number) }
     ensures fault { IfErr result (λ e. e ≢ Memory → (more : List ℕ) →
-        bytes_taken (T.capacity taker.old) lines.old (T.content taker.old) (splitter.old.waiting ++ more) ≡ taking lines.new (T.content taker.new) (AtFault e)) }
+        bytes_taken (T.limit taker.old) lines.old (T.content taker.old) (splitter.old.waiting ++ more) ≡ taking lines.new (T.content taker.new) (AtFault e)) }
     ensures device { IfErr result (λ e. e ≢ ReadFailed) }
 
     ensures none_left { result ≡ Ok None → (lines_of splitter.new.waiting ≡ []) × (length splitter.new.waiting ≤ max_line) }
     ensures whole { result ≡ Ok None → splitter.new.broken ≡ false }
     ensures room { result ≡ Ok None → lines.new + length splitter.new.waiting ≤ lines.old + length splitter.old.waiting }
     ensures bound { lines.new ≤ lines.old + length splitter.old.waiting }
-    ensures limit { T.capacity taker.new ≡ T.capacity taker.old }
+    ensures limit { T.limit taker.new ≡ T.limit taker.old }
 {
     'lines: loop {
         let end = match splitter.find_line() {
@@ -120,13 +120,13 @@ fn take_line<T: Taker>(
     number: u64,
     line: &[u8],
 ) -> Result<Option<u64>, LogFault>
-    ensures operation { result ≡ Ok None → after_line (T.capacity taker.old) number (T.content taker.old) (any_line_at line.now) ≡ Ok (T.content taker.new) }
-    ensures end { (count : ℕ) → result ≡ Ok (Some count) → (after_line (T.capacity taker.old) number (T.content taker.old) (any_line_at line.now) ≡ Err (AtEnd count))
+    ensures operation { result ≡ Ok None → after_line (T.limit taker.old) number (T.content taker.old) (any_line_at line.now) ≡ Ok (T.content taker.new) }
+    ensures end { (count : ℕ) → result ≡ Ok (Some count) → (after_line (T.limit taker.old) number (T.content taker.old) (any_line_at line.now) ≡ Err (AtEnd count))
         × (T.content taker.new ≡ T.content taker.old) }
-    ensures fault { IfErr result (λ e. e ≢ Memory → after_line (T.capacity taker.old) number (T.content taker.old) (any_line_at line.now) ≡ Err (AtFault e)) }
+    ensures fault { IfErr result (λ e. e ≢ Memory → after_line (T.limit taker.old) number (T.content taker.old) (any_line_at line.now) ≡ Err (AtFault e)) }
     ensures device { IfErr result (λ e. e ≢ ReadFailed) }
     ensures same { OnErr result (T.content taker.new ≡ T.content taker.old) }
-    ensures limit { T.capacity taker.new ≡ T.capacity taker.old }
+    ensures limit { T.limit taker.new ≡ T.limit taker.old }
 {
     match read_any(alloc, line) {
         Ok(Line::One(op)) => {
@@ -141,11 +141,11 @@ fn take_line<T: Taker>(
 
 /// Takes the operation of the line with this number.
 pub(crate) fn take<T: Taker>(taker: &mut T, number: u64, op: Op) -> Result<(), LogFault>
-    ensures ok { OnOk result (taken (T.capacity taker.old) (T.content taker.old) op ≡ Ok (T.content taker.new)) }
-    ensures fault { IfErr result (λ e. e ≢ Memory → refused_at number (taken (T.capacity taker.old) (T.content taker.old) op) ≡ Err (AtFault e)) }
+    ensures ok { OnOk result (taken (T.limit taker.old) (T.content taker.old) op ≡ Ok (T.content taker.new)) }
+    ensures fault { IfErr result (λ e. e ≢ Memory → refused_at number (taken (T.limit taker.old) (T.content taker.old) op) ≡ Err (AtFault e)) }
     ensures device { IfErr result (λ e. e ≢ ReadFailed) }
     ensures same { OnErr result (T.content taker.new ≡ T.content taker.old) }
-    ensures limit { T.capacity taker.new ≡ T.capacity taker.old }
+    ensures limit { T.limit taker.new ≡ T.limit taker.old }
 {
     match taker.apply(op) {
         Ok(_) => Ok(()),

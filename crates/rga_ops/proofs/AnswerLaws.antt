@@ -7,7 +7,7 @@ use Rattle.std.proofs.lemmas.Bool.{false_from_ne_true, and_parts, and_from, or_c
 use Rattle.std.proofs.lemmas.Option.{same_Some, none-some}
 use Rattle.rga_ops.specs.Identifier.{Identifier, is_id, is_root}
 use Rattle.rga_ops.specs.Operation.{checked, id_of}
-use Rattle.rga_ops.specs.Content.{Element, element, Content, known, Holds, HasAnother}
+use Rattle.rga_ops.specs.Content.{Element, element, Content, known_ids, Holds, HasAnother}
 use Rattle.rga_ops.specs.Answer.{facts, has_room, is_element, insertion_answer, answer_well_formed, and_then, answer}
 use Rattle.rga_ops.proofs.IdentifierLaws.{ids_total, is_id-is, is_id-itself}
 use Rattle.rga_ops.specs.declared.op.Op.{Op}
@@ -21,7 +21,7 @@ abbrev pub Answer : Type 0
 Answer = Result Taken Refusal
 
 -- what is known is inserted, deleted or both
-pub contains-known : (c : Content) (q : Identifier) → finite_set.contains (known c) q ≡ (is_some (finite_map.get c.inserted q) || finite_set.contains c.deleted q)
+pub contains-known : (c : Content) (q : Identifier) → finite_set.contains (known_ids c) q ≡ (is_some (finite_map.get c.inserted q) || finite_set.contains c.deleted q)
 contains-known c q =
     finite_set.contains-union ids_total (finite_set.from_list (finite_map.keys c.inserted)) c.deleted q
     ∙ ap (λ b. b || finite_set.contains c.deleted q) (finite_set.contains-from_list ids_total (finite_map.keys c.inserted) q ∙ sym (finite_map.contains_key-keys c.inserted q))
@@ -38,25 +38,25 @@ is_element-itself parent ch = and_from (is_id parent parent) (ch == ch) (is_id-i
 
 -- room for an identifier: it is known already, or fewer are known than the limit
 abbrev pub HasRoom : ℕ → Content → Identifier → Type 0
-HasRoom limit c id = (finite_set.contains (known c) id ≡ true) ⊎ (finite_set.len (known c) ≢ limit)
+HasRoom limit c id = (finite_set.contains (known_ids c) id ≡ true) ⊎ (finite_set.len (known_ids c) ≢ limit)
 
 pub data Outcome (limit : ℕ) (c : Content) (op : Op) (r : Answer) : Type 0 where
   ill_formed : (e : Refusal) → checked op ≡ Err e → r ≡ Err e → Outcome limit c op r
   held : checked op ≡ Ok tt → Holds c op → r ≡ Ok Known → Outcome limit c op r
   another : checked op ≡ Ok tt → HasAnother c op → r ≡ Err (Conflict (id_of op)) → Outcome limit c op r
   fresh : checked op ≡ Ok tt → ¬ (Holds c op) → ¬ (HasAnother c op) → HasRoom limit c (id_of op) → r ≡ Ok New → Outcome limit c op r
-  no_room : checked op ≡ Ok tt → finite_set.contains (known c) (id_of op) ≡ false → finite_set.len (known c) ≡ limit → r ≡ Err Full → Outcome limit c op r
+  no_room : checked op ≡ Ok tt → finite_set.contains (known_ids c) (id_of op) ≡ false → finite_set.len (known_ids c) ≡ limit → r ≡ Err Full → Outcome limit c op r
 
 room_from : (limit : ℕ) (c : Content) (id : Identifier) → has_room (facts limit c id) ≡ true → HasRoom limit c id
-room_from limit c id h = elim (or_cases (is_some (finite_map.get c.inserted id) || finite_set.contains c.deleted id) (not (finite_set.len (known c) == limit)) h) [
+room_from limit c id h = elim (or_cases (is_some (finite_map.get c.inserted id) || finite_set.contains c.deleted id) (not (finite_set.len (known_ids c) == limit)) h) [
   | inl present ↦ inl (contains-known c id ∙ present)
-  | inr space ↦ inr (eqb-false (finite_set.len (known c)) limit (not-true _ space))
+  | inr space ↦ inr (eqb-false (finite_set.len (known_ids c)) limit (not-true _ space))
 ]
 
 no_room_from : (limit : ℕ) (c : Content) (op : Op) → checked op ≡ Ok tt → has_room (facts limit c (id_of op)) ≡ false → Outcome limit c op (Err Full)
 no_room_from limit c op well h =
-    let parts = or_parts (is_some (finite_map.get c.inserted (id_of op)) || finite_set.contains c.deleted (id_of op)) (not (finite_set.len (known c) == limit)) h in
-    no_room well (contains-known c (id_of op) ∙ parts.0) (eqb-true (finite_set.len (known c)) limit (not-false _ parts.1)) refl
+    let parts = or_parts (is_some (finite_map.get c.inserted (id_of op)) || finite_set.contains c.deleted (id_of op)) (not (finite_set.len (known_ids c) == limit)) h in
+    no_room well (contains-known c (id_of op) ∙ parts.0) (eqb-true (finite_set.len (known_ids c)) limit (not-false _ parts.1)) refl
 
 by_room : (limit : ℕ) (c : Content) (op : Op) → checked op ≡ Ok tt → ¬ (Holds c op) → ¬ (HasAnother c op) → Outcome limit c op (cond (has_room (facts limit c (id_of op))) (Ok New) (Err Full))
 by_room limit c op well not_held no_other =
@@ -107,11 +107,11 @@ passed = Ok tt
 abbrev pub bad : Refusal → Result (Unit {0}) Refusal
 bad e = Err e
 
-another_known : (c : Content) (op : Op) → HasAnother c op → finite_set.contains (known c) (id_of op) ≡ true
+another_known : (c : Content) (op : Op) → HasAnother c op → finite_set.contains (known_ids c) (id_of op) ≡ true
 another_known c (Insert id parent ch) (x, h, other) = contains-known c id ∙ or_left (is_some (finite_map.get c.inserted id)) (finite_set.contains c.deleted id) (ap is_some h)
 another_known c (Delete id) h = absurd h
 
-held_known : (c : Content) (op : Op) → Holds c op → finite_set.contains (known c) (id_of op) ≡ true
+held_known : (c : Content) (op : Op) → Holds c op → finite_set.contains (known_ids c) (id_of op) ≡ true
 held_known c (Insert id parent ch) h = contains-known c id ∙ or_left (is_some (finite_map.get c.inserted id)) (finite_set.contains c.deleted id) (ap is_some h)
 held_known c (Delete id) h = contains-known c id ∙ or_right (is_some (finite_map.get c.inserted id)) (finite_set.contains c.deleted id) h
 
@@ -175,10 +175,10 @@ conflict-iff limit c op id = (λ e. tells (answer limit c op) (outcome limit c o
     leads r (fresh w g k room s) well h same = absurd (k h)
     leads r (no_room w g k s) well h same = absurd (true≢false (sym (another_known c op h) ∙ g))
 
-pub full-iff : (limit : ℕ) (c : Content) (op : Op) → (answer limit c op ≡ Err Full) ↔ ((checked op ≡ Ok tt) × (finite_set.contains (known c) (id_of op) ≡ false) × (finite_set.len (known c) ≡ limit))
+pub full-iff : (limit : ℕ) (c : Content) (op : Op) → (answer limit c op ≡ Err Full) ↔ ((checked op ≡ Ok tt) × (finite_set.contains (known_ids c) (id_of op) ≡ false) × (finite_set.len (known_ids c) ≡ limit))
 full-iff limit c op = (λ e. tells (answer limit c op) (outcome limit c op) e, λ (well, unknown, count). leads (answer limit c op) (outcome limit c op) well unknown count)
   where
-    tells : (r : Answer) → Outcome limit c op r → r ≡ err Full → (checked op ≡ Ok tt) × (finite_set.contains (known c) (id_of op) ≡ false) × (finite_set.len (known c) ≡ limit)
+    tells : (r : Answer) → Outcome limit c op r → r ≡ err Full → (checked op ≡ Ok tt) × (finite_set.contains (known_ids c) (id_of op) ≡ false) × (finite_set.len (known_ids c) ≡ limit)
     tells r (ill_formed e k s) is =
         let same : err e ≡ err Full = sym s ∙ is in
         let e_is : e ≡ Full = cc in
@@ -191,7 +191,7 @@ full-iff limit c op = (λ e. tells (answer limit c op) (outcome limit c op) e, �
     tells r (fresh well h k room s) is = let clash : ok New ≡ err Full = sym s ∙ is in absurd (cc)
     tells r (no_room well h k s) is = (well, h, k)
 
-    leads : (r : Answer) → Outcome limit c op r → checked op ≡ passed → finite_set.contains (known c) (id_of op) ≡ false → finite_set.len (known c) ≡ limit → r ≡ err Full
+    leads : (r : Answer) → Outcome limit c op r → checked op ≡ passed → finite_set.contains (known_ids c) (id_of op) ≡ false → finite_set.len (known_ids c) ≡ limit → r ≡ err Full
     leads r (ill_formed e k s) well unknown count = let clash : bad e ≡ passed = sym k ∙ well in absurd (cc)
     leads r (held w g s) well unknown count = absurd (true≢false (sym (held_known c op g) ∙ unknown))
     leads r (another w g s) well unknown count = absurd (true≢false (sym (another_known c op g) ∙ unknown))
@@ -271,13 +271,13 @@ no_other_refusal limit c op e h = tells (answer limit c op) (outcome limit c op)
 pub record IsNewInsertion (limit : ℕ) (c : Content) (id parent : Identifier) : Type 0 where
   pub falls : nat_le id.counter parent.counter ≡ false
   pub absent : finite_map.get c.inserted id ≡ None
-  pub room : (finite_set.contains c.deleted id ≡ true) ⊎ (finite_set.len (known c) ≢ limit)
+  pub room : (finite_set.contains c.deleted id ≡ true) ⊎ (finite_set.len (known_ids c) ≢ limit)
 
 -- a deletion that is new: its identifier is an element's, is not deleted, and is inserted or has room
 pub record IsNewDeletion (limit : ℕ) (c : Content) (id : Identifier) : Type 0 where
   pub element : is_root id ≡ false
   pub absent : finite_set.contains c.deleted id ≡ false
-  pub room : (is_some (finite_map.get c.inserted id) ≡ true) ⊎ (finite_set.len (known c) ≢ limit)
+  pub room : (is_some (finite_map.get c.inserted id) ≡ true) ⊎ (finite_set.len (known_ids c) ≢ limit)
 
 -- a well-formed insertion is of an element, with a counter above its parent's
 pub well_formed_insertion : (id parent : Identifier) (ch : ℕ) → checked (Insert id parent ch) ≡ Ok tt → (is_root id ≡ false) × (nat_le id.counter parent.counter ≡ false)

@@ -11,7 +11,7 @@ use Rattle.std.proofs.lemmas.Bool.{or_cases, or_right}
 use Rattle.std.proofs.lemmas.Option.{same_Some, none-some}
 use Rattle.std.proofs.lemmas.Bool.Decides.{nat_tests}
 use Rattle.rga_ops.specs.Identifier.{Identifier, id_cmp}
-use Rattle.rga_ops.specs.Content.{Element, Content, join, single, greatest, clock, HasCountersWithin}
+use Rattle.rga_ops.specs.Content.{Element, Content, join, single, greatest, clock_of, HasCountersWithin}
 use Rattle.rga_ops.proofs.IdentifierLaws.{ids_total, is, is_itself, same_id}
 use Rattle.rga_ops.proofs.MemberLaws.{all_members}
 use Rattle.rga_ops.proofs.ContentLaws.{get-join, contains-join, or_none}
@@ -50,7 +50,7 @@ three_within : (a b c m : ℕ) → a ≤ m → b ≤ m → c ≤ m → max a (ma
 three_within a b c m p q r = omega arith
 
 -- the clock is within each bound
-pub clock_within : (c : Content) (m : ℕ) → HasCountersWithin c m → clock c ≤ m
+pub clock_within : (c : Content) (m : ℕ) → HasCountersWithin c m → clock_of c ≤ m
 clock_within c m w =
     three_within _ _ _ m
     (bounded (λ (id : Identifier). id.counter) m (finite_map.keys c.inserted) (all_members (λ q. q.counter ≤ m) (finite_map.keys c.inserted) (λ q h.
@@ -73,7 +73,7 @@ max_second : (a b n : ℕ) → n ≤ b → n ≤ max a b
 max_second a b n h = omega arith
 
 -- and is a bound
-pub within_clock : (c : Content) → HasCountersWithin c (clock c)
+pub within_clock : (c : Content) → HasCountersWithin c (clock_of c)
 within_clock c =
     let a : ℕ = greatest (map (λ id. id.counter) (finite_map.keys c.inserted)) in
     let b : ℕ = greatest (map (λ x. x.parent.counter) (finite_map.values c.inserted)) in
@@ -97,19 +97,19 @@ at_most a b c p q = omega arith
 get_single : (id : Identifier) (e : Element) (q : Identifier) → finite_map.get (single (Insert id e.parent e.ch)).inserted q ≡ cond (is q id) (Some e) None
 get_single id e q = finite_map.get-insert ids_total finite_map.empty id e q ∙ ap (cond (is q id) (Some e)) (finite_map.get-empty id_cmp q)
 
-pub clock_insertion : (c : Content) (id : Identifier) (e : Element) → finite_map.get c.inserted id ≡ None → e.parent.counter ≤ id.counter → clock (join c (single (Insert id e.parent e.ch))) ≡ max (clock c) id.counter
-clock_insertion c id e none falls = antisymmetric _ _ (clock_within d m upper) (at_most (clock c) id.counter (clock d) (clock_within c (clock d) lower) own)
+pub clock_insertion : (c : Content) (id : Identifier) (e : Element) → finite_map.get c.inserted id ≡ None → e.parent.counter ≤ id.counter → clock_of (join c (single (Insert id e.parent e.ch))) ≡ max (clock_of c) id.counter
+clock_insertion c id e none falls = antisymmetric _ _ (clock_within d m upper) (at_most (clock_of c) id.counter (clock_of d) (clock_within c (clock_of d) lower) own)
   where
     d : Content
     d = join c (single (Insert id e.parent e.ch))
 
     m : ℕ
-    m = max (clock c) id.counter
+    m = max (clock_of c) id.counter
 
-    w : HasCountersWithin c (clock c)
+    w : HasCountersWithin c (clock_of c)
     w = within_clock c
 
-    v : HasCountersWithin (join c (single (Insert id e.parent e.ch))) (clock (join c (single (Insert id e.parent e.ch))))
+    v : HasCountersWithin (join c (single (Insert id e.parent e.ch))) (clock_of (join c (single (Insert id e.parent e.ch))))
     v = within_clock (join c (single (Insert id e.parent e.ch)))
 
     one : (q : Identifier) (x : Element) → cond (is q id) (Some e) None ≡ Some x → (q ≡ id) × (e ≡ x)
@@ -125,36 +125,36 @@ clock_insertion c id e none falls = antisymmetric _ _ (clock_within d m upper) (
           | Some y ↦ λ h. inl h
         ] (sym (get-join c (single (Insert id e.parent e.ch)) q) ∙ h)
 
-    upper : HasCountersWithin (join c (single (Insert id e.parent e.ch))) (max (clock c) id.counter)
+    upper : HasCountersWithin (join c (single (Insert id e.parent e.ch))) (max (clock_of c) id.counter)
     upper = record {
       own = λ q x g. elim (cases q x g) [
-        | inl old ↦ max_first (clock c) id.counter q.counter (w.own q x old)
-        | inr new ↦ let same : q.counter ≡ id.counter = ap (λ (i : Identifier). i.counter) new.0 in max_second (clock c) id.counter q.counter (omega (arith, same))
+        | inl old ↦ max_first (clock_of c) id.counter q.counter (w.own q x old)
+        | inr new ↦ let same : q.counter ≡ id.counter = ap (λ (i : Identifier). i.counter) new.0 in max_second (clock_of c) id.counter q.counter (omega (arith, same))
       ];
       parents = λ q x g. elim (cases q x g) [
-        | inl old ↦ max_first (clock c) id.counter x.parent.counter (w.parents q x old)
-        | inr new ↦ let same : e.parent.counter ≡ x.parent.counter = ap (λ (y : Element). y.parent.counter) new.1 in max_second (clock c) id.counter x.parent.counter (omega (arith, same, falls))
+        | inl old ↦ max_first (clock_of c) id.counter x.parent.counter (w.parents q x old)
+        | inr new ↦ let same : e.parent.counter ≡ x.parent.counter = ap (λ (y : Element). y.parent.counter) new.1 in max_second (clock_of c) id.counter x.parent.counter (omega (arith, same, falls))
       ];
-      deleted = λ q h. max_first (clock c) id.counter q.counter (w.deleted q (sym (or-false (finite_set.contains c.deleted q)) ∙ ap (λ b. finite_set.contains c.deleted q || b) (sym (finite_set.contains-empty id_cmp q)) ∙ sym (contains-join c (single (Insert id e.parent e.ch)) q) ∙ h));
+      deleted = λ q h. max_first (clock_of c) id.counter q.counter (w.deleted q (sym (or-false (finite_set.contains c.deleted q)) ∙ ap (λ b. finite_set.contains c.deleted q || b) (sym (finite_set.contains-empty id_cmp q)) ∙ sym (contains-join c (single (Insert id e.parent e.ch)) q) ∙ h));
     }
 
-    lower : HasCountersWithin c (clock (join c (single (Insert id e.parent e.ch))))
+    lower : HasCountersWithin c (clock_of (join c (single (Insert id e.parent e.ch))))
     lower = record {
       own = λ q x g. v.own q x (get-join c (single (Insert id e.parent e.ch)) q ∙ or_first (finite_map.get c.inserted q) (finite_map.get (single (Insert id e.parent e.ch)).inserted q) x g);
       parents = λ q x g. v.parents q x (get-join c (single (Insert id e.parent e.ch)) q ∙ or_first (finite_map.get c.inserted q) (finite_map.get (single (Insert id e.parent e.ch)).inserted q) x g);
       deleted = λ q h. v.deleted q (contains-join c (single (Insert id e.parent e.ch)) q ∙ ap (λ b. b || finite_set.contains (single (Insert id e.parent e.ch)).deleted q) h);
     }
 
-    own : id.counter ≤ clock (join c (single (Insert id e.parent e.ch)))
+    own : id.counter ≤ clock_of (join c (single (Insert id e.parent e.ch)))
     own = v.own id e (get-join c (single (Insert id e.parent e.ch)) id ∙ ap (λ o. option_or o (finite_map.get (single (Insert id e.parent e.ch)).inserted id)) none ∙ get_single id e id ∙ ap (λ b. cond b (Some e) None) (is_itself id))
 
-pub clock_deletion : (c : Content) (id : Identifier) → clock (join c (single (Delete id))) ≡ max (clock c) id.counter
-clock_deletion c id = antisymmetric _ _ (clock_within (join c (single (Delete id))) (max (clock c) id.counter) upper) (at_most (clock c) id.counter (clock (join c (single (Delete id)))) (clock_within c (clock (join c (single (Delete id)))) lower) own)
+pub clock_deletion : (c : Content) (id : Identifier) → clock_of (join c (single (Delete id))) ≡ max (clock_of c) id.counter
+clock_deletion c id = antisymmetric _ _ (clock_within (join c (single (Delete id))) (max (clock_of c) id.counter) upper) (at_most (clock_of c) id.counter (clock_of (join c (single (Delete id)))) (clock_within c (clock_of (join c (single (Delete id)))) lower) own)
   where
-    w : HasCountersWithin c (clock c)
+    w : HasCountersWithin c (clock_of c)
     w = within_clock c
 
-    v : HasCountersWithin (join c (single (Delete id))) (clock (join c (single (Delete id))))
+    v : HasCountersWithin (join c (single (Delete id))) (clock_of (join c (single (Delete id))))
     v = within_clock (join c (single (Delete id)))
 
     same : (q : Identifier) → finite_map.get (join c (single (Delete id))).inserted q ≡ finite_map.get c.inserted q
@@ -165,24 +165,24 @@ clock_deletion c id = antisymmetric _ _ (clock_within (join c (single (Delete id
         contains-join c (single (Delete id)) q
         ∙ ap (λ b. finite_set.contains c.deleted q || b) (finite_set.contains-insert ids_total finite_set.empty id q ∙ ap (λ b. is q id || b) (finite_set.contains-empty id_cmp q) ∙ or-false (is q id))
 
-    upper : HasCountersWithin (join c (single (Delete id))) (max (clock c) id.counter)
+    upper : HasCountersWithin (join c (single (Delete id))) (max (clock_of c) id.counter)
     upper = record {
-      own = λ q x g. max_first (clock c) id.counter q.counter (w.own q x (sym (same q) ∙ g));
-      parents = λ q x g. max_first (clock c) id.counter x.parent.counter (w.parents q x (sym (same q) ∙ g));
+      own = λ q x g. max_first (clock_of c) id.counter q.counter (w.own q x (sym (same q) ∙ g));
+      parents = λ q x g. max_first (clock_of c) id.counter x.parent.counter (w.parents q x (sym (same q) ∙ g));
       deleted = λ q h. elim (or_cases (finite_set.contains c.deleted q) (is q id) (sym (gone q) ∙ h)) [
-        | inl old ↦ max_first (clock c) id.counter q.counter (w.deleted q old)
-        | inr new ↦ let e : q.counter ≡ id.counter = ap (λ (i : Identifier). i.counter) (same_id q id new) in max_second (clock c) id.counter q.counter (omega (arith, e))
+        | inl old ↦ max_first (clock_of c) id.counter q.counter (w.deleted q old)
+        | inr new ↦ let e : q.counter ≡ id.counter = ap (λ (i : Identifier). i.counter) (same_id q id new) in max_second (clock_of c) id.counter q.counter (omega (arith, e))
       ];
     }
 
-    lower : HasCountersWithin c (clock (join c (single (Delete id))))
+    lower : HasCountersWithin c (clock_of (join c (single (Delete id))))
     lower = record {
       own = λ q x g. v.own q x (same q ∙ g);
       parents = λ q x g. v.parents q x (same q ∙ g);
       deleted = λ q h. v.deleted q (gone q ∙ ap (λ b. b || is q id) h);
     }
 
-    own : id.counter ≤ clock (join c (single (Delete id)))
+    own : id.counter ≤ clock_of (join c (single (Delete id)))
     own = v.deleted id (gone id ∙ or_right (finite_set.contains c.deleted id) (is id id) (is_itself id))
 
 pub falls_to : (id parent : Identifier) → nat_le id.counter parent.counter ≡ false → parent.counter ≤ id.counter

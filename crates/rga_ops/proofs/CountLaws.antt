@@ -7,7 +7,7 @@ use Rattle.std.proofs.Math.Bool.{or-false}
 use Rattle.std.proofs.lemmas.Bool.{or_right, or_from, not-true, and_parts}
 use Rattle.std.proofs.lemmas.Map.Views.{any-filter_same}
 use Rattle.rga_ops.specs.Identifier.{Identifier, id_cmp}
-use Rattle.rga_ops.specs.Content.{Content, known, join}
+use Rattle.rga_ops.specs.Content.{Content, known_ids, join}
 use Rattle.rga_ops.proofs.IdentifierLaws.{ids_total, ids_exact, is, same_id, is_itself}
 use Rattle.rga_ops.proofs.MemberLaws.{none_among, distinct_filter}
 use Rattle.rga_ops.proofs.KnownLaws.{contains-known_join}
@@ -46,24 +46,24 @@ len-added s u (k ∷ ks) distinct apart members =
         ∙ ap (λ b. b || list_any (is q) ks) (sym (finite_set.contains-insert ids_total s k q))
 
 -- a join knows what the first knows, and each identifier that the second alone knows
-pub len-known_join : (c d : Content) (ks : List Identifier) → IsDistinct is ks → ((q : Identifier) → finite_set.contains (known d) q ≡ list_any (is q) ks) → finite_set.len (known (join c d)) ≡ finite_set.len (known c) + length (filter (λ q. not (finite_set.contains (known c) q)) ks)
-len-known_join c d ks distinct members = len-added (known c) (known (join c d)) (filter unknown ks) (distinct_filter unknown ks distinct) apart joined
+pub len-known_join : (c d : Content) (ks : List Identifier) → IsDistinct is ks → ((q : Identifier) → finite_set.contains (known_ids d) q ≡ list_any (is q) ks) → finite_set.len (known_ids (join c d)) ≡ finite_set.len (known_ids c) + length (filter (λ q. not (finite_set.contains (known_ids c) q)) ks)
+len-known_join c d ks distinct members = len-added (known_ids c) (known_ids (join c d)) (filter unknown ks) (distinct_filter unknown ks distinct) apart joined
   where
     unknown : Identifier → Bool
-    unknown q = not (finite_set.contains (known c) q)
+    unknown q = not (finite_set.contains (known_ids c) q)
 
     kept : (q : Identifier) → list_any (is q) (filter unknown ks) ≡ (unknown q && list_any (is q) ks)
     kept q = any-filter_same (is q) unknown (unknown q) (λ x t. ap unknown (sym (same_id q x t))) ks
 
-    apart : (q : Identifier) → list_any (is q) (filter unknown ks) ≡ true → finite_set.contains (known c) q ≡ false
-    apart q m = not-true (finite_set.contains (known c) q) ((and_parts (unknown q) (list_any (is q) ks) (sym (kept q) ∙ m)).0)
+    apart : (q : Identifier) → list_any (is q) (filter unknown ks) ≡ true → finite_set.contains (known_ids c) q ≡ false
+    apart q m = not-true (finite_set.contains (known_ids c) q) ((and_parts (unknown q) (list_any (is q) ks) (sym (kept q) ∙ m)).0)
 
     either : (a b : Bool) → (a || b) ≡ (a || (not a && b))
     either true b = refl
     either false b = refl
 
-    joined : (q : Identifier) → finite_set.contains (known (join c d)) q ≡ (finite_set.contains (known c) q || list_any (is q) (filter unknown ks))
+    joined : (q : Identifier) → finite_set.contains (known_ids (join c d)) q ≡ (finite_set.contains (known_ids c) q || list_any (is q) (filter unknown ks))
     joined q =
-        contains-known_join c d q ∙ ap (λ b. finite_set.contains (known c) q || b) (members q)
-        ∙ either (finite_set.contains (known c) q) (list_any (is q) ks)
-        ∙ ap (λ b. finite_set.contains (known c) q || b) (sym (kept q))
+        contains-known_join c d q ∙ ap (λ b. finite_set.contains (known_ids c) q || b) (members q)
+        ∙ either (finite_set.contains (known_ids c) q) (list_any (is q) ks)
+        ∙ ap (λ b. finite_set.contains (known_ids c) q || b) (sym (kept q))

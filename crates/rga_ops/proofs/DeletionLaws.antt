@@ -7,7 +7,7 @@ use Rattle.std.specs.FinMap as finite_map
 use Rattle.std.specs.FinSet as finite_set
 use Rattle.std.specs.FinMap.{same_map}
 use Rattle.rga_ops.specs.Identifier.{Identifier, id_cmp, is_id}
-use Rattle.rga_ops.specs.Content.{Element, Content, join, single, clock}
+use Rattle.rga_ops.specs.Content.{Element, Content, join, single, clock_of}
 use Rattle.rga_ops.specs.RootPath.{is_complete}
 use Rattle.rga_ops.specs.Order.{order, text}
 use Rattle.rga_ops.specs.Placement.{without}
@@ -65,14 +65,14 @@ module _ (c : Content) (id : Identifier) where
 
   -- ---- the clock
 
-  pub clock-deletion : id.counter ≤ clock c → clock d ≡ clock c
-  clock-deletion within = clock_deletion c id ∙ no_more (clock c) id.counter within
+  pub clock-deletion : id.counter ≤ clock_of c → clock_of d ≡ clock_of c
+  clock-deletion within = clock_deletion c id ∙ no_more (clock_of c) id.counter within
     where
       no_more : (m n : ℕ) → n ≤ m → max m n ≡ m
       no_more m n h = omega arith
 
-  pub clock-deletion_inserted : (x : Element) → finite_map.get c.inserted id ≡ Some x → clock d ≡ clock c
+  pub clock-deletion_inserted : (x : Element) → finite_map.get c.inserted id ≡ Some x → clock_of d ≡ clock_of c
   clock-deletion_inserted x g = clock-deletion ((within_clock c).own id x g)
 
-  pub clock-deletion_complete : is_complete c id ≡ true → clock d ≡ clock c
+  pub clock-deletion_complete : is_complete c id ≡ true → clock_of d ≡ clock_of c
   clock-deletion_complete h = let at : (x : Element) × (finite_map.get c.inserted id ≡ Some x) = inserted_if_complete c id h in clock-deletion_inserted at.0 at.1

@@ -8,7 +8,7 @@ use Rattle.std.specs.FinSet.{FinSet}
 use Rattle.std.proofs.Math.Bool.{or-false, or_comm}
 use Rattle.rga_ops.specs.Identifier.{Identifier, id_cmp}
 use Rattle.rga_ops.specs.Operation.{checked, id_of}
-use Rattle.rga_ops.specs.Content.{Element, element, Content, nothing, known, join, single, content_of, IsAgreed, HasAnother}
+use Rattle.rga_ops.specs.Content.{Element, element, Content, nothing, known_ids, join, single, content_of, IsAgreed, HasAnother}
 use Rattle.rga_ops.specs.Answer.{answer, after_answer, taken, and_take, taken_one_by_one}
 use Rattle.rga_ops.specs.ListAnswer.{IsJoinable}
 use Rattle.rga_ops.proofs.IdentifierLaws.{ids_total, ids_exact, is}
@@ -65,7 +65,7 @@ len-le_union s t =
 
 -- ---- what a join knows
 
-pub contains-known_join : (c d : Content) (q : Identifier) → finite_set.contains (known (join c d)) q ≡ (finite_set.contains (known c) q || finite_set.contains (known d) q)
+pub contains-known_join : (c d : Content) (q : Identifier) → finite_set.contains (known_ids (join c d)) q ≡ (finite_set.contains (known_ids c) q || finite_set.contains (known_ids d) q)
 contains-known_join c d q =
     contains-known (join c d) q
     ∙ (λ k. is_some (get-join c d q k) || contains-join c d q k)
@@ -76,10 +76,10 @@ contains-known_join c d q =
     either (Some x) y a b = refl
     either None y a b = or_swapped (is_some y) a b
 
-pub known_join : (c d : Content) → known (join c d) ≡ finite_set.union (known c) (known d)
-known_join c d = finite_set.same_set ids_total ids_exact _ _ (λ q. contains-known_join c d q ∙ sym (finite_set.contains-union ids_total (known c) (known d) q))
+pub known_join : (c d : Content) → known_ids (join c d) ≡ finite_set.union (known_ids c) (known_ids d)
+known_join c d = finite_set.same_set ids_total ids_exact _ _ (λ q. contains-known_join c d q ∙ sym (finite_set.contains-union ids_total (known_ids c) (known_ids d) q))
 
-contains-known_single : (op : Op) (q : Identifier) → finite_set.contains (known (single op)) q ≡ is q (id_of op)
+contains-known_single : (op : Op) (q : Identifier) → finite_set.contains (known_ids (single op)) q ≡ is q (id_of op)
 contains-known_single (Insert id parent ch) q =
     contains-known (single (Insert id parent ch)) q
     ∙ (λ k. is_some (get-single id parent ch q k) || finite_set.contains-empty id_cmp q k)
@@ -93,23 +93,23 @@ contains-known_single (Delete id) q =
     ∙ ap (λ (o : Option Element). is_some o || finite_set.contains (single (Delete id)).deleted q) (finite_map.get-empty id_cmp q) ∙ contains-single id q
 
 -- one operation makes one identifier known
-pub known_taken : (c : Content) (op : Op) → known (join c (single op)) ≡ finite_set.insert (known c) (id_of op)
+pub known_taken : (c : Content) (op : Op) → known_ids (join c (single op)) ≡ finite_set.insert (known_ids c) (id_of op)
 known_taken c op = finite_set.same_set ids_total ids_exact _ _ (λ q.
-    contains-known_join c (single op) q ∙ ap (λ b. finite_set.contains (known c) q || b) (contains-known_single op q)
-    ∙ or_comm (finite_set.contains (known c) q) (is q (id_of op)) ∙ sym (finite_set.contains-insert ids_total (known c) (id_of op) q))
+    contains-known_join c (single op) q ∙ ap (λ b. finite_set.contains (known_ids c) q || b) (contains-known_single op q)
+    ∙ or_comm (finite_set.contains (known_ids c) q) (is q (id_of op)) ∙ sym (finite_set.contains-insert ids_total (known_ids c) (id_of op) q))
 
 -- an empty store knows nothing
-pub known_nothing : finite_set.len (known nothing) ≡ 0
-known_nothing = ap finite_set.len (finite_set.same_set ids_total ids_exact (known nothing) finite_set.empty (λ q.
+pub known_nothing : finite_set.len (known_ids nothing) ≡ 0
+known_nothing = ap finite_set.len (finite_set.same_set ids_total ids_exact (known_ids nothing) finite_set.empty (λ q.
     contains-known nothing q
     ∙ ap (λ (o : Option Element). is_some o || finite_set.contains nothing.deleted q) (finite_map.get-empty id_cmp q)))
     ∙ finite_set.len-empty id_cmp
 
 -- ---- taking keeps the limit
 
-taken_within : (limit : ℕ) (c : Content) (op : Op) (d : Content) → finite_set.len (known c) ≤ limit → taken limit c op ≡ Ok d → finite_set.len (known d) ≤ limit
+taken_within : (limit : ℕ) (c : Content) (op : Op) (d : Content) → finite_set.len (known_ids c) ≤ limit → taken limit c op ≡ Ok d → finite_set.len (known_ids d) ≤ limit
 taken_within limit c op d within h =
-    elim (answer limit c op) as (λ r. answer limit c op ≡ r → after_answer c op r ≡ Ok d → finite_set.len (known d) ≤ limit) [
+    elim (answer limit c op) as (λ r. answer limit c op ≡ r → after_answer c op r ≡ Ok d → finite_set.len (known_ids d) ≤ limit) [
       | Ok t ↦ λ r h. by_kind t r h
       | Err e ↦ λ r h. let clash : refused e ≡ took d = h in absurd (cc)
     ] refl h
@@ -119,26 +119,26 @@ taken_within limit c op d within h =
     room false n m le (inl present) e = absurd (true≢false (sym present))
     room false n m le (inr other) e = omega (arith, other)
 
-    by_kind : (t : Taken) → answer limit c op ≡ Ok t → after_answer c op (Ok t) ≡ Ok d → finite_set.len (known d) ≤ limit
+    by_kind : (t : Taken) → answer limit c op ≡ Ok t → after_answer c op (Ok t) ≡ Ok d → finite_set.len (known_ids d) ≤ limit
     by_kind New r h =
         let same : took (join c (single op)) ≡ took d = h in
         let d_is : join c (single op) ≡ d = cc in
         let new : IsNew limit c op = (new-iff limit c op).0 r in
-        subst (λ e. finite_set.len (known e) ≤ limit) d_is
-        (room (finite_set.contains (known c) (id_of op)) (finite_set.len (known c)) (finite_set.len (known (join c (single op)))) within new.room
-        (ap finite_set.len (known_taken c op) ∙ finite_set.len-insert ids_total (known c) (id_of op)))
+        subst (λ e. finite_set.len (known_ids e) ≤ limit) d_is
+        (room (finite_set.contains (known_ids c) (id_of op)) (finite_set.len (known_ids c)) (finite_set.len (known_ids (join c (single op)))) within new.room
+        (ap finite_set.len (known_taken c op) ∙ finite_set.len-insert ids_total (known_ids c) (id_of op)))
     by_kind Known r h =
         let same : took c ≡ took d = h in
         let d_is : c ≡ d = cc in
-        subst (λ e. finite_set.len (known e) ≤ limit) d_is within
+        subst (λ e. finite_set.len (known_ids e) ≤ limit) d_is within
 
-pub taken_list_within : (limit : ℕ) (c : Content) (ops : List Op) (d : Content) → finite_set.len (known c) ≤ limit → taken_one_by_one limit c ops ≡ Ok d → finite_set.len (known d) ≤ limit
+pub taken_list_within : (limit : ℕ) (c : Content) (ops : List Op) (d : Content) → finite_set.len (known_ids c) ≤ limit → taken_one_by_one limit c ops ≡ Ok d → finite_set.len (known_ids d) ≤ limit
 taken_list_within limit c [] d within h =
     let same : took c ≡ took d = h in
     let d_is : c ≡ d = cc in
-    subst (λ e. finite_set.len (known e) ≤ limit) d_is within
+    subst (λ e. finite_set.len (known_ids e) ≤ limit) d_is within
 taken_list_within limit c (op ∷ ops) d within h =
-    elim (taken limit c op) as (λ r. taken limit c op ≡ r → and_take r (λ e. taken_one_by_one limit e ops) ≡ Ok d → finite_set.len (known d) ≤ limit) [
+    elim (taken limit c op) as (λ r. taken limit c op ≡ r → and_take r (λ e. taken_one_by_one limit e ops) ≡ Ok d → finite_set.len (known_ids d) ≤ limit) [
       | Err e ↦ λ r h. let clash : refused e ≡ took d = h in absurd (cc)
       | Ok e ↦ λ r h. taken_list_within limit e ops d (taken_within limit c op e within r) h
     ] refl h
@@ -149,20 +149,20 @@ taken_list_within limit c (op ∷ ops) d within h =
 pub record IsTakeable (limit : ℕ) (c : Content) (ops : List Op) : Type 0 where
   pub well_formed : (op : Op) → Contains ops op → checked op ≡ Ok tt
   pub joinable : IsJoinable c ops
-  pub fits : finite_set.len (known (join c (content_of ops))) ≤ limit
+  pub fits : finite_set.len (known_ids (join c (content_of ops))) ≤ limit
 
 no_conflict : (c : Content) (op : Op) (ops : List Op) → IsJoinable c (op ∷ ops) → HasAnother c op → ⊥
 no_conflict c op ops w h = true≢false (sym ((has_another-iff c op).1 h) ∙ (no_other-iff c op).1 ((joinable-iff c op ops).0 w).0)
 
 -- a new identifier exceeds a limit that is reached
-no_space : (limit : ℕ) (c : Content) (op : Op) (ops : List Op) → finite_set.len (known (join c (content_of (op ∷ ops)))) ≤ limit → finite_set.contains (known c) (id_of op) ≡ false → finite_set.len (known c) ≡ limit → ⊥
+no_space : (limit : ℕ) (c : Content) (op : Op) (ops : List Op) → finite_set.len (known_ids (join c (content_of (op ∷ ops)))) ≤ limit → finite_set.contains (known_ids c) (id_of op) ≡ false → finite_set.len (known_ids c) ≡ limit → ⊥
 no_space limit c op ops fits unknown full =
     let first : Content = join c (single op) in
-    let more : finite_set.len (known first) ≡ finite_set.len (known c) + 1 =
-    ap finite_set.len (known_taken c op) ∙ finite_set.len-insert ids_total (known c) (id_of op)
-    ∙ ap (λ b. cond b (finite_set.len (known c)) (finite_set.len (known c) + 1)) unknown in
-    let whole : finite_set.len (known first) ≤ finite_set.len (known (join c (content_of (op ∷ ops)))) =
-    subst (λ s. finite_set.len (known first) ≤ finite_set.len s) (sym (known_join first (content_of ops)) ∙ ap known (join_assoc c (single op) (content_of ops))) (len-le_union (known first) (known (content_of ops))) in
+    let more : finite_set.len (known_ids first) ≡ finite_set.len (known_ids c) + 1 =
+    ap finite_set.len (known_taken c op) ∙ finite_set.len-insert ids_total (known_ids c) (id_of op)
+    ∙ ap (λ b. cond b (finite_set.len (known_ids c)) (finite_set.len (known_ids c) + 1)) unknown in
+    let whole : finite_set.len (known_ids first) ≤ finite_set.len (known_ids (join c (content_of (op ∷ ops)))) =
+    subst (λ s. finite_set.len (known_ids first) ≤ finite_set.len s) (sym (known_join first (content_of ops)) ∙ ap known_ids (join_assoc c (single op) (content_of ops))) (len-le_union (known_ids first) (known_ids (content_of ops))) in
     omega arith
 
 first_taken : (limit : ℕ) (c : Content) (op : Op) (ops : List Op) → IsTakeable limit c (op ∷ ops) → taken limit c op ≡ Ok (join c (single op))
@@ -179,7 +179,7 @@ later_takeable : (limit : ℕ) (c : Content) (op : Op) (ops : List Op) → IsTak
 later_takeable limit c op ops w = record {
   well_formed = λ o m. w.well_formed o (Contains-later op o ops m);
   joinable = ((joinable-iff c op ops).0 w.joinable).1;
-  fits = subst (λ d. finite_set.len (known d) ≤ limit) (sym (join_assoc c (single op) (content_of ops))) w.fits;
+  fits = subst (λ d. finite_set.len (known_ids d) ≤ limit) (sym (join_assoc c (single op) (content_of ops))) w.fits;
 }
 
 pub takeable_is_taken : (limit : ℕ) (c : Content) (ops : List Op) → IsTakeable limit c ops → taken_one_by_one limit c ops ≡ Ok (join c (content_of ops))
@@ -190,11 +190,11 @@ takeable_is_taken limit c (op ∷ ops) w =
     ∙ ap Ok (join_assoc c (single op) (content_of ops))
 
 -- from an empty store on
-pub takeable_from_nothing : (limit : ℕ) (ops : List Op) → ((op : Op) → Contains ops op → checked op ≡ Ok tt) → IsAgreed ops → finite_set.len (known (content_of ops)) ≤ limit → taken_one_by_one limit nothing ops ≡ Ok (content_of ops)
+pub takeable_from_nothing : (limit : ℕ) (ops : List Op) → ((op : Op) → Contains ops op → checked op ≡ Ok tt) → IsAgreed ops → finite_set.len (known_ids (content_of ops)) ≤ limit → taken_one_by_one limit nothing ops ≡ Ok (content_of ops)
 takeable_from_nothing limit ops well_formed agreed fits =
     takeable_is_taken limit nothing ops (record {
       well_formed = well_formed;
       joinable = record { agreed = agreed; agree = agree_swap (content_of ops) nothing (agree_nothing (content_of ops)) };
-      fits = subst (λ d. finite_set.len (known d) ≤ limit) (sym (nothing_join (content_of ops))) fits;
+      fits = subst (λ d. finite_set.len (known_ids d) ≤ limit) (sym (nothing_join (content_of ops))) fits;
     })
     ∙ ap Ok (nothing_join (content_of ops))

@@ -7,7 +7,7 @@ use Rattle.std.proofs.lemmas.List.Elements.{Contains-append_left, Contains-appen
 use Rattle.std.proofs.lemmas.Option.{same_Some, none-some}
 use Rattle.rga_ops.specs.Identifier.{Identifier}
 use Rattle.rga_ops.specs.Operation.{checked, id_of}
-use Rattle.rga_ops.specs.Content.{Content, nothing, known, join, single, content_of, HasAnother, IsAgreed}
+use Rattle.rga_ops.specs.Content.{Content, nothing, known_ids, join, single, content_of, HasAnother, IsAgreed}
 use Rattle.rga_ops.specs.Answer.{taken_one_by_one}
 use Rattle.rga_ops.specs.ListAnswer.{Verdict, and_check, all_checked, has_another, first_conflict, union_answer, list_answer, AreWellFormed, IsJoinable, IsFirstIllFormed, IsFirstConflict}
 use Rattle.rga_ops.proofs.ContentLaws.{join_assoc, join_nothing}
@@ -176,35 +176,35 @@ first_conflict-iff c ops id = (tells c ops, leads)
 abbrev none : Option Identifier
 none = None
 
-pub union_taken-iff : (limit : ℕ) (o : Option Identifier) (c : Content) → (union_answer limit o c ≡ Ok tt) ↔ ((o ≡ None) × (finite_set.len (known c) ≤ limit))
+pub union_taken-iff : (limit : ℕ) (o : Option Identifier) (c : Content) → (union_answer limit o c ≡ Ok tt) ↔ ((o ≡ None) × (finite_set.len (known_ids c) ≤ limit))
 union_taken-iff limit (Some id) c = (λ h. let clash : bad (Conflict id) ≡ passed = h in absurd (cc), λ (h, fits). absurd (none-some _ (sym h)))
 union_taken-iff limit None c =
-    elim (nat_le (finite_set.len (known c)) limit) as (λ b. nat_le (finite_set.len (known c)) limit ≡ b → (cond b (Ok tt) (Err Full) ≡ passed) ↔ ((none ≡ None) × (finite_set.len (known c) ≤ limit))) [
-      | true ↦ λ t. (λ h. (refl, leb-true (finite_set.len (known c)) limit t), λ w. refl)
-      | false ↦ λ f. (λ h. let clash : bad Full ≡ passed = h in absurd (cc), λ (h, fits). absurd (true≢false (sym (le-leb (finite_set.len (known c)) limit fits) ∙ f)))
+    elim (nat_le (finite_set.len (known_ids c)) limit) as (λ b. nat_le (finite_set.len (known_ids c)) limit ≡ b → (cond b (Ok tt) (Err Full) ≡ passed) ↔ ((none ≡ None) × (finite_set.len (known_ids c) ≤ limit))) [
+      | true ↦ λ t. (λ h. (refl, leb-true (finite_set.len (known_ids c)) limit t), λ w. refl)
+      | false ↦ λ f. (λ h. let clash : bad Full ≡ passed = h in absurd (cc), λ (h, fits). absurd (true≢false (sym (le-leb (finite_set.len (known_ids c)) limit fits) ∙ f)))
     ] refl
 
 pub union_conflict-iff : (limit : ℕ) (o : Option Identifier) (c : Content) (id : Identifier) → (union_answer limit o c ≡ Err (Conflict id)) ↔ (o ≡ Some id)
 union_conflict-iff limit (Some i) c id = (λ h. let same : bad (Conflict i) ≡ bad (Conflict id) = h in ap Some (cc), λ h. ap (λ i. bad (Conflict i)) (same_Some _ _ h))
 union_conflict-iff limit None c id =
-    elim (nat_le (finite_set.len (known c)) limit) as (λ b. (cond b (Ok tt) (Err Full) ≡ bad (Conflict id)) ↔ (None ≡ Some id)) [
+    elim (nat_le (finite_set.len (known_ids c)) limit) as (λ b. (cond b (Ok tt) (Err Full) ≡ bad (Conflict id)) ↔ (None ≡ Some id)) [
       | true ↦ (λ h. let clash : passed ≡ bad (Conflict id) = h in absurd (cc), λ h. absurd (none-some _ h))
       | false ↦ (λ h. let clash : bad Full ≡ bad (Conflict id) = h in absurd (cc), λ h. absurd (none-some _ h))
     ]
 
-pub union_full-iff : (limit : ℕ) (o : Option Identifier) (c : Content) → (union_answer limit o c ≡ Err Full) ↔ ((o ≡ None) × (limit < finite_set.len (known c)))
+pub union_full-iff : (limit : ℕ) (o : Option Identifier) (c : Content) → (union_answer limit o c ≡ Err Full) ↔ ((o ≡ None) × (limit < finite_set.len (known_ids c)))
 union_full-iff limit (Some id) c = (λ h. let clash : bad (Conflict id) ≡ bad Full = h in absurd (cc), λ (h, more). absurd (none-some _ (sym h)))
 union_full-iff limit None c =
-    elim (nat_le (finite_set.len (known c)) limit) as (λ b. nat_le (finite_set.len (known c)) limit ≡ b → (cond b (Ok tt) (Err Full) ≡ bad Full) ↔ ((none ≡ None) × (limit < finite_set.len (known c)))) [
-      | true ↦ λ t. (λ h. let clash : passed ≡ bad Full = h in absurd (cc), λ (h, more). let fits = leb-true (finite_set.len (known c)) limit t in absurd (omega (arith, more, fits)))
-      | false ↦ λ f. (λ h. (refl, leb-false (finite_set.len (known c)) limit f), λ w. refl)
+    elim (nat_le (finite_set.len (known_ids c)) limit) as (λ b. nat_le (finite_set.len (known_ids c)) limit ≡ b → (cond b (Ok tt) (Err Full) ≡ bad Full) ↔ ((none ≡ None) × (limit < finite_set.len (known_ids c)))) [
+      | true ↦ λ t. (λ h. let clash : passed ≡ bad Full = h in absurd (cc), λ (h, more). let fits = leb-true (finite_set.len (known_ids c)) limit t in absurd (omega (arith, more, fits)))
+      | false ↦ λ f. (λ h. (refl, leb-false (finite_set.len (known_ids c)) limit f), λ w. refl)
     ] refl
 
 -- no other refusal is of a union
 pub union_refusal : (limit : ℕ) (o : Option Identifier) (c : Content) (e : Refusal) → union_answer limit o c ≡ Err e → ((id : Identifier) × (e ≡ Conflict id)) ⊎ (e ≡ Full)
 union_refusal limit (Some id) c e h = let same : bad (Conflict id) ≡ bad e = h in inl (id, cc)
 union_refusal limit None c e h =
-    elim (nat_le (finite_set.len (known c)) limit) as (λ b. cond b (Ok tt) (Err Full) ≡ bad e → ((id : Identifier) × (e ≡ Conflict id)) ⊎ (e ≡ Full)) [
+    elim (nat_le (finite_set.len (known_ids c)) limit) as (λ b. cond b (Ok tt) (Err Full) ≡ bad e → ((id : Identifier) × (e ≡ Conflict id)) ⊎ (e ≡ Full)) [
       | true ↦ λ h. let clash : passed ≡ bad e = h in absurd (cc)
       | false ↦ λ h. let same : bad Full ≡ bad e = h in inr (cc)
     ] h
@@ -227,7 +227,7 @@ past_checks limit c ops e of_union = (
   λ (well, h). (and_check-err (all_checked ops) (union_answer limit (first_conflict c ops) (join c (content_of ops))) e).1 (inr ((all_checked-iff ops).1 well, h)),
 )
 
-pub list_taken-iff : (limit : ℕ) (c : Content) (ops : List Op) → (list_answer limit c ops ≡ Ok tt) ↔ (AreWellFormed ops × IsJoinable c ops × (finite_set.len (known (join c (content_of ops))) ≤ limit))
+pub list_taken-iff : (limit : ℕ) (c : Content) (ops : List Op) → (list_answer limit c ops ≡ Ok tt) ↔ (AreWellFormed ops × IsJoinable c ops × (finite_set.len (known_ids (join c (content_of ops))) ≤ limit))
 list_taken-iff limit c ops = (
   λ h.
       let s = (and_check-ok (all_checked ops) (union_answer limit (first_conflict c ops) (join c (content_of ops)))).0 h in
@@ -263,7 +263,7 @@ list_conflict-iff limit c ops id = (
   ),
 )
 
-pub list_full-iff : (limit : ℕ) (c : Content) (ops : List Op) → (list_answer limit c ops ≡ Err Full) ↔ (AreWellFormed ops × IsJoinable c ops × (limit < finite_set.len (known (join c (content_of ops)))))
+pub list_full-iff : (limit : ℕ) (c : Content) (ops : List Op) → (list_answer limit c ops ≡ Err Full) ↔ (AreWellFormed ops × IsJoinable c ops × (limit < finite_set.len (known_ids (join c (content_of ops)))))
 list_full-iff limit c ops = (
   λ h.
       let s = (past_checks limit c ops Full (inr refl)).0 h in
@@ -291,7 +291,7 @@ list_one_by_one limit c ops h =
     takeable_is_taken limit c ops (record { well_formed = w.0; joinable = w.1; fits = w.2 })
 
 -- operations that are taken one by one can be taken whole
-pub one_by_one_list : (limit : ℕ) (c d : Content) (ops : List Op) → finite_set.len (known c) ≤ limit → taken_one_by_one limit c ops ≡ Ok d → list_answer limit c ops ≡ Ok tt
+pub one_by_one_list : (limit : ℕ) (c d : Content) (ops : List Op) → finite_set.len (known_ids c) ≤ limit → taken_one_by_one limit c ops ≡ Ok d → list_answer limit c ops ≡ Ok tt
 one_by_one_list limit c d ops within h =
     let w : AreTaken c ops d = taken_list_is limit c ops d h in
     let agreed : IsAgreed ops = taken_list_agrees limit c ops d h in
@@ -301,7 +301,7 @@ one_by_one_list limit c d ops within h =
         agreed = agreed;
         agree = λ id x y f g. same_Some x y (sym (w.grown.inserted id x f) ∙ w.held (Insert id y.parent y.ch) (content_inserted ops id y g));
       },
-      subst (λ e. finite_set.len (known e) ≤ limit) w.joined (taken_list_within limit c ops d within h),
+      subst (λ e. finite_set.len (known_ids e) ≤ limit) w.joined (taken_list_within limit c ops d within h),
     )
 
 -- ---- a list in parts
@@ -333,8 +333,8 @@ list_taken_append limit c xs ys = (
       let w = (list_taken-iff limit c (xs ++ ys)).0 h in
       let well = (well_formed_append xs ys).0 w.0 in
       let joinable = (joinable_append c xs ys).0 w.1 in
-      let fits : finite_set.len (known (join d (content_of ys))) ≤ limit = subst (λ e. finite_set.len (known e) ≤ limit) (sym whole) w.2 in
-      let fewer : finite_set.len (known d) ≤ finite_set.len (known (join d (content_of ys))) = subst (λ s. finite_set.len (known d) ≤ finite_set.len s) (sym (known_join d (content_of ys))) (len-le_union (known d) (known (content_of ys))) in (
+      let fits : finite_set.len (known_ids (join d (content_of ys))) ≤ limit = subst (λ e. finite_set.len (known_ids e) ≤ limit) (sym whole) w.2 in
+      let fewer : finite_set.len (known_ids d) ≤ finite_set.len (known_ids (join d (content_of ys))) = subst (λ s. finite_set.len (known_ids d) ≤ finite_set.len s) (sym (known_join d (content_of ys))) (len-le_union (known_ids d) (known_ids (content_of ys))) in (
         (list_taken-iff limit c xs).1 (well.0, joinable.0, le_trans fewer fits),
         (list_taken-iff limit d ys).1 (well.1, joinable.1, fits),
       ),
@@ -344,7 +344,7 @@ list_taken_append limit c xs ys = (
       (list_taken-iff limit c (xs ++ ys)).1 (
         (well_formed_append xs ys).1 (v.0, w.0),
         (joinable_append c xs ys).1 (v.1, w.1),
-        subst (λ e. finite_set.len (known e) ≤ limit) whole w.2,
+        subst (λ e. finite_set.len (known_ids e) ≤ limit) whole w.2,
       ),
 )
   where

@@ -6,7 +6,7 @@ use Rattle.std.specs.FinMap as finite_map
 use Rattle.std.specs.FinSet as finite_set
 use Rattle.rga_ops.specs.Identifier.{Identifier}
 use Rattle.rga_ops.specs.Operation.{id_of}
-use Rattle.rga_ops.specs.Content.{element, Content, known, join, single, content_of}
+use Rattle.rga_ops.specs.Content.{element, Content, known_ids, join, single, content_of}
 use Rattle.rga_ops.specs.ListAnswer.{all_checked, has_another, first_conflict}
 use Rattle.rga_ops.proofs.IdentifierLaws.{is, same_id}
 use Rattle.rga_ops.proofs.ContentLaws.{get-join, join_assoc, join_nothing, or_none}
@@ -24,8 +24,8 @@ join_more c ops op =
     ∙ sym (join_assoc c (content_of ops) (single op))
 
 -- one identifier more is known, unless it was
-pub known_more : (c : Content) (ops : List Op) (op : Op) → known (join c (content_of (ops ++ op ∷ []))) ≡ finite_set.insert (known (join c (content_of ops))) (id_of op)
-known_more c ops op = ap known (join_more c ops op) ∙ known_taken (join c (content_of ops)) op
+pub known_more : (c : Content) (ops : List Op) (op : Op) → known_ids (join c (content_of (ops ++ op ∷ []))) ≡ finite_set.insert (known_ids (join c (content_of ops))) (id_of op)
+known_more c ops op = ap known_ids (join_more c ops op) ∙ known_taken (join c (content_of ops)) op
 
 -- an insertion of an identifier that is not inserted
 pub get-insertion : (c : Content) (id parent : Identifier) (ch : ℕ) (q : Identifier) → finite_map.get c.inserted id ≡ None → finite_map.get (join c (single (Insert id parent ch))).inserted q ≡ cond (is q id) (Some (element parent ch)) (finite_map.get c.inserted q)

@@ -13,7 +13,7 @@ use Rattle.std.specs.FinMap.Entries.{below_all}
 use Rattle.std.proofs.lemmas.Bool.{false_from_ne_true}
 use Rattle.std.proofs.lemmas.Option.{same_Some, none-some}
 use Rattle.rga_ops.specs.Identifier.{Identifier, id_cmp}
-use Rattle.rga_ops.specs.Content.{Element, Content, known, join, Agree, IsSound}
+use Rattle.rga_ops.specs.Content.{Element, Content, known_ids, join, Agree, IsSound}
 use Rattle.rga_ops.specs.ListAnswer.{has_another, is_conflict, least_conflict, list_answer, merge_answer, IsConflict, IsLeastConflict}
 use Rattle.rga_ops.proofs.IdentifierLaws.{ids_total, ids_exact, is, same_id}
 use Rattle.rga_ops.proofs.ContentLaws.{same_option}
@@ -162,7 +162,7 @@ least_conflict-iff c d id = (found_conflict c d id, λ w. by_search w (least_con
 
 -- ---- the answer to a merge
 
-pub merge_taken-iff : (limit : ℕ) (c d : Content) → (merge_answer limit c d ≡ Ok tt) ↔ (Agree c d × (finite_set.len (known (join c d)) ≤ limit))
+pub merge_taken-iff : (limit : ℕ) (c d : Content) → (merge_answer limit c d ≡ Ok tt) ↔ (Agree c d × (finite_set.len (known_ids (join c d)) ≤ limit))
 merge_taken-iff limit c d = (
   λ h. let u = (union_taken-iff limit (least_conflict c d) (join c d)).0 h in ((no_least_conflict-iff c d).0 u.0, u.1),
   λ (agree, fits). (union_taken-iff limit (least_conflict c d) (join c d)).1 ((no_least_conflict-iff c d).1 agree, fits),
@@ -174,7 +174,7 @@ merge_conflict-iff limit c d id = (
   λ w. (union_conflict-iff limit (least_conflict c d) (join c d) id).1 ((least_conflict-iff c d id).1 w),
 )
 
-pub merge_full-iff : (limit : ℕ) (c d : Content) → (merge_answer limit c d ≡ Err Full) ↔ (Agree c d × (limit < finite_set.len (known (join c d))))
+pub merge_full-iff : (limit : ℕ) (c d : Content) → (merge_answer limit c d ≡ Err Full) ↔ (Agree c d × (limit < finite_set.len (known_ids (join c d))))
 merge_full-iff limit c d = (
   λ h. let u = (union_full-iff limit (least_conflict c d) (join c d)).0 h in ((no_least_conflict-iff c d).0 u.0, u.1),
   λ (agree, more). (union_full-iff limit (least_conflict c d) (join c d)).1 ((no_least_conflict-iff c d).1 agree, more),
@@ -208,12 +208,12 @@ merge_list-iff limit c d sound = (
       (list_taken-iff limit c (operations d)).1 (
         λ op m. sound op (operations_hold d op m),
         record { agreed = operations_agree d; agree = subst (Agree c) (sym (content_of-operations d)) w.0 },
-        subst (λ e. finite_set.len (known (join c e)) ≤ limit) (sym (content_of-operations d)) w.1,
+        subst (λ e. finite_set.len (known_ids (join c e)) ≤ limit) (sym (content_of-operations d)) w.1,
       ),
   λ h.
       let w = (list_taken-iff limit c (operations d)).0 h in
       (merge_taken-iff limit c d).1 (
         subst (Agree c) (content_of-operations d) w.1.agree,
-        subst (λ e. finite_set.len (known (join c e)) ≤ limit) (content_of-operations d) w.2,
+        subst (λ e. finite_set.len (known_ids (join c e)) ≤ limit) (content_of-operations d) w.2,
       ),
 )

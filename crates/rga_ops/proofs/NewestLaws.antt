@@ -9,7 +9,7 @@ use Rattle.std.specs.FinSet as finite_set
 use Rattle.std.specs.FinMap.Entries.{put, by_order}
 use Rattle.std.proofs.lemmas.Bool.{false_from_ne_true}
 use Rattle.rga_ops.specs.Identifier.{Identifier, id_cmp, root, is_root}
-use Rattle.rga_ops.specs.Content.{Content, join, single, clock, HasCountersWithin}
+use Rattle.rga_ops.specs.Content.{Content, join, single, clock_of, HasCountersWithin}
 use Rattle.rga_ops.specs.RootPath.{Path, path_cmp, newest_first, IsRootPath}
 use Rattle.rga_ops.specs.Order.{order}
 use Rattle.rga_ops.specs.Placement.{put_behind}
@@ -37,8 +37,8 @@ before_later (a ∷ above) (k ∷ q) id small h =
       | Greater ↦ λ h. absurd (cc)
     ] h
 
-module _ (c : Content) (id : Identifier) (newer : clock c < id.counter) where
-  bound : HasCountersWithin c (clock c)
+module _ (c : Content) (id : Identifier) (newer : clock_of c < id.counter) where
+  bound : HasCountersWithin c (clock_of c)
   bound = within_clock c
 
   pub newest_element : is_root id ≡ false
@@ -68,7 +68,7 @@ module _ (c : Content) (id : Identifier) (newer : clock c < id.counter) where
   inserted_smaller : (k : Identifier) → list_any (is k) (finite_map.keys c.inserted) ≡ true → id_cmp k id ≡ Less
   inserted_smaller k m = elim (finite_map.get c.inserted k) as (λ o. finite_map.get c.inserted k ≡ o → is_some o ≡ true → id_cmp k id ≡ Less) [
     | None ↦ λ g h. absurd (true≢false (sym h))
-    | Some x ↦ λ g h. let within : k.counter ≤ clock c = bound.own k x g in lower_counter k id (omega (arith, newer, within))
+    | Some x ↦ λ g h. let within : k.counter ≤ clock_of c = bound.own k x g in lower_counter k id (omega (arith, newer, within))
   ] refl (finite_map.contains_key-keys c.inserted k ∙ m)
 
   path_smaller : {k : Identifier} {p : Path} → IsRootPath c k p → AllByRecursion (λ q. id_cmp q id ≡ Less) p

@@ -8,7 +8,7 @@ use Rattle.std.proofs.lemmas.Bool.{and_parts, or_cases, or_left, or_right, false
 use Rattle.std.proofs.lemmas.Bool.Decides.{nat_tests}
 use Rattle.rga_ops.specs.Identifier.{Identifier, root, is_root}
 use Rattle.rga_ops.specs.Operation.{checked}
-use Rattle.rga_ops.specs.Content.{Element, element, Content, join, single, clock}
+use Rattle.rga_ops.specs.Content.{Element, element, Content, join, single, clock_of}
 use Rattle.rga_ops.specs.RootPath.{is_complete}
 use Rattle.rga_ops.specs.Order.{order, text}
 use Rattle.rga_ops.specs.Places.{visible, character}
@@ -30,20 +30,20 @@ pub visible_at : (c : Content) (i : ℕ) (id : Identifier) → slice_get (visibl
 visible_at c i id h = and_parts (is_complete c id) (is_kept c id) (sym (visible_elements c id) ∙ member_at (visible c) i id h)
 
 -- the root or a complete element has no counter above the clock
-pub root_or_complete_within : (c : Content) (parent : Identifier) → is_root_or_complete c parent ≡ true → parent.counter ≤ clock c
+pub root_or_complete_within : (c : Content) (parent : Identifier) → is_root_or_complete c parent ≡ true → parent.counter ≤ clock_of c
 root_or_complete_within c parent h = elim (or_cases (is_root parent) (is_complete c parent) h) [
   | inl at_root ↦ let zero_counter : parent.counter ≡ 0 = ap (λ (i : Identifier). i.counter) (is_id-is parent root at_root) in omega (arith, zero_counter)
   | inr complete ↦ let at : (x : Element) × (finite_map.get c.inserted parent ≡ Some x) = inserted_if_complete c parent complete in (within_clock c).own parent at.0 at.1
 ]
 
-module _ (c : Content) (id parent : Identifier) (ch : ℕ) (newer : clock c < id.counter) where
+module _ (c : Content) (id parent : Identifier) (ch : ℕ) (newer : clock_of c < id.counter) where
   abbrev d : Content
   d = join c (single (Insert id parent ch))
 
   -- ---- what the new content has
 
-  pub clock-newest_falls : parent.counter ≤ id.counter → clock d ≡ id.counter
-  clock-newest_falls falls = clock_insertion c id (element parent ch) (newest_absent c id newer) falls ∙ larger (clock c) id.counter newer
+  pub clock-newest_falls : parent.counter ≤ id.counter → clock_of d ≡ id.counter
+  clock-newest_falls falls = clock_insertion c id (element parent ch) (newest_absent c id newer) falls ∙ larger (clock_of c) id.counter newer
     where
       larger : (m n : ℕ) → m < n → max m n ≡ n
       larger m n h = omega arith
@@ -119,7 +119,7 @@ module _ (c : Content) (id parent : Identifier) (ch : ℕ) (newer : clock c < id
   -- ---- where the parent is the root or complete
 
   module _ (stands : is_root_or_complete c parent ≡ true) where
-    lower : parent.counter ≤ clock c
+    lower : parent.counter ≤ clock_of c
     lower = root_or_complete_within c parent stands
 
     pub newest_well_formed : checked (Insert id parent ch) ≡ Ok tt
@@ -130,5 +130,5 @@ module _ (c : Content) (id parent : Identifier) (ch : ℕ) (newer : clock c < id
         above : (m n : ℕ) → n < m → nat_le m n ≡ false
         above m n h = grind (arith, nat_tests)
 
-    pub clock-newest : clock d ≡ id.counter
+    pub clock-newest : clock_of d ≡ id.counter
     clock-newest = clock-newest_falls (omega (arith, newer, lower))

@@ -10,7 +10,7 @@ use Rattle.std.specs.FinMap as finite_map
 use Rattle.std.specs.FinSet as finite_set
 use Rattle.std.specs.FinMap.{find}
 use Rattle.rga_ops.specs.Identifier.{Identifier, id_cmp}
-use Rattle.rga_ops.specs.Content.{Element, element, Content, nothing, known, single, content_of, Holds, IsSound, IsAgreed}
+use Rattle.rga_ops.specs.Content.{Element, element, Content, nothing, known_ids, single, content_of, Holds, IsSound, IsAgreed}
 use Rattle.rga_ops.specs.Operations.{insertion_of, insertion_at, alone, rising, insertions, deletions, operations}
 use Rattle.rga_ops.proofs.IdentifierLaws.{ids_total, is, is_itself}
 use Rattle.rga_ops.proofs.ContentLaws.{same_content, get-join, contains-join, or_cond, or_none}
@@ -112,8 +112,8 @@ pub insertions_by_keys : (c : Content) → filter_map (insertion_at c) (finite_m
 insertions_by_keys c = find_later c (finite_map.entries c.inserted) (each_inserted c)
 
 -- an empty store takes them all, where each is well-formed and the limit suffices
-pub operations_taken : (limit : ℕ) (c : Content) → IsSound c → finite_set.len (known c) ≤ limit → taken_one_by_one limit nothing (operations c) ≡ Ok c
+pub operations_taken : (limit : ℕ) (c : Content) → IsSound c → finite_set.len (known_ids c) ≤ limit → taken_one_by_one limit nothing (operations c) ≡ Ok c
 operations_taken limit c sound fits =
     takeable_from_nothing limit (operations c) (λ op m. sound op (operations_hold c op m)) (operations_agree c)
-    (subst (λ d. finite_set.len (known d) ≤ limit) (sym (content_of-operations c)) fits)
+    (subst (λ d. finite_set.len (known_ids d) ≤ limit) (sym (content_of-operations c)) fits)
     ∙ ap Ok (content_of-operations c)

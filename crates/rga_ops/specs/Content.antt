@@ -34,8 +34,8 @@ abbrev pub nothing : Content
 nothing = record { inserted = finite_map.empty; deleted = finite_set.empty }
 
 -- the identifiers that are inserted, deleted or both
-abbrev pub known : Content → FinSet id_cmp
-known c = finite_set.union (finite_set.from_list (finite_map.keys c.inserted)) c.deleted
+abbrev pub known_ids : Content → FinSet id_cmp
+known_ids c = finite_set.union (finite_set.from_list (finite_map.keys c.inserted)) c.deleted
 
 -- the operation is in the content
 abbrev pub Holds : Content → Op → Type 0
@@ -97,8 +97,8 @@ greatest [] = 0
 greatest (n ∷ ns) = max n (greatest ns)
 
 -- the greatest counter among the insertions, their parents and the deletions; 0 where there is none
-abbrev pub clock : Content → ℕ
-clock c =
+abbrev pub clock_of : Content → ℕ
+clock_of c =
     max (greatest (map (λ id. id.counter) (finite_map.keys c.inserted)))
     (max (greatest (map (λ x. x.parent.counter) (finite_map.values c.inserted)))
     (greatest (map (λ id. id.counter) (finite_set.items c.deleted))))

@@ -10,3 +10,4 @@ pub mod Splice
 pub mod ListAnswer
 pub mod Took
 pub mod Placement
+pub mod Prelude

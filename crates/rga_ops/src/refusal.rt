@@ -1,5 +1,9 @@
 //! The answers to an operation.
+ghost use Rattle.std.specs.Prelude.{◌≡◌};
+ghost use Rattle.rga_ops.specs.declared.refusal.Refusal.TheVariants.{Memory as NoMemory};
+
 use crate::id::Id;
+use std::alloc::{AllocError, AllocFailed};
 
 /// How an operation was taken.
 #[derive(Clone, Copy, Debug, PartialEq, Eq)]
@@ -28,4 +32,21 @@ pub enum Refusal {
     Clock,
     /// A growth of memory was refused.
     Memory,
+}
+
+impl From<AllocError> for Refusal {
+    ghost from_gives = { λ _ refusal. refusal ≡ NoMemory };
+
+    fn from(_: AllocError) -> Refusal {
+        Refusal::Memory
+    }
+}
+
+/// A value that found no room is dropped.
+impl<T: Drop> From<AllocFailed<T>> for Refusal {
+    ghost from_gives = { λ _ refusal. refusal ≡ NoMemory };
+
+    fn from(_: AllocFailed<T>) -> Refusal {
+        Refusal::Memory
+    }
 }

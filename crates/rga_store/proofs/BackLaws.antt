@@ -6,7 +6,7 @@ use Rattle.std.specs.FinMap as finite_map
 use Rattle.std.specs.FinSet as finite_set
 use Rattle.std.proofs.Math.Bool.{or-false}
 use Rattle.rga_ops.specs.Identifier.{Identifier, is_id}
-use Rattle.rga_ops.specs.Content.{Element, element, Content, join, single, known, clock, Holds, IsWithin}
+use Rattle.rga_ops.specs.Content.{Element, element, Content, join, single, known_ids, clock_of, Holds, IsWithin}
 use Rattle.rga_ops.specs.Answer.{answer, after_answer}
 use Rattle.rga_ops.proofs.IdentifierLaws.{ids_total, is, is_itself, same_id, is_id-same, is_id-is}
 use Rattle.rga_ops.proofs.ContentLaws.{same_content, within_join}
@@ -97,10 +97,10 @@ no_more false n limit h = omega arith
 
 module _ (c : Content) (latest insertions identifiers limit : ℕ) (w : IsCounted c latest insertions identifiers limit) where
   module _ (id : Identifier) (x : Element) (g : finite_map.get c.inserted id ≡ Some x) where
-    known_before : identifiers ≡ cond (finite_set.contains c.deleted id) (finite_set.len (known (without_insertion id c))) (finite_set.len (known (without_insertion id c)) + 1)
+    known_before : identifiers ≡ cond (finite_set.contains c.deleted id) (finite_set.len (known_ids (without_insertion id c))) (finite_set.len (known_ids (without_insertion id c)) + 1)
     known_before =
-        w.known ∙ ap (λ d. finite_set.len (known d)) (sym (insertion_again c id x g)) ∙ more_known (without_insertion id c) (Insert id x.parent x.ch)
-        ∙ ap (λ b. cond b (finite_set.len (known (without_insertion id c))) (finite_set.len (known (without_insertion id c)) + 1)) (contains-known (without_insertion id c) id ∙ ap (λ (o : Option Element). is_some o || finite_set.contains c.deleted id) (uninserted c id))
+        w.known ∙ ap (λ d. finite_set.len (known_ids d)) (sym (insertion_again c id x g)) ∙ more_known (without_insertion id c) (Insert id x.parent x.ch)
+        ∙ ap (λ b. cond b (finite_set.len (known_ids (without_insertion id c))) (finite_set.len (known_ids (without_insertion id c)) + 1)) (contains-known (without_insertion id c) id ∙ ap (λ (o : Option Element). is_some o || finite_set.contains c.deleted id) (uninserted c id))
 
     inserted_before : insertions ≡ finite_map.len (without_insertion id c).inserted + 1
     inserted_before = w.inserted ∙ ap (λ (d : Content). finite_map.len d.inserted) (sym (insertion_again c id x g)) ∙ more_inserted (without_insertion id c) id x.parent x.ch (uninserted c id)
@@ -111,7 +111,7 @@ module _ (c : Content) (latest insertions identifiers limit : ℕ) (w : IsCounte
     pub one_insertion_known : cond (finite_set.contains c.deleted id) 0 1 ≤ identifiers
     one_insertion_known = one_counted (finite_set.contains c.deleted id) identifiers _ known_before
 
-    pub counted_without_insertion : IsCounted (without_insertion id c) (clock (without_insertion id c)) (insertions - 1) (cond (finite_set.contains c.deleted id) identifiers (identifiers - 1)) limit
+    pub counted_without_insertion : IsCounted (without_insertion id c) (clock_of (without_insertion id c)) (insertions - 1) (cond (finite_set.contains c.deleted id) identifiers (identifiers - 1)) limit
     counted_without_insertion = record {
       sound = sound_within (without_insertion id c) c (subst (λ d. IsWithin (without_insertion id c) d) (insertion_again c id x g) (within_join (without_insertion id c) (single (Insert id x.parent x.ch)))) w.sound;
       clocked = refl;
@@ -125,15 +125,15 @@ module _ (c : Content) (latest insertions identifiers limit : ℕ) (w : IsCounte
         one_less n m h = omega arith
 
   module _ (id : Identifier) (g : finite_set.contains c.deleted id ≡ true) where
-    known_then : identifiers ≡ cond (finite_map.contains_key c.inserted id) (finite_set.len (known (without_deletion id c))) (finite_set.len (known (without_deletion id c)) + 1)
+    known_then : identifiers ≡ cond (finite_map.contains_key c.inserted id) (finite_set.len (known_ids (without_deletion id c))) (finite_set.len (known_ids (without_deletion id c)) + 1)
     known_then =
-        w.known ∙ ap (λ d. finite_set.len (known d)) (sym (deletion_again c id g)) ∙ more_known (without_deletion id c) (Delete id)
-        ∙ ap (λ b. cond b (finite_set.len (known (without_deletion id c))) (finite_set.len (known (without_deletion id c)) + 1)) (contains-known (without_deletion id c) id ∙ ap (λ b. finite_map.contains_key c.inserted id || b) (undeleted c id) ∙ or-false (finite_map.contains_key c.inserted id))
+        w.known ∙ ap (λ d. finite_set.len (known_ids d)) (sym (deletion_again c id g)) ∙ more_known (without_deletion id c) (Delete id)
+        ∙ ap (λ b. cond b (finite_set.len (known_ids (without_deletion id c))) (finite_set.len (known_ids (without_deletion id c)) + 1)) (contains-known (without_deletion id c) id ∙ ap (λ b. finite_map.contains_key c.inserted id || b) (undeleted c id) ∙ or-false (finite_map.contains_key c.inserted id))
 
     pub one_deletion_known : cond (finite_map.contains_key c.inserted id) 0 1 ≤ identifiers
     one_deletion_known = one_counted (finite_map.contains_key c.inserted id) identifiers _ known_then
 
-    pub counted_without_deletion : IsCounted (without_deletion id c) (clock (without_deletion id c)) insertions (cond (finite_map.contains_key c.inserted id) identifiers (identifiers - 1)) limit
+    pub counted_without_deletion : IsCounted (without_deletion id c) (clock_of (without_deletion id c)) insertions (cond (finite_map.contains_key c.inserted id) identifiers (identifiers - 1)) limit
     counted_without_deletion = record {
       sound = sound_within (without_deletion id c) c (subst (λ d. IsWithin (without_deletion id c) d) (deletion_again c id g) (within_join (without_deletion id c) (single (Delete id)))) w.sound;
       clocked = refl;
@@ -173,7 +173,7 @@ module _ (ns ms : Nodes) (latest insertions identifiers limit : ℕ) (w : IsTree
   pub tree_without_insertion : (id parent : Identifier) (sooner less : ℕ) → is_child (content_of_nodes ns) parent id ≡ true
       → content_of_nodes ms ≡ without_insertion id (content_of_nodes ns)
       → ((p k : Identifier) → HasChild (kids ms p) k ≡ (HasChild (kids ns p) k && not (is_id parent p && is_id id k))) → ((p : Identifier) → IsRising (kids ms p))
-      → sooner ≡ clock (without_insertion id (content_of_nodes ns)) → less ≡ cond (finite_set.contains (content_of_nodes ns).deleted id) identifiers (identifiers - 1) → IsTree ms sooner (insertions - 1) less limit
+      → sooner ≡ clock_of (without_insertion id (content_of_nodes ns)) → less ≡ cond (finite_set.contains (content_of_nodes ns).deleted id) identifiers (identifiers - 1) → IsTree ms sooner (insertions - 1) less limit
   tree_without_insertion id parent sooner less its left children rising is_sooner is_less =
       let c : Content = content_of_nodes ns in
       let found : IsChild c parent id = child_found c parent id its in
@@ -186,13 +186,13 @@ module _ (ns ms : Nodes) (latest insertions identifiers limit : ℕ) (w : IsTree
         counted =
             subst (λ d. IsCounted d sooner (insertions - 1) less limit) (sym left)
             (subst (λ n. IsCounted (without_insertion id c) n (insertions - 1) less limit) (sym is_sooner)
-            (subst (λ n. IsCounted (without_insertion id c) (clock (without_insertion id c)) (insertions - 1) n limit) (sym is_less)
+            (subst (λ n. IsCounted (without_insertion id c) (clock_of (without_insertion id c)) (insertions - 1) n limit) (sym is_less)
             (counted_without_insertion c latest insertions identifiers limit w.counted id found.element found.found)));
       }
 
   pub tree_without_deletion : (id : Identifier) (sooner less : ℕ) → finite_set.contains (content_of_nodes ns).deleted id ≡ true
       → content_of_nodes ms ≡ without_deletion id (content_of_nodes ns) → ((p : Identifier) → kids ms p ≡ kids ns p)
-      → sooner ≡ clock (without_deletion id (content_of_nodes ns)) → less ≡ cond (finite_map.contains_key (content_of_nodes ns).inserted id) identifiers (identifiers - 1) → IsTree ms sooner insertions less limit
+      → sooner ≡ clock_of (without_deletion id (content_of_nodes ns)) → less ≡ cond (finite_map.contains_key (content_of_nodes ns).inserted id) identifiers (identifiers - 1) → IsTree ms sooner insertions less limit
   tree_without_deletion id sooner less its left lists is_sooner is_less =
       let c : Content = content_of_nodes ns in
       let same : IsFamily c (kids ms) = family_same c (kids ns) (kids ms) w.family lists in
@@ -202,7 +202,7 @@ module _ (ns ms : Nodes) (latest insertions identifiers limit : ℕ) (w : IsTree
         counted =
             subst (λ d. IsCounted d sooner insertions less limit) (sym left)
             (subst (λ n. IsCounted (without_deletion id c) n insertions less limit) (sym is_sooner)
-            (subst (λ n. IsCounted (without_deletion id c) (clock (without_deletion id c)) insertions n limit) (sym is_less)
+            (subst (λ n. IsCounted (without_deletion id c) (clock_of (without_deletion id c)) insertions n limit) (sym is_less)
             (counted_without_deletion c latest insertions identifiers limit w.counted id its)));
       }
 
@@ -219,14 +219,14 @@ last_step (t ∷ ss) s c h =
     record {
       held = last.held;
       clocked = last.clocked;
-      rest = (last.rest, subst (λ d. Holds d t.op × (t.clock ≡ clock (without t.op d))) (gone_back-push ss s c) h.1);
+      rest = (last.rest, subst (λ d. Holds d t.op × (t.clock ≡ clock_of (without t.op d))) (gone_back-push ss s c) h.1);
     }
 
 pub one_step_more : (ss : List Step) (s : Step) (c : Content) → IsLastStep ss s.op s.clock c → CanGoBack (ss ++ s ∷ []) c
 one_step_more [] s c last = (tt, (last.held, last.clocked))
 one_step_more (t ∷ ss) s c last = (
   one_step_more ss s c (record { held = last.held; clocked = last.clocked; rest = last.rest.0 }),
-  subst (λ d. Holds d t.op × (t.clock ≡ clock (without t.op d))) (sym (gone_back-push ss s c)) last.rest.1,
+  subst (λ d. Holds d t.op × (t.clock ≡ clock_of (without t.op d))) (sym (gone_back-push ss s c)) last.rest.1,
 )
 
 -- ---- an operation that was just taken
@@ -235,9 +235,9 @@ module _ (limit : ℕ) (n m : Content) (op : Op) (answered : answer limit n op �
   pub without_taken : without op m ≡ n
   without_taken = ap (without op) joined ∙ without_new limit n op answered
 
-  pub last_taken : (ss : List Step) (before : ℕ) → before ≡ clock n → CanGoBack ss n → IsLastStep ss op before m
+  pub last_taken : (ss : List Step) (before : ℕ) → before ≡ clock_of n → CanGoBack ss n → IsLastStep ss op before m
   last_taken ss before same back = record {
     held = subst (λ d. Holds d op) (sym joined) (new_held limit n op answered);
-    clocked = same ∙ ap clock (sym without_taken);
+    clocked = same ∙ ap clock_of (sym without_taken);
     rest = subst (λ d. CanGoBack ss d) (sym without_taken) back;
   }

@@ -12,7 +12,7 @@ use Rattle.std.proofs.lemmas.List.{length-map}
 use Rattle.std.proofs.lemmas.List.Elements.{filter-append}
 use Rattle.std.proofs.lemmas.Option.{same_Some, none-some, slice_get_within}
 use Rattle.rga_ops.specs.Identifier.{Identifier, id_cmp, is_id, IsLarger}
-use Rattle.rga_ops.specs.Content.{Element, element, Content, known, join, IsSound}
+use Rattle.rga_ops.specs.Content.{Element, element, Content, known_ids, join, IsSound}
 use Rattle.rga_ops.specs.Operations.{operations}
 use Rattle.rga_ops.specs.Answer.{taken_one_by_one}
 use Rattle.rga_ops.specs.ListAnswer.{has_another, is_conflict, least_conflict, merge_answer, IsConflict}
@@ -137,7 +137,7 @@ abbrev pub means_something : Node → Bool
 means_something v = is_some v.element || v.deleted
 
 -- an identifier is known as its node says
-pub known_at : (ns : Nodes) → AreApart ns → (q : Identifier) → finite_set.contains (known (content_of_nodes ns)) q ≡ option_map_or means_something (lookup (is_id q) ns) false
+pub known_at : (ns : Nodes) → AreApart ns → (q : Identifier) → finite_set.contains (known_ids (content_of_nodes ns)) q ≡ option_map_or means_something (lookup (is_id q) ns) false
 known_at ns apart q =
     contains-known (content_of_nodes ns) q
     ∙ (λ k. is_some (inserted_at ns apart q k) || deleted_at ns apart q k)
@@ -149,10 +149,10 @@ known_at ns apart q =
 
 -- what the nodes know and the content does not
 abbrev pub unknown_ids : Content → Nodes → List Identifier
-unknown_ids c ns = filter (λ q. not (finite_set.contains (known c) q)) (ids_where means_something ns)
+unknown_ids c ns = filter (λ q. not (finite_set.contains (known_ids c) q)) (ids_where means_something ns)
 
 -- one node more
-pub unknown_step : (c : Content) (ns : Nodes) (i : ℕ) (k : Identifier) (v : Node) → slice_get ns i ≡ Some (k, v) → length (unknown_ids c (take (i + 1) ns)) ≡ length (unknown_ids c (take i ns)) + cond (means_something v && not (finite_set.contains (known c) k)) 1 0
+pub unknown_step : (c : Content) (ns : Nodes) (i : ℕ) (k : Identifier) (v : Node) → slice_get ns i ≡ Some (k, v) → length (unknown_ids c (take (i + 1) ns)) ≡ length (unknown_ids c (take i ns)) + cond (means_something v && not (finite_set.contains (known_ids c) k)) 1 0
 unknown_step c ns i k v there =
     ap (λ ks. length (filter unknown ks)) (picked_step means_something ns i k v there)
     ∙ ap length (filter-append unknown (ids_where means_something (take i ns)) (cond (means_something v) (k ∷ []) []))
@@ -160,7 +160,7 @@ unknown_step c ns i k v there =
     ∙ ap (λ n. length (unknown_ids c (take i ns)) + n) (split (means_something v) (unknown k) refl)
   where
     unknown : Identifier → Bool
-    unknown q = not (finite_set.contains (known c) q)
+    unknown q = not (finite_set.contains (known_ids c) q)
 
     split : (a b : Bool) → unknown k ≡ b → length (filter unknown (cond a (k ∷ []) [])) ≡ cond (a && b) 1 0
     split false b h = refl
@@ -171,7 +171,7 @@ unknown_step c ns i k v there =
         one false = refl
 
 -- the join knows these too, and nothing else
-pub unknown_counted : (c : Content) (ns : Nodes) → AreApart ns → finite_set.len (known (join c (content_of_nodes ns))) ≡ finite_set.len (known c) + length (unknown_ids c ns)
+pub unknown_counted : (c : Content) (ns : Nodes) → AreApart ns → finite_set.len (known_ids (join c (content_of_nodes ns))) ≡ finite_set.len (known_ids c) + length (unknown_ids c ns)
 unknown_counted c ns apart =
     len-known_join c (content_of_nodes ns) (ids_where means_something ns) (picked_distinct means_something ns apart)
     (λ q. known_at ns apart q ∙ sym (any_where means_something q ns apart))
@@ -179,7 +179,7 @@ unknown_counted c ns apart =
 -- ---- a merge
 
 -- contents that do not conflict, and have room together: the other's operations are taken one by one
-pub merge_one_by_one : (limit : ℕ) (c d : Content) → IsSound d → least_conflict c d ≡ None → finite_set.len (known (join c d)) ≤ limit → taken_one_by_one limit c (operations d) ≡ Ok (join c d)
+pub merge_one_by_one : (limit : ℕ) (c d : Content) → IsSound d → least_conflict c d ≡ None → finite_set.len (known_ids (join c d)) ≤ limit → taken_one_by_one limit c (operations d) ≡ Ok (join c d)
 merge_one_by_one limit c d sound free fits =
     let merged : merge_answer limit c d ≡ Ok tt = (merge_taken-iff limit c d).1 ((no_least_conflict-iff c d).0 free, fits) in
     list_one_by_one limit c (operations d) ((merge_list-iff limit c d sound).0 merged)

@@ -9,7 +9,7 @@ use Rattle.std.proofs.Math.Bool.{or-false, and-true, and-false}
 use Rattle.std.proofs.lemmas.List.{length-map}
 use Rattle.rga_ops.specs.Identifier.{Identifier, id_cmp, is_id}
 use Rattle.rga_ops.specs.Operation.{id_of}
-use Rattle.rga_ops.specs.Content.{Element, element, Content, join, single, known, IsSound, IsWithin}
+use Rattle.rga_ops.specs.Content.{Element, element, Content, join, single, known_ids, IsSound, IsWithin}
 use Rattle.rga_ops.specs.Answer.{answer}
 use Rattle.rga_ops.proofs.IdentifierLaws.{ids_total, ids_exact, is, is_id-same, is_id-is}
 use Rattle.rga_ops.proofs.ContentLaws.{contains-join}
@@ -53,8 +53,8 @@ as_many_inserted : (c : Content) (id : Identifier) → finite_map.len (join c (s
 as_many_inserted c id = ap finite_map.len (finite_map.same_map ids_total ids_exact (join c (single (Delete id))).inserted c.inserted (get-deletion c id))
 
 -- one identifier more, where it was not known
-pub more_known : (c : Content) (op : Op) → finite_set.len (known (join c (single op))) ≡ cond (finite_set.contains (known c) (id_of op)) (finite_set.len (known c)) (finite_set.len (known c) + 1)
-more_known c op = ap finite_set.len (known_taken c op) ∙ finite_set.len-insert ids_total (known c) (id_of op)
+pub more_known : (c : Content) (op : Op) → finite_set.len (known_ids (join c (single op))) ≡ cond (finite_set.contains (known_ids c) (id_of op)) (finite_set.len (known_ids c)) (finite_set.len (known_ids c) + 1)
+more_known c op = ap finite_set.len (known_taken c op) ∙ finite_set.len-insert ids_total (known_ids c) (id_of op)
 
 len-from_distinct : (ks : List Identifier) → IsDistinct is ks → finite_set.len (finite_set.from_list {R = id_cmp} ks) ≡ length ks
 unfolding IsDistinct
@@ -68,10 +68,10 @@ pub len-keys : (c : Content) → length (finite_map.keys c.inserted) ≡ finite_
 len-keys c = length-map (finite_map.entries c.inserted) (λ e. e.0) ∙ sym (finite_map.len-entries c.inserted)
 
 -- what is inserted is known
-pub inserted_within : (c : Content) → finite_map.len c.inserted ≤ finite_set.len (known c)
+pub inserted_within : (c : Content) → finite_map.len c.inserted ≤ finite_set.len (known_ids c)
 inserted_within c =
     let listed : finite_set.len (finite_set.from_list {R = id_cmp} (finite_map.keys c.inserted)) ≡ finite_map.len c.inserted = len-from_distinct (finite_map.keys c.inserted) (distinct_inserted c) ∙ len-keys c in
-    subst (λ n. n ≤ finite_set.len (known c)) listed (len-le_union (finite_set.from_list (finite_map.keys c.inserted)) c.deleted)
+    subst (λ n. n ≤ finite_set.len (known_ids c)) listed (len-le_union (finite_set.from_list (finite_map.keys c.inserted)) c.deleted)
 
 -- ---- what is counted
 
@@ -81,7 +81,7 @@ room_now false n limit h (inl t) = absurd (true≢false (sym t))
 room_now false n limit h (inr other) = omega (arith, other)
 
 module _ (c : Content) (latest insertions identifiers limit : ℕ) (w : IsCounted c latest insertions identifiers limit) where
-  space : {b : Bool} → (b ≡ true) ⊎ (finite_set.len (known c) ≢ limit) → (b ≡ true) ⊎ (identifiers ≢ limit)
+  space : {b : Bool} → (b ≡ true) ⊎ (finite_set.len (known_ids c) ≢ limit) → (b ≡ true) ⊎ (identifiers ≢ limit)
   space (inl t) = inl t
   space (inr other) = inr (λ e. other (sym w.known ∙ e))
 

@@ -10,7 +10,7 @@ use Rattle.std.proofs.lemmas.Bool.Decides.{nat_tests}
 use Rattle.std.proofs.lemmas.Option.{none-some}
 use Rattle.rga_ops.specs.Identifier.{Identifier, id_cmp, is_id}
 use Rattle.rga_ops.specs.Operation.{checked}
-use Rattle.rga_ops.specs.Content.{Element, Content, Holds, nothing, join, single, clock}
+use Rattle.rga_ops.specs.Content.{Element, Content, Holds, nothing, join, single, clock_of}
 use Rattle.rga_ops.specs.Answer.{answer}
 use Rattle.rga_ops.proofs.AnswerLaws.{IsNewInsertion, new_insertion}
 use Rattle.rga_ops.proofs.ClockLaws.{clock_within}
@@ -74,8 +74,8 @@ nothing_held : (op : Op) → Holds nothing op → checked op ≡ Ok tt
 nothing_held (Insert id parent ch) h = absurd (none-some _ (sym (finite_map.get-empty id_cmp id) ∙ h))
 nothing_held (Delete id) h = absurd (true≢false (sym h ∙ finite_set.contains-empty id_cmp id))
 
-no_clock : 0 ≡ clock nothing
-no_clock = zero_only (clock nothing) (clock_within nothing 0 (record {
+no_clock : 0 ≡ clock_of nothing
+no_clock = zero_only (clock_of nothing) (clock_within nothing 0 (record {
   own = λ q x g. absurd (none-some _ (sym (finite_map.get-empty id_cmp q) ∙ g));
   parents = λ q x g. absurd (none-some _ (sym (finite_map.get-empty id_cmp q) ∙ g));
   deleted = λ q m. absurd (true≢false (sym m ∙ finite_set.contains-empty id_cmp q));

@@ -3,7 +3,7 @@ use Rattle.std.specs.Prelude.{◌≡◌, ℕ, List, [], ◌∷◌}
 use Rattle.std.specs.FinMap as finite_map
 use Rattle.std.specs.FinSet as finite_set
 use Rattle.rga_ops.specs.Identifier.{Identifier}
-use Rattle.rga_ops.specs.Content.{Content, Holds, clock}
+use Rattle.rga_ops.specs.Content.{Content, Holds, clock_of}
 use Rattle.rga_ops.specs.declared.op.Op.{Op}
 use Rattle.rga_ops.specs.declared.op.Op.TheVariants.{Insert, Delete}
 use Rattle.rga_store.specs.declared.tree_store.taking_back.Step.{Step}
@@ -27,10 +27,10 @@ gone_back (s ∷ ss) c = without s.op (gone_back ss c)
 -- the content holds each step's operation when its turn comes, and the step's clock is that of what is left then
 abbrev pub CanGoBack : List Step → Content → Type 0
 CanGoBack [] c = Unit {0}
-CanGoBack (s ∷ ss) c = CanGoBack ss c × (Holds (gone_back ss c) s.op × (s.clock ≡ clock (without s.op (gone_back ss c))))
+CanGoBack (s ∷ ss) c = CanGoBack ss c × (Holds (gone_back ss c) s.op × (s.clock ≡ clock_of (without s.op (gone_back ss c))))
 
 -- the operation was the last one, with the clock before it, and the steps before it can be taken back after it
 pub record IsLastStep (ss : List Step) (op : Op) (before : ℕ) (c : Content) : Type 0 where
   pub held : Holds c op
-  pub clocked : before ≡ clock (without op c)
+  pub clocked : before ≡ clock_of (without op c)
   pub rest : CanGoBack ss (without op c)

@@ -4,7 +4,7 @@ use Rattle.std.specs.Option.{option_map_or}
 use Rattle.std.specs.FinMap as finite_map
 use Rattle.std.specs.FinSet as finite_set
 use Rattle.rga_ops.specs.Identifier.{Identifier, is_id}
-use Rattle.rga_ops.specs.Content.{Content, IsSound, clock, known}
+use Rattle.rga_ops.specs.Content.{Content, IsSound, clock_of, known_ids}
 use Rattle.rga_store.specs.Limit.{is_limit}
 use Rattle.rga_store.specs.Children.{HasChild, IsRising}
 use Rattle.rga_store.specs.Nodes.{Nodes, AreApart, content_of_nodes, kids}
@@ -22,9 +22,9 @@ pub record IsFamily (c : Content) (children_of : Identifier → List Identifier)
 -- are within the limit
 pub record IsCounted (c : Content) (latest insertions identifiers limit : ℕ) : Type 0 where
   pub sound : IsSound c
-  pub clocked : latest ≡ clock c
+  pub clocked : latest ≡ clock_of c
   pub inserted : insertions ≡ finite_map.len c.inserted
-  pub known : identifiers ≡ finite_set.len (known c)
+  pub known : identifiers ≡ finite_set.len (known_ids c)
   pub room : identifiers ≤ limit
   pub limited : is_limit limit ≡ true
 

@@ -5,7 +5,7 @@ ghost use Rattle.std.specs.FinMap as finite_map;
 ghost use Rattle.std.specs.FinSet as finite_set;
 ghost use Rattle.indexmap.specs.IndexMap.{get as get_added};
 ghost use Rattle.rga_ops.specs.Identifier.{is_id};
-ghost use Rattle.rga_ops.specs.Content.{known as known_ids, join, content_of};
+ghost use Rattle.rga_ops.specs.Content.{known_ids, join, content_of};
 ghost use Rattle.rga_ops.specs.ListAnswer.{list_answer, all_checked, first_conflict as first_conflict_of};
 
 use crate::text_store::TextStore;

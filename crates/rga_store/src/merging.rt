@@ -3,7 +3,7 @@ ghost use Rattle.std.specs.Prelude.{◌≡◌, ◌+◌, ◌||◌, ◌⊎◌, Som
 ghost use Rattle.std.specs.Option.{option_map_or};
 ghost use Rattle.std.specs.FinSet as finite_set;
 ghost use Rattle.rga_ops.specs.Identifier.{Identifier, IsLarger};
-ghost use Rattle.rga_ops.specs.Content.{join, known};
+ghost use Rattle.rga_ops.specs.Content.{join, known_ids};
 ghost use Rattle.rga_ops.specs.ListAnswer.{has_another, least_conflict as least_conflict_of};
 ghost use Rattle.rga_store.specs.Nodes.{content_of_nodes, AreApart};
 
@@ -32,7 +32,7 @@ pub(crate) fn least_conflict(own: &IndexMap<Id, Node>, others: &IndexMap<Id, Nod
 pub(crate) fn count_unknown(own: &IndexMap<Id, Node>, others: &IndexMap<Id, Node>) -> usize
     requires own { AreApart own.now.entries }
     requires others { AreApart others.now.entries }
-    ensures { finite_set.len (known (content_of_nodes own.now.entries)) + result ≡ finite_set.len (known (join (content_of_nodes own.now.entries) (content_of_nodes others.now.entries))) }
+    ensures { finite_set.len (known_ids (content_of_nodes own.now.entries)) + result ≡ finite_set.len (known_ids (join (content_of_nodes own.now.entries) (content_of_nodes others.now.entries))) }
 {
     let mut count = 0;
     for i in 0..others.len() {
@@ -85,7 +85,7 @@ fn lesser(first: Option<Id>, second: Id) -> Id
 /// Whether the nodes know an identifier: it is inserted, deleted or both.
 fn knows(nodes: &IndexMap<Id, Node>, id: Id) -> bool
     requires { AreApart nodes.now.entries }
-    ensures { result ≡ finite_set.contains (known (content_of_nodes nodes.now.entries)) id }
+    ensures { result ≡ finite_set.contains (known_ids (content_of_nodes nodes.now.entries)) id }
 {
     match nodes.get(&id) {
         Some(node) => is_known(node),

@@ -13,7 +13,7 @@ pub trait Taker {
     ghost content: { Self → Content };
 
     /// How many identifiers it may know.
-    ghost capacity: { Self → ℕ };
+    ghost limit: { Self → ℕ };
 
     /// The operations that it may need memory for.
     ghost may_grow: { Self → Operation → Type 0 };
@@ -23,13 +23,13 @@ pub trait Taker {
     /// Refusals, in this order: `BadId`, `BadOrder`, `Conflict`, `Full`, `Memory`. A refusal
     /// changes nothing. `Known` and every refusal but `Memory` take no memory.
     fn apply(&mut self, op: Op) -> Result<Taken, Refusal>
-        ensures exact { result ≢ Err Refusal.Memory → result ≡ answer (capacity self.old) (content self.old) op }
-        ensures memory { result ≡ Err Refusal.Memory → answer (capacity self.old) (content self.old) op ≡ Ok Taken.New }
+        ensures exact { result ≢ Err Refusal.Memory → result ≡ answer (limit self.old) (content self.old) op }
+        ensures memory { result ≡ Err Refusal.Memory → answer (limit self.old) (content self.old) op ≡ Ok Taken.New }
         ensures growth { result ≡ Err Refusal.Memory → may_grow self.old op }
 
         ensures new { result ≡ Ok Taken.New → content self.new ≡ join (content self.old) (single op) }
         ensures same { result ≢ Ok Taken.New → content self.new ≡ content self.old }
-        ensures limit { capacity self.new ≡ capacity self.old };
+        ensures limit { limit self.new ≡ limit self.old };
 
     /// Takes all operations of a list, or none.
     ///
@@ -38,10 +38,10 @@ pub trait Taker {
     /// `Full` where more identifiers would be known than the limit allows; `Memory`. A refusal
     /// changes nothing. An ill-formed operation is found without memory.
     fn apply_all(&mut self, ops: &[Op]) -> Result<(), Refusal>
-        ensures exact { result ≢ Err Refusal.Memory → result ≡ list_answer (capacity self.old) (content self.old) ops.now }
+        ensures exact { result ≢ Err Refusal.Memory → result ≡ list_answer (limit self.old) (content self.old) ops.now }
         ensures memory { result ≡ Err Refusal.Memory → all_checked ops.now ≡ Ok tt }
 
         ensures whole { result ≡ Ok tt → content self.new ≡ join (content self.old) (content_of ops.now) }
         ensures none { result ≢ Ok tt → content self.new ≡ content self.old }
-        ensures limit { capacity self.new ≡ capacity self.old };
+        ensures limit { limit self.new ≡ limit self.old };
 }

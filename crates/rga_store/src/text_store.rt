@@ -4,7 +4,7 @@ ghost use Rattle.std.specs.Option.{option_map};
 ghost use Rattle.std.specs.FinMap as finite_map;
 ghost use Rattle.std.specs.FinSet as finite_set;
 ghost use Rattle.rga_ops.specs.Identifier.{Identifier};
-ghost use Rattle.rga_ops.specs.Content.{nothing, join, known as known_ids, Holds, IsSound, clock as greatest_counter};
+ghost use Rattle.rga_ops.specs.Content.{nothing, join, known_ids, Holds, IsSound, clock_of};
 ghost use Rattle.rga_ops.specs.ListAnswer.{merge_answer};
 ghost use Rattle.rga_ops.specs.Operations.{operations};
 ghost use Rattle.rga_ops.specs.Order.{order as order_of, text as text_of, waiting};
@@ -26,7 +26,7 @@ pub trait TextStore: Taker + Sized + Drop {
     fn new(alloc: Global, limit: usize) -> Result<Self, Refusal>
         ensures range { is_limit limit ≡ false → result ≡ Err Refusal.Range }
         ensures made { is_limit limit ≡ true → MatchResult result
-            (λ s. (Self.content s ≡ nothing) × (Self.capacity s ≡ limit)) (λ e. e ≡ Refusal.Memory) };
+            (λ s. (Self.content s ≡ nothing) × (Self.limit s ≡ limit)) (λ e. e ≡ Refusal.Memory) };
 
     /// The parent and the character of an element that is inserted. Takes no memory.
     fn get(&self, id: Id) -> Option<(Id, char)>
@@ -39,7 +39,7 @@ pub trait TextStore: Taker + Sized + Drop {
     /// How many identifiers are inserted, deleted or both. Takes no memory.
     fn known(&self) -> usize
         ensures known { result ≡ finite_set.len (known_ids (Self.content self.now)) }
-        ensures within { result ≤ Self.capacity self.now }
+        ensures within { result ≤ Self.limit self.now }
         ensures sound { IsSound (Self.content self.now) };
 
     /// Whether an operation is in the content. Takes no memory.
@@ -49,11 +49,11 @@ pub trait TextStore: Taker + Sized + Drop {
     /// The greatest counter among the insertions, their parents and the deletions; 0 where there
     /// is none. Takes no memory.
     fn clock(&self) -> u64
-        ensures { result ≡ greatest_counter (Self.content self.now) };
+        ensures { result ≡ clock_of (Self.content self.now) };
 
     /// How many identifiers it may know. Takes no memory.
     fn limit(&self) -> usize
-        ensures limit { result ≡ Self.capacity self.now }
+        ensures limit { result ≡ Self.limit self.now }
         ensures range { is_limit result ≡ true };
 
     /// The complete elements, deleted ones too, in the order of their root paths: a parent before
@@ -82,7 +82,7 @@ pub trait TextStore: Taker + Sized + Drop {
 
     /// A store of its own with the same content and the same limit. `Memory` alone.
     fn copy(&self) -> Result<Self, Refusal>
-        ensures ok { IfOk result (λ s. (Self.content s ≡ Self.content self.now) × (Self.capacity s ≡ Self.capacity self.now)) }
+        ensures ok { IfOk result (λ s. (Self.content s ≡ Self.content self.now) × (Self.limit s ≡ Self.limit self.now)) }
         ensures memory { IfErr result (λ e. e ≡ Refusal.Memory) };
 
     /// Takes all that another store holds, or nothing: the content becomes the join of both, the
@@ -92,12 +92,12 @@ pub trait TextStore: Taker + Sized + Drop {
     /// `Full` where both together know more identifiers than the own limit allows; `Memory`. A
     /// refusal changes nothing. The first two take no memory.
     fn merge(&mut self, other: &Self) -> Result<(), Refusal>
-        ensures exact { result ≢ Err Refusal.Memory → result ≡ merge_answer (Self.capacity self.old) (Self.content self.old) (Self.content other.now) }
-        ensures memory { result ≡ Err Refusal.Memory → merge_answer (Self.capacity self.old) (Self.content self.old) (Self.content other.now) ≡ Ok tt }
+        ensures exact { result ≢ Err Refusal.Memory → result ≡ merge_answer (Self.limit self.old) (Self.content self.old) (Self.content other.now) }
+        ensures memory { result ≡ Err Refusal.Memory → merge_answer (Self.limit self.old) (Self.content self.old) (Self.content other.now) ≡ Ok tt }
 
         ensures joined { result ≡ Ok tt → Self.content self.new ≡ join (Self.content self.old) (Self.content other.now) }
         ensures same { result ≢ Ok tt → Self.content self.new ≡ Self.content self.old }
-        ensures limit { Self.capacity self.new ≡ Self.capacity self.old };
+        ensures limit { Self.limit self.new ≡ Self.limit self.old };
 
     /// The deletion of an inserted element takes no memory.
     ghost deletes_freely: { (s : Self) (id : Identifier) → finite_map.contains_key (Self.content s).inserted id ≡ true → ¬ (Self.may_grow s (Delete id)) };

@@ -3,7 +3,7 @@ ghost use Rattle.std.specs.Prelude.{◌≡◌, ◌≤◌, ◌+◌, ◌⊎◌, �
 ghost use Rattle.std.specs.Option.{option_map};
 ghost use Rattle.std.specs.FinMap as finite_map;
 ghost use Rattle.std.specs.FinSet as finite_set;
-ghost use Rattle.rga_ops.specs.Content.{join, single, known, IsSound};
+ghost use Rattle.rga_ops.specs.Content.{join, single, known_ids, IsSound};
 ghost use Rattle.rga_ops.specs.Answer.{answer as answer_to_op, facts};
 ghost use Rattle.rga_store.specs.Found.{facts_of};
 ghost use Rattle.rga_store.specs.Limit.{is_limit};
@@ -61,7 +61,7 @@ impl Taker for TreeStore {
 
     ghost content = { λ s. s.content };
 
-    ghost capacity = { λ s. s.limit };
+    ghost limit = { λ s. s.limit };
 
     ghost may_grow = { λ s op. NeedsRoom s.content op };
 

@@ -3,7 +3,7 @@ ghost use Rattle.std.specs.Prelude.{◌≡◌, ◌≤◌, ◌↔◌, ◌++◌, �
 ghost use Rattle.std.specs.FinMap as finite_map;
 ghost use Rattle.std.specs.FinSet as finite_set;
 ghost use Rattle.rga_ops.specs.Identifier.{Identifier};
-ghost use Rattle.rga_ops.specs.Content.{Element, Content, nothing, known, Holds, IsSound, Agree, IsWithin, join, content_of, IsAgreed, HasSameOperations, HasCountersWithin, clock};
+ghost use Rattle.rga_ops.specs.Content.{Element, Content, nothing, known_ids, Holds, IsSound, Agree, IsWithin, join, content_of, IsAgreed, HasSameOperations, HasCountersWithin, clock_of};
 ghost use Rattle.rga_ops.specs.Order.{order, text};
 ghost use Rattle.rga_ops.specs.Operations.{operations};
 ghost use Rattle.rga_ops.specs.Answer.{taken, taken_one_by_one};
@@ -28,8 +28,8 @@ pub fn join_is_the_least_upper_bound()
 /// The clock of a content is the least number that no counter in it is above: neither an
 /// insertion's, nor its parent's, nor a deletion's.
 pub fn the_clock_is_the_greatest_counter()
-    ensures bound { (c : Content) → HasCountersWithin c (clock c) }
-    ensures least { (c : Content) (n : ℕ) → HasCountersWithin c n → clock c ≤ n }
+    ensures bound { (c : Content) → HasCountersWithin c (clock_of c) }
+    ensures least { (c : Content) (n : ℕ) → HasCountersWithin c n → clock_of c ≤ n }
 {}
 
 /// The content of a list of operations that agrees is its insertions as a map and its deletions as
@@ -47,7 +47,7 @@ pub fn content_is_what_the_list_has()
 pub fn a_content_is_that_of_its_operations()
     ensures content { (c : Content) → content_of (operations c) ≡ c }
     ensures held { (c : Content) (op : Operation) → Contains (operations c) op → Holds c op }
-    ensures taken { (limit : ℕ) (c : Content) → IsSound c → finite_set.len (known c) ≤ limit →
+    ensures taken { (limit : ℕ) (c : Content) → IsSound c → finite_set.len (known_ids c) ≤ limit →
         taken_one_by_one limit nothing (operations c) ≡ Ok c }
 {}
 

@@ -6,7 +6,7 @@ ghost use Rattle.std.specs.declared.cmp.Ordering.TheVariants.{Less};
 ghost use Rattle.std.specs.FinMap as finite_map;
 ghost use Rattle.rga_ops.specs.Identifier.{Identifier, id_cmp, is_id, is_root};
 ghost use Rattle.rga_ops.specs.Operation.{checked};
-ghost use Rattle.rga_ops.specs.Content.{Element, Content, nothing, IsSound, join, single, clock};
+ghost use Rattle.rga_ops.specs.Content.{Element, Content, nothing, IsSound, join, single, clock_of};
 ghost use Rattle.rga_ops.specs.RootPath.{Path, root_path, is_complete, IsComplete, IsRootPath, IsBefore, path_cmp};
 ghost use Rattle.rga_ops.specs.Order.{order, waiting, text, IsOrderList, Precedes};
 ghost use Rattle.rga_ops.specs.Places.{is_visible, visible, character, place};
@@ -78,7 +78,7 @@ pub fn an_insertion_goes_to_its_place()
         IsSound c → checked (Operation.Insert id parent ch) ≡ Ok tt → finite_map.get c.inserted id ≡ None →
         ((child : Identifier) (x : Element) → finite_map.get c.inserted child ≡ Some x → x.parent ≢ id) →
         order (join c (single (Operation.Insert id parent ch))) ≡ put_by_skip_rule parent id (order c) }
-    ensures newest { (c : Content) (id parent : Identifier) (ch : ℕ) → clock c < id.counter →
+    ensures newest { (c : Content) (id parent : Identifier) (ch : ℕ) → clock_of c < id.counter →
         order (join c (single (Operation.Insert id parent ch))) ≡ put_behind parent id (order c) }
 {}
 

@@ -3,7 +3,7 @@ ghost use Rattle.std.specs.Prelude.{◌≡◌, ◌≢◌, ◌<◌, ◌≤◌, �
 ghost use Rattle.std.specs.FinSet as finite_set;
 ghost use Rattle.rga_ops.specs.Identifier.{Identifier};
 ghost use Rattle.rga_ops.specs.Operation.{checked, id_of};
-ghost use Rattle.rga_ops.specs.Content.{Content, nothing, known, Holds, HasAnother, IsSound, Agree, join, content_of, IsAgreed, HasSameOperations};
+ghost use Rattle.rga_ops.specs.Content.{Content, nothing, known_ids, Holds, HasAnother, IsSound, Agree, join, content_of, IsAgreed, HasSameOperations};
 ghost use Rattle.rga_ops.specs.Order.{order, text};
 ghost use Rattle.rga_ops.specs.Operations.{operations};
 ghost use Rattle.rga_ops.specs.Answer.{answer, taken, taken_one_by_one};
@@ -24,7 +24,7 @@ pub fn answers_in_words()
     ensures conflict { (limit : ℕ) (c : Content) (op : Operation) (id : Identifier) →
         (answer limit c op ≡ Err (Conflict id)) ↔ ((checked op ≡ Ok tt) × HasAnother c op × (id ≡ id_of op)) }
     ensures full { (limit : ℕ) (c : Content) (op : Operation) →
-        (answer limit c op ≡ Err Full) ↔ ((checked op ≡ Ok tt) × (finite_set.contains (known c) (id_of op) ≡ false) × (finite_set.len (known c) ≡ limit)) }
+        (answer limit c op ≡ Err Full) ↔ ((checked op ≡ Ok tt) × (finite_set.contains (known_ids c) (id_of op) ≡ false) × (finite_set.len (known_ids c) ≡ limit)) }
     ensures no_other { (limit : ℕ) (c : Content) (op : Operation) (e : Refused) →
         answer limit c op ≡ Err e → (e ≢ Range) × (e ≢ Clock) × (e ≢ Memory) }
 {}
@@ -37,29 +37,29 @@ pub fn taking_one_by_one_leads_to_the_content()
     ensures well_formed { (limit : ℕ) (ops : List Operation) (c : Content) → taken_one_by_one limit nothing ops ≡ Ok c →
         (op : Operation) → Contains ops op → checked op ≡ Ok tt }
     ensures agreed { (limit : ℕ) (ops : List Operation) (c : Content) → taken_one_by_one limit nothing ops ≡ Ok c → IsAgreed ops }
-    ensures within { (limit : ℕ) (ops : List Operation) (c : Content) → taken_one_by_one limit nothing ops ≡ Ok c → finite_set.len (known c) ≤ limit }
+    ensures within { (limit : ℕ) (ops : List Operation) (c : Content) → taken_one_by_one limit nothing ops ≡ Ok c → finite_set.len (known_ids c) ≤ limit }
 
     ensures whole { (limit : ℕ) (ops : List Operation) → ((op : Operation) → Contains ops op → checked op ≡ Ok tt) →
-        IsAgreed ops → finite_set.len (known (content_of ops)) ≤ limit → taken_one_by_one limit nothing ops ≡ Ok (content_of ops) }
+        IsAgreed ops → finite_set.len (known_ids (content_of ops)) ≤ limit → taken_one_by_one limit nothing ops ≡ Ok (content_of ops) }
 {}
 
 /// The answers to a list that is taken whole or not at all, each exactly where it comes. It is
 /// taken where its operations would all be taken one by one, and leads to the same content.
 pub fn answers_to_a_list_in_words()
     ensures taken { (limit : ℕ) (c : Content) (ops : List Operation) →
-        (list_answer limit c ops ≡ Ok tt) ↔ (AreWellFormed ops × IsJoinable c ops × (finite_set.len (known (join c (content_of ops))) ≤ limit)) }
+        (list_answer limit c ops ≡ Ok tt) ↔ (AreWellFormed ops × IsJoinable c ops × (finite_set.len (known_ids (join c (content_of ops))) ≤ limit)) }
     ensures ill_formed { (limit : ℕ) (c : Content) (ops : List Operation) (e : Refused) →
         ((list_answer limit c ops ≡ Err e) × ((e ≡ BadId) ⊎ (e ≡ BadOrder))) ↔ IsFirstIllFormed ops e }
     ensures conflict { (limit : ℕ) (c : Content) (ops : List Operation) (id : Identifier) →
         (list_answer limit c ops ≡ Err (Conflict id)) ↔ (AreWellFormed ops × IsFirstConflict c ops id) }
     ensures full { (limit : ℕ) (c : Content) (ops : List Operation) →
-        (list_answer limit c ops ≡ Err Full) ↔ (AreWellFormed ops × IsJoinable c ops × (limit < finite_set.len (known (join c (content_of ops))))) }
+        (list_answer limit c ops ≡ Err Full) ↔ (AreWellFormed ops × IsJoinable c ops × (limit < finite_set.len (known_ids (join c (content_of ops))))) }
     ensures no_other { (limit : ℕ) (c : Content) (ops : List Operation) (e : Refused) →
         list_answer limit c ops ≡ Err e → (e ≢ Range) × (e ≢ Clock) × (e ≢ Memory) }
 
     ensures one_by_one { (limit : ℕ) (c : Content) (ops : List Operation) →
         list_answer limit c ops ≡ Ok tt → taken_one_by_one limit c ops ≡ Ok (join c (content_of ops)) }
-    ensures whole { (limit : ℕ) (c d : Content) (ops : List Operation) → finite_set.len (known c) ≤ limit →
+    ensures whole { (limit : ℕ) (c d : Content) (ops : List Operation) → finite_set.len (known_ids c) ≤ limit →
         taken_one_by_one limit c ops ≡ Ok d → list_answer limit c ops ≡ Ok tt }
 {}
 
@@ -67,11 +67,11 @@ pub fn answers_to_a_list_in_words()
 /// limit suffices. That is where the operations of the other content would be taken as a list.
 pub fn merging_in_words()
     ensures taken { (limit : ℕ) (c d : Content) →
-        (merge_answer limit c d ≡ Ok tt) ↔ (Agree c d × (finite_set.len (known (join c d)) ≤ limit)) }
+        (merge_answer limit c d ≡ Ok tt) ↔ (Agree c d × (finite_set.len (known_ids (join c d)) ≤ limit)) }
     ensures conflict { (limit : ℕ) (c d : Content) (id : Identifier) →
         (merge_answer limit c d ≡ Err (Conflict id)) ↔ IsLeastConflict c d id }
     ensures full { (limit : ℕ) (c d : Content) →
-        (merge_answer limit c d ≡ Err Full) ↔ (Agree c d × (limit < finite_set.len (known (join c d)))) }
+        (merge_answer limit c d ≡ Err Full) ↔ (Agree c d × (limit < finite_set.len (known_ids (join c d)))) }
     ensures no_other { (limit : ℕ) (c d : Content) (e : Refused) →
         merge_answer limit c d ≡ Err e → ((id : Identifier) × (e ≡ Conflict id)) ⊎ (e ≡ Full) }
 

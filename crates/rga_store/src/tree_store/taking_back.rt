@@ -1,7 +1,7 @@
 //! Taking back what was taken, without memory: so a list of operations is taken whole or not at all.
 ghost use Rattle.std.specs.Prelude.{◌≡◌, ◌≤◌, ◌-◌, if◌then◌else◌, true, Ok, IsOk, OnOk, OnErr, IfErr};
 ghost use Rattle.std.specs.FinSet as finite_set;
-ghost use Rattle.rga_ops.specs.Content.{clock as greatest_counter, Holds};
+ghost use Rattle.rga_ops.specs.Content.{clock_of, Holds};
 ghost use Rattle.rga_ops.specs.Answer.{taken, taken_one_by_one};
 ghost use Rattle.rga_store.specs.Tree.{is_child};
 ghost use Rattle.rga_store.specs.Back.{without_insertion, without_deletion, without, gone_back, CanGoBack, IsLastStep};
@@ -94,7 +94,7 @@ impl TreeStore {
     /// Takes an operation back, to the clock from before it. Takes no memory.
     fn take_back(&mut self, op: &Op, clock: u64)
         requires held { Holds self.old.content op.now }
-        requires clock { clock ≡ greatest_counter (without op.now self.old.content) }
+        requires clock { clock ≡ clock_of (without op.now self.old.content) }
         ensures content { self.new.content ≡ without op.now self.old.content }
         ensures limit { self.new.limit ≡ self.old.limit }
     {
@@ -107,7 +107,7 @@ impl TreeStore {
     /// The element goes out of its node, and out of its siblings. Its children wait again.
     fn take_back_insertion(&mut self, id: Id, parent: Id, clock: u64)
         requires child { is_child self.old.content parent id ≡ true }
-        requires clock { clock ≡ greatest_counter (without_insertion id self.old.content) }
+        requires clock { clock ≡ clock_of (without_insertion id self.old.content) }
         ensures content { self.new.content ≡ without_insertion id self.old.content }
         ensures limit { self.new.limit ≡ self.old.limit }
     {
@@ -121,7 +121,7 @@ impl TreeStore {
     /// The mark goes.
     fn take_back_deletion(&mut self, id: Id, clock: u64)
         requires deleted { finite_set.contains self.old.content.deleted id ≡ true }
-        requires clock { clock ≡ greatest_counter (without_deletion id self.old.content) }
+        requires clock { clock ≡ clock_of (without_deletion id self.old.content) }
         ensures content { self.new.content ≡ without_deletion id self.old.content }
         ensures limit { self.new.limit ≡ self.old.limit }
     {

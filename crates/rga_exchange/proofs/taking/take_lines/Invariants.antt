@@ -6,8 +6,8 @@ abbrev pub invariant-lines : goal.invariant-lines
 invariant-lines g l = record {
   whole : l.splitter.broken ≡ false;
   room : l.lines + length l.splitter.waiting ≤ l.fn.lines + length l.fn.splitter.waiting;
-  limit : g.T.Taker.capacity l.taker ≡ g.T.Taker.capacity l.fn.taker;
-  takes : Takes (g.T.Taker.capacity l.fn.taker) l.fn.lines (g.T.Taker.content l.fn.taker) l.fn.splitter.waiting l.lines (g.T.Taker.content l.taker) l.splitter.waiting;
+  limit : g.T.Taker.limit l.taker ≡ g.T.Taker.limit l.fn.taker;
+  takes : Takes (g.T.Taker.limit l.fn.taker) l.fn.lines (g.T.Taker.content l.fn.taker) l.fn.splitter.waiting l.lines (g.T.Taker.content l.taker) l.splitter.waiting;
 }
 
 abbrev pub decreases-lines : goal.decreases-lines

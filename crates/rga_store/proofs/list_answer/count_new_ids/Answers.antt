@@ -9,7 +9,7 @@ use Rattle.std.proofs.lemmas.List.{take_more}
 use Rattle.indexmap.specs.IndexSet.{contains, index_set_len}
 use Rattle.rga_ops.specs.Identifier.{Identifier, id_cmp, is_id}
 use Rattle.rga_ops.specs.Operation.{id_of}
-use Rattle.rga_ops.specs.Content.{Content, known, join, content_of}
+use Rattle.rga_ops.specs.Content.{Content, known_ids, join, content_of}
 use Rattle.rga_ops.proofs.IdentifierLaws.{ids_total, ids_exact, is, same_id, is_id-same}
 use Rattle.rga_ops.proofs.ContentLaws.{join_nothing}
 use Rattle.rga_ops.proofs.ListSteps.{known_more}
@@ -22,18 +22,18 @@ pub loop-op-init : goal.loop-op-init
 loop-op-init c =
     let same : join c.args.store.now.content (content_of []) ≡ c.args.store.now.content = join_nothing c.args.store.now.content in
     record {
-      counted = omega (arith, ap (λ d. finite_set.len (known d)) same, c.new-added.ensures.len);
+      counted = omega (arith, ap (λ d. finite_set.len (known_ids d)) same, c.new-added.ensures.len);
       members = λ q.
-          ap (λ ks. finite_set.contains (known c.args.store.now.content) q || list_any (is_id q) ks) c.new-added.ensures.empty
-          ∙ or-false (finite_set.contains (known c.args.store.now.content) q) ∙ ap (λ d. finite_set.contains (known d) q) (sym same);
+          ap (λ ks. finite_set.contains (known_ids c.args.store.now.content) q || list_any (is_id q) ks) c.new-added.ensures.empty
+          ∙ or-false (finite_set.contains (known_ids c.args.store.now.content) q) ∙ ap (λ d. finite_set.contains (known_ids d) q) (sym same);
     }
 
 -- ---- one operation more
 
 -- the known identifiers, with that of the operation
-more_known : (s : Content) (ops : List Op) (i : ℕ) (op : Op) → i < length ops → op ≡ get_or ops i op → known (join s (content_of (take (i + 1) ops))) ≡ finite_set.insert (known (join s (content_of (take i ops)))) (id_of op)
+more_known : (s : Content) (ops : List Op) (i : ℕ) (op : Op) → i < length ops → op ≡ get_or ops i op → known_ids (join s (content_of (take (i + 1) ops))) ≡ finite_set.insert (known_ids (join s (content_of (take i ops)))) (id_of op)
 more_known s ops i op within at =
-    ap (λ xs. known (join s (content_of xs))) (take_more ops i op within ∙ ap (λ x. take i ops ++ x ∷ []) (sym at)) ∙ known_more s (take i ops) op
+    ap (λ xs. known_ids (join s (content_of xs))) (take_more ops i op within ∙ ap (λ x. take i ops ++ x ∷ []) (sym at)) ∙ known_more s (take i ops) op
 
 -- an identifier that is there adds nothing
 there_already : (s : FinSet id_cmp) (id : Identifier) → finite_set.contains s id ≡ true → finite_set.insert s id ≡ s
@@ -59,23 +59,23 @@ pub loop-op-preserved : goal.loop-op-preserved
 loop-op-preserved c =
     let s : Content = c.args.store.now.content in
     let id : Identifier = c.id-id.result in
-    let before : FinSet id_cmp = known (join s (content_of (take c.loop-op.op-index c.args.ops.now))) in
-    let after : FinSet id_cmp = known (join s (content_of (take (c.loop-op.op-index + 1) c.args.ops.now))) in
+    let before : FinSet id_cmp = known_ids (join s (content_of (take c.loop-op.op-index c.args.ops.now))) in
+    let after : FinSet id_cmp = known_ids (join s (content_of (take (c.loop-op.op-index + 1) c.args.ops.now))) in
     let more : after ≡ finite_set.insert before id =
     more_known s c.args.ops.now c.loop-op.op-index c.op-item.result c.loop-op-test.true c.op-item.is ∙ ap (finite_set.insert before) (sym c.id-id.ensures) in
     elim c.else-not-is_known.branch [
       | else-not-is_known-via-then-not-is_known+else-is_err w ↦
           record {
-            counted = ap (λ m. finite_set.len (known s) + index_set_len m) w.added-is
-                ∙ count_now w.insert.result (contains is_id c.loop-op.added id) (finite_set.len (known s)) (index_set_len c.loop-op.added) (index_set_len w.insert.new.self) (finite_set.len before) (finite_set.len after)
+            counted = ap (λ m. finite_set.len (known_ids s) + index_set_len m) w.added-is
+                ∙ count_now w.insert.result (contains is_id c.loop-op.added id) (finite_set.len (known_ids s)) (index_set_len c.loop-op.added) (index_set_len w.insert.new.self) (finite_set.len before) (finite_set.len after)
                 (w.is_err.ensures.negation ∙ ap not w.if-is_err.false) w.insert.ensures.added w.insert.ensures.len c.loop-op.invariant.counted
                 (ap finite_set.len more ∙ finite_set.len-insert ids_total before id
                 ∙ ap (λ b. cond b (finite_set.len before) (finite_set.len before + 1)) (sym (c.loop-op.invariant.members id) ∙ ap (λ b. b || contains is_id c.loop-op.added id) (sym c.is_known.ensures ∙ w.if-not-is_known.true)));
             members = λ q.
-                ap (λ m. finite_set.contains (known s) q || contains is_id m q) w.added-is
-                ∙ ap (λ b. finite_set.contains (known s) q || b) ((on_ok w.insert.result (w.is_err.ensures.negation ∙ ap not w.if-is_err.false) w.insert.ensures.updates).0 q
+                ap (λ m. finite_set.contains (known_ids s) q || contains is_id m q) w.added-is
+                ∙ ap (λ b. finite_set.contains (known_ids s) q || b) ((on_ok w.insert.result (w.is_err.ensures.negation ∙ ap not w.if-is_err.false) w.insert.ensures.updates).0 q
                 ∙ ap (λ t. cond t true (contains is_id c.loop-op.added q)) (is_id-same id q))
-                ∙ put_first (is q id) (finite_set.contains (known s) q) (contains is_id c.loop-op.added q)
+                ∙ put_first (is q id) (finite_set.contains (known_ids s) q) (contains is_id c.loop-op.added q)
                 ∙ ap (λ b. is q id || b) (c.loop-op.invariant.members q)
                 ∙ sym (ap (λ t. finite_set.contains t q) more ∙ finite_set.contains-insert ids_total before id q);
           }
@@ -84,9 +84,9 @@ loop-op-preserved c =
           sym (c.loop-op.invariant.members id) ∙ ap (λ b. b || contains is_id c.loop-op.added id) (sym c.is_known.ensures ∙ w.if-not-is_known.false) in
           let same : after ≡ before = more ∙ there_already before id there in
           record {
-            counted = ap (λ m. finite_set.len (known s) + index_set_len m) w.added-is ∙ c.loop-op.invariant.counted ∙ ap finite_set.len (sym same);
+            counted = ap (λ m. finite_set.len (known_ids s) + index_set_len m) w.added-is ∙ c.loop-op.invariant.counted ∙ ap finite_set.len (sym same);
             members = λ q.
-                ap (λ m. finite_set.contains (known s) q || contains is_id m q) w.added-is
+                ap (λ m. finite_set.contains (known_ids s) q || contains is_id m q) w.added-is
                 ∙ c.loop-op.invariant.members q ∙ ap (λ t. finite_set.contains t q) (sym same);
           }
     ]

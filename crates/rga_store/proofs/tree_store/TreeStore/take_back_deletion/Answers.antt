@@ -1,6 +1,6 @@
 use Rattle.std.proofs.Common.{◌≤◌, ◌-◌, cond, sym, ap, ◌∙◌, subst}
 use Rattle.std.specs.FinSet as finite_set
-use Rattle.rga_ops.specs.Content.{clock}
+use Rattle.rga_ops.specs.Content.{clock_of}
 use Rattle.rga_store.specs.Kept.{Kept}
 use Rattle.rga_store.specs.Back.{without_deletion}
 use Rattle.rga_store.specs.Nodes.{content_of_nodes}
@@ -19,5 +19,5 @@ invariant_of-self c =
     c.take_mark-inserted.ensures.apart c.args.id c.args.clock c.uncount_unless.new.count
     (ap (λ (v : Kept). finite_set.contains v.content.deleted c.args.id) c.self.view_is ∙ c.requires.deleted)
     c.take_mark-inserted.ensures.content c.take_mark-inserted.ensures.kids
-    (c.requires.clock ∙ ap (λ (v : Kept). clock (without_deletion c.args.id v.content)) (sym c.self.view_is))
+    (c.requires.clock ∙ ap (λ (v : Kept). clock_of (without_deletion c.args.id v.content)) (sym c.self.view_is))
     (c.uncount_unless.ensures ∙ ap (λ b. cond b c.self.inside.known (c.self.inside.known - 1)) c.take_mark-inserted.ensures.inserted)

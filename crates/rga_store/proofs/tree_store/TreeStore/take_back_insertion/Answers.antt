@@ -1,6 +1,6 @@
 use Rattle.std.proofs.Common.{◌≡◌, ◌≤◌, ◌-◌, true, cond, not, ◌&&◌, sym, ap, ◌∙◌, subst}
 use Rattle.rga_ops.specs.Identifier.{is_id}
-use Rattle.rga_ops.specs.Content.{Content, clock}
+use Rattle.rga_ops.specs.Content.{Content, clock_of}
 use Rattle.rga_store.specs.Kept.{Kept}
 use Rattle.rga_store.specs.Back.{without_insertion}
 use Rattle.rga_store.specs.Children.{HasChild}
@@ -34,5 +34,5 @@ invariant_of-self c =
     (c.take_child.ensures.content ∙ c.take_element-deleted.ensures.content)
     (λ p k. c.take_child.ensures.left p k ∙ ap (λ ks. HasChild ks k && not (is_id c.args.parent p && is_id c.args.id k)) (c.take_element-deleted.ensures.kids p))
     c.take_child.ensures.rising
-    (c.requires.clock ∙ ap (λ (v : Kept). clock (without_insertion c.args.id v.content)) (sym c.self.view_is))
+    (c.requires.clock ∙ ap (λ (v : Kept). clock_of (without_insertion c.args.id v.content)) (sym c.self.view_is))
     (c.uncount_unless.ensures ∙ ap (λ b. cond b c.self.inside.known (c.self.inside.known - 1)) c.take_element-deleted.ensures.deleted)

@@ -1,5 +1,5 @@
 use Rattle.std.proofs.Common.{◌≡◌, ℕ, sym, ap, ◌∙◌}
-use Rattle.rga_ops.specs.Content.{Content, clock}
+use Rattle.rga_ops.specs.Content.{Content, clock_of}
 use Rattle.rga_ops.specs.Answer.{answer}
 use Rattle.rga_ops.proofs.AnswerLaws.{Answer, ok, err}
 use Rattle.rga_ops.specs.declared.op.Op.{Op}
@@ -19,7 +19,7 @@ note-requires c =
     let is_new : c.apply.result ≡ ok New = c.in_ok-apply.was ∙ ap ok c.in-New.is in
     let answered = was_new c.args.self.now.limit c.args.self.now.content c.args.op.now c.apply.result is_new c.apply.ensures.exact in
     last_taken c.args.self.now.limit c.args.self.now.content c.apply.new.self.content c.args.op.now answered (c.apply.ensures.new is_new) c.args.steps.now.items c.self.inside.clock
-    (c.self.invariant.counted.clocked ∙ ap (λ (v : Kept). clock v.content) c.self.view_is) c.requires.steps
+    (c.self.invariant.counted.clocked ∙ ap (λ (v : Kept). clock_of v.content) c.self.view_is) c.requires.steps
 
 pub returns-in-New-clause-start : goal.returns-in-New-clause-start
 returns-in-New-clause-start c =

@@ -1,6 +1,6 @@
 use Rattle.std.proofs.Common.{◌≡◌, ◌≤◌, ℕ, arith, None, Ok, OnOk, is_ok, sym, ap, ◌∙◌, subst}
 use Rattle.std.specs.FinSet as finite_set
-use Rattle.rga_ops.specs.Content.{Content, known, join}
+use Rattle.rga_ops.specs.Content.{Content, known_ids, join}
 use Rattle.rga_ops.specs.Operations.{operations}
 use Rattle.rga_ops.specs.Answer.{taken_one_by_one}
 use Rattle.rga_ops.specs.ListAnswer.{least_conflict}
@@ -12,14 +12,14 @@ use Rattle.rga_store.proofs.MergingLaws.{merge_one_by_one}
 use Rattle.rga_store.proofs.tree_store.TreeStoreTextStore.merge.Goals as goal
 
 -- a store takes what another holds
-all_taken : (c d : Content) (latest insertions identifiers limit : ℕ) (self other : Kept) → IsCounted d latest insertions identifiers limit → (room : ℕ) → record { content = c; limit = room } ≡ self → d ≡ other.content → None ≡ least_conflict c d → finite_set.len (known (join c d)) ≤ room → taken_one_by_one self.limit self.content (operations other.content) ≡ Ok (join self.content other.content)
+all_taken : (c d : Content) (latest insertions identifiers limit : ℕ) (self other : Kept) → IsCounted d latest insertions identifiers limit → (room : ℕ) → record { content = c; limit = room } ≡ self → d ≡ other.content → None ≡ least_conflict c d → finite_set.len (known_ids (join c d)) ≤ room → taken_one_by_one self.limit self.content (operations other.content) ≡ Ok (join self.content other.content)
 all_taken c d latest insertions identifiers limit self other w room view other_view free fits =
     subst (λ (v : Kept). taken_one_by_one v.limit v.content (operations other.content) ≡ Ok (join v.content other.content)) view
     (subst (λ e. taken_one_by_one room c (operations e) ≡ Ok (join c e)) other_view (merge_one_by_one room c d w.sound (sym free) fits))
 
 pub take_whole-requires : goal.take_whole-requires
 take_whole-requires c =
-    let fits : finite_set.len (known (join (content_of_nodes c.self.inside.nodes.entries) (content_of_nodes c.other.inside.nodes.entries))) ≤ c.self.inside.limit =
+    let fits : finite_set.len (known_ids (join (content_of_nodes c.self.inside.nodes.entries) (content_of_nodes c.other.inside.nodes.entries))) ≤ c.self.inside.limit =
     omega (arith, c.count_unknown.ensures, c.self.invariant.counted.known, c.self.invariant.counted.room, c.if-count_unknown-self.false) in
     ap is_ok
     (ap (taken_one_by_one c.args.self.now.limit c.args.self.now.content) (c.deref.ensures.value ∙ c.in_ok-ops.ensures.ok)
@@ -28,7 +28,7 @@ take_whole-requires c =
 
 pub returns-clause-joined : goal.returns-clause-joined
 returns-clause-joined c whole =
-    let fits : finite_set.len (known (join (content_of_nodes c.self.inside.nodes.entries) (content_of_nodes c.other.inside.nodes.entries))) ≤ c.self.inside.limit =
+    let fits : finite_set.len (known_ids (join (content_of_nodes c.self.inside.nodes.entries) (content_of_nodes c.other.inside.nodes.entries))) ≤ c.self.inside.limit =
     omega (arith, c.count_unknown.ensures, c.self.invariant.counted.known, c.self.invariant.counted.room, c.if-count_unknown-self.false) in
     let same : took c.take_whole.new.self.content ≡ took (join c.args.self.now.content c.args.other.now.content) =
     sym (subst (λ r. OnOk r (taken_one_by_one c.args.self.now.limit c.args.self.now.content c.deref.result.now ≡ Ok c.take_whole.new.self.content)) whole c.take_whole.ensures.ok)
