@@ -150,7 +150,7 @@ impl TreeStore {
     }
 
     fn count(&self) -> usize
-        ensures known { result ≡ finite_set.len (known self.now.content) }
+        ensures known { result ≡ finite_set.len (known_ids self.now.content) }
         ensures within { result ≤ self.now.limit }
         ensures sound { IsSound self.now.content }
         ensures range { is_limit self.now.limit ≡ true }
