@@ -14,7 +14,7 @@ import subprocess
 TIMES = {10_000: 500, 100_000: 50, 1_000_000: 5}
 MEASUREMENTS = 5
 
-PROGRAM = pathlib.Path(__file__).parent.parent / "build" / "edit_bench"
+PROGRAM = pathlib.Path(__file__).parent.parent / "build" / "bench_edits"
 
 
 def seconds(work, size, times):

@@ -21,10 +21,10 @@ make build
 for program in generate native; do
     rustc --edition 2021 -O -o "build/$program" "bench/$program.rs"
 done
-(cd crates/edit_bench && rt run -- order 1 1 </dev/null >/dev/null)
-cp crates/edit_bench/out/edit_bench build/edit_bench
-(cd crates/log_bench && rt run -- bytes </dev/null >/dev/null)
-cp crates/log_bench/out/log_bench build/log_bench
+(cd crates/bench_edits && rt run -- order 1 1 </dev/null >/dev/null)
+cp crates/bench_edits/out/bench_edits build/bench_edits
+(cd crates/bench_logs && rt run -- bytes </dev/null >/dev/null)
+cp crates/bench_logs/out/bench_logs build/bench_logs
 
 python3 bench/measure.py "$@"
 echo

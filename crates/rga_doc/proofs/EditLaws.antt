@@ -22,7 +22,7 @@ use Rattle.rga_ops.specs.declared.op.Op.TheVariants.{Insert, Delete}
 use Rattle.rga_ops.specs.declared.refusal.Refusal.TheVariants.{Full, Range, Clock}
 use Rattle.rga_ops.specs.declared.splice.Splice.{Splice}
 use Rattle.rga_ops.proofs.AnswerLaws.{passed, bad}
-use Rattle.rga_doc.specs.LocalEdit.{left_of, chain, splice_operations, splices_operations, text_after, are_falling, new_characters, greatest_counter, edit_answer, splice_answer, splices_answer, new_ids, put_row_behind}
+use Rattle.rga_doc.specs.LocalEdit.{left_of, chain, splice_operations, splices_operations, text_after, are_falling, new_characters, room_answer, place_answer, counter_answer, edit_answer, splice_answer, splices_answer, new_ids, put_row_behind, order_after}
 use Rattle.rga_doc.proofs.SplicedLists.{cut, length-cut, same_begin, get_at_drop, same_left, put_no_row, put_row_on}
 use Rattle.rga_doc.proofs.EditSteps.{Leads, leads_nowhere, leads_on, Shows, shows_itself, shows_on, shows_begin, shows_long, deletion_leads, deletion_shows, IsLeft, left_is, newer, insertion_leads, insertion_visible, insertion_shows, not_in_order}
 
@@ -133,18 +133,22 @@ splices_at c replica lo hi put up within =
 
 -- ---- what is true of an allowed edit
 
--- what is answered where there is room
-abbrev ranged : Content → Bool → ℕ → Verdict
-ranged c in_range new = cond (not in_range) (Err Range) (cond (nat_lt 0 new && nat_lt greatest_counter (clock_of c + new)) (Err Clock) (Ok tt))
+-- two checks that find nothing
+both_pass : (r q : Verdict) → and_check r q ≡ passed → (r ≡ passed) × (q ≡ passed)
+both_pass (Ok u) q h = (refl, h)
+both_pass (Err e) q h = let clash : bad e ≡ passed = h in absurd (cc)
 
 allowed : (limit : ℕ) (c : Content) (in_range : Bool) (new : ℕ) → edit_answer limit c in_range new ≡ Ok tt → (finite_set.len (known_ids c) + new ≤ limit) × (in_range ≡ true)
 allowed limit c in_range new h =
-    elim (nat_lt limit (finite_set.len (known_ids c) + new)) as (λ b. nat_lt limit (finite_set.len (known_ids c) + new) ≡ b → cond b (Err Full) (ranged c in_range new) ≡ passed → (finite_set.len (known_ids c) + new ≤ limit) × (in_range ≡ true)) [
-      | true ↦ λ t h. let clash : bad Full ≡ passed = h in absurd (cc)
-      | false ↦ λ f h. (ltb-false limit (finite_set.len (known_ids c) + new) f, in_it in_range h)
-    ] refl h
+    let first = both_pass (room_answer limit c new) (and_check (place_answer in_range) (counter_answer c new)) h in
+    let second = both_pass (place_answer in_range) (counter_answer c new) first.1 in
+    (room (nat_lt limit (finite_set.len (known_ids c) + new)) refl first.0, in_it in_range second.0)
   where
-    in_it : (b : Bool) → ranged c b new ≡ passed → b ≡ true
+    room : (b : Bool) → nat_lt limit (finite_set.len (known_ids c) + new) ≡ b → cond b (Err Full) (Ok (tt {0})) ≡ passed → finite_set.len (known_ids c) + new ≤ limit
+    room true t h = let clash : bad Full ≡ passed = h in absurd (cc)
+    room false f h = ltb-false limit (finite_set.len (known_ids c) + new) f
+
+    in_it : (b : Bool) → place_answer b ≡ passed → b ≡ true
     in_it true h = refl
     in_it false h = let clash : bad Range ≡ passed = h in absurd (cc)
 
@@ -174,7 +178,7 @@ splice_text limit replica lo hi c put h =
     let s = splicing limit replica lo hi c put h in
     ap text (sym s.0.leads.joined) ∙ s.0.shows.characters
 
-pub splice_order : (limit replica lo hi : ℕ) (c : Content) (put : List ℕ) → splice_answer limit c lo hi put ≡ Ok tt → order (join c (content_of (splice_operations replica c lo hi put))) ≡ put_row_behind (left_of (visible c) lo) (new_ids replica (clock_of c) put) (order c)
+pub splice_order : (limit replica lo hi : ℕ) (c : Content) (put : List ℕ) → splice_answer limit c lo hi put ≡ Ok tt → order (join c (content_of (splice_operations replica c lo hi put))) ≡ order_after replica c lo put
 splice_order limit replica lo hi c put h =
     let s = splicing limit replica lo hi c put h in
     ap order (sym s.0.leads.joined) ∙ s.0.stands

@@ -1,6 +1,6 @@
 //! The operations of an edit that is not taken yet.
-ghost use Rattle.std.specs.Prelude.{◌≡◌, ◌<◌, ◌≤◌, ◌+◌, ◌++◌, map, take, drop, length, OnOk, IfErr};
-ghost use Rattle.rga_doc.specs.LocalEdit.{chain, left_of, greatest_counter};
+ghost use Rattle.std.specs.Prelude.{◌≡◌, ◌<◌, ◌≤◌, ◌+◌, ◌++◌, map, length, OnOk, IfErr};
+ghost use Rattle.rga_doc.specs.LocalEdit.{chain, operations_at};
 
 use rga_ops::{Id, Op, Refusal};
 
@@ -15,7 +15,8 @@ pub(crate) struct Draft {
 }
 
 impl Draft {
-    /// The operations of a splice, by the visible elements of the text that its places are meant in.
+    /// The operations of a splice, by the visible elements of the text that its places are meant
+    /// in.
     pub(crate) fn splice(
         &mut self,
         elements: &[Id],
@@ -25,8 +26,9 @@ impl Draft {
     ) -> Result<(), Refusal>
         requires ordered { lo ≤ hi }
         requires in_text { hi ≤ length elements.now }
-        requires counters { 0 < length put.now → self.old.last + length put.now ≤ greatest_counter }
-        ensures ops { OnOk result (self.new.ops.items ≡ self.old.ops.items ++ (map Op.Delete (drop lo (take hi elements.now)) ++ chain self.old.replica self.old.last (left_of elements.now lo) put.now)) }
+        requires counters { 0 < length put.now → self.old.last + length put.now ≤ Id.MAX_COUNTER }
+        ensures ops { OnOk result (self.new.ops.items ≡ self.old.ops.items
+            ++ operations_at elements.now self.old.replica self.old.last lo hi put.now) }
         ensures last { OnOk result (self.new.last ≡ self.old.last + length put.now) }
         ensures replica { self.new.replica ≡ self.old.replica }
         ensures memory { IfErr result (λ e. e ≡ Refusal.Memory) }
@@ -38,23 +40,23 @@ impl Draft {
 
     /// A deletion of each element.
     fn delete(&mut self, elements: &[Id]) -> Result<(), Refusal>
-        ensures ops { OnOk result (self.new.ops.items ≡ self.old.ops.items ++ map Op.Delete elements.now) }
+        ensures ops { OnOk result
+            (self.new.ops.items ≡ self.old.ops.items ++ map Op.Delete elements.now) }
         ensures last { self.new.last ≡ self.old.last }
         ensures replica { self.new.replica ≡ self.old.replica }
         ensures memory { IfErr result (λ e. e ≡ Refusal.Memory) }
     {
         for id in elements {
-            if self.ops.push(Op::Delete { id: *id }).is_err() {
-                return Err(Refusal::Memory);
-            }
+            self.ops.push(Op::Delete { id: *id })?;
         }
         Ok(())
     }
 
     /// One new element for each character, the first after the given one.
     fn insert(&mut self, after: Id, put: &[char]) -> Result<(), Refusal>
-        requires { 0 < length put.now → self.old.last + length put.now ≤ greatest_counter }
-        ensures ops { OnOk result (self.new.ops.items ≡ self.old.ops.items ++ chain self.old.replica self.old.last after put.now) }
+        requires { 0 < length put.now → self.old.last + length put.now ≤ Id.MAX_COUNTER }
+        ensures ops { OnOk result (self.new.ops.items
+            ≡ self.old.ops.items ++ chain self.old.replica self.old.last after put.now) }
         ensures last { OnOk result (self.new.last ≡ self.old.last + length put.now) }
         ensures replica { self.new.replica ≡ self.old.replica }
         ensures memory { IfErr result (λ e. e ≡ Refusal.Memory) }
@@ -62,14 +64,11 @@ impl Draft {
         let mut parent = after;
         for ch in put {
             let id = Id::new(self.last + 1, self.replica)?;
-            let op = Op::Insert {
+            self.ops.push(Op::Insert {
                 id,
                 parent,
                 ch: *ch,
-            };
-            if self.ops.push(op).is_err() {
-                return Err(Refusal::Memory);
-            }
+            })?;
             self.last += 1;
             parent = id;
         }

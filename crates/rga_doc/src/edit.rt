@@ -1,13 +1,9 @@
 //! Edits by place.
-ghost use Rattle.std.specs.Prelude.{◌≡◌, ◌⊎◌, ◌+◌, ◌≤◌, ◌&&◌, true, nat_lt, min, [], if◌then◌else◌, length, Ok, Err, IfOk, IfErr, OnOk, OnErr};
-ghost use Rattle.std.specs.FinSet as finite_set;
-ghost use Rattle.rga_ops.specs.Content.{join, content_of, known_ids, clock_of};
-ghost use Rattle.rga_ops.specs.Order.{order, text as text_of};
-ghost use Rattle.rga_ops.specs.Places.{visible};
+ghost use Rattle.std.specs.Prelude.{◌≡◌, min, true, [], IfOk, OnOk, OnErr};
+ghost use Rattle.rga_ops.specs.Prelude.{clock_of, content_of, join, order, text, IsAnswer};
 ghost use Rattle.rga_ops.specs.Splice.{spliced};
 ghost use Rattle.rga_store.specs.Limit.{is_limit};
-ghost use Rattle.rga_doc.specs.Document.{store_of, replica_of};
-ghost use Rattle.rga_doc.specs.LocalEdit.{splice_operations, splices_operations, splice_answer, splices_answer, text_after, are_falling, new_characters, greatest_counter, left_of, new_ids, put_row_behind};
+ghost use Rattle.rga_doc.specs.LocalEdit.{splice_operations, splices_operations, splice_answer, splices_answer, room_answer, place_answer, counter_answer, text_after, order_after, are_falling, new_characters};
 
 use crate::doc::Doc;
 use crate::draft::Draft;
@@ -25,19 +21,21 @@ impl<S: TextStore> Doc<S> {
     /// `lo` is above `hi` or `hi` above the length of the text; `Clock` where there are new
     /// characters and not that many counters; `Memory`. A refusal changes nothing.
     pub fn splice(&mut self, lo: usize, hi: usize, put: &[char]) -> Result<Vec<Op>, Refusal>
-        ensures allowed { OnOk result (splice_answer (S.limit (store_of self.old)) (S.content (store_of self.old)) lo hi put.now ≡ Ok tt) }
-        ensures refused { IfErr result (λ e. (e ≡ Refusal.Memory)
-            ⊎ (splice_answer (S.limit (store_of self.old)) (S.content (store_of self.old)) lo hi put.now ≡ Err e)) }
+        ensures exact { IsAnswer result
+            (splice_answer self.old.limit self.old.content lo hi put.now) }
 
-        ensures operations { IfOk result (λ ops. ops.items ≡ splice_operations (replica_of self.old) (S.content (store_of self.old)) lo hi put.now) }
-        ensures content { IfOk result (λ ops. S.content (store_of self.new) ≡ join (S.content (store_of self.old)) (content_of ops.items)) }
-        ensures text { OnOk result (text_of (S.content (store_of self.new)) ≡ spliced (text_of (S.content (store_of self.old))) lo hi put.now) }
-        // The new elements stand in a row directly behind their left neighbour, whatever stood there.
-        ensures place { OnOk result (order (S.content (store_of self.new)) ≡ put_row_behind (left_of (visible (S.content (store_of self.old))) lo) (new_ids (replica_of self.old) (clock_of (S.content (store_of self.old))) put.now) (order (S.content (store_of self.old)))) }
+        ensures operations { IfOk result (λ ops. ops.items
+            ≡ splice_operations self.old.replica self.old.content lo hi put.now) }
+        ensures content { IfOk result (λ ops. self.new
+            ≡ record self.old { content = join self.old.content (content_of ops.items) }) }
+        ensures text { OnOk result
+            (text self.new.content ≡ spliced (text self.old.content) lo hi put.now) }
+        // The new elements stand in a row directly behind their left neighbour, whatever stood
+        // there.
+        ensures place { OnOk result
+            (order self.new.content ≡ order_after self.old.replica self.old.content lo put.now) }
 
-        ensures same { OnErr result (S.content (store_of self.new) ≡ S.content (store_of self.old)) }
-        ensures limit { S.limit (store_of self.new) ≡ S.limit (store_of self.old) }
-        ensures replica { replica_of self.new ≡ replica_of self.old }
+        ensures same { OnErr result (self.new ≡ self.old) }
     {
         self.check_room(put.len())?;
         let elements = visible_elements(&self.store)?;
@@ -58,17 +56,17 @@ impl<S: TextStore> Doc<S> {
     /// Refusals, in this order, for all splices together: `Full`, `Range` (of a place, or of two
     /// that do not fall), `Clock`, `Memory`. A refusal changes nothing.
     pub fn splices(&mut self, splices: &[Splice]) -> Result<Vec<Op>, Refusal>
-        ensures allowed { OnOk result (splices_answer (S.limit (store_of self.old)) (S.content (store_of self.old)) splices.now ≡ Ok tt) }
-        ensures refused { IfErr result (λ e. (e ≡ Refusal.Memory)
-            ⊎ (splices_answer (S.limit (store_of self.old)) (S.content (store_of self.old)) splices.now ≡ Err e)) }
+        ensures exact { IsAnswer result
+            (splices_answer self.old.limit self.old.content splices.now) }
 
-        ensures operations { IfOk result (λ ops. ops.items ≡ splices_operations (replica_of self.old) (S.content (store_of self.old)) splices.now) }
-        ensures content { IfOk result (λ ops. S.content (store_of self.new) ≡ join (S.content (store_of self.old)) (content_of ops.items)) }
-        ensures text { OnOk result (text_of (S.content (store_of self.new)) ≡ text_after (text_of (S.content (store_of self.old))) splices.now) }
+        ensures operations { IfOk result (λ ops. ops.items
+            ≡ splices_operations self.old.replica self.old.content splices.now) }
+        ensures content { IfOk result (λ ops. self.new
+            ≡ record self.old { content = join self.old.content (content_of ops.items) }) }
+        ensures text { OnOk result
+            (text self.new.content ≡ text_after (text self.old.content) splices.now) }
 
-        ensures same { OnErr result (S.content (store_of self.new) ≡ S.content (store_of self.old)) }
-        ensures limit { S.limit (store_of self.new) ≡ S.limit (store_of self.old) }
-        ensures replica { replica_of self.new ≡ replica_of self.old }
+        ensures same { OnErr result (self.new ≡ self.old) }
     {
         let new = count_characters(splices);
         self.check_room(new)?;
@@ -83,11 +81,11 @@ impl<S: TextStore> Doc<S> {
         Ok(draft.ops)
     }
 
-    /// `Full` unless the limit leaves room for so many more. The store says with its limit that this
-    /// is in range.
+    /// `Full` unless the limit leaves room for so many more. The store says with its limit that
+    /// this is in range.
     fn check_room(&self, new: usize) -> Result<(), Refusal>
-        ensures answer { result ≡ (if nat_lt (S.limit (store_of self.now)) (finite_set.len (known_ids (S.content (store_of self.now))) + new) then Err Refusal.Full else Ok tt) }
-        ensures limited { is_limit (S.limit (store_of self.now)) ≡ true }
+        ensures answer { result ≡ room_answer self.now.limit self.now.content new }
+        ensures limited { is_limit self.now.limit ≡ true }
     {
         if new > self.store.limit() - self.store.known() {
             return Err(Refusal::Full);
@@ -97,7 +95,7 @@ impl<S: TextStore> Doc<S> {
 
     /// `Clock` where there are new characters and not that many counters above the clock.
     fn check_counters(&self, new: usize) -> Result<(), Refusal>
-        ensures { result ≡ (if nat_lt 0 new && nat_lt greatest_counter (clock_of (S.content (store_of self.now)) + new) then Err Refusal.Clock else Ok tt) }
+        ensures { result ≡ counter_answer self.now.content new }
     {
         if new as u64 > Id::MAX_COUNTER.saturating_sub(self.store.clock()) {
             return Err(Refusal::Clock);
@@ -108,8 +106,8 @@ impl<S: TextStore> Doc<S> {
     /// An edit with no operations yet.
     fn draft(&self) -> Draft
         ensures ops { result.ops.items ≡ [] }
-        ensures replica { result.replica ≡ replica_of self.now }
-        ensures last { result.last ≡ clock_of (S.content (store_of self.now)) }
+        ensures replica { result.replica ≡ self.now.replica }
+        ensures last { result.last ≡ clock_of self.now.content }
     {
         Draft {
             ops: Vec::new(self.alloc),
@@ -121,7 +119,7 @@ impl<S: TextStore> Doc<S> {
 
 /// How many characters the splices put; at most the greatest number.
 fn count_characters(splices: &[Splice]) -> usize
-    ensures { result ≡ min (new_characters splices.now) 18446744073709551615 }
+    ensures { result ≡ min (new_characters splices.now) usize.MAX }
 {
     let mut count: usize = 0;
     for splice in splices {
@@ -133,7 +131,7 @@ fn count_characters(splices: &[Splice]) -> usize
 /// `Range` unless each splice ends at or before the begin of the one before it, the first within
 /// the text.
 fn check_falling(length: usize, splices: &[Splice]) -> Result<(), Refusal>
-    ensures { result ≡ (if are_falling length splices.now then Ok tt else Err Refusal.Range) }
+    ensures { result ≡ place_answer (are_falling length splices.now) }
 {
     let mut bound = length;
     for splice in splices {

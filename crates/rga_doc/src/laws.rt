@@ -1,43 +1,49 @@
 //! Theorems about local edits.
 //!
 //! Each function does nothing: its contract is a theorem that the check proves.
-ghost use Rattle.std.specs.Prelude.{◌≡◌, ◌≤◌, true, ℕ, List, length, Ok};
+ghost use Rattle.std.specs.Prelude.{◌≡◌, true, ℕ, List, Ok};
 ghost use Rattle.std.specs.FinMap as finite_map;
-ghost use Rattle.std.specs.FinSet as finite_set;
-ghost use Rattle.rga_ops.specs.Identifier.{Identifier};
-ghost use Rattle.rga_ops.specs.Content.{Content, clock_of, join, content_of};
-ghost use Rattle.rga_ops.specs.ListAnswer.{list_answer};
-ghost use Rattle.rga_ops.specs.Order.{order, text};
-ghost use Rattle.rga_ops.specs.Places.{visible};
+ghost use Rattle.rga_ops.specs.Prelude.{Content, Identifier, content_of, join, list_answer, order, text};
 ghost use Rattle.rga_ops.specs.Splice.{spliced};
 ghost use Rattle.rga_ops.specs.declared.op.Op.TheVariants.{Delete};
 ghost use Rattle.rga_ops.specs.declared.splice.Splice.{Splice};
-ghost use Rattle.rga_doc.specs.declared.doc.Doc.{Doc as Document};
-ghost use Rattle.rga_doc.specs.LocalEdit.{splice_operations, splices_operations, splice_answer, splices_answer, text_after, left_of, new_ids, put_row_behind};
+ghost use Rattle.rga_doc.specs.Document.{Document};
+ghost use Rattle.rga_doc.specs.LocalEdit.{splice_operations, splices_operations, splice_answer, splices_answer, text_after, order_after};
 
+use crate::doc::Doc;
 use rga_store::{Taker, TextStore};
 
 /// The operations of a splice that is allowed are taken whole by a store of the same limit. They
 /// make the text the splice of the old text, and the new elements stand in a row directly behind
 /// their left neighbour, whatever stood there: their counters are above every other.
 pub fn a_splice_changes_the_text_at_its_place()
-    ensures taken { (limit replica lo hi : ℕ) (c : Content) (put : List ℕ) → splice_answer limit c lo hi put ≡ Ok tt →
+    ensures taken { (limit replica lo hi : ℕ) (c : Content) (put : List ℕ) →
+        splice_answer limit c lo hi put ≡ Ok tt →
         list_answer limit c (splice_operations replica c lo hi put) ≡ Ok tt }
-    ensures text { (limit replica lo hi : ℕ) (c : Content) (put : List ℕ) → splice_answer limit c lo hi put ≡ Ok tt →
-        text (join c (content_of (splice_operations replica c lo hi put))) ≡ spliced (text c) lo hi put }
-    ensures order { (limit replica lo hi : ℕ) (c : Content) (put : List ℕ) → splice_answer limit c lo hi put ≡ Ok tt →
-        order (join c (content_of (splice_operations replica c lo hi put))) ≡ put_row_behind (left_of (visible c) lo) (new_ids replica (clock_of c) put) (order c) }
+    ensures text { (limit replica lo hi : ℕ) (c : Content) (put : List ℕ) →
+        splice_answer limit c lo hi put ≡ Ok tt →
+        let ops = splice_operations replica c lo hi put in
+        text (join c (content_of ops)) ≡ spliced (text c) lo hi put }
+    ensures order { (limit replica lo hi : ℕ) (c : Content) (put : List ℕ) →
+        splice_answer limit c lo hi put ≡ Ok tt →
+        let ops = splice_operations replica c lo hi put in
+        order (join c (content_of ops)) ≡ order_after replica c lo put }
 {}
 
 /// The same for several splices in turn.
 pub fn splices_change_the_text_in_turn()
-    ensures taken { (limit replica : ℕ) (c : Content) (splices : List Splice) → splices_answer limit c splices ≡ Ok tt →
+    ensures taken { (limit replica : ℕ) (c : Content) (splices : List Splice) →
+        splices_answer limit c splices ≡ Ok tt →
         list_answer limit c (splices_operations replica c splices) ≡ Ok tt }
-    ensures text { (limit replica : ℕ) (c : Content) (splices : List Splice) → splices_answer limit c splices ≡ Ok tt →
-        text (join c (content_of (splices_operations replica c splices))) ≡ text_after (text c) splices }
+    ensures text { (limit replica : ℕ) (c : Content) (splices : List Splice) →
+        splices_answer limit c splices ≡ Ok tt →
+        let ops = splices_operations replica c splices in
+        text (join c (content_of ops)) ≡ text_after (text c) splices }
 {}
 
 /// The deletion of an inserted element takes no memory at a document over any store either.
 pub fn deletions_of_elements_take_no_memory<S: TextStore>()
-    ensures { (d : Document S) (id : Identifier) → finite_map.contains_key (S.content d.store).inserted id ≡ true → ¬ (S.may_grow d.store (Delete id)) }
+    ensures { (d : Document) (id : Identifier) →
+        finite_map.contains_key d.content.inserted id ≡ true →
+        ¬ (⟦<Doc<S> as Taker>⟧.may_grow d (Delete id)) }
 {}

@@ -9,7 +9,6 @@
 #![tactic(auto)]
 
 mod anchor;
-mod content;
 mod doc;
 mod draft;
 mod edit;

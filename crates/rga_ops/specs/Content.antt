@@ -1,5 +1,6 @@
 -- What a replica holds: insertions and deletions, as a set. Where contents are equal they are one value.
-use Rattle.std.specs.Prelude.{◌≡◌, ◌≢◌, ◌≤◌, ℕ, true, List, [], ◌∷◌, ◌++◌, map, Some, Ok, Contains, max, ◌↔◌, refl}
+use Rattle.std.specs.Prelude.{◌≡◌, ◌≢◌, ◌≤◌, ℕ, true, List, [], ◌∷◌, ◌++◌, map, Option, Some, Ok, Contains, max, ◌↔◌, refl}
+use Rattle.std.specs.Option.{option_map}
 use Rattle.std.specs.Coded.{Coded, code_by, coded×, coded_ℕ}
 use Rattle.std.specs.FinMap as finite_map
 use Rattle.std.specs.FinSet as finite_set
@@ -33,9 +34,17 @@ content_code =
 abbrev pub nothing : Content
 nothing = record { inserted = finite_map.empty; deleted = finite_set.empty }
 
+-- the parent and the character of an identifier, if it is inserted
+abbrev pub element_at : Content → Identifier → Option (Identifier × ℕ)
+element_at c id = option_map (λ x. (x.parent, x.ch)) (finite_map.get c.inserted id)
+
 -- the identifiers that are inserted, deleted or both
 abbrev pub known_ids : Content → FinSet id_cmp
 known_ids c = finite_set.union (finite_set.from_list (finite_map.keys c.inserted)) c.deleted
+
+-- how many they are
+abbrev pub known_count : Content → ℕ
+known_count c = finite_set.len (known_ids c)
 
 -- the operation is in the content
 abbrev pub Holds : Content → Op → Type 0

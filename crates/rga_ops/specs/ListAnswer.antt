@@ -1,5 +1,5 @@
 -- What a store answers to a list of operations that it takes whole or not at all, and to the content of another store.
-use Rattle.std.specs.Prelude.{◌≡◌, ◌≢◌, ℕ, nat_le, Bool, not, false, List, [], ◌∷◌, ◌++◌, find, Contains, Option, Some, None, Result, Ok, Err, if◌then◌else◌}
+use Rattle.std.specs.Prelude.{◌≡◌, ◌≢◌, ◌⊎◌, ℕ, nat_le, Bool, not, false, List, [], ◌∷◌, ◌++◌, find, Contains, Option, Some, None, Result, Ok, Err, MatchResult, if◌then◌else◌}
 use Rattle.std.specs.Option.{option_map_or}
 use Rattle.std.specs.FinMap as finite_map
 use Rattle.std.specs.FinSet as finite_set
@@ -10,11 +10,16 @@ use Rattle.rga_ops.specs.Answer.{is_element}
 use Rattle.rga_ops.specs.declared.op.Op.{Op}
 use Rattle.rga_ops.specs.declared.op.Op.TheVariants.{Insert, Delete}
 use Rattle.rga_ops.specs.declared.refusal.Refusal.{Refusal}
-use Rattle.rga_ops.specs.declared.refusal.Refusal.TheVariants.{Conflict, Full}
+use Rattle.rga_ops.specs.declared.refusal.Refusal.TheVariants.{Conflict, Full, Memory}
 
 abbrev pub Verdict : Type 0
 Verdict = Result (Unit {0}) Refusal
 
+-- the result is as the verdict says, want of memory aside
+abbrev pub IsAnswer : {A : Type 0} → Result A Refusal → Verdict → Type 0
+IsAnswer r verdict = MatchResult r (λ _. verdict ≡ Ok tt) (λ e. (e ≡ Memory) ⊎ (verdict ≡ Err e))
+
+-- the second check is made where the first finds nothing
 abbrev pub and_check : Verdict → Verdict → Verdict
 and_check (Ok u) r = r
 and_check (Err e) r = Err e

@@ -27,7 +27,8 @@ impl Model for Id {
 
     ghost view = { λ a. record { counter = a.counter; replica = a.replica } };
 
-    ghost invariant = { λ a. IsTrue (is_root (identifier a.counter a.replica) || is_in_range a.counter a.replica) };
+    ghost invariant = { λ a. IsTrue (is_root (identifier a.counter a.replica)
+        || is_in_range a.counter a.replica) };
 
     ghost inverse = { λ d. record { counter = d.counter; replica = d.replica } };
 }
@@ -44,7 +45,8 @@ impl Id {
 
     /// The identifier of an element. `BadId` outside the ranges, at (0, 0) too.
     pub fn new(counter: u64, replica: u16) -> Result<Id, Refusal>
-        ensures { result ≡ (if is_in_range counter replica then Ok (identifier counter replica) else Err Refusal.BadId) }
+        ensures { result ≡ (if is_in_range counter replica
+            then Ok (identifier counter replica) else Err Refusal.BadId) }
     {
         if counter >= 1 && counter <= Id::MAX_COUNTER && replica >= 1 {
             Ok(Id { counter, replica })

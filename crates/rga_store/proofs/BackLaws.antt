@@ -15,10 +15,10 @@ use Rattle.rga_ops.proofs.TakenLaws.{taken_is}
 use Rattle.rga_ops.specs.declared.op.Op.{Op}
 use Rattle.rga_ops.specs.declared.op.Op.TheVariants.{Insert, Delete}
 use Rattle.rga_ops.specs.declared.refusal.Taken.TheVariants.{New}
-use Rattle.rga_store.specs.declared.tree_store.taking_back.Step.{Step}
+use Rattle.rga_store.specs.declared.tree_store.whole_list.Step.{Step}
 use Rattle.rga_store.specs.Back.{without_insertion, without_deletion, without, gone_back, CanGoBack, IsLastStep}
-use Rattle.rga_store.specs.Children.{HasChild, IsRising}
-use Rattle.rga_store.specs.Nodes.{Nodes, AreApart, content_of_nodes, kids}
+use Rattle.rga_store.specs.Children.{has_child, IsRising}
+use Rattle.rga_store.specs.Nodes.{Nodes, AreApart, content_of_nodes, children_of}
 use Rattle.rga_store.specs.Tree.{is_child, IsFamily, IsCounted, IsTree}
 use Rattle.rga_ops.proofs.ListSteps.{get-insertion, get-deletion}
 use Rattle.rga_store.proofs.StepLaws.{deleted_then, deleted_now, more_known, more_inserted, sound_within, IsChild, child_found, family_same}
@@ -172,14 +172,14 @@ child_left c id parent p k its =
 module _ (ns ms : Nodes) (latest insertions identifiers limit : ℕ) (w : IsTree ns latest insertions identifiers limit) (apart : AreApart ms) where
   pub tree_without_insertion : (id parent : Identifier) (sooner less : ℕ) → is_child (content_of_nodes ns) parent id ≡ true
       → content_of_nodes ms ≡ without_insertion id (content_of_nodes ns)
-      → ((p k : Identifier) → HasChild (kids ms p) k ≡ (HasChild (kids ns p) k && not (is_id parent p && is_id id k))) → ((p : Identifier) → IsRising (kids ms p))
+      → ((p k : Identifier) → has_child (children_of ms p) k ≡ (has_child (children_of ns p) k && not (is_id parent p && is_id id k))) → ((p : Identifier) → IsRising (children_of ms p))
       → sooner ≡ clock_of (without_insertion id (content_of_nodes ns)) → less ≡ cond (finite_set.contains (content_of_nodes ns).deleted id) identifiers (identifiers - 1) → IsTree ms sooner (insertions - 1) less limit
   tree_without_insertion id parent sooner less its left children rising is_sooner is_less =
       let c : Content = content_of_nodes ns in
       let found : IsChild c parent id = child_found c parent id its in
       record {
         apart = apart;
-        family = subst (λ d. IsFamily d (kids ms)) (sym left) (record {
+        family = subst (λ d. IsFamily d (children_of ms)) (sym left) (record {
           children = λ p k. children p k ∙ ap (λ b. b && not (is_id parent p && is_id id k)) (w.family.children p k) ∙ sym (child_left c id parent p k its);
           rising = rising;
         });
@@ -191,14 +191,14 @@ module _ (ns ms : Nodes) (latest insertions identifiers limit : ℕ) (w : IsTree
       }
 
   pub tree_without_deletion : (id : Identifier) (sooner less : ℕ) → finite_set.contains (content_of_nodes ns).deleted id ≡ true
-      → content_of_nodes ms ≡ without_deletion id (content_of_nodes ns) → ((p : Identifier) → kids ms p ≡ kids ns p)
+      → content_of_nodes ms ≡ without_deletion id (content_of_nodes ns) → ((p : Identifier) → children_of ms p ≡ children_of ns p)
       → sooner ≡ clock_of (without_deletion id (content_of_nodes ns)) → less ≡ cond (finite_map.contains_key (content_of_nodes ns).inserted id) identifiers (identifiers - 1) → IsTree ms sooner insertions less limit
   tree_without_deletion id sooner less its left lists is_sooner is_less =
       let c : Content = content_of_nodes ns in
-      let same : IsFamily c (kids ms) = family_same c (kids ns) (kids ms) w.family lists in
+      let same : IsFamily c (children_of ms) = family_same c (children_of ns) (children_of ms) w.family lists in
       record {
         apart = apart;
-        family = subst (λ d. IsFamily d (kids ms)) (sym left) (record { children = same.children; rising = same.rising });
+        family = subst (λ d. IsFamily d (children_of ms)) (sym left) (record { children = same.children; rising = same.rising });
         counted =
             subst (λ d. IsCounted d sooner insertions less limit) (sym left)
             (subst (λ n. IsCounted (without_deletion id c) n insertions less limit) (sym is_sooner)

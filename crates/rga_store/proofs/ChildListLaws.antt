@@ -11,17 +11,17 @@ use Rattle.rga_ops.proofs.IdentifierLaws.{ids_total, ids_exact, is, is_itself, i
 use Rattle.std.specs.List.Retain.{RetainsInTurn}
 use Rattle.std.proofs.Math.Bool.{or_assoc, or_comm}
 use Rattle.std.proofs.lemmas.Map.Views.{any-filter_same}
-use Rattle.rga_store.specs.Children.{HasChild, IsRising, others_than}
+use Rattle.rga_store.specs.Children.{has_child, IsRising, others_than}
 
 -- a child is there as a member is
-pub has-any : (ks : List Identifier) (q : Identifier) → HasChild ks q ≡ list_any (is q) ks
+pub has-any : (ks : List Identifier) (q : Identifier) → has_child ks q ≡ list_any (is q) ks
 has-any ks q = ap (λ (p : Identifier → Bool). list_any p ks) (λ k x. is_id-same x q k)
 
-pub has-insert : (id k : Identifier) (xs : List Identifier) (i : ℕ) → HasChild (insert xs i id) k ≡ (HasChild xs k || is_id id k)
+pub has-insert : (id k : Identifier) (xs : List Identifier) (i : ℕ) → has_child (insert xs i id) k ≡ (has_child xs k || is_id id k)
 has-insert id k [] zero = or_comm (is_id id k) false
 has-insert id k [] (suc i) = or_comm (is_id id k) false
-has-insert id k (x ∷ xs) zero = or_comm (is_id id k) (HasChild (x ∷ xs) k)
-has-insert id k (x ∷ xs) (suc i) = ap (λ b. is_id x k || b) (has-insert id k xs i) ∙ sym (or_assoc (is_id x k) (HasChild xs k) (is_id id k))
+has-insert id k (x ∷ xs) zero = or_comm (is_id id k) (has_child (x ∷ xs) k)
+has-insert id k (x ∷ xs) (suc i) = ap (λ b. is_id x k || b) (has-insert id k xs i) ∙ sym (or_assoc (is_id x k) (has_child xs k) (is_id id k))
 
 all-insert : (P : Identifier → Type 0) (xs : List Identifier) (i : ℕ) (id : Identifier) → P id → AllByRecursion P xs → AllByRecursion P (insert xs i id)
 all-insert P [] zero id p h = (p, tt)
@@ -74,17 +74,17 @@ rising-compares id (x ∷ xs) up zero (suc j) d a b = later id x (slice_index_or
 rising-compares id (x ∷ xs) up (suc i) zero d a b = absurd (omega arith)
 rising-compares id (x ∷ xs) up (suc i) (suc j) d a b = rising-compares id xs up.1 i j d (omega arith) (omega arith)
 
-pub found_has : (id : Identifier) (xs : List Identifier) (i : ℕ) (d : Identifier) → i < length xs → id_cmp (slice_index_or xs i d) id ≡ Equal → HasChild xs id ≡ true
+pub found_has : (id : Identifier) (xs : List Identifier) (i : ℕ) (d : Identifier) → i < length xs → id_cmp (slice_index_or xs i d) id ≡ Equal → has_child xs id ≡ true
 found_has id [] i d l e = absurd (omega arith)
-found_has id (x ∷ xs) zero d l e = ap (λ b. b || HasChild xs id) (is_id-same x id ∙ ap (eq_by_cmp id_cmp id) (ids_exact x id e) ∙ is_itself id)
+found_has id (x ∷ xs) zero d l e = ap (λ b. b || has_child xs id) (is_id-same x id ∙ ap (eq_by_cmp id_cmp id) (ids_exact x id e) ∙ is_itself id)
 found_has id (x ∷ xs) (suc i) d l e = ap (λ b. is_id x id || b) (found_has id xs i d (omega arith) e) ∙ or_comm (is_id x id) true
 
 -- ---- a child that leaves
 
-pub has-others : (id k : Identifier) (xs : List Identifier) → HasChild (others_than id xs) k ≡ (HasChild xs k && not (is_id id k))
+pub has-others : (id k : Identifier) (xs : List Identifier) → has_child (others_than id xs) k ≡ (has_child xs k && not (is_id id k))
 has-others id k xs =
     any-filter_same (λ x. is_id x k) (λ x. not (is_id x id)) (not (is_id id k)) (λ x t. ap not (ap (λ y. is_id y id) (is_id-is x k t) ∙ is_id-same k id ∙ is_swap id k ∙ sym (is_id-same id k ∙ is_swap k id ∙ is_swap id k))) xs
-    ∙ and_swap (not (is_id id k)) (HasChild xs k)
+    ∙ and_swap (not (is_id id k)) (has_child xs k)
   where
     and_swap : (a b : Bool) → (a && b) ≡ (b && a)
     and_swap true true = refl

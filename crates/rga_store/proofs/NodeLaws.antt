@@ -22,7 +22,7 @@ use Rattle.rga_ops.proofs.ListSteps.{get-insertion, get-deletion}
 use Rattle.rga_store.proofs.StepLaws.{deleted_then, deleted_now}
 use Rattle.rga_store.proofs.ChildLaws.{true_where}
 use Rattle.rga_store.specs.declared.nodes.Node.{Node}
-use Rattle.rga_store.specs.Nodes.{Nodes, element_in, insertion_in, ids_where, marked_ids, content_of_nodes, kids, char_at, AreApart, StandsAt}
+use Rattle.rga_store.specs.Nodes.{Nodes, element_in, insertion_in, ids_where, marked_ids, content_of_nodes, children_at, children_of, char_at, AreApart, StandsAt}
 use Rattle.rga_store.specs.Children.{children_in}
 use Rattle.rga_store.specs.Back.{without_insertion, without_deletion}
 
@@ -209,9 +209,6 @@ put_back (n ∷ ns) id v w h =
 
 -- ---- what writes do to the content and to the children
 
-abbrev pub children_of : Option Node → List Identifier
-children_of o = option_map_or (λ v. children_in v.children) o []
-
 module _ (ns ms : Nodes) (id : Identifier) (old : Option Node) (new : Node) (apart : AreApart ns) (apart_now : AreApart ms) (put : IsPut ns ms id old new) where
   -- neither the element nor the mark changes
   pub content_kept : element_of (Some new) ≡ element_of old → mark_of (Some new) ≡ mark_of old → content_of_nodes ms ≡ content_of_nodes ns
@@ -219,14 +216,14 @@ module _ (ns ms : Nodes) (id : Identifier) (old : Option Node) (new : Node) (apa
       (λ q. inserted_at ms apart_now q ∙ seen_same element_of ns ms id old new put element q ∙ sym (inserted_at ns apart q))
       (λ q. deleted_at ms apart_now q ∙ seen_same mark_of ns ms id old new put mark q ∙ sym (deleted_at ns apart q))
 
-  pub kids_kept : children_of (Some new) ≡ children_of old → (p : Identifier) → kids ms p ≡ kids ns p
-  kids_kept children p = seen_same children_of ns ms id old new put children p
+  pub children_kept : children_at (Some new) ≡ children_at old → (p : Identifier) → children_of ms p ≡ children_of ns p
+  children_kept children p = seen_same children_at ns ms id old new put children p
 
-  pub kids_put : kids ms id ≡ children_in new.children
-  kids_put = ap children_of (put.now id ∙ ap (λ b. cond b (Some new) (lookup (is_id id) ns)) (is_id-itself id))
+  pub children_put : children_of ms id ≡ children_in new.children
+  children_put = ap children_at (put.now id ∙ ap (λ b. cond b (Some new) (lookup (is_id id) ns)) (is_id-itself id))
 
-  pub kids_else : (p : Identifier) → is_id id p ≡ false → kids ms p ≡ kids ns p
-  kids_else p t = ap children_of (put.now p ∙ ap (λ b. cond b (Some new) (lookup (is_id p) ns)) t)
+  pub children_else : (p : Identifier) → is_id id p ≡ false → children_of ms p ≡ children_of ns p
+  children_else p t = ap children_at (put.now p ∙ ap (λ b. cond b (Some new) (lookup (is_id p) ns)) t)
 
   -- an element comes
   pub content_inserted : (parent : Identifier) (ch : ℕ) → element_of (Some new) ≡ Some (element parent ch) → mark_of (Some new) ≡ mark_of old → finite_map.get (content_of_nodes ns).inserted id ≡ None → content_of_nodes ms ≡ join (content_of_nodes ns) (single (Insert id parent ch))

@@ -25,7 +25,7 @@ use Rattle.rga_ops.proofs.WaitingLaws.{distinct_inserted}
 use Rattle.rga_ops.specs.declared.op.Op.{Op}
 use Rattle.rga_ops.specs.declared.op.Op.TheVariants.{Insert, Delete}
 use Rattle.rga_ops.specs.declared.refusal.Taken.TheVariants.{New}
-use Rattle.rga_store.specs.Children.{HasChild, IsRising}
+use Rattle.rga_store.specs.Children.{has_child, IsRising}
 use Rattle.rga_store.specs.Tree.{is_child, IsFamily, IsCounted}
 
 -- ---- what is well-formed
@@ -138,7 +138,7 @@ child_now c id parent ch p k none =
 
 -- one child more
 pub family_insertion : (c : Content) (id parent : Identifier) (ch : ℕ) (old new : Identifier → List Identifier) → finite_map.get c.inserted id ≡ None → IsFamily c old
-    → ((p k : Identifier) → HasChild (new p) k ≡ (HasChild (old p) k || (is_id parent p && is_id id k))) → ((p : Identifier) → IsRising (new p)) → IsFamily (join c (single (Insert id parent ch))) new
+    → ((p k : Identifier) → has_child (new p) k ≡ (has_child (old p) k || (is_id parent p && is_id id k))) → ((p : Identifier) → IsRising (new p)) → IsFamily (join c (single (Insert id parent ch))) new
 family_insertion c id parent ch old new none w h up = record {
   children = λ p k. h p k ∙ ap (λ b. b || (is_id parent p && is_id id k)) (w.children p k) ∙ sym (child_now c id parent ch p k none);
   rising = up;
@@ -153,6 +153,6 @@ family_deletion c id lists w = record {
 
 pub family_same : (c : Content) (old new : Identifier → List Identifier) → IsFamily c old → ((p : Identifier) → new p ≡ old p) → IsFamily c new
 family_same c old new w h = record {
-  children = λ p k. ap (λ ks. HasChild ks k) (h p) ∙ w.children p k;
+  children = λ p k. ap (λ ks. has_child ks k) (h p) ∙ w.children p k;
   rising = λ p. subst (λ ks. IsRising ks) (sym (h p)) (w.rising p);
 }

@@ -20,8 +20,8 @@ use Rattle.rga_ops.specs.declared.op.Op.{Op}
 use Rattle.rga_ops.specs.declared.op.Op.TheVariants.{Insert, Delete}
 use Rattle.rga_ops.specs.declared.refusal.Taken.TheVariants.{New}
 use Rattle.rga_store.specs.Limit.{is_limit}
-use Rattle.rga_store.specs.Children.{HasChild, IsRising}
-use Rattle.rga_store.specs.Nodes.{Nodes, AreApart, content_of_nodes, kids}
+use Rattle.rga_store.specs.Children.{has_child, IsRising}
+use Rattle.rga_store.specs.Nodes.{Nodes, AreApart, content_of_nodes, children_of}
 use Rattle.rga_store.specs.Tree.{IsFamily, IsCounted, IsTree}
 use Rattle.rga_store.proofs.NodeLaws.{inserted_at, deleted_at}
 use Rattle.rga_store.proofs.StepLaws.{inserted_within, counted_insertion, counted_deletion, family_insertion, family_deletion, family_same}
@@ -36,13 +36,13 @@ few_inserted c latest insertions identifiers limit w = omega (arith, w.inserted,
 module _ (ns ms : Nodes) (latest insertions identifiers limit : ℕ) (w : IsTree ns latest insertions identifiers limit) (apart : AreApart ms) where
   pub tree_insertion : (id parent : Identifier) (ch later more : ℕ) → answer limit (content_of_nodes ns) (Insert id parent ch) ≡ Ok New
       → content_of_nodes ms ≡ join (content_of_nodes ns) (single (Insert id parent ch))
-      → ((p k : Identifier) → HasChild (kids ms p) k ≡ (HasChild (kids ns p) k || (is_id parent p && is_id id k))) → ((p : Identifier) → IsRising (kids ms p))
+      → ((p k : Identifier) → has_child (children_of ms p) k ≡ (has_child (children_of ns p) k || (is_id parent p && is_id id k))) → ((p : Identifier) → IsRising (children_of ms p))
       → later ≡ max latest id.counter → more ≡ cond (finite_set.contains (content_of_nodes ns).deleted id) identifiers (identifiers + 1) → IsTree ms later (insertions + 1) more limit
   tree_insertion id parent ch later more answered joined children rising is_later is_more =
       let new : IsNewInsertion limit (content_of_nodes ns) id parent = new_insertion limit (content_of_nodes ns) id parent ch answered in
       record {
         apart = apart;
-        family = subst (λ c. IsFamily c (kids ms)) (sym joined) (family_insertion (content_of_nodes ns) id parent ch (kids ns) (kids ms) new.absent w.family children rising);
+        family = subst (λ c. IsFamily c (children_of ms)) (sym joined) (family_insertion (content_of_nodes ns) id parent ch (children_of ns) (children_of ms) new.absent w.family children rising);
         counted =
             subst (λ c. IsCounted c later (insertions + 1) more limit) (sym joined)
             (subst (λ n. IsCounted (join (content_of_nodes ns) (single (Insert id parent ch))) n (insertions + 1) more limit) (sym is_later)
@@ -51,11 +51,11 @@ module _ (ns ms : Nodes) (latest insertions identifiers limit : ℕ) (w : IsTree
       }
 
   pub tree_deletion : (id : Identifier) (later more : ℕ) → answer limit (content_of_nodes ns) (Delete id) ≡ Ok New
-      → content_of_nodes ms ≡ join (content_of_nodes ns) (single (Delete id)) → ((p : Identifier) → kids ms p ≡ kids ns p)
+      → content_of_nodes ms ≡ join (content_of_nodes ns) (single (Delete id)) → ((p : Identifier) → children_of ms p ≡ children_of ns p)
       → later ≡ max latest id.counter → more ≡ cond (finite_map.contains_key (content_of_nodes ns).inserted id) identifiers (identifiers + 1) → IsTree ms later insertions more limit
   tree_deletion id later more answered joined lists is_later is_more = record {
     apart = apart;
-    family = subst (λ c. IsFamily c (kids ms)) (sym joined) (family_deletion (content_of_nodes ns) id (kids ms) (family_same (content_of_nodes ns) (kids ns) (kids ms) w.family lists));
+    family = subst (λ c. IsFamily c (children_of ms)) (sym joined) (family_deletion (content_of_nodes ns) id (children_of ms) (family_same (content_of_nodes ns) (children_of ns) (children_of ms) w.family lists));
     counted =
         subst (λ c. IsCounted c later insertions more limit) (sym joined)
         (subst (λ n. IsCounted (join (content_of_nodes ns) (single (Delete id))) n insertions more limit) (sym is_later)
@@ -84,7 +84,7 @@ no_clock = zero_only (clock_of nothing) (clock_within nothing 0 (record {
     zero_only : (n : ℕ) → n ≤ 0 → 0 ≡ n
     zero_only n h = omega arith
 
-no_family : IsFamily nothing (kids [])
+no_family : IsFamily nothing (children_of [])
 unfolding IsStrictlySortedBy
 no_family = record {
   children = λ p k. sym (ap (λ (o : Option Element). option_map_or (λ x. is_id x.parent p) o false) (finite_map.get-empty id_cmp k));
@@ -95,7 +95,7 @@ pub empty_tree : (limit : ℕ) → is_limit limit ≡ true → IsTree [] 0 0 0 l
 unfolding IsDistinct
 empty_tree limit h = record {
   apart = tt;
-  family = subst (λ c. IsFamily c (kids [])) (sym nothing_meant) no_family;
+  family = subst (λ c. IsFamily c (children_of [])) (sym nothing_meant) no_family;
   counted = subst (λ c. IsCounted c 0 0 0 limit) (sym nothing_meant) (record {
     sound = nothing_held;
     clocked = no_clock;

@@ -6,7 +6,7 @@ use Rattle.rga_ops.specs.Identifier.{Identifier}
 use Rattle.rga_ops.specs.Content.{Content, Holds, clock_of}
 use Rattle.rga_ops.specs.declared.op.Op.{Op}
 use Rattle.rga_ops.specs.declared.op.Op.TheVariants.{Insert, Delete}
-use Rattle.rga_store.specs.declared.tree_store.taking_back.Step.{Step}
+use Rattle.rga_store.specs.declared.tree_store.whole_list.Step.{Step}
 
 abbrev pub without_insertion : Identifier → Content → Content
 without_insertion id c = record { inserted = finite_map.remove c.inserted id; deleted = c.deleted }

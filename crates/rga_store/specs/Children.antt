@@ -1,13 +1,21 @@
 -- The children of each parent, as a tree store keeps them.
-use Rattle.std.specs.Prelude.{Bool, not, List, filter}
+use Rattle.std.specs.Prelude.{◌≡◌, ◌&&◌, ◌||◌, Bool, not, List, filter}
 use Rattle.std.specs.List.{list_any}
 use Rattle.std.specs.List.Sorted.{IsStrictlySortedBy}
 use Rattle.rga_ops.specs.Identifier.{Identifier, id_cmp, is_id}
 use Rattle.rga_store.specs.declared.child_list.ChildList.{ChildList}
 use Rattle.rga_store.specs.declared.child_list.ChildList.TheVariants.{Few, Many}
 
-abbrev pub HasChild : List Identifier → Identifier → Bool
-HasChild ks k = list_any (λ x. is_id x k) ks
+abbrev pub has_child : List Identifier → Identifier → Bool
+has_child ks k = list_any (λ x. is_id x k) ks
+
+-- the same children, and one more
+abbrev pub AddsChild : List Identifier → List Identifier → Identifier → Type 0
+AddsChild old new id = (k : Identifier) → has_child new k ≡ (has_child old k || is_id id k)
+
+-- the same children, but one
+abbrev pub RemovesChild : List Identifier → List Identifier → Identifier → Type 0
+RemovesChild old new id = (k : Identifier) → has_child new k ≡ (has_child old k && not (is_id id k))
 
 -- each is less than all that follow
 abbrev pub IsRising : List Identifier → Type 0

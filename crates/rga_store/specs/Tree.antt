@@ -6,17 +6,17 @@ use Rattle.std.specs.FinSet as finite_set
 use Rattle.rga_ops.specs.Identifier.{Identifier, is_id}
 use Rattle.rga_ops.specs.Content.{Content, IsSound, clock_of, known_ids}
 use Rattle.rga_store.specs.Limit.{is_limit}
-use Rattle.rga_store.specs.Children.{HasChild, IsRising}
-use Rattle.rga_store.specs.Nodes.{Nodes, AreApart, content_of_nodes, kids}
+use Rattle.rga_store.specs.Children.{has_child, IsRising}
+use Rattle.rga_store.specs.Nodes.{Nodes, AreApart, content_of_nodes, children_of}
 
 -- the second identifier is inserted with the first as its parent
 abbrev pub is_child : Content → Identifier → Identifier → Bool
 is_child c p k = option_map_or (λ x. is_id x.parent p) (finite_map.get c.inserted k) false
 
 -- under each parent, inserted or not, stand exactly the insertions that name it, and they rise
-pub record IsFamily (c : Content) (children_of : Identifier → List Identifier) : Type 0 where
-  pub children : (p k : Identifier) → HasChild (children_of p) k ≡ is_child c p k
-  pub rising : (p : Identifier) → IsRising (children_of p)
+pub record IsFamily (c : Content) (family : Identifier → List Identifier) : Type 0 where
+  pub children : (p k : Identifier) → has_child (family p) k ≡ is_child c p k
+  pub rising : (p : Identifier) → IsRising (family p)
 
 -- each operation of the content is well-formed, and it has this clock, so many insertions, and so many identifiers, which
 -- are within the limit
@@ -31,5 +31,5 @@ pub record IsCounted (c : Content) (latest insertions identifiers limit : ℕ) :
 -- no identifier has two nodes, the children are those of the content, and it is counted
 pub record IsTree (nodes : Nodes) (latest insertions identifiers limit : ℕ) : Type 0 where
   pub apart : AreApart nodes
-  pub family : IsFamily (content_of_nodes nodes) (kids nodes)
+  pub family : IsFamily (content_of_nodes nodes) (children_of nodes)
   pub counted : IsCounted (content_of_nodes nodes) latest insertions identifiers limit

@@ -1,8 +1,8 @@
 //! The children of one parent.
-ghost use Rattle.std.specs.Prelude.{◌≡◌, ◌&&◌, ◌||◌, not, ◌≤◌, ◌++◌, [], length, false, IfOk, IfErr, OnOk, OnErr};
+ghost use Rattle.std.specs.Prelude.{◌≡◌, ◌≤◌, ◌++◌, [], length, false, IfOk, IfErr, OnOk, OnErr};
 ghost use Rattle.std.specs.List.Sorted.{IsPartitionPoint};
-ghost use Rattle.rga_ops.specs.Identifier.{Identifier, id_cmp, is_id};
-ghost use Rattle.rga_store.specs.Children.{HasChild, IsRising, children_in, others_than};
+ghost use Rattle.rga_ops.specs.Identifier.{id_cmp};
+ghost use Rattle.rga_store.specs.Children.{has_child, AddsChild, RemovesChild, IsRising, children_in, others_than};
 
 use rga_ops::{Id, Refusal};
 use smallvec::SmallVec;
@@ -14,7 +14,7 @@ use std::collections::BTreeSet;
 const MOST_IN_ONE_PIECE: usize = 64;
 
 /// The children of one parent, by rising identifier. Mostly there is one, which takes no memory of
-/// its own. In one piece a child that comes before others moves these, so that many stand in a tree.
+/// its own. In one piece a child that comes before others moves these, so many stand in a tree.
 #[derive(Drop)]
 pub(crate) enum ChildList {
     Few(SmallVec<Id, 1>),
@@ -29,13 +29,13 @@ impl ChildList {
         ChildList::Few(SmallVec::new(alloc))
     }
 
-    /// A child that is not there takes its place.
+    /// A child that is not there goes in.
     pub(crate) fn put(&mut self, alloc: Global, id: Id) -> Result<(), Refusal>
         requires rising { IsRising (children_in self.old) }
-        requires absent { HasChild (children_in self.old) id ≡ false }
-        ensures ok { OnOk result ((k : Identifier) → HasChild (children_in self.new) k ≡ (HasChild (children_in self.old) k || is_id id k)) }
+        requires absent { has_child (children_in self.old) id ≡ false }
+        ensures added { OnOk result (AddsChild (children_in self.old) (children_in self.new) id) }
         ensures rising { IsRising (children_in self.new) }
-        ensures err { OnErr result (self.new ≡ self.old) }
+        ensures same { OnErr result (self.new ≡ self.old) }
         ensures memory { IfErr result (λ e. e ≡ Refusal.Memory) }
     {
         match self {
@@ -52,14 +52,14 @@ impl ChildList {
     }
 
     /// A child leaves, if it is there. Takes no memory.
-    pub(crate) fn take_out(&mut self, id: Id)
+    pub(crate) fn remove(&mut self, id: Id)
         requires { IsRising (children_in self.old) }
-        ensures left { (k : Identifier) → HasChild (children_in self.new) k ≡ (HasChild (children_in self.old) k && not (is_id id k)) }
+        ensures removed { RemovesChild (children_in self.old) (children_in self.new) id }
         ensures rising { IsRising (children_in self.new) }
     {
         match self {
-            ChildList::Few(few) => take_from_few(few, id),
-            ChildList::Many(set) => take_from_many(set, id),
+            ChildList::Few(few) => remove_from_few(few, id),
+            ChildList::Many(set) => remove_from_many(set, id),
         }
     }
 
@@ -70,9 +70,7 @@ impl ChildList {
     {
         match self {
             ChildList::Few(few) => {
-                if stack.extend_from_slice(few.as_slice()).is_err() {
-                    return Err(Refusal::Memory);
-                }
+                stack.extend_from_slice(few.as_slice())?;
                 Ok(())
             }
             ChildList::Many(set) => push_set(stack, set),
@@ -80,54 +78,51 @@ impl ChildList {
     }
 }
 
-/// Where a child goes that is not there.
-fn place_of(few: &[Id], id: Id) -> usize
+/// Where a child goes in that is not there.
+fn insertion_index(few: &[Id], id: Id) -> usize
     requires rising { IsRising few.now }
-    requires absent { HasChild few.now id ≡ false }
+    requires absent { has_child few.now id ≡ false }
     ensures within { result ≤ length few.now }
-    ensures place { IsPartitionPoint (λ y. id_cmp y id ≡ Ordering.Less) (λ y. id_cmp y id ≡ Ordering.Greater) few.now result }
+    ensures index { IsPartitionPoint (λ y. id_cmp y id ≡ Ordering.Less)
+        (λ y. id_cmp y id ≡ Ordering.Greater) few.now result }
 {
     match few.binary_search(&id) {
-        Ok(place) => place,
-        Err(place) => place,
+        Ok(index) => index,
+        Err(index) => index,
     }
 }
 
 fn put_among_few(few: &mut SmallVec<Id, 1>, id: Id) -> Result<(), Refusal>
     requires rising { IsRising few.old.items }
-    requires absent { HasChild few.old.items id ≡ false }
-    ensures ok { OnOk result ((k : Identifier) → HasChild few.new.items k ≡ (HasChild few.old.items k || is_id id k)) }
+    requires absent { has_child few.old.items id ≡ false }
+    ensures added { OnOk result (AddsChild few.old.items few.new.items id) }
     ensures rising { IsRising few.new.items }
-    ensures err { OnErr result (few.new ≡ few.old) }
+    ensures same { OnErr result (few.new ≡ few.old) }
     ensures memory { IfErr result (λ e. e ≡ Refusal.Memory) }
 {
-    let place = place_of(few.as_slice(), id);
-    if few.insert(place, id).is_err() {
-        return Err(Refusal::Memory);
-    }
+    let index = insertion_index(few.as_slice(), id);
+    few.insert(index, id)?;
     Ok(())
 }
 
 fn put_among_many(set: &mut BTreeSet<Id>, id: Id) -> Result<(), Refusal>
-    ensures ok { OnOk result ((k : Identifier) → HasChild set.new.keys k ≡ (HasChild set.old.keys k || is_id id k)) }
+    ensures added { OnOk result (AddsChild set.old.keys set.new.keys id) }
     ensures rising { IsRising set.new.keys }
-    ensures err { OnErr result (set.new ≡ set.old) }
+    ensures same { OnErr result (set.new ≡ set.old) }
     ensures memory { IfErr result (λ e. e ≡ Refusal.Memory) }
 {
-    if set.insert(id).is_err() {
-        return Err(Refusal::Memory);
-    }
+    set.insert(id)?;
     Ok(())
 }
 
-fn take_from_few(few: &mut SmallVec<Id, 1>, id: Id)
+fn remove_from_few(few: &mut SmallVec<Id, 1>, id: Id)
     ensures { few.new.items ≡ others_than id few.old.items }
 {
     few.retain(|child| *child != id);
 }
 
-fn take_from_many(set: &mut BTreeSet<Id>, id: Id)
-    ensures left { (k : Identifier) → HasChild set.new.keys k ≡ (HasChild set.old.keys k && not (is_id id k)) }
+fn remove_from_many(set: &mut BTreeSet<Id>, id: Id)
+    ensures removed { RemovesChild set.old.keys set.new.keys id }
     ensures rising { IsRising set.new.keys }
 {
     let _was_there = set.remove(&id);
@@ -135,7 +130,7 @@ fn take_from_many(set: &mut BTreeSet<Id>, id: Id)
 
 /// A tree of these children and one more.
 fn many_with(alloc: Global, few: &[Id], id: Id) -> Result<BTreeSet<Id>, Refusal>
-    ensures ok { IfOk result (λ set. (k : Identifier) → HasChild set.keys k ≡ (HasChild few.now k || is_id id k)) }
+    ensures added { IfOk result (λ set. AddsChild few.now set.keys id) }
     ensures rising { IfOk result (λ set. IsRising set.keys) }
     ensures memory { IfErr result (λ e. e ≡ Refusal.Memory) }
 {
@@ -152,9 +147,7 @@ fn push_set(stack: &mut Vec<Id>, set: &BTreeSet<Id>) -> Result<(), Refusal>
     ensures memory { IfErr result (λ e. e ≡ Refusal.Memory) }
 {
     for id in set {
-        if stack.push(*id).is_err() {
-            return Err(Refusal::Memory);
-        }
+        stack.push(*id)?;
     }
     Ok(())
 }

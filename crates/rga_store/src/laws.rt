@@ -14,18 +14,23 @@ use crate::text_store::TextStore;
 /// Two stores of one content show the same elements in the same order, and the same text, whatever
 /// they keep inside and whatever their limits are.
 pub fn stores_of_one_content_show_the_same<S: TextStore, T: TextStore>()
-    ensures order { (s : S) (t : T) → S.content s ≡ T.content t → order (S.content s) ≡ order (T.content t) }
-    ensures text { (s : S) (t : T) → S.content s ≡ T.content t → text (S.content s) ≡ text (T.content t) }
+    ensures order { (s : S) (t : T) →
+        S.content s ≡ T.content t → order (S.content s) ≡ order (T.content t) }
+    ensures text { (s : S) (t : T) →
+        S.content s ≡ T.content t → text (S.content s) ≡ text (T.content t) }
 {}
 
 /// So do two stores that took the same operations, in any order and with any repeats, one by one,
 /// as lists or from other stores. The premise is that the operations agree: no identifier names
 /// two insertions.
 pub fn stores_that_took_the_same_show_the_same<S: TextStore, T: TextStore>()
-    ensures content { (xs ys : List Operation) (s : S) (t : T) → Took xs (S.content s) → Took ys (T.content t) →
-        IsAgreed xs → HasSameOperations xs ys → S.content s ≡ T.content t }
-    ensures order { (xs ys : List Operation) (s : S) (t : T) → Took xs (S.content s) → Took ys (T.content t) →
-        IsAgreed xs → HasSameOperations xs ys → order (S.content s) ≡ order (T.content t) }
-    ensures text { (xs ys : List Operation) (s : S) (t : T) → Took xs (S.content s) → Took ys (T.content t) →
-        IsAgreed xs → HasSameOperations xs ys → text (S.content s) ≡ text (T.content t) }
+    ensures content { (xs ys : List Operation) (s : S) (t : T) →
+        Took xs (S.content s) → Took ys (T.content t) → IsAgreed xs → HasSameOperations xs ys →
+        S.content s ≡ T.content t }
+    ensures order { (xs ys : List Operation) (s : S) (t : T) →
+        Took xs (S.content s) → Took ys (T.content t) → IsAgreed xs → HasSameOperations xs ys →
+        order (S.content s) ≡ order (T.content t) }
+    ensures text { (xs ys : List Operation) (s : S) (t : T) →
+        Took xs (S.content s) → Took ys (T.content t) → IsAgreed xs → HasSameOperations xs ys →
+        text (S.content s) ≡ text (T.content t) }
 {}

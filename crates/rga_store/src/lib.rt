@@ -3,7 +3,7 @@
 //! Two traits say what any store does, by the content that it stands for: `Taker` takes
 //! operations, and `TextStore` is a `Taker` of a text, with the order of its elements. `TreeStore`
 //! meets both: it finds an element by its identifier, and walks the tree of parents and children
-//! for the order. What it took it can take back without memory, so that a list of operations is
+//! for the order. What it took it can remove again without memory, so that a list of operations is
 //! taken whole or not at all. The crate stands on rga_ops, and on indexmap and smallvec. The layer
 //! above rests on the traits' contracts and on nothing that a store keeps inside: all that a store
 //! answers is a function of its content and its limit, so stores of one content show the same
@@ -18,7 +18,6 @@ mod merging;
 mod nodes;
 mod operations;
 mod taker;
-mod taking;
 mod text_store;
 mod tree_store;
 mod walk;

@@ -1,12 +1,10 @@
 //! The answer to a list of operations that is taken whole or not at all.
 ghost use Rattle.std.specs.Prelude.{◌≡◌, ◌≢◌, ◌+◌, Ok, Err, IfOk, IfErr};
-ghost use Rattle.std.specs.Option.{option_map, option_or};
-ghost use Rattle.std.specs.FinMap as finite_map;
+ghost use Rattle.std.specs.Option.{option_or};
 ghost use Rattle.std.specs.FinSet as finite_set;
 ghost use Rattle.indexmap.specs.IndexMap.{get as get_added};
-ghost use Rattle.rga_ops.specs.Identifier.{is_id};
-ghost use Rattle.rga_ops.specs.Content.{known_ids, join, content_of};
-ghost use Rattle.rga_ops.specs.ListAnswer.{list_answer, all_checked, first_conflict as first_conflict_of};
+ghost use Rattle.rga_ops.specs.Prelude.{all_checked, content_of, element_at, is_id, join, known_count, known_ids, list_answer};
+ghost use Rattle.rga_ops.specs.ListAnswer.{first_conflict};
 
 use crate::text_store::TextStore;
 use crate::tree_store::TreeStore;
@@ -17,7 +15,8 @@ use std::alloc::Global;
 /// What is answered to a list that is taken whole or not at all. `Memory` where the list's own
 /// insertions or identifiers have no room; never for an ill-formed operation.
 pub(crate) fn answer_to_list(alloc: Global, store: &TreeStore, ops: &[Op]) -> Result<(), Refusal>
-    ensures exact { result ≢ Err Refusal.Memory → result ≡ list_answer store.now.limit store.now.content ops.now }
+    ensures exact { result ≢ Err Refusal.Memory →
+        result ≡ list_answer store.now.limit store.now.content ops.now }
     ensures memory { result ≡ Err Refusal.Memory → all_checked ops.now ≡ Ok tt }
 {
     check_each(ops)?;
@@ -43,7 +42,7 @@ fn check_each(ops: &[Op]) -> Result<(), Refusal>
 /// The identifier of the first operation that conflicts with what the store holds or with one
 /// before it in the list. `Memory` alone.
 fn first_conflict(alloc: Global, store: &TreeStore, ops: &[Op]) -> Result<Option<Id>, Refusal>
-    ensures ok { IfOk result (λ conflict. conflict ≡ first_conflict_of store.now.content ops.now) }
+    ensures ok { IfOk result (λ conflict. conflict ≡ first_conflict store.now.content ops.now) }
     ensures memory { IfErr result (λ e. e ≡ Refusal.Memory) }
 {
     let mut added = IndexMap::new(alloc);
@@ -53,9 +52,7 @@ fn first_conflict(alloc: Global, store: &TreeStore, ops: &[Op]) -> Result<Option
                 Some(element) if element == (*parent, *ch) => {}
                 Some(_) => return Ok(Some(*id)),
                 None => {
-                    if added.insert(*id, (*parent, *ch)).is_err() {
-                        return Err(Refusal::Memory);
-                    }
+                    let _none = added.insert(*id, (*parent, *ch))?;
                 }
             }
         }
@@ -65,21 +62,22 @@ fn first_conflict(alloc: Global, store: &TreeStore, ops: &[Op]) -> Result<Option
 
 /// The parent and the character of an element of the store, or else of one that is added.
 fn element_in(store: &TreeStore, added: &IndexMap<Id, (Id, char)>, id: Id) -> Option<(Id, char)>
-    ensures { result ≡ option_or (option_map (λ x. (x.parent, x.ch)) (finite_map.get store.now.content.inserted id)) (get_added is_id added.now id) }
+    ensures { result ≡ option_or (element_at store.now.content id) (get_added is_id added.now id) }
 {
     store.get(id).or_else(|| added.get(&id).copied())
 }
 
 /// How many identifiers the list makes known to the store. `Memory` alone.
 fn count_new_ids(alloc: Global, store: &TreeStore, ops: &[Op]) -> Result<usize, Refusal>
-    ensures ok { IfOk result (λ count. finite_set.len (known_ids store.now.content) + count ≡ finite_set.len (known_ids (join store.now.content (content_of ops.now)))) }
+    ensures ok { IfOk result (λ count. known_count store.now.content + count
+        ≡ known_count (join store.now.content (content_of ops.now))) }
     ensures memory { IfErr result (λ e. e ≡ Refusal.Memory) }
 {
     let mut added = IndexSet::new(alloc);
     for op in ops {
         let id = op.id();
-        if !is_known(store, id) && added.insert(id).is_err() {
-            return Err(Refusal::Memory);
+        if !is_known(store, id) {
+            let _is_new = added.insert(id)?;
         }
     }
     Ok(added.len())

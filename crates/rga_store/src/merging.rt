@@ -3,8 +3,8 @@ ghost use Rattle.std.specs.Prelude.{◌≡◌, ◌+◌, ◌||◌, ◌⊎◌, Som
 ghost use Rattle.std.specs.Option.{option_map_or};
 ghost use Rattle.std.specs.FinSet as finite_set;
 ghost use Rattle.rga_ops.specs.Identifier.{Identifier, IsLarger};
-ghost use Rattle.rga_ops.specs.Content.{join, known_ids};
-ghost use Rattle.rga_ops.specs.ListAnswer.{has_another, least_conflict as least_conflict_of};
+ghost use Rattle.rga_ops.specs.Content.{join, known_count, known_ids};
+ghost use Rattle.rga_ops.specs.ListAnswer.{has_another, least_conflict};
 ghost use Rattle.rga_store.specs.Nodes.{content_of_nodes, AreApart};
 
 use crate::nodes::Node;
@@ -15,7 +15,8 @@ use rga_ops::{Id, Op};
 pub(crate) fn least_conflict(own: &IndexMap<Id, Node>, others: &IndexMap<Id, Node>) -> Option<Id>
     requires own { AreApart own.now.entries }
     requires others { AreApart others.now.entries }
-    ensures { result ≡ least_conflict_of (content_of_nodes own.now.entries) (content_of_nodes others.now.entries) }
+    ensures { result
+        ≡ least_conflict (content_of_nodes own.now.entries) (content_of_nodes others.now.entries) }
 {
     let mut least = None;
     for i in 0..others.len() {
@@ -32,7 +33,9 @@ pub(crate) fn least_conflict(own: &IndexMap<Id, Node>, others: &IndexMap<Id, Nod
 pub(crate) fn count_unknown(own: &IndexMap<Id, Node>, others: &IndexMap<Id, Node>) -> usize
     requires own { AreApart own.now.entries }
     requires others { AreApart others.now.entries }
-    ensures { finite_set.len (known_ids (content_of_nodes own.now.entries)) + result ≡ finite_set.len (known_ids (join (content_of_nodes own.now.entries) (content_of_nodes others.now.entries))) }
+    ensures { let here = content_of_nodes own.now.entries in
+        let there = content_of_nodes others.now.entries in
+        known_count here + result ≡ known_count (join here there) }
 {
     let mut count = 0;
     for i in 0..others.len() {
@@ -48,7 +51,8 @@ pub(crate) fn count_unknown(own: &IndexMap<Id, Node>, others: &IndexMap<Id, Node
 /// Whether the nodes insert another element than this node's under its identifier.
 fn conflicts(nodes: &IndexMap<Id, Node>, id: Id, node: &Node) -> bool
     requires { AreApart nodes.now.entries }
-    ensures { result ≡ option_map_or (λ x. has_another (content_of_nodes nodes.now.entries) (Op.Insert id x.0 x.1)) node.now.element false }
+    ensures { let content = content_of_nodes nodes.now.entries in result
+        ≡ option_map_or (λ x. has_another content (Op.Insert id x.0 x.1)) node.now.element false }
 {
     match node.element {
         Some(element) => have_another(nodes, id, element),
@@ -59,7 +63,8 @@ fn conflicts(nodes: &IndexMap<Id, Node>, id: Id, node: &Node) -> bool
 /// Whether the nodes insert another element under this identifier.
 fn have_another(nodes: &IndexMap<Id, Node>, id: Id, element: (Id, char)) -> bool
     requires { AreApart nodes.now.entries }
-    ensures { result ≡ has_another (content_of_nodes nodes.now.entries) (Op.Insert id element.0 element.1) }
+    ensures { result
+        ≡ has_another (content_of_nodes nodes.now.entries) (Op.Insert id element.0 element.1) }
 {
     match nodes.get(&id) {
         Some(node) => match node.element {

@@ -14,7 +14,8 @@ use std::alloc::Global;
 /// The insertions by rising identifier, and then the deletions by rising identifier.
 pub(crate) fn operations_of(alloc: Global, nodes: &IndexMap<Id, Node>) -> Result<Vec<Op>, Refusal>
     requires { AreApart nodes.now.entries }
-    ensures ok { IfOk result (λ ops. ops.items ≡ operations (content_of_nodes nodes.now.entries)) }
+    ensures ok { IfOk result
+        (λ ops. ops.items ≡ operations (content_of_nodes nodes.now.entries)) }
     ensures memory { IfErr result (λ e. e ≡ Refusal.Memory) }
 {
     let mut ops = Vec::new(alloc);
@@ -27,7 +28,8 @@ pub(crate) fn operations_of(alloc: Global, nodes: &IndexMap<Id, Node>) -> Result
 
 fn sorted_inserted(alloc: Global, nodes: &IndexMap<Id, Node>) -> Result<Vec<Id>, Refusal>
     requires { AreApart nodes.now.entries }
-    ensures ok { IfOk result (λ ids. ids.items ≡ finite_map.keys (content_of_nodes nodes.now.entries).inserted) }
+    ensures ok { IfOk result
+        (λ ids. ids.items ≡ finite_map.keys (content_of_nodes nodes.now.entries).inserted) }
     ensures memory { IfErr result (λ e. e ≡ Refusal.Memory) }
 {
     let mut ids = Vec::new(alloc);
@@ -38,7 +40,8 @@ fn sorted_inserted(alloc: Global, nodes: &IndexMap<Id, Node>) -> Result<Vec<Id>,
 
 fn sorted_deleted(alloc: Global, nodes: &IndexMap<Id, Node>) -> Result<Vec<Id>, Refusal>
     requires { AreApart nodes.now.entries }
-    ensures ok { IfOk result (λ ids. ids.items ≡ rising (finite_set.items (content_of_nodes nodes.now.entries).deleted)) }
+    ensures ok { let content = content_of_nodes nodes.now.entries in
+        IfOk result (λ ids. ids.items ≡ rising (finite_set.items content.deleted)) }
     ensures memory { IfErr result (λ e. e ≡ Refusal.Memory) }
 {
     let mut ids = Vec::new(alloc);
@@ -55,8 +58,8 @@ fn push_inserted(ids: &mut Vec<Id>, nodes: &IndexMap<Id, Node>) -> Result<(), Re
     for i in 0..nodes.len() {
         if let Some((id, node)) = nodes.get_index(i) {
             let inserted = node.element.is_some();
-            if inserted && ids.push(*id).is_err() {
-                return Err(Refusal::Memory);
+            if inserted {
+                ids.push(*id)?;
             }
         }
     }
@@ -71,8 +74,8 @@ fn push_marked(ids: &mut Vec<Id>, nodes: &IndexMap<Id, Node>) -> Result<(), Refu
     for i in 0..nodes.len() {
         if let Some((id, node)) = nodes.get_index(i) {
             let deleted = node.deleted;
-            if deleted && ids.push(*id).is_err() {
-                return Err(Refusal::Memory);
+            if deleted {
+                ids.push(*id)?;
             }
         }
     }
@@ -81,14 +84,13 @@ fn push_marked(ids: &mut Vec<Id>, nodes: &IndexMap<Id, Node>) -> Result<(), Refu
 
 fn push_insertions(ops: &mut Vec<Op>, nodes: &IndexMap<Id, Node>, ids: &[Id]) -> Result<(), Refusal>
     requires { AreApart nodes.now.entries }
-    ensures ok { OnOk result (ops.new.items ≡ ops.old.items ++ filter_map (insertion_at (content_of_nodes nodes.now.entries)) ids.now) }
+    ensures ok { let content = content_of_nodes nodes.now.entries in OnOk result
+        (ops.new.items ≡ ops.old.items ++ filter_map (insertion_at content) ids.now) }
     ensures memory { IfErr result (λ e. e ≡ Refusal.Memory) }
 {
     for id in ids {
         if let Some(op) = insertion_of(nodes, *id) {
-            if ops.push(op).is_err() {
-                return Err(Refusal::Memory);
-            }
+            ops.push(op)?;
         }
     }
     Ok(())
@@ -107,9 +109,7 @@ fn push_deletions(ops: &mut Vec<Op>, ids: &[Id]) -> Result<(), Refusal>
     ensures memory { IfErr result (λ e. e ≡ Refusal.Memory) }
 {
     for id in ids {
-        if ops.push(Op::Delete { id: *id }).is_err() {
-            return Err(Refusal::Memory);
-        }
+        ops.push(Op::Delete { id: *id })?;
     }
     Ok(())
 }

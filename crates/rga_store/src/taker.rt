@@ -1,8 +1,6 @@
 //! What takes operations.
 ghost use Rattle.std.specs.Prelude.{◌≡◌, ◌≢◌, ℕ, Ok, Err};
-ghost use Rattle.rga_ops.specs.Content.{Content, join, single, content_of};
-ghost use Rattle.rga_ops.specs.Answer.{answer};
-ghost use Rattle.rga_ops.specs.ListAnswer.{list_answer, all_checked};
+ghost use Rattle.rga_ops.specs.Prelude.{Content, all_checked, answer, content_of, join, list_answer, single};
 ghost use Rattle.rga_ops.specs.declared.op.Op.{Op as Operation};
 
 use rga_ops::{Op, Refusal, Taken};
@@ -23,11 +21,14 @@ pub trait Taker {
     /// Refusals, in this order: `BadId`, `BadOrder`, `Conflict`, `Full`, `Memory`. A refusal
     /// changes nothing. `Known` and every refusal but `Memory` take no memory.
     fn apply(&mut self, op: Op) -> Result<Taken, Refusal>
-        ensures exact { result ≢ Err Refusal.Memory → result ≡ answer (limit self.old) (content self.old) op }
-        ensures memory { result ≡ Err Refusal.Memory → answer (limit self.old) (content self.old) op ≡ Ok Taken.New }
+        ensures exact { result ≢ Err Refusal.Memory →
+            result ≡ answer (limit self.old) (content self.old) op }
+        ensures memory { result ≡ Err Refusal.Memory →
+            answer (limit self.old) (content self.old) op ≡ Ok Taken.New }
         ensures growth { result ≡ Err Refusal.Memory → may_grow self.old op }
 
-        ensures new { result ≡ Ok Taken.New → content self.new ≡ join (content self.old) (single op) }
+        ensures new { result ≡ Ok Taken.New →
+            content self.new ≡ join (content self.old) (single op) }
         ensures same { result ≢ Ok Taken.New → content self.new ≡ content self.old }
         ensures limit { limit self.new ≡ limit self.old };
 
@@ -38,10 +39,12 @@ pub trait Taker {
     /// `Full` where more identifiers would be known than the limit allows; `Memory`. A refusal
     /// changes nothing. An ill-formed operation is found without memory.
     fn apply_all(&mut self, ops: &[Op]) -> Result<(), Refusal>
-        ensures exact { result ≢ Err Refusal.Memory → result ≡ list_answer (limit self.old) (content self.old) ops.now }
+        ensures exact { result ≢ Err Refusal.Memory →
+            result ≡ list_answer (limit self.old) (content self.old) ops.now }
         ensures memory { result ≡ Err Refusal.Memory → all_checked ops.now ≡ Ok tt }
 
-        ensures whole { result ≡ Ok tt → content self.new ≡ join (content self.old) (content_of ops.now) }
-        ensures none { result ≢ Ok tt → content self.new ≡ content self.old }
+        ensures whole { result ≡ Ok tt →
+            content self.new ≡ join (content self.old) (content_of ops.now) }
+        ensures same { result ≢ Ok tt → content self.new ≡ content self.old }
         ensures limit { limit self.new ≡ limit self.old };
 }

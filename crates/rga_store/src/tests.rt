@@ -1,34 +1,12 @@
-//! The tree store on worked examples, and beside a plain list on random ones.
+//! The tree store on worked examples.
 use crate::{MAX_LIMIT, Taken, Taker, TextStore, TreeStore};
-use list_store::ListStore;
 use rga_ops::{Id, Op, Refusal};
 use std::alloc::Global;
 use std::test::Fail;
+use test_ops::{deletion, id, insertion};
 
-mod list_store;
 mod merging;
 mod whole_lists;
-
-fn id(counter: u64, replica: u16) -> Result<Id, Refusal> {
-    if counter == 0 {
-        return Ok(Id::ROOT);
-    }
-    Id::new(counter, replica)
-}
-
-fn insert(element: (u64, u16), parent: (u64, u16), ch: char) -> Result<Op, Refusal> {
-    Ok(Op::Insert {
-        id: id(element.0, element.1)?,
-        parent: id(parent.0, parent.1)?,
-        ch,
-    })
-}
-
-fn delete(element: (u64, u16)) -> Result<Op, Refusal> {
-    Ok(Op::Delete {
-        id: id(element.0, element.1)?,
-    })
-}
 
 /// The text of a store as a string.
 fn text_of<S: TextStore>(alloc: Global, store: &S) -> Result<String, Fail> {
@@ -50,12 +28,12 @@ fn text_after<S: TextStore + Drop>(alloc: Global, ops: &[Op]) -> Result<(String,
 
 #[test]
 fn the_text_follows_the_root_paths(rt: HostRuntime) -> Result<(), Fail> {
-    let a = insert((1, 1), (0, 0), 'a')?;
-    let b = insert((2, 1), (1, 1), 'b')?;
-    let c = insert((3, 1), (2, 1), 'c')?;
-    let x = insert((1, 2), (0, 0), 'x')?;
-    let y = insert((2, 2), (1, 2), 'y')?;
-    let late = insert((4, 2), (2, 1), 'X')?;
+    let a = insertion((1, 1), (0, 0), 'a')?;
+    let b = insertion((2, 1), (1, 1), 'b')?;
+    let c = insertion((3, 1), (2, 1), 'c')?;
+    let x = insertion((1, 2), (0, 0), 'x')?;
+    let y = insertion((2, 2), (1, 2), 'y')?;
+    let late = insertion((4, 2), (2, 1), 'X')?;
     let table: [(&str, &[Op], &str, usize); 9] = [
         ("nothing", &[], "", 0),
         ("typing", &[a, b], "ab", 0),
@@ -63,11 +41,11 @@ fn the_text_follows_the_root_paths(rt: HostRuntime) -> Result<(), Fail> {
         ("the other way round", &[x, a], "xa", 0),
         ("waiting for its parent", &[b], "", 1),
         ("the parent comes", &[b, a], "ab", 0),
-        ("deleted early", &[delete((1, 1))?, a], "", 0),
+        ("deleted early", &[deletion(1, 1)?, a], "", 0),
         ("two replicas", &[a, b, c, x, y], "xyabc", 0),
         (
             "behind a deleted element",
-            &[a, b, c, delete((2, 1))?, late],
+            &[a, b, c, deletion(2, 1)?, late],
             "aXc",
             0,
         ),
@@ -85,19 +63,19 @@ type Answers = [(Op, Result<Taken, Refusal>); 13];
 fn answers() -> Result<Answers, Refusal> {
     let one = id(1, 1)?;
     Ok([
-        (insert((0, 0), (0, 0), 'a')?, Err(Refusal::BadId)),
-        (insert((1, 1), (1, 2), 'a')?, Err(Refusal::BadOrder)),
-        (insert((1, 1), (0, 0), 'a')?, Ok(Taken::New)),
-        (insert((1, 1), (0, 0), 'a')?, Ok(Taken::Known)),
-        (insert((1, 1), (0, 0), 'b')?, Err(Refusal::Conflict(one))),
-        (insert((2, 1), (1, 1), 'b')?, Ok(Taken::New)),
-        (delete((3, 1))?, Ok(Taken::New)),
-        (insert((4, 1), (3, 1), 'd')?, Err(Refusal::Full)),
-        (delete((9, 9))?, Err(Refusal::Full)),
-        (insert((3, 1), (2, 1), 'c')?, Ok(Taken::New)),
-        (delete((3, 1))?, Ok(Taken::Known)),
-        (delete((2, 1))?, Ok(Taken::New)),
-        (delete((2, 1))?, Ok(Taken::Known)),
+        (insertion((0, 0), (0, 0), 'a')?, Err(Refusal::BadId)),
+        (insertion((1, 1), (1, 2), 'a')?, Err(Refusal::BadOrder)),
+        (insertion((1, 1), (0, 0), 'a')?, Ok(Taken::New)),
+        (insertion((1, 1), (0, 0), 'a')?, Ok(Taken::Known)),
+        (insertion((1, 1), (0, 0), 'b')?, Err(Refusal::Conflict(one))),
+        (insertion((2, 1), (1, 1), 'b')?, Ok(Taken::New)),
+        (deletion(3, 1)?, Ok(Taken::New)),
+        (insertion((4, 1), (3, 1), 'd')?, Err(Refusal::Full)),
+        (deletion(9, 9)?, Err(Refusal::Full)),
+        (insertion((3, 1), (2, 1), 'c')?, Ok(Taken::New)),
+        (deletion(3, 1)?, Ok(Taken::Known)),
+        (deletion(2, 1)?, Ok(Taken::New)),
+        (deletion(2, 1)?, Ok(Taken::Known)),
     ])
 }
 
@@ -119,21 +97,21 @@ fn each_operation_has_its_answer(rt: HostRuntime) -> Result<(), Fail> {
 
 fn branched() -> Result<[Op; 4], Refusal> {
     Ok([
-        insert((1, 1), (0, 0), 'a')?,
-        insert((3, 1), (1, 1), 'c')?,
-        insert((4, 1), (3, 1), 'd')?,
-        insert((2, 2), (1, 1), 'b')?,
+        insertion((1, 1), (0, 0), 'a')?,
+        insertion((3, 1), (1, 1), 'c')?,
+        insertion((4, 1), (3, 1), 'd')?,
+        insertion((2, 2), (1, 1), 'b')?,
     ])
 }
 
 fn branched_by_identifier() -> Result<[Op; 6], Refusal> {
     Ok([
-        insert((1, 1), (0, 0), 'a')?,
-        insert((2, 2), (1, 1), 'b')?,
-        insert((3, 1), (1, 1), 'c')?,
-        insert((4, 1), (3, 1), 'd')?,
-        delete((3, 1))?,
-        delete((7, 2))?,
+        insertion((1, 1), (0, 0), 'a')?,
+        insertion((2, 2), (1, 1), 'b')?,
+        insertion((3, 1), (1, 1), 'c')?,
+        insertion((4, 1), (3, 1), 'd')?,
+        deletion(3, 1)?,
+        deletion(7, 2)?,
     ])
 }
 
@@ -149,7 +127,7 @@ fn store_of(alloc: Global, limit: usize, ops: &[Op]) -> Result<TreeStore, Refusa
 #[test]
 fn a_store_tells_its_content(rt: HostRuntime) -> Result<(), Fail> {
     let ops = branched()?;
-    let other = insert((3, 1), (1, 1), 'x')?;
+    let other = insertion((3, 1), (1, 1), 'x')?;
     let store = store_of(rt.alloc(), 7, &ops)?;
     assert_eq!(rt; text_of(rt.alloc(), &store)?.as_str(), "acdb");
     assert_eq!(rt; store.waiting_count(), Ok(0));
@@ -212,7 +190,7 @@ fn sibling(shape: usize, k: u64) -> u64 {
 fn siblings(alloc: Global, shape: usize) -> Result<Vec<Op>, Fail> {
     let mut ops = Vec::new(alloc);
     for k in 0..199 {
-        ops.push(insert((sibling(shape, k), 1), (0, 0), 'a')?)?;
+        ops.push(insertion((sibling(shape, k), 1), (0, 0), 'a')?)?;
     }
     Ok(ops)
 }
@@ -226,92 +204,6 @@ fn many_siblings(rt: HostRuntime) -> Result<(), Fail> {
         assert_eq!(rt; order.as_slice().len(), 199);
         for pair in order.as_slice().windows(2) {
             assert!(rt; pair.first() > pair.last(), "{shape}");
-        }
-    }
-    Ok(())
-}
-
-/// Numbers that look random and are the same at each run.
-#[derive(Drop)]
-struct Random {
-    state: u64,
-}
-
-impl Random {
-    fn below(&mut self, bound: u64) -> u64 {
-        self.state = self
-            .state
-            .wrapping_mul(6364136223846793005)
-            .wrapping_add(1442695040888963407);
-        (self.state >> 33).checked_rem(bound).unwrap_or(0)
-    }
-
-    /// An operation of one of three replicas. An identifier mostly has one insertion, which comes
-    /// again, before its parent or after its deletion; now and then it is another one.
-    fn op(&mut self) -> Result<Op, Refusal> {
-        let counter = self.below(12).wrapping_add(1);
-        let replica = self.replica();
-        if self.below(4) == 0 {
-            return delete((counter, replica));
-        }
-        let usual = counter.wrapping_mul(5).checked_rem(7).unwrap_or(0);
-        let above = usual.checked_rem(counter).unwrap_or(0);
-        if self.below(20) > 0 {
-            return insert((counter, replica), (above, replica), 'a');
-        }
-        insert((counter, replica), (above, self.replica()), 'b')
-    }
-
-    fn replica(&mut self) -> u16 {
-        match self.below(3) {
-            0 => 1,
-            1 => 2,
-            _ => 3,
-        }
-    }
-}
-
-fn random_ops(alloc: Global, seed: u64) -> Result<Vec<Op>, Fail> {
-    let mut random = Random { state: seed };
-    let mut ops = Vec::new(alloc);
-    for _ in 0..80 {
-        ops.push(random.op()?)?;
-    }
-    Ok(ops)
-}
-
-/// Whether both answer the operation alike.
-fn same_answer(tree: &mut TreeStore, list: &mut ListStore, op: Op) -> bool {
-    tree.apply(op) == list.apply(op)
-        && tree.known() == list.known()
-        && tree.is_deleted(op.id()) == list.is_deleted(op.id())
-}
-
-/// Whether both show the same elements, and the same text.
-fn same_text(alloc: Global, tree: &TreeStore, list: &ListStore) -> Result<bool, Fail> {
-    let same_order = tree.order()?.as_slice() == list.order()?.as_slice();
-    Ok(same_order && text_of(alloc, tree)?.as_str() == list.text()?.as_str())
-}
-
-/// How many of the operations both take alike.
-fn same_steps(alloc: Global, limit: usize, ops: &[Op]) -> Result<usize, Fail> {
-    let mut tree = TreeStore::new(alloc, limit)?;
-    let mut list = ListStore::new(alloc, limit);
-    for (k, op) in ops.iter().enumerate() {
-        let same = same_answer(&mut tree, &mut list, *op);
-        if !same || !same_text(alloc, &tree, &list)? {
-            return Ok(k);
-        }
-    }
-    Ok(ops.len())
-}
-
-#[test]
-fn the_tree_answers_as_the_plain_list_does(rt: HostRuntime) -> Result<(), Fail> {
-    for limit in [3, 8, 20, 100] {
-        for seed in 0..5 {
-            let ops = random_ops(rt.alloc(), seed)?;
-            assert_eq!(rt; same_steps(rt.alloc(), limit, &ops)?, 80, "{limit} {seed}");
         }
     }
     Ok(())

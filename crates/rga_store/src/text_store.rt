@@ -1,13 +1,10 @@
 //! What keeps a text.
 ghost use Rattle.std.specs.Prelude.{◌≡◌, ◌≢◌, ◌≤◌, ◌↔◌, ℕ, length, true, false, Ok, Err, IfOk, IfErr, MatchResult};
-ghost use Rattle.std.specs.Option.{option_map};
 ghost use Rattle.std.specs.FinMap as finite_map;
 ghost use Rattle.std.specs.FinSet as finite_set;
-ghost use Rattle.rga_ops.specs.Identifier.{Identifier};
-ghost use Rattle.rga_ops.specs.Content.{nothing, join, known_ids, Holds, IsSound, clock_of};
-ghost use Rattle.rga_ops.specs.ListAnswer.{merge_answer};
-ghost use Rattle.rga_ops.specs.Operations.{operations};
-ghost use Rattle.rga_ops.specs.Order.{order as order_of, text as text_of, waiting};
+ghost use Rattle.rga_ops.specs.Prelude.{Identifier, IsSound, clock_of, join, known_ids, merge_answer, nothing, operations, order, text};
+ghost use Rattle.rga_ops.specs.Content.{element_at, Holds};
+ghost use Rattle.rga_ops.specs.Order.{waiting};
 ghost use Rattle.rga_ops.specs.declared.op.Op.TheVariants.{Delete};
 ghost use Rattle.rga_store.specs.Limit.{is_limit};
 
@@ -30,7 +27,7 @@ pub trait TextStore: Taker + Sized + Drop {
 
     /// The parent and the character of an element that is inserted. Takes no memory.
     fn get(&self, id: Id) -> Option<(Id, char)>
-        ensures { result ≡ option_map (λ x. (x.parent, x.ch)) (finite_map.get (Self.content self.now).inserted id) };
+        ensures { result ≡ element_at (Self.content self.now) id };
 
     /// Whether an identifier is deleted, be it inserted or not. Takes no memory.
     fn is_deleted(&self, id: Id) -> bool
@@ -60,12 +57,12 @@ pub trait TextStore: Taker + Sized + Drop {
     /// its children, and of siblings the one with the larger identifier first (Attiya and others
     /// 2016). `Memory` alone.
     fn order(&self) -> Result<Vec<Id>, Refusal>
-        ensures ok { IfOk result (λ ids. ids.items ≡ order_of (Self.content self.now)) }
+        ensures ok { IfOk result (λ ids. ids.items ≡ order (Self.content self.now)) }
         ensures memory { IfErr result (λ e. e ≡ Refusal.Memory) };
 
     /// The characters of the visible elements, in order. `Memory` alone.
     fn text(&self, alloc: Global) -> Result<Vec<char>, Refusal>
-        ensures ok { IfOk result (λ chars. chars.items ≡ text_of (Self.content self.now)) }
+        ensures ok { IfOk result (λ chars. chars.items ≡ text (Self.content self.now)) }
         ensures memory { IfErr result (λ e. e ≡ Refusal.Memory) };
 
     /// How many inserted elements wait for an ancestor, and so are not in the order. `Memory`
@@ -82,7 +79,8 @@ pub trait TextStore: Taker + Sized + Drop {
 
     /// A store of its own with the same content and the same limit. `Memory` alone.
     fn copy(&self) -> Result<Self, Refusal>
-        ensures ok { IfOk result (λ s. (Self.content s ≡ Self.content self.now) × (Self.limit s ≡ Self.limit self.now)) }
+        ensures ok { IfOk result (λ s. (Self.content s ≡ Self.content self.now)
+            × (Self.limit s ≡ Self.limit self.now)) }
         ensures memory { IfErr result (λ e. e ≡ Refusal.Memory) };
 
     /// Takes all that another store holds, or nothing: the content becomes the join of both, the
@@ -92,13 +90,18 @@ pub trait TextStore: Taker + Sized + Drop {
     /// `Full` where both together know more identifiers than the own limit allows; `Memory`. A
     /// refusal changes nothing. The first two take no memory.
     fn merge(&mut self, other: &Self) -> Result<(), Refusal>
-        ensures exact { result ≢ Err Refusal.Memory → result ≡ merge_answer (Self.limit self.old) (Self.content self.old) (Self.content other.now) }
-        ensures memory { result ≡ Err Refusal.Memory → merge_answer (Self.limit self.old) (Self.content self.old) (Self.content other.now) ≡ Ok tt }
+        ensures exact { let answer = merge_answer (Self.limit self.old) (Self.content self.old)
+            (Self.content other.now) in result ≢ Err Refusal.Memory → result ≡ answer }
+        ensures memory { let answer = merge_answer (Self.limit self.old) (Self.content self.old)
+            (Self.content other.now) in result ≡ Err Refusal.Memory → answer ≡ Ok tt }
 
-        ensures joined { result ≡ Ok tt → Self.content self.new ≡ join (Self.content self.old) (Self.content other.now) }
+        ensures joined { result ≡ Ok tt →
+            Self.content self.new ≡ join (Self.content self.old) (Self.content other.now) }
         ensures same { result ≢ Ok tt → Self.content self.new ≡ Self.content self.old }
         ensures limit { Self.limit self.new ≡ Self.limit self.old };
 
     /// The deletion of an inserted element takes no memory.
-    ghost deletes_freely: { (s : Self) (id : Identifier) → finite_map.contains_key (Self.content s).inserted id ≡ true → ¬ (Self.may_grow s (Delete id)) };
+    ghost deletes_freely: { (s : Self) (id : Identifier) →
+        finite_map.contains_key (Self.content s).inserted id ≡ true →
+        ¬ (Self.may_grow s (Delete id)) };
 }

@@ -1,14 +1,14 @@
 //! A store as a tree: a node for each identifier, and under it its children.
 ghost use Rattle.std.specs.Prelude.{◌≡◌, ◌≤◌, ◌+◌, ◌⊎◌, ◌↔◌, if◌then◌else◌, length, Ok, Err, OnOk, OnErr, IfOk, IfErr, true, false, max};
-ghost use Rattle.std.specs.Option.{option_map};
 ghost use Rattle.std.specs.FinMap as finite_map;
 ghost use Rattle.std.specs.FinSet as finite_set;
-ghost use Rattle.rga_ops.specs.Content.{join, single, known_ids, IsSound};
-ghost use Rattle.rga_ops.specs.Answer.{answer as answer_to_op, facts};
+ghost use Rattle.rga_ops.specs.Content.{element_at, join, single, known_ids, IsSound};
+ghost use Rattle.rga_ops.specs.Answer.{answer, facts};
 ghost use Rattle.rga_store.specs.Found.{facts_of};
 ghost use Rattle.rga_store.specs.Limit.{is_limit};
 
-mod taking_back;
+mod removal;
+mod whole_list;
 
 use crate::answer::{Found, answer_to};
 use crate::list_answer::answer_to_list;
@@ -16,13 +16,13 @@ use crate::merging::{count_unknown, least_conflict};
 use crate::nodes::{Node, add_child, ensure_node, mark, set_element};
 use crate::operations::operations_of;
 use crate::taker::Taker;
-use crate::taking::take_one_by_one;
 use crate::text_store::{MAX_LIMIT, TextStore};
 use crate::walk::{walked, walked_text};
 use indexmap::IndexMap;
 use rga_ops::{Id, Op, Refusal, Taken};
 use std::alloc::Global;
 use std::marker::Model;
+use whole_list::take_one_by_one;
 
 /// The timestamped insertion tree of Attiya and others 2016: a node for each identifier that is
 /// inserted, deleted or named as a parent, the root among these, and under each node its children.
@@ -92,7 +92,7 @@ fn raise(clock: &mut u64, counter: u64)
 
 /// One more, unless it was counted.
 fn count_unless(counted: bool, count: &mut usize)
-    requires { (if counted then count.old else count.old + 1) ≤ 1000000 }
+    requires { (if counted then count.old else count.old + 1) ≤ MAX_LIMIT }
     ensures { count.new ≡ (if counted then count.old else count.old + 1) }
 {
     if !counted {
@@ -103,7 +103,7 @@ fn count_unless(counted: bool, count: &mut usize)
 impl TreeStore {
     /// The answer to an operation, want of memory aside.
     fn answer(&self, op: Op) -> Result<Taken, Refusal>
-        ensures { result ≡ answer_to_op self.now.limit self.now.content op }
+        ensures { result ≡ answer self.now.limit self.now.content op }
     {
         answer_to(op, self.find(op.id()))
     }
@@ -135,7 +135,7 @@ impl TreeStore {
     }
 
     fn element(&self, id: Id) -> Option<(Id, char)>
-        ensures { result ≡ option_map (λ x. (x.parent, x.ch)) (finite_map.get self.now.content.inserted id) }
+        ensures { result ≡ element_at self.now.content id }
     {
         self.nodes.get(&id)?.element
     }
@@ -161,16 +161,17 @@ impl TreeStore {
     /// A new insertion stands among its siblings. Until it has its element, a refusal for want of
     /// memory leaves no more than nodes that mean nothing.
     fn insert(&mut self, id: Id, parent: Id, ch: char) -> Result<Taken, Refusal>
-        requires { answer_to_op self.old.limit self.old.content (Op.Insert id parent ch) ≡ Ok Taken.New }
-        ensures ok { OnOk result (self.new.content ≡ join self.old.content (single (Op.Insert id parent ch))) }
-        ensures err { OnErr result (self.new.content ≡ self.old.content) }
+        requires { answer self.old.limit self.old.content (Op.Insert id parent ch) ≡ Ok Taken.New }
+        ensures ok { OnOk result
+            (self.new.content ≡ join self.old.content (single (Op.Insert id parent ch))) }
+        ensures same { OnErr result (self.new.content ≡ self.old.content) }
         ensures answer { (result ≡ Ok Taken.New) ⊎ (result ≡ Err Refusal.Memory) }
         ensures limit { self.new.limit ≡ self.old.limit }
     {
         let above = ensure_node(self.alloc, &mut self.nodes, parent)?;
-        let place = ensure_node(self.alloc, &mut self.nodes, id)?;
+        let index = ensure_node(self.alloc, &mut self.nodes, id)?;
         add_child(self.alloc, &mut self.nodes, above, parent, id)?;
-        let deleted = set_element(&mut self.nodes, place, id, parent, ch);
+        let deleted = set_element(&mut self.nodes, index, id, parent, ch);
         self.inserted += 1;
         count_unless(deleted, &mut self.known);
         raise(&mut self.clock, id.counter());
@@ -179,15 +180,17 @@ impl TreeStore {
 
     /// Marks an identifier as deleted, which takes memory only where it has no node.
     fn delete(&mut self, id: Id) -> Result<Taken, Refusal>
-        requires { answer_to_op self.old.limit self.old.content (Op.Delete id) ≡ Ok Taken.New }
-        ensures ok { OnOk result (self.new.content ≡ join self.old.content (single (Op.Delete id))) }
-        ensures err { OnErr result (self.new.content ≡ self.old.content) }
+        requires { answer self.old.limit self.old.content (Op.Delete id) ≡ Ok Taken.New }
+        ensures ok { OnOk result
+            (self.new.content ≡ join self.old.content (single (Op.Delete id))) }
+        ensures same { OnErr result (self.new.content ≡ self.old.content) }
         ensures answer { (result ≡ Ok Taken.New) ⊎ (result ≡ Err Refusal.Memory) }
-        ensures growth { result ≡ Err Refusal.Memory → finite_map.contains_key self.old.content.inserted id ≡ false }
+        ensures growth { result ≡ Err Refusal.Memory →
+            finite_map.contains_key self.old.content.inserted id ≡ false }
         ensures limit { self.new.limit ≡ self.old.limit }
     {
-        let place = ensure_node(self.alloc, &mut self.nodes, id)?;
-        let inserted = mark(&mut self.nodes, place, id);
+        let index = ensure_node(self.alloc, &mut self.nodes, id)?;
+        let inserted = mark(&mut self.nodes, index, id);
         count_unless(inserted, &mut self.known);
         raise(&mut self.clock, id.counter());
         Ok(Taken::New)

@@ -1,11 +1,12 @@
 //! The elements in order, and their characters, by a walk over the child lists. What is on a walk's
-//! stack is still to come, its top next: an element that comes leaves its children there, the newest
-//! on top. So each list of children is looked at once.
-ghost use Rattle.std.specs.Prelude.{◌≡◌, IfOk, IfErr};
+//! stack is still to come, its top next: an element that comes leaves its children there, the
+//! newest on top. So each list of children is looked at once.
+ghost use Rattle.std.specs.Prelude.{◌≡◌, ◌++◌, [], IfOk, IfErr, OnOk};
+ghost use Rattle.std.specs.List.{cons_option};
 ghost use Rattle.std.specs.Option.{option_copied};
 ghost use Rattle.rga_ops.specs.Content.{IsSound};
 ghost use Rattle.rga_ops.specs.Order.{order, text};
-ghost use Rattle.rga_store.specs.Nodes.{content_of_nodes, kids, char_at, AreApart};
+ghost use Rattle.rga_store.specs.Nodes.{content_of_nodes, children_of, char_at, AreApart};
 ghost use Rattle.rga_store.specs.Tree.{IsFamily};
 
 use crate::nodes::{Node, push_children};
@@ -15,21 +16,17 @@ use std::alloc::Global;
 
 /// The complete elements in order.
 pub(crate) fn walked(alloc: Global, nodes: &IndexMap<Id, Node>) -> Result<Vec<Id>, Refusal>
-    requires family { IsFamily (content_of_nodes nodes.now.entries) (kids nodes.now.entries) }
+    requires family { IsFamily (content_of_nodes nodes.now.entries) (children_of nodes.now.entries) }
     requires sound { IsSound (content_of_nodes nodes.now.entries) }
     ensures ok { IfOk result (λ ids. ids.items ≡ order (content_of_nodes nodes.now.entries)) }
     ensures memory { IfErr result (λ e. e ≡ Refusal.Memory) }
 {
-    let Ok(mut order) = Vec::with_capacity(alloc, nodes.len()) else {
-        return Err(Refusal::Memory);
-    };
+    let mut order = Vec::with_capacity(alloc, nodes.len())?;
     let mut stack = Vec::new(alloc);
     let mut next = 0;
     push_children(&mut stack, nodes, &mut next, Id::ROOT)?;
     while let Some(id) = stack.pop() {
-        if order.push(id).is_err() {
-            return Err(Refusal::Memory);
-        }
+        order.push(id)?;
         push_children(&mut stack, nodes, &mut next, id)?;
     }
     Ok(order)
@@ -38,26 +35,32 @@ pub(crate) fn walked(alloc: Global, nodes: &IndexMap<Id, Node>) -> Result<Vec<Id
 /// The characters of the visible elements, in order.
 pub(crate) fn walked_text(alloc: Global, nodes: &IndexMap<Id, Node>) -> Result<Vec<char>, Refusal>
     requires apart { AreApart nodes.now.entries }
-    requires family { IsFamily (content_of_nodes nodes.now.entries) (kids nodes.now.entries) }
+    requires family { IsFamily (content_of_nodes nodes.now.entries) (children_of nodes.now.entries) }
     requires sound { IsSound (content_of_nodes nodes.now.entries) }
     ensures ok { IfOk result (λ chars. chars.items ≡ text (content_of_nodes nodes.now.entries)) }
     ensures memory { IfErr result (λ e. e ≡ Refusal.Memory) }
 {
-    let Ok(mut chars) = Vec::with_capacity(alloc, nodes.len()) else {
-        return Err(Refusal::Memory);
-    };
+    let mut chars = Vec::with_capacity(alloc, nodes.len())?;
     let mut stack = Vec::new(alloc);
     let mut next = 0;
     push_children(&mut stack, nodes, &mut next, Id::ROOT)?;
     while let Some(id) = stack.pop() {
         let node = push_children(&mut stack, nodes, &mut next, id)?;
-        if let Some(ch) = char_of(node) {
-            if chars.push(ch).is_err() {
-                return Err(Refusal::Memory);
-            }
-        }
+        push_char(&mut chars, node)?;
     }
     Ok(chars)
+}
+
+/// The character of a node that is inserted and not deleted goes to the end of the text.
+fn push_char(chars: &mut Vec<char>, node: Option<&Node>) -> Result<(), Refusal>
+    ensures ok { OnOk result
+        (chars.new.items ≡ chars.old.items ++ cons_option (char_at (option_copied node.entry)) []) }
+    ensures memory { IfErr result (λ e. e ≡ Refusal.Memory) }
+{
+    if let Some(ch) = char_of(node) {
+        chars.push(ch)?;
+    }
+    Ok(())
 }
 
 /// The character of a node that is inserted and not deleted.

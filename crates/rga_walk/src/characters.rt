@@ -1,6 +1,6 @@
 //! The text of a store, and its length.
 ghost use Rattle.std.specs.Prelude.{◌≡◌, IfOk, IfErr, length};
-ghost use Rattle.rga_ops.specs.Order.{text as text_of};
+ghost use Rattle.rga_ops.specs.Prelude.{text};
 
 use crate::elements::visible_elements;
 use rga_ops::Refusal;
@@ -9,7 +9,7 @@ use std::alloc::Global;
 
 /// The characters of the visible elements, in order. `Memory` alone.
 pub fn text<S: TextStore>(alloc: Global, store: &S) -> Result<Vec<char>, Refusal>
-    ensures ok { IfOk result (λ chars. chars.items ≡ text_of (S.content store.now)) }
+    ensures ok { IfOk result (λ chars. chars.items ≡ text (S.content store.now)) }
     ensures memory { IfErr result (λ e. e ≡ Refusal.Memory) }
 {
     store.text(alloc)
@@ -17,7 +17,7 @@ pub fn text<S: TextStore>(alloc: Global, store: &S) -> Result<Vec<char>, Refusal
 
 /// The number of characters of the text. `Memory` alone.
 pub fn visible_len<S: TextStore>(store: &S) -> Result<usize, Refusal>
-    ensures ok { IfOk result (λ n. n ≡ length (text_of (S.content store.now))) }
+    ensures ok { IfOk result (λ n. n ≡ length (text (S.content store.now))) }
     ensures memory { IfErr result (λ e. e ≡ Refusal.Memory) }
 {
     let ids = visible_elements(store)?;

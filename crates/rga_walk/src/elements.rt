@@ -1,9 +1,7 @@
 //! Visible elements by their index in the text.
 ghost use Rattle.std.specs.Prelude.{◌≡◌, ◌≤◌, ◌⊎◌, Ok, Err, Some, IfOk, IfErr, length, position};
 ghost use Rattle.std.specs.List.{slice_get};
-ghost use Rattle.rga_ops.specs.Identifier.{is_id};
-ghost use Rattle.rga_ops.specs.Order.{text as text_of};
-ghost use Rattle.rga_ops.specs.Places.{visible};
+ghost use Rattle.rga_ops.specs.Prelude.{is_id, text, visible};
 
 use rga_ops::{Id, Refusal};
 use rga_store::TextStore;
@@ -22,8 +20,8 @@ pub fn visible_elements<S: TextStore>(store: &S) -> Result<Vec<Id>, Refusal>
 /// length; `Memory` where the elements have no room.
 pub fn element_at<S: TextStore>(store: &S, k: usize) -> Result<Id, Refusal>
     ensures ok { IfOk result (λ id. slice_get (visible (S.content store.now)) k ≡ Some id) }
-    ensures err { IfErr result (λ e. (e ≡ Refusal.Memory)
-        ⊎ ((e ≡ Refusal.Range) × (length (text_of (S.content store.now)) ≤ k))) }
+    ensures refused { IfErr result (λ e. (e ≡ Refusal.Memory)
+        ⊎ ((e ≡ Refusal.Range) × (length (text (S.content store.now)) ≤ k))) }
 {
     let ids = visible_elements(store)?;
     match ids.get(k) {

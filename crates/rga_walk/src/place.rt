@@ -1,7 +1,6 @@
 //! Places: how many visible elements stand up to an element.
 ghost use Rattle.std.specs.Prelude.{◌≡◌, ◌⊎◌, true, Ok, Err, Some, None, IfOk, IfErr};
-ghost use Rattle.rga_ops.specs.Identifier.{is_root};
-ghost use Rattle.rga_ops.specs.Places.{place};
+ghost use Rattle.rga_ops.specs.Prelude.{is_root, place};
 
 use rga_ops::{Id, Refusal};
 use rga_store::TextStore;
@@ -11,7 +10,7 @@ use rga_store::TextStore;
 /// root.
 pub fn place_of<S: TextStore>(store: &S, id: Id) -> Result<usize, Refusal>
     ensures ok { IfOk result (λ n. place (S.content store.now) id ≡ Some n) }
-    ensures err { IfErr result (λ e. (e ≡ Refusal.Memory)
+    ensures refused { IfErr result (λ e. (e ≡ Refusal.Memory)
         ⊎ ((e ≡ Refusal.Range) × (place (S.content store.now) id ≡ None))) }
     ensures root { is_root id ≡ true → result ≡ Ok 0 }
 {

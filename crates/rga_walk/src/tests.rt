@@ -4,21 +4,7 @@ use rga_ops::{Id, Op, Refusal};
 use rga_store::{Taker, TextStore, TreeStore as Store};
 use std::alloc::Global;
 use std::test::Fail;
-
-fn id(counter: u64, replica: u16) -> Result<Id, Refusal> {
-    if counter == 0 {
-        return Ok(Id::ROOT);
-    }
-    Id::new(counter, replica)
-}
-
-fn insertion(element: (u64, u16), parent: (u64, u16), ch: char) -> Result<Op, Refusal> {
-    Ok(Op::Insert {
-        id: id(element.0, element.1)?,
-        parent: id(parent.0, parent.1)?,
-        ch,
-    })
-}
+use test_ops::{deletion, id, insertion};
 
 /// The operations of both, of which no one has deleted anything yet.
 fn insertions() -> Result<[Op; 4], Refusal> {
@@ -62,7 +48,7 @@ fn what_two_people_inserted(rt: HostRuntime) -> Result<(), Fail> {
 
 fn with_a_deletion() -> Result<[Op; 5], Refusal> {
     let [a, c, d, b] = insertions()?;
-    Ok([a, c, d, b, Op::Delete { id: id(3, 1)? }])
+    Ok([a, c, d, b, deletion(3, 1)?])
 }
 
 type Places = [(Id, Result<usize, Refusal>); 5];

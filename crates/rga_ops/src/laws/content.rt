@@ -3,7 +3,7 @@ ghost use Rattle.std.specs.Prelude.{◌≡◌, ◌≤◌, ◌↔◌, ◌++◌, �
 ghost use Rattle.std.specs.FinMap as finite_map;
 ghost use Rattle.std.specs.FinSet as finite_set;
 ghost use Rattle.rga_ops.specs.Identifier.{Identifier};
-ghost use Rattle.rga_ops.specs.Content.{Element, Content, nothing, known_ids, Holds, IsSound, Agree, IsWithin, join, content_of, IsAgreed, HasSameOperations, HasCountersWithin, clock_of};
+ghost use Rattle.rga_ops.specs.Content.{Element, Content, nothing, known_count, Holds, IsSound, Agree, IsWithin, join, content_of, IsAgreed, HasSameOperations, HasCountersWithin, clock_of};
 ghost use Rattle.rga_ops.specs.Order.{order, text};
 ghost use Rattle.rga_ops.specs.Operations.{operations};
 ghost use Rattle.rga_ops.specs.Answer.{taken, taken_one_by_one};
@@ -36,10 +36,13 @@ pub fn the_clock_is_the_greatest_counter()
 /// a set. The content of two lists in a row is the join of theirs.
 pub fn content_is_what_the_list_has()
     ensures inserted { (ops : List Operation) → IsAgreed ops → (id : Identifier) (x : Element) →
-        (finite_map.get (content_of ops).inserted id ≡ Some x) ↔ Contains ops (Operation.Insert id x.parent x.ch) }
+        (finite_map.get (content_of ops).inserted id ≡ Some x)
+        ↔ Contains ops (Operation.Insert id x.parent x.ch) }
     ensures deleted { (ops : List Operation) (id : Identifier) →
-        (finite_set.contains (content_of ops).deleted id ≡ true) ↔ Contains ops (Operation.Delete id) }
-    ensures in_a_row { (xs ys : List Operation) → content_of (xs ++ ys) ≡ join (content_of xs) (content_of ys) }
+        (finite_set.contains (content_of ops).deleted id ≡ true)
+        ↔ Contains ops (Operation.Delete id) }
+    ensures in_a_row { (xs ys : List Operation) →
+        content_of (xs ++ ys) ≡ join (content_of xs) (content_of ys) }
 {}
 
 /// A content is that of its operations. An empty store takes them one by one, where each of them
@@ -47,7 +50,7 @@ pub fn content_is_what_the_list_has()
 pub fn a_content_is_that_of_its_operations()
     ensures content { (c : Content) → content_of (operations c) ≡ c }
     ensures held { (c : Content) (op : Operation) → Contains (operations c) op → Holds c op }
-    ensures taken { (limit : ℕ) (c : Content) → IsSound c → finite_set.len (known_ids c) ≤ limit →
+    ensures taken { (limit : ℕ) (c : Content) → IsSound c → known_count c ≤ limit →
         taken_one_by_one limit nothing (operations c) ≡ Ok c }
 {}
 
@@ -55,7 +58,10 @@ pub fn a_content_is_that_of_its_operations()
 /// have the same content, and so the same order list and the same text. The premise is that the
 /// operations agree: no identifier names two insertions.
 pub fn same_operations_show_the_same_text()
-    ensures content { (xs ys : List Operation) → IsAgreed xs → HasSameOperations xs ys → content_of xs ≡ content_of ys }
-    ensures order { (xs ys : List Operation) → IsAgreed xs → HasSameOperations xs ys → order (content_of xs) ≡ order (content_of ys) }
-    ensures text { (xs ys : List Operation) → IsAgreed xs → HasSameOperations xs ys → text (content_of xs) ≡ text (content_of ys) }
+    ensures content { (xs ys : List Operation) → IsAgreed xs → HasSameOperations xs ys →
+        content_of xs ≡ content_of ys }
+    ensures order { (xs ys : List Operation) → IsAgreed xs → HasSameOperations xs ys →
+        order (content_of xs) ≡ order (content_of ys) }
+    ensures text { (xs ys : List Operation) → IsAgreed xs → HasSameOperations xs ys →
+        text (content_of xs) ≡ text (content_of ys) }
 {}

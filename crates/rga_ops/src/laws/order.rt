@@ -16,8 +16,10 @@ ghost use Rattle.rga_ops.specs.declared.op.Op.{Op as Operation};
 /// The functions that contracts compute with say what the relations say: which elements are
 /// complete, what the root path of an identifier is, and which path is before which.
 pub fn functions_say_what_the_relations_say()
-    ensures complete { (c : Content) (id : Identifier) → (is_complete c id ≡ true) ↔ IsComplete c id }
-    ensures path { (c : Content) (id : Identifier) (p : Path) → (root_path c id ≡ Some p) ↔ IsRootPath c id p }
+    ensures complete { (c : Content) (id : Identifier) →
+        (is_complete c id ≡ true) ↔ IsComplete c id }
+    ensures path { (c : Content) (id : Identifier) (p : Path) →
+        (root_path c id ≡ Some p) ↔ IsRootPath c id p }
     ensures before { (p q : Path) → IsBefore p q ↔ (path_cmp p q ≡ Less) }
 {}
 
@@ -33,7 +35,8 @@ pub fn path_order_is_strict_and_total()
 /// So the complete elements of a content are in a strict total order by their root paths.
 pub fn elements_are_in_one_order()
     ensures irreflexive { (c : Content) (a : Identifier) → ¬ Precedes c a a }
-    ensures transitive { (c : Content) (a b d : Identifier) → Precedes c a b → Precedes c b d → Precedes c a d }
+    ensures transitive { (c : Content) (a b d : Identifier) →
+        Precedes c a b → Precedes c b d → Precedes c a d }
     ensures total { (c : Content) (a b : Identifier) →
         IsComplete c a → IsComplete c b → a ≢ b → Precedes c a b ⊎ Precedes c b a }
 {}
@@ -54,38 +57,49 @@ pub fn elements_stand_in_the_order_or_wait()
 /// The text is of the visible elements, those that are complete and not deleted: it has the
 /// character of each, in order. Each stands at one index.
 pub fn the_text_is_of_the_visible_elements()
-    ensures visible { (c : Content) (id : Identifier) → list_any (eq_by_cmp id_cmp id) (visible c) ≡ is_visible c id }
+    ensures visible { (c : Content) (id : Identifier) →
+        list_any (eq_by_cmp id_cmp id) (visible c) ≡ is_visible c id }
     ensures characters { (c : Content) → map Some (text c) ≡ map (character c) (visible c) }
     ensures length { (c : Content) → length (text c) ≡ length (visible c) }
 
     ensures once { (c : Content) → IsDistinct (eq_by_cmp id_cmp) (visible c) }
-    ensures own_index { (c : Content) (id : Identifier) (i : ℕ) → slice_get (visible c) i ≡ Some id → position (λ x. is_id x id) (visible c) ≡ Some i }
+    ensures own_index { (c : Content) (id : Identifier) (i : ℕ) →
+        slice_get (visible c) i ≡ Some id → position (λ x. is_id x id) (visible c) ≡ Some i }
 {}
 
 /// What is neither the root nor complete has no place. A visible element's place is one more than
 /// its index in the text.
 pub fn places_in_words()
-    ensures none { (c : Content) (id : Identifier) → (place c id ≡ None) ↔ ((is_root id ≡ false) × (is_complete c id ≡ false)) }
-    ensures of_visible { (c : Content) (id : Identifier) (i : ℕ) → position (λ x. is_id x id) (visible c) ≡ Some i → place c id ≡ Some (i + 1) }
+    ensures none { (c : Content) (id : Identifier) →
+        (place c id ≡ None) ↔ ((is_root id ≡ false) × (is_complete c id ≡ false)) }
+    ensures of_visible { (c : Content) (id : Identifier) (i : ℕ) →
+        position (λ x. is_id x id) (visible c) ≡ Some i → place c id ≡ Some (i + 1) }
 {}
 
-/// An insertion of a new identifier, which no element waits for, puts it into the order right of
-/// its parent and past the larger identifiers that stand there; nothing else moves. Where its
+/// A well-formed insertion of a new identifier, which no element waits for, puts it into the order
+/// of a sound content right of its parent and past the larger identifiers that stand there; nothing
+/// else moves. Where its
 /// counter is above all others, it stands directly behind its parent. Where the parent is neither
 /// the root nor complete, the new element waits and the order stays.
 pub fn an_insertion_goes_to_its_place()
     ensures skip_rule { (c : Content) (id parent : Identifier) (ch : ℕ) →
-        IsSound c → checked (Operation.Insert id parent ch) ≡ Ok tt → finite_map.get c.inserted id ≡ None →
-        ((child : Identifier) (x : Element) → finite_map.get c.inserted child ≡ Some x → x.parent ≢ id) →
-        order (join c (single (Operation.Insert id parent ch))) ≡ put_by_skip_rule parent id (order c) }
+        let op = Operation.Insert id parent ch in
+        IsSound c → checked op ≡ Ok tt → finite_map.get c.inserted id ≡ None →
+        ((child : Identifier) (x : Element) →
+        finite_map.get c.inserted child ≡ Some x → x.parent ≢ id) →
+        order (join c (single op)) ≡ put_by_skip_rule parent id (order c) }
     ensures newest { (c : Content) (id parent : Identifier) (ch : ℕ) → clock_of c < id.counter →
-        order (join c (single (Operation.Insert id parent ch))) ≡ put_behind parent id (order c) }
+        let op = Operation.Insert id parent ch in
+        order (join c (single op)) ≡ put_behind parent id (order c) }
 {}
 
 /// A deletion moves nothing: the insertions and the order stay, and of the visible elements the
 /// deleted one alone is gone.
 pub fn a_deletion_moves_nothing()
-    ensures inserted { (c : Content) (id : Identifier) → (join c (single (Operation.Delete id))).inserted ≡ c.inserted }
-    ensures order { (c : Content) (id : Identifier) → order (join c (single (Operation.Delete id))) ≡ order c }
-    ensures visible { (c : Content) (id : Identifier) → visible (join c (single (Operation.Delete id))) ≡ without id (visible c) }
+    ensures inserted { (c : Content) (id : Identifier) →
+        (join c (single (Operation.Delete id))).inserted ≡ c.inserted }
+    ensures order { (c : Content) (id : Identifier) →
+        order (join c (single (Operation.Delete id))) ≡ order c }
+    ensures visible { (c : Content) (id : Identifier) →
+        visible (join c (single (Operation.Delete id))) ≡ without id (visible c) }
 {}

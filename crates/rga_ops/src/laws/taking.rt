@@ -3,7 +3,7 @@ ghost use Rattle.std.specs.Prelude.{◌≡◌, ◌≢◌, ◌<◌, ◌≤◌, �
 ghost use Rattle.std.specs.FinSet as finite_set;
 ghost use Rattle.rga_ops.specs.Identifier.{Identifier};
 ghost use Rattle.rga_ops.specs.Operation.{checked, id_of};
-ghost use Rattle.rga_ops.specs.Content.{Content, nothing, known_ids, Holds, HasAnother, IsSound, Agree, join, content_of, IsAgreed, HasSameOperations};
+ghost use Rattle.rga_ops.specs.Content.{Content, nothing, known_count, known_ids, Holds, HasAnother, IsSound, Agree, join, content_of, IsAgreed, HasSameOperations};
 ghost use Rattle.rga_ops.specs.Order.{order, text};
 ghost use Rattle.rga_ops.specs.Operations.{operations};
 ghost use Rattle.rga_ops.specs.Answer.{answer, taken, taken_one_by_one};
@@ -22,9 +22,11 @@ pub fn answers_in_words()
     ensures known { (limit : ℕ) (c : Content) (op : Operation) →
         (answer limit c op ≡ Ok Known) ↔ ((checked op ≡ Ok tt) × Holds c op) }
     ensures conflict { (limit : ℕ) (c : Content) (op : Operation) (id : Identifier) →
-        (answer limit c op ≡ Err (Conflict id)) ↔ ((checked op ≡ Ok tt) × HasAnother c op × (id ≡ id_of op)) }
+        (answer limit c op ≡ Err (Conflict id))
+        ↔ ((checked op ≡ Ok tt) × HasAnother c op × (id ≡ id_of op)) }
     ensures full { (limit : ℕ) (c : Content) (op : Operation) →
-        (answer limit c op ≡ Err Full) ↔ ((checked op ≡ Ok tt) × (finite_set.contains (known_ids c) (id_of op) ≡ false) × (finite_set.len (known_ids c) ≡ limit)) }
+        (answer limit c op ≡ Err Full) ↔ ((checked op ≡ Ok tt)
+        × (finite_set.contains (known_ids c) (id_of op) ≡ false) × (known_count c ≡ limit)) }
     ensures no_other { (limit : ℕ) (c : Content) (op : Operation) (e : Refused) →
         answer limit c op ≡ Err e → (e ≢ Range) × (e ≢ Clock) × (e ≢ Memory) }
 {}
@@ -33,45 +35,56 @@ pub fn answers_in_words()
 /// are taken whole exactly where each is well-formed, they agree, and their content has no more
 /// identifiers than the limit.
 pub fn taking_one_by_one_leads_to_the_content()
-    ensures content { (limit : ℕ) (ops : List Operation) (c : Content) → taken_one_by_one limit nothing ops ≡ Ok c → c ≡ content_of ops }
-    ensures well_formed { (limit : ℕ) (ops : List Operation) (c : Content) → taken_one_by_one limit nothing ops ≡ Ok c →
-        (op : Operation) → Contains ops op → checked op ≡ Ok tt }
-    ensures agreed { (limit : ℕ) (ops : List Operation) (c : Content) → taken_one_by_one limit nothing ops ≡ Ok c → IsAgreed ops }
-    ensures within { (limit : ℕ) (ops : List Operation) (c : Content) → taken_one_by_one limit nothing ops ≡ Ok c → finite_set.len (known_ids c) ≤ limit }
+    ensures content { (limit : ℕ) (ops : List Operation) (c : Content) →
+        taken_one_by_one limit nothing ops ≡ Ok c → c ≡ content_of ops }
+    ensures well_formed { (limit : ℕ) (ops : List Operation) (c : Content) →
+        taken_one_by_one limit nothing ops ≡ Ok c → AreWellFormed ops }
+    ensures agreed { (limit : ℕ) (ops : List Operation) (c : Content) →
+        taken_one_by_one limit nothing ops ≡ Ok c → IsAgreed ops }
+    ensures within { (limit : ℕ) (ops : List Operation) (c : Content) →
+        taken_one_by_one limit nothing ops ≡ Ok c → known_count c ≤ limit }
 
-    ensures whole { (limit : ℕ) (ops : List Operation) → ((op : Operation) → Contains ops op → checked op ≡ Ok tt) →
-        IsAgreed ops → finite_set.len (known_ids (content_of ops)) ≤ limit → taken_one_by_one limit nothing ops ≡ Ok (content_of ops) }
+    ensures whole { (limit : ℕ) (ops : List Operation) →
+        AreWellFormed ops → IsAgreed ops → known_count (content_of ops) ≤ limit →
+        taken_one_by_one limit nothing ops ≡ Ok (content_of ops) }
 {}
 
-/// The answers to a list that is taken whole or not at all, each exactly where it comes. It is
-/// taken where its operations would all be taken one by one, and leads to the same content.
+/// The answers to a list that is taken whole or not at all, each exactly where it comes. Where it is
+/// taken, its operations would all be taken one by one, and lead to the same content. Where they
+/// would be, and what is held is within the limit, it is taken.
 pub fn answers_to_a_list_in_words()
     ensures taken { (limit : ℕ) (c : Content) (ops : List Operation) →
-        (list_answer limit c ops ≡ Ok tt) ↔ (AreWellFormed ops × IsJoinable c ops × (finite_set.len (known_ids (join c (content_of ops))) ≤ limit)) }
+        (list_answer limit c ops ≡ Ok tt)
+        ↔ (AreWellFormed ops × IsJoinable c ops × (known_count (join c (content_of ops)) ≤ limit)) }
     ensures ill_formed { (limit : ℕ) (c : Content) (ops : List Operation) (e : Refused) →
-        ((list_answer limit c ops ≡ Err e) × ((e ≡ BadId) ⊎ (e ≡ BadOrder))) ↔ IsFirstIllFormed ops e }
+        ((list_answer limit c ops ≡ Err e) × ((e ≡ BadId) ⊎ (e ≡ BadOrder)))
+        ↔ IsFirstIllFormed ops e }
     ensures conflict { (limit : ℕ) (c : Content) (ops : List Operation) (id : Identifier) →
-        (list_answer limit c ops ≡ Err (Conflict id)) ↔ (AreWellFormed ops × IsFirstConflict c ops id) }
+        (list_answer limit c ops ≡ Err (Conflict id))
+        ↔ (AreWellFormed ops × IsFirstConflict c ops id) }
     ensures full { (limit : ℕ) (c : Content) (ops : List Operation) →
-        (list_answer limit c ops ≡ Err Full) ↔ (AreWellFormed ops × IsJoinable c ops × (limit < finite_set.len (known_ids (join c (content_of ops))))) }
+        (list_answer limit c ops ≡ Err Full)
+        ↔ (AreWellFormed ops × IsJoinable c ops × (limit < known_count (join c (content_of ops)))) }
     ensures no_other { (limit : ℕ) (c : Content) (ops : List Operation) (e : Refused) →
         list_answer limit c ops ≡ Err e → (e ≢ Range) × (e ≢ Clock) × (e ≢ Memory) }
 
     ensures one_by_one { (limit : ℕ) (c : Content) (ops : List Operation) →
-        list_answer limit c ops ≡ Ok tt → taken_one_by_one limit c ops ≡ Ok (join c (content_of ops)) }
-    ensures whole { (limit : ℕ) (c d : Content) (ops : List Operation) → finite_set.len (known_ids c) ≤ limit →
+        list_answer limit c ops ≡ Ok tt →
+        taken_one_by_one limit c ops ≡ Ok (join c (content_of ops)) }
+    ensures whole { (limit : ℕ) (c d : Content) (ops : List Operation) → known_count c ≤ limit →
         taken_one_by_one limit c ops ≡ Ok d → list_answer limit c ops ≡ Ok tt }
 {}
 
 /// The answers to a merge, each exactly where it comes: contents that agree are joined where the
-/// limit suffices. That is where the operations of the other content would be taken as a list.
+/// limit suffices. Where the other content is sound, that is where its operations would be taken as
+/// a list.
 pub fn merging_in_words()
     ensures taken { (limit : ℕ) (c d : Content) →
-        (merge_answer limit c d ≡ Ok tt) ↔ (Agree c d × (finite_set.len (known_ids (join c d)) ≤ limit)) }
+        (merge_answer limit c d ≡ Ok tt) ↔ (Agree c d × (known_count (join c d) ≤ limit)) }
     ensures conflict { (limit : ℕ) (c d : Content) (id : Identifier) →
         (merge_answer limit c d ≡ Err (Conflict id)) ↔ IsLeastConflict c d id }
     ensures full { (limit : ℕ) (c d : Content) →
-        (merge_answer limit c d ≡ Err Full) ↔ (Agree c d × (limit < finite_set.len (known_ids (join c d)))) }
+        (merge_answer limit c d ≡ Err Full) ↔ (Agree c d × (limit < known_count (join c d))) }
     ensures no_other { (limit : ℕ) (c d : Content) (e : Refused) →
         merge_answer limit c d ≡ Err e → ((id : Identifier) × (e ≡ Conflict id)) ⊎ (e ≡ Full) }
 
@@ -87,7 +100,10 @@ pub fn replicas_that_took_the_same_hold_the_same()
     ensures taken { (limit : ℕ) (ops : List Operation) (c d : Content) (op : Operation) →
         Took ops c → taken limit c op ≡ Ok d → Took (ops ++ op ∷ []) d }
     ensures held { (ops : List Operation) (c : Content) → Took ops c → c ≡ content_of ops }
-    ensures content { (xs ys : List Operation) (c d : Content) → Took xs c → Took ys d → IsAgreed xs → HasSameOperations xs ys → c ≡ d }
-    ensures order { (xs ys : List Operation) (c d : Content) → Took xs c → Took ys d → IsAgreed xs → HasSameOperations xs ys → order c ≡ order d }
-    ensures text { (xs ys : List Operation) (c d : Content) → Took xs c → Took ys d → IsAgreed xs → HasSameOperations xs ys → text c ≡ text d }
+    ensures content { (xs ys : List Operation) (c d : Content) →
+        Took xs c → Took ys d → IsAgreed xs → HasSameOperations xs ys → c ≡ d }
+    ensures order { (xs ys : List Operation) (c d : Content) →
+        Took xs c → Took ys d → IsAgreed xs → HasSameOperations xs ys → order c ≡ order d }
+    ensures text { (xs ys : List Operation) (c d : Content) →
+        Took xs c → Took ys d → IsAgreed xs → HasSameOperations xs ys → text c ≡ text d }
 {}

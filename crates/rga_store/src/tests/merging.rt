@@ -1,26 +1,21 @@
 //! Merges of small stores: answers, contents and orders.
-use super::{delete, id, insert};
+use super::store_of;
 use crate::{Taker, TextStore, TreeStore};
 use rga_ops::{Id, Op, Refusal};
-use std::alloc::Global;
 use std::test::Fail;
-
-fn store_of(alloc: Global, limit: usize, ops: &[Op]) -> Result<TreeStore, Fail> {
-    let mut store = TreeStore::new(alloc, limit)?;
-    for op in ops {
-        let _taken = store.apply(*op)?;
-    }
-    Ok(store)
-}
+use test_ops::{deletion, id, insertion};
 
 /// Two elements one behind the other.
 fn here() -> Result<[Op; 2], Refusal> {
-    Ok([insert((1, 1), (0, 0), 'a')?, insert((2, 1), (1, 1), 'b')?])
+    Ok([
+        insertion((1, 1), (0, 0), 'a')?,
+        insertion((2, 1), (1, 1), 'b')?,
+    ])
 }
 
 /// Another element at the root, and the deletion of the second.
 fn there() -> Result<[Op; 2], Refusal> {
-    Ok([insert((1, 2), (0, 0), 'x')?, delete((2, 1))?])
+    Ok([insertion((1, 2), (0, 0), 'x')?, deletion(2, 1)?])
 }
 
 fn has_same(a: &TreeStore, b: &TreeStore) -> Result<bool, Fail> {
@@ -44,11 +39,14 @@ fn a_merge_joins_either_way_round(rt: HostRuntime) -> Result<(), Fail> {
 
 #[test]
 fn each_merge_has_its_answer(rt: HostRuntime) -> Result<(), Fail> {
-    let conflicting = [insert((2, 1), (0, 0), 'z')?, insert((1, 1), (0, 0), 'q')?];
+    let conflicting = [
+        insertion((2, 1), (0, 0), 'z')?,
+        insertion((1, 1), (0, 0), 'q')?,
+    ];
     let one = id(1, 1)?;
     let table: [(&str, usize, &[Op], Result<(), Refusal>); 5] = [
         ("nothing", 2, &[], Ok(())),
-        ("a known element deleted", 2, &[delete((1, 1))?], Ok(())),
+        ("a known element deleted", 2, &[deletion(1, 1)?], Ok(())),
         ("too many", 2, &there()?, Err(Refusal::Full)),
         ("just enough", 3, &there()?, Ok(())),
         (

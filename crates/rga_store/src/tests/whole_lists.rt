@@ -1,14 +1,15 @@
 //! Lists of operations that a store takes whole or not at all.
-use super::{delete, id, insert, store_of};
+use super::store_of;
 use crate::{Taker, TextStore};
 use rga_ops::{Op, Refusal};
 use std::test::Fail;
+use test_ops::{deletion, id, insertion};
 
 #[test]
 fn a_list_is_taken_whole(rt: HostRuntime) -> Result<(), Fail> {
-    let a = insert((1, 1), (0, 0), 'a')?;
-    let b = insert((2, 1), (1, 1), 'b')?;
-    let gone = delete((1, 1))?;
+    let a = insertion((1, 1), (0, 0), 'a')?;
+    let b = insertion((2, 1), (1, 1), 'b')?;
+    let gone = deletion(1, 1)?;
     let table: [(&str, usize, &[Op], &[Op], &[Op]); 5] = [
         ("nothing", 1, &[], &[], &[]),
         ("one identifier, twice", 1, &[], &[gone, a], &[a, gone]),
@@ -27,18 +28,18 @@ fn a_list_is_taken_whole(rt: HostRuntime) -> Result<(), Fail> {
 #[test]
 fn a_refused_list_changes_nothing(rt: HostRuntime) -> Result<(), Fail> {
     let conflict = Refusal::Conflict(id(1, 1)?);
-    let a = insert((1, 1), (0, 0), 'a')?;
-    let b = insert((2, 1), (1, 1), 'b')?;
-    let other = insert((1, 1), (0, 0), 'b')?;
-    let flat = insert((3, 1), (3, 1), 'c')?;
-    let gone = delete((2, 1))?;
+    let a = insertion((1, 1), (0, 0), 'a')?;
+    let b = insertion((2, 1), (1, 1), 'b')?;
+    let other = insertion((1, 1), (0, 0), 'b')?;
+    let flat = insertion((3, 1), (3, 1), 'c')?;
+    let gone = deletion(2, 1)?;
     let table: [(&str, usize, &[Op], &[Op], Refusal); 6] = [
         ("too many", 1, &[], &[a, b], Refusal::Full),
         ("a deletion too many", 1, &[a], &[gone], Refusal::Full),
         ("two insertions", 1, &[], &[a, b, other], conflict),
         ("one of the store", 9, &[a], &[b, other], conflict),
         ("ill-formed", 9, &[a], &[other, flat], Refusal::BadOrder),
-        ("the root", 9, &[], &[delete((0, 0))?, flat], Refusal::BadId),
+        ("the root", 9, &[], &[deletion(0, 0)?, flat], Refusal::BadId),
     ];
     for row in &table {
         let mut store = store_of(rt.alloc(), row.1, row.2)?;

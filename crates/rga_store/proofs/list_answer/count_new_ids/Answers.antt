@@ -15,7 +15,7 @@ use Rattle.rga_ops.proofs.ContentLaws.{join_nothing}
 use Rattle.rga_ops.proofs.ListSteps.{known_more}
 use Rattle.rga_ops.specs.declared.op.Op.{Op}
 use Rattle.rga_store.proofs.ChildLaws.{on_ok}
-use Rattle.rga_store.proofs.list_answer.count_new_ids.Goals.{else-not-is_known-via-then-not-is_known+else-is_err, else-not-is_known-via-else-not-is_known}
+use Rattle.rga_store.proofs.list_answer.count_new_ids.Goals.{then-not-is_known+in_ok-_is_new, else-not-is_known}
 use Rattle.rga_store.proofs.list_answer.count_new_ids.Goals as goal
 
 pub loop-op-init : goal.loop-op-init
@@ -45,10 +45,9 @@ there_already s id there = finite_set.same_set ids_total ids_exact _ _ (λ q.
     by false b h = refl
 
 -- one more, unless it was there
-count_now : {E : Type 0} (r : Result Bool E) (b : Bool) (s before now d n : ℕ) → is_ok r ≡ true → IfOk r (λ x. x ≡ not b) → IfOk r (λ x. now ≡ before + cond x 1 0) → s + before ≡ d → n ≡ cond b d (d + 1) → s + now ≡ n
-count_now (Ok x) true s before now d n ok new grown counted more = omega (arith, grown ∙ ap (λ y. before + cond y 1 0) new)
-count_now (Ok x) false s before now d n ok new grown counted more = omega (arith, grown ∙ ap (λ y. before + cond y 1 0) new)
-count_now (Err e) b s before now d n ok new grown counted more = absurd (cc)
+count_now : (x b : Bool) (s before now d n : ℕ) → x ≡ not b → now ≡ before + cond x 1 0 → s + before ≡ d → n ≡ cond b d (d + 1) → s + now ≡ n
+count_now x true s before now d n new grown counted more = omega (arith, grown ∙ ap (λ y. before + cond y 1 0) new)
+count_now x false s before now d n new grown counted more = omega (arith, grown ∙ ap (λ y. before + cond y 1 0) new)
 
 put_first : (t a b : Bool) → (a || cond t true b) ≡ (t || (a || b))
 put_first true true b = refl
@@ -63,23 +62,23 @@ loop-op-preserved c =
     let after : FinSet id_cmp = known_ids (join s (content_of (take (c.loop-op.op-index + 1) c.args.ops.now))) in
     let more : after ≡ finite_set.insert before id =
     more_known s c.args.ops.now c.loop-op.op-index c.op-item.result c.loop-op-test.true c.op-item.is ∙ ap (finite_set.insert before) (sym c.id-id.ensures) in
-    elim c.else-not-is_known.branch [
-      | else-not-is_known-via-then-not-is_known+else-is_err w ↦
+    elim c.if-not-is_known.branch [
+      | then-not-is_known+in_ok-_is_new w ↦
           record {
             counted = ap (λ m. finite_set.len (known_ids s) + index_set_len m) w.added-is
-                ∙ count_now w.insert.result (contains is_id c.loop-op.added id) (finite_set.len (known_ids s)) (index_set_len c.loop-op.added) (index_set_len w.insert.new.self) (finite_set.len before) (finite_set.len after)
-                (w.is_err.ensures.negation ∙ ap not w.if-is_err.false) w.insert.ensures.added w.insert.ensures.len c.loop-op.invariant.counted
+                ∙ count_now w.in_ok-_is_new._is_new (contains is_id c.loop-op.added id) (finite_set.len (known_ids s)) (index_set_len c.loop-op.added) (index_set_len w.insert.new.self) (finite_set.len before) (finite_set.len after)
+                w.in_ok-_is_new.ensures.added w.in_ok-_is_new.ensures.len c.loop-op.invariant.counted
                 (ap finite_set.len more ∙ finite_set.len-insert ids_total before id
                 ∙ ap (λ b. cond b (finite_set.len before) (finite_set.len before + 1)) (sym (c.loop-op.invariant.members id) ∙ ap (λ b. b || contains is_id c.loop-op.added id) (sym c.is_known.ensures ∙ w.if-not-is_known.true)));
             members = λ q.
                 ap (λ m. finite_set.contains (known_ids s) q || contains is_id m q) w.added-is
-                ∙ ap (λ b. finite_set.contains (known_ids s) q || b) ((on_ok w.insert.result (w.is_err.ensures.negation ∙ ap not w.if-is_err.false) w.insert.ensures.updates).0 q
+                ∙ ap (λ b. finite_set.contains (known_ids s) q || b) (w.in_ok-_is_new.ensures.updates.0 q
                 ∙ ap (λ t. cond t true (contains is_id c.loop-op.added q)) (is_id-same id q))
                 ∙ put_first (is q id) (finite_set.contains (known_ids s) q) (contains is_id c.loop-op.added q)
                 ∙ ap (λ b. is q id || b) (c.loop-op.invariant.members q)
                 ∙ sym (ap (λ t. finite_set.contains t q) more ∙ finite_set.contains-insert ids_total before id q);
           }
-      | else-not-is_known-via-else-not-is_known w ↦
+      | else-not-is_known w ↦
           let there : finite_set.contains before id ≡ true =
           sym (c.loop-op.invariant.members id) ∙ ap (λ b. b || contains is_id c.loop-op.added id) (sym c.is_known.ensures ∙ w.if-not-is_known.false) in
           let same : after ≡ before = more ∙ there_already before id there in

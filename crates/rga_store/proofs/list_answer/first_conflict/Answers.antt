@@ -19,7 +19,7 @@ use Rattle.rga_ops.proofs.ListSteps.{join_more, get-insertion, get-deletion, fir
 use Rattle.rga_ops.specs.declared.op.Op.{Op}
 use Rattle.rga_ops.specs.declared.op.Op.TheVariants.{Insert}
 use Rattle.rga_store.proofs.ChildLaws.{on_ok}
-use Rattle.rga_store.proofs.list_answer.first_conflict.Goals.{in-Insert+in-Some, in-Insert+in-None+else-is_err, in_default}
+use Rattle.rga_store.proofs.list_answer.first_conflict.Goals.{in-Insert+in-Some, in-Insert+in-None+in_ok-_none-in-None, in_default}
 use Rattle.rga_store.proofs.list_answer.first_conflict.Goals as goal
 
 -- ---- elements, as they are looked up
@@ -105,14 +105,14 @@ loop-op-preserved c =
                 ∙ c.loop-op.invariant.elements q ∙ ap (λ (e : Content). pair_of (finite_map.get e.inserted q)) (sym stays);
             rest = goes_on (ap (has_another d) w.in-Insert.is ∙ ap (λ o. option_map_or (λ x. not (is_element x w.in-Insert.parent w.in-Insert.ch)) o false) there ∙ ap not same);
           }
-      | in-Insert+in-None+else-is_err w ↦
+      | in-Insert+in-None+in_ok-_none-in-None w ↦
           let neither : option_or (pair_of (finite_map.get s.inserted w.in-Insert.id)) (get is_id c.loop-op.added w.in-Insert.id) ≡ None = sym w.element_in.ensures ∙ w.in-None.is in
           let absent : finite_map.get d.inserted w.in-Insert.id ≡ None =
           found_none (finite_map.get d.inserted w.in-Insert.id) (sym (c.loop-op.invariant.elements w.in-Insert.id) ∙ neither) in
           record {
             elements = λ q.
                 ap (λ m. option_or (pair_of (finite_map.get s.inserted q)) (get is_id m q)) w.added-is
-                ∙ ap (option_or (pair_of (finite_map.get s.inserted q))) ((on_ok w.insert.result (w.is_err.ensures.negation ∙ ap not w.if-is_err.false) w.insert.ensures.updates).0 q
+                ∙ ap (option_or (pair_of (finite_map.get s.inserted q))) (w.in_ok-_none-in-None.ensures.updates.0 q
                 ∙ ap (λ t. cond t (Some (w.in-Insert.parent, w.in-Insert.ch)) (get is_id c.loop-op.added q)) (is_id-same w.in-Insert.id q))
                 ∙ added_element (is q w.in-Insert.id) (pair_of (finite_map.get s.inserted q)) (get is_id c.loop-op.added q) (finite_map.get d.inserted q) w.in-Insert.parent w.in-Insert.ch
                 (λ t. ap (λ k. pair_of (finite_map.get s.inserted k)) (same_id q w.in-Insert.id t) ∙ first_none _ _ neither)

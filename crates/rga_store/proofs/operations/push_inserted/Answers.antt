@@ -1,4 +1,4 @@
-use Rattle.std.proofs.Common.{rules, is_some, ◌≡◌, ◌+◌, Bool, true, false, cond, not, take, [], ◌∷◌, ◌++◌, sym, ap, ◌∙◌, append-nil, append_assoc}
+use Rattle.std.proofs.Common.{rules, is_some, ◌≡◌, ◌+◌, Bool, true, false, cond, take, [], ◌∷◌, ◌++◌, sym, ap, ◌∙◌, append-nil, append_assoc}
 use Rattle.std.specs.Prelude.{Some, slice_get}
 use Rattle.std.specs.Option.{option_map}
 use Rattle.std.specs.Map.Iter.{deref_pair}
@@ -6,7 +6,7 @@ use Rattle.rga_ops.specs.Identifier.{Identifier}
 use Rattle.rga_store.specs.declared.nodes.Node.{Node}
 use Rattle.rga_store.specs.Nodes.{Nodes, inserted_ids}
 use Rattle.rga_store.proofs.PickedLaws.{picked_step}
-use Rattle.rga_store.proofs.operations.push_inserted.Goals.{in-Some+else-inserted, in_default, else-inserted-via-then-inserted+else-is_err, else-inserted-via-else-inserted}
+use Rattle.rga_store.proofs.operations.push_inserted.Goals.{in-Some+then-inserted+in_ok-push, in-Some+else-inserted, in_default}
 use Rattle.rga_store.proofs.operations.push_inserted.Goals as goal
 
 pub loop-i-preserved : goal.loop-i-preserved
@@ -18,15 +18,10 @@ loop-i-preserved c =
     ∙ ap (λ xs. c.args.ids.now.items ++ xs) (ap (λ d. inserted_ids (take c.loop-i.i ns) ++ cond d (k ∷ []) []) (sym is) ∙ sym (picked_step (λ u. is_some u.element) ns c.loop-i.i k v at)) in
     elim c.match-get_index.branch [
       | in_default w ↦ search rules
+      | in-Some+then-inserted+in_ok-push w ↦
+          let at : slice_get ns c.loop-i.i ≡ Some (w.in-Some.id.now, w.in-Some.node.now) = sym c.get_index.ensures.entry ∙ ap (option_map deref_pair) w.in-Some.is in
+          ap (λ u. u.items) w.ids-is ∙ w.in_ok-push.ensures.items ∙ after w.in-Some.id.now w.in-Some.node.now true at (sym w.is_some-inserted.ensures ∙ w.if-inserted.true)
       | in-Some+else-inserted w ↦
           let at : slice_get ns c.loop-i.i ≡ Some (w.in-Some.id.now, w.in-Some.node.now) = sym c.get_index.ensures.entry ∙ ap (option_map deref_pair) w.in-Some.is in
-          elim w.else-inserted.branch [
-            | else-inserted-via-then-inserted+else-is_err v ↦
-                ap (λ u. u.items) w.ids-is ∙ ap (λ u. u.items) v.ids-is ∙ v.push.ensures.items
-                ∙ ap (λ b. cond b (c.loop-i.ids.items ++ w.in-Some.id.now ∷ []) c.loop-i.ids.items) (v.is_err.ensures.negation ∙ ap not v.if-is_err.false)
-                ∙ after w.in-Some.id.now w.in-Some.node.now true at (sym w.is_some-inserted.ensures ∙ v.if-inserted.true)
-            | else-inserted-via-else-inserted v ↦
-                ap (λ u. u.items) w.ids-is ∙ ap (λ u. u.items) v.ids-is ∙ sym (append-nil c.loop-i.ids.items)
-                ∙ after w.in-Some.id.now w.in-Some.node.now false at (sym w.is_some-inserted.ensures ∙ v.if-inserted.false)
-          ]
+          ap (λ u. u.items) w.ids-is ∙ sym (append-nil c.loop-i.ids.items) ∙ after w.in-Some.id.now w.in-Some.node.now false at (sym w.is_some-inserted.ensures ∙ w.if-inserted.false)
     ]

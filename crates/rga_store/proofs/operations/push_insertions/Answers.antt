@@ -1,4 +1,4 @@
-use Rattle.std.proofs.Common.{◌≡◌, ℕ, ◌+◌, not, cond, List, [], ◌∷◌, ◌++◌, take, Option, Some, None, sym, ap, ◌∙◌, append-nil, append_assoc}
+use Rattle.std.proofs.Common.{◌≡◌, ℕ, ◌+◌, List, [], ◌∷◌, ◌++◌, take, Option, Some, None, sym, ap, ◌∙◌, append-nil, append_assoc}
 use Rattle.std.specs.List.{filter_map, cons_option}
 use Rattle.std.proofs.lemmas.List.{take_more}
 use Rattle.std.proofs.lemmas.List.Elements.{filter_map-append}
@@ -6,7 +6,7 @@ use Rattle.rga_ops.specs.Identifier.{Identifier}
 use Rattle.rga_ops.specs.Operations.{insertion_at}
 use Rattle.rga_ops.specs.declared.op.Op.{Op}
 use Rattle.rga_store.specs.Nodes.{content_of_nodes}
-use Rattle.rga_store.proofs.operations.push_insertions.Goals.{in-Some+else-is_err, in_default}
+use Rattle.rga_store.proofs.operations.push_insertions.Goals.{in-Some+in_ok-push, in_default}
 use Rattle.rga_store.proofs.operations.push_insertions.Goals as goal
 
 pub loop-id-preserved : goal.loop-id-preserved
@@ -23,8 +23,6 @@ loop-id-preserved c =
     elim c.match-insertion_of.branch [
       | in_default w ↦
           ap (λ v. v.items) w.ops-is ∙ sym (append-nil c.loop-id.ops.items) ∙ after None (sym w.in_default.ensures)
-      | in-Some+else-is_err w ↦
-          ap (λ v. v.items) w.ops-is ∙ w.push.ensures.items
-          ∙ ap (λ b. cond b (c.loop-id.ops.items ++ w.in-Some.op ∷ []) c.loop-id.ops.items) (w.is_err.ensures.negation ∙ ap not w.if-is_err.false)
-          ∙ after (Some w.in-Some.op) (sym c.insertion_of.ensures ∙ w.in-Some.is)
+      | in-Some+in_ok-push w ↦
+          ap (λ v. v.items) w.ops-is ∙ w.in_ok-push.ensures.items ∙ after (Some w.in-Some.op) (sym c.insertion_of.ensures ∙ w.in-Some.is)
     ]

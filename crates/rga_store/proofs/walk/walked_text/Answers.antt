@@ -1,4 +1,4 @@
-use Rattle.std.proofs.Common.{◌≡◌, ℕ, ◌-◌, take, not, cond, List, [], ◌∷◌, ◌++◌, Option, Some, None, sym, ap, ◌∙◌, subst, append-nil}
+use Rattle.std.proofs.Common.{◌≡◌, ℕ, ◌-◌, take, List, [], ◌∷◌, ◌++◌, Option, refl, sym, ap, ◌∙◌, subst}
 use Rattle.std.specs.List.{filter_map, cons_option}
 use Rattle.std.specs.Map.{lookup}
 use Rattle.std.specs.Option.{option_copied}
@@ -7,7 +7,7 @@ use Rattle.rga_ops.specs.Identifier.{Identifier, is_id, root}
 use Rattle.rga_ops.specs.Content.{Content}
 use Rattle.rga_ops.specs.Order.{shown}
 use Rattle.rga_store.specs.declared.nodes.Node.{Node}
-use Rattle.rga_store.specs.Nodes.{Nodes, content_of_nodes, kids, char_at, AreApart}
+use Rattle.rga_store.specs.Nodes.{Nodes, content_of_nodes, children_of, char_at, AreApart}
 use Rattle.rga_store.proofs.NodeLaws.{shown_at}
 use Rattle.rga_store.proofs.WalkLaws.{IsWalk, walk_start, walk_step, walk_smaller, walk_order}
 use Rattle.rga_store.proofs.walk.walked_text.Goals as goal
@@ -23,54 +23,36 @@ shows_more ns done id found chars ch apart at is shows =
 
 pub loop-id-init : goal.loop-id-init
 loop-id-init c =
-    let lists : Identifier → List Identifier = kids c.args.nodes.now.entries in
+    let lists : Identifier → List Identifier = children_of c.args.nodes.now.entries in
     record {
       done = [];
       walk = walk_start (content_of_nodes c.args.nodes.now.entries) lists c.requires.family c.requires.sound c.push_children.new.stack.items
           (c.in_ok-push_children.ensures.stack ∙ ap (λ xs. xs ++ lists root) c.new-stack.ensures.items);
-      shows = c.in-Ok.ensures.items;
+      shows = c.in_ok-chars.ensures.items;
     }
 
 pub loop-id-smaller : goal.loop-id-smaller
 loop-id-smaller c =
-    walk_smaller (content_of_nodes c.args.nodes.now.entries) (kids c.args.nodes.now.entries) c.requires.family c.requires.sound
+    walk_smaller (content_of_nodes c.args.nodes.now.entries) (children_of c.args.nodes.now.entries) c.requires.family c.requires.sound
     c.loop-id.invariant.done c.loop-id.stack.items c.push_children-in-Some.new.stack.items c.pop.new.self.items c.in-Some.id
     c.in-Some.ensures.items c.in_ok-node.ensures.stack c.loop-id.invariant.walk
 
 pub loop-id-preserved : goal.loop-id-preserved
 loop-id-preserved c = record {
   done = c.loop-id.invariant.done ++ c.in-Some.id ∷ [];
-  walk = walk_step (content_of_nodes c.args.nodes.now.entries) (kids c.args.nodes.now.entries) c.requires.family c.requires.sound
+  walk = walk_step (content_of_nodes c.args.nodes.now.entries) (children_of c.args.nodes.now.entries) c.requires.family c.requires.sound
       c.loop-id.invariant.done c.loop-id.stack.items c.push_children-in-Some.new.stack.items c.pop.new.self.items c.in-Some.id
       c.in-Some.ensures.items c.in_ok-node.ensures.stack c.loop-id.invariant.walk;
-  shows = sym (append-nil c.loop-id.chars.items)
-      ∙ shows_more c.args.nodes.now.entries c.loop-id.invariant.done c.in-Some.id (option_copied c.in_ok-node.node) c.loop-id.chars.items None c.requires.apart c.in_ok-node.ensures.node
-      c.in_default-char_of.ensures c.loop-id.invariant.shows;
-}
-
-pub loop-id-smaller-else-is_err : goal.loop-id-smaller-else-is_err
-loop-id-smaller-else-is_err c =
-    walk_smaller (content_of_nodes c.args.nodes.now.entries) (kids c.args.nodes.now.entries) c.requires.family c.requires.sound
-    c.loop-id.invariant.done c.loop-id.stack.items c.push_children-in-Some.new.stack.items c.pop.new.self.items c.in-Some.id
-    c.in-Some.ensures.items c.in_ok-node.ensures.stack c.loop-id.invariant.walk
-
-pub loop-id-preserved-else-is_err : goal.loop-id-preserved-else-is_err
-loop-id-preserved-else-is_err c = record {
-  done = c.loop-id.invariant.done ++ c.in-Some.id ∷ [];
-  walk = walk_step (content_of_nodes c.args.nodes.now.entries) (kids c.args.nodes.now.entries) c.requires.family c.requires.sound
-      c.loop-id.invariant.done c.loop-id.stack.items c.push_children-in-Some.new.stack.items c.pop.new.self.items c.in-Some.id
-      c.in-Some.ensures.items c.in_ok-node.ensures.stack c.loop-id.invariant.walk;
-  shows = c.push.ensures.items
-      ∙ ap (λ b. cond b (c.loop-id.chars.items ++ c.in-Some-char_of.ch ∷ []) c.loop-id.chars.items) (c.is_err.ensures.negation ∙ ap not c.if-is_err.false)
-      ∙ shows_more c.args.nodes.now.entries c.loop-id.invariant.done c.in-Some.id (option_copied c.in_ok-node.node) c.loop-id.chars.items (Some c.in-Some-char_of.ch) c.requires.apart c.in_ok-node.ensures.node
-      c.in-Some-char_of.ensures c.loop-id.invariant.shows;
+  shows = c.in_ok-push_char.ensures.ok
+      ∙ shows_more c.args.nodes.now.entries c.loop-id.invariant.done c.in-Some.id (option_copied c.in_ok-node.node) c.loop-id.chars.items (char_at (option_copied c.in_ok-node.node)) c.requires.apart c.in_ok-node.ensures.node
+      refl c.loop-id.invariant.shows;
 }
 
 pub returns-clause-ok : goal.returns-clause-ok
 returns-clause-ok c =
     let held : Content = content_of_nodes c.args.nodes.now.entries in
     let left : c.loop-id.stack.items ≡ [] =
-    c.in_default-pop.ensures.items ∙ ap (λ xs. xs ++ []) (c.in_default-pop.ensures.rest ∙ ap (λ n. take (n - 1) c.loop-id.stack.items) c.in_default-pop.ensures.cases.0) in
+    c.in_default.ensures.items ∙ ap (λ xs. xs ++ []) (c.in_default.ensures.rest ∙ ap (λ n. take (n - 1) c.loop-id.stack.items) c.in_default.ensures.cases.0) in
     c.loop-id.invariant.shows
-    ∙ ap (filter_map (shown held)) (walk_order held (kids c.args.nodes.now.entries) c.requires.family c.requires.sound c.loop-id.invariant.done
+    ∙ ap (filter_map (shown held)) (walk_order held (children_of c.args.nodes.now.entries) c.requires.family c.requires.sound c.loop-id.invariant.done
     (subst (λ todo. IsWalk held c.loop-id.invariant.done todo) left c.loop-id.invariant.walk))

@@ -50,8 +50,8 @@ loop-x-preserved g c =
       ahead = sym (among_later id xs c.loop-x.x-index x c.loop-x-test.true c.x-item.is other) ∙ c.loop-x.invariant.ahead;
     }
 
-pub returns-clause-err : goal.returns-clause-err
-returns-clause-err g c =
+pub returns-clause-refused : goal.returns-clause-refused
+returns-clause-refused g c =
     let content : Content = g.S.Taker.content c.args.store.now in
     let id : Identifier = c.args.id in
     let xs : List Identifier = c.deref-x-items.result.now in

@@ -1,5 +1,5 @@
 use Rattle.std.proofs.Common.{◌≡◌, cond, not, [], ◌∷◌, ◌++◌, sym, ap, ◌∙◌, subst}
-use Rattle.rga_store.specs.declared.tree_store.taking_back.Step.{Step}
+use Rattle.rga_store.specs.declared.tree_store.whole_list.Step.{Step}
 use Rattle.rga_store.specs.Back.{gone_back, CanGoBack}
 use Rattle.rga_store.proofs.BackLaws.{gone_back-push, one_step_more}
 use Rattle.rga_store.proofs.tree_store.TreeStore.note.Goals as goal

@@ -31,7 +31,7 @@ take_one_by_one-requires c = ap is_ok
 pub returns-clause-ok : goal.returns-clause-ok
 returns-clause-ok c =
     let empty : IsEmpty c.in_ok-copy.copy c.self.inside.limit = c.in_ok-copy.ensures.made c.self.invariant.counted.limited in
-    let same : took c.take_one_by_one.new.taker.content ≡ took c.args.self.now.content =
+    let same : took c.take_one_by_one.new.store.content ≡ took c.args.self.now.content =
     sym c.in_ok-take_one_by_one.ensures.ok
     ∙ all_taken (content_of_nodes c.self.inside.nodes.entries) c.self.inside.clock c.self.inside.inserted c.self.inside.known c.self.inside.limit c.in_ok-copy.copy c.args.self.now c.deref.result.now
     c.self.invariant.counted c.self.view_is empty (c.deref.ensures.value ∙ c.in_ok-ops.ensures.ok) in
