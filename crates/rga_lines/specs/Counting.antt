@@ -1,23 +1,20 @@
 -- A device whose failed calls are counted, and whose calls come to an end.
-use Rattle.std.specs.Prelude.{◌≡◌, ℕ, ◌+◌, ◌-◌, ◌^◌, ◌<◌, ◌≤◌, ◌⊎◌, ◌&&◌, ◌==◌, min, List, ◌++◌, length, nat_lt, if◌then◌else◌, Option, Result, MatchResult, ⊤}
-use Rattle.std.specs.Io.KnownBytes.{Appends}
-use Rattle.rga_lines.specs.declared.counted.Counted.{Counted}
+use Rattle.std.specs.Prelude.{◌≡◌, ◌≢◌, ℕ, ◌+◌, ◌-◌, ◌^◌, ◌<◌, ◌≤◌, ◌⊎◌, ◌&&◌, ◌==◌, min, List, ◌++◌, length, nat_lt, if◌then◌else◌, Option, IfSome, Result, Err, MatchResult, ⊤, refl}
+use Rattle.std.specs.Coded.{Coded, code_by, coded×, coded_ℕ}
+use Rattle.std.specs.Io.KnownBytes.{Keeps, Appends}
+use Rattle.rga_lines.specs.declared.counted.TheConstants.{MAX_CALLS}
 
--- the device inside
-abbrev pub counted_inner : {T : Type 0} → Counted T → T
-counted_inner c = c.inner
+-- what a contract sees of a `Counted`: the device, how many calls failed, and how many more are passed on to it
+pub record Calls (T : Type 0) : Type 0 where
+  pub inner : T
+  pub failures : ℕ
+  pub left : ℕ
 
--- how many calls failed
-abbrev pub counted_failures : {T : Type 0} → Counted T → ℕ
-counted_failures c = c.failures
-
--- how many more calls are passed on to the device
-abbrev pub counted_left : {T : Type 0} → Counted T → ℕ
-counted_left c = c.left
-
--- how many calls are passed on in all
-abbrev pub max_calls : ℕ
-max_calls = 1099511627776
+-- they are stored as the tuple of the fields
+abbrev pub calls_code : {T : Type 0} → Coded T → Coded (Calls T)
+calls_code {T} code =
+    code_by (T × (ℕ × ℕ)) (coded× code (coded× coded_ℕ coded_ℕ)) (λ c. (c.inner, (c.failures, c.left)))
+    (λ p. record { inner = p.0; failures = p.1.0; left = p.1.1 }) (λ _. refl)
 
 -- the count of failures stops at the greatest `u64`
 abbrev pub max_failures : ℕ
@@ -27,28 +24,49 @@ max_failures = 2 ^ 64 - 1
 abbrev pub one_more : ℕ → ℕ
 one_more n = min (n + 1) max_failures
 
--- No call is passed on any more: none is left, or the count of failures stands at its greatest.
-abbrev pub IsSpent : {T : Type 0} → Counted T → Type 0
-IsSpent c = (counted_left c ≡ 0) ⊎ (counted_failures c ≡ max_failures)
+module _ {T : Type 0} where
+  -- No call is passed on any more: none is left, or the count of failures stands at its greatest.
+  abbrev pub IsSpent : Calls T → Type 0
+  IsSpent c = (c.left ≡ 0) ⊎ (c.failures ≡ max_failures)
 
--- a call that answers `Ok` leaves the count of failures, and one that answers `Err` adds one to it
-abbrev pub Counts : {A E : Type 0} → Result A E → ℕ → ℕ → Type 0
-Counts r old new = MatchResult r (λ _. new ≡ old) (λ _. new ≡ one_more old)
+  -- a call that answers `Ok` leaves the count of failures, and one that answers `Err` adds one to it
+  abbrev pub Counts : {A E : Type 0} → Result A E → Calls T → Calls T → Type 0
+  Counts r old new = MatchResult r (λ _. new.failures ≡ old.failures) (λ _. new.failures ≡ one_more old.failures)
 
--- the same of a write, where taking nothing of some bytes counts as a failure too
-abbrev pub WriteCounts : {E : Type 0} → Result ℕ E → List ℕ → ℕ → ℕ → Type 0
-WriteCounts r buf old new = MatchResult r (λ n. new ≡ (if (n == 0) && nat_lt 0 (length buf) then one_more old else old)) (λ _. new ≡ one_more old)
+  -- the same of a write, where taking nothing of some bytes counts as a failure too
+  abbrev pub WriteCounts : {E : Type 0} → Result ℕ E → List ℕ → Calls T → Calls T → Type 0
+  WriteCounts r buf old new = MatchResult r
+      (λ n. new.failures ≡ (if (n == 0) && nat_lt 0 (length buf) then one_more old.failures else old.failures))
+      (λ _. new.failures ≡ one_more old.failures)
 
--- No call comes back. One that answers `Ok` was passed on, so fewer are left.
-abbrev pub UsesCall : {A E : Type 0} → Result A E → ℕ → ℕ → Type 0
-UsesCall r old new = (new ≤ old) × MatchResult r (λ _. new < old) (λ _. ⊤)
+  -- No call comes back. One that answers `Ok` was passed on, so fewer are left.
+  abbrev pub UsesCall : {A E : Type 0} → Result A E → Calls T → Calls T → Type 0
+  UsesCall r old new = (old.left ≤ MAX_CALLS) × (new.left ≤ old.left) × MatchResult r (λ _. new.left < old.left) (λ _. ⊤)
 
--- known bytes grew by a beginning of bs
-abbrev pub AppendsFront : Option (List ℕ) → Option (List ℕ) → List ℕ → Type 0
-AppendsFront old new bs = (front : List ℕ) × (rest : List ℕ) × (bs ≡ front ++ rest) × Appends old new front
+  -- Where this fault is answered, the device failed once more; and at any other answer it did not.
+  pub record CountsAs {A E : Type 0} (fault : E) (r : Result A E) (old new : Calls T) : Type 0 where
+    pub failed : r ≡ Err fault → new.failures ≡ one_more old.failures
+    pub unfailed : r ≢ Err fault → new.failures ≡ old.failures
 
--- what was written of the text, rest being left
-pub record Begun (old new : Option (List ℕ)) (text rest : List ℕ) : Type 0 where
-  pub front : List ℕ
-  pub parts : text ≡ front ++ rest
-  pub written : Appends old new front
+-- what a reader is known to give leads to this
+abbrev pub OnBytes : {R : Type 0} → (R → Option (List ℕ)) → Calls R → (List ℕ → Type 0) → Type 0
+OnBytes remaining reader P = IfSome (remaining reader.inner) P
+
+module _ {W : Type 0} (contents : W → Option (List ℕ)) (old new : Calls W) where
+  -- known bytes stay as they were
+  abbrev pub WritesNothing : Type 0
+  WritesNothing = Keeps (contents old.inner) (contents new.inner)
+
+  -- known bytes grew by the text
+  abbrev pub Writes : List ℕ → Type 0
+  Writes text = Appends (contents old.inner) (contents new.inner) text
+
+  -- known bytes grew by a beginning of the text
+  abbrev pub WritesFront : List ℕ → Type 0
+  WritesFront text = (front : List ℕ) × (rest : List ℕ) × (text ≡ front ++ rest) × Writes front
+
+  -- what was written of the text, rest being left
+  pub record Begun (text rest : List ℕ) : Type 0 where
+    pub front : List ℕ
+    pub parts : text ≡ front ++ rest
+    pub written : Writes front

@@ -1,7 +1,6 @@
 //! Devices whose failed calls are counted.
-ghost use Rattle.std.specs.Prelude.{◌≤◌};
-
 use std::io::{Error, ErrorKind, Read, Result, Write};
+use std::marker::Model;
 
 /// The most calls that are passed on to a device.
 pub const MAX_CALLS: u64 = 1099511627776;
@@ -17,19 +16,31 @@ pub struct Counted<T> {
     inner: T,
     left: u64,
     failures: u64,
-    ghost bounded: { left ≤ 1099511627776 },
+}
+
+impl<T> Model for Counted<T> {
+    ghost use Rattle.std.specs.Prelude.{◌≤◌};
+    ghost use Rattle.rga_lines.specs.Counting.{Calls, calls_code};
+    ghost use Rattle.rga_lines.specs.declared.counted.TheConstants.{MAX_CALLS};
+
+    ghost Value = { Calls T };
+
+    ghost coded = { calls_code T.code };
+
+    ghost view = { λ c. record { inner = c.inner; failures = c.failures; left = c.left } };
+
+    ghost invariant = { λ c. c.left ≤ MAX_CALLS };
 }
 
 impl<T> Counted<T> {
-    ghost use Rattle.std.specs.Prelude.{◌≡◌, ◌+◌};
+    ghost use Rattle.std.specs.Prelude.{◌≡◌, ◌+◌, ◌≤◌};
     ghost use Rattle.std.specs.Bool.{MatchBool};
-    ghost use Rattle.rga_lines.specs.Counting.{counted_inner, counted_failures, counted_left, max_calls, one_more, IsSpent};
+    ghost use Rattle.rga_lines.specs.Counting.{one_more, IsSpent};
+    ghost use Rattle.rga_lines.specs.declared.counted.TheConstants.{MAX_CALLS};
 
     /// The device, with no failure yet and all calls left.
     pub fn new(inner: T) -> Self
-        ensures inner { counted_inner result ≡ inner }
-        ensures failures { counted_failures result ≡ 0 }
-        ensures left { counted_left result ≡ max_calls }
+        ensures { result ≡ record { inner = inner; failures = 0; left = MAX_CALLS } }
     {
         Counted {
             inner,
@@ -40,7 +51,7 @@ impl<T> Counted<T> {
 
     /// The device.
     pub fn into_inner(self) -> T
-        ensures { result ≡ counted_inner self }
+        ensures { result ≡ self.inner }
     {
         let Counted {
             inner,
@@ -52,18 +63,17 @@ impl<T> Counted<T> {
 
     /// How many calls failed.
     pub fn failures(&self) -> u64
-        ensures value { result ≡ counted_failures self.now }
-        ensures bounded { counted_left self.now ≤ max_calls }
+        ensures value { result ≡ self.now.failures }
+        ensures bounded { self.now.left ≤ MAX_CALLS }
     {
         self.failures
     }
 
     /// Whether a call may be passed on, which then is one of those that are left.
     fn take_call(&mut self) -> bool
-        ensures inner { counted_inner self.new ≡ counted_inner self.old }
-        ensures failures { counted_failures self.new ≡ counted_failures self.old }
-        ensures left { MatchBool result (counted_left self.new + 1 ≡ counted_left self.old)
-            (counted_left self.new ≡ counted_left self.old) }
+        ensures taken { MatchBool result (self.old ≡ record self.new { left = self.new.left + 1 })
+            (self.new ≡ self.old) }
+        ensures bounded { self.old.left ≤ MAX_CALLS }
         ensures spent { MatchBool result (¬ (IsSpent self.old)) (IsSpent self.old) }
     {
         if self.left == 0 || self.failures == u64::MAX {
@@ -75,9 +85,7 @@ impl<T> Counted<T> {
 
     /// Counts a failure.
     fn fail(&mut self)
-        ensures inner { counted_inner self.new ≡ counted_inner self.old }
-        ensures failures { counted_failures self.new ≡ one_more (counted_failures self.old) }
-        ensures left { counted_left self.new ≡ counted_left self.old }
+        ensures { self.new ≡ record self.old { failures = one_more self.old.failures } }
     {
         self.failures = self.failures.saturating_add(1);
     }
@@ -87,18 +95,17 @@ impl<R: Read> Read for Counted<R> {
     ghost use Rattle.std.specs.Prelude.{◌≡◌, IsErr};
     ghost use Rattle.std.specs.Io.{ReadsAtMost};
     ghost use Rattle.std.specs.Io.KnownBytes.{ReadConsumes};
-    ghost use Rattle.rga_lines.specs.Counting.{counted_inner, counted_failures, counted_left, Counts, UsesCall, IsSpent};
+    ghost use Rattle.rga_lines.specs.Counting.{Counts, UsesCall, IsSpent};
 
-    ghost remaining = { λ c. R.remaining (counted_inner c) };
+    ghost remaining = { λ c. R.remaining c.inner };
 
     fn read(&mut self, buf: &mut [u8]) -> Result<usize>
         ensures bound { ReadsAtMost result buf.new }
-        ensures bytes { ReadConsumes (R.remaining (counted_inner self.old))
-            (R.remaining (counted_inner self.new)) result buf.new }
-        ensures counts { Counts result (counted_failures self.old) (counted_failures self.new) }
-        ensures calls { UsesCall result (counted_left self.old) (counted_left self.new) }
-        ensures spent { IsSpent self.old → IsErr result
-            × (counted_inner self.new ≡ counted_inner self.old) }
+        ensures bytes { ReadConsumes (R.remaining self.old.inner) (R.remaining self.new.inner)
+            result buf.new }
+        ensures counts { Counts result self.old self.new }
+        ensures calls { UsesCall result self.old self.new }
+        ensures spent { IsSpent self.old → IsErr result × (self.new.inner ≡ self.old.inner) }
     {
         if !self.take_call() {
             self.fail();
@@ -115,22 +122,20 @@ impl<R: Read> Read for Counted<R> {
 }
 
 impl<W: Write> Write for Counted<W> {
-    ghost use Rattle.std.specs.Prelude.{◌≡◌, IsErr, OnOk, OnErr};
+    ghost use Rattle.std.specs.Prelude.{◌≡◌, IsErr, OnOk};
     ghost use Rattle.std.specs.Io.{WritesAtMost};
-    ghost use Rattle.std.specs.Io.KnownBytes.{Keeps, Appends, WriteAppends};
-    ghost use Rattle.rga_lines.specs.Counting.{counted_inner, counted_failures, counted_left, one_more, Counts, WriteCounts, UsesCall, AppendsFront, IsSpent};
+    ghost use Rattle.std.specs.Io.KnownBytes.{WriteAppends};
+    ghost use Rattle.rga_lines.specs.Counting.{Counts, WriteCounts, UsesCall, IsSpent, Writes, WritesFront, WritesNothing};
 
-    ghost contents = { λ c. W.contents (counted_inner c) };
+    ghost contents = { λ c. W.contents c.inner };
 
     fn write(&mut self, buf: &[u8]) -> Result<usize>
         ensures bound { WritesAtMost result buf.now }
-        ensures bytes { WriteAppends (W.contents (counted_inner self.old))
-            (W.contents (counted_inner self.new)) result buf.now }
-        ensures counts { WriteCounts result buf.now
-            (counted_failures self.old) (counted_failures self.new) }
-        ensures calls { UsesCall result (counted_left self.old) (counted_left self.new) }
-        ensures spent { IsSpent self.old → IsErr result
-            × (counted_inner self.new ≡ counted_inner self.old) }
+        ensures bytes { WriteAppends (W.contents self.old.inner) (W.contents self.new.inner)
+            result buf.now }
+        ensures counts { WriteCounts result buf.now self.old self.new }
+        ensures calls { UsesCall result self.old self.new }
+        ensures spent { IsSpent self.old → IsErr result × (self.new.inner ≡ self.old.inner) }
     {
         if !self.take_call() {
             self.fail();
@@ -151,12 +156,10 @@ impl<W: Write> Write for Counted<W> {
     }
 
     fn flush(&mut self) -> Result<()>
-        ensures bytes { Keeps (W.contents (counted_inner self.old))
-            (W.contents (counted_inner self.new)) }
-        ensures counts { Counts result (counted_failures self.old) (counted_failures self.new) }
-        ensures calls { UsesCall result (counted_left self.old) (counted_left self.new) }
-        ensures spent { IsSpent self.old → IsErr result
-            × (counted_inner self.new ≡ counted_inner self.old) }
+        ensures bytes { WritesNothing W.contents self.old self.new }
+        ensures counts { Counts result self.old self.new }
+        ensures calls { UsesCall result self.old self.new }
+        ensures spent { IsSpent self.old → IsErr result × (self.new.inner ≡ self.old.inner) }
     {
         if !self.take_call() {
             self.fail();
@@ -174,13 +177,9 @@ impl<W: Write> Write for Counted<W> {
     /// Writes all of it, or answers the first failure: nothing is tried again, an interrupted call
     /// neither.
     fn write_all(&mut self, buf: &[u8]) -> Result<()>
-        ensures bytes { OnOk result (Appends (W.contents (counted_inner self.old))
-            (W.contents (counted_inner self.new)) buf.now) }
-        ensures begun { AppendsFront (W.contents (counted_inner self.old))
-            (W.contents (counted_inner self.new)) buf.now }
-        ensures ok { OnOk result (counted_failures self.new ≡ counted_failures self.old) }
-        ensures failed { OnErr result
-            (counted_failures self.new ≡ one_more (counted_failures self.old)) }
+        ensures bytes { OnOk result (Writes W.contents self.old self.new buf.now) }
+        ensures begun { WritesFront W.contents self.old self.new buf.now }
+        ensures counts { Counts result self.old self.new }
     {
         let mut rest = buf;
         'rest: while !rest.is_empty() {
