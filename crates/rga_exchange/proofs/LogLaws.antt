@@ -24,8 +24,8 @@ use Rattle.rga_exchange.specs.declared.fault.LogFault.TheVariants as fault
 use Rattle.rga_exchange.specs.declared.log.LogEnd.{LogEnd}
 use Rattle.rga_exchange.specs.declared.log.LogEnd.TheVariants.{Whole, Bare, Torn}
 use Rattle.rga_exchange.specs.declared.log.LogRead.{LogRead}
-use Rattle.rga_exchange.specs.Taking.{AllTaken, AtFault, taking, stop_at_rest}
-use Rattle.rga_exchange.specs.Log.{LogOutcome, ended, after_bare_operation, after_bare_line, after_rest, after_stop, after_lines, log_outcome}
+use Rattle.rga_exchange.specs.Taking.{AllTaken, AtFault, progress, stop_at_rest}
+use Rattle.rga_exchange.specs.Log.{LogOutcome, end_outcome, after_bare_operation, after_bare_line, after_rest, after_stop, after_lines, log_outcome}
 use Rattle.rga_exchange.specs.Stops.{HasNothingTorn}
 use Rattle.rga_exchange.proofs.TakingLaws.{are_taken}
 use Rattle.rga_exchange.proofs.OperationLaws.{is_read_to_end, no_fault, is_read, log_taken}
@@ -45,7 +45,7 @@ record Tells (n : ℕ) (read : LogRead) (rest : List ℕ) : Type 0 where
   lines : read.lines ≡ n
   operation : HasNothingTorn read.end → (rest ≡ []) ⊎ IsOperation rest
 
-tells : (n : ℕ) (c d : Content) (end : LogEnd) (read : LogRead) (rest : List ℕ) → ended n c end ≡ (d, Ok read) → (HasNothingTorn end → (rest ≡ []) ⊎ IsOperation rest) → Tells n read rest
+tells : (n : ℕ) (c d : Content) (end : LogEnd) (read : LogRead) (rest : List ℕ) → end_outcome n c end ≡ (d, Ok read) → (HasNothingTorn end → (rest ≡ []) ⊎ IsOperation rest) → Tells n read rest
 tells n c d end read rest h one =
     let same : is_read_to_end (record { lines = n; end = end }) ≡ is_read_to_end read = ap (λ (o : LogOutcome). o.1) h in
     let is : record { lines = n; end = end } ≡ read = cc in
@@ -112,14 +112,14 @@ rest_read : (limit n : ℕ) (c d : Content) (rest : List ℕ) → (rest ≡ []) 
 rest_read limit n c d [] one h =
     let same : took c ≡ took d = sym (ap (λ r. taken_one_by_one limit c (then_operations r [])) no_line) ∙ h in
     let is : c ≡ d = cc in
-    (record { lines = n; end = Whole }, ap (λ e. ended n e Whole) is, tt)
+    (record { lines = n; end = Whole }, ap (λ e. end_outcome n e Whole) is, tt)
 rest_read limit n c d (b ∷ bytes) (inl none) h = absurd cc
 rest_read limit n c d (b ∷ bytes) (inr (op, says)) h =
     let w = took_first limit c d op [] (sym (ap (λ r. taken_one_by_one limit c (then_operations r [])) says) ∙ h) in
     let same : took w.0 ≡ took d = w.2 in
     let is : w.0 ≡ d = cc in (
       record { lines = n; end = Bare },
-      ap (after_bare_line limit n c (length (b ∷ bytes))) says ∙ ap (after_bare_operation n c) w.1 ∙ ap (λ e. ended n e Bare) is,
+      ap (after_bare_line limit n c (length (b ∷ bytes))) says ∙ ap (after_bare_operation n c) w.1 ∙ ap (λ e. end_outcome n e Bare) is,
       tt,
     )
 
@@ -142,7 +142,7 @@ log_without_fault limit c bytes only joinable fits =
     let parts = parts_taken limit c (join c (content_of (log_operations bytes))) lines (rest ∷ []) only.lines all in
     let read = rest_read limit (0 + length lines) parts.0 (join c (content_of (log_operations bytes))) rest only.rest parts.2 in (
       read.0,
-      ap (λ t. after_lines limit rest (taking t.lines t.content (stop_at_rest t.lines rest t.stop))) (operations_are_taken limit 0 c parts.0 lines only.lines parts.1)
+      ap (λ t. after_lines limit rest (progress t.lines t.content (stop_at_rest t.lines rest t.stop))) (operations_are_taken limit 0 c parts.0 lines only.lines parts.1)
           ∙ ap (λ long. after_stop limit rest (0 + length lines) parts.0 (cond long (AtFault (fault.Line (0 + length lines + 1) line_fault.Long)) AllTaken)) (rest_is_short rest only.rest)
           ∙ read.1,
       read.2,

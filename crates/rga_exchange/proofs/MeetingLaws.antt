@@ -14,8 +14,8 @@ use Rattle.rga_lines.specs.Spelling.{line, end_line}
 use Rattle.rga_lines.proofs.ReadBack.{end_back}
 use Rattle.rga_exchange.specs.declared.fault.ReceiveFault.{ReceiveFault}
 use Rattle.rga_exchange.specs.declared.fault.ReceiveFault.TheVariants as fault
-use Rattle.rga_exchange.specs.Taking.{AllTaken, AtEnd, Taking, taking, after_line, go_on, lines_taken, with_rest, stream_taken}
-use Rattle.rga_exchange.specs.Receiving.{number_received, received}
+use Rattle.rga_exchange.specs.Taking.{AllTaken, AtEnd, Progress, progress, after_line, go_on, lines_taken, with_rest, stream_taken}
+use Rattle.rga_exchange.specs.Receiving.{number_received, exchange_outcome}
 use Rattle.rga_exchange.specs.Sending.{stream_text, AreWritable}
 use Rattle.rga_exchange.proofs.TakingLaws.{lines_taken-append}
 use Rattle.rga_exchange.proofs.StopLaws.{operations_are_taken}
@@ -32,14 +32,14 @@ all_taken limit c d sound agree fits =
     })
     ∙ ap (λ e. Ok (join d e)) is
 
-written_taken : (limit : ℕ) (d e : Content) (ops : List Op) → AreWritable ops → AreWellFormed ops → taken_one_by_one limit d ops ≡ Ok e → lines_taken limit 0 d (map line ops) ≡ taking (length ops) e AllTaken
+written_taken : (limit : ℕ) (d e : Content) (ops : List Op) → AreWritable ops → AreWellFormed ops → taken_one_by_one limit d ops ≡ Ok e → lines_taken limit 0 d (map line ops) ≡ progress (length ops) e AllTaken
 written_taken limit d e ops writable well h =
     let count : 0 + length (map line ops) ≡ length ops = omega (arith, length-map ops line) in
     operations_are_taken limit 0 d e (map line ops) (are_operations-written ops writable well) (ap (taken_one_by_one limit d) (operations_of-written ops writable well) ∙ h)
-    ∙ ap (λ n. taking n e AllTaken) count
+    ∙ ap (λ n. progress n e AllTaken) count
 
 stream_is_taken : (limit : ℕ) (c d : Content) → IsSound c → AreWritable (operations c) → length (operations c) < 2 ^ 64 → Agree d c → finite_set.len (known_ids (join d c)) ≤ limit
-    → stream_taken limit d (stream_text c) ≡ taking (length (operations c)) (join d c) (AtEnd (length (operations c)))
+    → stream_taken limit d (stream_text c) ≡ progress (length (operations c)) (join d c) (AtEnd (length (operations c)))
 stream_is_taken limit c d sound writable few agree fits =
     let ops : List Op = operations c in
     let number : ℕ = length ops in
@@ -53,11 +53,11 @@ stream_is_taken limit c d sound writable few agree fits =
 abbrev outcome : Content → Result ℕ ReceiveFault → Content × Result ℕ ReceiveFault
 outcome c r = (c, r)
 
-abbrev answer_of : Taking → Content × Result ℕ ReceiveFault
+abbrev answer_of : Progress → Content × Result ℕ ReceiveFault
 answer_of t = outcome t.content (number_received t.lines t.stop)
 
 pub sent_is_received : (limit : ℕ) (c d : Content) → IsSound c → AreWritable (operations c) → length (operations c) < 2 ^ 64 → Agree d c → finite_set.len (known_ids (join d c)) ≤ limit
-    → received limit d (stream_text c) ≡ (join d c, Ok (length (operations c)))
+    → exchange_outcome limit d (stream_text c) ≡ (join d c, Ok (length (operations c)))
 sent_is_received limit c d sound writable few agree fits =
     let number : ℕ = length (operations c) in
     ap answer_of (stream_is_taken limit c d sound writable few agree fits)
@@ -65,7 +65,7 @@ sent_is_received limit c d sound writable few agree fits =
 
 -- the same of the list of its operations, which were written
 pub list_received : (limit : ℕ) (c d : Content) (ops : List Op) (number : ℕ) → ops ≡ operations c → number ≡ length ops → number < 2 ^ 64 → (AreWellFormed ops → AreWritable ops)
-    → IsSound c → Agree d c → finite_set.len (known_ids (join d c)) ≤ limit → received limit d (stream_text c) ≡ (join d c, Ok number)
+    → IsSound c → Agree d c → finite_set.len (known_ids (join d c)) ≤ limit → exchange_outcome limit d (stream_text c) ≡ (join d c, Ok number)
 list_received limit c d ops number are count few writable sound agree fits =
     let all : number ≡ length (operations c) = count ∙ ap (λ (l : List Op). length l) are in
     let well : AreWellFormed ops = subst AreWellFormed (sym are) (λ op m. sound op (operations_hold c op m)) in

@@ -4,30 +4,16 @@ use Rattle.std.specs.Prelude.{IfSome}
 use Rattle.std.specs.Io.KnownBytes.{Consumes, Keeps, IsAtEnd}
 use Rattle.std.proofs.KnownBytes.{Consumes-nil, Consumes-trans, Consumes-kept, Consumes-whole}
 use Rattle.rga_ops.specs.Content.{Content}
+use Rattle.rga_lines.specs.Counting.{Calls, OnBytes}
 use Rattle.rga_lines.specs.Stream.{lines_of, rest_of}
 use Rattle.rga_lines.specs.Table.{max_line}
 use Rattle.rga_lines.proofs.SplitterLemmas.{rest_is_all}
+use Rattle.rga_exchange.specs.declared.block.TheConstants.{BLOCK}
 use Rattle.rga_exchange.specs.declared.fault.LogFault.{LogFault}
-use Rattle.rga_exchange.specs.Taking.{Stop, AllTaken, AtFault, taking, lines_taken, bytes_taken, stream_taken, AreTaken, HasTakenLines, HasTakenWholeLines}
-use Rattle.rga_exchange.specs.Receiving.{EndsWithLastRead, block}
-use Rattle.rga_exchange.specs.Parts.{Takes, HasTakenOfRead}
+use Rattle.rga_exchange.specs.Taking.{Stop, AllTaken, AtFault, progress, lines_taken, bytes_taken, AreTaken, HasTakenLines, HasTakenWholeLines}
+use Rattle.rga_exchange.specs.Receiving.{EndsWithLastRead}
+use Rattle.rga_exchange.specs.Parts.{Takes, TakesUpTo, StopsAs, LeadsTo, HasTakenOfRead}
 use Rattle.rga_exchange.proofs.TakingLaws.{takes_nothing, takes_chain, takes_more_bytes, takes_after, only_rest, are_taken}
-
-abbrev all_read : {old new : Option (List ℕ)} → EndsWithLastRead old new → List ℕ
-all_read r = r.before ++ r.last
-
-pub read_nothing : (known : Option (List ℕ)) (limit : ℕ) (c : Content) → HasTakenOfRead known known limit c 0 c []
-read_nothing known limit c = record {
-  read = record { before = []; last = []; read = Consumes-nil known; one_block = omega arith; operations = tt };
-  takes = takes_nothing limit 0 c [];
-}
-
--- the taker's own limit may be another name of the same number
-pub read_lines : (old now : Option (List ℕ)) (limit same n m : ℕ) (c d e : Content) (w v : List ℕ) → same ≡ limit → HasTakenOfRead old now limit c n d w → Takes same n d w m e v → HasTakenOfRead old now limit c m e v
-read_lines old now limit same n m c d e w v is h s = record {
-  read = h.read;
-  takes = takes_chain limit 0 n m c d e (all_read h.read) w v h.takes (subst (λ l. Takes l n d w m e v) is s);
-}
 
 -- where no line waits, the lines that were taken are all that were read
 whole : (limit n : ℕ) (c d : Content) (bytes w : List ℕ) → Takes limit 0 c bytes n d w → lines_of w ≡ [] → AreTaken limit (lines_of bytes) c d
@@ -37,66 +23,107 @@ whole limit n c d bytes w s none =
     (ap lines_of (sym (append-nil bytes)) ∙ s.cut [] ∙ ap (λ l. s.lines ++ lines_of l) (append-nil w) ∙ ap (λ ls. s.lines ++ ls) none ∙ append-nil s.lines)
     ∙ s.taken)
 
-pub read_piece : (old now new : Option (List ℕ)) (limit n : ℕ) (c d : Content) (w piece : List ℕ) → HasTakenOfRead old now limit c n d w → lines_of w ≡ [] → Consumes now new piece → length piece ≤ block → HasTakenOfRead old new limit c n d (w ++ piece)
-read_piece old now new limit n c d w piece h none more fits = record {
-  read = record {
-    before = all_read h.read;
-    last = piece;
-    read = Consumes-trans old now new (all_read h.read) piece h.read.read more;
-    one_block = fits;
-    operations = (whole limit n c d (all_read h.read) w h.takes none).operations;
-  };
-  takes = takes_more_bytes limit 0 n c d (all_read h.read) w piece h.takes;
-}
+-- what holds of all bytes that were read, whatever follows them, holds of what the reader is known to give
+on_all : (old now : Option (List ℕ)) (all : List ℕ) (P : List ℕ → Type 0) → Consumes old now all → ((more : List ℕ) → P (all ++ more)) → IfSome old P
+on_all None now all P read holds = tt
+on_all (Some bytes) None all P read holds = absurd read
+on_all (Some bytes) (Some left) all P read holds = subst P (sym read) (holds left)
 
--- at the end of the input what waits is the rest
-pub read_all : (old now new : Option (List ℕ)) (limit n : ℕ) (c d : Content) (w rest : List ℕ) → HasTakenOfRead old now limit c n d w → Consumes now new [] → IsAtEnd new → lines_of w ≡ [] → length w ≤ max_line → rest ≡ w → IfSome old (λ bytes. (stream_taken limit c bytes ≡ taking n d AllTaken) × (rest_of bytes ≡ rest))
-read_all old now new limit n c d w rest h nothing end none short is =
-    let all = all_read h.read in
-    Consumes-whole old new (all ++ []) (λ bytes. (stream_taken limit c bytes ≡ taking n d AllTaken) × (rest_of bytes ≡ rest)) (Consumes-trans old now new all [] h.read.read nothing) end (
-      takes_after limit 0 n c d all w h.takes [] ∙ only_rest limit n d w none (rest_is_all w none) short,
-      h.takes.rest [] ∙ ap rest_of (append-nil w) ∙ rest_is_all w none ∙ sym is,
-    )
+abbrev all_read : {R : Type 0} {remaining : R → Option (List ℕ)} {r s : Calls R} → EndsWithLastRead remaining r s → List ℕ
+all_read h = h.before ++ h.last
 
--- a stop that stands whatever follows is the stop of all
-pub read_stop : (old now : Option (List ℕ)) (limit n m : ℕ) (c d e : Content) (w : List ℕ) (stop : Stop) → HasTakenOfRead old now limit c n d w → ((more : List ℕ) → bytes_taken limit n d (w ++ more) ≡ taking m e stop) → IfSome old (λ bytes. stream_taken limit c bytes ≡ taking m e stop)
-read_stop None now limit n m c d e w stop h stands = tt
-read_stop (Some all) None limit n m c d e w stop h stands = absurd h.read.read
-read_stop (Some all) (Some left) limit n m c d e w stop h stands =
-    ap (stream_taken limit c) h.read.read ∙ takes_after limit 0 n c d (all_read h.read) w h.takes left ∙ stands left
+module _ {R T : Type 0} (remaining : R → Option (List ℕ)) (limit : T → ℕ) (content : T → Content) where
+  pub read_nothing : (r : Calls R) (t : T) → HasTakenOfRead remaining limit content r r t t 0 []
+  read_nothing r t = record {
+    read = record { before = []; last = []; read = Consumes-nil (remaining r.inner); one_block = omega arith; operations = tt };
+    takes = takes_nothing (limit t) 0 (content t) [];
+  }
 
-pub read_fault : (old now : Option (List ℕ)) (limit n m : ℕ) (c d e : Content) (w : List ℕ) (fault : LogFault) → HasTakenOfRead old now limit c n d w → ((more : List ℕ) → bytes_taken limit n d (w ++ more) ≡ taking m e (AtFault fault)) → IfSome old (λ bytes. (lines : ℕ) × (stream_taken limit c bytes ≡ taking lines e (AtFault fault)))
-read_fault old now limit n m c d e w fault h stands = by_bytes old (read_stop old now limit n m c d e w (AtFault fault) h stands)
-  where
-    by_bytes : (known : Option (List ℕ)) → IfSome known (λ bytes. stream_taken limit c bytes ≡ taking m e (AtFault fault)) → IfSome known (λ bytes. (lines : ℕ) × (stream_taken limit c bytes ≡ taking lines e (AtFault fault)))
-    by_bytes None s = tt
-    by_bytes (Some bytes) s = (m, s)
+  -- the taker's own limit may be another name of the same number
+  pub read_lines : (r s : Calls R) (t u v : T) (n m : ℕ) (w x : List ℕ) → limit u ≡ limit t → HasTakenOfRead remaining limit content r s t u n w → TakesUpTo limit content u v n m w x → HasTakenOfRead remaining limit content r s t v m x
+  read_lines r s t u v n m w x is h more = record {
+    read = h.read;
+    takes = takes_chain (limit t) 0 n m (content t) (content u) (content v) (all_read h.read) w x h.takes (subst (λ l. Takes l n (content u) w m (content v) x) is more);
+  }
 
--- where a read fails all whole lines of what was read were taken
-pub whole_lines : (old now new : Option (List ℕ)) (limit n : ℕ) (c d : Content) (w : List ℕ) → HasTakenOfRead old now limit c n d w → Keeps now new → lines_of w ≡ [] → HasTakenWholeLines old new limit c d
-whole_lines old now new limit n c d w h kept none = record {
-  bytes = all_read h.read;
-  read = Consumes-kept old now new (all_read h.read) h.read.read kept;
-  taken = whole limit n c d (all_read h.read) w h.takes none;
-}
+  pub read_piece : (r s next : Calls R) (t u : T) (n : ℕ) (w piece : List ℕ) → HasTakenOfRead remaining limit content r s t u n w → lines_of w ≡ [] → Consumes (remaining s.inner) (remaining next.inner) piece → length piece ≤ BLOCK → HasTakenOfRead remaining limit content r next t u n (w ++ piece)
+  read_piece r s next t u n w piece h none more fits = record {
+    read = record {
+      before = all_read h.read;
+      last = piece;
+      read = Consumes-trans (remaining r.inner) (remaining s.inner) (remaining next.inner) (all_read h.read) piece h.read.read more;
+      one_block = fits;
+      operations = (whole (limit t) n (content t) (content u) (all_read h.read) w h.takes none).operations;
+    };
+    takes = takes_more_bytes (limit t) 0 n (content t) (content u) (all_read h.read) w piece h.takes;
+  }
 
--- whatever fails, the first lines of what was read were taken
-pub first_lines : (old now : Option (List ℕ)) (limit n : ℕ) (c d : Content) (w : List ℕ) → HasTakenOfRead old now limit c n d w → HasTakenLines old now limit c d
-first_lines old now limit n c d w h = record {
-  bytes = all_read h.read;
-  read = h.read.read;
-  lines = h.takes.lines;
-  later = lines_of (w ++ []);
-  begins = ap lines_of (sym (append-nil (all_read h.read))) ∙ h.takes.cut [];
-  taken = are_taken limit 0 n c d h.takes.lines h.takes.taken;
-}
+  -- at the end of the input what waits is the rest
+  pub read_all : (r s next : Calls R) (t u : T) (n : ℕ) (w rest : List ℕ) → HasTakenOfRead remaining limit content r s t u n w → Consumes (remaining s.inner) (remaining next.inner) [] → IsAtEnd (remaining next.inner) → lines_of w ≡ [] → length w ≤ max_line → rest ≡ w
+      → OnBytes remaining r (λ bytes. LeadsTo limit content t u bytes n AllTaken × (rest_of bytes ≡ rest))
+  read_all r s next t u n w rest h nothing end none short is =
+      let all = all_read h.read in
+      Consumes-whole (remaining r.inner) (remaining next.inner) (all ++ []) (λ bytes. LeadsTo limit content t u bytes n AllTaken × (rest_of bytes ≡ rest))
+      (Consumes-trans (remaining r.inner) (remaining s.inner) (remaining next.inner) all [] h.read.read nothing) end (
+        takes_after (limit t) 0 n (content t) (content u) all w h.takes [] ∙ only_rest (limit t) n (content u) w none (rest_is_all w none) short,
+        h.takes.rest [] ∙ ap rest_of (append-nil w) ∙ rest_is_all w none ∙ sym is,
+      )
 
-pub first_of_whole : (old new : Option (List ℕ)) (limit : ℕ) (c d : Content) → HasTakenWholeLines old new limit c d → HasTakenLines old new limit c d
-first_of_whole old new limit c d h = record {
-  bytes = h.bytes;
-  read = h.read;
-  lines = lines_of h.bytes;
-  later = [];
-  begins = sym (append-nil (lines_of h.bytes));
-  taken = h.taken;
-}
+  -- a stop that stands whatever follows is the stop of all
+  pub read_stop : (r s : Calls R) (t u v : T) (n m : ℕ) (w : List ℕ) (stop : Stop) → limit u ≡ limit t → HasTakenOfRead remaining limit content r s t u n w → StopsAs limit content u v n m w stop
+      → OnBytes remaining r (λ bytes. LeadsTo limit content t v bytes m stop)
+  read_stop r s t u v n m w stop is h stands =
+      let all = all_read h.read in
+      on_all (remaining r.inner) (remaining s.inner) all (λ bytes. LeadsTo limit content t v bytes m stop) h.read.read (λ more.
+      takes_after (limit t) 0 n (content t) (content u) all w h.takes more
+      ∙ subst (λ l. bytes_taken l n (content u) (w ++ more) ≡ progress m (content v) stop) is (stands more))
+
+  pub read_fault : (r s : Calls R) (t u v : T) (n m : ℕ) (w : List ℕ) (fault : LogFault) → limit u ≡ limit t → HasTakenOfRead remaining limit content r s t u n w → StopsAs limit content u v n m w (AtFault fault)
+      → OnBytes remaining r (λ bytes. (lines : ℕ) × LeadsTo limit content t v bytes lines (AtFault fault))
+  read_fault r s t u v n m w fault is h stands =
+      let all = all_read h.read in
+      on_all (remaining r.inner) (remaining s.inner) all (λ bytes. (lines : ℕ) × LeadsTo limit content t v bytes lines (AtFault fault)) h.read.read (λ more. (
+        m,
+        takes_after (limit t) 0 n (content t) (content u) all w h.takes more
+            ∙ subst (λ l. bytes_taken l n (content u) (w ++ more) ≡ progress m (content v) (AtFault fault)) is (stands more),
+      ))
+
+  -- where a read fails all whole lines of what was read were taken
+  pub whole_lines : (r s next : Calls R) (t u : T) (n : ℕ) (w : List ℕ) → HasTakenOfRead remaining limit content r s t u n w → Keeps (remaining s.inner) (remaining next.inner) → lines_of w ≡ [] → HasTakenWholeLines remaining limit content r next t u
+  whole_lines r s next t u n w h kept none = record {
+    bytes = all_read h.read;
+    read = Consumes-kept (remaining r.inner) (remaining s.inner) (remaining next.inner) (all_read h.read) h.read.read kept;
+    taken = whole (limit t) n (content t) (content u) (all_read h.read) w h.takes none;
+  }
+
+  -- whatever fails, the first lines of what was read were taken
+  pub first_lines : (r s : Calls R) (t u : T) (n : ℕ) (w : List ℕ) → HasTakenOfRead remaining limit content r s t u n w → HasTakenLines remaining limit content r s t u
+  first_lines r s t u n w h = record {
+    bytes = all_read h.read;
+    read = h.read.read;
+    lines = h.takes.lines;
+    later = lines_of (w ++ []);
+    begins = ap lines_of (sym (append-nil (all_read h.read))) ∙ h.takes.cut [];
+    taken = are_taken (limit t) 0 n (content t) (content u) h.takes.lines h.takes.taken;
+  }
+
+  pub first_of_whole : (r s : Calls R) (t u : T) → HasTakenWholeLines remaining limit content r s t u → HasTakenLines remaining limit content r s t u
+  first_of_whole r s t u h = record {
+    bytes = h.bytes;
+    read = h.read;
+    lines = lines_of h.bytes;
+    later = [];
+    begins = sym (append-nil (lines_of h.bytes));
+    taken = h.taken;
+  }
+
+  -- a taker that holds the same took the same lines
+  pub same_lines : (r s : Calls R) (t u v : T) → content v ≡ content u → HasTakenLines remaining limit content r s t u → HasTakenLines remaining limit content r s t v
+  same_lines r s t u v same h = record {
+    bytes = h.bytes;
+    read = h.read;
+    lines = h.lines;
+    later = h.later;
+    begins = h.begins;
+    taken = subst (AreTaken (limit t) h.lines (content t)) (sym same) h.taken;
+  }

@@ -16,7 +16,7 @@ use Rattle.rga_lines.proofs.ReadingLemmas.{too_long, alone}
 use Rattle.rga_lines.proofs.SplitterLemmas.{GivesLine}
 use Rattle.rga_exchange.specs.declared.fault.LogFault.{LogFault}
 use Rattle.rga_exchange.specs.declared.fault.LogFault.TheVariants as fault
-use Rattle.rga_exchange.specs.Taking.{Stop, AllTaken, AtEnd, AtFault, Taking, taking, refused_at, after_line, go_on, lines_taken, with_rest, bytes_taken, AreTaken}
+use Rattle.rga_exchange.specs.Taking.{Stop, AllTaken, AtEnd, AtFault, Progress, progress, refused_at, after_line, go_on, lines_taken, with_rest, bytes_taken, AreTaken}
 use Rattle.rga_exchange.specs.Parts.{Takes}
 
 abbrev pub on : Content → Result Content Stop
@@ -27,43 +27,43 @@ halt s = Err s
 
 -- ---- what is not a stop behind all lines
 
-not_end : (n m : ℕ) (c d : Content) (number : ℕ) → taking n c (AtEnd number) ≡ taking m d AllTaken → ⊥
-not_end n m c d number h = let clash : AtEnd number ≡ AllTaken = ap (λ (t : Taking). t.stop) h in cc
+not_end : (n m : ℕ) (c d : Content) (number : ℕ) → progress n c (AtEnd number) ≡ progress m d AllTaken → ⊥
+not_end n m c d number h = let clash : AtEnd number ≡ AllTaken = ap (λ (t : Progress). t.stop) h in cc
 
-not_fault : (n m : ℕ) (c d : Content) (e : LogFault) → taking n c (AtFault e) ≡ taking m d AllTaken → ⊥
-not_fault n m c d e h = let clash : AtFault e ≡ AllTaken = ap (λ (t : Taking). t.stop) h in cc
+not_fault : (n m : ℕ) (c d : Content) (e : LogFault) → progress n c (AtFault e) ≡ progress m d AllTaken → ⊥
+not_fault n m c d e h = let clash : AtFault e ≡ AllTaken = ap (λ (t : Progress). t.stop) h in cc
 
 -- a line either leads to a content, or stops with the end or a fault
-halts : (limit n : ℕ) (c d : Content) (m : ℕ) (r : AnyReading) (stop : Stop) → after_line limit n c r ≡ Err stop → taking m d stop ≡ taking m d AllTaken → ⊥
+halts : (limit n : ℕ) (c d : Content) (m : ℕ) (r : AnyReading) (stop : Stop) → after_line limit n c r ≡ Err stop → progress m d stop ≡ progress m d AllTaken → ⊥
 halts limit n c d m (Ok (One op)) stop h is = by_taken (taken limit c op) h
   where
     by_taken : (r : Result Content Refusal) → refused_at n r ≡ Err stop → ⊥
     by_taken (Ok e) h = let clash : on e ≡ halt stop = h in cc
-    by_taken (Err e) h = let same : halt (AtFault (fault.Refused n e)) ≡ halt stop = h in let which : AtFault (fault.Refused n e) ≡ stop = cc in not_fault m m d d (fault.Refused n e) (ap (taking m d) which ∙ is)
-halts limit n c d m (Ok (Last number)) stop h is = let same : halt (AtEnd number) ≡ halt stop = h in let which : AtEnd number ≡ stop = cc in not_end m m d d number (ap (taking m d) which ∙ is)
-halts limit n c d m (Err e) stop h is = let same : halt (AtFault (fault.Line n e)) ≡ halt stop = h in let which : AtFault (fault.Line n e) ≡ stop = cc in not_fault m m d d (fault.Line n e) (ap (taking m d) which ∙ is)
+    by_taken (Err e) h = let same : halt (AtFault (fault.Refused n e)) ≡ halt stop = h in let which : AtFault (fault.Refused n e) ≡ stop = cc in not_fault m m d d (fault.Refused n e) (ap (progress m d) which ∙ is)
+halts limit n c d m (Ok (Last number)) stop h is = let same : halt (AtEnd number) ≡ halt stop = h in let which : AtEnd number ≡ stop = cc in not_end m m d d number (ap (progress m d) which ∙ is)
+halts limit n c d m (Err e) stop h is = let same : halt (AtFault (fault.Line n e)) ≡ halt stop = h in let which : AtFault (fault.Line n e) ≡ stop = cc in not_fault m m d d (fault.Line n e) (ap (progress m d) which ∙ is)
 
 pub record GoesOn (limit n m : ℕ) (c d : Content) (line : List ℕ) (lines : List (List ℕ)) : Type 0 where
   pub next : Content
   pub first : after_line limit (n + 1) c (any_line_at line) ≡ Ok next
-  pub later : lines_taken limit (n + 1) next lines ≡ taking m d AllTaken
+  pub later : lines_taken limit (n + 1) next lines ≡ progress m d AllTaken
 
 -- where all lines were taken the first was, and then the others
-pub goes_on : (limit n m : ℕ) (c d : Content) (line : List ℕ) (lines : List (List ℕ)) → lines_taken limit n c (line ∷ lines) ≡ taking m d AllTaken → GoesOn limit n m c d line lines
+pub goes_on : (limit n m : ℕ) (c d : Content) (line : List ℕ) (lines : List (List ℕ)) → lines_taken limit n c (line ∷ lines) ≡ progress m d AllTaken → GoesOn limit n m c d line lines
 goes_on limit n m c d line lines h = by_first (after_line limit (n + 1) c (any_line_at line)) refl h
   where
-    by_first : (r : Result Content Stop) → after_line limit (n + 1) c (any_line_at line) ≡ r → go_on n c r (λ e. lines_taken limit (n + 1) e lines) ≡ taking m d AllTaken → GoesOn limit n m c d line lines
+    by_first : (r : Result Content Stop) → after_line limit (n + 1) c (any_line_at line) ≡ r → go_on n c r (λ e. lines_taken limit (n + 1) e lines) ≡ progress m d AllTaken → GoesOn limit n m c d line lines
     by_first (Ok e) first h = record { next = e; first = first; later = h }
     by_first (Err stop) first h =
-        let is : stop ≡ AllTaken = ap (λ (t : Taking). t.stop) h in
-        absurd (halts limit (n + 1) c d m (any_line_at line) stop first (ap (taking m d) is))
+        let is : stop ≡ AllTaken = ap (λ (t : Progress). t.stop) h in
+        absurd (halts limit (n + 1) c d m (any_line_at line) stop first (ap (progress m d) is))
 
 -- ---- lines in a row
 
-pub lines_taken-append : (limit n m : ℕ) (c d : Content) (xs ys : List (List ℕ)) → lines_taken limit n c xs ≡ taking m d AllTaken → lines_taken limit n c (xs ++ ys) ≡ lines_taken limit m d ys
+pub lines_taken-append : (limit n m : ℕ) (c d : Content) (xs ys : List (List ℕ)) → lines_taken limit n c xs ≡ progress m d AllTaken → lines_taken limit n c (xs ++ ys) ≡ lines_taken limit m d ys
 lines_taken-append limit n m c d [] ys h =
-    let count : n ≡ m = ap (λ (t : Taking). t.lines) h in
-    let content : c ≡ d = ap (λ (t : Taking). t.content) h in
+    let count : n ≡ m = ap (λ (t : Progress). t.lines) h in
+    let content : c ≡ d = ap (λ (t : Progress). t.content) h in
     λ k. lines_taken limit (count k) (content k) ys
 lines_taken-append limit n m c d (x ∷ xs) ys h =
     let w = goes_on limit n m c d x xs h in
@@ -106,29 +106,29 @@ takes_after limit n m c d bytes waiting s more =
     ∙ ap (with_rest (rest_of (waiting ++ more))) (lines_taken-append limit n m c d s.lines (lines_of (waiting ++ more)) s.taken)
 
 -- a line that is not taken ends the stream
-line_stops : (limit n : ℕ) (c : Content) (s t : Splitting) (line : List ℕ) (stop : Stop) → GivesLine s t line → after_line limit (n + 1) c (any_line_at line) ≡ Err stop → (more : List ℕ) → bytes_taken limit n c (s.waiting ++ more) ≡ with_rest (rest_of (s.waiting ++ more)) (taking n c stop)
+line_stops : (limit n : ℕ) (c : Content) (s t : Splitting) (line : List ℕ) (stop : Stop) → GivesLine s t line → after_line limit (n + 1) c (any_line_at line) ≡ Err stop → (more : List ℕ) → bytes_taken limit n c (s.waiting ++ more) ≡ with_rest (rest_of (s.waiting ++ more)) (progress n c stop)
 line_stops limit n c s t line stop given h more =
     ap (λ ls. with_rest (rest_of (s.waiting ++ more)) (lines_taken limit n c ls)) (given.lines more)
     ∙ ap (λ r. with_rest (rest_of (s.waiting ++ more)) (go_on n c r (λ d. lines_taken limit (n + 1) d (lines_of (t.waiting ++ more))))) h
 
-pub line_ends : (limit n : ℕ) (c : Content) (s t : Splitting) (line : List ℕ) (number : ℕ) → GivesLine s t line → after_line limit (n + 1) c (any_line_at line) ≡ Err (AtEnd number) → (more : List ℕ) → bytes_taken limit n c (s.waiting ++ more) ≡ taking n c (AtEnd number)
+pub line_ends : (limit n : ℕ) (c : Content) (s t : Splitting) (line : List ℕ) (number : ℕ) → GivesLine s t line → after_line limit (n + 1) c (any_line_at line) ≡ Err (AtEnd number) → (more : List ℕ) → bytes_taken limit n c (s.waiting ++ more) ≡ progress n c (AtEnd number)
 line_ends limit n c s t line number given h more = line_stops limit n c s t line (AtEnd number) given h more
 
-pub line_fails : (limit n : ℕ) (c : Content) (s t : Splitting) (line : List ℕ) (e : LogFault) → GivesLine s t line → after_line limit (n + 1) c (any_line_at line) ≡ Err (AtFault e) → (more : List ℕ) → bytes_taken limit n c (s.waiting ++ more) ≡ taking n c (AtFault e)
+pub line_fails : (limit n : ℕ) (c : Content) (s t : Splitting) (line : List ℕ) (e : LogFault) → GivesLine s t line → after_line limit (n + 1) c (any_line_at line) ≡ Err (AtFault e) → (more : List ℕ) → bytes_taken limit n c (s.waiting ++ more) ≡ progress n c (AtFault e)
 line_fails limit n c s t line e given h more = line_stops limit n c s t line (AtFault e) given h more
 
 -- and so does one that is too long
-pub begins_long : (limit n : ℕ) (c : Content) (lines : List (List ℕ)) (rest : List ℕ) → BeginsLong lines rest → with_rest rest (lines_taken limit n c lines) ≡ taking n c (AtFault (fault.Line (n + 1) line_fault.Long))
-begins_long limit n c [] rest h = ap (λ b. taking n c (cond b (AtFault (fault.Line (n + 1) line_fault.Long)) AllTaken)) (lt-ltb max_line (length rest) h)
+pub begins_long : (limit n : ℕ) (c : Content) (lines : List (List ℕ)) (rest : List ℕ) → BeginsLong lines rest → with_rest rest (lines_taken limit n c lines) ≡ progress n c (AtFault (fault.Line (n + 1) line_fault.Long))
+begins_long limit n c [] rest h = ap (λ b. progress n c (cond b (AtFault (fault.Line (n + 1) line_fault.Long)) AllTaken)) (lt-ltb max_line (length rest) h)
 begins_long limit n c (line ∷ lines) rest h =
     ap (λ r. with_rest rest (go_on n c (after_line limit (n + 1) c r) (λ d. lines_taken limit (n + 1) d lines))) (too_long line h)
 
 -- no line waits: the rest alone is left, which is not too long
-pub only_rest : (limit n : ℕ) (c : Content) (waiting : List ℕ) → lines_of waiting ≡ [] → rest_of waiting ≡ waiting → length waiting ≤ max_line → bytes_taken limit n c (waiting ++ []) ≡ taking n c AllTaken
+pub only_rest : (limit n : ℕ) (c : Content) (waiting : List ℕ) → lines_of waiting ≡ [] → rest_of waiting ≡ waiting → length waiting ≤ max_line → bytes_taken limit n c (waiting ++ []) ≡ progress n c AllTaken
 only_rest limit n c waiting none whole short =
     ap (bytes_taken limit n c) (append-nil waiting)
     ∙ (λ k. with_rest (whole k) (lines_taken limit n c (none k)))
-    ∙ ap (λ b. taking n c (cond b (AtFault (fault.Line (n + 1) line_fault.Long)) AllTaken)) (le-ltb max_line (length waiting) short)
+    ∙ ap (λ b. progress n c (cond b (AtFault (fault.Line (n + 1) line_fault.Long)) AllTaken)) (le-ltb max_line (length waiting) short)
 
 -- ---- what was taken, as operations
 
@@ -145,8 +145,8 @@ line_taken limit n c d line h = by_reading (any_line_at line) refl h
     by_reading (Ok (Last number)) says h = let clash : halt (AtEnd number) ≡ on d = h in absurd cc
     by_reading (Err e) says h = let clash : halt (AtFault (fault.Line n e)) ≡ on d = h in absurd cc
 
-pub lines_are_operations : (limit n m : ℕ) (c d : Content) (lines : List (List ℕ)) → lines_taken limit n c lines ≡ taking m d AllTaken → AllByRecursion IsOperation lines × (taken_one_by_one limit c (operations_of lines) ≡ Ok d)
-lines_are_operations limit n m c d [] h = (tt, ap Ok (ap (λ (t : Taking). t.content) h))
+pub lines_are_operations : (limit n m : ℕ) (c d : Content) (lines : List (List ℕ)) → lines_taken limit n c lines ≡ progress m d AllTaken → AllByRecursion IsOperation lines × (taken_one_by_one limit c (operations_of lines) ≡ Ok d)
+lines_are_operations limit n m c d [] h = (tt, ap Ok (ap (λ (t : Progress). t.content) h))
 lines_are_operations limit n m c d (line ∷ lines) h =
     let w = goes_on limit n m c d line lines h in
     let first = line_taken limit (n + 1) c w.next line w.first in
@@ -157,7 +157,7 @@ lines_are_operations limit n m c d (line ∷ lines) h =
           ∙ later.1,
     )
 
-pub are_taken : (limit n m : ℕ) (c d : Content) (lines : List (List ℕ)) → lines_taken limit n c lines ≡ taking m d AllTaken → AreTaken limit lines c d
+pub are_taken : (limit n m : ℕ) (c d : Content) (lines : List (List ℕ)) → lines_taken limit n c lines ≡ progress m d AllTaken → AreTaken limit lines c d
 are_taken limit n m c d lines h =
     let w = lines_are_operations limit n m c d lines h in
     record { operations = w.0; taken = w.1; joined = (taken_list_is limit c (operations_of lines) d w.1).joined }

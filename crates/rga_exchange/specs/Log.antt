@@ -1,8 +1,9 @@
 -- What a log leads to.
-use Rattle.std.specs.Prelude.{ℕ, ◌+◌, List, [], ◌∷◌, length, Result, Ok, Err}
-use Rattle.rga_ops.specs.Content.{Content}
-use Rattle.rga_ops.specs.Answer.{taken}
+use Rattle.std.specs.Prelude.{◌≡◌, ◌≢◌, ℕ, ◌+◌, List, [], ◌∷◌, length, Option, Result, Ok, Err, OnOk, OnErr}
+use Rattle.rga_ops.specs.Prelude.{Content, taken, join, content_of}
 use Rattle.rga_ops.specs.declared.refusal.Refusal.{Refusal}
+use Rattle.rga_lines.specs.Counting.{Calls, OnBytes}
+use Rattle.rga_lines.specs.Log.{log_operations}
 use Rattle.rga_lines.specs.Table.{Reading, line_at}
 use Rattle.rga_lines.specs.Stream.{rest_of}
 use Rattle.rga_lines.specs.declared.fault.LineFault.TheVariants as line_fault
@@ -13,27 +14,27 @@ use Rattle.rga_exchange.specs.declared.log.LogEnd.TheVariants.{Whole, Bare, Torn
 use Rattle.rga_exchange.specs.declared.log.LogRead.{LogRead}
 use Rattle.rga_exchange.specs.declared.fault.ReceiveFault.{ReceiveFault}
 use Rattle.rga_exchange.specs.Receiving.{receive_fault}
-use Rattle.rga_exchange.specs.Taking.{Stop, AllTaken, AtEnd, AtFault, Taking, stream_taken}
+use Rattle.rga_exchange.specs.Taking.{Stop, AllTaken, AtEnd, AtFault, Progress, stream_taken, HasTakenLines, HasTakenWholeLines}
 
 -- the content, and the number of lines with how the log ends, or a fault
 abbrev pub LogOutcome : Type 0
 LogOutcome = Content × Result LogRead LogFault
 
-abbrev pub ended : ℕ → Content → LogEnd → LogOutcome
-ended n c end = (c, Ok (record { lines = n; end = end }))
+abbrev pub end_outcome : ℕ → Content → LogEnd → LogOutcome
+end_outcome n c end = (c, Ok (record { lines = n; end = end }))
 
 abbrev pub after_bare_operation : ℕ → Content → Result Content Refusal → LogOutcome
-after_bare_operation n c (Ok d) = ended n d Bare
+after_bare_operation n c (Ok d) = end_outcome n d Bare
 after_bare_operation n c (Err e) = (c, Err (fault.Refused (n + 1) e))
 
 -- a last line that no newline ends counts if it is an operation, and else was cut off
 abbrev pub after_bare_line : ℕ → ℕ → Content → ℕ → Reading → LogOutcome
 after_bare_line limit n c bytes (Ok op) = after_bare_operation n c (taken limit c op)
-after_bare_line limit n c bytes (Err e) = ended n c (Torn bytes)
+after_bare_line limit n c bytes (Err e) = end_outcome n c (Torn bytes)
 
 -- the rest of a log behind n lines, at a store that may know that many identifiers and holds c
 abbrev pub after_rest : ℕ → ℕ → Content → List ℕ → LogOutcome
-after_rest limit n c [] = ended n c Whole
+after_rest limit n c [] = end_outcome n c Whole
 after_rest limit n c (b ∷ bytes) = after_bare_line limit n c (length (b ∷ bytes)) (line_at (b ∷ bytes))
 
 -- the rest comes where all lines were taken; the end of an exchange is no line of a log
@@ -42,7 +43,7 @@ after_stop limit rest n c AllTaken = after_rest limit n c rest
 after_stop limit rest n c (AtEnd number) = (c, Err (fault.Line (n + 1) line_fault.Kind))
 after_stop limit rest n c (AtFault e) = (c, Err e)
 
-abbrev pub after_lines : ℕ → List ℕ → Taking → LogOutcome
+abbrev pub after_lines : ℕ → List ℕ → Progress → LogOutcome
 after_lines limit rest t = after_stop limit rest t.lines t.content t.stop
 
 -- a whole log
@@ -53,3 +54,13 @@ log_outcome limit c bytes = after_lines limit (rest_of bytes) (stream_taken limi
 abbrev pub log_end : Result LogRead LogFault → Result LogEnd ReceiveFault
 log_end (Ok read) = Ok read.end
 log_end (Err e) = Err (receive_fault e)
+
+-- What comes of a log that a taker takes from a reader, where its outcome is told so.
+pub record TakesLog {R T A E : Type 0} (remaining : R → Option (List ℕ)) (limit : T → ℕ) (content : T → Content) (told : Result LogRead LogFault → Result A E) (result : Result A E) (r s : Calls R) (t u : T) : Type 0 where
+  -- however the reads cut the bytes, they lead to what the whole log leads to
+  pub outcome : result ≢ told (Err fault.Read) → result ≢ told (Err fault.Memory) → OnBytes remaining r (λ bytes.
+      let p = log_outcome (limit t) (content t) bytes in (p.0 ≡ content u) × (told p.1 ≡ result))
+  pub joined : OnOk result (OnBytes remaining r (λ bytes. content u ≡ join (content t) (content_of (log_operations bytes))))
+  pub whole_lines : result ≡ told (Err fault.Read) → HasTakenWholeLines remaining limit content r s t u
+  -- whatever the fault, the first lines that were read were taken, and nothing else
+  pub lines : OnErr result (HasTakenLines remaining limit content r s t u)

@@ -1,9 +1,11 @@
 -- A stream that is taken in parts, as it is read.
-use Rattle.std.specs.Prelude.{◌≡◌, ℕ, List, ◌++◌, Option}
+use Rattle.std.specs.Prelude.{◌≡◌, ℕ, List, ◌++◌, Option, Result}
 use Rattle.rga_ops.specs.Content.{Content}
+use Rattle.rga_lines.specs.Counting.{Calls}
 use Rattle.rga_lines.specs.Stream.{lines_of, rest_of}
+use Rattle.rga_lines.specs.Table.{any_line_at}
 use Rattle.rga_exchange.specs.Receiving.{EndsWithLastRead}
-use Rattle.rga_exchange.specs.Taking.{Taking, taking, AllTaken, AtEnd, lines_taken}
+use Rattle.rga_exchange.specs.Taking.{Stop, AllTaken, AtEnd, progress, after_line, lines_taken, bytes_taken, stream_taken}
 use Rattle.rga_exchange.specs.declared.taking.StreamEnd.{StreamEnd}
 use Rattle.rga_exchange.specs.declared.taking.StreamEnd.TheVariants.{EndLine, Input}
 
@@ -13,19 +15,37 @@ pub record Takes (limit n : ℕ) (c : Content) (bytes : List ℕ) (m : ℕ) (d :
   pub lines : List (List ℕ)
   pub cut : (more : List ℕ) → lines_of (bytes ++ more) ≡ lines ++ lines_of (waiting ++ more)
   pub rest : (more : List ℕ) → rest_of (bytes ++ more) ≡ rest_of (waiting ++ more)
-  pub taken : lines_taken limit n c lines ≡ taking m d AllTaken
+  pub taken : lines_taken limit n c lines ≡ progress m d AllTaken
+
+-- what comes of a line with that number
+abbrev pub line_outcome : {T : Type 0} → (T → ℕ) → (T → Content) → T → ℕ → List ℕ → Result Content Stop
+line_outcome limit content t n line = after_line (limit t) n (content t) (any_line_at line)
+
+module _ {T : Type 0} (limit : T → ℕ) (content : T → Content) (t u : T) where
+  -- the same from the one state of a taker to the other
+  abbrev pub TakesUpTo : ℕ → ℕ → List ℕ → List ℕ → Type 0
+  TakesUpTo n m bytes waiting = Takes (limit t) n (content t) bytes m (content u) waiting
+
+  -- whatever follows the bytes, behind n lines they lead to m lines, and stop so there
+  abbrev pub StopsAs : ℕ → ℕ → List ℕ → Stop → Type 0
+  StopsAs n m bytes stop = (more : List ℕ) → bytes_taken (limit t) n (content t) (bytes ++ more) ≡ progress m (content u) stop
+
+  -- all bytes of a stream lead to n lines, and stop so there
+  abbrev pub LeadsTo : List ℕ → ℕ → Stop → Type 0
+  LeadsTo bytes n stop = stream_taken (limit t) (content t) bytes ≡ progress n (content u) stop
+
+  -- the stream of these bytes ended so behind n lines
+  abbrev pub EndsAs : List ℕ → ℕ → StreamEnd → Type 0
+  EndsAs bytes n (EndLine number) = LeadsTo bytes n (AtEnd number)
+  EndsAs bytes n (Input rest) = LeadsTo bytes n AllTaken × (rest_of bytes ≡ rest.items)
+
+module _ {R : Type 0} (remaining : R → Option (List ℕ)) (r s : Calls R) where
+  -- no read follows that of the end line
+  abbrev pub StopsReading : StreamEnd → Type 0
+  StopsReading (EndLine number) = EndsWithLastRead remaining r s
+  StopsReading (Input bytes) = Unit {0}
 
 -- what a reader gave, and what of it was taken
-pub record HasTakenOfRead (old new : Option (List ℕ)) (limit : ℕ) (c : Content) (m : ℕ) (d : Content) (waiting : List ℕ) : Type 0 where
-  pub read : EndsWithLastRead old new
-  pub takes : Takes limit 0 c (read.before ++ read.last) m d waiting
-
--- a stream with this rest, n lines of which were taken, ended so at content d
-abbrev pub EndsAs : Taking → List ℕ → ℕ → Content → StreamEnd → Type 0
-EndsAs t rest n d (EndLine number) = t ≡ taking n d (AtEnd number)
-EndsAs t rest n d (Input bytes) = (t ≡ taking n d AllTaken) × (rest ≡ bytes.items)
-
--- no read follows that of the end line
-abbrev pub StopsReading : Option (List ℕ) → Option (List ℕ) → StreamEnd → Type 0
-StopsReading old new (EndLine number) = EndsWithLastRead old new
-StopsReading old new (Input bytes) = Unit {0}
+pub record HasTakenOfRead {R T : Type 0} (remaining : R → Option (List ℕ)) (limit : T → ℕ) (content : T → Content) (r s : Calls R) (t u : T) (n : ℕ) (waiting : List ℕ) : Type 0 where
+  pub read : EndsWithLastRead remaining r s
+  pub takes : TakesUpTo limit content t u 0 n (read.before ++ read.last) waiting

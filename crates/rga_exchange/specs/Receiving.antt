@@ -1,10 +1,12 @@
--- What an exchange that is received leads to.
+-- What an exchange leads to.
 use Rattle.std.specs.Prelude.{ℕ, ◌≤◌, ◌==◌, if◌then◌else◌, List, ◌++◌, length, Option, Result, Ok, Err}
 use Rattle.std.specs.List.{AllByRecursion}
 use Rattle.std.specs.Io.KnownBytes.{Consumes}
 use Rattle.rga_ops.specs.Content.{Content}
+use Rattle.rga_lines.specs.Counting.{Calls}
 use Rattle.rga_lines.specs.Stream.{lines_of}
 use Rattle.rga_lines.specs.Log.{IsOperation}
+use Rattle.rga_exchange.specs.declared.block.TheConstants.{BLOCK}
 use Rattle.rga_exchange.specs.declared.fault.LogFault.{LogFault}
 use Rattle.rga_exchange.specs.declared.fault.LogFault.TheVariants as log
 use Rattle.rga_exchange.specs.declared.fault.ReceiveFault.{ReceiveFault}
@@ -24,19 +26,15 @@ number_received n AllTaken = Err fault.Cut
 number_received n (AtEnd number) = if number == n then Ok n else Err fault.Count
 number_received n (AtFault e) = Err (receive_fault e)
 
--- the content after an exchange, and what is answered
-abbrev pub received : ℕ → Content → List ℕ → Content × Result ℕ ReceiveFault
-received limit c bytes = let t = stream_taken limit c bytes in (t.content, number_received t.lines t.stop)
-
--- the most bytes of one read
-abbrev pub block : ℕ
-block = 65536
+-- the content after an exchange, and the number of operations, or a fault
+abbrev pub exchange_outcome : ℕ → Content → List ℕ → Content × Result ℕ ReceiveFault
+exchange_outcome limit c bytes = let t = stream_taken limit c bytes in (t.content, number_received t.lines t.stop)
 
 -- What a reader gave, from the one state to the other, ended with one read: before that one there were operations alone,
 -- and no end line.
-pub record EndsWithLastRead (old new : Option (List ℕ)) : Type 0 where
+pub record EndsWithLastRead {R : Type 0} (remaining : R → Option (List ℕ)) (old new : Calls R) : Type 0 where
   pub before : List ℕ
   pub last : List ℕ
-  pub read : Consumes old new (before ++ last)
-  pub one_block : length last ≤ block
+  pub read : Consumes (remaining old.inner) (remaining new.inner) (before ++ last)
+  pub one_block : length last ≤ BLOCK
   pub operations : AllByRecursion IsOperation (lines_of before)

@@ -5,6 +5,7 @@ use Rattle.std.specs.Io.KnownBytes.{Consumes}
 use Rattle.rga_ops.specs.Content.{Content, join, content_of}
 use Rattle.rga_ops.specs.Answer.{taken, taken_one_by_one}
 use Rattle.rga_ops.specs.declared.refusal.Refusal.{Refusal}
+use Rattle.rga_lines.specs.Counting.{Calls}
 use Rattle.rga_lines.specs.Table.{AnyReading, any_line_at, max_line}
 use Rattle.rga_lines.specs.Stream.{lines_of, rest_of}
 use Rattle.rga_lines.specs.Log.{operations_of, IsOperation}
@@ -22,13 +23,13 @@ pub data Stop : Type 0 where
   AtFault : LogFault → Stop
 
 -- how many lines were taken, the content then, and why no further one is
-pub record Taking : Type 0 where
+pub record Progress : Type 0 where
   pub lines : ℕ
   pub content : Content
   pub stop : Stop
 
-abbrev pub taking : ℕ → Content → Stop → Taking
-taking n c stop = record { lines = n; content = c; stop = stop }
+abbrev pub progress : ℕ → Content → Stop → Progress
+progress n c stop = record { lines = n; content = c; stop = stop }
 
 -- ---- one line
 
@@ -44,12 +45,12 @@ after_line limit n c (Err e) = Err (AtFault (fault.Line n e))
 
 -- ---- lines in turn, behind n others
 
-abbrev pub go_on : ℕ → Content → Result Content Stop → (Content → Taking) → Taking
+abbrev pub go_on : ℕ → Content → Result Content Stop → (Content → Progress) → Progress
 go_on n c (Ok d) f = f d
-go_on n c (Err stop) f = taking n c stop
+go_on n c (Err stop) f = progress n c stop
 
-abbrev pub lines_taken : ℕ → ℕ → Content → List (List ℕ) → Taking
-lines_taken limit n c [] = taking n c AllTaken
+abbrev pub lines_taken : ℕ → ℕ → Content → List (List ℕ) → Progress
+lines_taken limit n c [] = progress n c AllTaken
 lines_taken limit n c (line ∷ lines) = go_on n c (after_line limit (n + 1) c (any_line_at line)) (λ d. lines_taken limit (n + 1) d lines)
 
 -- ---- a stream, of which n lines were taken before
@@ -60,14 +61,14 @@ stop_at_rest n rest AllTaken = if nat_lt max_line (length rest) then AtFault (fa
 stop_at_rest n rest (AtEnd number) = AtEnd number
 stop_at_rest n rest (AtFault e) = AtFault e
 
-abbrev pub with_rest : List ℕ → Taking → Taking
-with_rest rest t = taking t.lines t.content (stop_at_rest t.lines rest t.stop)
+abbrev pub with_rest : List ℕ → Progress → Progress
+with_rest rest t = progress t.lines t.content (stop_at_rest t.lines rest t.stop)
 
-abbrev pub bytes_taken : ℕ → ℕ → Content → List ℕ → Taking
+abbrev pub bytes_taken : ℕ → ℕ → Content → List ℕ → Progress
 bytes_taken limit n c bytes = with_rest (rest_of bytes) (lines_taken limit n c (lines_of bytes))
 
 -- all of a stream
-abbrev pub stream_taken : ℕ → Content → List ℕ → Taking
+abbrev pub stream_taken : ℕ → Content → List ℕ → Progress
 stream_taken limit c bytes = bytes_taken limit 0 c bytes
 
 -- ---- where a device or memory failed
@@ -78,17 +79,17 @@ pub record AreTaken (limit : ℕ) (lines : List (List ℕ)) (c d : Content) : Ty
   pub taken : taken_one_by_one limit c (operations_of lines) ≡ Ok d
   pub joined : d ≡ join c (content_of (operations_of lines))
 
--- the first lines of the bytes that a reader gave, from the one state to the other, were taken, and nothing else
-pub record HasTakenLines (old new : Option (List ℕ)) (limit : ℕ) (c d : Content) : Type 0 where
+-- the first lines of what the reader gave were taken, and nothing else
+pub record HasTakenLines {R T : Type 0} (remaining : R → Option (List ℕ)) (limit : T → ℕ) (content : T → Content) (r s : Calls R) (t u : T) : Type 0 where
   pub bytes : List ℕ
-  pub read : Consumes old new bytes
+  pub read : Consumes (remaining r.inner) (remaining s.inner) bytes
   pub lines : List (List ℕ)
   pub later : List (List ℕ)
   pub begins : lines_of bytes ≡ lines ++ later
-  pub taken : AreTaken limit lines c d
+  pub taken : AreTaken (limit t) lines (content t) (content u)
 
--- all whole lines of the bytes that a reader gave were taken
-pub record HasTakenWholeLines (old new : Option (List ℕ)) (limit : ℕ) (c d : Content) : Type 0 where
+-- all whole lines of what the reader gave were taken
+pub record HasTakenWholeLines {R T : Type 0} (remaining : R → Option (List ℕ)) (limit : T → ℕ) (content : T → Content) (r s : Calls R) (t u : T) : Type 0 where
   pub bytes : List ℕ
-  pub read : Consumes old new bytes
-  pub taken : AreTaken limit (lines_of bytes) c d
+  pub read : Consumes (remaining r.inner) (remaining s.inner) bytes
+  pub taken : AreTaken (limit t) (lines_of bytes) (content t) (content u)

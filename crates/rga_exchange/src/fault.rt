@@ -1,9 +1,30 @@
-//! Why operations are not taken, or not all of them.
+//! Why operations are not sent, or not taken, or not all of them.
 ghost use Rattle.std.specs.Prelude.{◌≡◌};
 ghost use Rattle.rga_exchange.specs.Receiving.{receive_fault};
 
 use rga_lines::LineFault;
 use rga_ops::Refusal;
+use std::alloc::AllocError;
+
+/// Why operations were not sent. Whatever was written is a beginning of the text.
+#[derive(Clone, Copy, Debug, PartialEq, Eq)]
+pub enum SendFault {
+    /// The device failed.
+    Write,
+    /// A growth of memory was refused.
+    Memory,
+}
+
+impl From<AllocError> for SendFault {
+    ghost use Rattle.std.specs.Prelude.{◌≡◌};
+    ghost use Rattle.rga_exchange.specs.declared.fault.SendFault.TheVariants.{Memory};
+
+    ghost from_gives = { λ _ fault. fault ≡ Memory };
+
+    fn from(_: AllocError) -> SendFault {
+        SendFault::Memory
+    }
+}
 
 /// Why a log is not read to its end. Lines count from 1. The operations of the lines before the
 /// fault are taken.

@@ -8,9 +8,9 @@ ghost use Rattle.rga_ops.specs.declared.op.Op.{Op as Operation};
 ghost use Rattle.rga_lines.specs.Log.{stream_operations, log_operations, HasOnlyOperations};
 ghost use Rattle.rga_lines.specs.Stream.{newline, lines_of, rest_of};
 ghost use Rattle.rga_exchange.specs.Sending.{log_text, exchange_lines, stream_text, AreWritable, StandsFor};
-ghost use Rattle.rga_exchange.specs.Taking.{Stop, taking, lines_taken, stream_taken};
+ghost use Rattle.rga_exchange.specs.Taking.{Stop, progress, lines_taken, stream_taken};
 ghost use Rattle.rga_exchange.specs.Log.{log_outcome};
-ghost use Rattle.rga_exchange.specs.Receiving.{received};
+ghost use Rattle.rga_exchange.specs.Receiving.{exchange_outcome};
 ghost use Rattle.rga_exchange.specs.Stops.{IsTakenUpTo, all_lines, HasNothingTorn};
 ghost use Rattle.rga_exchange.specs.declared.log.LogRead.{LogRead};
 
@@ -19,8 +19,9 @@ ghost use Rattle.rga_exchange.specs.declared.log.LogRead.{LogRead};
 /// and characters that can be written, it stands for the content joined with them, and again ends
 /// in a newline.
 pub fn appended_lines_are_joined()
-    ensures joined { (bytes : List ℕ) (c : Content) (ops : List Operation) → StandsFor bytes c → rest_of bytes ≡ [] → AreWritable ops
-        → AreWellFormed ops → IsJoinable c ops → StandsFor (bytes ++ log_text ops) (join c (content_of ops)) }
+    ensures joined { (bytes : List ℕ) (c : Content) (ops : List Operation) → StandsFor bytes c
+        → rest_of bytes ≡ [] → AreWritable ops → AreWellFormed ops → IsJoinable c ops
+        → StandsFor (bytes ++ log_text ops) (join c (content_of ops)) }
     ensures ended { (bytes : List ℕ) (ops : List Operation) → rest_of bytes ≡ [] → AreWritable ops
         → rest_of (bytes ++ log_text ops) ≡ [] }
 
@@ -32,20 +33,21 @@ pub fn appended_lines_are_joined()
 /// What is sent of a content is cut into the lines that were written, with nothing behind them; the
 /// operations that they say, up to the end line, are those of the content.
 pub fn what_is_sent_says_the_content()
-    ensures lines { (c : Content) → AreWritable (operations c) → length (operations c) < 2 ^ 64
+    ensures lines { (c : Content) → AreWritable (operations c)
+        → length (operations c) < 2 ^ 64
         → lines_of (stream_text c) ≡ exchange_lines (operations c) }
-    ensures rest { (c : Content) → AreWritable (operations c) → length (operations c) < 2 ^ 64
-        → rest_of (stream_text c) ≡ [] }
-    ensures operations { (c : Content) → IsSound c → AreWritable (operations c) → length (operations c) < 2 ^ 64
-        → stream_operations (stream_text c) ≡ operations c }
+    ensures rest { (c : Content) → AreWritable (operations c)
+        → length (operations c) < 2 ^ 64 → rest_of (stream_text c) ≡ [] }
+    ensures operations { (c : Content) → IsSound c → AreWritable (operations c)
+        → length (operations c) < 2 ^ 64 → stream_operations (stream_text c) ≡ operations c }
 {}
 
 /// What is sent of a content is received whole by whatever holds a content that agrees with it and
 /// has room for both: it then holds the join of both, and answers the number of the operations.
 pub fn what_is_sent_is_received()
-    ensures { (limit : ℕ) (c d : Content) → IsSound c → AreWritable (operations c) → length (operations c) < 2 ^ 64
-        → Agree d c → finite_set.len (known_ids (join d c)) ≤ limit
-        → received limit d (stream_text c) ≡ (join d c, Ok (length (operations c))) }
+    ensures { (limit : ℕ) (c d : Content) → IsSound c → AreWritable (operations c)
+        → length (operations c) < 2 ^ 64 → Agree d c → finite_set.len (known_ids (join d c)) ≤ limit
+        → exchange_outcome limit d (stream_text c) ≡ (join d c, Ok (length (operations c))) }
 {}
 
 /// What comes of the lines of a stream, each exactly where it comes. All are taken where each is an
@@ -53,9 +55,11 @@ pub fn what_is_sent_is_received()
 /// the end, or an operation that is refused; a fault has the number of that line. A rest of more
 /// than 65536 bytes counts as a line.
 pub fn streams_in_words()
-    ensures lines { (limit : ℕ) (c : Content) (lines : List (List ℕ)) (n : ℕ) (d : Content) (stop : Stop)
-        → (lines_taken limit 0 c lines ≡ taking n d stop) ↔ IsTakenUpTo limit c lines n d stop }
-    ensures stream { (limit : ℕ) (c : Content) (bytes : List ℕ) → stream_taken limit c bytes ≡ lines_taken limit 0 c (all_lines bytes) }
+    ensures lines { (limit : ℕ) (c : Content) (lines : List (List ℕ))
+        (n : ℕ) (d : Content) (stop : Stop) → (lines_taken limit 0 c lines ≡ progress n d stop)
+        ↔ IsTakenUpTo limit c lines n d stop }
+    ensures stream { (limit : ℕ) (c : Content) (bytes : List ℕ)
+        → stream_taken limit c bytes ≡ lines_taken limit 0 c (all_lines bytes) }
 {}
 
 /// A log is read to its end with nothing torn off exactly where each line is an operation, the rest
@@ -63,16 +67,21 @@ pub fn streams_in_words()
 /// together know no more identifiers than the limit. What is held is then joined with their
 /// content. Where a line was torn off, that holds of the lines before it.
 pub fn logs_stand_for_their_operations()
-    ensures joined { (limit : ℕ) (c d : Content) (read : LogRead) (bytes : List ℕ) → log_outcome limit c bytes ≡ (d, Ok read)
+    ensures joined { (limit : ℕ) (c d : Content) (read : LogRead) (bytes : List ℕ)
+        → log_outcome limit c bytes ≡ (d, Ok read)
         → d ≡ join c (content_of (log_operations bytes)) }
-    ensures joinable { (limit : ℕ) (c d : Content) (read : LogRead) (bytes : List ℕ) → finite_set.len (known_ids c) ≤ limit
-        → log_outcome limit c bytes ≡ (d, Ok read) → IsJoinable c (log_operations bytes) × (finite_set.len (known_ids d) ≤ limit) }
-    ensures lines { (limit : ℕ) (c d : Content) (read : LogRead) (bytes : List ℕ) → log_outcome limit c bytes ≡ (d, Ok read)
-        → read.lines ≡ length (lines_of bytes) }
-    ensures operations { (limit : ℕ) (c d : Content) (read : LogRead) (bytes : List ℕ) → log_outcome limit c bytes ≡ (d, Ok read)
-        → HasNothingTorn read.end → HasOnlyOperations bytes }
+    ensures joinable { (limit : ℕ) (c d : Content) (read : LogRead) (bytes : List ℕ)
+        → finite_set.len (known_ids c) ≤ limit → log_outcome limit c bytes ≡ (d, Ok read)
+        → IsJoinable c (log_operations bytes) × (finite_set.len (known_ids d) ≤ limit) }
+    ensures lines { (limit : ℕ) (c d : Content) (read : LogRead) (bytes : List ℕ)
+        → log_outcome limit c bytes ≡ (d, Ok read) → read.lines ≡ length (lines_of bytes) }
+    ensures operations { (limit : ℕ) (c d : Content) (read : LogRead) (bytes : List ℕ)
+        → log_outcome limit c bytes ≡ (d, Ok read) → HasNothingTorn read.end
+        → HasOnlyOperations bytes }
 
-    ensures without_fault { (limit : ℕ) (c : Content) (bytes : List ℕ) → HasOnlyOperations bytes → IsJoinable c (log_operations bytes)
+    ensures without_fault { (limit : ℕ) (c : Content) (bytes : List ℕ) → HasOnlyOperations bytes
+        → IsJoinable c (log_operations bytes)
         → finite_set.len (known_ids (join c (content_of (log_operations bytes)))) ≤ limit
-        → (read : LogRead) × (log_outcome limit c bytes ≡ (join c (content_of (log_operations bytes)), Ok read)) × HasNothingTorn read.end }
+        → (read : LogRead) × (log_outcome limit c bytes
+        ≡ (join c (content_of (log_operations bytes)), Ok read)) × HasNothingTorn read.end }
 {}

@@ -19,14 +19,12 @@ mod fault;
 pub mod laws;
 mod log;
 mod receiving;
-mod send_fault;
 mod sending;
 mod taking;
 
-pub use fault::{LogFault, ReceiveFault};
+pub use fault::{LogFault, ReceiveFault, SendFault};
 pub use log::{LogEnd, LogRead, read_log, take_log};
 pub use receiving::receive;
-pub use send_fault::SendFault;
 pub use sending::{append_log, send};
 
 #[cfg(test)]

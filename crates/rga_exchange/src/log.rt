@@ -1,10 +1,7 @@
 //! Logs, read into whatever takes operations.
-ghost use Rattle.std.specs.Prelude.{◌≡◌, ◌≢◌, ◌<◌, ◌^◌, Ok, Err, OnOk, OnErr, IfOk, IfErr, IfSome};
-ghost use Rattle.rga_ops.specs.Content.{join, content_of};
-ghost use Rattle.rga_lines.specs.Counting.{counted_inner, counted_failures, one_more};
-ghost use Rattle.rga_lines.specs.Log.{log_operations};
-ghost use Rattle.rga_exchange.specs.Taking.{HasTakenLines, HasTakenWholeLines};
-ghost use Rattle.rga_exchange.specs.Log.{log_outcome, log_end, after_rest, ended};
+ghost use Rattle.std.specs.Prelude.{◌≡◌, ◌≢◌, ◌<◌, ◌^◌, Err, OnErr, IfOk, IfErr};
+ghost use Rattle.rga_lines.specs.Counting.{CountsAs};
+ghost use Rattle.rga_exchange.specs.Log.{TakesLog, log_end, after_rest, end_outcome};
 ghost use Rattle.rga_exchange.specs.declared.fault.LogFault.TheVariants.{Memory as NoMemory, Read as ReadFailed};
 
 use crate::fault::{LogFault, ReceiveFault};
@@ -46,19 +43,9 @@ pub fn take_log<T: Taker, R: Read>(
     taker: &mut T,
     reader: &mut Counted<R>,
 ) -> Result<LogRead, LogFault>
-    // However the reads cut the bytes, they lead to what the whole log leads to.
-    ensures outcome { result ≢ Err ReadFailed → result ≢ Err NoMemory → IfSome (R.remaining (counted_inner reader.old))
-        (λ bytes. log_outcome (T.limit taker.old) (T.content taker.old) bytes ≡ (T.content taker.new, result)) }
-    ensures joined { OnOk result (IfSome (R.remaining (counted_inner reader.old))
-        (λ bytes. T.content taker.new ≡ join (T.content taker.old) (content_of (log_operations bytes)))) }
-
-    ensures read { result ≡ Err ReadFailed → HasTakenWholeLines (R.remaining (counted_inner reader.old))
-        (R.remaining (counted_inner reader.new)) (T.limit taker.old) (T.content taker.old) (T.content taker.new) }
-    // Whatever the fault, the first lines that were read were taken, and nothing else.
-    ensures lines { OnErr result (HasTakenLines (R.remaining (counted_inner reader.old))
-        (R.remaining (counted_inner reader.new)) (T.limit taker.old) (T.content taker.old) (T.content taker.new)) }
-    ensures device { result ≡ Err ReadFailed → counted_failures reader.new ≡ one_more (counted_failures reader.old) }
-    ensures unfailed { result ≢ Err ReadFailed → counted_failures reader.new ≡ counted_failures reader.old }
+    ensures taken { TakesLog R.remaining T.limit T.content (λ outcome. outcome) result
+        reader.old reader.new taker.old taker.new }
+    ensures device { CountsAs LogFault.Read result reader.old reader.new }
     ensures limit { T.limit taker.new ≡ T.limit taker.old }
     ensures bound { IfOk result (λ log. log.lines < 2 ^ 63) }
 {
@@ -80,8 +67,10 @@ fn take_rest<T: Taker>(
     rest: &[u8],
 ) -> Result<LogEnd, LogFault>
     requires { lines < 2 ^ 63 }
-    ensures end { IfOk result (λ end. after_rest (T.limit taker.old) lines (T.content taker.old) rest.now ≡ ended lines (T.content taker.new) end) }
-    ensures fault { IfErr result (λ e. e ≢ NoMemory → after_rest (T.limit taker.old) lines (T.content taker.old) rest.now ≡ (T.content taker.new, Err e)) }
+    ensures end { IfOk result (λ end. after_rest
+        (T.limit taker.old) lines (T.content taker.old) rest.now ≡ end_outcome lines (T.content taker.new) end) }
+    ensures fault { IfErr result (λ e. e ≢ NoMemory → after_rest
+        (T.limit taker.old) lines (T.content taker.old) rest.now ≡ (T.content taker.new, Err e)) }
     ensures same { OnErr result (T.content taker.new ≡ T.content taker.old) }
     ensures device { IfErr result (λ e. e ≢ ReadFailed) }
     ensures limit { T.limit taker.new ≡ T.limit taker.old }
@@ -106,19 +95,9 @@ pub fn read_log<T: Taker, R: Read>(
     taker: &mut T,
     reader: &mut Counted<R>,
 ) -> Result<LogEnd, ReceiveFault>
-    // However the reads cut the bytes, they lead to what the whole log leads to.
-    ensures outcome { result ≢ Err ReceiveFault.Read → result ≢ Err ReceiveFault.Memory → IfSome (R.remaining (counted_inner reader.old))
-        (λ bytes. let p = log_outcome (T.limit taker.old) (T.content taker.old) bytes in (p.0 ≡ T.content taker.new) × (log_end p.1 ≡ result)) }
-    ensures joined { OnOk result (IfSome (R.remaining (counted_inner reader.old))
-        (λ bytes. T.content taker.new ≡ join (T.content taker.old) (content_of (log_operations bytes)))) }
-
-    ensures read { result ≡ Err ReceiveFault.Read → HasTakenWholeLines (R.remaining (counted_inner reader.old))
-        (R.remaining (counted_inner reader.new)) (T.limit taker.old) (T.content taker.old) (T.content taker.new) }
-    // Whatever the fault, the first lines that were read were taken, and nothing else.
-    ensures lines { OnErr result (HasTakenLines (R.remaining (counted_inner reader.old))
-        (R.remaining (counted_inner reader.new)) (T.limit taker.old) (T.content taker.old) (T.content taker.new)) }
-    ensures device { result ≡ Err ReceiveFault.Read → counted_failures reader.new ≡ one_more (counted_failures reader.old) }
-    ensures unfailed { result ≢ Err ReceiveFault.Read → counted_failures reader.new ≡ counted_failures reader.old }
+    ensures taken { TakesLog R.remaining T.limit T.content log_end result
+        reader.old reader.new taker.old taker.new }
+    ensures device { CountsAs ReceiveFault.Read result reader.old reader.new }
     ensures limit { T.limit taker.new ≡ T.limit taker.old }
 {
     let log = take_log(alloc, taker, reader)?;

@@ -1,10 +1,10 @@
 //! Exchanges, received by whatever takes operations.
-ghost use Rattle.std.specs.Prelude.{◌≡◌, ◌≢◌, length, Ok, Err, OnOk, IfOk, IfSome};
-ghost use Rattle.rga_ops.specs.Content.{join, content_of};
-ghost use Rattle.rga_lines.specs.Counting.{counted_inner, counted_failures, one_more};
+ghost use Rattle.std.specs.Prelude.{◌≡◌, ◌≢◌, length, Err, OnOk, IfOk};
+ghost use Rattle.rga_ops.specs.Prelude.{join, content_of};
+ghost use Rattle.rga_lines.specs.Counting.{CountsAs, OnBytes};
 ghost use Rattle.rga_lines.specs.Log.{stream_operations};
 ghost use Rattle.rga_exchange.specs.Taking.{HasTakenLines, HasTakenWholeLines};
-ghost use Rattle.rga_exchange.specs.Receiving.{received, EndsWithLastRead};
+ghost use Rattle.rga_exchange.specs.Receiving.{exchange_outcome, EndsWithLastRead};
 
 use crate::fault::ReceiveFault;
 use crate::taking::{Stream, StreamEnd, take_stream};
@@ -28,23 +28,25 @@ pub fn receive<T: Taker, R: Read>(
     reader: &mut Counted<R>,
 ) -> Result<u64, ReceiveFault>
     // However the reads cut the bytes, they lead to what all of them lead to.
-    ensures outcome { result ≢ Err ReceiveFault.Read → result ≢ Err ReceiveFault.Memory → IfSome (R.remaining (counted_inner reader.old))
-        (λ bytes. received (T.limit taker.old) (T.content taker.old) bytes ≡ (T.content taker.new, result)) }
-    ensures joined { OnOk result (IfSome (R.remaining (counted_inner reader.old))
-        (λ bytes. T.content taker.new ≡ join (T.content taker.old) (content_of (stream_operations bytes)))) }
-    ensures number { IfOk result (λ n. IfSome (R.remaining (counted_inner reader.old)) (λ bytes. n ≡ length (stream_operations bytes))) }
+    ensures outcome { result ≢ Err ReceiveFault.Read → result ≢ Err ReceiveFault.Memory
+        → OnBytes R.remaining reader.old (λ bytes. exchange_outcome
+        (T.limit taker.old) (T.content taker.old) bytes ≡ (T.content taker.new, result)) }
+    ensures joined { OnOk result (OnBytes R.remaining reader.old (λ bytes.
+        T.content taker.new ≡ join (T.content taker.old) (content_of (stream_operations bytes)))) }
+    ensures number { IfOk result (λ n. OnBytes R.remaining reader.old
+        (λ bytes. n ≡ length (stream_operations bytes))) }
 
     // No read follows the one that brought the end line, be its number right or wrong.
-    ensures last { OnOk result (EndsWithLastRead (R.remaining (counted_inner reader.old)) (R.remaining (counted_inner reader.new))) }
-    ensures last_count { result ≡ Err ReceiveFault.Count → EndsWithLastRead (R.remaining (counted_inner reader.old)) (R.remaining (counted_inner reader.new)) }
+    ensures last { OnOk result (EndsWithLastRead R.remaining reader.old reader.new) }
+    ensures last_count { result ≡ Err ReceiveFault.Count
+        → EndsWithLastRead R.remaining reader.old reader.new }
 
-    ensures read { result ≡ Err ReceiveFault.Read → HasTakenWholeLines (R.remaining (counted_inner reader.old))
-        (R.remaining (counted_inner reader.new)) (T.limit taker.old) (T.content taker.old) (T.content taker.new) }
+    ensures whole_lines { result ≡ Err ReceiveFault.Read → HasTakenWholeLines
+        R.remaining T.limit T.content reader.old reader.new taker.old taker.new }
     // Whatever the answer, the first lines that were read were taken, and nothing else.
-    ensures lines { HasTakenLines (R.remaining (counted_inner reader.old))
-        (R.remaining (counted_inner reader.new)) (T.limit taker.old) (T.content taker.old) (T.content taker.new) }
-    ensures device { result ≡ Err ReceiveFault.Read → counted_failures reader.new ≡ one_more (counted_failures reader.old) }
-    ensures unfailed { result ≢ Err ReceiveFault.Read → counted_failures reader.new ≡ counted_failures reader.old }
+    ensures lines { HasTakenLines R.remaining T.limit T.content
+        reader.old reader.new taker.old taker.new }
+    ensures device { CountsAs ReceiveFault.Read result reader.old reader.new }
     ensures limit { T.limit taker.new ≡ T.limit taker.old }
 {
     let Stream { lines, end } = take_stream(alloc, taker, reader)?;

@@ -1,20 +1,16 @@
 //! Operations sent: as lines, in blocks.
-ghost use Rattle.std.specs.Prelude.{◌≡◌, ◌≢◌, ℕ, ◌≤◌, ◌++◌, ◌∷◌, List, [], length, Ok, Err, IfOk, OnOk};
-ghost use Rattle.std.specs.Io.KnownBytes.{Appends};
+ghost use Rattle.std.specs.Prelude.{◌≡◌, ℕ, ◌≤◌, ◌++◌, ◌∷◌, List, [], length, Ok, IfOk, OnOk};
 ghost use Rattle.std.specs.FinSet as finite_set;
-ghost use Rattle.rga_ops.specs.Operation.{checked};
-ghost use Rattle.rga_ops.specs.Operations.{operations};
-ghost use Rattle.rga_ops.specs.Content.{Content, Agree, IsSound, join, known_ids, content_of};
+ghost use Rattle.rga_ops.specs.Prelude.{checked, operations, Content, Agree, IsSound, join, known_ids, content_of};
 ghost use Rattle.rga_ops.specs.ListAnswer.{AreWellFormed, IsJoinable};
-ghost use Rattle.rga_lines.specs.Counting.{counted_inner, counted_failures, one_more, AppendsFront};
+ghost use Rattle.rga_lines.specs.Counting.{CountsAs, Writes, WritesFront, Begun};
 ghost use Rattle.rga_lines.specs.Spelling.{line as line_of, IsWritable};
 ghost use Rattle.rga_lines.specs.Stream.{newline, rest_of};
-ghost use Rattle.rga_lines.specs.Counting.{Begun};
 ghost use Rattle.rga_exchange.specs.Sending.{log_text, stream_text, AreWritable, StandsFor};
-ghost use Rattle.rga_exchange.specs.Receiving.{received};
+ghost use Rattle.rga_exchange.specs.Receiving.{exchange_outcome};
 
 use crate::block::Block;
-use crate::send_fault::SendFault;
+use crate::fault::SendFault;
 use rga_lines::{Counted, write_end, write_line};
 use rga_ops::Op;
 use rga_store::TextStore;
@@ -34,14 +30,16 @@ pub fn send<S: TextStore, W: Write>(
     writer: &mut Counted<W>,
 ) -> Result<u64, SendFault>
     ensures number { IfOk result (λ number. number ≡ length (operations (S.content store.now))) }
-    ensures written { OnOk result (Appends (W.contents (counted_inner writer.old)) (W.contents (counted_inner writer.new)) (stream_text (S.content store.now))) }
+    ensures written { OnOk result (Writes W.contents writer.old writer.new
+        (stream_text (S.content store.now))) }
     // Whatever holds a content that agrees with it, and has room for both, receives it whole.
-    ensures received { IfOk result (λ number. (limit : ℕ) (c : Content) → IsSound (S.content store.now) → Agree c (S.content store.now)
-        → finite_set.len (known_ids (join c (S.content store.now))) ≤ limit
-        → received limit c (stream_text (S.content store.now)) ≡ (join c (S.content store.now), Ok number)) }
-    ensures unfailed { result ≢ Err SendFault.Write → counted_failures writer.new ≡ counted_failures writer.old }
-    ensures begun { AppendsFront (W.contents (counted_inner writer.old)) (W.contents (counted_inner writer.new)) (stream_text (S.content store.now)) }
-    ensures write { result ≡ Err SendFault.Write → counted_failures writer.new ≡ one_more (counted_failures writer.old) }
+    ensures received { IfOk result (λ number. let sent = S.content store.now in
+        (limit : ℕ) (c : Content) → IsSound sent → Agree c sent
+        → finite_set.len (known_ids (join c sent)) ≤ limit
+        → exchange_outcome limit c (stream_text sent) ≡ (join c sent, Ok number)) }
+    ensures begun { WritesFront W.contents writer.old writer.new
+        (stream_text (S.content store.now)) }
+    ensures device { CountsAs SendFault.Write result writer.old writer.new }
 {
     let Ok(ops) = store.ops() else {
         return Err(SendFault::Memory);
@@ -61,22 +59,22 @@ pub fn send<S: TextStore, W: Write>(
 /// Answers how many there are.
 ///
 /// Only one block of some 64 KiB is held. The device is given as many lines at once as a block has,
-/// no failed call is made again, and the device is flushed at the end. `Write` comes exactly where a
-/// call failed.
+/// no failed call is made again, and the device is flushed at the end. `Write` comes exactly where
+/// a call failed.
 pub fn append_log<W: Write>(
     alloc: Global,
     ops: &[Op],
     writer: &mut Counted<W>,
 ) -> Result<u64, SendFault>
     ensures number { IfOk result (λ number. number ≡ length ops.now) }
-    ensures written { OnOk result (Appends (W.contents (counted_inner writer.old)) (W.contents (counted_inner writer.new)) (log_text ops.now)) }
+    ensures written { OnOk result (Writes W.contents writer.old writer.new (log_text ops.now)) }
     // A log that is empty or ends in a newline, and stands for a content, then stands for that
     // content joined with the operations.
-    ensures joined { OnOk result ((bytes : List ℕ) (c : Content) → StandsFor bytes c → rest_of bytes ≡ [] → AreWellFormed ops.now → IsJoinable c ops.now
+    ensures joined { OnOk result ((bytes : List ℕ) (c : Content) → StandsFor bytes c
+        → rest_of bytes ≡ [] → AreWellFormed ops.now → IsJoinable c ops.now
         → StandsFor (bytes ++ log_text ops.now) (join c (content_of ops.now))) }
-    ensures unfailed { result ≢ Err SendFault.Write → counted_failures writer.new ≡ counted_failures writer.old }
-    ensures begun { AppendsFront (W.contents (counted_inner writer.old)) (W.contents (counted_inner writer.new)) (log_text ops.now) }
-    ensures write { result ≡ Err SendFault.Write → counted_failures writer.new ≡ one_more (counted_failures writer.old) }
+    ensures begun { WritesFront W.contents writer.old writer.new (log_text ops.now) }
+    ensures device { CountsAs SendFault.Write result writer.old writer.new }
 {
     let mut block = Block::new(alloc)?;
     push_lines(alloc, ops, &mut block, writer)?;
@@ -91,11 +89,11 @@ fn push_lines<W: Write>(
     block: &mut Block,
     writer: &mut Counted<W>,
 ) -> Result<(), SendFault>
-    ensures ok { OnOk result (Begun (W.contents (counted_inner writer.old)) (W.contents (counted_inner writer.new)) (block.old.text.items ++ log_text ops.now) block.new.text.items) }
-    ensures unfailed { result ≢ Err SendFault.Write → counted_failures writer.new ≡ counted_failures writer.old }
+    ensures ok { OnOk result (Begun W.contents writer.old writer.new
+        (block.old ++ log_text ops.now) block.new) }
     ensures writable { OnOk result (AreWellFormed ops.now → AreWritable ops.now) }
-    ensures begun { AppendsFront (W.contents (counted_inner writer.old)) (W.contents (counted_inner writer.new)) (block.old.text.items ++ log_text ops.now) }
-    ensures write { result ≡ Err SendFault.Write → counted_failures writer.new ≡ one_more (counted_failures writer.old) }
+    ensures begun { WritesFront W.contents writer.old writer.new (block.old ++ log_text ops.now) }
+    ensures device { CountsAs SendFault.Write result writer.old writer.new }
 {
     for op in ops {
         push_line(alloc, op, block, writer)?;
@@ -110,11 +108,11 @@ fn push_line<W: Write>(
     block: &mut Block,
     writer: &mut Counted<W>,
 ) -> Result<(), SendFault>
-    ensures ok { OnOk result (Begun (W.contents (counted_inner writer.old)) (W.contents (counted_inner writer.new)) (block.old.text.items ++ (line_of op.now ++ newline ∷ [])) block.new.text.items) }
-    ensures unfailed { result ≢ Err SendFault.Write → counted_failures writer.new ≡ counted_failures writer.old }
+    ensures ok { OnOk result (Begun W.contents writer.old writer.new
+        (block.old ++ (line_of op.now ++ newline ∷ [])) block.new) }
     ensures writable { OnOk result (checked op.now ≡ Ok tt → IsWritable op.now) }
-    ensures begun { AppendsFront (W.contents (counted_inner writer.old)) (W.contents (counted_inner writer.new)) block.old.text.items }
-    ensures write { result ≡ Err SendFault.Write → counted_failures writer.new ≡ one_more (counted_failures writer.old) }
+    ensures begun { WritesFront W.contents writer.old writer.new block.old }
+    ensures device { CountsAs SendFault.Write result writer.old writer.new }
 {
     if block.is_full() {
         block.write_to(writer)?;
@@ -128,10 +126,9 @@ fn push_line<W: Write>(
 
 /// Writes the lines that are left, and flushes the device.
 fn finish<W: Write>(mut rest: Block, writer: &mut Counted<W>) -> Result<(), SendFault>
-    ensures ok { OnOk result (Appends (W.contents (counted_inner writer.old)) (W.contents (counted_inner writer.new)) rest.text.items) }
-    ensures unfailed { result ≢ Err SendFault.Write → counted_failures writer.new ≡ counted_failures writer.old }
-    ensures begun { AppendsFront (W.contents (counted_inner writer.old)) (W.contents (counted_inner writer.new)) rest.text.items }
-    ensures write { result ≡ Err SendFault.Write → counted_failures writer.new ≡ one_more (counted_failures writer.old) }
+    ensures ok { OnOk result (Writes W.contents writer.old writer.new rest) }
+    ensures begun { WritesFront W.contents writer.old writer.new rest }
+    ensures device { CountsAs SendFault.Write result writer.old writer.new }
 {
     rest.write_to(writer)?;
     let Ok(()) = writer.flush() else {

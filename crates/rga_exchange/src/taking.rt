@@ -1,22 +1,20 @@
 //! The lines of a stream, taken in turn into whatever takes operations.
-ghost use Rattle.std.specs.Prelude.{◌≡◌, ◌≢◌, ◌+◌, ◌^◌, ◌<◌, ◌≤◌, ◌++◌, ℕ, List, length, [], false, Ok, Err, Some, None, OnOk, IfOk, OnErr, IfErr, IfSome};
-ghost use Rattle.rga_lines.specs.Counting.{counted_inner, counted_failures, one_more};
-ghost use Rattle.rga_lines.specs.Stream.{lines_of, rest_of};
-ghost use Rattle.rga_lines.specs.Table.{any_line_at, max_line};
-ghost use Rattle.rga_ops.specs.Answer.{taken};
-ghost use Rattle.rga_exchange.specs.Taking.{AtEnd, AtFault, taking, refused_at, after_line, bytes_taken, stream_taken, HasTakenLines, HasTakenWholeLines};
-ghost use Rattle.rga_exchange.specs.Parts.{Takes, EndsAs, StopsReading};
+ghost use Rattle.std.specs.Prelude.{◌≡◌, ◌≢◌, ◌+◌, ◌^◌, ◌<◌, ◌≤◌, ℕ, List, length, [], false, Ok, Err, Some, None, OnOk, IfOk, OnErr, IfErr};
+ghost use Rattle.rga_ops.specs.Prelude.{taken};
+ghost use Rattle.rga_lines.specs.Counting.{CountsAs, OnBytes};
+ghost use Rattle.rga_lines.specs.Stream.{lines_of};
+ghost use Rattle.rga_lines.specs.Table.{max_line};
+ghost use Rattle.rga_exchange.specs.Taking.{AtEnd, AtFault, refused_at, HasTakenLines, HasTakenWholeLines};
+ghost use Rattle.rga_exchange.specs.Parts.{line_outcome, TakesUpTo, StopsAs, LeadsTo, EndsAs, StopsReading};
 ghost use Rattle.rga_exchange.specs.declared.fault.LogFault.TheVariants.{Memory, Read as ReadFailed};
 
+use crate::block::BLOCK;
 use crate::fault::LogFault;
 use rga_lines::{Counted, Line, LineFault, Splitter, read_any};
 use rga_ops::{Op, Refusal};
 use rga_store::Taker;
 use std::alloc::Global;
 use std::io::Read;
-
-/// The most bytes that are asked for at once.
-const BLOCK: usize = 65536;
 
 /// Where the lines of a stream came to an end, and how many were taken before.
 pub(crate) struct Stream {
@@ -39,18 +37,17 @@ pub(crate) fn take_stream<T: Taker, R: Read>(
     reader: &mut Counted<R>,
 ) -> Result<Stream, LogFault>
     // However the reads cut the bytes, they lead to what all of them lead to.
-    ensures end { IfOk result (λ s. IfSome (R.remaining (counted_inner reader.old))
-        (λ bytes. EndsAs (stream_taken (T.limit taker.old) (T.content taker.old) bytes) (rest_of bytes) s.lines (T.content taker.new) s.end)) }
-    ensures fault { IfErr result (λ e. e ≢ ReadFailed → e ≢ Memory → IfSome (R.remaining (counted_inner reader.old))
-        (λ bytes. (lines : ℕ) × (stream_taken (T.limit taker.old) (T.content taker.old) bytes ≡ taking lines (T.content taker.new) (AtFault e)))) }
+    ensures end { IfOk result (λ s. OnBytes R.remaining reader.old
+        (λ bytes. EndsAs T.limit T.content taker.old taker.new bytes s.lines s.end)) }
+    ensures fault { IfErr result (λ e. e ≢ ReadFailed → e ≢ Memory → OnBytes R.remaining reader.old
+        (λ bytes. (n : ℕ) × LeadsTo T.limit T.content taker.old taker.new bytes n (AtFault e))) }
 
-    ensures lines { HasTakenLines (R.remaining (counted_inner reader.old))
-        (R.remaining (counted_inner reader.new)) (T.limit taker.old) (T.content taker.old) (T.content taker.new) }
-    ensures whole { IfErr result (λ e. e ≡ ReadFailed → HasTakenWholeLines (R.remaining (counted_inner reader.old))
-        (R.remaining (counted_inner reader.new)) (T.limit taker.old) (T.content taker.old) (T.content taker.new)) }
-    ensures last { IfOk result (λ s. StopsReading (R.remaining (counted_inner reader.old)) (R.remaining (counted_inner reader.new)) s.end) }
-    ensures device { IfErr result (λ e. e ≡ ReadFailed → counted_failures reader.new ≡ one_more (counted_failures reader.old)) }
-    ensures unfailed { result ≢ Err ReadFailed → counted_failures reader.new ≡ counted_failures reader.old }
+    ensures lines { HasTakenLines R.remaining T.limit T.content
+        reader.old reader.new taker.old taker.new }
+    ensures whole_lines { IfErr result (λ e. e ≡ ReadFailed → HasTakenWholeLines
+        R.remaining T.limit T.content reader.old reader.new taker.old taker.new) }
+    ensures last { IfOk result (λ s. StopsReading R.remaining reader.old reader.new s.end) }
+    ensures device { CountsAs ReadFailed result reader.old reader.new }
     ensures limit { T.limit taker.new ≡ T.limit taker.old }
     ensures bound { IfOk result (λ s. s.lines < 2 ^ 63) }
 {
@@ -85,17 +82,21 @@ fn take_lines<T: Taker>(
 ) -> Result<Option<u64>, LogFault>
     requires whole { splitter.old.broken ≡ false }
     requires room { lines.old + length splitter.old.waiting < 2 ^ 63 }
-    ensures taken { (waiting : List ℕ) × Takes (T.limit taker.old) lines.old (T.content taker.old) splitter.old.waiting lines.new (T.content taker.new) waiting }
-    ensures all { result ≡ Ok None → Takes (T.limit taker.old) lines.old (T.content taker.old) splitter.old.waiting lines.new (T.content taker.new) splitter.new.waiting }
-    ensures end { (number : ℕ) → result ≡ Ok (Some number) → (more : List ℕ) →
-        bytes_taken (T.limit taker.old) lines.old (T.content taker.old) (splitter.old.waiting ++ more) ≡ taking lines.new (T.content taker.new) (AtEnd number) }
-    ensures fault { IfErr result (λ e. e ≢ Memory → (more : List ℕ) →
-        bytes_taken (T.limit taker.old) lines.old (T.content taker.old) (splitter.old.waiting ++ more) ≡ taking lines.new (T.content taker.new) (AtFault e)) }
+    ensures taken { (waiting : List ℕ) × TakesUpTo T.limit T.content taker.old taker.new
+        lines.old lines.new splitter.old.waiting waiting }
+    ensures all { result ≡ Ok None → TakesUpTo T.limit T.content taker.old taker.new
+        lines.old lines.new splitter.old.waiting splitter.new.waiting }
+    ensures end { (number : ℕ) → result ≡ Ok (Some number) → StopsAs T.limit T.content
+        taker.old taker.new lines.old lines.new splitter.old.waiting (AtEnd number) }
+    ensures fault { IfErr result (λ e. e ≢ Memory → StopsAs T.limit T.content
+        taker.old taker.new lines.old lines.new splitter.old.waiting (AtFault e)) }
     ensures device { IfErr result (λ e. e ≢ ReadFailed) }
 
-    ensures none_left { result ≡ Ok None → (lines_of splitter.new.waiting ≡ []) × (length splitter.new.waiting ≤ max_line) }
+    ensures none_left { result ≡ Ok None → (lines_of splitter.new.waiting ≡ [])
+        × (length splitter.new.waiting ≤ max_line) }
     ensures whole { result ≡ Ok None → splitter.new.broken ≡ false }
-    ensures room { result ≡ Ok None → lines.new + length splitter.new.waiting ≤ lines.old + length splitter.old.waiting }
+    ensures room { result ≡ Ok None →
+        lines.new + length splitter.new.waiting ≤ lines.old + length splitter.old.waiting }
     ensures bound { lines.new ≤ lines.old + length splitter.old.waiting }
     ensures limit { T.limit taker.new ≡ T.limit taker.old }
 {
@@ -120,12 +121,14 @@ fn take_line<T: Taker>(
     number: u64,
     line: &[u8],
 ) -> Result<Option<u64>, LogFault>
-    ensures operation { result ≡ Ok None → after_line (T.limit taker.old) number (T.content taker.old) (any_line_at line.now) ≡ Ok (T.content taker.new) }
-    ensures end { (count : ℕ) → result ≡ Ok (Some count) → (after_line (T.limit taker.old) number (T.content taker.old) (any_line_at line.now) ≡ Err (AtEnd count))
-        × (T.content taker.new ≡ T.content taker.old) }
-    ensures fault { IfErr result (λ e. e ≢ Memory → after_line (T.limit taker.old) number (T.content taker.old) (any_line_at line.now) ≡ Err (AtFault e)) }
+    ensures operation { result ≡ Ok None →
+        line_outcome T.limit T.content taker.old number line.now ≡ Ok (T.content taker.new) }
+    ensures end { (count : ℕ) → result ≡ Ok (Some count) →
+        line_outcome T.limit T.content taker.old number line.now ≡ Err (AtEnd count) }
+    ensures fault { IfErr result (λ e. e ≢ Memory →
+        line_outcome T.limit T.content taker.old number line.now ≡ Err (AtFault e)) }
     ensures device { IfErr result (λ e. e ≢ ReadFailed) }
-    ensures same { OnErr result (T.content taker.new ≡ T.content taker.old) }
+    ensures same { result ≢ Ok None → T.content taker.new ≡ T.content taker.old }
     ensures limit { T.limit taker.new ≡ T.limit taker.old }
 {
     match read_any(alloc, line) {
@@ -141,8 +144,10 @@ fn take_line<T: Taker>(
 
 /// Takes the operation of the line with this number.
 pub(crate) fn take<T: Taker>(taker: &mut T, number: u64, op: Op) -> Result<(), LogFault>
-    ensures ok { OnOk result (taken (T.limit taker.old) (T.content taker.old) op ≡ Ok (T.content taker.new)) }
-    ensures fault { IfErr result (λ e. e ≢ Memory → refused_at number (taken (T.limit taker.old) (T.content taker.old) op) ≡ Err (AtFault e)) }
+    ensures ok { OnOk result
+        (taken (T.limit taker.old) (T.content taker.old) op ≡ Ok (T.content taker.new)) }
+    ensures fault { IfErr result (λ e. e ≢ Memory → refused_at number
+        (taken (T.limit taker.old) (T.content taker.old) op) ≡ Err (AtFault e)) }
     ensures device { IfErr result (λ e. e ≢ ReadFailed) }
     ensures same { OnErr result (T.content taker.new ≡ T.content taker.old) }
     ensures limit { T.limit taker.new ≡ T.limit taker.old }

@@ -61,12 +61,15 @@ module _ {W : Type 0} (contents : W → Option (List ℕ)) (old new : Calls W) w
   abbrev pub Writes : List ℕ → Type 0
   Writes text = Appends (contents old.inner) (contents new.inner) text
 
-  -- known bytes grew by a beginning of the text
-  abbrev pub WritesFront : List ℕ → Type 0
-  WritesFront text = (front : List ℕ) × (rest : List ℕ) × (text ≡ front ++ rest) × Writes front
-
   -- what was written of the text, rest being left
   pub record Begun (text rest : List ℕ) : Type 0 where
     pub front : List ℕ
+    pub parts : text ≡ front ++ rest
+    pub written : Writes front
+
+  -- known bytes grew by a beginning of the text
+  pub record WritesFront (text : List ℕ) : Type 0 where
+    pub front : List ℕ
+    pub rest : List ℕ
     pub parts : text ≡ front ++ rest
     pub written : Writes front

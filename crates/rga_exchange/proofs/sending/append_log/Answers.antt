@@ -5,11 +5,11 @@ use Rattle.rga_exchange.proofs.sending.append_log.Goals as goal
 
 pub returns-in_err-finish-clause-begun : goal.returns-in_err-finish-clause-begun
 returns-in_err-finish-clause-begun g c =
-    begun_left _ _ _ _ _ (log_begun _ _ _ _ _ c.in_ok-block.ensures c.in_ok-push_lines.ensures.ok) c.in_err-finish.ensures.begun
+    begun_left _ _ _ _ _ _ (log_begun _ _ _ _ _ _ c.in_ok-block.ensures c.in_ok-push_lines.ensures.ok) c.in_err-finish.ensures.begun
 
 pub returns-clause-begun : goal.returns-clause-begun
 returns-clause-begun g c =
-    begun_left _ _ _ _ _ (log_begun _ _ _ _ _ c.in_ok-block.ensures c.in_ok-push_lines.ensures.ok) c.in_ok-finish.ensures.begun
+    begun_left _ _ _ _ _ _ (log_begun _ _ _ _ _ _ c.in_ok-block.ensures c.in_ok-push_lines.ensures.ok) c.in_ok-finish.ensures.begun
 
 pub returns-clause-joined : goal.returns-clause-joined
 returns-clause-joined g c = λ bytes held stands ended well joinable.

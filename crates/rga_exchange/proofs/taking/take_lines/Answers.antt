@@ -5,7 +5,7 @@ use Rattle.rga_lines.specs.Table.{any_line_at}
 use Rattle.rga_lines.specs.Stream.{Splitting, lines_of, rest_of, holds}
 use Rattle.rga_lines.specs.declared.fault.LineFault.TheVariants as line_fault
 use Rattle.rga_lines.proofs.SplitterLemmas.{GivesLine, passes_line, gives_up}
-use Rattle.rga_exchange.specs.Taking.{AtEnd, AtFault, taking, after_line}
+use Rattle.rga_exchange.specs.Taking.{AtEnd, AtFault, progress, after_line}
 use Rattle.rga_exchange.proofs.TakingLaws.{takes_after, takes_chain, takes_line, line_ends, line_fails, begins_long}
 use Rattle.rga_exchange.proofs.taking.take_lines.Goals as goal
 
@@ -28,7 +28,7 @@ returns-in_err-number-clause-fault g c =
     takes_after _ _ _ _ _ _ _ c.lines.invariant.takes more
     ∙ line_fails _ c.lines.lines held c.lines.splitter behind c.line.result.now e given
     (subst (λ (limit : ℕ). after_line limit (c.lines.lines + 1) held (any_line_at c.line.result.now) ≡ Err (AtFault e)) c.lines.invariant.limit (c.in_err-number.ensures.fault not_memory)) more
-    ∙ ap (λ (d : Content). taking c.lines.lines d (AtFault e)) (sym c.in_err-number.ensures.same))
+    ∙ ap (λ (d : Content). progress c.lines.lines d (AtFault e)) (sym (c.in_err-number.ensures.same (λ e. absurd cc))))
 
 pub returns-in-Some-clause-end : goal.returns-in-Some-clause-end
 returns-in-Some-clause-end g c =
@@ -40,8 +40,8 @@ returns-in-Some-clause-end g c =
     let ended = c.in_ok-number.ensures.end number (ap Ok c.in-Some.is ∙ is) in
     takes_after _ _ _ _ _ _ _ c.lines.invariant.takes more
     ∙ line_ends _ c.lines.lines held c.lines.splitter behind c.line.result.now number given
-    (subst (λ (limit : ℕ). after_line limit (c.lines.lines + 1) held (any_line_at c.line.result.now) ≡ Err (AtEnd number)) c.lines.invariant.limit ended.0) more
-    ∙ ap (λ (d : Content). taking c.lines.lines d (AtEnd number)) (sym ended.1)
+    (subst (λ (limit : ℕ). after_line limit (c.lines.lines + 1) held (any_line_at c.line.result.now) ≡ Err (AtEnd number)) c.lines.invariant.limit ended) more
+    ∙ ap (λ (d : Content). progress c.lines.lines d (AtEnd number)) (sym (c.in_ok-number.ensures.same (λ e. absurd cc)))
 
 pub lines-preserved : goal.lines-preserved
 lines-preserved g c =

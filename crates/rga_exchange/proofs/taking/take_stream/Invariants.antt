@@ -1,16 +1,17 @@
-use Rattle.std.proofs.Common.{◌≡◌, ◌+◌, ◌*◌, ◌≤◌, length, false}
-use Rattle.rga_lines.specs.Counting.{counted_inner, counted_failures, counted_left, max_calls}
+use Rattle.std.proofs.Common.{◌≡◌, ◌+◌, ◌*◌, ◌≤◌, min, length, false}
+use Rattle.rga_lines.specs.declared.counted.TheConstants.{MAX_CALLS}
+use Rattle.rga_exchange.specs.declared.block.TheConstants.{BLOCK}
 use Rattle.rga_exchange.specs.Parts.{HasTakenOfRead}
 use Rattle.rga_exchange.proofs.taking.take_stream.Given as goal
 
 abbrev pub invariant-reads : goal.invariant-reads
 invariant-reads g l = record {
   whole : l.splitter.broken ≡ false;
-  room : l.lines + length l.splitter.waiting + 65536 * counted_left l.reader ≤ 65536 * max_calls;
+  room : l.lines + length l.splitter.waiting + BLOCK * min l.reader.left MAX_CALLS ≤ BLOCK * MAX_CALLS;
   limit : g.T.Taker.limit l.taker ≡ g.T.Taker.limit l.fn.taker;
-  same_failures : counted_failures l.reader ≡ counted_failures l.fn.reader;
-  read : HasTakenOfRead (g.R.Read.remaining (counted_inner l.fn.reader)) (g.R.Read.remaining (counted_inner l.reader)) (g.T.Taker.limit l.fn.taker) (g.T.Taker.content l.fn.taker) l.lines (g.T.Taker.content l.taker) l.splitter.waiting;
+  same_failures : l.reader.failures ≡ l.fn.reader.failures;
+  read : HasTakenOfRead g.R.Read.remaining g.T.Taker.limit g.T.Taker.content l.fn.reader l.reader l.fn.taker l.taker l.lines l.splitter.waiting;
 }
 
 abbrev pub decreases-reads : goal.decreases-reads
-decreases-reads g l = counted_left l.reader
+decreases-reads g l = l.reader.left
