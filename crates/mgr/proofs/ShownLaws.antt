@@ -1,23 +1,24 @@
 -- What is written of an accepted log.
 use Rattle.std.proofs.Common.{◌≡◌, ℕ, ◌+◌, List, Option, Some, None, Result, Ok, Err, refl, sym, ap, subst, ◌∙◌, inr}
 use Rattle.std.specs.Prelude.{IfSome, ◌⊎◌}
-use Rattle.std.specs.Io.KnownBytes.{Appends, Keeps}
 use Rattle.rga_ops.specs.Content.{Content, nothing, content_of}
 use Rattle.rga_ops.proofs.TakenLaws.{taken_from_nothing, taken_list_agrees}
-use Rattle.rga_lines.specs.Counting.{AppendsFront}
 use Rattle.rga_ops.specs.Content.{IsAgreed}
+use Rattle.rga_store.specs.declared.text_store.TheConstants.{MAX_LIMIT}
+use Rattle.rga_lines.specs.Counting.{Calls, Writes, WritesFront, WritesNothing}
 use Rattle.rga_lines.specs.Log.{log_operations}
+use Rattle.rga_lines.specs.Stream.{lines_of}
 use Rattle.rga_exchange.specs.declared.fault.LogFault.{LogFault}
 use Rattle.rga_exchange.specs.declared.log.LogEnd.{LogEnd}
 use Rattle.rga_exchange.specs.declared.log.LogEnd.TheVariants.{Whole, Bare, Torn}
 use Rattle.rga_exchange.specs.declared.log.LogRead.{LogRead}
-use Rattle.rga_exchange.specs.Taking.{HasTakenWholeLines}
+use Rattle.rga_exchange.specs.Taking.{AreTaken, HasTakenWholeLines}
 use Rattle.rga_exchange.specs.Log.{LogOutcome, log_outcome}
 use Rattle.rga_exchange.proofs.OperationLaws.{log_taken}
 use Rattle.mgr.specs.declared.fault.ShowFault.{ShowFault}
 use Rattle.mgr.specs.declared.fault.ShowFault.TheVariants as fault
 use Rattle.mgr.specs.Log.{Outcome, show_fault, at_end, outcome_of, shown_from, log_of}
-use Rattle.mgr.specs.Shown.{max_known, text_bytes, log_content, IsAccepted, Shows, BeginsToShow}
+use Rattle.mgr.specs.Shown.{text_bytes, log_content, IsAccepted, Shows, BeginsToShow}
 
 abbrev shows_it : Content → Outcome
 shows_it c = Ok c
@@ -59,29 +60,36 @@ pub record IsTextOf (bytes : List ℕ) (written : List ℕ) : Type 0 where
   pub accepted : IsAccepted bytes
   pub is : written ≡ text_bytes (log_content bytes)
 
-text_of_log : (bytes : List ℕ) (c : Content) (written : List ℕ) → log_of max_known bytes ≡ Ok c → written ≡ text_bytes c → IsTextOf bytes written
+text_of_log : (bytes : List ℕ) (c : Content) (written : List ℕ) → log_of MAX_LIMIT bytes ≡ Ok c → written ≡ text_bytes c → IsTextOf bytes written
 text_of_log bytes c written h is =
-    let content : c ≡ log_content bytes = log_content_is max_known bytes c h in
+    let content : c ≡ log_content bytes = log_content_is MAX_LIMIT bytes c h in
     record {
-      accepted = record { agreed = log_agrees max_known bytes c h; content = h ∙ ap Ok content };
+      accepted = record { agreed = log_agrees MAX_LIMIT bytes c h; content = h ∙ ap Ok content };
       is = is ∙ ap text_bytes content;
     }
 
-pub text_of_input : (known : Option (List ℕ)) (limit : ℕ) (start c : Content) (written : List ℕ) → limit ≡ max_known → start ≡ nothing
+pub text_of_input : (known : Option (List ℕ)) (limit : ℕ) (start c : Content) (written : List ℕ) → limit ≡ MAX_LIMIT → start ≡ nothing
     → IfSome known (λ bytes. shown_from limit start bytes ≡ Ok c) → written ≡ text_bytes c → IfSome known (λ bytes. IsTextOf bytes written)
 text_of_input None limit start c written same empty h is = tt
 text_of_input (Some bytes) limit start c written same empty h is =
     text_of_log bytes c written (sym (λ k. shown_from (same k) (empty k) bytes) ∙ h) is
 
-pub shows : (known old new : Option (List ℕ)) (written : List ℕ) → IfSome known (λ bytes. IsTextOf bytes written) → Appends old new written → IfSome known (λ bytes. Shows bytes old new)
-shows None old new written h w = tt
-shows (Some bytes) old new written h w = record { accepted = h.accepted; written = subst (λ l. Appends old new l) h.is w }
+module _ {W : Type 0} (contents : W → Option (List ℕ)) where
+  pub shows : (known : Option (List ℕ)) (old new : Calls W) (written : List ℕ) → IfSome known (λ bytes. IsTextOf bytes written) → Writes contents old new written → IfSome known (λ bytes. Shows contents old new bytes)
+  shows None old new written h w = tt
+  shows (Some bytes) old new written h w = record { accepted = h.accepted; written = subst (λ l. Writes contents old new l) h.is w }
 
-pub begins_to_show : (known old new : Option (List ℕ)) (written : List ℕ) → IfSome known (λ bytes. IsTextOf bytes written) → AppendsFront old new written → IfSome known (λ bytes. Keeps old new ⊎ BeginsToShow bytes old new)
-begins_to_show None old new written h w = tt
-begins_to_show (Some bytes) old new written h w = inr (record { accepted = h.accepted; begun = subst (λ l. AppendsFront old new l) h.is w })
+  pub begins_to_show : (known : Option (List ℕ)) (old new : Calls W) (written : List ℕ) → IfSome known (λ bytes. IsTextOf bytes written) → WritesFront contents old new written → IfSome known (λ bytes. WritesNothing contents old new ⊎ BeginsToShow contents old new bytes)
+  begins_to_show None old new written h w = tt
+  begins_to_show (Some bytes) old new written h w = inr (record { accepted = h.accepted; begun = subst (λ l. WritesFront contents old new l) h.is w })
 
 -- all whole lines that were read were taken, by a store that was made empty
-pub whole_from : (old new : Option (List ℕ)) (limit : ℕ) (start d : Content) → limit ≡ max_known → start ≡ nothing → HasTakenWholeLines old new limit start d → (c : Content) × HasTakenWholeLines old new max_known nothing c
-whole_from old new limit start d same empty h =
-    (d, subst (λ l. HasTakenWholeLines old new l nothing d) same (subst (λ e. HasTakenWholeLines old new limit e d) empty h))
+pub whole_from : {R T : Type 0} (remaining : R → Option (List ℕ)) (limit : T → ℕ) (content : T → Content) (r s : Calls R) (t u : T) → limit t ≡ MAX_LIMIT → content t ≡ nothing → HasTakenWholeLines remaining limit content r s t u → (c : Content) × HasTakenWholeLines remaining (λ _. MAX_LIMIT) (λ held. held) r s nothing c
+whole_from remaining limit content r s t u same empty h = (
+  content u,
+  record {
+    bytes = h.bytes;
+    read = h.read;
+    taken = subst (λ l. AreTaken l (lines_of h.bytes) nothing (content u)) same (subst (λ e. AreTaken (limit t) (lines_of h.bytes) e (content u)) empty h.taken);
+  },
+)

@@ -1,11 +1,11 @@
 //! The text of a log.
-ghost use Rattle.std.specs.Prelude.{◌≡◌, ◌≢◌, ◌⊎◌, List, Ok, Err, OnOk, OnErr, IfErr, IfSome};
-ghost use Rattle.std.specs.Io.KnownBytes.{Keeps, Appends};
-ghost use Rattle.rga_ops.specs.Content.{Content, nothing};
-ghost use Rattle.rga_lines.specs.Counting.{counted_inner, counted_failures, one_more, AppendsFront};
+ghost use Rattle.std.specs.Prelude.{◌≡◌, ◌≢◌, ◌⊎◌, Ok, Err, OnOk, OnErr, IfErr};
+ghost use Rattle.rga_ops.specs.Prelude.{Content, nothing};
+ghost use Rattle.rga_store.specs.declared.text_store.TheConstants.{MAX_LIMIT};
+ghost use Rattle.rga_lines.specs.Counting.{CountsAs, OnBytes, Writes, WritesFront, WritesNothing};
 ghost use Rattle.rga_exchange.specs.Taking.{HasTakenWholeLines};
 ghost use Rattle.mgr.specs.Log.{log_of, shown_from};
-ghost use Rattle.mgr.specs.Shown.{max_known, IsOfInput, Shows, BeginsToShow};
+ghost use Rattle.mgr.specs.Shown.{IsOfInput, Shows, BeginsToShow};
 
 use crate::fault::ShowFault;
 use crate::text::text_of;
@@ -25,26 +25,24 @@ pub fn show_ops<R: Read, W: Write>(
     reader: &mut Counted<R>,
     writer: &mut Counted<W>,
 ) -> Result<(), ShowFault>
-    ensures shown { OnOk result (IfSome (R.remaining (counted_inner reader.old))
-        (λ bytes. Shows bytes (W.contents (counted_inner writer.old)) (W.contents (counted_inner writer.new)))) }
+    ensures shown { OnOk result (OnBytes R.remaining reader.old
+        (λ bytes. Shows W.contents writer.old writer.new bytes)) }
 
     // A fault of the input is the first one of its bytes, however the reads cut them.
-    ensures refused { IfErr result (λ e. IsOfInput e → IfSome (R.remaining (counted_inner reader.old))
-        (λ bytes. log_of max_known bytes ≡ Err e)) }
-    ensures nothing { IfErr result (λ e. e ≢ ShowFault.Write → e ≢ ShowFault.Memory →
-        Keeps (W.contents (counted_inner writer.old)) (W.contents (counted_inner writer.new))) }
+    ensures refused { IfErr result (λ e. IsOfInput e → OnBytes R.remaining reader.old
+        (λ bytes. log_of MAX_LIMIT bytes ≡ Err e)) }
+    ensures nothing { IfErr result (λ e. e ≢ ShowFault.Write → e ≢ ShowFault.Memory
+        → WritesNothing W.contents writer.old writer.new) }
     // Whatever fails, nothing was written or a beginning of the text of an accepted log.
-    ensures begun { OnErr result (IfSome (R.remaining (counted_inner reader.old))
-        (λ bytes. Keeps (W.contents (counted_inner writer.old)) (W.contents (counted_inner writer.new))
-        ⊎ BeginsToShow bytes (W.contents (counted_inner writer.old)) (W.contents (counted_inner writer.new)))) }
+    ensures begun { OnErr result (OnBytes R.remaining reader.old (λ bytes.
+        WritesNothing W.contents writer.old writer.new
+        ⊎ BeginsToShow W.contents writer.old writer.new bytes)) }
 
-    ensures taken { result ≡ Err ShowFault.Read → (c : Content) × HasTakenWholeLines (R.remaining (counted_inner reader.old))
-        (R.remaining (counted_inner reader.new)) max_known nothing c }
-    ensures read { result ≡ Err ShowFault.Read → counted_failures reader.new ≡ one_more (counted_failures reader.old) }
-    ensures write { result ≡ Err ShowFault.Write → counted_failures writer.new ≡ one_more (counted_failures writer.old) }
+    ensures whole_lines { result ≡ Err ShowFault.Read → (c : Content) × HasTakenWholeLines
+        R.remaining (λ _. MAX_LIMIT) (λ held. held) reader.old reader.new nothing c }
     // A call that failed is told as such, and not as something else.
-    ensures unfailed_reads { result ≢ Err ShowFault.Read → counted_failures reader.new ≡ counted_failures reader.old }
-    ensures unfailed_writes { result ≢ Err ShowFault.Write → counted_failures writer.new ≡ counted_failures writer.old }
+    ensures reads { CountsAs ShowFault.Read result reader.old reader.new }
+    ensures writes { CountsAs ShowFault.Write result writer.old writer.new }
 {
     let Ok(mut store) = TreeStore::new(alloc, MAX_LIMIT) else {
         return Err(ShowFault::Memory);
@@ -60,15 +58,14 @@ fn take_whole_log<T: Taker, R: Read>(
     taker: &mut T,
     reader: &mut Counted<R>,
 ) -> Result<(), ShowFault>
-    ensures ok { OnOk result (IfSome (R.remaining (counted_inner reader.old))
-        (λ bytes. shown_from (T.limit taker.old) (T.content taker.old) bytes ≡ Ok (T.content taker.new))) }
-    ensures err { IfErr result (λ e. IsOfInput e → IfSome (R.remaining (counted_inner reader.old))
+    ensures ok { OnOk result (OnBytes R.remaining reader.old (λ bytes.
+        shown_from (T.limit taker.old) (T.content taker.old) bytes ≡ Ok (T.content taker.new))) }
+    ensures refused { IfErr result (λ e. IsOfInput e → OnBytes R.remaining reader.old
         (λ bytes. shown_from (T.limit taker.old) (T.content taker.old) bytes ≡ Err e)) }
 
-    ensures taken { IfErr result (λ e. e ≡ ShowFault.Read → HasTakenWholeLines (R.remaining (counted_inner reader.old))
-        (R.remaining (counted_inner reader.new)) (T.limit taker.old) (T.content taker.old) (T.content taker.new)) }
-    ensures device { result ≡ Err ShowFault.Read → counted_failures reader.new ≡ one_more (counted_failures reader.old) }
-    ensures unfailed { result ≢ Err ShowFault.Read → counted_failures reader.new ≡ counted_failures reader.old }
+    ensures whole_lines { IfErr result (λ e. e ≡ ShowFault.Read → HasTakenWholeLines
+        R.remaining T.limit T.content reader.old reader.new taker.old taker.new) }
+    ensures device { CountsAs ShowFault.Read result reader.old reader.new }
     ensures no_write { result ≢ Err ShowFault.Write }
 {
     let log = take_log(alloc, taker, reader)?;
@@ -79,10 +76,10 @@ fn take_whole_log<T: Taker, R: Read>(
 }
 
 fn write_text<W: Write>(text: &str, writer: &mut Counted<W>) -> Result<(), ShowFault>
-    ensures ok { OnOk result (Appends (W.contents (counted_inner writer.old)) (W.contents (counted_inner writer.new)) text.now) }
-    ensures begun { AppendsFront (W.contents (counted_inner writer.old)) (W.contents (counted_inner writer.new)) text.now }
-    ensures unfailed { OnOk result (counted_failures writer.new ≡ counted_failures writer.old) }
-    ensures err { IfErr result (λ e. (e ≡ ShowFault.Write) × (counted_failures writer.new ≡ one_more (counted_failures writer.old))) }
+    ensures written { OnOk result (Writes W.contents writer.old writer.new text.now) }
+    ensures begun { WritesFront W.contents writer.old writer.new text.now }
+    ensures fault { IfErr result (λ e. e ≡ ShowFault.Write) }
+    ensures device { CountsAs ShowFault.Write result writer.old writer.new }
 {
     let Ok(()) = writer.write_all(text.as_bytes()) else {
         return Err(ShowFault::Write);

@@ -4,9 +4,8 @@ use crate::show::show_ops;
 use rga_lines::{Counted, LineFault};
 use rga_ops::{Id, Refusal};
 use std::alloc::Global;
-use std::io;
-use std::io::{Error, ErrorKind, Read, Write};
 use std::test::Fail;
+use test_devices::{Narrow, Pieces};
 
 const A: &str = "{\"char\":\"a\",\"id\":[1,1],\"op\":\"ins\",\"parent\":[0,0]}\n";
 
@@ -48,52 +47,7 @@ const NO_B: &str = "{\"id\":[2,1],\"op\":\"del\"}\n";
 
 const EURO: &str = "{\"char\":\"\u{20ac}\",\"id\":[1,1],\"op\":\"ins\",\"parent\":[0,0]}\n";
 
-/// Gives its bytes in reads of at most so many, and fails once so many reads were made.
-#[derive(Drop)]
-struct Pieces<'a> {
-    rest: &'a [u8],
-    most: usize,
-    reads: usize,
-}
-
-impl Read for Pieces<'_> {
-    fn read(&mut self, buf: &mut [u8]) -> io::Result<usize> {
-        if self.reads == 0 {
-            return Err(Error::from(ErrorKind::Other));
-        }
-        self.reads -= 1;
-        let n = self.most.min(buf.len()).min(self.rest.len());
-        let (front, rest) = self.rest.split_at(n);
-        buf[..n].copy_from_slice(front);
-        self.rest = rest;
-        Ok(n)
-    }
-}
-
-/// Takes so many bytes in all, at most two in a write, and then fails.
-#[derive(Drop)]
-struct Narrow {
-    taken: Vec<u8>,
-    room: usize,
-}
-
-impl Write for Narrow {
-    fn write(&mut self, buf: &[u8]) -> io::Result<usize> {
-        if self.room == 0 {
-            return Err(Error::from(ErrorKind::Other));
-        }
-        let n = self.room.min(buf.len()).min(2);
-        self.room -= n;
-        self.taken.extend_from_slice(&buf[..n])?;
-        Ok(n)
-    }
-
-    fn flush(&mut self) -> io::Result<()> {
-        Ok(())
-    }
-}
-
-fn joined(alloc: Global, lines: &[&str]) -> Result<Vec<u8>, Fail> {
+fn bytes_of(alloc: Global, lines: &[&str]) -> Result<Vec<u8>, Fail> {
     let mut log = Vec::new(alloc);
     for line in lines {
         log.extend_from_slice(line.as_bytes())?;
@@ -102,7 +56,7 @@ fn joined(alloc: Global, lines: &[&str]) -> Result<Vec<u8>, Fail> {
 }
 
 /// What is answered for a log in reads of at most so many bytes, and what was written.
-fn shown(alloc: Global, log: &[u8], most: usize) -> (Result<(), ShowFault>, Vec<u8>) {
+fn show_pieces(alloc: Global, log: &[u8], most: usize) -> (Result<(), ShowFault>, Vec<u8>) {
     let pieces = Pieces {
         rest: log,
         most,
@@ -139,9 +93,9 @@ fn texts_of_logs(rt: HostRuntime) -> Result<(), Fail> {
         (&[A, NO_A, NO_A, B, NO_B], ""),
     ];
     for (k, row) in table.iter().enumerate() {
-        let log = joined(rt.alloc(), row.0)?;
+        let log = bytes_of(rt.alloc(), row.0)?;
         for most in [1, 7, 65536] {
-            let (answer, written) = shown(rt.alloc(), &log, most);
+            let (answer, written) = show_pieces(rt.alloc(), &log, most);
             assert_eq!(rt; answer, Ok(()), "row {k} by {most}");
             assert_eq!(rt; written.as_slice(), row.1.as_bytes(), "row {k} by {most}");
         }
@@ -167,9 +121,9 @@ fn refused_logs_write_nothing(rt: HostRuntime) -> Result<(), Fail> {
         (&[BYTE_ORDER_MARK, A], ShowFault::Line(1, LineFault::Json)),
     ];
     for (k, row) in table.iter().enumerate() {
-        let log = joined(rt.alloc(), row.0)?;
+        let log = bytes_of(rt.alloc(), row.0)?;
         for most in [1, 7, 65536] {
-            let (answer, written) = shown(rt.alloc(), &log, most);
+            let (answer, written) = show_pieces(rt.alloc(), &log, most);
             assert_eq!(rt; answer, Err(row.1), "row {k} by {most}");
             assert_eq!(rt; written.len(), 0, "row {k} by {most}");
         }
@@ -180,14 +134,14 @@ fn refused_logs_write_nothing(rt: HostRuntime) -> Result<(), Fail> {
 #[test]
 fn a_line_is_too_long_with_or_without_its_newline(rt: HostRuntime) -> Result<(), Fail> {
     let mut log = vec![in rt.alloc(); b' '; 65536]?;
-    let (answer, _) = shown(rt.alloc(), &log, 65536);
+    let (answer, _) = show_pieces(rt.alloc(), &log, 65536);
     assert_eq!(rt; answer, Err(ShowFault::Torn(1)));
     log.push(b' ')?;
     let long = Err(ShowFault::Line(1, LineFault::Long));
-    let (answer, _) = shown(rt.alloc(), &log, 65536);
+    let (answer, _) = show_pieces(rt.alloc(), &log, 65536);
     assert_eq!(rt; answer, long);
     log.push(b'\n')?;
-    let (answer, written) = shown(rt.alloc(), &log, 1000);
+    let (answer, written) = show_pieces(rt.alloc(), &log, 1000);
     assert_eq!(rt; answer, long);
     assert_eq!(rt; written.len(), 0);
     Ok(())
@@ -195,7 +149,7 @@ fn a_line_is_too_long_with_or_without_its_newline(rt: HostRuntime) -> Result<(),
 
 #[test]
 fn a_reader_that_fails_in_mid_stream(rt: HostRuntime) -> Result<(), Fail> {
-    let log = joined(rt.alloc(), &[A, B, "no operation\n"])?;
+    let log = bytes_of(rt.alloc(), &[A, B, "no operation\n"])?;
     // The third line is read whole by the thirteenth read of ten bytes at the latest.
     for (reads, answer) in [
         (0, ShowFault::Read),
@@ -223,12 +177,15 @@ fn a_reader_that_fails_in_mid_stream(rt: HostRuntime) -> Result<(), Fail> {
 
 #[test]
 fn a_writer_that_takes_part_of_the_bytes(rt: HostRuntime) -> Result<(), Fail> {
-    let log = joined(rt.alloc(), &[A, B, C, X, Y])?;
+    let log = bytes_of(rt.alloc(), &[A, B, C, X, Y])?;
     for room in 0..6 {
         let mut reader = Counted::new(log.as_slice());
         let mut writer = Counted::new(Narrow {
             taken: Vec::new(rt.alloc()),
             room,
+            most: 2,
+            writes: 0,
+            flushes: true,
         });
         let answer = show_ops(rt.alloc(), &mut reader, &mut writer);
         let whole = room == 5;

@@ -56,11 +56,12 @@ log_end (Ok read) = Ok read.end
 log_end (Err e) = Err (receive_fault e)
 
 -- What comes of a log that a taker takes from a reader, where its outcome is told so.
-pub record TakesLog {R T A E : Type 0} (remaining : R → Option (List ℕ)) (limit : T → ℕ) (content : T → Content) (told : Result LogRead LogFault → Result A E) (result : Result A E) (r s : Calls R) (t u : T) : Type 0 where
-  -- however the reads cut the bytes, they lead to what the whole log leads to
-  pub outcome : result ≢ told (Err fault.Read) → result ≢ told (Err fault.Memory) → OnBytes remaining r (λ bytes.
-      let p = log_outcome (limit t) (content t) bytes in (p.0 ≡ content u) × (told p.1 ≡ result))
-  pub joined : OnOk result (OnBytes remaining r (λ bytes. content u ≡ join (content t) (content_of (log_operations bytes))))
-  pub whole_lines : result ≡ told (Err fault.Read) → HasTakenWholeLines remaining limit content r s t u
-  -- whatever the fault, the first lines that were read were taken, and nothing else
-  pub lines : OnErr result (HasTakenLines remaining limit content r s t u)
+module _ {R T A E : Type 0} (remaining : R → Option (List ℕ)) (limit : T → ℕ) (content : T → Content) (told : Result LogRead LogFault → Result A E) (result : Result A E) where
+  pub record TakesLog (r s : Calls R) (t u : T) : Type 0 where
+    -- however the reads cut the bytes, they lead to what the whole log leads to
+    pub outcome : result ≢ told (Err fault.Read) → result ≢ told (Err fault.Memory) → OnBytes remaining r (λ bytes.
+        let p = log_outcome (limit t) (content t) bytes in (p.0 ≡ content u) × (told p.1 ≡ result))
+    pub joined : OnOk result (OnBytes remaining r (λ bytes. content u ≡ join (content t) (content_of (log_operations bytes))))
+    pub whole_lines : result ≡ told (Err fault.Read) → HasTakenWholeLines remaining limit content r s t u
+    -- whatever the fault, the first lines that were read were taken, and nothing else
+    pub lines : OnErr result (HasTakenLines remaining limit content r s t u)

@@ -46,6 +46,7 @@ module _ {R : Type 0} (remaining : R → Option (List ℕ)) (r s : Calls R) wher
   StopsReading (Input bytes) = Unit {0}
 
 -- what a reader gave, and what of it was taken
-pub record HasTakenOfRead {R T : Type 0} (remaining : R → Option (List ℕ)) (limit : T → ℕ) (content : T → Content) (r s : Calls R) (t u : T) (n : ℕ) (waiting : List ℕ) : Type 0 where
-  pub read : EndsWithLastRead remaining r s
-  pub takes : TakesUpTo limit content t u 0 n (read.before ++ read.last) waiting
+module _ {R T : Type 0} (remaining : R → Option (List ℕ)) (limit : T → ℕ) (content : T → Content) where
+  pub record HasTakenOfRead (r s : Calls R) (t u : T) (n : ℕ) (waiting : List ℕ) : Type 0 where
+    pub read : EndsWithLastRead remaining r s
+    pub takes : TakesUpTo limit content t u 0 n (read.before ++ read.last) waiting

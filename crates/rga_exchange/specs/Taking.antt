@@ -79,17 +79,19 @@ pub record AreTaken (limit : ℕ) (lines : List (List ℕ)) (c d : Content) : Ty
   pub taken : taken_one_by_one limit c (operations_of lines) ≡ Ok d
   pub joined : d ≡ join c (content_of (operations_of lines))
 
--- the first lines of what the reader gave were taken, and nothing else
-pub record HasTakenLines {R T : Type 0} (remaining : R → Option (List ℕ)) (limit : T → ℕ) (content : T → Content) (r s : Calls R) (t u : T) : Type 0 where
-  pub bytes : List ℕ
-  pub read : Consumes (remaining r.inner) (remaining s.inner) bytes
-  pub lines : List (List ℕ)
-  pub later : List (List ℕ)
-  pub begins : lines_of bytes ≡ lines ++ later
-  pub taken : AreTaken (limit t) lines (content t) (content u)
+-- between two states of a reader, and of a taker, by their members
+module _ {R T : Type 0} (remaining : R → Option (List ℕ)) (limit : T → ℕ) (content : T → Content) (r s : Calls R) (t u : T) where
+  -- the first lines of what the reader gave were taken, and nothing else
+  pub record HasTakenLines : Type 0 where
+    pub bytes : List ℕ
+    pub read : Consumes (remaining r.inner) (remaining s.inner) bytes
+    pub lines : List (List ℕ)
+    pub later : List (List ℕ)
+    pub begins : lines_of bytes ≡ lines ++ later
+    pub taken : AreTaken (limit t) lines (content t) (content u)
 
--- all whole lines of what the reader gave were taken
-pub record HasTakenWholeLines {R T : Type 0} (remaining : R → Option (List ℕ)) (limit : T → ℕ) (content : T → Content) (r s : Calls R) (t u : T) : Type 0 where
-  pub bytes : List ℕ
-  pub read : Consumes (remaining r.inner) (remaining s.inner) bytes
-  pub taken : AreTaken (limit t) (lines_of bytes) (content t) (content u)
+  -- all whole lines of what the reader gave were taken
+  pub record HasTakenWholeLines : Type 0 where
+    pub bytes : List ℕ
+    pub read : Consumes (remaining r.inner) (remaining s.inner) bytes
+    pub taken : AreTaken (limit t) (lines_of bytes) (content t) (content u)

@@ -68,7 +68,8 @@ fn take_rest<T: Taker>(
 ) -> Result<LogEnd, LogFault>
     requires { lines < 2 ^ 63 }
     ensures end { IfOk result (λ end. after_rest
-        (T.limit taker.old) lines (T.content taker.old) rest.now ≡ end_outcome lines (T.content taker.new) end) }
+        (T.limit taker.old) lines (T.content taker.old) rest.now
+        ≡ end_outcome lines (T.content taker.new) end) }
     ensures fault { IfErr result (λ e. e ≢ NoMemory → after_rest
         (T.limit taker.old) lines (T.content taker.old) rest.now ≡ (T.content taker.new, Err e)) }
     ensures same { OnErr result (T.content taker.new ≡ T.content taker.old) }

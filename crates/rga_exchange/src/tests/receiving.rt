@@ -4,9 +4,8 @@ use rga_lines::{Counted, LineFault};
 use rga_ops::{Id, Refusal};
 use rga_store::{TextStore, TreeStore};
 use std::alloc::Global;
-use std::io;
-use std::io::{Error, ErrorKind, Read};
 use std::test::Fail;
+use test_devices::Pieces;
 
 const A: &str = "{\"char\":\"a\",\"id\":[1,1],\"op\":\"ins\",\"parent\":[0,0]}\n";
 
@@ -26,28 +25,6 @@ const END_OF_TWO: &str = "{\"count\":2,\"op\":\"end\"}\n";
 
 const BARE_END_OF_TWO: &str = "{\"count\":2,\"op\":\"end\"}";
 
-/// Gives its bytes in reads of at most so many, and fails once so many reads were made.
-#[derive(Drop)]
-struct Pieces<'a> {
-    rest: &'a [u8],
-    most: usize,
-    reads: usize,
-}
-
-impl Read for Pieces<'_> {
-    fn read(&mut self, buf: &mut [u8]) -> io::Result<usize> {
-        if self.reads == 0 {
-            return Err(Error::from(ErrorKind::Other));
-        }
-        self.reads -= 1;
-        let n = self.most.min(buf.len()).min(self.rest.len());
-        let (front, rest) = self.rest.split_at(n);
-        buf[..n].copy_from_slice(front);
-        self.rest = rest;
-        Ok(n)
-    }
-}
-
 /// A reader that does not fail.
 fn sound_reader(rest: &[u8], most: usize) -> Counted<Pieces<'_>> {
     Counted::new(Pieces {
@@ -57,7 +34,7 @@ fn sound_reader(rest: &[u8], most: usize) -> Counted<Pieces<'_>> {
     })
 }
 
-fn joined(alloc: Global, lines: &[&str]) -> Result<Vec<u8>, Fail> {
+fn bytes_of(alloc: Global, lines: &[&str]) -> Result<Vec<u8>, Fail> {
     let mut bytes = Vec::new(alloc);
     for line in lines {
         bytes.extend_from_slice(line.as_bytes())?;
@@ -77,7 +54,7 @@ fn text_of(alloc: Global, store: &TreeStore) -> Result<String, Fail> {
 
 /// What is answered for an exchange at an empty store of this limit, and the text of the store
 /// then.
-fn received_from(
+fn receive_from(
     alloc: Global,
     limit: usize,
     reader: &mut Counted<Pieces<'_>>,
@@ -88,18 +65,18 @@ fn received_from(
 }
 
 /// The same in reads of at most so many bytes.
-fn received(
+fn receive_pieces(
     alloc: Global,
     limit: usize,
     bytes: &[u8],
     most: usize,
 ) -> Result<(Result<u64, ReceiveFault>, String), Fail> {
     let mut reader = sound_reader(bytes, most);
-    received_from(alloc, limit, &mut reader)
+    receive_from(alloc, limit, &mut reader)
 }
 
 /// The same for a log.
-fn logged(
+fn read_log_pieces(
     alloc: Global,
     limit: usize,
     bytes: &[u8],
@@ -134,9 +111,9 @@ fn each_exchange_has_its_answer(rt: HostRuntime) -> Result<(), Fail> {
         ),
     ];
     for (k, row) in table.iter().enumerate() {
-        let bytes = joined(rt.alloc(), row.0)?;
+        let bytes = bytes_of(rt.alloc(), row.0)?;
         for most in [1, 7, 65536] {
-            let (answer, text) = received(rt.alloc(), 9, &bytes, most)?;
+            let (answer, text) = receive_pieces(rt.alloc(), 9, &bytes, most)?;
             assert_eq!(rt; answer, row.1, "row {k} by {most}");
             assert_eq!(rt; text.as_str(), row.2, "row {k} by {most}");
         }
@@ -147,7 +124,7 @@ fn each_exchange_has_its_answer(rt: HostRuntime) -> Result<(), Fail> {
 /// The reader fails at each read behind that of the end line.
 #[test]
 fn the_read_of_the_end_line_is_the_last(rt: HostRuntime) -> Result<(), Fail> {
-    let bytes = joined(rt.alloc(), &[A, B, END_OF_TWO, "hello"])?;
+    let bytes = bytes_of(rt.alloc(), &[A, B, END_OF_TWO, "hello"])?;
     assert_eq!(rt; bytes.len(), 128);
     for (most, reads, left) in [
         (1, 123, "hello"),
@@ -160,7 +137,7 @@ fn the_read_of_the_end_line_is_the_last(rt: HostRuntime) -> Result<(), Fail> {
             most,
             reads,
         });
-        let (answer, text) = received_from(rt.alloc(), 9, &mut reader)?;
+        let (answer, text) = receive_from(rt.alloc(), 9, &mut reader)?;
         assert_eq!(rt; answer, Ok(2), "{most}");
         assert_eq!(rt; text.as_str(), "ab", "{most}");
         assert_eq!(rt; reader.failures(), 0, "{most}");
@@ -202,9 +179,9 @@ fn each_log_has_its_answer(rt: HostRuntime) -> Result<(), Fail> {
         ),
     ];
     for (k, row) in table.iter().enumerate() {
-        let bytes = joined(rt.alloc(), row.0)?;
+        let bytes = bytes_of(rt.alloc(), row.0)?;
         for most in [1, 7, 65536] {
-            let (answer, text) = logged(rt.alloc(), 9, &bytes, most)?;
+            let (answer, text) = read_log_pieces(rt.alloc(), 9, &bytes, most)?;
             assert_eq!(rt; answer, row.1, "row {k} by {most}");
             assert_eq!(rt; text.as_str(), row.2, "row {k} by {most}");
         }
@@ -212,8 +189,8 @@ fn each_log_has_its_answer(rt: HostRuntime) -> Result<(), Fail> {
     Ok(())
 }
 
-fn taken(alloc: Global, lines: &[&str]) -> Result<LogRead, Fail> {
-    let bytes = joined(alloc, lines)?;
+fn take_log_pieces(alloc: Global, lines: &[&str]) -> Result<LogRead, Fail> {
+    let bytes = bytes_of(alloc, lines)?;
     let mut store = TreeStore::new(alloc, 9)?;
     let mut reader = sound_reader(&bytes, 7);
     Ok(take_log(alloc, &mut store, &mut reader)?)
@@ -232,7 +209,7 @@ fn whole_lines_of_a_log_are_counted(rt: HostRuntime) -> Result<(), Fail> {
             lines: row.1,
             end: row.2,
         };
-        assert_eq!(rt; taken(rt.alloc(), row.0)?, read);
+        assert_eq!(rt; take_log_pieces(rt.alloc(), row.0)?, read);
     }
     Ok(())
 }
@@ -248,9 +225,9 @@ fn a_rest_is_too_long(rt: HostRuntime) -> Result<(), Fail> {
         ),
     ] {
         let bytes = vec![in rt.alloc(); b' '; length]?;
-        let (log, _) = logged(rt.alloc(), 9, &bytes, 65536)?;
+        let (log, _) = read_log_pieces(rt.alloc(), 9, &bytes, 65536)?;
         assert_eq!(rt; log, end, "{length}");
-        let (exchange, _) = received(rt.alloc(), 9, &bytes, 65536)?;
+        let (exchange, _) = receive_pieces(rt.alloc(), 9, &bytes, 65536)?;
         assert_eq!(rt; exchange, Err(fault), "{length}");
     }
     Ok(())
@@ -258,7 +235,7 @@ fn a_rest_is_too_long(rt: HostRuntime) -> Result<(), Fail> {
 
 #[test]
 fn lines_before_a_failed_read_are_taken(rt: HostRuntime) -> Result<(), Fail> {
-    let bytes = joined(rt.alloc(), &[A, B, END_OF_TWO])?;
+    let bytes = bytes_of(rt.alloc(), &[A, B, END_OF_TWO])?;
     // Both lines have 50 bytes.
     for (reads, before) in [(0, ""), (4, ""), (5, "a"), (9, "a"), (10, "ab")] {
         let mut reader = Counted::new(Pieces {
@@ -266,7 +243,7 @@ fn lines_before_a_failed_read_are_taken(rt: HostRuntime) -> Result<(), Fail> {
             most: 10,
             reads,
         });
-        let (answer, text) = received_from(rt.alloc(), 9, &mut reader)?;
+        let (answer, text) = receive_from(rt.alloc(), 9, &mut reader)?;
         assert_eq!(rt; answer, Err(ReceiveFault::Read), "{reads}");
         assert_eq!(rt; text.as_str(), before, "{reads}");
         assert_eq!(rt; reader.failures(), 1, "{reads}");
@@ -276,11 +253,11 @@ fn lines_before_a_failed_read_are_taken(rt: HostRuntime) -> Result<(), Fail> {
 
 #[test]
 fn a_full_store_refuses_a_line(rt: HostRuntime) -> Result<(), Fail> {
-    let bytes = joined(rt.alloc(), &[A, B, END_OF_TWO])?;
-    let (exchange, text) = received(rt.alloc(), 1, &bytes, 7)?;
+    let bytes = bytes_of(rt.alloc(), &[A, B, END_OF_TWO])?;
+    let (exchange, text) = receive_pieces(rt.alloc(), 1, &bytes, 7)?;
     assert_eq!(rt; exchange, Err(ReceiveFault::Refused(2, Refusal::Full)));
     assert_eq!(rt; text.as_str(), "a");
-    let (log, text) = logged(rt.alloc(), 1, &bytes, 7)?;
+    let (log, text) = read_log_pieces(rt.alloc(), 1, &bytes, 7)?;
     assert_eq!(rt; log, Err(ReceiveFault::Refused(2, Refusal::Full)));
     assert_eq!(rt; text.as_str(), "a");
     Ok(())

@@ -4,9 +4,9 @@ use rga_lines::{Counted, write_line};
 use rga_ops::{Id, Op, Refusal};
 use rga_store::{Taker, TextStore, TreeStore};
 use std::alloc::Global;
-use std::io;
-use std::io::{Error, ErrorKind, Write};
+use std::io::Write;
 use std::test::Fail;
+use test_devices::Narrow;
 
 const A: &str = "{\"char\":\"a\",\"id\":[1,1],\"op\":\"ins\",\"parent\":[0,0]}\n";
 
@@ -19,37 +19,6 @@ const NO_B: &str = "{\"id\":[2,1],\"op\":\"del\"}\n";
 const END_OF_TWO: &str = "{\"count\":2,\"op\":\"end\"}\n";
 
 const END_OF_NONE: &str = "{\"count\":0,\"op\":\"end\"}\n";
-
-/// Takes so many bytes in all, at most so many in a write, and then fails; counts the writes.
-#[derive(Drop)]
-struct Narrow {
-    taken: Vec<u8>,
-    room: usize,
-    most: usize,
-    writes: usize,
-    flushes: bool,
-}
-
-impl Write for Narrow {
-    fn write(&mut self, buf: &[u8]) -> io::Result<usize> {
-        if self.room == 0 {
-            return Err(Error::from(ErrorKind::Other));
-        }
-        let n = self.room.min(buf.len()).min(self.most);
-        self.room -= n;
-        self.writes = self.writes.saturating_add(1);
-        self.taken.extend_from_slice(&buf[..n])?;
-        Ok(n)
-    }
-
-    fn flush(&mut self) -> io::Result<()> {
-        if self.flushes {
-            Ok(())
-        } else {
-            Err(Error::from(ErrorKind::Other))
-        }
-    }
-}
 
 fn device(alloc: Global, room: usize, most: usize, flushes: bool) -> Counted<Narrow> {
     Counted::new(Narrow {
@@ -78,7 +47,7 @@ fn operations() -> Result<[Op; 4], Refusal> {
     ])
 }
 
-fn joined(alloc: Global, lines: &[&str]) -> Result<String, Fail> {
+fn text_of(alloc: Global, lines: &[&str]) -> Result<String, Fail> {
     let mut text = String::new(alloc);
     for line in lines {
         text.push_str(line)?;
@@ -119,14 +88,14 @@ fn stores_are_sent_with_an_end_line(rt: HostRuntime) -> Result<(), Fail> {
         let mut writer = Counted::new(Vec::new(rt.alloc()));
         let answer = send(rt.alloc(), &store, &mut writer);
         assert_eq!(rt; answer, Ok(row.1), "row {k}");
-        let text = joined(rt.alloc(), row.2)?;
+        let text = text_of(rt.alloc(), row.2)?;
         assert_eq!(rt; writer.into_inner().as_slice(), text.as_bytes(), "row {k}");
     }
-    assert_eq!(rt; joined(rt.alloc(), &[A, B, END_OF_TWO])?.len(), 123);
+    assert_eq!(rt; text_of(rt.alloc(), &[A, B, END_OF_TWO])?.len(), 123);
     Ok(())
 }
 
-fn appended(alloc: Global, ops: &[Op]) -> Result<(u64, Vec<u8>), Fail> {
+fn append_to_vec(alloc: Global, ops: &[Op]) -> Result<(u64, Vec<u8>), Fail> {
     let mut writer = Counted::new(Vec::new(alloc));
     let count = append_log(alloc, ops, &mut writer)?;
     Ok((count, writer.into_inner()))
@@ -143,9 +112,9 @@ fn operation_list(alloc: Global) -> Result<Vec<Op>, Fail> {
 #[test]
 fn lists_are_appended_without_an_end_line(rt: HostRuntime) -> Result<(), Fail> {
     let ops = operation_list(rt.alloc())?;
-    let (count, bytes) = appended(rt.alloc(), &ops)?;
+    let (count, bytes) = append_to_vec(rt.alloc(), &ops)?;
     assert_eq!(rt; count, 4);
-    let text = joined(rt.alloc(), &[A, B, NEWLINE, NO_B])?;
+    let text = text_of(rt.alloc(), &[A, B, NEWLINE, NO_B])?;
     assert_eq!(rt; bytes.as_slice(), text.as_bytes());
     Ok(())
 }
