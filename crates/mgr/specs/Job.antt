@@ -1,31 +1,39 @@
 -- What `job_of` answers.
 use Rattle.std.specs.Prelude.{◌≡◌, ◌≢◌, ◌⊎◌, ℕ}
 use Rattle.clap.specs.declared.error.kind.ErrorKind.{ErrorKind}
-use Rattle.clap.specs.declared.error.kind.ErrorKind.TheVariants.{DisplayHelp, OutOfMemory}
-use Rattle.mgr.specs.CommandLine.{Wish, help, mistake}
+use Rattle.clap.specs.declared.error.kind.ErrorKind.TheVariants.{DisplayHelp, DisplayVersion}
+use Rattle.clap.specs.declared.error.kind.ErrorKind.TheVariants.{OutOfMemory}
+use Rattle.mgr.specs.CommandLine.{Wish, help, mistake, version}
 use Rattle.mgr.specs.declared.job.JobFault.{JobFault}
-use Rattle.mgr.specs.declared.job.JobFault.TheVariants.{Help, Usage, Memory}
+use Rattle.mgr.specs.declared.job.JobFault.TheVariants.{Help, Version, Usage, Memory}
+use Rattle.mgr.specs.declared.job.Topic.{Topic}
 
 -- why such a wish gives no job; memory may be wanting at any
 abbrev pub IsFaultOf : Wish → JobFault → Type 0
-IsFaultOf wish (Help text) = wish ≡ help
+IsFaultOf wish (Help topic text) = wish ≡ help topic
+IsFaultOf wish (Version text) = wish ≡ version
 IsFaultOf wish (Usage text) = wish ≡ mistake
 IsFaultOf wish Memory = Unit {0}
 
--- what clap's kind of error is to the program
-abbrev pub IsFaultOfKind : ErrorKind → JobFault → Type 0
-IsFaultOfKind kind (Help text) = kind ≡ DisplayHelp
-IsFaultOfKind kind (Usage text) = (kind ≢ DisplayHelp) × (kind ≢ OutOfMemory)
-IsFaultOfKind kind Memory = kind ≡ OutOfMemory
+-- what clap's kind of error is to the program, where help is on that topic
+abbrev pub IsFaultOfKind : Topic → ErrorKind → JobFault → Type 0
+IsFaultOfKind topic kind (Help on text) = (kind ≡ DisplayHelp) × (on ≡ topic)
+IsFaultOfKind topic kind (Version text) = kind ≡ DisplayVersion
+IsFaultOfKind topic kind (Usage text) =
+    (kind ≢ DisplayHelp) × (kind ≢ DisplayVersion) × (kind ≢ OutOfMemory)
+IsFaultOfKind topic kind Memory = kind ≡ OutOfMemory
 
 -- the exit status
 abbrev pub job_status_of : JobFault → ℕ
-job_status_of (Help text) = 0
+job_status_of (Help topic text) = 0
+job_status_of (Version text) = 0
 job_status_of (Usage text) = 2
 job_status_of Memory = 4
 
--- the exit status once the fault was told: 3 where standard output did not take the help
+-- the exit status once the fault was told: 3 where standard output did not take the text that was
+-- asked for
 abbrev pub IsStatusOf : JobFault → ℕ → Type 0
-IsStatusOf (Help text) status = (status ≡ 0) ⊎ (status ≡ 3)
+IsStatusOf (Help topic text) status = (status ≡ 0) ⊎ (status ≡ 3)
+IsStatusOf (Version text) status = (status ≡ 0) ⊎ (status ≡ 3)
 IsStatusOf (Usage text) status = status ≡ 2
 IsStatusOf Memory status = status ≡ 4

@@ -47,15 +47,15 @@ abbrev pub line_text : ℕ → Text → Text
 line_text number name = codes "line " ++ (decimal number ++ (codes ": " ++ name))
 
 -- the line on standard error, without its newline
-abbrev pub text_of : ShowFault → Text
-text_of (Line number line.Memory) = codes "out of memory"
-text_of (Line number fault) = line_text number (fault_name fault)
-text_of (Refused number refusal.Memory) = codes "out of memory"
-text_of (Refused number refusal) = line_text number (refusal_name refusal)
-text_of (Torn number) = line_text number (codes "Torn")
-text_of Read = codes "device fault"
-text_of Write = codes "device fault"
-text_of Memory = codes "out of memory"
+abbrev pub message_of : ShowFault → Text
+message_of (Line number line.Memory) = codes "out of memory"
+message_of (Line number fault) = line_text number (fault_name fault)
+message_of (Refused number refusal.Memory) = codes "out of memory"
+message_of (Refused number refusal) = line_text number (refusal_name refusal)
+message_of (Torn number) = line_text number (codes "Torn")
+message_of Read = codes "device fault"
+message_of Write = codes "device fault"
+message_of Memory = codes "out of memory"
 
 -- the same of what a report holds
 abbrev pub message_text : Message → Text

@@ -8,6 +8,7 @@
 //! standard error (`report`, `job_status`).
 #![tactic(auto)]
 
+mod command;
 mod fault;
 mod job;
 mod report;

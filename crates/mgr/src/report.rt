@@ -1,6 +1,6 @@
 //! What a fault means to the shell.
 ghost use Rattle.std.specs.Prelude.{◌≡◌, Some};
-ghost use Rattle.mgr.specs.Report.{fault_name, message_text, refusal_name, status_of, text_of};
+ghost use Rattle.mgr.specs.Report.{fault_name, message_of, message_text, refusal_name, status_of};
 
 use crate::fault::ShowFault;
 use rga_lines::LineFault;
@@ -46,7 +46,7 @@ impl Report {
     /// 3 and `device fault`, and where memory was wanting 4 and `out of memory`.
     pub fn of(fault: &ShowFault) -> Report
         ensures status { result.status ≡ status_of fault.now }
-        ensures text { message_text result.message ≡ text_of fault.now }
+        ensures text { message_text result.message ≡ message_of fault.now }
     {
         let (status, message) = match *fault {
             ShowFault::Memory
@@ -87,40 +87,5 @@ fn refusal_name(refusal: Refusal) -> &'static str
         Refusal::Range => "Range",
         Refusal::Clock => "Clock",
         Refusal::Memory => "Memory",
-    }
-}
-
-#[cfg(test)]
-mod tests {
-    use super::*;
-    use rga_ops::Id;
-    use std::test::Fail;
-
-    #[test]
-    fn what_the_shell_is_told(rt: HostRuntime) -> Result<(), Fail> {
-        let cases = [
-            (
-                ShowFault::Refused(2, Refusal::Conflict(Id::ROOT)),
-                1,
-                "line 2: Conflict",
-            ),
-            (ShowFault::Line(1, LineFault::Order), 1, "line 1: Order"),
-            (ShowFault::Line(3, LineFault::Json), 1, "line 3: Json"),
-            (
-                ShowFault::Refused(1000001, Refusal::Full),
-                1,
-                "line 1000001: Full",
-            ),
-            (ShowFault::Torn(2), 1, "line 2: Torn"),
-            (ShowFault::Read, 3, "device fault"),
-            (ShowFault::Write, 3, "device fault"),
-            (ShowFault::Memory, 4, "out of memory"),
-        ];
-        for (fault, status, text) in cases {
-            let report = Report::of(&fault);
-            assert_eq!(rt; report.status, status, "at {text}");
-            assert_eq!(rt; report.to_string(rt.alloc())?.as_str(), text);
-        }
-        Ok(())
     }
 }

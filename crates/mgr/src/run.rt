@@ -48,7 +48,7 @@ fn refuse<R: Print + Eprint>(rt: &R, fault: &JobFault) -> u8
     ensures { IsStatusOf fault.now result }
 {
     match fault {
-        JobFault::Help(text) => match text.print(rt) {
+        JobFault::Help(_, text) | JobFault::Version(text) => match text.print(rt) {
             Ok(()) => job_status(fault),
             Err(_) => tell(rt, &ShowFault::Write),
         },

@@ -8,7 +8,7 @@ ghost use Rattle.mgr.specs.Log.{log_of, shown_from};
 ghost use Rattle.mgr.specs.Shown.{IsOfInput, Shows, BeginsToShow};
 
 use crate::fault::ShowFault;
-use crate::text::text_of;
+use crate::text::text_string;
 use rga_exchange::{LogEnd, take_log};
 use rga_lines::Counted;
 use rga_store::{MAX_LIMIT, Taker, TextStore, TreeStore};
@@ -48,7 +48,7 @@ pub fn show_ops<R: Read, W: Write>(
         return Err(ShowFault::Memory);
     };
     take_whole_log(alloc, &mut store, reader)?;
-    let text = text_of(alloc, &store)?;
+    let text = text_string(alloc, &store)?;
     write_text(text.as_str(), writer)
 }
 

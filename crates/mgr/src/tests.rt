@@ -1,4 +1,7 @@
 //! `show_ops` on worked examples, over readers and writers in memory.
+mod command_lines;
+mod reports;
+
 use crate::fault::ShowFault;
 use crate::show::show_ops;
 use rga_lines::{Counted, LineFault};

@@ -8,7 +8,7 @@ use rga_store::TextStore;
 use std::alloc::Global;
 
 /// The characters of the visible elements, in order.
-pub(crate) fn text_of<S: TextStore>(alloc: Global, store: &S) -> Result<String, ShowFault>
+pub(crate) fn text_string<S: TextStore>(alloc: Global, store: &S) -> Result<String, ShowFault>
     ensures ok { IfOk result (λ text. string_bytes text ≡ text_bytes (S.content store.now)) }
     ensures memory { IfErr result (λ e. e ≡ Memory) }
 {

@@ -29,16 +29,3 @@ fn fault_of_reading(alloc: Global, kind: ErrorKind) -> JobFault
         _ => JobFault::Memory,
     }
 }
-
-#[cfg(test)]
-mod tests {
-    use super::*;
-
-    #[test]
-    fn first_is_the_name_of_the_program(rt: HostRuntime) {
-        match words(&rt) {
-            Ok(words) => assert!(rt; !words.is_empty()),
-            Err(_) => panic!(rt; "the words could not be read"),
-        }
-    }
-}
