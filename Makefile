@@ -17,20 +17,14 @@ NEED_RT = command -v rt >/dev/null || { \
 build: build/mgr
 	@echo "build/mgr is up to date"
 
-# `rt run` proves and builds the crates below mgr first, and runs what it built: on no input,
-# mgr shows an empty text. The copy is dated from before the build, so that an edit made
-# meanwhile is built the next time, and is moved into place, so that a mgr that runs goes on.
 build/mgr: $(SOURCES)
 	@$(NEED_RT)
-	@echo "proving and building mgr; a first build takes minutes"
-	@mkdir -p build && touch build/begun
-	@cd crates/mgr && rt run -- show </dev/null
-	@cp crates/mgr/out/mgr build/mgr.new
-	@touch -r build/begun build/mgr.new
-	@mv build/mgr.new build/mgr
+	@scripts/build.sh
 
-try: build/mgr
-	@examples/try.sh
+# A mgr that was built from these sources is proved. With none, the example does not wait for it.
+try:
+	@if $(MAKE) -q build/mgr; then examples/try.sh build/mgr; \
+	else $(NEED_RT); examples/try.sh; fi
 
 # The gate's last line is the verdict, so nothing may follow it.
 test:
@@ -49,7 +43,7 @@ clean:
 
 help:
 	@echo "make          proves and builds mgr, and leaves it at build/mgr"
-	@echo "make try      shows one note from two people's logs, in either order"
+	@echo "make try      shows one note from two people's logs, in either order, with no need of a proof"
 	@echo "make test     runs every proof and test from nothing; the last line counts them"
 	@echo "make bench    measures mgr beside a native program (needs python3 and rustc)"
 	@echo "make install  copies mgr to PREFIX/bin (PREFIX=$(PREFIX); DESTDIR is put before it)"
