@@ -21,10 +21,13 @@ build/mgr: $(SOURCES)
 	@$(NEED_RT)
 	@scripts/build.sh
 
-# A mgr that was built from these sources is proved. With none, the example does not wait for it.
+# The program, where it was built from these sources: then it is proved.
+BUILT = $(shell $(MAKE) -q build/mgr && echo build/mgr)
+
+# With no such program, the example runs before any proof.
 try:
-	@if $(MAKE) -q build/mgr; then examples/try.sh build/mgr; \
-	else $(NEED_RT); examples/try.sh; fi
+	@$(NEED_RT)
+	@examples/try.sh $(BUILT)
 
 # The gate's last line is the verdict, so nothing may follow it.
 test:
@@ -43,7 +46,7 @@ clean:
 
 help:
 	@echo "make          proves and builds mgr, and leaves it at build/mgr"
-	@echo "make try      shows one note from two people's logs, in either order, with no need of a proof"
+	@echo "make try      shows one note from two people's logs, in either order; it waits for no proof"
 	@echo "make test     runs every proof and test from nothing; the last line counts them"
 	@echo "make bench    measures mgr beside a native program (needs python3 and rustc)"
 	@echo "make install  copies mgr to PREFIX/bin (PREFIX=$(PREFIX); DESTDIR is put before it)"
