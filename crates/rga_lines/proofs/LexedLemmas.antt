@@ -7,7 +7,7 @@ use Rattle.json.specs.Token.{string}
 use Rattle.json.specs.Word.{is_operator, is_space}
 use Rattle.json.specs.Lex.{token, string_token, operator_lexeme, operator, space, other, between, in_string, lex_byte, lex}
 use Rattle.json.specs.Print.{escape}
-use Rattle.rga_lines.specs.Members.{IsHexDigit, IsWithinText}
+use Rattle.rga_lines.specs.Members.{BeginsWithHexDigit, BeginsWithEscape}
 use Rattle.json.proofs.Printed.Strings.{content-escape, lex-escape}
 
 -- one of several bytes
@@ -73,7 +73,7 @@ plain_lexed x xs quote backslash = rw (ne_eqb x 34 quote, ne_eqb x 92 backslash)
     by_class false true = refl
     by_class false false = refl
 
-module _ (bytes rest : List ℕ) (value : ℕ) (h : IsHexDigit bytes value rest) where
+module _ (bytes rest : List ℕ) (value : ℕ) (h : BeginsWithHexDigit bytes value rest) where
   hex_digit : digit_value h.digit < 16
   hex_digit = subst (λ (v : ℕ). v < 16) h.stands_for h.small
 
@@ -95,7 +95,7 @@ no_surrogate u (inl below) = (low u 55296 (nat_lt u 56320) below, low u 56320 (n
 no_surrogate u (inr above) = (past u 56320 (nat_le 55296 u) (omega (arith, above.0)), past u 57344 (nat_le 56320 u) above.0)
 
 module _ (bytes one two three four rest : List ℕ) (a b c d u : ℕ) where
-  pub unit_within : bytes ≡ 92 ∷ 117 ∷ one → IsHexDigit one a two → IsHexDigit two b three → IsHexDigit three c four → IsHexDigit four d rest → u ≡ ((a * 16 + b) * 16 + c) * 16 + d → InScalarRange u → IsScalar u → IsWithinText bytes u rest
+  pub unit_within : bytes ≡ 92 ∷ 117 ∷ one → BeginsWithHexDigit one a two → BeginsWithHexDigit two b three → BeginsWithHexDigit three c four → BeginsWithHexDigit four d rest → u ≡ ((a * 16 + b) * 16 + c) * 16 + d → InScalarRange u → IsScalar u → BeginsWithEscape bytes u rest
   unfolding content lex code_unit
   unit_within escaped ha hb hc hd value range scalar =
       let digits : one ≡ ha.digit ∷ hb.digit ∷ hc.digit ∷ hd.digit ∷ rest =
@@ -110,7 +110,7 @@ module _ (bytes one two three four rest : List ℕ) (a b c d u : ℕ) where
       )
 
 -- a character in a text of its own
-pub unit_string : (bytes passed one two rest : List ℕ) (ch : ℕ) → lex between passed ≡ lex between bytes → passed ≡ 34 ∷ one → IsWithinText one ch two → two ≡ 34 ∷ rest → lex between bytes ≡ token (string (encode_utf8 ch)) ∷ lex between rest
+pub unit_string : (bytes passed one two rest : List ℕ) (ch : ℕ) → lex between passed ≡ lex between bytes → passed ≡ 34 ∷ one → BeginsWithEscape one ch two → two ≡ 34 ∷ rest → lex between bytes ≡ token (string (encode_utf8 ch)) ∷ lex between rest
 unfolding lex content
 unit_string bytes passed one two rest ch same opened within closed =
     let read : content plain one ≡ Some (encode_utf8 ch) = within.0 ∙ ap (λ (l : List ℕ). prepend (encode_utf8 ch) (content plain l)) closed ∙ ap Some (append-nil (encode_utf8 ch)) in

@@ -7,6 +7,6 @@ pub mod SpellingLemmas
 pub mod ReadBack
 pub mod LexedLemmas
 pub mod MembersLemmas
-pub mod SpelledLemmas
+pub mod PartsLemmas
 pub mod NewlineLemmas
 pub mod WritableLemmas

@@ -18,7 +18,8 @@ use Rattle.serde_json.specs.Find.{get_member}
 use Rattle.serde_json.specs.Read.{read, of_json, of_members}
 use Rattle.serde_json.specs.Written.{outline}
 use Rattle.serde_json.proofs.Views.{get_member-put, get_member-put_other}
-use Rattle.rga_lines.specs.Members.{name, data_of, char_data, kind_data, pair_data, IsSound, AreSound, IsElement, IsElementOrRoot, value_before, member_before, members_lexemes, one, Holds, put_all, ListsMembers}
+use Rattle.rga_lines.specs.Members.{name, data_of, char_data, kind_data, pair_data, IsSound, AreSound, value_lexemes, member_lexemes, members_lexemes, BeginsWithMember, one, Holds, with_member, with_all, ListsMembers}
+use Rattle.rga_lines.specs.Spelling.{IsElement, IsElementOrRoot}
 use Rattle.rga_ops.specs.Identifier.{Identifier}
 use Rattle.rga_lines.specs.declared.members.Kind.{Kind}
 use Rattle.rga_lines.specs.declared.members.Found.{Found}
@@ -29,7 +30,8 @@ use Rattle.rga_ops.specs.Operation.{checked}
 use Rattle.rga_ops.specs.declared.op.Op.{Op}
 use Rattle.rga_ops.specs.declared.op.Op.TheVariants.{Insert, Delete}
 use Rattle.rga_ops.proofs.AnswerLaws.{well_formed_insertion}
-use Rattle.rga_lines.specs.Table.{max_line, value_line, any_line_at}
+use Rattle.rga_lines.specs.declared.reading.TheConstants.{MAX_LINE}
+use Rattle.rga_lines.specs.Table.{value_line, any_line_at}
 use Rattle.rga_lines.specs.declared.reading.Line.TheVariants.{One}
 use Rattle.rga_lines.specs.declared.members.Kind.TheVariants.{Insertion, Deletion}
 use Rattle.rga_lines.proofs.ReadBack.{within, in_bounds, pair-json, read_tokens, chars-one}
@@ -41,14 +43,14 @@ abbrev json_members : List Member → json.Members
 json_members [] = json.no_members
 json_members (m ∷ ms) = json.member (name m) (outline (data_of m)) (json_members ms)
 
-value_tokens : (m : Member) (more : List Lexeme) → begins_colon more ≡ false → punctuate fresh (value_before m more) ≡ tree.json_tokens (outline (data_of m)) ++ punctuate after_value more
+value_tokens : (m : Member) (more : List Lexeme) → begins_colon more ≡ false → punctuate fresh (value_lexemes m ++ more) ≡ tree.json_tokens (outline (data_of m)) ++ punctuate after_value more
 unfolding punctuate
 value_tokens (Char ch) more e = rw e
 value_tokens (Id id) more e = refl
 value_tokens (named.Op kind) more e = rw e
 value_tokens (Parent id) more e = refl
 
-member_tokens : (p : Place) (m : Member) (more : List Lexeme) → may_begin p ≡ true → begins_colon more ≡ false → punctuate p (member_before m more) ≡ key (name m) ∷ (tree.json_tokens (outline (data_of m)) ++ punctuate after_value more)
+member_tokens : (p : Place) (m : Member) (more : List Lexeme) → may_begin p ≡ true → begins_colon more ≡ false → punctuate p (member_lexemes m ++ more) ≡ key (name m) ∷ (tree.json_tokens (outline (data_of m)) ++ punctuate after_value more)
 unfolding punctuate
 member_tokens fresh m more here e = ap (λ (ts : List Token). key (name m) ∷ ts) (value_tokens m more e)
 member_tokens after_comma m more here e = ap (λ (ts : List Token). key (name m) ∷ ts) (value_tokens m more e)
@@ -84,15 +86,15 @@ value_read (Id id) h = pair-json id (within id h)
 value_read (named.Op kind) h = refl
 value_read (Parent id) h = pair-json id (in_bounds id h)
 
-members_read : (ms : List Member) (found : Members) → AreSound ms → of_members (json_members ms) found ≡ Some (put_all ms found)
+members_read : (ms : List Member) (found : Members) → AreSound ms → of_members (json_members ms) found ≡ Some (with_all ms found)
 members_read [] found h = refl
 members_read (m ∷ ms) found h =
     ap (λ (o : Option Data). option_and_then (λ d. of_members (json_members ms) (put (name m) d found)) o) (value_read m h.0)
-    ∙ members_read ms (put (name m) (data_of m) found) h.1
+    ∙ members_read ms (with_member m found) h.1
 
-pub object_read : (bytes : List ℕ) (m : Member) (ms : List Member) → lex between bytes ≡ token begin_object ∷ members_lexemes m ms → AreSound (m ∷ ms) → read bytes ≡ Some (object (put_all (m ∷ ms) no_members))
+pub object_read : (bytes : List ℕ) (m : Member) (ms : List Member) → lex between bytes ≡ token begin_object ∷ members_lexemes m ms → AreSound (m ∷ ms) → read bytes ≡ Some (object (with_all (m ∷ ms) no_members))
 object_read bytes m ms e h =
-    read_tokens bytes (json.object (json_members (m ∷ ms))) (object (put_all (m ∷ ms) no_members)) (object_tokens bytes m ms e)
+    read_tokens bytes (json.object (json_members (m ∷ ms))) (object (with_all (m ∷ ms) no_members)) (object_tokens bytes m ms e)
     (omega (arith, members_shallow (m ∷ ms)))
     (ap (option_map object) (members_read (m ∷ ms) no_members h))
 
@@ -113,10 +115,7 @@ put_new k d (member l e ms) absent = put_new_at (slice_cmp nat_cmp k l) k l d e 
 get_other : (q k : List ℕ) (d : Data) (ms : Members) → bytes_eq q k ≡ false → get_member q (put k d ms) ≡ get_member q ms
 get_other q k d ms differ = get_member-put_other q k d ms (λ e. true≢false (sym ((bytes_eq-Decides q k).1 e) ∙ differ))
 
-abbrev pub NextHolds : Found → Members → Member → Type 0
-NextHolds all ms m = Holds all (put (name m) (data_of m) ms)
-
-pub holds_char : (found : Found) (ms : Members) (x : ℕ) → IsScalar x → Holds found ms → found.ch ≡ None → NextHolds (record { ch = Some x; id = found.id; kind = found.kind; parent = found.parent }) ms (Char x)
+pub holds_char : (found : Found) (ms : Members) (x : ℕ) → IsScalar x → Holds found ms → found.ch ≡ None → Holds (record { ch = Some x; id = found.id; kind = found.kind; parent = found.parent }) (with_member (Char x) ms)
 holds_char found ms x sound h absent = record {
   char = get_member-put (codes "char") (char_data x) ms;
   id = get_other (codes "id") (codes "char") (char_data x) ms refl ∙ h.id;
@@ -128,7 +127,7 @@ holds_char found ms x sound h absent = record {
   element_or_root = h.element_or_root;
 }
 
-pub holds_id : (found : Found) (ms : Members) (x : Identifier) → IsElement x → Holds found ms → found.id ≡ None → NextHolds (record { ch = found.ch; id = Some x; kind = found.kind; parent = found.parent }) ms (Id x)
+pub holds_id : (found : Found) (ms : Members) (x : Identifier) → IsElement x → Holds found ms → found.id ≡ None → Holds (record { ch = found.ch; id = Some x; kind = found.kind; parent = found.parent }) (with_member (Id x) ms)
 holds_id found ms x sound h absent = record {
   char = get_other (codes "char") (codes "id") (pair_data x) ms refl ∙ h.char;
   id = get_member-put (codes "id") (pair_data x) ms;
@@ -140,7 +139,7 @@ holds_id found ms x sound h absent = record {
   element_or_root = h.element_or_root;
 }
 
-pub holds_op : (found : Found) (ms : Members) (x : Kind) → Holds found ms → found.kind ≡ None → NextHolds (record { ch = found.ch; id = found.id; kind = Some x; parent = found.parent }) ms (named.Op x)
+pub holds_op : (found : Found) (ms : Members) (x : Kind) → Holds found ms → found.kind ≡ None → Holds (record { ch = found.ch; id = found.id; kind = Some x; parent = found.parent }) (with_member (named.Op x) ms)
 holds_op found ms x h absent = record {
   char = get_other (codes "char") (codes "op") (kind_data x) ms refl ∙ h.char;
   id = get_other (codes "id") (codes "op") (kind_data x) ms refl ∙ h.id;
@@ -152,7 +151,7 @@ holds_op found ms x h absent = record {
   element_or_root = h.element_or_root;
 }
 
-pub holds_parent : (found : Found) (ms : Members) (x : Identifier) → IsElementOrRoot x → Holds found ms → found.parent ≡ None → NextHolds (record { ch = found.ch; id = found.id; kind = found.kind; parent = Some x }) ms (Parent x)
+pub holds_parent : (found : Found) (ms : Members) (x : Identifier) → IsElementOrRoot x → Holds found ms → found.parent ≡ None → Holds (record { ch = found.ch; id = found.id; kind = found.kind; parent = Some x }) (with_member (Parent x) ms)
 holds_parent found ms x sound h absent = record {
   char = get_other (codes "char") (codes "parent") (pair_data x) ms refl ∙ h.char;
   id = get_other (codes "id") (codes "parent") (pair_data x) ms refl ∙ h.id;
@@ -192,20 +191,20 @@ says_deletion found ms id a b k d h =
 
 -- ---- the members one after another
 
-pub shorter : (m : Member) (more : List Lexeme) → length more < length (member_before m more)
+pub shorter : (m : Member) (more : List Lexeme) → length more < length (member_lexemes m ++ more)
 shorter (Char ch) more = omega arith
 shorter (Id id) more = omega arith
 shorter (named.Op kind) more = omega arith
 shorter (Parent id) more = omega arith
 
-module _ (bytes behind : List ℕ) (m : Member) (found next : Found) (member_is : lex between bytes ≡ member_before m (lex between behind)) (sound : IsSound m) (holds : (ms : Members) → Holds found ms → NextHolds next ms m) where
+module _ (bytes behind : List ℕ) (m : Member) (found next : Found) (begins : BeginsWithMember bytes m behind) (holds : (ms : Members) → Holds found ms → Holds next (with_member m ms)) where
   pub last_listed : (rest end : List ℕ) → lex between behind ≡ token end_object ∷ lex between rest → lex between end ≡ lex between rest → end ≡ [] → ListsMembers bytes found next
   unfolding lex
   last_listed rest end closed same empty = record {
     first = m;
     others = [];
-    lexemes = member_is ∙ ap (member_before m) (closed ∙ ap (λ (ls : List Lexeme). token end_object ∷ ls) (sym same ∙ ap (lex between) empty));
-    sound = (sound, tt);
+    lexemes = begins.0 ∙ ap (λ (ls : List Lexeme). member_lexemes m ++ ls) (closed ∙ ap (λ (ls : List Lexeme). token end_object ∷ ls) (sym same ∙ ap (lex between) empty));
+    sound = (begins.1, tt);
     holds = holds;
   }
 
@@ -213,9 +212,9 @@ module _ (bytes behind : List ℕ) (m : Member) (found next : Found) (member_is 
   listed_before rest all separated l = record {
     first = m;
     others = l.first ∷ l.others;
-    lexemes = member_is ∙ ap (member_before m) (separated ∙ ap (λ (ls : List Lexeme). comma ∷ ls) l.lexemes);
-    sound = (sound, l.sound);
-    holds = λ ms h. l.holds (put (name m) (data_of m) ms) (holds ms h);
+    lexemes = begins.0 ∙ ap (λ (ls : List Lexeme). member_lexemes m ++ ls) (separated ∙ ap (λ (ls : List Lexeme). comma ∷ ls) l.lexemes);
+    sound = (begins.1, l.sound);
+    holds = λ ms h. l.holds (with_member m ms) (holds ms h);
   }
 
   pub more_listed : (rest : List ℕ) (r : Option Found) → lex between behind ≡ comma ∷ lex between rest → IfSome r (λ all. ListsMembers rest next all) → IfSome r (λ all. ListsMembers bytes found all)
@@ -224,9 +223,9 @@ module _ (bytes behind : List ℕ) (m : Member) (found next : Found) (member_is 
 
 -- ---- the whole
 
-pub listed_says : (bytes rest : List ℕ) (found all : Found) (op : Op) → length bytes ≤ max_line → IsUtf8 bytes → lex between bytes ≡ token begin_object ∷ lex between rest → Holds found no_members → ListsMembers rest found all
+pub listed_says : (bytes rest : List ℕ) (found all : Found) (op : Op) → length bytes ≤ MAX_LINE → IsUtf8 bytes → lex between bytes ≡ token begin_object ∷ lex between rest → Holds found no_members → ListsMembers rest found all
     → ((ms : Members) → Holds all ms → value_line (object ms) ≡ Ok (One op)) → any_line_at bytes ≡ Ok (One op)
 listed_says bytes rest found all op short utf8 opened none l says =
     let members = l.first ∷ l.others in
-    accepted bytes (object (put_all members no_members)) short utf8 (object_read bytes l.first l.others (opened ∙ ap (λ (ls : List Lexeme). token begin_object ∷ ls) l.lexemes) l.sound)
-    ∙ says (put_all members no_members) (l.holds no_members none)
+    accepted bytes (object (with_all members no_members)) short utf8 (object_read bytes l.first l.others (opened ∙ ap (λ (ls : List Lexeme). token begin_object ∷ ls) l.lexemes) l.sound)
+    ∙ says (with_all members no_members) (l.holds no_members none)

@@ -1,7 +1,7 @@
 -- What the next line is, by the place of the first newline in what waits.
 use Rattle.std.proofs.Common.{◌≡◌, ℕ, ◌+◌, ◌<◌, ◌≤◌, Bool, false, List, ◌∷◌, length, take, drop, Some, None, position, refl, sym, ap, ap₂, ◌∙◌, arith, lt-ltb, le-ltb}
 use Rattle.std.proofs.lemmas.List.{length-take-le, take_all}
-use Rattle.rga_lines.specs.Table.{max_line}
+use Rattle.rga_lines.specs.declared.reading.TheConstants.{MAX_LINE}
 use Rattle.rga_lines.specs.Stream.{lines_of, HasNoNewline, EndsNextLine, Splitting, holds, gave_up, Answer, next_of_lines, next_of}
 use Rattle.rga_lines.specs.declared.fault.LineFault.TheVariants as fault
 use Rattle.rga_lines.proofs.SplitterLemmas.{gave, gave_none, failed}
@@ -18,28 +18,28 @@ by_place waiting n first = ap lines_of first.parts ∙ lines-line (take n waitin
 length_by_place : (waiting : List ℕ) (n : ℕ) → FirstLine waiting n → length (take n waiting) ≡ n
 length_by_place waiting n first = length-take-le n waiting (omega (arith, first.within))
 
-gives : (waiting : List ℕ) (n : ℕ) → FirstLine waiting n → n ≤ max_line → next_of (holds waiting) ≡ (gave (take n waiting), holds (drop (n + 1) waiting))
+gives : (waiting : List ℕ) (n : ℕ) → FirstLine waiting n → n ≤ MAX_LINE → next_of (holds waiting) ≡ (gave (take n waiting), holds (drop (n + 1) waiting))
 gives waiting n first short =
     let l = length_by_place waiting n first in
-    ap (next_of_lines waiting) (by_place waiting n first) ∙ rw (le-ltb max_line (length (take n waiting)) (omega arith)) (ap (λ (k : ℕ). let p : Answer × Splitting = (gave (take n waiting), holds (drop (k + 1) waiting)) in p) l)
+    ap (next_of_lines waiting) (by_place waiting n first) ∙ rw (le-ltb MAX_LINE (length (take n waiting)) (omega arith)) (ap (λ (k : ℕ). let p : Answer × Splitting = (gave (take n waiting), holds (drop (k + 1) waiting)) in p) l)
 
-gives_none : (waiting : List ℕ) → position is_newline waiting ≡ None → length waiting ≤ max_line → next_of (holds waiting) ≡ (gave_none, holds waiting)
-gives_none waiting e short = ap (next_of_lines waiting) (lines-none waiting (no_first_line waiting e)) ∙ rw (le-ltb max_line (length waiting) short)
+gives_none : (waiting : List ℕ) → position is_newline waiting ≡ None → length waiting ≤ MAX_LINE → next_of (holds waiting) ≡ (gave_none, holds waiting)
+gives_none waiting e short = ap (next_of_lines waiting) (lines-none waiting (no_first_line waiting e)) ∙ rw (le-ltb MAX_LINE (length waiting) short)
 
-gives_up : (waiting : List ℕ) (n : ℕ) → FirstLine waiting n → max_line < n → next_of (holds waiting) ≡ (failed fault.Long, gave_up)
+gives_up : (waiting : List ℕ) (n : ℕ) → FirstLine waiting n → MAX_LINE < n → next_of (holds waiting) ≡ (failed fault.Long, gave_up)
 gives_up waiting n first long =
     let l = length_by_place waiting n first in
-    ap (next_of_lines waiting) (by_place waiting n first) ∙ rw (lt-ltb max_line (length (take n waiting)) (omega arith))
+    ap (next_of_lines waiting) (by_place waiting n first) ∙ rw (lt-ltb MAX_LINE (length (take n waiting)) (omega arith))
 
-gives_up_rest : (waiting : List ℕ) → position is_newline waiting ≡ None → max_line < length waiting → next_of (holds waiting) ≡ (failed fault.Long, gave_up)
-gives_up_rest waiting e long = ap (next_of_lines waiting) (lines-none waiting (no_first_line waiting e)) ∙ rw (lt-ltb max_line (length waiting) long)
+gives_up_rest : (waiting : List ℕ) → position is_newline waiting ≡ None → MAX_LINE < length waiting → next_of (holds waiting) ≡ (failed fault.Long, gave_up)
+gives_up_rest waiting e long = ap (next_of_lines waiting) (lines-none waiting (no_first_line waiting e)) ∙ rw (lt-ltb MAX_LINE (length waiting) long)
 
 -- ---- of a splitter, whose waiting bytes are a slice
 
 whole : (s : Splitting) (slice : List ℕ) → s.broken ≡ false → slice ≡ s.waiting → s ≡ holds slice
 whole s slice good waiting = ap₂ state (sym waiting) good
 
-pub line_waits : (s : Splitting) (slice : List ℕ) (n : ℕ) → s.broken ≡ false → slice ≡ s.waiting → Some n ≡ position is_newline slice → n ≤ max_line → EndsNextLine s n
+pub line_waits : (s : Splitting) (slice : List ℕ) (n : ℕ) → s.broken ≡ false → slice ≡ s.waiting → Some n ≡ position is_newline slice → n ≤ MAX_LINE → EndsNextLine s n
 line_waits s slice n good waiting at short =
     let first : FirstLine s.waiting n = first_line s.waiting n (ap (position is_newline) (sym waiting) ∙ sym at) in
     record {
@@ -47,7 +47,7 @@ line_waits s slice n good waiting at short =
       next = ap next_of (whole s s.waiting good refl) ∙ gives s.waiting n first short;
     }
 
-pub none_waits : (s : Splitting) (slice : List ℕ) → s.broken ≡ false → slice ≡ s.waiting → None ≡ position is_newline slice → length slice ≤ max_line → next_of s ≡ (gave_none, s)
+pub none_waits : (s : Splitting) (slice : List ℕ) → s.broken ≡ false → slice ≡ s.waiting → None ≡ position is_newline slice → length slice ≤ MAX_LINE → next_of s ≡ (gave_none, s)
 none_waits s slice good waiting none short =
     let same = whole s slice good waiting in
     ap next_of same ∙ gives_none slice (sym none) short ∙ ap (λ (t : Splitting). let p : Answer × Splitting = (gave_none, t) in p) (sym same)
@@ -65,8 +65,8 @@ none_among slice waiting none is =
     let all : take (length slice) waiting ≡ slice = take_all (length slice) waiting (omega (arith, ap length is)) ∙ sym is in
     rw all (no_first_line slice (sym none))
 
-pub long_line_waits : (s : Splitting) (slice : List ℕ) (n : ℕ) → s.broken ≡ false → slice ≡ s.waiting → Some n ≡ position is_newline slice → max_line < n → next_of s ≡ (failed fault.Long, gave_up)
+pub long_line_waits : (s : Splitting) (slice : List ℕ) (n : ℕ) → s.broken ≡ false → slice ≡ s.waiting → Some n ≡ position is_newline slice → MAX_LINE < n → next_of s ≡ (failed fault.Long, gave_up)
 long_line_waits s slice n good waiting at long = ap next_of (whole s slice good waiting) ∙ gives_up slice n (first_line slice n (sym at)) long
 
-pub long_rest_waits : (s : Splitting) (slice : List ℕ) → s.broken ≡ false → slice ≡ s.waiting → None ≡ position is_newline slice → max_line < length slice → next_of s ≡ (failed fault.Long, gave_up)
+pub long_rest_waits : (s : Splitting) (slice : List ℕ) → s.broken ≡ false → slice ≡ s.waiting → None ≡ position is_newline slice → MAX_LINE < length slice → next_of s ≡ (failed fault.Long, gave_up)
 long_rest_waits s slice good waiting none long = ap next_of (whole s slice good waiting) ∙ gives_up_rest slice (sym none) long

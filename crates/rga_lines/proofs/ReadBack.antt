@@ -31,7 +31,8 @@ use Rattle.rga_lines.specs.declared.reading.Line.TheVariants.{One, Last}
 use Rattle.rga_lines.specs.declared.fault.LineFault.TheVariants.{Kind}
 use Rattle.rga_lines.specs.Members.{pair_data}
 use Rattle.rga_lines.specs.Spelling.{escaped, pair_text, line, end_line, IsWritable}
-use Rattle.rga_lines.specs.Table.{value_line, any_line_at, line_at, max_line}
+use Rattle.rga_lines.specs.declared.reading.TheConstants.{MAX_LINE}
+use Rattle.rga_lines.specs.Table.{value_line, any_line_at, line_at}
 use Rattle.rga_lines.proofs.ReadingLemmas.{accepted, alone}
 use Rattle.rga_lines.proofs.SpellingLemmas.{escaped_all, op_data, end_data, insert_data, insert_text, compact_op, compact_end}
 
@@ -124,7 +125,7 @@ chars-one ch h = ap chars (sym (append-nil (encode_utf8 ch))) ∙ chars-encodes 
 escaped-length : (c : ℕ) → length (escaped c) ≤ 6
 escaped-length c = escaped_all (λ (l : List ℕ). length l ≤ 6) c (omega arith) (omega arith) (omega arith) (omega arith) (omega arith) (omega arith) (omega arith) (omega (arith, length-encode c, len_utf8_bounds c))
 
-insert-length : (inside : List ℕ) (id parent : Identifier) → length inside ≤ 6 → InBounds id → InBounds parent → length (insert_text inside id parent) ≤ max_line
+insert-length : (inside : List ℕ) (id parent : Identifier) → length inside ≤ 6 → InBounds id → InBounds parent → length (insert_text inside id parent) ≤ MAX_LINE
 insert-length inside id parent small h k =
     let after = codes ",\"op\":\"ins\",\"parent\":" ++ (pair_text parent ++ codes "}") in
     omega (
@@ -146,7 +147,7 @@ insert-utf8 text id parent u h k =
     (IsUtf8-append (codes ",\"op\":\"ins\",\"parent\":") _ (IsUtf8-are_ascii _ refl) (IsUtf8-append _ _ (IsUtf8-pair_text parent k) (IsUtf8-are_ascii (codes "}") refl))))))
 
 -- a value whose compact text is a line says what the value says
-pub back : (d : Data) (text : List ℕ) (said : Line) → compact_text d ≡ text → length text ≤ max_line → IsUtf8 text → tree.HasNumbers (outline d) → tree.depth (outline d) ≤ max_depth → of_json (outline d) ≡ Some d → value_line d ≡ Ok said → any_line_at text ≡ Ok said
+pub back : (d : Data) (text : List ℕ) (said : Line) → compact_text d ≡ text → length text ≤ MAX_LINE → IsUtf8 text → tree.HasNumbers (outline d) → tree.depth (outline d) ≤ max_depth → of_json (outline d) ≡ Some d → value_line d ≡ Ok said → any_line_at text ≡ Ok said
 back d text said e short u numbers shallow parsed says = accepted text d short u (read_tokens text (outline d) d (ap tokens (sym e) ∙ tokens-compact d numbers) shallow parsed) ∙ says
 
 insert_back : (id parent : Identifier) (ch : ℕ) → is_in_range id.counter id.replica ≡ true → is_root parent || is_in_range parent.counter parent.replica ≡ true → leb id.counter parent.counter ≡ false → IsScalar ch → any_line_at (line (Insert id parent ch)) ≡ Ok (One (Insert id parent ch))

@@ -17,7 +17,8 @@ use Rattle.rga_ops.specs.declared.op.Op.{Op}
 use Rattle.rga_ops.specs.declared.op.Op.TheVariants.{Insert}
 use Rattle.rga_lines.specs.declared.reading.Line.TheVariants.{One, Last}
 use Rattle.rga_lines.specs.declared.fault.LineFault.{LineFault}
-use Rattle.rga_lines.specs.Table.{Reading, AnyReading, only_char, two_numbers, if_in_range, element_of, parent_of, with_order, with_char, with_identifiers, with_types, insertion, with_identifier, with_type, deletion, ending, one, last, of_kind, with_name, with_op, with_count, count_of, text_at, array_at, has, value_line, text_line, any_line_at, operation_alone, line_at, max_line}
+use Rattle.rga_lines.specs.declared.reading.TheConstants.{MAX_LINE}
+use Rattle.rga_lines.specs.Table.{Reading, AnyReading, only_char, two_numbers, if_in_range, element_of, parent_of, with_order, with_char, with_identifiers, with_types, insertion, with_identifier, with_type, deletion, ending, one, last, of_kind, with_name, with_op, with_count, count_of, text_at, array_at, has, value_line, text_line, any_line_at, operation_alone, line_at}
 use Rattle.rga_lines.specs.declared.fault.LineFault.TheVariants as fault
 
 -- ---- one character
@@ -47,7 +48,7 @@ too_many (v ∷ w ∷ u ∷ values) h = refl
 
 -- ---- the whole
 
-pub too_long : (bytes : List ℕ) → max_line < length bytes → any_line_at bytes ≡ Err fault.Long
+pub too_long : (bytes : List ℕ) → MAX_LINE < length bytes → any_line_at bytes ≡ Err fault.Long
 unfolding any_line_at
 too_long bytes h = rw (lt-ltb _ _ h)
 
@@ -55,11 +56,11 @@ is_refused : (utf8 : Bool) (value : Option Data) → (utf8 ≡ true → value �
 is_refused true value h = rw (h refl)
 is_refused false value h = refl
 
-pub refused : (bytes : List ℕ) → length bytes ≤ max_line → (IsUtf8 bytes → read bytes ≡ None) → any_line_at bytes ≡ Err fault.Json
+pub refused : (bytes : List ℕ) → length bytes ≤ MAX_LINE → (IsUtf8 bytes → read bytes ≡ None) → any_line_at bytes ≡ Err fault.Json
 unfolding any_line_at
 refused bytes h none = rw (le-ltb _ _ h) (is_refused (is_utf8 bytes) (read bytes) (λ e. none (IsUtf8-from_is_utf8 bytes e)))
 
-pub accepted : (bytes : List ℕ) (d : Data) → length bytes ≤ max_line → IsUtf8 bytes → read bytes ≡ Some d → any_line_at bytes ≡ value_line d
+pub accepted : (bytes : List ℕ) (d : Data) → length bytes ≤ MAX_LINE → IsUtf8 bytes → read bytes ≡ Some d → any_line_at bytes ≡ value_line d
 unfolding any_line_at
 accepted bytes d h text e = rw (le-ltb _ _ h) (ap (λ (b : Bool). text_line b (read bytes)) (is_utf8-from_IsUtf8 bytes text) ∙ ap (text_line true) e)
 
@@ -189,7 +190,7 @@ sound_text false value = tt
 
 sound_line : (bytes : List ℕ) → IsSoundLine (any_line_at bytes)
 unfolding any_line_at
-sound_line bytes = sound_line_if (nat_lt max_line (length bytes)) (Err fault.Long) (text_line (is_utf8 bytes) (read bytes)) tt (sound_text (is_utf8 bytes) (read bytes))
+sound_line bytes = sound_line_if (nat_lt MAX_LINE (length bytes)) (Err fault.Long) (text_line (is_utf8 bytes) (read bytes)) tt (sound_text (is_utf8 bytes) (read bytes))
 
 pub any_well_formed : (bytes : List ℕ) (op : Op) → any_line_at bytes ≡ Ok (One op) → checked op ≡ Ok tt
 any_well_formed bytes op e = let sound : IsSoundLine (Ok (One op)) = rw e at (sound_line bytes) in sound

@@ -5,7 +5,8 @@ use Rattle.std.proofs.lemmas.Bool.{ltb-true, ltb-false, true≢false, false≢tr
 use Rattle.std.proofs.lemmas.List.{drop_at, length-append, length-drop, length_push}
 use Rattle.std.proofs.lemmas.List.Elements.{All-head, All-tail}
 use Rattle.serde_json.proofs.OnLiterals.{serde_json_on_literals}
-use Rattle.rga_lines.specs.Table.{max_line, line_at}
+use Rattle.rga_lines.specs.declared.reading.TheConstants.{MAX_LINE}
+use Rattle.rga_lines.specs.Table.{line_at}
 use Rattle.rga_lines.specs.Stream.{newline, to_first_line, to_rest, lines_of, rest_of, HasNoNewline, bytes_of_lines, BeginsLong, Splitting, EndsNextLine, holds, gave_up, fed, Answer, next_of_lines, next_of, Call, Feed, Next, after_calls, line_in, lines_given, bytes_fed}
 use Rattle.rga_lines.specs.declared.fault.LineFault.{LineFault}
 use Rattle.rga_lines.specs.declared.fault.LineFault.TheVariants as fault
@@ -48,9 +49,9 @@ line_is false first waiting line t e =
     (same, sym (ap (λ (p : Answer × Splitting). p.1) e))
 
 had_line : (waiting : List ℕ) (lines : List (List ℕ)) (line : List ℕ) (t : Splitting) → next_of_lines waiting lines ≡ (gave line, t) → HadLine waiting lines line t
-had_line waiting [] line t e = absurd (rest_is_no_line (ltb max_line (length waiting)) waiting line t e)
+had_line waiting [] line t e = absurd (rest_is_no_line (ltb MAX_LINE (length waiting)) waiting line t e)
 had_line waiting (first ∷ others) line t e =
-    let h = line_is (ltb max_line (length first)) first waiting line t e in
+    let h = line_is (ltb MAX_LINE (length first)) first waiting line t e in
     record {
       others = others;
       is = ap (λ (l : List ℕ). l ∷ others) h.0;
@@ -60,7 +61,7 @@ had_line waiting (first ∷ others) line t e =
 record HadNone (waiting : List ℕ) (lines : List (List ℕ)) (t : Splitting) : Type 0 where
   is : lines ≡ []
   left : t ≡ holds waiting
-  short : length waiting ≤ max_line
+  short : length waiting ≤ MAX_LINE
 
 rest_is : (long : Bool) (waiting : List ℕ) (t : Splitting) → rest_answer long waiting ≡ (gave_none, t) → (long ≡ false) × (t ≡ holds waiting)
 rest_is true waiting t e = let f : failed fault.Long ≡ gave_none = ap (λ (p : Answer × Splitting). p.0) e in absurd cc
@@ -72,9 +73,9 @@ line_is_not_none false first waiting t e = let f : gave first ≡ gave_none = ap
 
 had_none : (waiting : List ℕ) (lines : List (List ℕ)) (t : Splitting) → next_of_lines waiting lines ≡ (gave_none, t) → HadNone waiting lines t
 had_none waiting [] t e =
-    let h = rest_is (ltb max_line (length waiting)) waiting t e in
-    record { is = refl; left = h.1; short = ltb-false max_line (length waiting) h.0 }
-had_none waiting (first ∷ others) t e = absurd (line_is_not_none (ltb max_line (length first)) first waiting t e)
+    let h = rest_is (ltb MAX_LINE (length waiting)) waiting t e in
+    record { is = refl; left = h.1; short = ltb-false MAX_LINE (length waiting) h.0 }
+had_none waiting (first ∷ others) t e = absurd (line_is_not_none (ltb MAX_LINE (length first)) first waiting t e)
 
 record HadLong (waiting : List ℕ) (lines : List (List ℕ)) (e : LineFault) (t : Splitting) : Type 0 where
   is : e ≡ fault.Long
@@ -97,11 +98,11 @@ line_is_long false first waiting e t is = let f : gave first ≡ failed e = ap (
 
 had_long : (waiting : List ℕ) (lines : List (List ℕ)) (e : LineFault) (t : Splitting) → next_of_lines waiting lines ≡ (failed e, t) → HadLong waiting lines e t
 had_long waiting [] e t is =
-    let h = rest_is_long (ltb max_line (length waiting)) waiting e t is in
-    record { is = h.1; left = h.2; begins = ltb-true max_line (length waiting) h.0 }
+    let h = rest_is_long (ltb MAX_LINE (length waiting)) waiting e t is in
+    record { is = h.1; left = h.2; begins = ltb-true MAX_LINE (length waiting) h.0 }
 had_long waiting (first ∷ others) e t is =
-    let h = line_is_long (ltb max_line (length first)) first waiting e t is in
-    record { is = h.1; left = h.2; begins = ltb-true max_line (length first) h.0 }
+    let h = line_is_long (ltb MAX_LINE (length first)) first waiting e t is in
+    record { is = h.1; left = h.2; begins = ltb-true MAX_LINE (length first) h.0 }
 
 unbroken : (s : Splitting) (p : Answer × Splitting) → s.broken ≡ false → next_of s ≡ p → next_of_lines s.waiting (lines_of s.waiting) ≡ p
 unbroken s p good e = rw good at e
@@ -168,7 +169,7 @@ pub record GivesNone (s t : Splitting) : Type 0 where
   pub same : t ≡ s
   pub lines : lines_of s.waiting ≡ []
   pub rest : rest_of s.waiting ≡ s.waiting
-  pub short : length s.waiting ≤ max_line
+  pub short : length s.waiting ≤ MAX_LINE
 
 whole_state : (s : Splitting) → s.broken ≡ false → s ≡ holds s.waiting
 whole_state s good = ap (λ (b : Bool). let t : Splitting = record { waiting = s.waiting; broken = b } in t) good
@@ -194,7 +195,7 @@ first_part-cons : (b : ℕ) (lines : List (List ℕ)) (rest : List ℕ) → firs
 first_part-cons b [] rest = refl
 first_part-cons b (line ∷ lines) rest = refl
 
-begins_long : (lines : List (List ℕ)) (rest : List ℕ) → max_line < length (first_part lines rest) → BeginsLong lines rest
+begins_long : (lines : List (List ℕ)) (rest : List ℕ) → MAX_LINE < length (first_part lines rest) → BeginsLong lines rest
 begins_long [] rest h = h
 begins_long (line ∷ lines) rest h = h
 
@@ -294,7 +295,7 @@ ends s (Next ∷ calls) good = ends_next s calls good (λ t better. ends t calls
 
 -- ---- lines by themselves
 
-pub long_line : (bytes : List ℕ) → max_line < length bytes → line_at bytes ≡ Err fault.Long
+pub long_line : (bytes : List ℕ) → MAX_LINE < length bytes → line_at bytes ≡ Err fault.Long
 long_line bytes h = alone bytes (Err fault.Long) (too_long bytes h)
 
 pub no_line : line_at [] ≡ Err fault.Json

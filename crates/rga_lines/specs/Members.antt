@@ -1,5 +1,5 @@
 -- The members of an operation's line in any order: as lexemes, between which any blanks may stand, and as a value.
-use Rattle.std.specs.Prelude.{◌≡◌, ℕ, ◌+◌, ◌<◌, true, ◌||◌, List, [], ◌∷◌, codes, decimal, Option, Some, None, option_map, IfSome}
+use Rattle.std.specs.Prelude.{◌≡◌, ℕ, ◌+◌, ◌<◌, List, [], ◌∷◌, ◌++◌, codes, decimal, Option, Some, None, option_map, IfSome}
 use Rattle.std.specs.Char.{digit_value, encode_utf8, IsScalar}
 use Rattle.json.specs.Text.{content, plain, prepend}
 use Rattle.json.specs.Token.{begin_array, end_array, end_object, string, number}
@@ -8,7 +8,8 @@ use Rattle.serde_json.specs.Data as json
 use Rattle.serde_json.specs.Data.{Data, Members, put}
 use Rattle.serde_json.specs.Events.{members_len}
 use Rattle.serde_json.specs.Find.{get_member}
-use Rattle.rga_ops.specs.Identifier.{Identifier, is_root, is_in_range}
+use Rattle.rga_ops.specs.Identifier.{Identifier}
+use Rattle.rga_lines.specs.Spelling.{IsElement, IsElementOrRoot}
 use Rattle.rga_lines.specs.declared.members.Kind.{Kind}
 use Rattle.rga_lines.specs.declared.members.Kind.TheVariants.{Insertion, Deletion}
 use Rattle.rga_lines.specs.declared.members.Member.{Member}
@@ -42,12 +43,6 @@ data_of (Id id) = pair_data id
 data_of (Op kind) = kind_data kind
 data_of (Parent id) = pair_data id
 
-abbrev pub IsElement : Identifier → Type 0
-IsElement id = is_in_range id.counter id.replica ≡ true
-
-abbrev pub IsElementOrRoot : Identifier → Type 0
-IsElementOrRoot id = is_root id || is_in_range id.counter id.replica ≡ true
-
 abbrev pub IsSound : Member → Type 0
 IsSound (Char ch) = IsScalar ch
 IsSound (Id id) = IsElement id
@@ -58,35 +53,66 @@ abbrev pub AreSound : List Member → Type 0
 AreSound [] = Unit {0}
 AreSound (m ∷ ms) = IsSound m × AreSound ms
 
--- ---- lexemes, and those that stand behind
+-- ---- lexemes
 
-abbrev pub pair_before : Identifier → List Lexeme → List Lexeme
-pair_before id more = token begin_array ∷ token (number (decimal id.counter)) ∷ comma ∷ token (number (decimal id.replica)) ∷ token end_array ∷ more
+abbrev pub text_lexemes : List ℕ → List Lexeme
+text_lexemes text = token (string text) ∷ []
 
-abbrev pub value_before : Member → List Lexeme → List Lexeme
-value_before (Char ch) more = token (string (encode_utf8 ch)) ∷ more
-value_before (Id id) more = pair_before id more
-value_before (Op kind) more = token (string (name_of_kind kind)) ∷ more
-value_before (Parent id) more = pair_before id more
+abbrev pub name_lexemes : List ℕ → List Lexeme
+name_lexemes name = token (string name) ∷ colon ∷ []
 
-abbrev pub member_before : Member → List Lexeme → List Lexeme
-member_before m more = token (string (name m)) ∷ colon ∷ value_before m more
+abbrev pub number_lexemes : ℕ → List Lexeme
+number_lexemes n = token (number (decimal n)) ∷ []
+
+abbrev pub pair_lexemes : Identifier → List Lexeme
+pair_lexemes id =
+    token begin_array
+    ∷ token (number (decimal id.counter))
+    ∷ comma
+    ∷ token (number (decimal id.replica))
+    ∷ token end_array
+    ∷ []
+
+abbrev pub value_lexemes : Member → List Lexeme
+value_lexemes (Char ch) = text_lexemes (encode_utf8 ch)
+value_lexemes (Id id) = pair_lexemes id
+value_lexemes (Op kind) = text_lexemes (name_of_kind kind)
+value_lexemes (Parent id) = pair_lexemes id
+
+abbrev pub member_lexemes : Member → List Lexeme
+member_lexemes m = name_lexemes (name m) ++ value_lexemes m
 
 -- the members up to the bracket that closes their object, with nothing behind it
 abbrev pub members_lexemes : Member → List Member → List Lexeme
-members_lexemes m [] = member_before m (token end_object ∷ [])
-members_lexemes m (n ∷ ms) = member_before m (comma ∷ members_lexemes n ms)
+members_lexemes m [] = member_lexemes m ++ token end_object ∷ []
+members_lexemes m (n ∷ ms) = member_lexemes m ++ comma ∷ members_lexemes n ms
 
--- the bytes begin with a hexadecimal digit that stands for the number
-pub record IsHexDigit (bytes : List ℕ) (value : ℕ) (rest : List ℕ) : Type 0 where
+-- ---- what bytes begin with, and then the rest
+
+-- these lexemes, with any blanks before each
+abbrev pub BeginsWith : List ℕ → List Lexeme → List ℕ → Type 0
+BeginsWith bytes lexemes rest = lex between bytes ≡ lexemes ++ lex between rest
+
+-- a text of one character
+abbrev pub BeginsWithChar : List ℕ → ℕ → List ℕ → Type 0
+BeginsWithChar bytes ch rest = BeginsWith bytes (text_lexemes (encode_utf8 ch)) rest × IsScalar ch
+
+abbrev pub BeginsWithMember : List ℕ → Member → List ℕ → Type 0
+BeginsWithMember bytes m rest = BeginsWith bytes (member_lexemes m) rest × IsSound m
+
+-- a hexadecimal digit that stands for the number
+pub record BeginsWithHexDigit (bytes : List ℕ) (value : ℕ) (rest : List ℕ) : Type 0 where
   pub digit : ℕ
   pub first : bytes ≡ digit ∷ rest
   pub stands_for : value ≡ digit_value digit
   pub small : value < 16
 
--- within a text, the bytes are one character and then the rest
-abbrev pub IsWithinText : List ℕ → ℕ → List ℕ → Type 0
-IsWithinText bytes ch rest = (content plain bytes ≡ prepend (encode_utf8 ch) (content plain rest)) × (lex in_string bytes ≡ lex in_string rest) × IsScalar ch
+-- within a text, an escape that stands for the character
+abbrev pub BeginsWithEscape : List ℕ → ℕ → List ℕ → Type 0
+BeginsWithEscape bytes ch rest =
+    (content plain bytes ≡ prepend (encode_utf8 ch) (content plain rest))
+    × (lex in_string bytes ≡ lex in_string rest)
+    × IsScalar ch
 
 -- ---- what was found
 
@@ -105,10 +131,13 @@ pub record Holds (found : Found) (ms : Members) : Type 0 where
   pub element : IfSome found.id IsElement
   pub element_or_root : IfSome found.parent IsElementOrRoot
 
+abbrev pub with_member : Member → Members → Members
+with_member m ms = put (name m) (data_of m) ms
+
 -- the members go into the object one after another
-abbrev pub put_all : List Member → Members → Members
-put_all [] ms = ms
-put_all (m ∷ others) ms = put_all others (put (name m) (data_of m) ms)
+abbrev pub with_all : List Member → Members → Members
+with_all [] ms = ms
+with_all (m ∷ others) ms = with_all others (with_member m ms)
 
 -- the bytes list members, with which all are found
 pub record ListsMembers (bytes : List ℕ) (found all : Found) : Type 0 where
@@ -116,4 +145,4 @@ pub record ListsMembers (bytes : List ℕ) (found all : Found) : Type 0 where
   pub others : List Member
   pub lexemes : lex between bytes ≡ members_lexemes first others
   pub sound : AreSound (first ∷ others)
-  pub holds : (ms : Members) → Holds found ms → Holds all (put_all (first ∷ others) ms)
+  pub holds : (ms : Members) → Holds found ms → Holds all (with_all (first ∷ others) ms)

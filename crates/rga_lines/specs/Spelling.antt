@@ -19,19 +19,37 @@ escaped c =
     else (if nat_lt c 32 then codes "\\u00" ++ digit_char (c / 16) ∷ digit_char (c % 16) ∷ []
     else encode_utf8 c))))))
 
+-- the bytes begin with a character as it stands between quotes, and then the rest
+abbrev pub BeginsWithCharacter : List ℕ → ℕ → List ℕ → Type 0
+BeginsWithCharacter bytes ch rest = (bytes ≡ escaped ch ++ rest) × IsScalar ch
+
+abbrev pub IsElement : Identifier → Type 0
+IsElement id = is_in_range id.counter id.replica ≡ true
+
+abbrev pub IsElementOrRoot : Identifier → Type 0
+IsElementOrRoot id = is_root id || is_in_range id.counter id.replica ≡ true
+
 abbrev pub pair_text : Identifier → List ℕ
 pair_text id = codes "[" ++ (decimal id.counter ++ (codes "," ++ (decimal id.replica ++ codes "]")))
 
 -- the line of an operation, without its newline
 unfoldable pub line : Op → List ℕ
-line (Insert id parent ch) = codes "{\"char\":\"" ++ (escaped ch ++ (codes "\",\"id\":" ++ (pair_text id ++ (codes ",\"op\":\"ins\",\"parent\":" ++ (pair_text parent ++ codes "}")))))
+line (Insert id parent ch) =
+    codes "{\"char\":\"" ++ (escaped ch
+    ++ (codes "\",\"id\":" ++ (pair_text id
+    ++ (codes ",\"op\":\"ins\",\"parent\":" ++ (pair_text parent
+    ++ codes "}")))))
 line (Delete id) = codes "{\"id\":" ++ (pair_text id ++ codes ",\"op\":\"del\"}")
 
 -- the line that ends an exchange of so many operations, without its newline
 unfoldable pub end_line : ℕ → List ℕ
 end_line operations = codes "{\"count\":" ++ (decimal operations ++ codes ",\"op\":\"end\"}")
 
--- The identifiers are in range, or the parent is the root, and the character is a Unicode scalar value.
+-- the identifiers are those of elements, or the parent is the root, and the character is a Unicode scalar value
 abbrev pub IsWritable : Op → Type 0
-IsWritable (Insert id parent ch) = (is_in_range id.counter id.replica ≡ true) × (is_root parent || is_in_range parent.counter parent.replica ≡ true) × IsScalar ch
-IsWritable (Delete id) = is_in_range id.counter id.replica ≡ true
+IsWritable (Insert id parent ch) = IsElement id × IsElementOrRoot parent × IsScalar ch
+IsWritable (Delete id) = IsElement id
+
+-- the bytes are the line of an operation that can be written
+abbrev pub IsLineOf : List ℕ → Op → Type 0
+IsLineOf bytes op = (bytes ≡ line op) × IsWritable op

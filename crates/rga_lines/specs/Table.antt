@@ -8,6 +8,7 @@ use Rattle.serde_json.specs.Find.{get, as_str, as_array, as_object, as_number, a
 use Rattle.rga_ops.specs.Identifier.{Identifier, identifier, is_root, is_in_range}
 use Rattle.rga_ops.specs.declared.op.Op.{Op}
 use Rattle.rga_ops.specs.declared.op.Op.TheVariants.{Insert, Delete}
+use Rattle.rga_lines.specs.declared.reading.TheConstants.{MAX_LINE}
 use Rattle.rga_lines.specs.declared.reading.Line.{Line}
 use Rattle.rga_lines.specs.declared.reading.Line.TheVariants.{One, Last}
 use Rattle.rga_lines.specs.declared.fault.LineFault.{LineFault}
@@ -15,7 +16,7 @@ use Rattle.rga_lines.specs.declared.fault.LineFault.TheVariants as fault
 
 -- the most bytes of a line, its newline left out
 abbrev pub max_line : ℕ
-max_line = 65536
+max_line = MAX_LINE
 
 -- an operation, or what is wrong
 abbrev pub Reading : Type 0
@@ -162,7 +163,7 @@ text_line false d = Err fault.Json
 
 -- what the bytes of a line say, its newline left out
 unfoldable pub any_line_at : List ℕ → AnyReading
-any_line_at bytes = if nat_lt max_line (length bytes) then Err fault.Long else text_line (is_utf8 bytes) (read bytes)
+any_line_at bytes = if nat_lt MAX_LINE (length bytes) then Err fault.Long else text_line (is_utf8 bytes) (read bytes)
 
 -- where operations alone may stand, the end of an exchange is a line of another kind
 abbrev pub operation_alone : AnyReading → Reading

@@ -1,14 +1,14 @@
 //! The lexemes of JSON that bytes begin with, blanks before them aside, and what stands behind.
-ghost use Rattle.std.specs.Prelude.{◌≡◌, ◌∷◌, true, decimal, IfSome};
+ghost use Rattle.std.specs.Prelude.{◌≡◌, [], ◌∷◌, true, IfSome};
 ghost use Rattle.std.specs.Bool.{OnTrue};
-ghost use Rattle.std.specs.Char.{encode_utf8, IsScalar};
-ghost use Rattle.json.specs.Token as tokens;
-ghost use Rattle.json.specs.Word.{is_operator, is_space, ends_word as word_ends};
-ghost use Rattle.json.specs.Lex.{between, lex, token, colon, operator_lexeme};
+ghost use Rattle.json.specs.Word.{is_operator, is_space, ends_word};
+ghost use Rattle.json.specs.Lex.{between, lex, operator_lexeme};
 ghost use Rattle.json.specs.Print.{escape};
-ghost use Rattle.rga_lines.specs.Members.{IsHexDigit, IsWithinText};
+ghost use Rattle.rga_lines.specs.Members.{text_lexemes, name_lexemes, number_lexemes};
+ghost use Rattle.rga_lines.specs.Members.{BeginsWith, BeginsWithChar, BeginsWithEscape, BeginsWithHexDigit};
 
-use crate::spelled::{after, character, number as digits};
+use crate::parts;
+use crate::parts::{after, character};
 
 /// What stands behind the blanks that the bytes begin with.
 pub(crate) fn after_blanks(bytes: &[u8]) -> &[u8]
@@ -33,7 +33,7 @@ fn is_blank(byte: u8) -> bool
 /// What stands behind a bracket, a comma or a colon.
 pub(crate) fn after_operator(bytes: &[u8], operator: u8) -> Option<&[u8]>
     requires { is_operator operator ≡ true }
-    ensures { IfSome result (λ rest. lex between bytes.now ≡ operator_lexeme operator ∷ lex between rest.now) }
+    ensures { IfSome result (λ rest. BeginsWith bytes.now (operator_lexeme operator ∷ []) rest.now) }
 {
     let (first, rest) = after_blanks(bytes).split_first()?;
     if *first == operator { Some(rest) } else { None }
@@ -42,7 +42,7 @@ pub(crate) fn after_operator(bytes: &[u8], operator: u8) -> Option<&[u8]>
 /// What stands behind a text, where it is spelled without escapes.
 pub(crate) fn after_text<'a>(bytes: &'a [u8], text: &str) -> Option<&'a [u8]>
     requires { escape text.now ≡ text.now }
-    ensures { IfSome result (λ rest. lex between bytes.now ≡ token (tokens.string text.now) ∷ lex between rest.now) }
+    ensures { IfSome result (λ rest. BeginsWith bytes.now (text_lexemes text.now) rest.now) }
 {
     let rest = after(after_blanks(bytes), b"\"")?;
     let rest = after(rest, text.as_bytes())?;
@@ -52,14 +52,14 @@ pub(crate) fn after_text<'a>(bytes: &'a [u8], text: &str) -> Option<&'a [u8]>
 /// What stands behind the name of a member and its colon.
 pub(crate) fn after_name<'a>(bytes: &'a [u8], name: &str) -> Option<&'a [u8]>
     requires { escape name.now ≡ name.now }
-    ensures { IfSome result (λ rest. lex between bytes.now ≡ token (tokens.string name.now) ∷ colon ∷ lex between rest.now) }
+    ensures { IfSome result (λ rest. BeginsWith bytes.now (name_lexemes name.now) rest.now) }
 {
     after_operator(after_text(bytes, name)?, b':')
 }
 
 /// The only character of a text, and what stands behind the text.
 pub(crate) fn only_character(bytes: &[u8]) -> Option<(char, &[u8])>
-    ensures { IfSome result (λ p. (lex between bytes.now ≡ token (tokens.string (encode_utf8 p.0)) ∷ lex between p.1.now) × IsScalar p.0) }
+    ensures { IfSome result (λ p. BeginsWithChar bytes.now p.0 p.1.now) }
 {
     let inside = after(after_blanks(bytes), b"\"")?;
     if let Some((ch, rest)) = character(inside) {
@@ -75,7 +75,7 @@ pub(crate) fn only_character(bytes: &[u8]) -> Option<(char, &[u8])>
 /// The character that `\u` and four hexadecimal digits stand for, and what stands behind them.
 /// `None` for one half of a pair of surrogates.
 fn escaped_unit(bytes: &[u8]) -> Option<(char, &[u8])>
-    ensures { IfSome result (λ p. IsWithinText bytes.now p.0 p.1.now) }
+    ensures { IfSome result (λ p. BeginsWithEscape bytes.now p.0 p.1.now) }
 {
     let (a, rest) = hex_digit(after(bytes, b"\\u")?)?;
     let (b, rest) = hex_digit(rest)?;
@@ -87,7 +87,7 @@ fn escaped_unit(bytes: &[u8]) -> Option<(char, &[u8])>
 
 /// What a hexadecimal digit stands for, and what stands behind it.
 fn hex_digit(bytes: &[u8]) -> Option<(u32, &[u8])>
-    ensures { IfSome result (λ p. IsHexDigit bytes.now p.0 p.1.now) }
+    ensures { IfSome result (λ p. BeginsWithHexDigit bytes.now p.0 p.1.now) }
 {
     let (digit, rest) = bytes.split_first()?;
     let value = char::from(*digit).to_digit(16)?;
@@ -96,9 +96,9 @@ fn hex_digit(bytes: &[u8]) -> Option<(u32, &[u8])>
 
 /// A whole number that is spelled in digits alone, and what stands behind it.
 pub(crate) fn number(bytes: &[u8]) -> Option<(u64, &[u8])>
-    ensures { IfSome result (λ p. lex between bytes.now ≡ token (tokens.number (decimal p.0)) ∷ lex between p.1.now) }
+    ensures { IfSome result (λ p. BeginsWith bytes.now (number_lexemes p.0) p.1.now) }
 {
-    let (value, rest) = digits(after_blanks(bytes))?;
+    let (value, rest) = parts::number(after_blanks(bytes))?;
     if ends_word(rest) {
         Some((value, rest))
     } else {
@@ -108,7 +108,7 @@ pub(crate) fn number(bytes: &[u8]) -> Option<(u64, &[u8])>
 
 /// Whether a number ends before these bytes.
 fn ends_word(bytes: &[u8]) -> bool
-    ensures { OnTrue result (word_ends bytes.now ≡ true) }
+    ensures { OnTrue result (ends_word bytes.now ≡ true) }
 {
     match bytes.first() {
         None => true,

@@ -18,6 +18,7 @@ mod fault;
 pub mod laws;
 mod lexed;
 mod members;
+mod parts;
 mod reading;
 mod spelled;
 mod splitter;

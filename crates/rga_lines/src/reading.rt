@@ -1,13 +1,13 @@
 //! What a line says.
-ghost use Rattle.std.specs.Prelude.{◌≡◌, ◌≢◌, ◌<◌, ◌||◌, length, true, IfSome, Err};
-ghost use Rattle.std.specs.Str.{chars};
+ghost use Rattle.std.specs.Prelude.{◌≡◌, ◌≢◌, ◌<◌, length, Err};
 ghost use Rattle.serde_json.specs.View.{view, items_view};
-ghost use Rattle.rga_ops.specs.Identifier.{identifier, is_root, is_in_range};
-ghost use Rattle.rga_lines.specs.Table.{max_line, count_of, only_char, two_numbers, element_of, if_root_or_in_range, parent_of, insertion, deletion, ending, value_line, any_line_at, line_at};
+ghost use Rattle.rga_lines.specs.Table.{count_of, two_numbers, element_of, parent_of};
+ghost use Rattle.rga_lines.specs.Table.{insertion, deletion, ending, value_line, any_line_at, line_at};
 ghost use Rattle.rga_lines.specs.declared.fault.LineFault.TheVariants.{Memory, Long};
 
 use crate::fault::LineFault;
 use crate::members::by_members;
+use crate::parts::{element, element_or_root, only_char};
 use crate::spelled::spelled;
 use rga_ops::{Id, Op};
 use serde_json::Value;
@@ -37,8 +37,8 @@ pub enum Line {
 /// Where a member is named twice its last value counts. The faults are answered in the order that
 /// `LineFault` tells. `Long` takes no memory.
 pub fn read_any(alloc: Global, bytes: &[u8]) -> Result<Line, LineFault>
-    ensures says { result ≢ Err Memory → result ≡ any_line_at bytes.now }
-    ensures long { max_line < length bytes.now → result ≡ Err Long }
+    ensures exact { result ≢ Err Memory → result ≡ any_line_at bytes.now }
+    ensures long { MAX_LINE < length bytes.now → result ≡ Err Long }
 {
     if bytes.len() > MAX_LINE {
         return Err(LineFault::Long);
@@ -64,8 +64,8 @@ pub fn read_any(alloc: Global, bytes: &[u8]) -> Result<Line, LineFault>
 /// The operation that a line says, given without its newline: what `read_any` gives, but `Kind`
 /// for the end of an exchange.
 pub fn read_line(alloc: Global, bytes: &[u8]) -> Result<Op, LineFault>
-    ensures says { result ≢ Err Memory → result ≡ line_at bytes.now }
-    ensures long { max_line < length bytes.now → result ≡ Err Long }
+    ensures exact { result ≢ Err Memory → result ≡ line_at bytes.now }
+    ensures long { MAX_LINE < length bytes.now → result ≡ Err Long }
 {
     match read_any(alloc, bytes) {
         Ok(Line::One(op)) => Ok(op),
@@ -122,7 +122,7 @@ fn insertion(count: usize, value: &Value) -> Result<Op, LineFault>
     else {
         return Err(LineFault::Kind);
     };
-    let (Some(id), Some(parent)) = (element(id), parent_or_root(parent)) else {
+    let (Some(id), Some(parent)) = (element_of(id), parent_of(parent)) else {
         return Err(LineFault::Id);
     };
     let Some(ch) = only_char(text) else {
@@ -147,7 +147,7 @@ fn deletion(count: usize, value: &Value) -> Result<Op, LineFault>
     let Some(id) = id.as_array() else {
         return Err(LineFault::Kind);
     };
-    match element(id) {
+    match element_of(id) {
         Some(id) => Ok(Op::Delete { id }),
         None => Err(LineFault::Id),
     }
@@ -166,18 +166,6 @@ fn ending(members: usize, value: &Value) -> Result<u64, LineFault>
     operations.as_u64().ok_or(LineFault::Kind)
 }
 
-/// The text's only character.
-pub(crate) fn only_char(text: &str) -> Option<char>
-    ensures { result ≡ only_char (chars text.now) }
-{
-    let mut chars = text.chars();
-    let first = chars.next()?;
-    match chars.next() {
-        None => Some(first),
-        Some(_) => None,
-    }
-}
-
 fn two_numbers(items: &Vec<Value>) -> Option<(u64, u64)>
     ensures { result ≡ two_numbers (items_view items.now.items) }
 {
@@ -188,30 +176,19 @@ fn two_numbers(items: &Vec<Value>) -> Option<(u64, u64)>
 }
 
 /// The identifier of an element.
-fn element(items: &Vec<Value>) -> Option<Id>
+fn element_of(items: &Vec<Value>) -> Option<Id>
     ensures { result ≡ element_of (items_view items.now.items) }
 {
     let (counter, replica) = two_numbers(items)?;
     let replica = u16::try_from(replica).ok()?;
-    Id::new(counter, replica).ok()
+    element(counter, replica)
 }
 
 /// The identifier of an element, or the root.
-fn parent_or_root(items: &Vec<Value>) -> Option<Id>
+fn parent_of(items: &Vec<Value>) -> Option<Id>
     ensures { result ≡ parent_of (items_view items.now.items) }
 {
     let (counter, replica) = two_numbers(items)?;
     let replica = u16::try_from(replica).ok()?;
-    root_or_element(counter, replica)
-}
-
-/// The identifier that these numbers are, of an element or of the root.
-pub(crate) fn root_or_element(counter: u64, replica: u16) -> Option<Id>
-    ensures exact { result ≡ if_root_or_in_range (counter, replica) }
-    ensures ok { IfSome result (λ id. (id ≡ identifier counter replica) × (is_root id || is_in_range id.counter id.replica ≡ true)) }
-{
-    if counter == 0 && replica == 0 {
-        return Some(Id::ROOT);
-    }
-    Id::new(counter, replica).ok()
+    element_or_root(counter, replica)
 }

@@ -2,11 +2,11 @@ use Rattle.std.proofs.Common.{sym, ◌∙◌, rules}
 use Rattle.rga_lines.proofs.ReadingLemmas.{too_long, refused, accepted}
 use Rattle.rga_lines.proofs.reading.read_any.Goals as goal
 
-pub returns-then-bytes-gt-MAX_LINE-clause-says : goal.returns-then-bytes-gt-MAX_LINE-clause-says
-returns-then-bytes-gt-MAX_LINE-clause-says c = λ _. sym (too_long c.args.bytes.now c.if-bytes-gt-MAX_LINE.true)
+pub returns-then-bytes-gt-MAX_LINE-clause-exact : goal.returns-then-bytes-gt-MAX_LINE-clause-exact
+returns-then-bytes-gt-MAX_LINE-clause-exact c = λ _. sym (too_long c.args.bytes.now c.if-bytes-gt-MAX_LINE.true)
 
-pub returns-in-Ok-clause-says : goal.returns-in-Ok-clause-says
-returns-in-Ok-clause-says c = λ _. c.line_of.ensures ∙ sym (accepted c.args.bytes.now _ c.if-bytes-gt-MAX_LINE.false c.in-Ok.ensures.ok.0 c.in-Ok.ensures.ok.1)
+pub returns-in-Ok-clause-exact : goal.returns-in-Ok-clause-exact
+returns-in-Ok-clause-exact c = λ _. c.line_of.ensures ∙ sym (accepted c.args.bytes.now _ c.if-bytes-gt-MAX_LINE.false c.in-Ok.ensures.ok.0 c.in-Ok.ensures.ok.1)
 
-pub returns-else-is_memory-clause-says : goal.returns-else-is_memory-clause-says
-returns-else-is_memory-clause-says c = λ _. sym (refused c.args.bytes.now c.if-bytes-gt-MAX_LINE.false (c.in-Err.ensures.err (search rules)))
+pub returns-else-is_memory-clause-exact : goal.returns-else-is_memory-clause-exact
+returns-else-is_memory-clause-exact c = λ _. sym (refused c.args.bytes.now c.if-bytes-gt-MAX_LINE.false (c.in-Err.ensures.err (search rules)))

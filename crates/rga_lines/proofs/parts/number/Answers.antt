@@ -1,6 +1,6 @@
 use Rattle.std.proofs.Common.{rules}
-use Rattle.rga_lines.proofs.SpelledLemmas.{read_first, read_next}
-use Rattle.rga_lines.proofs.spelled.number.Goals as goal
+use Rattle.rga_lines.proofs.PartsLemmas.{read_first, read_next}
+use Rattle.rga_lines.proofs.parts.number.Goals as goal
 
 pub digits-init : goal.digits-init
 digits-init c = read_first c.args.bytes.now c.in_ok-first.field-0.now c.in_ok-value.value c.in_ok-first.ensures.item.3.0 c.in_ok-first.ensures.item.1 c.in_ok-value.ensures.0 c.in_ok-value.ensures.1

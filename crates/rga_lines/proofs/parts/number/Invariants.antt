@@ -1,6 +1,6 @@
 use Rattle.std.proofs.Common.{◌-◌, length}
-use Rattle.rga_lines.proofs.SpelledLemmas.{IsRead}
-use Rattle.rga_lines.proofs.spelled.number.Given as goal
+use Rattle.rga_lines.proofs.PartsLemmas.{IsRead}
+use Rattle.rga_lines.proofs.parts.number.Given as goal
 
 abbrev pub invariant-digits : goal.invariant-digits
 invariant-digits l = IsRead l.fn.bytes l.len l.value

@@ -1,0 +1,145 @@
+//! The parts of a line that more than one of its readers knows: literals, characters, numbers and
+//! identifiers.
+ghost use Rattle.std.specs.Prelude.{◌≡◌, ◌+◌, ◌<◌, ◌++◌, decimal, IfSome};
+ghost use Rattle.std.specs.Str.{chars};
+ghost use Rattle.rga_ops.specs.Identifier.{identifier};
+ghost use Rattle.rga_lines.specs.Spelling.{BeginsWithCharacter, IsElement, IsElementOrRoot};
+ghost use Rattle.rga_lines.specs.Table.{only_char, if_in_range, if_root_or_in_range};
+
+use rga_ops::Id;
+
+/// What stands behind the literal, with which the bytes begin.
+#[tactic(auto, using(crate::proofs::PartsLemmas::stripped))]
+pub(crate) fn after<'a>(bytes: &'a [u8], literal: &[u8]) -> Option<&'a [u8]>
+    ensures { IfSome result (λ rest. bytes.now ≡ literal.now ++ rest.now) }
+{
+    bytes.strip_prefix(literal)
+}
+
+/// The character that the bytes begin with, and what stands behind it.
+pub(crate) fn character(bytes: &[u8]) -> Option<(char, &[u8])>
+    ensures { IfSome result (λ p. BeginsWithCharacter bytes.now p.0 p.1.now) }
+{
+    let first = *bytes.first()?;
+    if first == b'\\' {
+        short_escape(bytes)
+    } else if first < 128 {
+        plain_character(bytes)
+    } else {
+        wide_character(bytes)
+    }
+}
+
+/// An ASCII character that needs no escape, and what stands behind it.
+#[tactic(auto, unfolding(crate::specs::Spelling::escaped))]
+fn plain_character(bytes: &[u8]) -> Option<(char, &[u8])>
+    ensures { IfSome result (λ p. BeginsWithCharacter bytes.now p.0 p.1.now) }
+{
+    let (first, rest) = bytes.split_first()?;
+    let first = *first;
+    if first >= b' ' && first < 128 && first != b'"' && first != b'\\' {
+        Some((char::from(first), rest))
+    } else {
+        None
+    }
+}
+
+/// A character by its escape of one letter, and what stands behind it.
+#[tactic(auto, unfolding(crate::specs::Spelling::escaped))]
+fn short_escape(bytes: &[u8]) -> Option<(char, &[u8])>
+    ensures { IfSome result (λ p. BeginsWithCharacter bytes.now p.0 p.1.now) }
+{
+    let (letter, behind) = after(bytes, b"\\")?.split_first()?;
+    let ch = match *letter {
+        b'"' => '"',
+        b'\\' => '\\',
+        b'b' => '\u{8}',
+        b'f' => '\u{c}',
+        b'n' => '\n',
+        b'r' => '\r',
+        b't' => '\t',
+        _ => return None,
+    };
+    Some((ch, behind))
+}
+
+/// A character above ASCII, and what stands behind it.
+fn wide_character(bytes: &[u8]) -> Option<(char, &[u8])>
+    ensures { IfSome result (λ p. BeginsWithCharacter bytes.now p.0 p.1.now) }
+{
+    let width = match *bytes.first()? {
+        0..=223 => 2usize,
+        224..=239 => 3,
+        _ => 4,
+    };
+    let (front, rest) = bytes.split_at_checked(width)?;
+    let Ok(text) = str::from_utf8(front) else {
+        return None;
+    };
+    let ch = only_char(text)?;
+    if u32::from(ch) < 128 {
+        None
+    } else {
+        Some((ch, rest))
+    }
+}
+
+/// The text's only character.
+pub(crate) fn only_char(text: &str) -> Option<char>
+    ensures { result ≡ only_char (chars text.now) }
+{
+    let mut chars = text.chars();
+    let first = chars.next()?;
+    match chars.next() {
+        None => Some(first),
+        Some(_) => None,
+    }
+}
+
+/// A number without leading zeros, and what stands behind it.
+pub(crate) fn number(bytes: &[u8]) -> Option<(u64, &[u8])>
+    ensures { IfSome result (λ p. bytes.now ≡ decimal p.0 ++ p.1.now) }
+{
+    let mut value = digit(*bytes.first()?)?;
+    let mut len = 1usize;
+    'digits: while len < bytes.len() {
+        let Some(next) = digit(bytes[len]) else {
+            break;
+        };
+        if value == 0 || value > Id::MAX_COUNTER {
+            return None;
+        }
+        value = 10 * value + next;
+        len += 1;
+    }
+    Some((value, &bytes[len..]))
+}
+
+fn digit(byte: u8) -> Option<u64>
+    ensures { IfSome result (λ d. (d < 10) × (byte ≡ 48 + d)) }
+{
+    if byte >= b'0' && byte <= b'9' {
+        Some(u64::from(byte - b'0'))
+    } else {
+        None
+    }
+}
+
+/// The identifier of an element that has this counter and this replica.
+pub(crate) fn element(counter: u64, replica: u16) -> Option<Id>
+    ensures exact { result ≡ if_in_range (counter, replica) }
+    ensures ok { IfSome result (λ id. (id ≡ identifier counter replica) × IsElement id) }
+{
+    Id::new(counter, replica).ok()
+}
+
+/// The identifier of an element, or the root, that has this counter and this replica.
+pub(crate) fn element_or_root(counter: u64, replica: u16) -> Option<Id>
+    ensures exact { result ≡ if_root_or_in_range (counter, replica) }
+    ensures ok { IfSome result (λ id. (id ≡ identifier counter replica) × IsElementOrRoot id) }
+{
+    if counter == 0 && replica == 0 {
+        return Some(Id::ROOT);
+    }
+    element(counter, replica)
+}
