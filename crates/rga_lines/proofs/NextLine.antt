@@ -1,4 +1,4 @@
--- What the next line is, by the place of the first newline in what waits.
+-- What the next line is, by the index of the first newline in what waits.
 use Rattle.std.proofs.Common.{◌≡◌, ℕ, ◌+◌, ◌<◌, ◌≤◌, Bool, false, List, ◌∷◌, length, take, drop, Some, None, position, refl, sym, ap, ap₂, ◌∙◌, arith, lt-ltb, le-ltb}
 use Rattle.std.proofs.lemmas.List.{length-take-le, take_all}
 use Rattle.rga_lines.specs.declared.reading.TheConstants.{MAX_LINE}
@@ -12,24 +12,24 @@ state waiting broken = record { waiting = waiting; broken = broken }
 
 -- ---- of what waits
 
-by_place : (waiting : List ℕ) (n : ℕ) → FirstLine waiting n → lines_of waiting ≡ take n waiting ∷ lines_of (drop (n + 1) waiting)
-by_place waiting n first = ap lines_of first.parts ∙ lines-line (take n waiting) (drop (n + 1) waiting) first.none
+by_index : (waiting : List ℕ) (n : ℕ) → FirstLine waiting n → lines_of waiting ≡ take n waiting ∷ lines_of (drop (n + 1) waiting)
+by_index waiting n first = ap lines_of first.parts ∙ lines-line (take n waiting) (drop (n + 1) waiting) first.none
 
-length_by_place : (waiting : List ℕ) (n : ℕ) → FirstLine waiting n → length (take n waiting) ≡ n
-length_by_place waiting n first = length-take-le n waiting (omega (arith, first.within))
+length_by_index : (waiting : List ℕ) (n : ℕ) → FirstLine waiting n → length (take n waiting) ≡ n
+length_by_index waiting n first = length-take-le n waiting (omega (arith, first.within))
 
 gives : (waiting : List ℕ) (n : ℕ) → FirstLine waiting n → n ≤ MAX_LINE → next_of (holds waiting) ≡ (gave (take n waiting), holds (drop (n + 1) waiting))
 gives waiting n first short =
-    let l = length_by_place waiting n first in
-    ap (next_of_lines waiting) (by_place waiting n first) ∙ rw (le-ltb MAX_LINE (length (take n waiting)) (omega arith)) (ap (λ (k : ℕ). let p : Answer × Splitting = (gave (take n waiting), holds (drop (k + 1) waiting)) in p) l)
+    let l = length_by_index waiting n first in
+    ap (next_of_lines waiting) (by_index waiting n first) ∙ rw (le-ltb MAX_LINE (length (take n waiting)) (omega arith)) (ap (λ (k : ℕ). let p : Answer × Splitting = (gave (take n waiting), holds (drop (k + 1) waiting)) in p) l)
 
 gives_none : (waiting : List ℕ) → position is_newline waiting ≡ None → length waiting ≤ MAX_LINE → next_of (holds waiting) ≡ (gave_none, holds waiting)
 gives_none waiting e short = ap (next_of_lines waiting) (lines-none waiting (no_first_line waiting e)) ∙ rw (le-ltb MAX_LINE (length waiting) short)
 
 gives_up : (waiting : List ℕ) (n : ℕ) → FirstLine waiting n → MAX_LINE < n → next_of (holds waiting) ≡ (failed fault.Long, gave_up)
 gives_up waiting n first long =
-    let l = length_by_place waiting n first in
-    ap (next_of_lines waiting) (by_place waiting n first) ∙ rw (lt-ltb MAX_LINE (length (take n waiting)) (omega arith))
+    let l = length_by_index waiting n first in
+    ap (next_of_lines waiting) (by_index waiting n first) ∙ rw (lt-ltb MAX_LINE (length (take n waiting)) (omega arith))
 
 gives_up_rest : (waiting : List ℕ) → position is_newline waiting ≡ None → MAX_LINE < length waiting → next_of (holds waiting) ≡ (failed fault.Long, gave_up)
 gives_up_rest waiting e long = ap (next_of_lines waiting) (lines-none waiting (no_first_line waiting e)) ∙ rw (lt-ltb MAX_LINE (length waiting) long)
@@ -56,8 +56,8 @@ none_waits s slice good waiting none short =
 pub none_before : (slice waiting : List ℕ) (n : ℕ) → Some n ≡ position is_newline slice → slice ≡ waiting → HasNoNewline (take n waiting)
 none_before slice waiting n at is = (first_line waiting n (ap (position is_newline) (sym is) ∙ sym at)).none
 
-pub place_within : (slice : List ℕ) (n : ℕ) → Some n ≡ position is_newline slice → n < length slice
-place_within slice n at = (first_line slice n (sym at)).within
+pub index_within : (slice : List ℕ) (n : ℕ) → Some n ≡ position is_newline slice → n < length slice
+index_within slice n at = (first_line slice n (sym at)).within
 
 -- all of it was searched
 pub none_among : (slice waiting : List ℕ) → None ≡ position is_newline slice → slice ≡ waiting → HasNoNewline (take (length slice) waiting)

@@ -21,6 +21,7 @@ use Rattle.serde_json.specs.Written.{compact_text, outline}
 use Rattle.serde_json.proofs.Numbers.{number_of-decimal}
 use Rattle.serde_json.proofs.OnLiterals.{serde_json_on_literals}
 use Rattle.serde_json.proofs.Texts.{print-outline}
+use Rattle.rga_ops.specs.declared.id.TheConstants.Id.{MAX_COUNTER}
 use Rattle.rga_ops.specs.Identifier.{Identifier, is_root, is_in_range}
 use Rattle.rga_ops.specs.Operation.{checked}
 use Rattle.rga_ops.specs.declared.op.Op.{Op}
@@ -51,13 +52,13 @@ read_tokens text j d e shallow back =
 -- ---- identifiers
 
 pub record InBounds (id : Identifier) : Type 0 where
-  pub counter : id.counter ≤ 9007199254740991
+  pub counter : id.counter ≤ MAX_COUNTER
   pub replica : id.replica ≤ 65535
 
 pub within : (id : Identifier) → is_in_range id.counter id.replica ≡ true → InBounds id
 within id e =
-    let p = and_parts (leb 1 id.counter && leb id.counter 9007199254740991) (leb 1 id.replica && leb id.replica 65535) e in
-    let q = and_parts (leb 1 id.counter) (leb id.counter 9007199254740991) p.0 in
+    let p = and_parts (leb 1 id.counter && leb id.counter MAX_COUNTER) (leb 1 id.replica && leb id.replica 65535) e in
+    let q = and_parts (leb 1 id.counter) (leb id.counter MAX_COUNTER) p.0 in
     let r = and_parts (leb 1 id.replica) (leb id.replica 65535) p.1 in
     record { counter = leb-true _ _ q.1; replica = leb-true _ _ r.1 }
 

@@ -12,6 +12,7 @@ use Rattle.serde_json.specs.Read.{read}
 use Rattle.serde_json.specs.Find.{get, as_str}
 use Rattle.serde_json.specs.View.{items_view}
 use Rattle.rga_ops.specs.Identifier.{Identifier, identifier, is_root, is_in_range}
+use Rattle.rga_ops.specs.declared.id.TheConstants.Id.{MAX_COUNTER}
 use Rattle.rga_ops.specs.Operation.{checked}
 use Rattle.rga_ops.specs.declared.op.Op.{Op}
 use Rattle.rga_ops.specs.declared.op.Op.TheVariants.{Insert}
@@ -87,8 +88,8 @@ IsElement None = ⊤
 
 root_is_out : (counter replica : ℕ) → is_in_range counter replica ≡ true → is_root (identifier counter replica) ≡ false
 root_is_out counter replica e =
-    let counters = and_parts (nat_le 1 counter && nat_le counter 9007199254740991) (nat_le 1 replica && nat_le replica 65535) e in
-    let least = and_parts (nat_le 1 counter) (nat_le counter 9007199254740991) counters.0 in
+    let counters = and_parts (nat_le 1 counter && nat_le counter MAX_COUNTER) (nat_le 1 replica && nat_le replica 65535) e in
+    let least = and_parts (nat_le 1 counter) (nat_le counter MAX_COUNTER) counters.0 in
     let above : 1 ≤ counter = leb-true 1 counter least.0 in
     and_left (counter == 0) (replica == 0) (ne_eqb counter 0 (λ zero. omega arith))
 

@@ -13,7 +13,7 @@ use Rattle.rga_ops.specs.Identifier.{Identifier}
 use Rattle.rga_ops.specs.declared.op.Op.{Op}
 use Rattle.rga_ops.specs.declared.op.Op.TheVariants.{Insert, Delete}
 use Rattle.rga_lines.specs.Members.{pair_data}
-use Rattle.rga_lines.specs.Spelling.{escaped, pair_text, line, end_line}
+use Rattle.rga_lines.specs.Spelling.{code_escape, escaped, pair_text, line, end_line}
 
 -- ---- the value of JSON of an operation
 
@@ -28,13 +28,13 @@ end_data operations = object (member (codes "count") (number (unsigned operation
 
 -- what holds of a short escape, of a character behind a backslash, of its four digits and of its UTF-8 holds of what is written
 pub escaped_all : (P : List ℕ → Type 0) (c : ℕ) → P (codes "\\b") → P (codes "\\t") → P (codes "\\n") → P (codes "\\f") → P (codes "\\r")
-    → P (92 ∷ c ∷ []) → P (codes "\\u00" ++ digit_char (c / 16) ∷ digit_char (c % 16) ∷ []) → P (encode_utf8 c) → P (escaped c)
+    → P (92 ∷ c ∷ []) → P (code_escape c) → P (encode_utf8 c) → P (escaped c)
 unfolding escaped
 escaped_all P c back tab line feed return behind digits plain =
     choose (eqb c 34 || eqb c 92) (eqb c 8) (eqb c 9) (eqb c 10) (eqb c 12) (eqb c 13) (ltb c 32)
   where
     choose : (m n o p q r s : Bool)
-        → P (cond m (92 ∷ c ∷ []) (cond n (codes "\\b") (cond o (codes "\\t") (cond p (codes "\\n") (cond q (codes "\\f") (cond r (codes "\\r") (cond s (codes "\\u00" ++ digit_char (c / 16) ∷ digit_char (c % 16) ∷ []) (encode_utf8 c))))))))
+        → P (cond m (92 ∷ c ∷ []) (cond n (codes "\\b") (cond o (codes "\\t") (cond p (codes "\\n") (cond q (codes "\\f") (cond r (codes "\\r") (cond s (code_escape c) (encode_utf8 c))))))))
     choose true n o p q r s = behind
     choose false true o p q r s = back
     choose false false true p q r s = tab

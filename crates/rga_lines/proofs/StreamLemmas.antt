@@ -101,34 +101,34 @@ rest-append_ended bytes more = ap rest_of (whole_more bytes more) ∙ rest-ended
 abbrev pub is_newline : ℕ → Bool
 is_newline b = b == newline
 
--- the first line, by the place where its newline stands
+-- the first line, by the index of its newline
 pub record FirstLine (bytes : List ℕ) (n : ℕ) : Type 0 where
   pub within : n < length bytes
   pub none : HasNoNewline (take n bytes)
   pub parts : bytes ≡ take n bytes ++ newline ∷ drop (n + 1) bytes
 
-abbrev place : List ℕ → ℕ
-place bytes = position_or_len is_newline bytes
+abbrev newline_index : List ℕ → ℕ
+newline_index bytes = position_or_len is_newline bytes
 
-none_before : (bytes : List ℕ) → HasNoNewline (take (place bytes) bytes)
-none_before bytes = All-from_get_or IsOther (take (place bytes) bytes) 0 other
+none_before : (bytes : List ℕ) → HasNoNewline (take (newline_index bytes) bytes)
+none_before bytes = All-from_get_or IsOther (take (newline_index bytes) bytes) 0 other
   where
-    other : (k : ℕ) → k < length (take (place bytes) bytes) → get_or (take (place bytes) bytes) k 0 ≢ newline
+    other : (k : ℕ) → k < length (take (newline_index bytes) bytes) → get_or (take (newline_index bytes) bytes) k 0 ≢ newline
     other k h e =
-        let before : k < place bytes = omega (arith, length-take (place bytes) bytes, h) in
-        eqb-false (get_or bytes k 0) newline (fails_before_first is_newline bytes k 0 before) (sym (get_or-take (place bytes) bytes k 0 before) ∙ e)
+        let before : k < newline_index bytes = omega (arith, length-take (newline_index bytes) bytes, h) in
+        eqb-false (get_or bytes k 0) newline (fails_before_first is_newline bytes k 0 before) (sym (get_or-take (newline_index bytes) bytes k 0 before) ∙ e)
 
-line_at_place : (bytes : List ℕ) → place bytes < length bytes → FirstLine bytes (place bytes)
-line_at_place bytes within = record {
+line_at_index : (bytes : List ℕ) → newline_index bytes < length bytes → FirstLine bytes (newline_index bytes)
+line_at_index bytes within = record {
   within = within;
   none = none_before bytes;
-  parts = split_at_first is_newline bytes 0 within ∙ ap (λ (b : ℕ). take (place bytes) bytes ++ b ∷ drop (place bytes + 1) bytes) (eqb-true (get_or bytes (place bytes) 0) newline (passes_at_first is_newline bytes 0 within));
+  parts = split_at_first is_newline bytes 0 within ∙ ap (λ (b : ℕ). take (newline_index bytes) bytes ++ b ∷ drop (newline_index bytes + 1) bytes) (eqb-true (get_or bytes (newline_index bytes) 0) newline (passes_at_first is_newline bytes 0 within));
 }
 
 pub first_line : (bytes : List ℕ) (n : ℕ) → position is_newline bytes ≡ Some n → FirstLine bytes n
 first_line bytes n e =
-    let found = cond_some (ltb (place bytes) (length bytes)) (place bytes) n e in
-    subst (FirstLine bytes) found.1 (line_at_place bytes (ltb-true (place bytes) (length bytes) found.0))
+    let found = cond_some (ltb (newline_index bytes) (length bytes)) (newline_index bytes) n e in
+    subst (FirstLine bytes) found.1 (line_at_index bytes (ltb-true (newline_index bytes) (length bytes) found.0))
 
 none_within : (within : Bool) (n : ℕ) → cond within (Some n) None ≡ None → within ≡ false
 none_within true n e = absurd cc
@@ -136,23 +136,23 @@ none_within false n e = refl
 
 pub no_first_line : (bytes : List ℕ) → position is_newline bytes ≡ None → HasNoNewline bytes
 no_first_line bytes e =
-    let past : length bytes ≤ place bytes = ltb-false (place bytes) (length bytes) (none_within (ltb (place bytes) (length bytes)) (place bytes) e) in
+    let past : length bytes ≤ newline_index bytes = ltb-false (newline_index bytes) (length bytes) (none_within (ltb (newline_index bytes) (length bytes)) (newline_index bytes) e) in
     λ k d h. eqb-false (get_or bytes k d) newline (fails_before_first is_newline bytes k d (omega arith))
 
 pub position_is : (bytes : List ℕ) (found : Option ℕ) → IsFirstByte (is_byte newline) bytes found → found ≡ position is_newline bytes
 position_is bytes None nowhere =
-    let end : place bytes ≡ length bytes = position_or_len_is is_newline bytes (length bytes) 0 (omega arith) (λ k h. false_from_ne_true _ (nowhere k (omega arith) h)) (λ h. absurd (omega arith)) in
-    rw (le-ltb (place bytes) (length bytes) (omega arith))
+    let end : newline_index bytes ≡ length bytes = position_or_len_is is_newline bytes (length bytes) 0 (omega arith) (λ k h. false_from_ne_true _ (nowhere k (omega arith) h)) (λ h. absurd (omega arith)) in
+    rw (le-ltb (newline_index bytes) (length bytes) (omega arith))
 position_is bytes (Some n) first =
-    let at : place bytes ≡ n = position_or_len_is is_newline bytes n 0 (omega (arith, first.0.high)) (λ k h. false_from_ne_true _ (first.0.before k (omega arith) h)) (λ _. first.1) in
-    rw (lt-ltb (place bytes) (length bytes) (omega (arith, first.0.high))) (ap Some (sym at))
+    let at : newline_index bytes ≡ n = position_or_len_is is_newline bytes n 0 (omega (arith, first.0.high)) (λ k h. false_from_ne_true _ (first.0.before k (omega arith) h)) (λ _. first.1) in
+    rw (lt-ltb (newline_index bytes) (length bytes) (omega (arith, first.0.high))) (ap Some (sym at))
 
 -- ---- the first newline behind bytes that have none
 
 other_before : (n : ℕ) (bytes : List ℕ) → HasNoNewline (take n bytes) → (k : ℕ) → k < n → k < length bytes → get_or bytes k 0 ≢ newline
 other_before n bytes none k before within e = none k 0 (omega (arith, length-take n bytes)) (get_or-take n bytes k 0 before ∙ e)
 
-fails_before : (n : ℕ) (bytes : List ℕ) → n ≤ length bytes → HasNoNewline (take n bytes) → (k : ℕ) → k < n + place (drop n bytes) → is_newline (get_or bytes k 0) ≡ false
+fails_before : (n : ℕ) (bytes : List ℕ) → n ≤ length bytes → HasNoNewline (take n bytes) → (k : ℕ) → k < n + newline_index (drop n bytes) → is_newline (get_or bytes k 0) ≡ false
 fails_before n bytes within none k h =
     elim (cases_lt k n) [
       | inl before ↦ ne_eqb (get_or bytes k 0) newline (other_before n bytes none k before (omega arith))
@@ -162,22 +162,22 @@ fails_before n bytes within none k h =
           rw (← at) (fails_before_first is_newline (drop n bytes) (k - n) 0 (omega arith))
     ]
 
-place-past : (n : ℕ) (bytes : List ℕ) → n ≤ length bytes → HasNoNewline (take n bytes) → place bytes ≡ n + place (drop n bytes)
-place-past n bytes within none =
+newline_index-past : (n : ℕ) (bytes : List ℕ) → n ≤ length bytes → HasNoNewline (take n bytes) → newline_index bytes ≡ n + newline_index (drop n bytes)
+newline_index-past n bytes within none =
     let most = prefix_len-le-length (λ b. not (is_newline b)) (drop n bytes) in
-    position_or_len_is is_newline bytes (n + place (drop n bytes)) 0 (omega (arith, most, length-drop n bytes)) (fails_before n bytes within none)
-    (λ inside. rw (← get_or-drop n bytes (place (drop n bytes)) 0) (passes_at_first is_newline (drop n bytes) 0 (omega (arith, length-drop n bytes))))
+    position_or_len_is is_newline bytes (n + newline_index (drop n bytes)) 0 (omega (arith, most, length-drop n bytes)) (fails_before n bytes within none)
+    (λ inside. rw (← get_or-drop n bytes (newline_index (drop n bytes)) 0) (passes_at_first is_newline (drop n bytes) 0 (omega (arith, length-drop n bytes))))
 
 pub position-past : (n : ℕ) (bytes : List ℕ) (k : ℕ) → n ≤ length bytes → HasNoNewline (take n bytes) → Some k ≡ position is_newline (drop n bytes) → Some (n + k) ≡ position is_newline bytes
 position-past n bytes k within none e =
-    let found = cond_some (ltb (place (drop n bytes)) (length (drop n bytes))) (place (drop n bytes)) k (sym e) in
-    let inside = ltb-true (place (drop n bytes)) (length (drop n bytes)) found.0 in
-    let same : place bytes ≡ n + k = place-past n bytes within none ∙ ap (λ (i : ℕ). n + i) found.1 in
-    let below : place bytes < length bytes = omega (arith, place-past n bytes within none, length-drop n bytes) in
-    rw (lt-ltb (place bytes) (length bytes) below) (ap Some (sym same))
+    let found = cond_some (ltb (newline_index (drop n bytes)) (length (drop n bytes))) (newline_index (drop n bytes)) k (sym e) in
+    let inside = ltb-true (newline_index (drop n bytes)) (length (drop n bytes)) found.0 in
+    let same : newline_index bytes ≡ n + k = newline_index-past n bytes within none ∙ ap (λ (i : ℕ). n + i) found.1 in
+    let below : newline_index bytes < length bytes = omega (arith, newline_index-past n bytes within none, length-drop n bytes) in
+    rw (lt-ltb (newline_index bytes) (length bytes) below) (ap Some (sym same))
 
 pub position-past_none : (n : ℕ) (bytes : List ℕ) → n ≤ length bytes → HasNoNewline (take n bytes) → None ≡ position is_newline (drop n bytes) → None ≡ position is_newline bytes
 position-past_none n bytes within none e =
-    let outside = ltb-false (place (drop n bytes)) (length (drop n bytes)) (none_within (ltb (place (drop n bytes)) (length (drop n bytes))) (place (drop n bytes)) (sym e)) in
-    let above : length bytes ≤ place bytes = omega (arith, place-past n bytes within none, length-drop n bytes) in
-    rw (le-ltb (place bytes) (length bytes) above)
+    let outside = ltb-false (newline_index (drop n bytes)) (length (drop n bytes)) (none_within (ltb (newline_index (drop n bytes)) (length (drop n bytes))) (newline_index (drop n bytes)) (sym e)) in
+    let above : length bytes ≤ newline_index bytes = omega (arith, newline_index-past n bytes within none, length-drop n bytes) in
+    rw (le-ltb (newline_index bytes) (length bytes) above)

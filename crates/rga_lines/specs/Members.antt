@@ -1,9 +1,9 @@
--- The members of an operation's line in any order: as lexemes, between which any blanks may stand, and as a value.
+-- The members of an operation's line in any order: as lexemes, with any blanks between, and as a value.
 use Rattle.std.specs.Prelude.{◌≡◌, ℕ, ◌+◌, ◌<◌, List, [], ◌∷◌, ◌++◌, codes, decimal, Option, Some, None, option_map, IfSome}
 use Rattle.std.specs.Char.{digit_value, encode_utf8, IsScalar}
 use Rattle.json.specs.Text.{content, plain, prepend}
 use Rattle.json.specs.Token.{begin_array, end_array, end_object, string, number}
-use Rattle.json.specs.Lex.{Lexeme, token, comma, colon, between, in_string, lex}
+use Rattle.json.specs.Lex.{Lexeme, token, comma, colon, operator_lexeme, between, in_string, lex}
 use Rattle.serde_json.specs.Data as json
 use Rattle.serde_json.specs.Data.{Data, Members, put}
 use Rattle.serde_json.specs.Events.{members_len}
@@ -29,7 +29,11 @@ name (Op kind) = codes "op"
 name (Parent id) = codes "parent"
 
 abbrev pub pair_data : Identifier → Data
-pair_data id = json.array (json.item (json.number (json.unsigned id.counter)) (json.item (json.number (json.unsigned id.replica)) json.no_items))
+pair_data id =
+    json.array
+    (json.item (json.number (json.unsigned id.counter))
+    (json.item (json.number (json.unsigned id.replica))
+    json.no_items))
 
 abbrev pub char_data : ℕ → Data
 char_data ch = json.string (encode_utf8 ch)
@@ -54,6 +58,9 @@ AreSound [] = Unit {0}
 AreSound (m ∷ ms) = IsSound m × AreSound ms
 
 -- ---- lexemes
+
+abbrev pub operator_lexemes : ℕ → List Lexeme
+operator_lexemes operator = operator_lexeme operator ∷ []
 
 abbrev pub text_lexemes : List ℕ → List Lexeme
 text_lexemes text = token (string text) ∷ []

@@ -1,10 +1,14 @@
--- How an operation, or the end of an exchange, is spelled as a line where nothing is left open: no blanks, and the
--- members by their names.
+-- How an operation, or the end of an exchange, is spelled where nothing is left open: no blanks, and the members by
+-- their names.
 use Rattle.std.specs.Prelude.{◌≡◌, ℕ, ◌/◌, ◌%◌, true, List, [], ◌∷◌, ◌++◌, ◌||◌, ◌==◌, nat_lt, if◌then◌else◌, codes, decimal}
 use Rattle.std.specs.Char.{digit_char, encode_utf8, IsScalar}
 use Rattle.rga_ops.specs.Identifier.{Identifier, is_root, is_in_range}
 use Rattle.rga_ops.specs.declared.op.Op.{Op}
 use Rattle.rga_ops.specs.declared.op.Op.TheVariants.{Insert, Delete}
+
+-- a character below a space by four hexadecimal digits
+abbrev pub code_escape : ℕ → List ℕ
+code_escape c = codes "\\u00" ++ digit_char (c / 16) ∷ digit_char (c % 16) ∷ []
 
 -- What stands between the quotes for a character: a short escape, four hexadecimal digits below a space, and else the
 -- character in UTF-8.
@@ -16,7 +20,7 @@ escaped c =
     else (if c == 10 then codes "\\n"
     else (if c == 12 then codes "\\f"
     else (if c == 13 then codes "\\r"
-    else (if nat_lt c 32 then codes "\\u00" ++ digit_char (c / 16) ∷ digit_char (c % 16) ∷ []
+    else (if nat_lt c 32 then code_escape c
     else encode_utf8 c))))))
 
 -- the bytes begin with a character as it stands between quotes, and then the rest

@@ -24,12 +24,14 @@ to_rest b (line ∷ lines) rest = rest
 -- the greatest parts without a newline that a newline ends, in order
 abbrev pub lines_of : List ℕ → List (List ℕ)
 lines_of [] = []
-lines_of (b ∷ bytes) = if b == newline then [] ∷ lines_of bytes else to_first_line b (lines_of bytes)
+lines_of (b ∷ bytes) =
+    if b == newline then [] ∷ lines_of bytes else to_first_line b (lines_of bytes)
 
 -- what follows the last newline
 abbrev pub rest_of : List ℕ → List ℕ
 rest_of [] = []
-rest_of (b ∷ bytes) = if b == newline then rest_of bytes else to_rest b (lines_of bytes) (rest_of bytes)
+rest_of (b ∷ bytes) =
+    if b == newline then rest_of bytes else to_rest b (lines_of bytes) (rest_of bytes)
 
 abbrev pub HasNoNewline : List ℕ → Type 0
 HasNoNewline bytes = All (λ b. b ≢ newline) bytes
@@ -59,10 +61,14 @@ pub record Splitting : Type 0 where
 
 -- a splitting is stored as the pair of its fields
 abbrev pub splitting_code : Coded Splitting
-splitting_code = code_by (List ℕ × Bool) (coded× (coded_list coded_ℕ) coded_bool) (λ s. (s.waiting, s.broken)) (λ p. record { waiting = p.0; broken = p.1 }) (λ _. refl)
+splitting_code =
+    code_by (List ℕ × Bool) (coded× (coded_list coded_ℕ) coded_bool)
+    (λ s. (s.waiting, s.broken))
+    (λ p. record { waiting = p.0; broken = p.1 })
+    (λ _. refl)
 
--- what a splitter keeps true of its buffer, of its length, of the place before which all was given, and of how many
--- bytes behind that place were searched
+-- what a splitter keeps true of its buffer, of its length, of the index before which all was given, and of how many
+-- bytes from there were searched
 pub record IsKept (buffer : List ℕ) (len start searched : ℕ) (broken : Bool) : Type 0 where
   pub within : start + searched ≤ len
   pub none : HasNoNewline (take searched (drop start buffer))
@@ -84,14 +90,18 @@ Answer = Result (Option (List ℕ)) LineFault
 
 -- by the lines of what waits: all of it is the rest where there is none
 abbrev pub next_of_lines : List ℕ → List (List ℕ) → Answer × Splitting
-next_of_lines waiting [] = if nat_lt MAX_LINE (length waiting) then (Err fault.Long, gave_up) else (Ok None, holds waiting)
-next_of_lines waiting (line ∷ lines) = if nat_lt MAX_LINE (length line) then (Err fault.Long, gave_up) else (Ok (Some line), holds (drop (length line + 1) waiting))
+next_of_lines waiting [] =
+    if nat_lt MAX_LINE (length waiting) then (Err fault.Long, gave_up)
+    else (Ok None, holds waiting)
+next_of_lines waiting (line ∷ lines) =
+    if nat_lt MAX_LINE (length line) then (Err fault.Long, gave_up)
+    else (Ok (Some line), holds (drop (length line + 1) waiting))
 
 -- what the next line is, and what is left
 abbrev pub next_of : Splitting → Answer × Splitting
 next_of s = if s.broken then (Err fault.Long, s) else next_of_lines s.waiting (lines_of s.waiting)
 
--- the next line is what waits before this place, and what waits behind it is left
+-- the next line is what waits before this index, and what waits behind it is left
 pub record EndsNextLine (s : Splitting) (end : ℕ) : Type 0 where
   pub within : end < length s.waiting
   pub next : next_of s ≡ (Ok (Some (take end s.waiting)), holds (drop (end + 1) s.waiting))

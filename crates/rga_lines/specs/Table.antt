@@ -65,7 +65,8 @@ abbrev pub if_in_range : ℕ × ℕ → Option Identifier
 if_in_range p = if is_in_range p.0 p.1 then Some (identifier p.0 p.1) else None
 
 abbrev pub if_root_or_in_range : ℕ × ℕ → Option Identifier
-if_root_or_in_range p = if is_root (identifier p.0 p.1) || is_in_range p.0 p.1 then Some (identifier p.0 p.1) else None
+if_root_or_in_range p =
+    if is_root (identifier p.0 p.1) || is_in_range p.0 p.1 then Some (identifier p.0 p.1) else None
 
 -- the identifier of an element
 abbrev pub element_of : Items → Option Identifier
@@ -78,7 +79,8 @@ parent_of ds = option_and_then if_root_or_in_range (two_numbers ds)
 -- ---- an insertion
 
 abbrev pub with_order : Identifier → Identifier → ℕ → Reading
-with_order id parent ch = if nat_le id.counter parent.counter then Err fault.Order else Ok (Insert id parent ch)
+with_order id parent ch =
+    if nat_le id.counter parent.counter then Err fault.Order else Ok (Insert id parent ch)
 
 abbrev pub only_char : List ℕ → Option ℕ
 only_char [] = None
@@ -94,13 +96,15 @@ with_identifiers (Some id) (Some parent) text = with_char id parent (only_char (
 with_identifiers _ _ text = Err fault.Id
 
 abbrev pub with_types : Option (List ℕ) → Option Items → Option Items → Reading
-with_types (Some text) (Some id) (Some parent) = with_identifiers (element_of id) (parent_of parent) text
+with_types (Some text) (Some id) (Some parent) =
+    with_identifiers (element_of id) (parent_of parent) text
 with_types _ _ _ = Err fault.Kind
 
 -- The members are these four: there are four, and each of the other three is there.
 abbrev pub insertion : ℕ → Data → Reading
-insertion count d = if (count == 4) && (has (codes "char") d && (has (codes "id") d && has (codes "parent") d))
-    then with_types (text_at (codes "char") d) (array_at (codes "id") d) (array_at (codes "parent") d)
+insertion count d =
+    if (count == 4) && (has (codes "char") d && (has (codes "id") d && has (codes "parent") d)) then
+    with_types (text_at (codes "char") d) (array_at (codes "id") d) (array_at (codes "parent") d)
     else Err fault.Member
 
 -- ---- a deletion
@@ -114,13 +118,17 @@ with_type (Some id) = with_identifier (element_of id)
 with_type None = Err fault.Kind
 
 abbrev pub deletion : ℕ → Data → Reading
-deletion count d = if (count == 2) && has (codes "id") d then with_type (array_at (codes "id") d) else Err fault.Member
+deletion count d =
+    if (count == 2) && has (codes "id") d then with_type (array_at (codes "id") d)
+    else Err fault.Member
 
 -- ---- the end of an exchange
 
 -- how many operations the exchange had
 abbrev pub ending : ℕ → Data → Result ℕ LineFault
-ending count d = if (count == 2) && has (codes "count") d then ok_or (number_at (codes "count") d) fault.Kind else Err fault.Member
+ending count d =
+    if (count == 2) && has (codes "count") d then ok_or (number_at (codes "count") d) fault.Kind
+    else Err fault.Member
 
 -- ---- the whole
 
@@ -163,7 +171,9 @@ text_line false d = Err fault.Json
 
 -- what the bytes of a line say, its newline left out
 unfoldable pub any_line_at : List ℕ → AnyReading
-any_line_at bytes = if nat_lt MAX_LINE (length bytes) then Err fault.Long else text_line (is_utf8 bytes) (read bytes)
+any_line_at bytes =
+    if nat_lt MAX_LINE (length bytes) then Err fault.Long
+    else text_line (is_utf8 bytes) (read bytes)
 
 -- where operations alone may stand, the end of an exchange is a line of another kind
 abbrev pub operation_alone : AnyReading → Reading

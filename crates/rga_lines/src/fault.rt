@@ -11,7 +11,7 @@ use std::alloc::AllocError;
 /// `Char`; `Order`. Want of memory comes last: it is answered only where a growth was refused.
 #[derive(Clone, Copy, Debug, PartialEq, Eq)]
 pub enum LineFault {
-    /// More than 65536 bytes.
+    /// More than `MAX_LINE` bytes.
     Long,
     /// Not UTF-8, or no JSON value: an empty line too.
     Json,

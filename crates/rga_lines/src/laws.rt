@@ -2,36 +2,42 @@
 //! nothing.
 ghost use Rattle.std.specs.Prelude.{◌≡◌, ℕ, ◌<◌, ◌^◌, ◌++◌, [], List, true, false, Ok, Err};
 ghost use Rattle.rga_ops.specs.Operation.{checked};
-ghost use Rattle.rga_ops.specs.declared.op.Op.{Op as SpecOp};
+ghost use Rattle.rga_ops.specs.declared.op.Op.{Op};
 ghost use Rattle.rga_lines.specs.Table.{any_line_at, line_at};
 ghost use Rattle.rga_lines.specs.Spelling.{line, end_line, IsWritable};
-ghost use Rattle.rga_lines.specs.Stream.{HasNoNewline, lines_of, rest_of, IsCut, BeginsLong, holds, Call, after_calls, lines_given, bytes_fed};
+ghost use Rattle.rga_lines.specs.Stream.{HasNoNewline, lines_of, rest_of, IsCut, BeginsLong};
+ghost use Rattle.rga_lines.specs.Stream.{Call, holds, after_calls, lines_given, bytes_fed};
 ghost use Rattle.rga_lines.specs.declared.reading.Line.TheVariants.{One, Last};
 ghost use Rattle.rga_lines.specs.declared.fault.LineFault.TheVariants.{Kind};
 
 /// The operation that a line says is well-formed, where the line may also be the end of an
 /// exchange and where it may not.
 pub fn read_operations_are_well_formed()
-    ensures any { (bytes : List ℕ) (op : SpecOp) → any_line_at bytes ≡ Ok (One op) → checked op ≡ Ok tt }
-    ensures operation { (bytes : List ℕ) (op : SpecOp) → line_at bytes ≡ Ok op → checked op ≡ Ok tt }
+    ensures any { (bytes : List ℕ) (op : Op)
+        → any_line_at bytes ≡ Ok (One op) → checked op ≡ Ok tt }
+    ensures operation { (bytes : List ℕ) (op : Op) → line_at bytes ≡ Ok op → checked op ≡ Ok tt }
 {}
 
 /// The line of a well-formed operation says that operation.
 pub fn written_lines_read_back()
-    ensures any { (op : SpecOp) → IsWritable op → checked op ≡ Ok tt → any_line_at (line op) ≡ Ok (One op) }
-    ensures operation { (op : SpecOp) → IsWritable op → checked op ≡ Ok tt → line_at (line op) ≡ Ok op }
+    ensures any { (op : Op) → IsWritable op → checked op ≡ Ok tt
+        → any_line_at (line op) ≡ Ok (One op) }
+    ensures operation { (op : Op) → IsWritable op → checked op ≡ Ok tt
+        → line_at (line op) ≡ Ok op }
 {}
 
 /// The line that ends an exchange of so many operations says their number. Where operations alone
 /// may stand it is a line of another kind.
 pub fn written_ends_read_back()
-    ensures any { (operations : ℕ) → operations < 2 ^ 64 → any_line_at (end_line operations) ≡ Ok (Last operations) }
-    ensures operation { (operations : ℕ) → operations < 2 ^ 64 → line_at (end_line operations) ≡ Err Kind }
+    ensures any { (operations : ℕ) → operations < 2 ^ 64
+        → any_line_at (end_line operations) ≡ Ok (Last operations) }
+    ensures operation { (operations : ℕ) → operations < 2 ^ 64
+        → line_at (end_line operations) ≡ Err Kind }
 {}
 
 /// No line that is written has a newline in it, so each is one line of a stream.
 pub fn written_lines_have_no_newline()
-    ensures operation { (op : SpecOp) → IsWritable op → HasNoNewline (line op) }
+    ensures operation { (op : Op) → IsWritable op → HasNoNewline (line op) }
     ensures end { (operations : ℕ) → operations < 2 ^ 64 → HasNoNewline (end_line operations) }
 {}
 
@@ -44,7 +50,7 @@ pub fn a_stream_has_one_cut()
 
 /// The lines that a splitter gives, and what waits in it then, are those of all that it was fed,
 /// in whatever pieces and between whatever calls. Where it gave up, the lines before are those of
-/// the stream, and the next one has more than 65536 bytes, or the rest where there is none.
+/// the stream, and the next one has more than `MAX_LINE` bytes, or the rest where there is none.
 pub fn lines_do_not_depend_on_the_cutting()
     ensures whole { (calls : List Call) → let end = after_calls (holds []) calls in
         end.broken ≡ false

@@ -1,11 +1,12 @@
 //! The lexemes of JSON that bytes begin with, blanks before them aside, and what stands behind.
-ghost use Rattle.std.specs.Prelude.{◌≡◌, [], ◌∷◌, true, IfSome};
+ghost use Rattle.std.specs.Prelude.{◌≡◌, true, IfSome};
 ghost use Rattle.std.specs.Bool.{OnTrue};
 ghost use Rattle.json.specs.Word.{is_operator, is_space, ends_word};
-ghost use Rattle.json.specs.Lex.{between, lex, operator_lexeme};
+ghost use Rattle.json.specs.Lex.{between, lex};
 ghost use Rattle.json.specs.Print.{escape};
-ghost use Rattle.rga_lines.specs.Members.{text_lexemes, name_lexemes, number_lexemes};
-ghost use Rattle.rga_lines.specs.Members.{BeginsWith, BeginsWithChar, BeginsWithEscape, BeginsWithHexDigit};
+ghost use Rattle.rga_lines.specs.Members.{operator_lexemes, text_lexemes, name_lexemes};
+ghost use Rattle.rga_lines.specs.Members.{number_lexemes, BeginsWith, BeginsWithChar};
+ghost use Rattle.rga_lines.specs.Members.{BeginsWithEscape, BeginsWithHexDigit};
 
 use crate::parts;
 use crate::parts::{after, character};
@@ -33,7 +34,7 @@ fn is_blank(byte: u8) -> bool
 /// What stands behind a bracket, a comma or a colon.
 pub(crate) fn after_operator(bytes: &[u8], operator: u8) -> Option<&[u8]>
     requires { is_operator operator ≡ true }
-    ensures { IfSome result (λ rest. BeginsWith bytes.now (operator_lexeme operator ∷ []) rest.now) }
+    ensures { IfSome result (λ rest. BeginsWith bytes.now (operator_lexemes operator) rest.now) }
 {
     let (first, rest) = after_blanks(bytes).split_first()?;
     if *first == operator { Some(rest) } else { None }

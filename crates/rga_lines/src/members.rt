@@ -5,7 +5,8 @@ ghost use Rattle.serde_json.specs.Data.{Members, object, no_members};
 ghost use Rattle.rga_ops.specs.Identifier.{identifier};
 ghost use Rattle.rga_ops.specs.Operation.{checked};
 ghost use Rattle.rga_lines.specs.Members.{name_of_kind, text_lexemes, pair_lexemes, with_member};
-ghost use Rattle.rga_lines.specs.Members.{BeginsWith, BeginsWithMember, IsSound, Holds, ListsMembers};
+ghost use Rattle.rga_lines.specs.Members.{BeginsWith, BeginsWithMember, ListsMembers};
+ghost use Rattle.rga_lines.specs.Members.{IsSound, Holds};
 ghost use Rattle.rga_lines.specs.Table.{value_line, any_line_at};
 ghost use Rattle.rga_lines.specs.declared.reading.Line.TheVariants.{One};
 ghost use Rattle.rga_lines.specs.declared.reading.TheConstants.{MAX_LINE};
@@ -114,7 +115,8 @@ fn kind_of(bytes: &[u8]) -> Option<(Kind, &[u8])>
 
 /// Two numbers between brackets, and what stands behind them.
 fn pair(bytes: &[u8]) -> Option<(u64, u16, &[u8])>
-    ensures { IfSome result (λ p. BeginsWith bytes.now (pair_lexemes (identifier p.0 p.1)) p.2.now) }
+    ensures { IfSome result (λ p.
+        BeginsWith bytes.now (pair_lexemes (identifier p.0 p.1)) p.2.now) }
 {
     let (counter, rest) = number(after_operator(bytes, b'[')?)?;
     let (replica, rest) = number(after_operator(rest, b',')?)?;

@@ -2,7 +2,8 @@
 ghost use Rattle.std.specs.Prelude.{◌≡◌, ◌≢◌, ◌<◌, length, Err};
 ghost use Rattle.serde_json.specs.View.{view, items_view};
 ghost use Rattle.rga_lines.specs.Table.{count_of, two_numbers, element_of, parent_of};
-ghost use Rattle.rga_lines.specs.Table.{insertion, deletion, ending, value_line, any_line_at, line_at};
+ghost use Rattle.rga_lines.specs.Table.{insertion, deletion, ending};
+ghost use Rattle.rga_lines.specs.Table.{value_line, any_line_at, line_at};
 ghost use Rattle.rga_lines.specs.declared.fault.LineFault.TheVariants.{Memory, Long};
 
 use crate::fault::LineFault;

@@ -1,6 +1,9 @@
 //! Streams cut into lines.
-ghost use Rattle.std.specs.Prelude.{◌≡◌, ◌≢◌, ◌==◌, ◌≤◌, [], true, ◌+◌, ◌<◌, Ok, Err, Some, None, MatchOption, option_map, position, vec_items, vec_len, length, take, drop, IsOk, IfOk, IfErr, OnOk};
-ghost use Rattle.rga_lines.specs.Stream.{Splitting, splitting_code, IsKept, HasNoNewline, EndsNextLine, holds, newline, fed, next_of};
+ghost use Rattle.std.specs.Prelude.{◌≡◌, ◌≢◌, ◌==◌, ◌≤◌, ◌<◌, ◌+◌, [], true, Ok, Err, Some, None};
+ghost use Rattle.std.specs.Prelude.{IsOk, IfOk, IfErr, OnOk, OnErr, MatchOption, option_map};
+ghost use Rattle.std.specs.Prelude.{vec_items, vec_len, length, take, drop, position};
+ghost use Rattle.rga_lines.specs.Stream.{Splitting, splitting_code, IsKept, HasNoNewline};
+ghost use Rattle.rga_lines.specs.Stream.{EndsNextLine, holds, newline, fed, next_of};
 ghost use Rattle.rga_lines.specs.declared.fault.LineFault.TheVariants.{Long, Memory};
 
 use crate::fault::LineFault;
@@ -14,10 +17,11 @@ use std::marker::Model;
 #[derive(Drop)]
 pub struct Splitter {
     buffer: Vec<u8>,
-    // The bytes of the buffer before this place were given.
+    /// The bytes of the buffer before this index were given.
     start: usize,
-    // So many of the waiting bytes are known to be no newline: they are not searched again.
+    /// So many of the waiting bytes are known to be no newline: they are not searched again.
     searched: usize,
+    /// A line was too long.
     broken: bool,
 }
 
@@ -44,11 +48,12 @@ impl Splitter {
         }
     }
 
-    /// Takes the next piece of the stream. `Memory` alone, and then nothing changed. After a line
-    /// that was too long it takes nothing in, and is `Ok`.
+    /// Adds the next piece of the stream. `Memory` alone, and then nothing changed. After a line
+    /// that was too long it adds nothing, and is `Ok`.
     pub fn feed(&mut self, piece: &[u8]) -> Result<(), LineFault>
         ensures ok { OnOk result (self.new ≡ fed piece.now self.old) }
-        ensures err { IfErr result (λ e. (e ≡ Memory) × (self.new ≡ self.old)) }
+        ensures memory { IfErr result (λ e. e ≡ Memory) }
+        ensures same { OnErr result (self.new ≡ self.old) }
         ensures broken { self.old.broken ≡ true → IsOk result }
     {
         if self.broken {
@@ -80,13 +85,13 @@ impl Splitter {
 
     /// The next whole line, without its newline; `None` where no whole line is left.
     ///
-    /// `Long` where that line, or the rest if no whole line is left, has more than 65536 bytes,
-    /// and at each later call. `Memory`, and then nothing changed: only where there is a line to
-    /// give.
+    /// `Long` where that line, or the rest if no whole line is left, has more than `MAX_LINE`
+    /// bytes, and at each later call. `Memory`, and then nothing changed: only where there is a
+    /// line to give.
     pub fn next_line(&mut self) -> Result<Option<Vec<u8>>, LineFault>
         ensures ok { IfOk result (λ o. next_of self.old ≡ (Ok (option_map vec_items o), self.new)) }
         ensures err { IfErr result (λ e. e ≢ Memory → next_of self.old ≡ (Err e, self.new)) }
-        ensures memory { result ≡ Err Memory → self.new ≡ self.old }
+        ensures same { result ≡ Err Memory → self.new ≡ self.old }
 
         // Neither of these takes memory.
         ensures long { (next_of self.old).0 ≡ Err Long → result ≡ Err Long }
@@ -166,12 +171,12 @@ impl Splitter {
     }
 }
 
-/// The place of the first newline, which is not among the bytes that were searched.
+/// The index of the first newline, which is not among the bytes that were searched.
 fn first_newline(bytes: &[u8], searched: usize) -> Option<usize>
     requires within { searched ≤ length bytes.now }
     requires none { HasNoNewline (take searched bytes.now) }
     ensures { result ≡ position (λ b. b == newline) bytes.now }
 {
-    let place = memchr(b'\n', &bytes[searched..])?;
-    Some(searched + place)
+    let index = memchr(b'\n', &bytes[searched..])?;
+    Some(searched + index)
 }

@@ -1,10 +1,10 @@
 //! Lines written: the one spelling of an operation, and of the end of an exchange.
-ghost use Rattle.std.specs.Prelude.{◌≡◌, ◌||◌, ◌++◌, ◌<◌, true, Ok, IfOk, IfErr, OnOk, ◌/◌, ◌%◌, ◌∷◌, [], codes, string_bytes};
+ghost use Rattle.std.specs.Prelude.{◌≡◌, ◌++◌, ◌<◌, Ok, IfOk, IfErr, OnOk, string_bytes};
 ghost use Rattle.std.specs.Char.{digit_char};
-ghost use Rattle.rga_ops.specs.Identifier.{is_root, is_in_range};
 ghost use Rattle.rga_ops.specs.Operation.{checked};
 ghost use Rattle.rga_ops.specs.declared.op.Op.TheVariants.{Insert, Delete};
-ghost use Rattle.rga_lines.specs.Spelling.{escaped, pair_text, line, end_line, IsWritable};
+ghost use Rattle.rga_lines.specs.Spelling.{code_escape, escaped, pair_text, line, end_line};
+ghost use Rattle.rga_lines.specs.Spelling.{IsElementOrRoot, IsWritable};
 ghost use Rattle.rga_lines.specs.declared.fault.LineFault.TheVariants.{Memory};
 
 use crate::fault::LineFault;
@@ -21,7 +21,7 @@ const ROOM: usize = 92;
 /// them. `Memory` is the only refusal.
 pub fn write_line(alloc: Global, op: &Op) -> Result<String, LineFault>
     ensures ok { IfOk result (λ s. string_bytes s ≡ line op.now) }
-    ensures err { IfErr result (λ e. e ≡ Memory) }
+    ensures memory { IfErr result (λ e. e ≡ Memory) }
     // What `Op::check` accepts is written so that it can be read back.
     ensures writable { OnOk result (checked op.now ≡ Ok tt → IsWritable op.now) }
 {
@@ -36,7 +36,7 @@ pub fn write_line(alloc: Global, op: &Op) -> Result<String, LineFault>
 #[tactic(auto, unfolding(crate::specs::Spelling::end_line))]
 pub fn write_end(alloc: Global, count: u64) -> Result<String, LineFault>
     ensures ok { IfOk result (λ s. string_bytes s ≡ end_line count) }
-    ensures err { IfErr result (λ e. e ≡ Memory) }
+    ensures memory { IfErr result (λ e. e ≡ Memory) }
 {
     let mut text = String::with_capacity(alloc, ROOM)?;
     let mut digits = Buffer::new();
@@ -46,10 +46,11 @@ pub fn write_end(alloc: Global, count: u64) -> Result<String, LineFault>
     Ok(text)
 }
 
-#[tactic(auto, using(crate::proofs::WritableLemmas::insertion_writable), unfolding(crate::specs::Spelling::line))]
+#[tactic(auto, using(crate::proofs::WritableLemmas::insertion_writable), unfolding(crate::specs::Spelling::line),)]
 fn insertion(alloc: Global, id: &Id, parent: &Id, ch: char) -> Result<String, AllocError>
-    ensures text { IfOk result (λ s. string_bytes s ≡ line (Insert id.now parent.now ch)) }
-    ensures writable { OnOk result (checked (Insert id.now parent.now ch) ≡ Ok tt → IsWritable (Insert id.now parent.now ch)) }
+    ensures ok { IfOk result (λ s. string_bytes s ≡ line (Insert id.now parent.now ch)) }
+    ensures writable { let op = Insert id.now parent.now ch in
+        OnOk result (checked op ≡ Ok tt → IsWritable op) }
 {
     let mut text = String::with_capacity(alloc, ROOM)?;
     text.push_str("{\"char\":\"")?;
@@ -62,9 +63,9 @@ fn insertion(alloc: Global, id: &Id, parent: &Id, ch: char) -> Result<String, Al
     Ok(text)
 }
 
-#[tactic(auto, using(crate::proofs::WritableLemmas::deletion_writable), unfolding(crate::specs::Spelling::line))]
+#[tactic(auto, using(crate::proofs::WritableLemmas::deletion_writable), unfolding(crate::specs::Spelling::line),)]
 fn deletion(alloc: Global, id: &Id) -> Result<String, AllocError>
-    ensures text { IfOk result (λ s. string_bytes s ≡ line (Delete id.now)) }
+    ensures ok { IfOk result (λ s. string_bytes s ≡ line (Delete id.now)) }
     ensures writable { OnOk result (checked (Delete id.now) ≡ Ok tt → IsWritable (Delete id.now)) }
 {
     let mut text = String::with_capacity(alloc, ROOM)?;
@@ -76,8 +77,8 @@ fn deletion(alloc: Global, id: &Id) -> Result<String, AllocError>
 
 /// An identifier as two numbers between brackets.
 fn push_pair(text: &mut String, id: &Id) -> Result<(), AllocError>
-    ensures text { OnOk result (string_bytes text.new ≡ string_bytes text.old ++ pair_text id.now) }
-    ensures kept { OnOk result (is_root id.now || is_in_range id.now.counter id.now.replica ≡ true) }
+    ensures ok { OnOk result (string_bytes text.new ≡ string_bytes text.old ++ pair_text id.now) }
+    ensures identifier { OnOk result (IsElementOrRoot id.now) }
 {
     let mut digits = Buffer::new();
     text.push_str("[")?;
@@ -108,8 +109,7 @@ fn push_escaped(text: &mut String, ch: char) -> Result<(), AllocError>
 /// A character below the space as its code in hexadecimal digits.
 fn push_code(text: &mut String, ch: char) -> Result<(), AllocError>
     requires { ch < 32 }
-    ensures { OnOk result (string_bytes text.new
-        ≡ string_bytes text.old ++ (codes "\\u00" ++ digit_char (ch / 16) ∷ digit_char (ch % 16) ∷ [])) }
+    ensures { OnOk result (string_bytes text.new ≡ string_bytes text.old ++ code_escape ch) }
 {
     let code = u32::from(ch);
     text.push_str("\\u00")?;

@@ -1,7 +1,7 @@
 use Rattle.std.proofs.Common.{◌∙◌, ap, sym, refl, drop, length, arith}
 use Rattle.std.proofs.lemmas.List.{length-drop}
 use Rattle.rga_lines.specs.Stream.{Splitting}
-use Rattle.rga_lines.proofs.NextLine.{line_waits, none_waits, none_before, none_among, place_within, long_line_waits, long_rest_waits}
+use Rattle.rga_lines.proofs.NextLine.{line_waits, none_waits, none_before, none_among, index_within, long_line_waits, long_rest_waits}
 use Rattle.rga_lines.proofs.splitter.Splitter.find_line.Goals.{in_default-via-in-Some+else-end-le-MAX_LINE, in_default-via-in-None+else-waiting-le-MAX_LINE}
 use Rattle.rga_lines.proofs.splitter.Splitter.find_line.Goals as goal
 
@@ -9,7 +9,7 @@ pub invariant_of-self : goal.invariant_of-self
 invariant_of-self c =
     let here = c.waiting-waiting.ensures ∙ ap (λ (s : Splitting). s.waiting) (sym c.self.view_is) in
     record {
-      within = omega (arith, place_within c.waiting-waiting.result.now c.in-Some.end c.in-Some.ensures, ap length here, length-drop c.self.inside.start c.self.inside.buffer.items, c.self.inside.buffer.ok.0, c.self.invariant.within);
+      within = omega (arith, index_within c.waiting-waiting.result.now c.in-Some.end c.in-Some.ensures, ap length here, length-drop c.self.inside.start c.self.inside.buffer.items, c.self.inside.buffer.ok.0, c.self.invariant.within);
       none = none_before c.waiting-waiting.result.now (drop c.self.inside.start c.self.inside.buffer.items) c.in-Some.end c.in-Some.ensures here;
       empty = c.self.invariant.empty;
     }
