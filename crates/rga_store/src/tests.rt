@@ -3,7 +3,7 @@ use crate::{MAX_LIMIT, Taken, Taker, TextStore, TreeStore};
 use rga_ops::{Id, Op, Refusal};
 use std::alloc::Global;
 use std::test::Fail;
-use test_ops::{deletion, id, insertion};
+use test_ops::{deletion, id, insertion, ops_of};
 
 mod merging;
 mod whole_lists;
@@ -28,32 +28,32 @@ fn text_after<S: TextStore + Drop>(alloc: Global, ops: &[Op]) -> Result<(String,
 
 #[test]
 fn the_text_follows_the_root_paths(rt: HostRuntime) -> Result<(), Fail> {
-    let a = insertion((1, 1), (0, 0), 'a')?;
-    let b = insertion((2, 1), (1, 1), 'b')?;
-    let c = insertion((3, 1), (2, 1), 'c')?;
-    let x = insertion((1, 2), (0, 0), 'x')?;
-    let y = insertion((2, 2), (1, 2), 'y')?;
-    let late = insertion((4, 2), (2, 1), 'X')?;
-    let table: [(&str, &[Op], &str, usize); 9] = [
-        ("nothing", &[], "", 0),
-        ("typing", &[a, b], "ab", 0),
-        ("concurrent at the root", &[a, x], "xa", 0),
-        ("the other way round", &[x, a], "xa", 0),
-        ("waiting for its parent", &[b], "", 1),
-        ("the parent comes", &[b, a], "ab", 0),
-        ("deleted early", &[deletion(1, 1)?, a], "", 0),
-        ("two replicas", &[a, b, c, x, y], "xyabc", 0),
+    let table = [
+        ("nothing", "", "", 0usize),
+        ("typing", "a1.1<0.0 b2.1<1.1", "ab", 0),
+        ("concurrent at the root", "a1.1<0.0 x1.2<0.0", "xa", 0),
+        ("the other way round", "x1.2<0.0 a1.1<0.0", "xa", 0),
+        ("waiting for its parent", "b2.1<1.1", "", 1),
+        ("the parent comes", "b2.1<1.1 a1.1<0.0", "ab", 0),
+        ("deleted early", "-1.1 a1.1<0.0", "", 0),
+        (
+            "two replicas",
+            "a1.1<0.0 b2.1<1.1 c3.1<2.1 x1.2<0.0 y2.2<1.2",
+            "xyabc",
+            0,
+        ),
         (
             "behind a deleted element",
-            &[a, b, c, deletion(2, 1)?, late],
+            "a1.1<0.0 b2.1<1.1 c3.1<2.1 -2.1 X4.2<2.1",
             "aXc",
             0,
         ),
     ];
-    for row in &table {
-        let (text, waiting) = text_after::<TreeStore>(rt.alloc(), row.1)?;
-        assert_eq!(rt; text.as_str(), row.2, "{}", row.0);
-        assert_eq!(rt; waiting, row.3, "{}", row.0);
+    for (name, ops, text, waiting) in table {
+        let ops = ops_of(rt.alloc(), ops)?;
+        let shown = text_after::<TreeStore>(rt.alloc(), &ops)?;
+        assert_eq!(rt; shown.0.as_str(), text, "{name}");
+        assert_eq!(rt; shown.1, waiting, "{name}");
     }
     Ok(())
 }
