@@ -37,6 +37,10 @@ abbrev pub after_rest : ℕ → ℕ → Content → List ℕ → LogOutcome
 after_rest limit n c [] = end_outcome n c Whole
 after_rest limit n c (b ∷ bytes) = after_bare_line limit n c (length (b ∷ bytes)) (line_at (b ∷ bytes))
 
+-- the same of what a taker holds
+abbrev pub rest_outcome : {T : Type 0} → (T → ℕ) → (T → Content) → T → ℕ → List ℕ → LogOutcome
+rest_outcome limit content t n rest = after_rest (limit t) n (content t) rest
+
 -- the rest comes where all lines were taken; the end of an exchange is no line of a log
 abbrev pub after_stop : ℕ → List ℕ → ℕ → Content → Stop → LogOutcome
 after_stop limit rest n c AllTaken = after_rest limit n c rest

@@ -1,7 +1,7 @@
 //! Logs, read into whatever takes operations.
 ghost use Rattle.std.specs.Prelude.{◌≡◌, ◌≢◌, ◌<◌, ◌^◌, Err, OnErr, IfOk, IfErr};
 ghost use Rattle.rga_lines.specs.Counting.{CountsAs};
-ghost use Rattle.rga_exchange.specs.Log.{TakesLog, log_end, after_rest, end_outcome};
+ghost use Rattle.rga_exchange.specs.Log.{TakesLog, log_end, rest_outcome, end_outcome};
 ghost use Rattle.rga_exchange.specs.declared.fault.LogFault.TheVariants.{Memory as NoMemory, Read as ReadFailed};
 
 use crate::fault::{LogFault, ReceiveFault};
@@ -67,11 +67,10 @@ fn take_rest<T: Taker>(
     rest: &[u8],
 ) -> Result<LogEnd, LogFault>
     requires { lines < 2 ^ 63 }
-    ensures end { IfOk result (λ end. after_rest
-        (T.limit taker.old) lines (T.content taker.old) rest.now
+    ensures end { IfOk result (λ end. rest_outcome T.limit T.content taker.old lines rest.now
         ≡ end_outcome lines (T.content taker.new) end) }
-    ensures fault { IfErr result (λ e. e ≢ NoMemory → after_rest
-        (T.limit taker.old) lines (T.content taker.old) rest.now ≡ (T.content taker.new, Err e)) }
+    ensures fault { IfErr result (λ e. e ≢ NoMemory
+        → rest_outcome T.limit T.content taker.old lines rest.now ≡ (T.content taker.new, Err e)) }
     ensures same { OnErr result (T.content taker.new ≡ T.content taker.old) }
     ensures device { IfErr result (λ e. e ≢ ReadFailed) }
     ensures limit { T.limit taker.new ≡ T.limit taker.old }

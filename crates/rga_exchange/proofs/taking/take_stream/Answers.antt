@@ -37,24 +37,24 @@ returns-in-Some-clause-end g c =
 
 pub returns-in_default-read-clause-lines : goal.returns-in_default-read-clause-lines
 returns-in_default-read-clause-lines g c =
-    let tracks = read_lines _ _ _ _ _ _ _ _ c.reads.lines c.take_lines.new.lines c.reads.splitter.waiting c.take_lines.new.splitter.waiting c.reads.invariant.limit c.reads.invariant.read (c.in_ok-number.ensures.all cc) in
-    first_of_whole _ _ _ _ _ _ _ (whole_lines _ _ _ _ _ _ _ _ c.take_lines.new.lines c.take_lines.new.splitter.waiting tracks c.in_default-read.ensures.bytes (c.in_ok-number.ensures.none_left cc).0)
+    let tracks = read_lines _ _ _ c.args.reader.now c.reads.reader c.args.taker.now c.reads.taker c.take_lines.new.taker c.reads.lines c.take_lines.new.lines c.reads.splitter.waiting c.take_lines.new.splitter.waiting c.reads.invariant.limit c.reads.invariant.read (c.in_ok-number.ensures.all cc) in
+    first_of_whole _ _ _ _ _ _ _ (whole_lines _ _ _ c.args.reader.now c.reads.reader c.read.new.self c.args.taker.now c.take_lines.new.taker c.take_lines.new.lines c.take_lines.new.splitter.waiting tracks c.in_default-read.ensures.bytes (c.in_ok-number.ensures.none_left cc).0)
 
 pub returns-in_default-read-clause-whole_lines : goal.returns-in_default-read-clause-whole_lines
 returns-in_default-read-clause-whole_lines g c =
-    let tracks = read_lines _ _ _ _ _ _ _ _ c.reads.lines c.take_lines.new.lines c.reads.splitter.waiting c.take_lines.new.splitter.waiting c.reads.invariant.limit c.reads.invariant.read (c.in_ok-number.ensures.all cc) in
-    λ _. whole_lines _ _ _ _ _ _ _ _ c.take_lines.new.lines c.take_lines.new.splitter.waiting tracks c.in_default-read.ensures.bytes (c.in_ok-number.ensures.none_left cc).0
+    let tracks = read_lines _ _ _ c.args.reader.now c.reads.reader c.args.taker.now c.reads.taker c.take_lines.new.taker c.reads.lines c.take_lines.new.lines c.reads.splitter.waiting c.take_lines.new.splitter.waiting c.reads.invariant.limit c.reads.invariant.read (c.in_ok-number.ensures.all cc) in
+    λ _. whole_lines _ _ _ c.args.reader.now c.reads.reader c.read.new.self c.args.taker.now c.take_lines.new.taker c.take_lines.new.lines c.take_lines.new.splitter.waiting tracks c.in_default-read.ensures.bytes (c.in_ok-number.ensures.none_left cc).0
 
 pub returns-then-count-eq0-clause-end : goal.returns-then-count-eq0-clause-end
 returns-then-count-eq0-clause-end g c =
-    let tracks = read_lines _ _ _ _ _ _ _ _ c.reads.lines c.take_lines.new.lines c.reads.splitter.waiting c.take_lines.new.splitter.waiting c.reads.invariant.limit c.reads.invariant.read (c.in_ok-number.ensures.all cc) in
+    let tracks = read_lines _ _ _ c.args.reader.now c.reads.reader c.args.taker.now c.reads.taker c.take_lines.new.taker c.reads.lines c.take_lines.new.lines c.reads.splitter.waiting c.take_lines.new.splitter.waiting c.reads.invariant.limit c.reads.invariant.read (c.in_ok-number.ensures.all cc) in
     let read = rw c.if-count-eq0.true at c.in-Ok.ensures.bytes in
     let none = c.in_ok-number.ensures.none_left cc in
-    read_all _ _ _ _ _ c.read.new.self _ _ c.take_lines.new.lines c.take_lines.new.splitter.waiting c.finish.result.items tracks read.0 (read.1 refl (omega arith)) none.0 none.1 c.finish.ensures.rest
+    read_all _ _ _ c.args.reader.now c.reads.reader c.read.new.self c.args.taker.now c.take_lines.new.taker c.take_lines.new.lines c.take_lines.new.splitter.waiting c.finish.result.items tracks read.0 (read.1 refl (omega arith)) none.0 none.1 c.finish.ensures.rest
 
 pub reads-preserved : goal.reads-preserved
 reads-preserved g c =
-    let tracks = read_lines _ _ _ _ _ _ _ _ c.reads.lines c.take_lines.new.lines c.reads.splitter.waiting c.take_lines.new.splitter.waiting c.reads.invariant.limit c.reads.invariant.read (c.in_ok-number.ensures.all cc) in
+    let tracks = read_lines _ _ _ c.args.reader.now c.reads.reader c.args.taker.now c.reads.taker c.take_lines.new.taker c.reads.lines c.take_lines.new.lines c.reads.splitter.waiting c.take_lines.new.splitter.waiting c.reads.invariant.limit c.reads.invariant.read (c.in_ok-number.ensures.all cc) in
     let none = c.in_ok-number.ensures.none_left cc in
     let room = c.in_ok-number.ensures.room cc in
     let piece = take c.in-Ok.count c.read.new.buf in
@@ -67,16 +67,16 @@ reads-preserved g c =
       room = rw waits (omega (arith, k, m, c.in-Ok.ensures.bound, c.in-Ok.ensures.calls.0, c.in-Ok.ensures.calls.2, room, c.reads.invariant.room));
       limit = c.in_ok-number.ensures.limit ∙ c.reads.invariant.limit;
       same_failures = c.in-Ok.ensures.counts ∙ c.reads.invariant.same_failures;
-      read = rw waits (read_piece _ _ _ _ _ _ _ _ c.take_lines.new.lines c.take_lines.new.splitter.waiting piece tracks none.0 c.in-Ok.ensures.bytes.0 (omega (arith, m, c.in-Ok.ensures.bound)));
+      read = rw waits (read_piece _ _ _ c.args.reader.now c.reads.reader c.read.new.self c.args.taker.now c.take_lines.new.taker c.take_lines.new.lines c.take_lines.new.splitter.waiting piece tracks none.0 c.in-Ok.ensures.bytes.0 (omega (arith, m, c.in-Ok.ensures.bound)));
     }
 
 pub returns-in_default-feed-clause-lines : goal.returns-in_default-feed-clause-lines
 returns-in_default-feed-clause-lines g c =
-    let tracks = read_lines _ _ _ _ _ _ _ _ c.reads.lines c.take_lines.new.lines c.reads.splitter.waiting c.take_lines.new.splitter.waiting c.reads.invariant.limit c.reads.invariant.read (c.in_ok-number.ensures.all cc) in
+    let tracks = read_lines _ _ _ c.args.reader.now c.reads.reader c.args.taker.now c.reads.taker c.take_lines.new.taker c.reads.lines c.take_lines.new.lines c.reads.splitter.waiting c.take_lines.new.splitter.waiting c.reads.invariant.limit c.reads.invariant.read (c.in_ok-number.ensures.all cc) in
     let none = c.in_ok-number.ensures.none_left cc in
     let piece = take c.in-Ok.count c.read.new.buf in
     let m = length-take c.in-Ok.count c.read.new.buf in
-    first_lines _ _ _ _ _ _ _ _ _ (read_piece _ _ _ _ _ _ _ _ c.take_lines.new.lines c.take_lines.new.splitter.waiting piece tracks none.0 c.in-Ok.ensures.bytes.0 (omega (arith, m, c.in-Ok.ensures.bound)))
+    first_lines _ _ _ _ _ _ _ _ _ (read_piece _ _ _ c.args.reader.now c.reads.reader c.read.new.self c.args.taker.now c.take_lines.new.taker c.take_lines.new.lines c.take_lines.new.splitter.waiting piece tracks none.0 c.in-Ok.ensures.bytes.0 (omega (arith, m, c.in-Ok.ensures.bound)))
 
 pub returns-in-Some-clause-lines : goal.returns-in-Some-clause-lines
 returns-in-Some-clause-lines g c =
@@ -84,6 +84,6 @@ returns-in-Some-clause-lines g c =
 
 pub returns-then-count-eq0-clause-lines : goal.returns-then-count-eq0-clause-lines
 returns-then-count-eq0-clause-lines g c =
-    let tracks = read_lines _ _ _ _ _ _ _ _ c.reads.lines c.take_lines.new.lines c.reads.splitter.waiting c.take_lines.new.splitter.waiting c.reads.invariant.limit c.reads.invariant.read (c.in_ok-number.ensures.all cc) in
+    let tracks = read_lines _ _ _ c.args.reader.now c.reads.reader c.args.taker.now c.reads.taker c.take_lines.new.taker c.reads.lines c.take_lines.new.lines c.reads.splitter.waiting c.take_lines.new.splitter.waiting c.reads.invariant.limit c.reads.invariant.read (c.in_ok-number.ensures.all cc) in
     let read = rw c.if-count-eq0.true at c.in-Ok.ensures.bytes in
-    first_lines _ _ _ _ _ _ _ _ _ (read_piece _ _ _ _ _ _ _ _ c.take_lines.new.lines c.take_lines.new.splitter.waiting _ tracks (c.in_ok-number.ensures.none_left cc).0 read.0 (omega arith))
+    first_lines _ _ _ _ _ _ _ _ _ (read_piece _ _ _ c.args.reader.now c.reads.reader c.read.new.self c.args.taker.now c.take_lines.new.taker c.take_lines.new.lines c.take_lines.new.splitter.waiting _ tracks (c.in_ok-number.ensures.none_left cc).0 read.0 (omega arith))
