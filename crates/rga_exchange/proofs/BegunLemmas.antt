@@ -1,11 +1,11 @@
 -- A text that is written part by part.
 use Rattle.std.proofs.Common.{ℕ, List, ◌++◌, Option, sym, ap, ◌∙◌, append_assoc}
-use Rattle.rga_lines.specs.Counting.{Calls, Writes, WritesFront, Begun}
+use Rattle.rga_lines.specs.Counting.{Calls, Writes, WritesFront, WritesAllBut}
 use Rattle.rga_lines.proofs.WrittenLemmas.{Appends-then}
 
 module _ {W : Type 0} (contents : W → Option (List ℕ)) where
   -- of what was left a first part was taken, all but some bytes
-  pub begun_next : (a b c : Calls W) (text first later left : List ℕ) → Begun contents a b text (first ++ later) → Begun contents b c first left → Begun contents a c text (left ++ later)
+  pub begun_next : (a b c : Calls W) (text first later left : List ℕ) → WritesAllBut contents a b text (first ++ later) → WritesAllBut contents b c first left → WritesAllBut contents a c text (left ++ later)
   begun_next a b c text first later left h k = record {
     front = h.front ++ k.front;
     parts = h.parts
@@ -16,7 +16,7 @@ module _ {W : Type 0} (contents : W → Option (List ℕ)) where
   }
 
   -- a text that goes on
-  pub begun_longer : (a b : Calls W) (text left more : List ℕ) → Begun contents a b text left → Begun contents a b (text ++ more) (left ++ more)
+  pub begun_longer : (a b : Calls W) (text left more : List ℕ) → WritesAllBut contents a b text left → WritesAllBut contents a b (text ++ more) (left ++ more)
   begun_longer a b text left more h = record {
     front = h.front;
     parts = ap (λ (l : List ℕ). l ++ more) h.parts ∙ append_assoc h.front left more;
@@ -24,11 +24,11 @@ module _ {W : Type 0} (contents : W → Option (List ℕ)) where
   }
 
   -- the left part was written
-  pub begun_whole : (a b c : Calls W) (text left : List ℕ) → Begun contents a b text left → Writes contents b c left → Writes contents a c text
+  pub begun_whole : (a b c : Calls W) (text left : List ℕ) → WritesAllBut contents a b text left → Writes contents b c left → Writes contents a c text
   begun_whole a b c text left h k = rw h.parts (Appends-then (contents a.inner) (contents b.inner) (contents c.inner) h.front left h.written k)
 
   -- a beginning of it was written
-  pub begun_left : (a b c : Calls W) (text left : List ℕ) → Begun contents a b text left → WritesFront contents b c left → WritesFront contents a c text
+  pub begun_left : (a b c : Calls W) (text left : List ℕ) → WritesAllBut contents a b text left → WritesFront contents b c left → WritesFront contents a c text
   begun_left a b c text left h k = record {
     front = h.front ++ k.front;
     rest = k.rest;
@@ -45,5 +45,5 @@ module _ {W : Type 0} (contents : W → Option (List ℕ)) where
   }
 
   -- a beginning of the first part of what was left was written
-  pub begun_part : (a b c : Calls W) (text first later : List ℕ) → Begun contents a b text (first ++ later) → WritesFront contents b c first → WritesFront contents a c text
+  pub begun_part : (a b c : Calls W) (text first later : List ℕ) → WritesAllBut contents a b text (first ++ later) → WritesFront contents b c first → WritesFront contents a c text
   begun_part a b c text first later h k = begun_left a b c text (first ++ later) h (front_longer b c first later k)

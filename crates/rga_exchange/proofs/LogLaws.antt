@@ -14,7 +14,8 @@ use Rattle.rga_ops.proofs.OperationLaws.{Contains-nil, Contains-cases}
 use Rattle.rga_ops.proofs.TakenLaws.{took}
 use Rattle.rga_ops.proofs.KnownLaws.{takeable_is_taken, taken_list_within}
 use Rattle.rga_ops.proofs.ListAnswerLaws.{one_by_one_list, list_taken-iff}
-use Rattle.rga_lines.specs.Table.{Reading, line_at, max_line}
+use Rattle.rga_lines.specs.Table.{Reading, line_at}
+use Rattle.rga_lines.specs.declared.reading.TheConstants.{MAX_LINE}
 use Rattle.rga_lines.specs.Stream.{lines_of, rest_of}
 use Rattle.rga_lines.specs.Log.{operations_of, then_operations, log_operations, IsOperation, HasOnlyOperations}
 use Rattle.rga_lines.specs.declared.fault.LineFault.TheVariants as line_fault
@@ -124,14 +125,14 @@ rest_read limit n c d (b ∷ bytes) (inr (op, says)) h =
     )
 
 -- such a rest is not too long
-rest_is_short : (rest : List ℕ) → (rest ≡ []) ⊎ IsOperation rest → nat_lt max_line (length rest) ≡ false
-rest_is_short rest one = by_size (nat_lt max_line (length rest)) refl one
+rest_is_short : (rest : List ℕ) → (rest ≡ []) ⊎ IsOperation rest → nat_lt MAX_LINE (length rest) ≡ false
+rest_is_short rest one = by_size (nat_lt MAX_LINE (length rest)) refl one
   where
-    by_size : (long : Bool) → nat_lt max_line (length rest) ≡ long → (rest ≡ []) ⊎ IsOperation rest → long ≡ false
+    by_size : (long : Bool) → nat_lt MAX_LINE (length rest) ≡ long → (rest ≡ []) ⊎ IsOperation rest → long ≡ false
     by_size false size one = refl
-    by_size true size (inl none) = let short : nat_lt max_line (length rest) ≡ false = ap (λ (r : List ℕ). nat_lt max_line (length r)) none in absurd cc
+    by_size true size (inl none) = let short : nat_lt MAX_LINE (length rest) ≡ false = ap (λ (r : List ℕ). nat_lt MAX_LINE (length r)) none in absurd cc
     by_size true size (inr (op, says)) =
-        let clash : no_operation line_fault.Long ≡ operation op = sym (long_line rest (ltb-true max_line (length rest) size)) ∙ says in
+        let clash : no_operation line_fault.Long ≡ operation op = sym (long_line rest (ltb-true MAX_LINE (length rest) size)) ∙ says in
         absurd cc
 
 pub log_without_fault : (limit : ℕ) (c : Content) (bytes : List ℕ) → HasOnlyOperations bytes → IsJoinable c (log_operations bytes) → finite_set.len (known_ids (join c (content_of (log_operations bytes)))) ≤ limit → (read : LogRead) × (log_outcome limit c bytes ≡ (join c (content_of (log_operations bytes)), Ok read)) × HasNothingTorn read.end

@@ -7,7 +7,7 @@ use Rattle.rga_ops.specs.Operations.{operations}
 use Rattle.rga_ops.specs.declared.op.Op.{Op}
 use Rattle.rga_lines.specs.Spelling.{line, end_line}
 use Rattle.rga_lines.specs.Stream.{newline, bytes_of_lines}
-use Rattle.rga_lines.specs.Counting.{Calls, WritesFront, Begun}
+use Rattle.rga_lines.specs.Counting.{Calls, WritesFront, WritesAllBut}
 use Rattle.rga_exchange.specs.Sending.{log_text, exchange_lines, stream_text}
 use Rattle.rga_exchange.proofs.BegunLemmas.{begun_next, begun_longer, front_longer}
 
@@ -26,18 +26,18 @@ stream_text-is c ops are =
 module _ {W : Type 0} (contents : W → Option (List ℕ)) where
   -- the line of the next operation was added to the block
   pub begun_line : (a b c : Calls W) (text block next : List ℕ) (ops : List Op) (i : ℕ) (op : Op) → i < length ops → op ≡ get_or ops i op
-      → Begun contents a b text (block ++ log_text (drop i ops)) → Begun contents b c (block ++ (line op ++ newline ∷ [])) next → Begun contents a c text (next ++ log_text (drop (i + 1) ops))
+      → WritesAllBut contents a b text (block ++ log_text (drop i ops)) → WritesAllBut contents b c (block ++ (line op ++ newline ∷ [])) next → WritesAllBut contents a c text (next ++ log_text (drop (i + 1) ops))
   begun_line a b c text block next ops i op within at h k =
       let later : List ℕ = log_text (drop (i + 1) ops) in
       let split : block ++ log_text (drop i ops) ≡ (block ++ (line op ++ newline ∷ [])) ++ later =
       ap (λ (l : List ℕ). block ++ l) (log_text-from ops i op within at) ∙ sym (append_assoc block (line op ++ newline ∷ []) later) in
-      begun_next contents a b c text (block ++ (line op ++ newline ∷ [])) later next (subst (Begun contents a b text) split h) k
+      begun_next contents a b c text (block ++ (line op ++ newline ∷ [])) later next (subst (WritesAllBut contents a b text) split h) k
 
   -- ---- a log
 
   -- a block that begins empty takes lines, and leaves some of them to be written
-  pub log_begun : (a b : Calls W) (start text left : List ℕ) → start ≡ [] → Begun contents a b (start ++ text) left → Begun contents a b text left
-  log_begun a b start text left none h = subst (λ (l : List ℕ). Begun contents a b (l ++ text) left) none h
+  pub log_begun : (a b : Calls W) (start text left : List ℕ) → start ≡ [] → WritesAllBut contents a b (start ++ text) left → WritesAllBut contents a b text left
+  log_begun a b start text left none h = subst (λ (l : List ℕ). WritesAllBut contents a b (l ++ text) left) none h
 
   pub log_front : (a b : Calls W) (start text : List ℕ) → start ≡ [] → WritesFront contents a b (start ++ text) → WritesFront contents a b text
   log_front a b start text none h = subst (λ (l : List ℕ). WritesFront contents a b (l ++ text)) none h
@@ -46,11 +46,11 @@ module _ {W : Type 0} (contents : W → Option (List ℕ)) where
 
   -- what was left was put before the end
   pub stream_begun : (a b : Calls W) (c : Content) (ops : List Op) (start left : List ℕ) (number : ℕ) (end last : List ℕ) → ops ≡ operations c → start ≡ [] → number ≡ length ops → end ≡ end_line number → last ≡ left ++ (end ++ newline ∷ [])
-      → Begun contents a b (start ++ log_text ops) left → Begun contents a b (stream_text c) last
+      → WritesAllBut contents a b (start ++ log_text ops) left → WritesAllBut contents a b (stream_text c) last
   stream_begun a b c ops start left number end last are none count ends is h =
-      let whole : Begun contents a b (log_text ops ++ (end ++ newline ∷ [])) (left ++ (end ++ newline ∷ [])) = begun_longer contents a b (log_text ops) left (end ++ newline ∷ []) (log_begun a b start (log_text ops) left none h) in
+      let whole : WritesAllBut contents a b (log_text ops ++ (end ++ newline ∷ [])) (left ++ (end ++ newline ∷ [])) = begun_longer contents a b (log_text ops) left (end ++ newline ∷ []) (log_begun a b start (log_text ops) left none h) in
       let text : log_text ops ++ (end ++ newline ∷ []) ≡ stream_text c = ap (λ (l : List ℕ). log_text ops ++ (l ++ newline ∷ [])) (ends ∙ ap end_line count) ∙ sym (stream_text-is c ops are) in
-      subst (Begun contents a b (stream_text c)) (sym is) (subst (λ (l : List ℕ). Begun contents a b l (left ++ (end ++ newline ∷ []))) text whole)
+      subst (WritesAllBut contents a b (stream_text c)) (sym is) (subst (λ (l : List ℕ). WritesAllBut contents a b l (left ++ (end ++ newline ∷ []))) text whole)
 
   -- a beginning of the lines of the operations is one of all
   pub stream_front : (a b : Calls W) (c : Content) (ops : List Op) (start : List ℕ) → ops ≡ operations c → start ≡ [] → WritesFront contents a b (start ++ log_text ops) → WritesFront contents a b (stream_text c)

@@ -6,7 +6,8 @@ use Rattle.rga_ops.specs.Answer.{taken, and_take, taken_one_by_one}
 use Rattle.rga_ops.specs.declared.op.Op.{Op}
 use Rattle.rga_ops.specs.declared.refusal.Refusal.{Refusal}
 use Rattle.rga_ops.proofs.TakenLaws.{taken_list_is}
-use Rattle.rga_lines.specs.Table.{Reading, AnyReading, any_line_at, line_at, max_line}
+use Rattle.rga_lines.specs.Table.{Reading, AnyReading, any_line_at, line_at}
+use Rattle.rga_lines.specs.declared.reading.TheConstants.{MAX_LINE}
 use Rattle.rga_lines.specs.Stream.{lines_of, rest_of}
 use Rattle.rga_lines.specs.Log.{operations_of, stream_operations, log_operations, then_operations}
 use Rattle.rga_lines.specs.declared.reading.Line.TheVariants.{One, Last}
@@ -60,7 +61,7 @@ lines_end limit n m c d number (line ∷ lines) h = by_reading (any_line_at line
 
 -- the rest of a stream changes nothing of an end that came before
 before_rest : (n : ℕ) (rest : List ℕ) (stop : Stop) (number : ℕ) → stop_at_rest n rest stop ≡ AtEnd number → stop ≡ AtEnd number
-before_rest n rest AllTaken number h = by_size (nat_lt max_line (length rest)) h
+before_rest n rest AllTaken number h = by_size (nat_lt MAX_LINE (length rest)) h
   where
     by_size : (b : Bool) → cond b (AtFault (fault.Line (n + 1) line_fault.Long)) AllTaken ≡ AtEnd number → AllTaken ≡ AtEnd number
     by_size true h = absurd cc
@@ -133,7 +134,7 @@ is_read limit c d read bytes h = by_stop t.stop refl h
     by_size false is g = record { lines = t.lines; content = t.content; taken = ap (progress t.lines t.content) is; rest = g }
 
     by_stop : (stop : Stop) → t.stop ≡ stop → after_stop limit (rest_of bytes) t.lines t.content (stop_at_rest t.lines (rest_of bytes) stop) ≡ (d, Ok read) → IsRead limit c d read bytes
-    by_stop AllTaken is g = by_size (nat_lt max_line (length (rest_of bytes))) is g
+    by_stop AllTaken is g = by_size (nat_lt MAX_LINE (length (rest_of bytes))) is g
     by_stop (AtEnd number) is g = absurd (no_fault (fault.Line (t.lines + 1) line_fault.Kind) read g)
     by_stop (AtFault e) is g = absurd (no_fault e read g)
 

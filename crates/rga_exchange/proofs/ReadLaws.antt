@@ -6,7 +6,7 @@ use Rattle.std.proofs.KnownBytes.{Consumes-nil, Consumes-trans, Consumes-kept, C
 use Rattle.rga_ops.specs.Content.{Content}
 use Rattle.rga_lines.specs.Counting.{Calls, OnBytes}
 use Rattle.rga_lines.specs.Stream.{lines_of, rest_of}
-use Rattle.rga_lines.specs.Table.{max_line}
+use Rattle.rga_lines.specs.declared.reading.TheConstants.{MAX_LINE}
 use Rattle.rga_lines.proofs.SplitterLemmas.{rest_is_all}
 use Rattle.rga_exchange.specs.declared.block.TheConstants.{BLOCK}
 use Rattle.rga_exchange.specs.declared.fault.LogFault.{LogFault}
@@ -59,7 +59,7 @@ module _ {R T : Type 0} (remaining : R → Option (List ℕ)) (limit : T → ℕ
   }
 
   -- at the end of the input what waits is the rest
-  pub read_all : (r s next : Calls R) (t u : T) (n : ℕ) (w rest : List ℕ) → HasTakenOfRead remaining limit content r s t u n w → Consumes (remaining s.inner) (remaining next.inner) [] → IsAtEnd (remaining next.inner) → lines_of w ≡ [] → length w ≤ max_line → rest ≡ w
+  pub read_all : (r s next : Calls R) (t u : T) (n : ℕ) (w rest : List ℕ) → HasTakenOfRead remaining limit content r s t u n w → Consumes (remaining s.inner) (remaining next.inner) [] → IsAtEnd (remaining next.inner) → lines_of w ≡ [] → length w ≤ MAX_LINE → rest ≡ w
       → OnBytes remaining r (λ bytes. LeadsTo limit content t u bytes n AllTaken × (rest_of bytes ≡ rest))
   read_all r s next t u n w rest h nothing end none short is =
       let all = all_read h.read in

@@ -8,7 +8,8 @@ use Rattle.rga_ops.specs.Answer.{taken, and_take, taken_one_by_one}
 use Rattle.rga_ops.specs.declared.op.Op.{Op}
 use Rattle.rga_ops.specs.declared.refusal.Refusal.{Refusal}
 use Rattle.rga_ops.proofs.TakenLaws.{took, refused}
-use Rattle.rga_lines.specs.Table.{Reading, AnyReading, any_line_at, line_at, max_line}
+use Rattle.rga_lines.specs.Table.{Reading, AnyReading, any_line_at, line_at}
+use Rattle.rga_lines.specs.declared.reading.TheConstants.{MAX_LINE}
 use Rattle.rga_lines.specs.Stream.{lines_of, rest_of}
 use Rattle.rga_lines.specs.Log.{operations_of, then_operations, IsOperation}
 use Rattle.rga_lines.specs.declared.reading.Line.TheVariants.{One, Last}
@@ -193,7 +194,7 @@ stops_longer limit c lines more n d stop halts h =
 
 -- a rest that is too long counts as a line
 pub stream_is_its_lines : (limit : ℕ) (c : Content) (bytes : List ℕ) → stream_taken limit c bytes ≡ lines_taken limit 0 c (all_lines bytes)
-stream_is_its_lines limit c bytes = by_size (nat_lt max_line (length rest)) refl
+stream_is_its_lines limit c bytes = by_size (nat_lt MAX_LINE (length rest)) refl
   where
     rest : List ℕ
     rest = rest_of bytes
@@ -214,13 +215,13 @@ stream_is_its_lines limit c bytes = by_size (nat_lt max_line (length rest)) refl
     short (AtEnd number) = refl
     short (AtFault e) = refl
 
-    long : nat_lt max_line (length rest) ≡ true → (stop : Stop) → t.stop ≡ stop → progress t.lines t.content (size_stop true stop) ≡ lines_taken limit 0 c (lines ++ rest ∷ [])
+    long : nat_lt MAX_LINE (length rest) ≡ true → (stop : Stop) → t.stop ≡ stop → progress t.lines t.content (size_stop true stop) ≡ lines_taken limit 0 c (lines ++ rest ∷ [])
     long size AllTaken is =
         sym (lines_taken-append limit 0 t.lines c t.content lines (rest ∷ []) (ap (progress t.lines t.content) is)
-        ∙ ap (λ r. go_on t.lines t.content (after_line limit (t.lines + 1) t.content r) (λ d. lines_taken limit (t.lines + 1) d [])) (too_long rest (ltb-true max_line (length rest) size)))
+        ∙ ap (λ r. go_on t.lines t.content (after_line limit (t.lines + 1) t.content r) (λ d. lines_taken limit (t.lines + 1) d [])) (too_long rest (ltb-true MAX_LINE (length rest) size)))
     long size (AtEnd number) is = sym (stops_longer limit c lines (rest ∷ []) t.lines t.content (AtEnd number) tt (ap (progress t.lines t.content) is))
     long size (AtFault e) is = sym (stops_longer limit c lines (rest ∷ []) t.lines t.content (AtFault e) tt (ap (progress t.lines t.content) is))
 
-    by_size : (b : Bool) → nat_lt max_line (length rest) ≡ b → progress t.lines t.content (size_stop b t.stop) ≡ lines_taken limit 0 c (cond b (lines ++ rest ∷ []) lines)
+    by_size : (b : Bool) → nat_lt MAX_LINE (length rest) ≡ b → progress t.lines t.content (size_stop b t.stop) ≡ lines_taken limit 0 c (cond b (lines ++ rest ∷ []) lines)
     by_size true size = long size t.stop refl
     by_size false size = ap (progress t.lines t.content) (short t.stop)

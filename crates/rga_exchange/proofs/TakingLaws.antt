@@ -7,7 +7,8 @@ use Rattle.rga_ops.specs.Answer.{taken, and_take, taken_one_by_one}
 use Rattle.rga_ops.specs.declared.op.Op.{Op}
 use Rattle.rga_ops.specs.declared.refusal.Refusal.{Refusal}
 use Rattle.rga_ops.proofs.TakenLaws.{taken_list_is}
-use Rattle.rga_lines.specs.Table.{AnyReading, any_line_at, line_at, max_line}
+use Rattle.rga_lines.specs.Table.{AnyReading, any_line_at, line_at}
+use Rattle.rga_lines.specs.declared.reading.TheConstants.{MAX_LINE}
 use Rattle.rga_lines.specs.Stream.{lines_of, rest_of, BeginsLong, Splitting}
 use Rattle.rga_lines.specs.Log.{operations_of, then_operations, IsOperation}
 use Rattle.rga_lines.specs.declared.reading.Line.TheVariants.{One, Last}
@@ -119,16 +120,16 @@ line_fails limit n c s t line e given h more = line_stops limit n c s t line (At
 
 -- and so does one that is too long
 pub begins_long : (limit n : ℕ) (c : Content) (lines : List (List ℕ)) (rest : List ℕ) → BeginsLong lines rest → with_rest rest (lines_taken limit n c lines) ≡ progress n c (AtFault (fault.Line (n + 1) line_fault.Long))
-begins_long limit n c [] rest h = ap (λ b. progress n c (cond b (AtFault (fault.Line (n + 1) line_fault.Long)) AllTaken)) (lt-ltb max_line (length rest) h)
+begins_long limit n c [] rest h = ap (λ b. progress n c (cond b (AtFault (fault.Line (n + 1) line_fault.Long)) AllTaken)) (lt-ltb MAX_LINE (length rest) h)
 begins_long limit n c (line ∷ lines) rest h =
     ap (λ r. with_rest rest (go_on n c (after_line limit (n + 1) c r) (λ d. lines_taken limit (n + 1) d lines))) (too_long line h)
 
 -- no line waits: the rest alone is left, which is not too long
-pub only_rest : (limit n : ℕ) (c : Content) (waiting : List ℕ) → lines_of waiting ≡ [] → rest_of waiting ≡ waiting → length waiting ≤ max_line → bytes_taken limit n c (waiting ++ []) ≡ progress n c AllTaken
+pub only_rest : (limit n : ℕ) (c : Content) (waiting : List ℕ) → lines_of waiting ≡ [] → rest_of waiting ≡ waiting → length waiting ≤ MAX_LINE → bytes_taken limit n c (waiting ++ []) ≡ progress n c AllTaken
 only_rest limit n c waiting none whole short =
     ap (bytes_taken limit n c) (append-nil waiting)
     ∙ (λ k. with_rest (whole k) (lines_taken limit n c (none k)))
-    ∙ ap (λ b. progress n c (cond b (AtFault (fault.Line (n + 1) line_fault.Long)) AllTaken)) (le-ltb max_line (length waiting) short)
+    ∙ ap (λ b. progress n c (cond b (AtFault (fault.Line (n + 1) line_fault.Long)) AllTaken)) (le-ltb MAX_LINE (length waiting) short)
 
 -- ---- what was taken, as operations
 

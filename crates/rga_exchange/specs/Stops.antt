@@ -4,7 +4,8 @@ use Rattle.rga_ops.specs.Content.{Content}
 use Rattle.rga_ops.specs.Answer.{taken}
 use Rattle.rga_ops.specs.declared.op.Op.{Op}
 use Rattle.rga_ops.specs.declared.refusal.Refusal.{Refusal}
-use Rattle.rga_lines.specs.Table.{any_line_at, max_line}
+use Rattle.rga_lines.specs.Table.{any_line_at}
+use Rattle.rga_lines.specs.declared.reading.TheConstants.{MAX_LINE}
 use Rattle.rga_lines.specs.Stream.{lines_of, rest_of}
 use Rattle.rga_lines.specs.declared.reading.Line.TheVariants.{One, Last}
 use Rattle.rga_lines.specs.declared.fault.LineFault.{LineFault}
@@ -56,7 +57,7 @@ pub record IsTakenUpTo (limit : ℕ) (c : Content) (lines : List (List ℕ)) (n 
 
 -- the lines of a stream, of which a rest that is too long is one
 abbrev pub all_lines : List ℕ → List (List ℕ)
-all_lines bytes = if nat_lt max_line (length (rest_of bytes)) then lines_of bytes ++ rest_of bytes ∷ [] else lines_of bytes
+all_lines bytes = if nat_lt MAX_LINE (length (rest_of bytes)) then lines_of bytes ++ rest_of bytes ∷ [] else lines_of bytes
 
 -- nothing of the log was cut off
 abbrev pub HasNothingTorn : LogEnd → Type 0

@@ -6,7 +6,8 @@ use Rattle.rga_ops.specs.Content.{Content, join, content_of}
 use Rattle.rga_ops.specs.Answer.{taken, taken_one_by_one}
 use Rattle.rga_ops.specs.declared.refusal.Refusal.{Refusal}
 use Rattle.rga_lines.specs.Counting.{Calls}
-use Rattle.rga_lines.specs.Table.{AnyReading, any_line_at, max_line}
+use Rattle.rga_lines.specs.Table.{AnyReading, any_line_at}
+use Rattle.rga_lines.specs.declared.reading.TheConstants.{MAX_LINE}
 use Rattle.rga_lines.specs.Stream.{lines_of, rest_of}
 use Rattle.rga_lines.specs.Log.{operations_of, IsOperation}
 use Rattle.rga_lines.specs.declared.reading.Line.TheVariants.{One, Last}
@@ -57,7 +58,7 @@ lines_taken limit n c (line ∷ lines) = go_on n c (after_line limit (n + 1) c (
 
 -- a rest that is too long is the fault of a line
 abbrev pub stop_at_rest : ℕ → List ℕ → Stop → Stop
-stop_at_rest n rest AllTaken = if nat_lt max_line (length rest) then AtFault (fault.Line (n + 1) line_fault.Long) else AllTaken
+stop_at_rest n rest AllTaken = if nat_lt MAX_LINE (length rest) then AtFault (fault.Line (n + 1) line_fault.Long) else AllTaken
 stop_at_rest n rest (AtEnd number) = AtEnd number
 stop_at_rest n rest (AtFault e) = AtFault e
 

@@ -3,7 +3,7 @@ ghost use Rattle.std.specs.Prelude.{◌≡◌, ℕ, ◌≤◌, ◌++◌, ◌∷�
 ghost use Rattle.std.specs.FinSet as finite_set;
 ghost use Rattle.rga_ops.specs.Prelude.{checked, operations, Content, Agree, IsSound, join, known_ids, content_of};
 ghost use Rattle.rga_ops.specs.ListAnswer.{AreWellFormed, IsJoinable};
-ghost use Rattle.rga_lines.specs.Counting.{CountsAs, Writes, WritesFront, Begun};
+ghost use Rattle.rga_lines.specs.Counting.{CountsAs, Writes, WritesFront, WritesAllBut};
 ghost use Rattle.rga_lines.specs.Spelling.{line as line_of, IsWritable};
 ghost use Rattle.rga_lines.specs.Stream.{newline, rest_of};
 ghost use Rattle.rga_exchange.specs.Sending.{log_text, stream_text, AreWritable, StandsFor};
@@ -89,7 +89,7 @@ fn push_lines<W: Write>(
     block: &mut Block,
     writer: &mut Counted<W>,
 ) -> Result<(), SendFault>
-    ensures ok { OnOk result (Begun W.contents writer.old writer.new
+    ensures ok { OnOk result (WritesAllBut W.contents writer.old writer.new
         (block.old ++ log_text ops.now) block.new) }
     ensures writable { OnOk result (AreWellFormed ops.now → AreWritable ops.now) }
     ensures begun { WritesFront W.contents writer.old writer.new (block.old ++ log_text ops.now) }
@@ -108,7 +108,7 @@ fn push_line<W: Write>(
     block: &mut Block,
     writer: &mut Counted<W>,
 ) -> Result<(), SendFault>
-    ensures ok { OnOk result (Begun W.contents writer.old writer.new
+    ensures ok { OnOk result (WritesAllBut W.contents writer.old writer.new
         (block.old ++ (line_of op.now ++ newline ∷ [])) block.new) }
     ensures writable { OnOk result (checked op.now ≡ Ok tt → IsWritable op.now) }
     ensures begun { WritesFront W.contents writer.old writer.new block.old }

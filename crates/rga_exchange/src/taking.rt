@@ -3,7 +3,7 @@ ghost use Rattle.std.specs.Prelude.{◌≡◌, ◌≢◌, ◌+◌, ◌^◌, ◌<
 ghost use Rattle.rga_ops.specs.Prelude.{taken};
 ghost use Rattle.rga_lines.specs.Counting.{CountsAs, OnBytes};
 ghost use Rattle.rga_lines.specs.Stream.{lines_of};
-ghost use Rattle.rga_lines.specs.Table.{max_line};
+ghost use Rattle.rga_lines.specs.declared.reading.TheConstants.{MAX_LINE};
 ghost use Rattle.rga_exchange.specs.Taking.{AtEnd, AtFault, refused_at, HasTakenLines, HasTakenWholeLines};
 ghost use Rattle.rga_exchange.specs.Parts.{line_outcome, TakesUpTo, StopsAs, LeadsTo, EndsAs, StopsReading};
 ghost use Rattle.rga_exchange.specs.declared.fault.LogFault.TheVariants.{Memory, Read as ReadFailed};
@@ -93,7 +93,7 @@ fn take_lines<T: Taker>(
     ensures device { IfErr result (λ e. e ≢ ReadFailed) }
 
     ensures none_left { result ≡ Ok None → (lines_of splitter.new.waiting ≡ [])
-        × (length splitter.new.waiting ≤ max_line) }
+        × (length splitter.new.waiting ≤ MAX_LINE) }
     ensures whole { result ≡ Ok None → splitter.new.broken ≡ false }
     ensures room { result ≡ Ok None →
         lines.new + length splitter.new.waiting ≤ lines.old + length splitter.old.waiting }

@@ -16,7 +16,7 @@ calls_code {T} code =
     code_by (T × (ℕ × ℕ)) (coded× code (coded× coded_ℕ coded_ℕ)) (λ c. (c.inner, (c.failures, c.left)))
     (λ p. record { inner = p.0; failures = p.1.0; left = p.1.1 }) (λ _. refl)
 
--- the count of failures stops at the greatest `u64`
+-- where the count of failures stops: the greatest `u64`
 abbrev pub max_failures : ℕ
 max_failures = 2 ^ 64 - 1
 
@@ -39,7 +39,7 @@ module _ {T : Type 0} where
       (λ n. new.failures ≡ (if (n == 0) && nat_lt 0 (length buf) then one_more old.failures else old.failures))
       (λ _. new.failures ≡ one_more old.failures)
 
-  -- No call comes back. One that answers `Ok` was passed on, so fewer are left.
+  -- No call comes back, of at most so many. One that answers `Ok` was passed on, so fewer are left.
   abbrev pub UsesCall : {A E : Type 0} → Result A E → Calls T → Calls T → Type 0
   UsesCall r old new = (old.left ≤ MAX_CALLS) × (new.left ≤ old.left) × MatchResult r (λ _. new.left < old.left) (λ _. ⊤)
 
@@ -62,7 +62,7 @@ module _ {W : Type 0} (contents : W → Option (List ℕ)) (old new : Calls W) w
   Writes text = Appends (contents old.inner) (contents new.inner) text
 
   -- what was written of the text, rest being left
-  pub record Begun (text rest : List ℕ) : Type 0 where
+  pub record WritesAllBut (text rest : List ℕ) : Type 0 where
     pub front : List ℕ
     pub parts : text ≡ front ++ rest
     pub written : Writes front

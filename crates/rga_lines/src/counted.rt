@@ -103,7 +103,7 @@ impl<R: Read> Read for Counted<R> {
         ensures bound { ReadsAtMost result buf.new }
         ensures bytes { ReadConsumes (R.remaining self.old.inner) (R.remaining self.new.inner)
             result buf.new }
-        ensures counts { Counts result self.old self.new }
+        ensures device { Counts result self.old self.new }
         ensures calls { UsesCall result self.old self.new }
         ensures spent { IsSpent self.old → IsErr result × (self.new.inner ≡ self.old.inner) }
     {
@@ -133,7 +133,7 @@ impl<W: Write> Write for Counted<W> {
         ensures bound { WritesAtMost result buf.now }
         ensures bytes { WriteAppends (W.contents self.old.inner) (W.contents self.new.inner)
             result buf.now }
-        ensures counts { WriteCounts result buf.now self.old self.new }
+        ensures device { WriteCounts result buf.now self.old self.new }
         ensures calls { UsesCall result self.old self.new }
         ensures spent { IsSpent self.old → IsErr result × (self.new.inner ≡ self.old.inner) }
     {
@@ -157,7 +157,7 @@ impl<W: Write> Write for Counted<W> {
 
     fn flush(&mut self) -> Result<()>
         ensures bytes { WritesNothing W.contents self.old self.new }
-        ensures counts { Counts result self.old self.new }
+        ensures device { Counts result self.old self.new }
         ensures calls { UsesCall result self.old self.new }
         ensures spent { IsSpent self.old → IsErr result × (self.new.inner ≡ self.old.inner) }
     {
@@ -179,7 +179,7 @@ impl<W: Write> Write for Counted<W> {
     fn write_all(&mut self, buf: &[u8]) -> Result<()>
         ensures bytes { OnOk result (Writes W.contents self.old self.new buf.now) }
         ensures begun { WritesFront W.contents self.old self.new buf.now }
-        ensures counts { Counts result self.old self.new }
+        ensures device { Counts result self.old self.new }
     {
         let mut rest = buf;
         'rest: while !rest.is_empty() {

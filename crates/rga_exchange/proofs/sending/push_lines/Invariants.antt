@@ -1,12 +1,12 @@
 use Rattle.std.proofs.Common.{◌≡◌, ◌++◌, drop}
-use Rattle.rga_lines.specs.Counting.{Begun}
+use Rattle.rga_lines.specs.Counting.{WritesAllBut}
 use Rattle.rga_exchange.proofs.WritableLaws.{AreWritableUpTo}
 use Rattle.rga_exchange.specs.Sending.{log_text}
 use Rattle.rga_exchange.proofs.sending.push_lines.Given as goal
 
 abbrev pub invariant-loop-op : goal.invariant-loop-op
 invariant-loop-op g l = record {
-  begun : Begun g.W.Write.contents l.initial.writer l.writer (l.initial.block ++ log_text l.ops) (l.block ++ log_text (drop l.op-index l.ops));
+  begun : WritesAllBut g.W.Write.contents l.initial.writer l.writer (l.initial.block ++ log_text l.ops) (l.block ++ log_text (drop l.op-index l.ops));
   writable : AreWritableUpTo l.op-index l.ops;
   unfailed : l.writer.failures ≡ l.initial.writer.failures;
 }

@@ -1,6 +1,6 @@
 use Rattle.std.proofs.Common.{◌≡◌, ◌∙◌, ◌++◌, length, arith}
 use Rattle.rga_ops.specs.Operations.{operations}
-use Rattle.rga_lines.specs.Counting.{Calls, Begun}
+use Rattle.rga_lines.specs.Counting.{Calls, WritesAllBut}
 use Rattle.rga_exchange.specs.Sending.{log_text, stream_text}
 use Rattle.rga_exchange.proofs.BegunLemmas.{begun_left, begun_whole}
 use Rattle.rga_exchange.proofs.LogTextLemmas.{stream_begun, stream_front}
@@ -28,7 +28,7 @@ number : (g : _) (c : goal.After-drop-ops-2 g) → c.len-number.result ≡ lengt
 number g c = omega (arith, c.deref.ensures.len)
 
 -- what is left to be written at the end
-left : (g : _) (c : goal.After-drop-ops-2 g) (a b : Calls g.row.W.Denot) → Begun g.W.Write.contents a b (c.in_ok-block.block ++ log_text c.deref.result.now) c.push_lines.new.block → Begun g.W.Write.contents a b (stream_text (g.S.Taker.content c.args.store.now)) c.push.new.self
+left : (g : _) (c : goal.After-drop-ops-2 g) (a b : Calls g.row.W.Denot) → WritesAllBut g.W.Write.contents a b (c.in_ok-block.block ++ log_text c.deref.result.now) c.push_lines.new.block → WritesAllBut g.W.Write.contents a b (stream_text (g.S.Taker.content c.args.store.now)) c.push.new.self
 left g c a b = stream_begun g.W.Write.contents a b (g.S.Taker.content c.args.store.now) c.deref.result.now c.in_ok-block.block c.push_lines.new.block c.len-number.result c.deref-2.result.now c.push.new.self
     (are g c) c.in_ok-block.ensures (number g c) (c.deref-2.ensures ∙ c.in-Ok-write_end.ensures.ok) c.in_ok-push.ensures
 

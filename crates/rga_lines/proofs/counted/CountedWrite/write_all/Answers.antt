@@ -5,5 +5,5 @@ use Rattle.rga_lines.proofs.counted.CountedWrite.write_all.Goals as goal
 pub rest-preserved : goal.rest-preserved
 rest-preserved g c = record {
   begun = rw c.split_at.ensures.back (begun_more _ _ _ _ _ _ c.in_ok-n.n c.rest.invariant.begun c.in_ok-n.ensures.bytes);
-  count = rw (ne_eqb c.in_ok-n.n 0 c.if-n-eq0.false) at c.in_ok-n.ensures.counts ∙ c.rest.invariant.count;
+  count = rw (ne_eqb c.in_ok-n.n 0 c.if-n-eq0.false) at c.in_ok-n.ensures.device ∙ c.rest.invariant.count;
 }

@@ -1,10 +1,10 @@
 use Rattle.std.proofs.Common.{◌≡◌, length}
-use Rattle.rga_lines.specs.Counting.{Begun}
+use Rattle.rga_lines.specs.Counting.{WritesAllBut}
 use Rattle.rga_lines.proofs.counted.CountedWrite.write_all.Given as goal
 
 abbrev pub invariant-rest : goal.invariant-rest
 invariant-rest g l = record {
-  begun : Begun g.W.Write.contents l.fn.self l.self l.fn.buf l.rest;
+  begun : WritesAllBut g.W.Write.contents l.fn.self l.self l.fn.buf l.rest;
   count : l.self.failures ≡ l.fn.self.failures;
 }
 
