@@ -430,9 +430,6 @@ texts_behind_name : (words : List (String Global)) → AreTexts (drop 1 (map str
 texts_behind_name [] = tt
 texts_behind_name (name ∷ rest) = texts_of_strings rest
 
-abbrev wished : List (String Global) → Wish
-wished words = wish_of (map string_bytes words)
-
 -- what clap may find wrong with words that were with_help_flag
 pub word_kinds : (app : App) (words : List (String Global)) (given : List Text) → app ≡ command_line → drop 1 given ≡ with_help_flag (drop 1 (map string_bytes words))
     → AreKindsOf (topic_of (drop 1 given)) (wish_of (map string_bytes words)) (fault_of app given)

@@ -11,7 +11,7 @@ pub(crate) const VERSION: &str = "0.1.0";
 
 const MGR_HELP: &str = "`mgr help show` is the help of show.";
 
-const SHOW_HELP: &str = "The lines come on standard input, from a log or from several:
+const SHOW_HELP: &str = "Operation lines come on standard input, from one log or from several:
 
     mgr show < FILE
     cat FILE FILE | mgr show";
