@@ -101,8 +101,8 @@ abbrev pub BeginsWith : List ℕ → List Lexeme → List ℕ → Type 0
 BeginsWith bytes lexemes rest = lex between bytes ≡ lexemes ++ lex between rest
 
 -- a text of one character
-abbrev pub BeginsWithChar : List ℕ → ℕ → List ℕ → Type 0
-BeginsWithChar bytes ch rest = BeginsWith bytes (text_lexemes (encode_utf8 ch)) rest × IsScalar ch
+abbrev pub BeginsWithCharText : List ℕ → ℕ → List ℕ → Type 0
+BeginsWithCharText bytes ch rest = BeginsWith bytes (text_lexemes (encode_utf8 ch)) rest × IsScalar ch
 
 abbrev pub BeginsWithMember : List ℕ → Member → List ℕ → Type 0
 BeginsWithMember bytes m rest = BeginsWith bytes (member_lexemes m) rest × IsSound m

@@ -5,7 +5,7 @@ ghost use Rattle.json.specs.Word.{is_operator, is_space, ends_word};
 ghost use Rattle.json.specs.Lex.{between, lex};
 ghost use Rattle.json.specs.Print.{escape};
 ghost use Rattle.rga_lines.specs.Members.{operator_lexemes, text_lexemes, name_lexemes};
-ghost use Rattle.rga_lines.specs.Members.{number_lexemes, BeginsWith, BeginsWithChar};
+ghost use Rattle.rga_lines.specs.Members.{number_lexemes, BeginsWith, BeginsWithCharText};
 ghost use Rattle.rga_lines.specs.Members.{BeginsWithEscape, BeginsWithHexDigit};
 
 use crate::parts;
@@ -60,7 +60,7 @@ pub(crate) fn after_name<'a>(bytes: &'a [u8], name: &str) -> Option<&'a [u8]>
 
 /// The only character of a text, and what stands behind the text.
 pub(crate) fn only_character(bytes: &[u8]) -> Option<(char, &[u8])>
-    ensures { IfSome result (λ p. BeginsWithChar bytes.now p.0 p.1.now) }
+    ensures { IfSome result (λ p. BeginsWithCharText bytes.now p.0 p.1.now) }
 {
     let inside = after(after_blanks(bytes), b"\"")?;
     if let Some((ch, rest)) = character(inside) {

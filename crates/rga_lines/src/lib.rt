@@ -1,16 +1,17 @@
 //! Operations as lines of JSON, streams as lines, and devices whose calls are counted.
 //!
 //! A log or an exchange is a stream of bytes with one operation a line, each a JSON object (RFC
-//! 8259) of a few members; an exchange has one line more, which ends it. This crate says what one
-//! line means (`read_any`, `read_line`, `LineFault`), writes lines (`write_line`, `write_end`),
-//! cuts a stream into its lines in whatever pieces it comes (`Splitter`), and bounds what a device
-//! is asked (`Counted`). It stands on `rga_ops` for the operations, on `serde_json` and `json` for
-//! the JSON, on `itoa` for the digits and on `memchr` for the ends of lines. The layer above may
-//! rest on the table of `specs/Table.antt`, which each line meets or is at fault by; on the
-//! spelling of `specs/Spelling.antt`, which is what is written; on the lines and the rest of a
-//! stream in `specs/Stream.antt`, which are the same however it was cut; on the number of failures
-//! of a device; and on the theorems of `laws`, each the contract of a function with no body, so
-//! that the check proves it.
+//! 8259) of a few members; an exchange has one line more, which ends it. This crate says what a
+//! line means (`read_any`, `read_line`), writes lines (`write_line`, `write_end`), cuts a stream
+//! into its lines in whatever pieces it comes (`Splitter`), and bounds what a device is asked
+//! (`Counted`). It stands on `rga_ops` for the operations, on `serde_json` and `json` for the JSON,
+//! on `itoa` for the digits and on `memchr` for the ends of lines.
+//!
+//! The layer above may rest on the table of `specs/Table.antt`, which each line meets or is at
+//! fault by; on the one spelling of what is written, in `specs/Spelling.antt`; on the lines and the
+//! rest of a stream in `specs/Stream.antt`, which are the same however it was cut; on the number of
+//! failures of a device, in `specs/Counting.antt`; and on the theorems of `laws`, each the contract
+//! of a function with no body, so that the check proves it.
 #![tactic(auto)]
 
 mod counted;
@@ -30,7 +31,5 @@ pub use reading::{Line, MAX_LINE, read_any, read_line};
 pub use splitter::Splitter;
 pub use writing::{write_end, write_line};
 
-#[cfg(test)]
-mod line_tests;
 #[cfg(test)]
 mod tests;
