@@ -1,6 +1,6 @@
 -- The compact text of the value of an operation, or of the end of an exchange, is its line.
-use Rattle.std.proofs.Common.{◌≡◌, ℕ, ◌+◌, ◌<◌, ◌≤◌, ◌/◌, Bool, true, false, cond, List, [], ◌∷◌, ◌++◌, ◌⊎◌, inl, inr, codes, refl, sym, ap, subst, ◌∙◌, arith, append_assoc, append-nil, ltb, lt-ltb, le-ltb, ne_eqb, eqb, ◌||◌, ◌%◌}
-use Rattle.std.specs.Char.{encode_utf8, digit_char}
+use Rattle.std.proofs.Common.{◌≡◌, ℕ, ◌+◌, ◌<◌, ◌≤◌, ◌/◌, Bool, true, false, cond, List, [], ◌∷◌, ◌++◌, ◌⊎◌, inl, inr, codes, refl, sym, ap, subst, ◌∙◌, arith, append_assoc, append-nil, ltb, lt-ltb, le-ltb, ne_eqb, eqb, ◌||◌}
+use Rattle.std.specs.Char.{encode_utf8}
 use lib.Utf8.{next}
 use Rattle.std.proofs.lemmas.Bool.{cases_eq, cases_lt}
 use Rattle.std.proofs.lemmas.Str.{encode_ascii}
