@@ -30,8 +30,8 @@ number_received n (AtFault e) = Err (receive_fault e)
 abbrev pub exchange_outcome : ℕ → Content → List ℕ → Content × Result ℕ ReceiveFault
 exchange_outcome limit c bytes = let t = stream_taken limit c bytes in (t.content, number_received t.lines t.stop)
 
--- What a reader gave, from the one state to the other, ended with one read: before that one there were operations alone,
--- and no end line.
+-- What a reader gave, from the one state to the other: lines of operations alone, with no end line among them, and then
+-- one block at most.
 pub record EndsWithLastRead {R : Type 0} (remaining : R → Option (List ℕ)) (old new : Calls R) : Type 0 where
   pub before : List ℕ
   pub last : List ℕ

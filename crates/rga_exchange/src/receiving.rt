@@ -36,7 +36,7 @@ pub fn receive<T: Taker, R: Read>(
     ensures number { IfOk result (λ n. OnBytes R.remaining reader.old
         (λ bytes. n ≡ length (stream_operations bytes))) }
 
-    // No read follows the one that brought the end line, be its number right or wrong.
+    // What was read is lines of operations alone, and then one block at most.
     ensures last { OnOk result (EndsWithLastRead R.remaining reader.old reader.new) }
     ensures last_count { result ≡ Err ReceiveFault.Count
         → EndsWithLastRead R.remaining reader.old reader.new }

@@ -46,7 +46,7 @@ pub fn write_end(alloc: Global, count: u64) -> Result<String, LineFault>
     Ok(text)
 }
 
-#[tactic(auto, using(crate::proofs::WritableLemmas::insertion_writable), unfolding(crate::specs::Spelling::line),)]
+#[tactic(auto, using(crate::proofs::WritableLemmas::insertion_writable), unfolding(crate::specs::Spelling::line))]
 fn insertion(alloc: Global, id: &Id, parent: &Id, ch: char) -> Result<String, AllocError>
     ensures ok { IfOk result (λ s. string_bytes s ≡ line (Insert id.now parent.now ch)) }
     ensures writable { let op = Insert id.now parent.now ch in
@@ -63,7 +63,7 @@ fn insertion(alloc: Global, id: &Id, parent: &Id, ch: char) -> Result<String, Al
     Ok(text)
 }
 
-#[tactic(auto, using(crate::proofs::WritableLemmas::deletion_writable), unfolding(crate::specs::Spelling::line),)]
+#[tactic(auto, using(crate::proofs::WritableLemmas::deletion_writable), unfolding(crate::specs::Spelling::line))]
 fn deletion(alloc: Global, id: &Id) -> Result<String, AllocError>
     ensures ok { IfOk result (λ s. string_bytes s ≡ line (Delete id.now)) }
     ensures writable { OnOk result (checked (Delete id.now) ≡ Ok tt → IsWritable (Delete id.now)) }

@@ -18,6 +18,10 @@ pub record IsFamily (c : Content) (family : Identifier → List Identifier) : Ty
   pub children : (p k : Identifier) → has_child (family p) k ≡ is_child c p k
   pub rising : (p : Identifier) → IsRising (family p)
 
+-- the children in the nodes are those of their content
+abbrev pub HasFamilies : Nodes → Type 0
+HasFamilies ns = IsFamily (content_of_nodes ns) (children_of ns)
+
 -- each operation of the content is well-formed, and it has this clock, so many insertions, and so many identifiers, which
 -- are within the limit
 pub record IsCounted (c : Content) (latest insertions identifiers limit : ℕ) : Type 0 where
@@ -31,5 +35,5 @@ pub record IsCounted (c : Content) (latest insertions identifiers limit : ℕ) :
 -- no identifier has two nodes, the children are those of the content, and it is counted
 pub record IsTree (nodes : Nodes) (latest insertions identifiers limit : ℕ) : Type 0 where
   pub apart : AreApart nodes
-  pub family : IsFamily (content_of_nodes nodes) (children_of nodes)
+  pub family : HasFamilies nodes
   pub counted : IsCounted (content_of_nodes nodes) latest insertions identifiers limit

@@ -6,8 +6,8 @@ ghost use Rattle.std.specs.List.{cons_option};
 ghost use Rattle.std.specs.Option.{option_copied};
 ghost use Rattle.rga_ops.specs.Content.{IsSound};
 ghost use Rattle.rga_ops.specs.Order.{order, text};
-ghost use Rattle.rga_store.specs.Nodes.{content_of_nodes, children_of, char_at, AreApart};
-ghost use Rattle.rga_store.specs.Tree.{IsFamily};
+ghost use Rattle.rga_store.specs.Nodes.{content_of_nodes, char_at, AreApart};
+ghost use Rattle.rga_store.specs.Tree.{HasFamilies};
 
 use crate::nodes::{Node, push_children};
 use indexmap::IndexMap;
@@ -16,7 +16,7 @@ use std::alloc::Global;
 
 /// The complete elements in order.
 pub(crate) fn walked(alloc: Global, nodes: &IndexMap<Id, Node>) -> Result<Vec<Id>, Refusal>
-    requires family { IsFamily (content_of_nodes nodes.now.entries) (children_of nodes.now.entries) }
+    requires family { HasFamilies nodes.now.entries }
     requires sound { IsSound (content_of_nodes nodes.now.entries) }
     ensures ok { IfOk result (λ ids. ids.items ≡ order (content_of_nodes nodes.now.entries)) }
     ensures memory { IfErr result (λ e. e ≡ Refusal.Memory) }
@@ -35,7 +35,7 @@ pub(crate) fn walked(alloc: Global, nodes: &IndexMap<Id, Node>) -> Result<Vec<Id
 /// The characters of the visible elements, in order.
 pub(crate) fn walked_text(alloc: Global, nodes: &IndexMap<Id, Node>) -> Result<Vec<char>, Refusal>
     requires apart { AreApart nodes.now.entries }
-    requires family { IsFamily (content_of_nodes nodes.now.entries) (children_of nodes.now.entries) }
+    requires family { HasFamilies nodes.now.entries }
     requires sound { IsSound (content_of_nodes nodes.now.entries) }
     ensures ok { IfOk result (λ chars. chars.items ≡ text (content_of_nodes nodes.now.entries)) }
     ensures memory { IfErr result (λ e. e ≡ Refusal.Memory) }

@@ -49,8 +49,8 @@ pub fn taking_one_by_one_leads_to_the_content()
         taken_one_by_one limit nothing ops ≡ Ok (content_of ops) }
 {}
 
-/// The answers to a list that is taken whole or not at all, each exactly where it comes. Where it is
-/// taken, its operations would all be taken one by one, and lead to the same content. Where they
+/// The answers to a list that is taken whole or not at all, each exactly where it comes. Where it
+/// is taken, its operations would all be taken one by one, and lead to the same content. Where they
 /// would be, and what is held is within the limit, it is taken.
 pub fn answers_to_a_list_in_words()
     ensures taken { (limit : ℕ) (c : Content) (ops : List Operation) →
