@@ -66,11 +66,11 @@ pub fn job_status(fault: &JobFault) -> u8
 
 /// The job that the words ask for, of which the first is the program's name.
 ///
-/// `show` alone is `Job::Show`; a `--` may end its flags. `Help` on the program where the first
-/// word behind its name is `--help`, or `-h` with anything behind it, and on `show` where that is
-/// the first word behind `show`; `Version` where the first word is `--version` or `-V` likewise.
-/// `help` in front is `--help` behind: `mgr help show` asks for what `mgr show --help` does.
-/// `Usage` at any other command line, and `Memory`.
+/// `show` alone is `Job::Show`; a `--` may end its flags. `Help` is on the program where the first
+/// word behind its name is `--help`, or `-h` with anything behind it, and on `show` where the first
+/// word behind `show` is. `Version` where the first word is `--version`, or `-V` with anything
+/// behind it. `help` in front is `--help` behind: `mgr help show` asks for what `mgr show --help`
+/// does. `Usage` at any other command line, and `Memory`.
 pub fn job_of(alloc: Global, words: &[String]) -> Result<Job, JobFault>
     ensures job { IfOk result (λ job. wish_of (map string_bytes words.now) ≡ work job) }
     ensures fault { IfErr result (IsFaultOf (wish_of (map string_bytes words.now))) }
