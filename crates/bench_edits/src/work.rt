@@ -30,9 +30,7 @@ pub fn done(alloc: Global, task: &Task) -> Result<usize, Refusal> {
 /// A document of so many characters, put in at once.
 fn document(alloc: Global, size: usize) -> Result<Document, Refusal> {
     let mut chars = Vec::new(alloc);
-    if chars.resize(size, 'a').is_err() {
-        return Err(Refusal::Memory);
-    }
+    chars.resize(size, 'a')?;
     let mut doc = Doc::new(alloc, TreeStore::new(alloc, MAX_LIMIT)?, 1)?;
     let _ops = doc.splice(0, 0, &chars)?;
     Ok(doc)

@@ -14,10 +14,6 @@ use Rattle.rga_lines.specs.declared.reading.Line.TheVariants.{One, Last}
 use Rattle.rga_lines.specs.declared.fault.LineFault.{LineFault}
 use Rattle.rga_lines.specs.declared.fault.LineFault.TheVariants as fault
 
--- the most bytes of a line, its newline left out
-abbrev pub max_line : ℕ
-max_line = MAX_LINE
-
 -- an operation, or what is wrong
 abbrev pub Reading : Type 0
 Reading = Result Op LineFault

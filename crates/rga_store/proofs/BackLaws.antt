@@ -56,7 +56,7 @@ deletion_again c id g = same_content _ _
       | false ↦ λ t. or-false (finite_set.contains c.deleted q)
     ] refl)
 
--- ---- a new operation, taken back
+-- ---- a new operation, removed again
 
 pub without_new : (limit : ℕ) (c : Content) (op : Op) → answer limit c op ≡ Ok New → without op (join c (single op)) ≡ c
 without_new limit c (Insert id parent ch) h =

@@ -1,4 +1,4 @@
--- What is left of a content once operations are taken back.
+-- What is left of a content once operations are removed again.
 use Rattle.std.specs.Prelude.{◌≡◌, ℕ, List, [], ◌∷◌}
 use Rattle.std.specs.FinMap as finite_map
 use Rattle.std.specs.FinSet as finite_set
@@ -19,7 +19,7 @@ abbrev pub without : Op → Content → Content
 without (Insert id parent ch) c = without_insertion id c
 without (Delete id) c = without_deletion id c
 
--- what is left once the steps are taken back, the last first
+-- what is left once the operations of the steps are removed, the last first
 abbrev pub gone_back : List Step → Content → Content
 gone_back [] c = c
 gone_back (s ∷ ss) c = without s.op (gone_back ss c)
@@ -29,7 +29,7 @@ abbrev pub CanGoBack : List Step → Content → Type 0
 CanGoBack [] c = Unit {0}
 CanGoBack (s ∷ ss) c = CanGoBack ss c × (Holds (gone_back ss c) s.op × (s.clock ≡ clock_of (without s.op (gone_back ss c))))
 
--- the operation was the last one, with the clock before it, and the steps before it can be taken back after it
+-- the operation was the last one, with the clock before it, and those of the steps before it can be removed after it
 pub record IsLastStep (ss : List Step) (op : Op) (before : ℕ) (c : Content) : Type 0 where
   pub held : Holds c op
   pub clocked : before ≡ clock_of (without op c)
