@@ -13,8 +13,6 @@ mod doc;
 mod draft;
 mod edit;
 pub mod laws;
-#[cfg(test)]
-mod tests;
 
 pub use anchor::Anchor;
 pub use doc::Doc;

@@ -26,6 +26,3 @@ pub use fault::{LogFault, ReceiveFault, SendFault};
 pub use log::{LogEnd, LogRead, read_log, take_log};
 pub use receiving::receive;
 pub use sending::{append_log, send};
-
-#[cfg(test)]
-mod tests;

@@ -30,6 +30,3 @@ pub use fault::LineFault;
 pub use reading::{Line, MAX_LINE, read_any, read_line};
 pub use splitter::Splitter;
 pub use writing::{write_end, write_line};
-
-#[cfg(test)]
-mod tests;

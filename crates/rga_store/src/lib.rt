@@ -26,6 +26,3 @@ pub use rga_ops::Taken;
 pub use taker::Taker;
 pub use text_store::{MAX_LIMIT, TextStore};
 pub use tree_store::TreeStore;
-
-#[cfg(test)]
-mod tests;

@@ -11,8 +11,6 @@
 mod characters;
 mod elements;
 mod place;
-#[cfg(test)]
-mod tests;
 
 pub use characters::{text, visible_len};
 pub use elements::{element_at, position_of, visible_elements};

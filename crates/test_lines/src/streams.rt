@@ -1,5 +1,5 @@
 //! Streams cut into lines.
-use crate::{LineFault, MAX_LINE, Splitter};
+use rga_lines::{LineFault, MAX_LINE, Splitter};
 use std::alloc::Global;
 use std::test::Fail;
 

@@ -1,7 +1,7 @@
 //! Merges of small stores: answers, contents and orders.
-use super::store_of;
-use crate::{Taker, TextStore, TreeStore};
+use crate::stores::store_of;
 use rga_ops::{Id, Op, Refusal};
+use rga_store::{Taker, TextStore, TreeStore};
 use std::test::Fail;
 use test_ops::{deletion, id, insertion};
 

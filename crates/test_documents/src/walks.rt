@@ -1,7 +1,7 @@
 //! The worked example: two people write at once, and then one element is deleted.
-use crate::{element_at, place_of, position_of, text, visible_elements, visible_len};
 use rga_ops::{Id, Refusal};
 use rga_store::{Taker, TextStore, TreeStore};
+use rga_walk::{element_at, place_of, position_of, text, visible_elements, visible_len};
 use std::alloc::Global;
 use std::test::Fail;
 use test_ops::{id, ops_of};

@@ -1,5 +1,5 @@
 //! `receive`, `read_log` and `take_log` on worked examples, at a small store.
-use crate::{LogEnd, LogRead, ReceiveFault, read_log, receive, take_log};
+use rga_exchange::{LogEnd, LogRead, ReceiveFault, read_log, receive, take_log};
 use rga_lines::{Counted, LineFault};
 use rga_ops::{Id, Refusal};
 use rga_store::{TextStore, TreeStore};

@@ -1,5 +1,5 @@
 //! What is sent, to writers in memory.
-use crate::{SendFault, append_log, send};
+use rga_exchange::{SendFault, append_log, send};
 use rga_lines::{Counted, write_line};
 use rga_ops::{Id, Op, Refusal};
 use rga_store::{Taker, TextStore, TreeStore};

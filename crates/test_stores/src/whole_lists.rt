@@ -1,7 +1,7 @@
 //! Lists of operations that a store takes whole or not at all.
-use super::store_of;
-use crate::{Taker, TextStore};
+use crate::stores::store_of;
 use rga_ops::{Op, Refusal};
+use rga_store::{Taker, TextStore};
 use std::test::Fail;
 use test_ops::{deletion, id, insertion};
 

@@ -1,5 +1,5 @@
 //! Devices whose calls are counted.
-use crate::Counted;
+use rga_lines::Counted;
 use std::io;
 use std::io::{ErrorKind, Read, Write};
 use std::test::Fail;

@@ -1,5 +1,5 @@
 //! Lines read and written.
-use crate::{Line, LineFault, MAX_LINE, read_any, read_line, write_end, write_line};
+use rga_lines::{Line, LineFault, MAX_LINE, read_any, read_line, write_end, write_line};
 use rga_ops::{Id, Op};
 use std::alloc::Global;
 use std::test::Fail;

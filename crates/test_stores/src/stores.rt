@@ -1,12 +1,9 @@
 //! The tree store on worked examples.
-use crate::{MAX_LIMIT, Taken, Taker, TextStore, TreeStore};
 use rga_ops::{Id, Op, Refusal};
+use rga_store::{MAX_LIMIT, Taken, Taker, TextStore, TreeStore};
 use std::alloc::Global;
 use std::test::Fail;
 use test_ops::{deletion, id, insertion, ops_of};
-
-mod merging;
-mod whole_lists;
 
 /// The text of a store as a string.
 fn text_of<S: TextStore>(alloc: Global, store: &S) -> Result<String, Fail> {
@@ -116,7 +113,7 @@ fn branched_by_identifier() -> Result<[Op; 6], Refusal> {
 }
 
 /// A store that took these operations, each of them anew.
-fn store_of(alloc: Global, limit: usize, ops: &[Op]) -> Result<TreeStore, Refusal> {
+pub fn store_of(alloc: Global, limit: usize, ops: &[Op]) -> Result<TreeStore, Refusal> {
     let mut store = TreeStore::new(alloc, limit)?;
     for op in ops {
         let _taken = store.apply(*op)?;

@@ -1,0 +1,10 @@
+//! Tests of logs and exchanges.
+//!
+//! Worked examples over a `TreeStore`, with readers and writers that fail. Nothing stands on this
+//! crate, so nothing waits for its proof.
+#![tactic(auto)]
+
+#[cfg(test)]
+mod receiving;
+#[cfg(test)]
+mod sending;

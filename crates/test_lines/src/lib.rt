@@ -1,0 +1,12 @@
+//! Tests of lines, of streams cut into lines, and of counted devices.
+//!
+//! Worked examples, and tables of faults. Nothing stands on this crate, so nothing waits for its
+//! proof.
+#![tactic(auto)]
+
+#[cfg(test)]
+mod devices;
+#[cfg(test)]
+mod lines;
+#[cfg(test)]
+mod streams;

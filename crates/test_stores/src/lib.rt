@@ -1,0 +1,19 @@
+//! Tests of stores.
+//!
+//! The worked examples of `TreeStore`; and the tree beside a plain list: seeded random operations go
+//! into both, the list being searched from the front and comparing whole root paths, and after each
+//! both must answer and show the same. Nothing stands on this crate, so nothing waits for its proof.
+#![tactic(auto)]
+
+#[cfg(test)]
+mod comparison;
+#[cfg(test)]
+mod list_store;
+#[cfg(test)]
+mod merging;
+#[cfg(test)]
+mod random;
+#[cfg(test)]
+mod stores;
+#[cfg(test)]
+mod whole_lists;
