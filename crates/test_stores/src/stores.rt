@@ -3,24 +3,21 @@ use rga_ops::{Id, Op, Refusal};
 use rga_store::{MAX_LIMIT, Taken, Taker, TextStore, TreeStore};
 use std::alloc::Global;
 use std::test::Fail;
-use test_ops::{deletion, id, insertion, ops_of};
+use test_ops::{id, insertion, ops_of};
 
-/// The text of a store as a string.
-fn text_of<S: TextStore>(alloc: Global, store: &S) -> Result<String, Fail> {
-    let mut text = String::new(alloc);
-    for ch in &store.text(alloc)? {
-        text.push(*ch)?;
-    }
-    Ok(text)
-}
-
-/// The text of a store that took these operations, and how many elements wait in it.
-fn text_after<S: TextStore + Drop>(alloc: Global, ops: &[Op]) -> Result<(String, usize), Fail> {
-    let mut store = S::new(alloc, 100)?;
-    for op in ops {
+/// A store that took the operations of these words one by one.
+pub fn store_of(alloc: Global, limit: usize, words: &str) -> Result<TreeStore, Fail> {
+    let mut store = TreeStore::new(alloc, limit)?;
+    for op in &ops_of(alloc, words)? {
         let _taken = store.apply(*op)?;
     }
-    Ok((text_of(alloc, &store)?, store.waiting_count()?))
+    Ok(store)
+}
+
+/// Whether the text of the store is this one.
+fn shows(alloc: Global, store: &TreeStore, text: &str) -> Result<bool, Fail> {
+    let chars = store.text(alloc)?;
+    Ok(String::from_iter(alloc, chars)?.as_str() == text)
 }
 
 #[test]
@@ -46,116 +43,75 @@ fn the_text_follows_the_root_paths(rt: HostRuntime) -> Result<(), Fail> {
             0,
         ),
     ];
-    for (name, ops, text, waiting) in table {
-        let ops = ops_of(rt.alloc(), ops)?;
-        let shown = text_after::<TreeStore>(rt.alloc(), &ops)?;
-        assert_eq!(rt; shown.0.as_str(), text, "{name}");
-        assert_eq!(rt; shown.1, waiting, "{name}");
+    for (name, words, text, waiting) in table {
+        let store = store_of(rt.alloc(), 100, words)?;
+        assert!(rt; shows(rt.alloc(), &store, text)?, "{name}");
+        assert_eq!(rt; store.waiting_count(), Ok(waiting), "{name}");
     }
     Ok(())
-}
-
-type Answers = [(Op, Result<Taken, Refusal>); 13];
-
-fn answers() -> Result<Answers, Refusal> {
-    let one = id(1, 1)?;
-    Ok([
-        (insertion((0, 0), (0, 0), 'a')?, Err(Refusal::BadId)),
-        (insertion((1, 1), (1, 2), 'a')?, Err(Refusal::BadOrder)),
-        (insertion((1, 1), (0, 0), 'a')?, Ok(Taken::New)),
-        (insertion((1, 1), (0, 0), 'a')?, Ok(Taken::Known)),
-        (insertion((1, 1), (0, 0), 'b')?, Err(Refusal::Conflict(one))),
-        (insertion((2, 1), (1, 1), 'b')?, Ok(Taken::New)),
-        (deletion(3, 1)?, Ok(Taken::New)),
-        (insertion((4, 1), (3, 1), 'd')?, Err(Refusal::Full)),
-        (deletion(9, 9)?, Err(Refusal::Full)),
-        (insertion((3, 1), (2, 1), 'c')?, Ok(Taken::New)),
-        (deletion(3, 1)?, Ok(Taken::Known)),
-        (deletion(2, 1)?, Ok(Taken::New)),
-        (deletion(2, 1)?, Ok(Taken::Known)),
-    ])
 }
 
 #[test]
 fn each_operation_has_its_answer(rt: HostRuntime) -> Result<(), Fail> {
-    let table = answers()?;
-    let ids = [id(1, 1)?, id(2, 1)?, id(3, 1)?];
+    let conflict = Err(Refusal::Conflict(id(1, 1)?));
+    let table = [
+        ("a0.0<0.0", Err(Refusal::BadId)),
+        ("a1.1<1.2", Err(Refusal::BadOrder)),
+        ("a1.1<0.0", Ok(Taken::New)),
+        ("a1.1<0.0", Ok(Taken::Known)),
+        ("b1.1<0.0", conflict),
+        ("b2.1<1.1", Ok(Taken::New)),
+        ("-3.1", Ok(Taken::New)),
+        ("d4.1<3.1", Err(Refusal::Full)),
+        ("-9.9", Err(Refusal::Full)),
+        ("c3.1<2.1", Ok(Taken::New)),
+        ("-3.1", Ok(Taken::Known)),
+        ("-2.1", Ok(Taken::New)),
+        ("-2.1", Ok(Taken::Known)),
+    ];
     let mut store = TreeStore::new(rt.alloc(), 3)?;
-    for (k, row) in table.iter().enumerate() {
-        assert_eq!(rt; store.apply(row.0), row.1, "row {k}");
+    for (words, answer) in table {
+        for op in &ops_of(rt.alloc(), words)? {
+            assert_eq!(rt; store.apply(*op), answer, "{words}");
+        }
     }
-    assert_eq!(rt; store.known(), 3);
-    assert_eq!(rt; store.limit(), 3);
-    assert_eq!(rt; store.get(ids[0]), Some((Id::ROOT, 'a')));
-    assert_eq!(rt; store.is_deleted(ids[2]), true);
-    assert_eq!(rt; store.order()?.as_slice(), ids.as_slice());
+    let order = [id(1, 1)?, id(2, 1)?, id(3, 1)?];
+    assert!(rt; store.order()?.as_slice() == order.as_slice());
     Ok(())
 }
 
-fn branched() -> Result<[Op; 4], Refusal> {
-    Ok([
-        insertion((1, 1), (0, 0), 'a')?,
-        insertion((3, 1), (1, 1), 'c')?,
-        insertion((4, 1), (3, 1), 'd')?,
-        insertion((2, 2), (1, 1), 'b')?,
-    ])
-}
+/// The operations of a small tree, by identifier.
+const TREE: &str = "a1.1<0.0 b2.2<1.1 c3.1<1.1 d4.1<3.1 -3.1 -7.2";
 
-fn branched_by_identifier() -> Result<[Op; 6], Refusal> {
-    Ok([
-        insertion((1, 1), (0, 0), 'a')?,
-        insertion((2, 2), (1, 1), 'b')?,
-        insertion((3, 1), (1, 1), 'c')?,
-        insertion((4, 1), (3, 1), 'd')?,
-        deletion(3, 1)?,
-        deletion(7, 2)?,
-    ])
-}
-
-/// A store that took these operations, each of them anew.
-pub fn store_of(alloc: Global, limit: usize, ops: &[Op]) -> Result<TreeStore, Refusal> {
-    let mut store = TreeStore::new(alloc, limit)?;
-    for op in ops {
-        let _taken = store.apply(*op)?;
-    }
-    Ok(store)
-}
+/// The same in another order.
+const SHUFFLED: &str = "-7.2 a1.1<0.0 c3.1<1.1 -3.1 d4.1<3.1 b2.2<1.1";
 
 #[test]
 fn a_store_tells_its_content(rt: HostRuntime) -> Result<(), Fail> {
-    let ops = branched()?;
-    let other = insertion((3, 1), (1, 1), 'x')?;
-    let store = store_of(rt.alloc(), 7, &ops)?;
-    assert_eq!(rt; text_of(rt.alloc(), &store)?.as_str(), "acdb");
-    assert_eq!(rt; store.waiting_count(), Ok(0));
-    assert_eq!(rt; (store.clock(), store.known(), store.limit()), (4, 4, 7));
-    assert_eq!(rt;
-        (store.contains(&ops[1]), store.contains(&other)),
-        (true, false)
-    );
+    let store = store_of(rt.alloc(), 7, SHUFFLED)?;
+    assert_eq!(rt; store.clock(), 7);
+    assert_eq!(rt; store.known(), 5);
+    assert_eq!(rt; store.limit(), 7);
+    assert_eq!(rt; store.get(id(1, 1)?), Some((Id::ROOT, 'a')));
+    assert!(rt; store.is_deleted(id(7, 2)?));
+    assert!(rt; store.contains(&insertion((3, 1), (1, 1), 'c')?));
+    assert!(rt; !store.contains(&insertion((3, 1), (1, 1), 'x')?));
     Ok(())
 }
 
 #[test]
 fn operations_come_by_identifier(rt: HostRuntime) -> Result<(), Fail> {
-    let listed = branched_by_identifier()?;
-    let ops = [
-        listed[5], listed[0], listed[2], listed[4], listed[3], listed[1],
-    ];
-    let store = store_of(rt.alloc(), 7, &ops)?;
-    assert_eq!(rt; store.clock(), 7);
-    assert_eq!(rt; store.contains(&listed[5]), true);
-    assert_eq!(rt; store.ops()?.as_slice(), listed.as_slice());
+    let store = store_of(rt.alloc(), 7, SHUFFLED)?;
+    assert!(rt; store.ops()?.as_slice() == ops_of(rt.alloc(), TREE)?.as_slice());
     Ok(())
 }
 
 #[test]
 fn a_copy_has_the_same_content(rt: HostRuntime) -> Result<(), Fail> {
-    let listed = branched_by_identifier()?;
-    let copy = store_of(rt.alloc(), 7, &listed)?.copy()?;
+    let copy = store_of(rt.alloc(), 7, SHUFFLED)?.copy()?;
     assert_eq!(rt; copy.limit(), 7);
-    assert_eq!(rt; text_of(rt.alloc(), &copy)?.as_str(), "adb");
-    assert_eq!(rt; copy.ops()?.as_slice(), listed.as_slice());
+    assert!(rt; shows(rt.alloc(), &copy, "adb")?);
+    assert!(rt; copy.ops()?.as_slice() == ops_of(rt.alloc(), TREE)?.as_slice());
     Ok(())
 }
 
@@ -196,8 +152,11 @@ fn siblings(alloc: Global, shape: usize) -> Result<Vec<Op>, Fail> {
 #[test]
 fn many_siblings(rt: HostRuntime) -> Result<(), Fail> {
     for shape in 0..3 {
-        let ops = siblings(rt.alloc(), shape)?;
-        let order = store_of(rt.alloc(), 1000, &ops)?.order()?;
+        let mut store = TreeStore::new(rt.alloc(), 1000)?;
+        for op in &siblings(rt.alloc(), shape)? {
+            let _taken = store.apply(*op)?;
+        }
+        let order = store.order()?;
         assert_eq!(rt; order.as_slice().len(), 199);
         for pair in order.as_slice().windows(2) {
             assert!(rt; pair.first() > pair.last(), "{shape}");
