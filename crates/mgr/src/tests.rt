@@ -10,50 +10,46 @@ use std::alloc::Global;
 use std::test::Fail;
 use test_devices::{Narrow, Pieces};
 
-const A: &str = "{\"char\":\"a\",\"id\":[1,1],\"op\":\"ins\",\"parent\":[0,0]}\n";
+/// The line that a letter stands for; any other character stands for itself.
+fn line_of(letter: char) -> Option<&'static str> {
+    match letter {
+        'A' => Some("{\"char\":\"a\",\"id\":[1,1],\"op\":\"ins\",\"parent\":[0,0]}\n"),
+        'B' => Some("{\"char\":\"b\",\"id\":[2,1],\"op\":\"ins\",\"parent\":[1,1]}\n"),
+        'C' => Some("{\"char\":\"c\",\"id\":[3,1],\"op\":\"ins\",\"parent\":[2,1]}\n"),
+        'X' => Some("{\"char\":\"x\",\"id\":[1,2],\"op\":\"ins\",\"parent\":[0,0]}\n"),
+        'Y' => Some("{\"char\":\"y\",\"id\":[2,2],\"op\":\"ins\",\"parent\":[1,2]}\n"),
+        // behind B
+        'Z' => Some("{\"char\":\"X\",\"id\":[4,2],\"op\":\"ins\",\"parent\":[2,1]}\n"),
+        // another insertion of A's identifier
+        'O' => Some("{\"char\":\"b\",\"id\":[1,1],\"op\":\"ins\",\"parent\":[0,0]}\n"),
+        // a parent that is not smaller
+        'P' => Some("{\"char\":\"a\",\"id\":[1,1],\"op\":\"ins\",\"parent\":[1,2]}\n"),
+        // A, spelled otherwise
+        'S' => Some("{ \"op\":\"ins\", \"parent\":[0,0], \"id\":[1,1], \"char\":\"\\u0061\" }\r\n"),
+        'E' => Some("{\"char\":\"\u{20ac}\",\"id\":[1,1],\"op\":\"ins\",\"parent\":[0,0]}\n"),
+        // the deletions of A and of B
+        'a' => Some("{\"id\":[1,1],\"op\":\"del\"}\n"),
+        'b' => Some("{\"id\":[2,1],\"op\":\"del\"}\n"),
+        // the end of an exchange
+        'e' => Some("{\"count\":1,\"op\":\"end\"}\n"),
+        _ => None,
+    }
+}
 
-const B: &str = "{\"char\":\"b\",\"id\":[2,1],\"op\":\"ins\",\"parent\":[1,1]}\n";
-
-const C: &str = "{\"char\":\"c\",\"id\":[3,1],\"op\":\"ins\",\"parent\":[2,1]}\n";
-
-const X: &str = "{\"char\":\"x\",\"id\":[1,2],\"op\":\"ins\",\"parent\":[0,0]}\n";
-
-const Y: &str = "{\"char\":\"y\",\"id\":[2,2],\"op\":\"ins\",\"parent\":[1,2]}\n";
-
-const OTHER_A: &str = "{\"char\":\"b\",\"id\":[1,1],\"op\":\"ins\",\"parent\":[0,0]}\n";
-
-const BEHIND_B: &str = "{\"char\":\"X\",\"id\":[4,2],\"op\":\"ins\",\"parent\":[2,1]}\n";
-
-const PARENT_NOT_SMALLER: &str = "{\"char\":\"a\",\"id\":[1,1],\"op\":\"ins\",\"parent\":[1,2]}\n";
-
-const SPELLED_OUT: &str =
-    "{ \"op\":\"ins\", \"parent\":[0,0], \"id\":[1,1], \"char\":\"\\u0061\" }\r\n";
-
-const BARE_B: &str = "{\"char\":\"b\",\"id\":[2,1],\"op\":\"ins\",\"parent\":[1,1]}";
-
-const BARE_OTHER_A: &str = "{\"char\":\"b\",\"id\":[1,1],\"op\":\"ins\",\"parent\":[0,0]}";
-
-const BARE_PARENT_NOT_SMALLER: &str =
-    "{\"char\":\"a\",\"id\":[1,1],\"op\":\"ins\",\"parent\":[1,2]}";
-
-const CUT: &str = "{\"id\":[1,1],\"op\":\"d";
-
-const END: &str = "{\"count\":1,\"op\":\"end\"}\n";
-
-const BARE_END: &str = "{\"count\":1,\"op\":\"end\"}";
-
-const BYTE_ORDER_MARK: &str = "\u{feff}";
-
-const NO_A: &str = "{\"id\":[1,1],\"op\":\"del\"}\n";
-
-const NO_B: &str = "{\"id\":[2,1],\"op\":\"del\"}\n";
-
-const EURO: &str = "{\"char\":\"\u{20ac}\",\"id\":[1,1],\"op\":\"ins\",\"parent\":[0,0]}\n";
-
-fn bytes_of(alloc: Global, lines: &[&str]) -> Result<Vec<u8>, Fail> {
+/// The lines that the letters stand for. A point takes the last byte away, as the newline of a line.
+fn bytes_of(alloc: Global, letters: &str) -> Result<Vec<u8>, Fail> {
     let mut log = Vec::new(alloc);
-    for line in lines {
-        log.extend_from_slice(line.as_bytes())?;
+    for letter in letters.chars() {
+        match line_of(letter) {
+            Some(line) => log.extend_from_slice(line.as_bytes())?,
+            None if letter == '.' => {
+                let _last = log.pop();
+            }
+            None => {
+                let mut bytes = [0u8; 4];
+                log.extend_from_slice(letter.encode_utf8(&mut bytes).as_bytes())?;
+            }
+        }
     }
     Ok(log)
 }
@@ -73,34 +69,34 @@ fn show_pieces(alloc: Global, log: &[u8], most: usize) -> (Result<(), ShowFault>
 
 #[test]
 fn texts_of_logs(rt: HostRuntime) -> Result<(), Fail> {
-    let table: [(&[&str], &str); 20] = [
-        (&[], ""),
-        (&[A, B], "ab"),
-        (&[A, X], "xa"),
-        (&[X, A], "xa"),
-        (&[B], ""),
-        (&[B, A], "ab"),
-        (&[NO_A, A], ""),
-        (&[A, B, A, B, A, B], "ab"),
-        (&[B, B, A, A, B, A], "ab"),
-        (&[A, A, A, B, B, B], "ab"),
-        (&[A, B, C, X, Y], "xyabc"),
-        (&[Y, C, X, B, A], "xyabc"),
-        (&[A, B, C, NO_B, BEHIND_B], "aXc"),
-        (&[BEHIND_B, NO_B, C, B, A], "aXc"),
-        (&[A, BARE_B], "ab"),
-        (&[BARE_B], ""),
-        (&[SPELLED_OUT], "a"),
-        (&[EURO, B], "\u{20ac}b"),
-        (&[A, B, NO_A], "b"),
-        (&[A, NO_A, NO_A, B, NO_B], ""),
+    let table = [
+        ("", ""),
+        ("AB", "ab"),
+        ("AX", "xa"),
+        ("XA", "xa"),
+        ("B", ""),
+        ("BA", "ab"),
+        ("aA", ""),
+        ("ABABAB", "ab"),
+        ("BBAABA", "ab"),
+        ("AAABBB", "ab"),
+        ("ABCXY", "xyabc"),
+        ("YCXBA", "xyabc"),
+        ("ABCbZ", "aXc"),
+        ("ZbCBA", "aXc"),
+        ("AB.", "ab"),
+        ("B.", ""),
+        ("S", "a"),
+        ("EB", "\u{20ac}b"),
+        ("ABa", "b"),
+        ("AaaBb", ""),
     ];
-    for (k, row) in table.iter().enumerate() {
-        let log = bytes_of(rt.alloc(), row.0)?;
+    for (letters, text) in table {
+        let log = bytes_of(rt.alloc(), letters)?;
         for most in [1, 7, 65536] {
             let (answer, written) = show_pieces(rt.alloc(), &log, most);
-            assert_eq!(rt; answer, Ok(()), "row {k} by {most}");
-            assert_eq!(rt; written.as_slice(), row.1.as_bytes(), "row {k} by {most}");
+            assert_eq!(rt; answer, Ok(()), "{letters} by {most}");
+            assert_eq!(rt; written.as_slice(), text.as_bytes(), "{letters} by {most}");
         }
     }
     Ok(())
@@ -109,26 +105,26 @@ fn texts_of_logs(rt: HostRuntime) -> Result<(), Fail> {
 #[test]
 fn refused_logs_write_nothing(rt: HostRuntime) -> Result<(), Fail> {
     let conflict = Refusal::Conflict(Id::new(1, 1)?);
-    let table: [(&[&str], ShowFault); 12] = [
-        (&[A, OTHER_A], ShowFault::Refused(2, conflict)),
-        (&[A, B, OTHER_A, "x\n"], ShowFault::Refused(3, conflict)),
-        (&[A, BARE_OTHER_A], ShowFault::Refused(2, conflict)),
-        (&[PARENT_NOT_SMALLER], ShowFault::Line(1, LineFault::Order)),
-        (&[CUT], ShowFault::Torn(1)),
-        (&[A, BARE_PARENT_NOT_SMALLER], ShowFault::Torn(2)),
-        (&[A, "\n"], ShowFault::Line(2, LineFault::Json)),
-        (&["\n", A], ShowFault::Line(1, LineFault::Json)),
-        (&[A, "[1]\n", B], ShowFault::Line(2, LineFault::Kind)),
-        (&[A, END], ShowFault::Line(2, LineFault::Kind)),
-        (&[A, BARE_END], ShowFault::Torn(2)),
-        (&[BYTE_ORDER_MARK, A], ShowFault::Line(1, LineFault::Json)),
+    let table = [
+        ("AO", ShowFault::Refused(2, conflict)),
+        ("ABOx\n", ShowFault::Refused(3, conflict)),
+        ("AO.", ShowFault::Refused(2, conflict)),
+        ("P", ShowFault::Line(1, LineFault::Order)),
+        ("a.....", ShowFault::Torn(1)),
+        ("AP.", ShowFault::Torn(2)),
+        ("A\n", ShowFault::Line(2, LineFault::Json)),
+        ("\nA", ShowFault::Line(1, LineFault::Json)),
+        ("A[1]\nB", ShowFault::Line(2, LineFault::Kind)),
+        ("Ae", ShowFault::Line(2, LineFault::Kind)),
+        ("Ae.", ShowFault::Torn(2)),
+        ("\u{feff}A", ShowFault::Line(1, LineFault::Json)),
     ];
-    for (k, row) in table.iter().enumerate() {
-        let log = bytes_of(rt.alloc(), row.0)?;
+    for (letters, fault) in table {
+        let log = bytes_of(rt.alloc(), letters)?;
         for most in [1, 7, 65536] {
             let (answer, written) = show_pieces(rt.alloc(), &log, most);
-            assert_eq!(rt; answer, Err(row.1), "row {k} by {most}");
-            assert_eq!(rt; written.len(), 0, "row {k} by {most}");
+            assert_eq!(rt; answer, Err(fault), "{letters} by {most}");
+            assert_eq!(rt; written.len(), 0, "{letters} by {most}");
         }
     }
     Ok(())
@@ -152,8 +148,8 @@ fn a_line_is_too_long_with_or_without_its_newline(rt: HostRuntime) -> Result<(),
 
 #[test]
 fn a_reader_that_fails_in_mid_stream(rt: HostRuntime) -> Result<(), Fail> {
-    let log = bytes_of(rt.alloc(), &[A, B, "no operation\n"])?;
-    // The third line is read whole by the thirteenth read of ten bytes at the latest.
+    let log = bytes_of(rt.alloc(), "ABnothing\n")?;
+    // The third line is read whole by the eleventh read of ten bytes.
     for (reads, answer) in [
         (0, ShowFault::Read),
         (1, ShowFault::Read),
@@ -180,7 +176,7 @@ fn a_reader_that_fails_in_mid_stream(rt: HostRuntime) -> Result<(), Fail> {
 
 #[test]
 fn a_writer_that_takes_part_of_the_bytes(rt: HostRuntime) -> Result<(), Fail> {
-    let log = bytes_of(rt.alloc(), &[A, B, C, X, Y])?;
+    let log = bytes_of(rt.alloc(), "ABCXY")?;
     for room in 0..6 {
         let mut reader = Counted::new(log.as_slice());
         let mut writer = Counted::new(Narrow {

@@ -38,8 +38,8 @@ fn the_text_follows_the_root_paths(rt: HostRuntime) -> Result<(), Fail> {
         ),
         (
             "behind a deleted element",
-            "a1.1<0.0 b2.1<1.1 c3.1<2.1 -2.1 X4.2<2.1",
-            "aXc",
+            "a1.1<0.0 b2.1<1.1 c3.1<2.1 -2.1 w4.2<2.1",
+            "awc",
             0,
         ),
     ];
