@@ -1,5 +1,1 @@
-pub mod CommandLine
-pub mod Job
-pub mod Report
-pub mod Log
-pub mod Shown
+pub mod Status

@@ -1,13 +1,10 @@
 //! The job of the command line, done, and what the shell is told of it.
 ghost use Rattle.std.specs.Prelude.{◌≡◌, ◌≤◌};
-ghost use Rattle.mgr.specs.Job.{IsStatusOf};
-ghost use Rattle.mgr.specs.Report.{status_of};
+ghost use Rattle.mgr.specs.Status.{IsStatusOf};
+ghost use Rattle.mgr_show.specs.Report.{status_of};
 
-use crate::fault::ShowFault;
-use crate::job::{Job, JobFault, job_of, job_status};
-use crate::report::Report;
-use crate::show::show_ops;
-use crate::words::words;
+use mgr_command::{Job, JobFault, job_of, job_status, words};
+use mgr_show::{Report, ShowFault, show_ops};
 use rga_lines::Counted;
 use std::io;
 use std::rt::Env;
@@ -35,7 +32,7 @@ fn show<R: AllocGlobal + Input + Print + Eprint>(rt: &R) -> u8
     }
 }
 
-// A line that standard error does not take is lost: there is nowhere left to say so.
+/// A line that standard error does not take is lost: there is nowhere left to say so.
 fn tell<R: Eprint>(rt: &R, fault: &ShowFault) -> u8
     ensures { result ≡ status_of fault.now }
 {

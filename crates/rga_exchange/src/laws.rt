@@ -1,7 +1,6 @@
 //! Theorems about logs and exchanges. Each function does nothing: its contract is the theorem.
 ghost use Rattle.std.specs.Prelude.{◌≡◌, ◌↔◌, ℕ, ◌<◌, ◌≤◌, ◌^◌, List, [], ◌∷◌, ◌++◌, length, Ok};
-ghost use Rattle.std.specs.FinSet as finite_set;
-ghost use Rattle.rga_ops.specs.Content.{Content, Agree, join, content_of, known_ids, IsSound};
+ghost use Rattle.rga_ops.specs.Content.{Content, Agree, join, content_of, known_count, IsSound};
 ghost use Rattle.rga_ops.specs.ListAnswer.{AreWellFormed, IsJoinable};
 ghost use Rattle.rga_ops.specs.Operations.{operations};
 ghost use Rattle.rga_ops.specs.declared.op.Op.{Op as Operation};
@@ -46,7 +45,7 @@ pub fn what_is_sent_says_the_content()
 /// has room for both: it then holds the join of both, and answers the number of the operations.
 pub fn what_is_sent_is_received()
     ensures { (limit : ℕ) (c d : Content) → IsSound c → AreWritable (operations c)
-        → length (operations c) < 2 ^ 64 → Agree d c → finite_set.len (known_ids (join d c)) ≤ limit
+        → length (operations c) < 2 ^ 64 → Agree d c → known_count (join d c) ≤ limit
         → exchange_outcome limit d (stream_text c) ≡ (join d c, Ok (length (operations c))) }
 {}
 
@@ -71,8 +70,8 @@ pub fn logs_stand_for_their_operations()
         → log_outcome limit c bytes ≡ (d, Ok read)
         → d ≡ join c (content_of (log_operations bytes)) }
     ensures joinable { (limit : ℕ) (c d : Content) (read : LogRead) (bytes : List ℕ)
-        → finite_set.len (known_ids c) ≤ limit → log_outcome limit c bytes ≡ (d, Ok read)
-        → IsJoinable c (log_operations bytes) × (finite_set.len (known_ids d) ≤ limit) }
+        → known_count c ≤ limit → log_outcome limit c bytes ≡ (d, Ok read)
+        → IsJoinable c (log_operations bytes) × (known_count d ≤ limit) }
     ensures lines { (limit : ℕ) (c d : Content) (read : LogRead) (bytes : List ℕ)
         → log_outcome limit c bytes ≡ (d, Ok read) → read.lines ≡ length (lines_of bytes) }
     ensures operations { (limit : ℕ) (c d : Content) (read : LogRead) (bytes : List ℕ)
@@ -81,7 +80,7 @@ pub fn logs_stand_for_their_operations()
 
     ensures without_fault { (limit : ℕ) (c : Content) (bytes : List ℕ) → HasOnlyOperations bytes
         → IsJoinable c (log_operations bytes)
-        → finite_set.len (known_ids (join c (content_of (log_operations bytes)))) ≤ limit
+        → known_count (join c (content_of (log_operations bytes))) ≤ limit
         → (read : LogRead) × (log_outcome limit c bytes
         ≡ (join c (content_of (log_operations bytes)), Ok read)) × HasNothingTorn read.end }
 {}

@@ -1,7 +1,6 @@
 //! Operations sent: as lines, in blocks.
 ghost use Rattle.std.specs.Prelude.{◌≡◌, ℕ, ◌≤◌, ◌++◌, ◌∷◌, List, [], length, Ok, IfOk, OnOk};
-ghost use Rattle.std.specs.FinSet as finite_set;
-ghost use Rattle.rga_ops.specs.Prelude.{checked, operations, Content, Agree, IsSound, join, known_ids, content_of};
+ghost use Rattle.rga_ops.specs.Prelude.{checked, operations, Content, Agree, IsSound, join, known_count, content_of};
 ghost use Rattle.rga_ops.specs.ListAnswer.{AreWellFormed, IsJoinable};
 ghost use Rattle.rga_lines.specs.Counting.{CountsAs, Writes, WritesFront, WritesAllBut};
 ghost use Rattle.rga_lines.specs.Spelling.{line as line_of, IsWritable};
@@ -35,7 +34,7 @@ pub fn send<S: TextStore, W: Write>(
     // Whatever holds a content that agrees with it, and has room for both, receives it whole.
     ensures received { IfOk result (λ number. let sent = S.content store.now in
         (limit : ℕ) (c : Content) → IsSound sent → Agree c sent
-        → finite_set.len (known_ids (join c sent)) ≤ limit
+        → known_count (join c sent) ≤ limit
         → exchange_outcome limit c (stream_text sent) ≡ (join c sent, Ok number)) }
     ensures begun { WritesFront W.contents writer.old writer.new
         (stream_text (S.content store.now)) }

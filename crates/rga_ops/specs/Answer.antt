@@ -4,7 +4,7 @@ use Rattle.std.specs.FinMap as finite_map
 use Rattle.std.specs.FinSet as finite_set
 use Rattle.rga_ops.specs.Identifier.{Identifier, is_id}
 use Rattle.rga_ops.specs.Operation.{checked, id_of}
-use Rattle.rga_ops.specs.Content.{Element, Content, known_ids, join, single}
+use Rattle.rga_ops.specs.Content.{Element, Content, known_count, join, single}
 use Rattle.rga_ops.specs.declared.op.Op.{Op}
 use Rattle.rga_ops.specs.declared.op.Op.TheVariants.{Insert, Delete}
 use Rattle.rga_ops.specs.declared.refusal.Taken.{Taken}
@@ -23,7 +23,7 @@ abbrev pub facts : ℕ → Content → Identifier → Facts
 facts limit c id = record {
   found = finite_map.get c.inserted id;
   deleted = finite_set.contains c.deleted id;
-  known = finite_set.len (known_ids c);
+  known = known_count c;
   limit = limit;
 }
 

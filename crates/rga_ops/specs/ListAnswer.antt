@@ -2,10 +2,9 @@
 use Rattle.std.specs.Prelude.{◌≡◌, ◌≢◌, ◌⊎◌, ℕ, nat_le, Bool, not, false, List, [], ◌∷◌, ◌++◌, find, Contains, Option, Some, None, Result, Ok, Err, MatchResult, if◌then◌else◌}
 use Rattle.std.specs.Option.{option_map_or}
 use Rattle.std.specs.FinMap as finite_map
-use Rattle.std.specs.FinSet as finite_set
 use Rattle.rga_ops.specs.Identifier.{Identifier, IsLarger}
 use Rattle.rga_ops.specs.Operation.{checked, id_of}
-use Rattle.rga_ops.specs.Content.{Element, Content, HasAnother, Agree, IsAgreed, known_ids, join, single, content_of}
+use Rattle.rga_ops.specs.Content.{Element, Content, HasAnother, Agree, IsAgreed, known_count, join, single, content_of}
 use Rattle.rga_ops.specs.Answer.{is_element}
 use Rattle.rga_ops.specs.declared.op.Op.{Op}
 use Rattle.rga_ops.specs.declared.op.Op.TheVariants.{Insert, Delete}
@@ -42,7 +41,7 @@ first_conflict c (op ∷ ops) = if has_another c op then Some (id_of op) else fi
 -- a conflict, or a union with more identifiers than the limit
 abbrev pub union_answer : ℕ → Option Identifier → Content → Verdict
 union_answer limit (Some id) c = Err (Conflict id)
-union_answer limit None c = if nat_le (finite_set.len (known_ids c)) limit then Ok tt else Err Full
+union_answer limit None c = if nat_le (known_count c) limit then Ok tt else Err Full
 
 -- the answer to a list that is taken whole or not at all
 abbrev pub list_answer : ℕ → Content → List Op → Verdict

@@ -2,9 +2,8 @@
 use Rattle.std.specs.Prelude.{◌≡◌, ◌≤◌, ℕ, Bool, true, false, List}
 use Rattle.std.specs.Option.{option_map_or}
 use Rattle.std.specs.FinMap as finite_map
-use Rattle.std.specs.FinSet as finite_set
 use Rattle.rga_ops.specs.Identifier.{Identifier, is_id}
-use Rattle.rga_ops.specs.Content.{Content, IsSound, clock_of, known_ids}
+use Rattle.rga_ops.specs.Content.{Content, IsSound, clock_of, known_count}
 use Rattle.rga_store.specs.Limit.{is_limit}
 use Rattle.rga_store.specs.Children.{has_child, IsRising}
 use Rattle.rga_store.specs.Nodes.{Nodes, AreApart, content_of_nodes, children_of}
@@ -28,7 +27,7 @@ pub record IsCounted (c : Content) (latest insertions identifiers limit : ℕ) :
   pub sound : IsSound c
   pub clocked : latest ≡ clock_of c
   pub inserted : insertions ≡ finite_map.len c.inserted
-  pub known : identifiers ≡ finite_set.len (known_ids c)
+  pub known : identifiers ≡ known_count c
   pub room : identifiers ≤ limit
   pub limited : is_limit limit ≡ true
 

@@ -2,7 +2,7 @@
 ghost use Rattle.std.specs.Prelude.{◌≡◌, ◌≢◌, ◌≤◌, ◌↔◌, ℕ, length, true, false, Ok, Err, IfOk, IfErr, MatchResult};
 ghost use Rattle.std.specs.FinMap as finite_map;
 ghost use Rattle.std.specs.FinSet as finite_set;
-ghost use Rattle.rga_ops.specs.Prelude.{Identifier, IsSound, clock_of, join, known_ids, merge_answer, nothing, operations, order, text};
+ghost use Rattle.rga_ops.specs.Prelude.{Identifier, IsSound, clock_of, join, known_count, merge_answer, nothing, operations, order, text};
 ghost use Rattle.rga_ops.specs.Content.{element_at, Holds};
 ghost use Rattle.rga_ops.specs.Order.{waiting};
 ghost use Rattle.rga_ops.specs.declared.op.Op.TheVariants.{Delete};
@@ -35,7 +35,7 @@ pub trait TextStore: Taker + Sized + Drop {
 
     /// How many identifiers are inserted, deleted or both. Takes no memory.
     fn known(&self) -> usize
-        ensures known { result ≡ finite_set.len (known_ids (Self.content self.now)) }
+        ensures known { result ≡ known_count (Self.content self.now) }
         ensures within { result ≤ Self.limit self.now }
         ensures sound { IsSound (Self.content self.now) };
 

@@ -2,7 +2,7 @@
 ghost use Rattle.std.specs.Prelude.{◌≡◌, ◌≤◌, ◌+◌, ◌⊎◌, ◌↔◌, if◌then◌else◌, length, Ok, Err, OnOk, OnErr, IfOk, IfErr, true, false, max};
 ghost use Rattle.std.specs.FinMap as finite_map;
 ghost use Rattle.std.specs.FinSet as finite_set;
-ghost use Rattle.rga_ops.specs.Content.{element_at, join, single, known_ids, IsSound};
+ghost use Rattle.rga_ops.specs.Content.{element_at, join, single, known_count, IsSound};
 ghost use Rattle.rga_ops.specs.Answer.{answer, facts};
 ghost use Rattle.rga_store.specs.Found.{facts_of};
 ghost use Rattle.rga_store.specs.Limit.{is_limit};
@@ -150,7 +150,7 @@ impl TreeStore {
     }
 
     fn count(&self) -> usize
-        ensures known { result ≡ finite_set.len (known_ids self.now.content) }
+        ensures known { result ≡ known_count self.now.content }
         ensures within { result ≤ self.now.limit }
         ensures sound { IsSound self.now.content }
         ensures range { is_limit self.now.limit ≡ true }

@@ -1,9 +1,16 @@
-//! Tests of documents, and of the elements of a store by index and by place.
+//! Tests of documents.
 //!
-//! Worked examples over a `TreeStore`. Nothing stands on this crate, so nothing waits for its proof.
+//! Worked examples over a `TreeStore`. Nothing stands on this crate, so nothing waits for its
+//! proof.
 #![tactic(auto)]
 
 #[cfg(test)]
+mod anchors;
+#[cfg(test)]
 mod documents;
 #[cfg(test)]
-mod walks;
+mod local_edits;
+#[cfg(test)]
+mod merging;
+#[cfg(test)]
+mod taking;

@@ -5,6 +5,12 @@
 #![tactic(auto)]
 
 #[cfg(test)]
+mod logs;
+#[cfg(test)]
+mod readers;
+#[cfg(test)]
 mod receiving;
 #[cfg(test)]
 mod sending;
+#[cfg(test)]
+mod streams;

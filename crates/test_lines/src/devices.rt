@@ -1,10 +1,10 @@
 //! Devices whose calls are counted.
 use rga_lines::Counted;
+use std::alloc::Global;
 use std::io;
 use std::io::{ErrorKind, Read, Write};
-use std::test::Fail;
 
-// A reader of which each second call is interrupted.
+/// A reader that gives one byte in a read, and of which each second call is interrupted.
 #[derive(Drop)]
 struct Stuttering {
     interrupts: bool,
@@ -17,34 +17,40 @@ impl Read for Stuttering {
         if interrupts {
             return Err(io::Error::from(ErrorKind::Interrupted));
         }
-        match buf.first_mut() {
-            Some(first) => {
-                *first = b'a';
-                Ok(1)
-            }
-            None => Ok(0),
-        }
+        let mut byte = b"a".as_slice();
+        byte.read(buf)
     }
 }
 
-#[test]
-fn a_reader_that_fails_in_mid_stream(rt: HostRuntime) -> Result<(), Fail> {
-    let mut reader = Counted::new(Stuttering { interrupts: false });
+/// Whether a read of two bytes gives this one alone, or fails where none is wanted, and so many
+/// calls failed by then.
+fn reads(reader: &mut Counted<Stuttering>, byte: Option<u8>, failures: u64) -> bool {
     let mut buf = [0u8; 2];
-    assert_eq!(rt; reader.read(&mut buf)?, 1);
-    assert_eq!(rt; (buf[0], reader.failures()), (b'a', 0));
-    assert!(rt; reader.read(&mut buf).is_err());
-    assert_eq!(rt; reader.failures(), 1);
-    assert_eq!(rt; reader.read(&mut buf)?, 1, "the device is asked again");
-    assert_eq!(rt; reader.failures(), 1);
+    let read = match reader.read(&mut buf) {
+        Ok(1) => Some(buf[0]),
+        Ok(_) => return false,
+        Err(_) => None,
+    };
+    read == byte && reader.failures() == failures
+}
+
+#[test]
+fn a_reader_that_fails_in_mid_stream(rt: HostRuntime) {
+    let mut reader = Counted::new(Stuttering { interrupts: false });
+    for (byte, failures, call) in [
+        (Some(b'a'), 0, "before the failure"),
+        (None, 1, "an interrupted call failed"),
+        (Some(b'a'), 1, "the device is asked again"),
+    ] {
+        assert!(rt; reads(&mut reader, byte, failures), "{call}");
+    }
     assert!(rt;
         reader.into_inner().interrupts,
         "no further call was passed on"
     );
-    Ok(())
 }
 
-// A writer that takes nothing.
+/// A writer that takes nothing.
 #[derive(Drop)]
 struct Full;
 
@@ -58,20 +64,37 @@ impl Write for Full {
     }
 }
 
+/// Whether a write of these bytes takes none, and so many calls failed by then.
+fn takes_nothing(writer: &mut Counted<Full>, bytes: &[u8], failures: u64) -> bool {
+    matches!(writer.write(bytes), Ok(0)) && writer.failures() == failures
+}
+
+/// Whether a write of all of these bytes fails and a flush does not, and so many calls failed by
+/// then.
+fn refuses_all(writer: &mut Counted<Full>, bytes: &[u8], failures: u64) -> bool {
+    let refused = writer.write_all(bytes).is_err();
+    refused && writer.flush().is_ok() && writer.failures() == failures
+}
+
 #[test]
-fn writers_that_take_nothing_or_all(rt: HostRuntime) -> Result<(), Fail> {
+fn a_writer_that_takes_nothing(rt: HostRuntime) {
     let mut full = Counted::new(Full);
-    assert_eq!(rt; full.write(b"")?, 0);
-    assert_eq!(rt; full.failures(), 0);
-    assert_eq!(rt; full.write(b"ab")?, 0);
-    assert_eq!(rt; full.failures(), 1);
-    assert!(rt; full.write_all(b"ab").is_err());
-    full.flush()?;
-    assert_eq!(rt; full.failures(), 2);
-    let mut vec = Counted::new(Vec::new(rt.alloc()));
-    vec.write_all(b"ab")?;
-    vec.flush()?;
-    assert_eq!(rt; vec.failures(), 0);
-    assert!(rt; vec.into_inner().as_slice() == b"ab".as_slice());
-    Ok(())
+    assert!(rt;
+        takes_nothing(&mut full, b"", 0),
+        "there was nothing to take"
+    );
+    assert!(rt; takes_nothing(&mut full, b"ab", 1), "there were two bytes");
+    assert!(rt; refuses_all(&mut full, b"ab", 2), "all or nothing");
+}
+
+/// Whether a writer in memory takes all of these bytes, and no call fails.
+fn all_are_taken(alloc: Global, bytes: &[u8]) -> bool {
+    let mut writer = Counted::new(Vec::new(alloc));
+    let written = writer.write_all(bytes).is_ok() && writer.flush().is_ok();
+    written && writer.failures() == 0 && writer.into_inner().as_slice() == bytes
+}
+
+#[test]
+fn a_writer_that_takes_all(rt: HostRuntime) {
+    assert!(rt; all_are_taken(rt.alloc(), b"ab"));
 }

@@ -7,6 +7,8 @@
 #[cfg(test)]
 mod devices;
 #[cfg(test)]
-mod lines;
+mod reading;
 #[cfg(test)]
 mod streams;
+#[cfg(test)]
+mod writing;

@@ -68,3 +68,8 @@ fn id_of(text: &str) -> Result<Id, Refusal> {
         _ => Err(Refusal::BadId),
     }
 }
+
+/// Whether these are the characters of the text.
+pub fn spells(chars: &[char], text: &str) -> bool {
+    text.chars().eq(chars.iter().copied())
+}

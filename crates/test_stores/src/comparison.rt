@@ -1,44 +1,66 @@
 //! The tree store answers and shows as the plain list does.
 use crate::list_store::ListStore;
-use crate::random::random_ops;
-use rga_ops::Op;
+use crate::random::Random;
+use crate::words::same;
+use rga_ops::{Op, Refusal};
 use rga_store::{Taker, TextStore, TreeStore};
 use std::alloc::Global;
-use std::test::Fail;
 
-/// Whether both answer the operation alike.
-fn same_answer(tree: &mut TreeStore, list: &mut ListStore, op: Op) -> bool {
-    tree.apply(op) == list.apply(op)
-        && tree.known() == list.known()
-        && tree.is_deleted(op.id()) == list.is_deleted(op.id())
+/// Both stores, which are given the same operations.
+#[derive(Drop)]
+struct Pair {
+    alloc: Global,
+    tree: TreeStore,
+    list: ListStore,
 }
 
-/// Whether both show the same elements, and the same text.
-fn same_text(alloc: Global, tree: &TreeStore, list: &ListStore) -> Result<bool, Fail> {
-    let same_order = tree.order()?.as_slice() == list.order()?.as_slice();
-    Ok(same_order && tree.text(alloc)?.as_slice() == list.text()?.as_slice())
+impl Pair {
+    fn new(alloc: Global, limit: usize) -> Result<Pair, Refusal> {
+        Ok(Pair {
+            alloc,
+            tree: TreeStore::new(alloc, limit)?,
+            list: ListStore::new(alloc, limit),
+        })
+    }
+
+    /// Whether both answer the operation alike, and show the same then.
+    fn takes_alike(&mut self, op: Op) -> bool {
+        self.answers_alike(op) && self.shows_alike()
+    }
+
+    fn answers_alike(&mut self, op: Op) -> bool {
+        self.tree.apply(op) == self.list.apply(op)
+            && self.tree.known() == self.list.known()
+            && self.tree.is_deleted(op.id()) == self.list.is_deleted(op.id())
+    }
+
+    fn shows_alike(&self) -> bool {
+        same(self.tree.order(), self.list.order())
+            && same(self.tree.text(self.alloc), self.list.text())
+    }
 }
 
-/// How many of the operations both take alike.
-fn same_steps(alloc: Global, limit: usize, ops: &[Op]) -> Result<usize, Fail> {
-    let mut tree = TreeStore::new(alloc, limit)?;
-    let mut list = ListStore::new(alloc, limit);
-    for (k, op) in ops.iter().enumerate() {
-        let same = same_answer(&mut tree, &mut list, *op);
-        if !same || !same_text(alloc, &tree, &list)? {
-            return Ok(k);
+/// How many of the 80 operations of this seed both take alike.
+fn steps_alike(alloc: Global, limit: usize, seed: u64) -> Result<u64, Refusal> {
+    let mut pair = Pair::new(alloc, limit)?;
+    let mut random = Random::new(seed);
+    for step in 0..80 {
+        if !pair.takes_alike(random.op()?) {
+            return Ok(step);
         }
     }
-    Ok(ops.len())
+    Ok(80)
 }
 
 #[test]
-fn the_tree_answers_as_the_plain_list_does(rt: HostRuntime) -> Result<(), Fail> {
-    for limit in [3, 8, 20, 100] {
+fn the_tree_answers_as_the_plain_list_does(rt: HostRuntime) {
+    for limit in &[3usize, 8, 20, 100] {
         for seed in 0..5 {
-            let ops = random_ops(rt.alloc(), seed, 80)?;
-            assert_eq!(rt; same_steps(rt.alloc(), limit, &ops)?, 80, "{limit} {seed}");
+            assert_eq!(rt;
+                steps_alike(rt.alloc(), *limit, seed),
+                Ok(80),
+                "{limit} {seed}"
+            );
         }
     }
-    Ok(())
 }

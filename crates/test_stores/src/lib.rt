@@ -1,8 +1,9 @@
 //! Tests of stores.
 //!
-//! The worked examples of `TreeStore`; and the tree beside a plain list: seeded random operations go
-//! into both, the list being searched from the front and comparing whole root paths, and after each
-//! both must answer and show the same. Nothing stands on this crate, so nothing waits for its proof.
+//! The worked examples of `TreeStore`; and the tree beside a plain list: seeded random operations
+//! go into both, the list being searched from the front and comparing whole root paths, and after
+//! each both must answer and show the same. Nothing stands on this crate, so nothing waits for its
+//! proof.
 #![tactic(auto)]
 
 #[cfg(test)]
@@ -17,3 +18,5 @@ mod random;
 mod stores;
 #[cfg(test)]
 mod whole_lists;
+#[cfg(test)]
+mod words;

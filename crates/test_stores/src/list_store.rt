@@ -1,23 +1,18 @@
-//! The plain store that the tree is compared with: one list in the order in which operations were
-//! taken, searched from the front, with the root path of each element written out.
+//! The plain store that the tree is compared with: the operations in a list, in the order in which
+//! they were taken, searched from the front, with the root path of each element written out.
 use rga_ops::{Id, Op, Refusal, Taken};
 use std::alloc::Global;
-use std::cmp::Ordering;
-use std::test::Fail;
+use std::cmp::Reverse;
 
-#[derive(Clone, Copy)]
-struct Entry {
-    id: Id,
-    parent: Id,
-    ch: char,
-    deleted: bool,
-}
+/// The identifiers from below the root down to an element, so that paths sort as elements stand:
+/// the beginning of a path first, else the path with the larger identifier at the first difference.
+type RootPath = Vec<Reverse<Id>>;
 
 #[derive(Drop)]
 pub struct ListStore {
     alloc: Global,
-    entries: Vec<Entry>,
-    early: Vec<Id>,
+    ops: Vec<Op>,
+    known: Vec<Id>,
     limit: usize,
 }
 
@@ -25,139 +20,99 @@ impl ListStore {
     pub fn new(alloc: Global, limit: usize) -> ListStore {
         ListStore {
             alloc,
-            entries: Vec::new(alloc),
-            early: Vec::new(alloc),
+            ops: Vec::new(alloc),
+            known: Vec::new(alloc),
             limit,
         }
     }
 
     pub fn apply(&mut self, op: Op) -> Result<Taken, Refusal> {
         op.check()?;
-        match &op {
-            Op::Insert { id, parent, ch } => self.insert(*id, *parent, *ch),
-            Op::Delete { id } => self.delete(*id),
+        if self.ops.as_slice().contains(&op) {
+            return Ok(Taken::Known);
         }
-    }
-
-    fn insert(&mut self, id: Id, parent: Id, ch: char) -> Result<Taken, Refusal> {
-        let deleted = self.early.as_slice().contains(&id);
-        if let Some(entry) = self.find(id) {
-            if entry.parent == parent && entry.ch == ch {
-                return Ok(Taken::Known);
-            }
-            return Err(Refusal::Conflict(id));
+        if matches!(&op, Op::Insert { .. }) && self.element(op.id()).is_some() {
+            return Err(Refusal::Conflict(op.id()));
         }
-        if !deleted && self.known() >= self.limit {
-            return Err(Refusal::Full);
-        }
-        self.early.retain(|x| *x != id);
-        let entry = Entry {
-            id,
-            parent,
-            ch,
-            deleted,
-        };
-        self.entries.push(entry)?;
+        self.know(op.id())?;
+        self.ops.push(op)?;
         Ok(Taken::New)
     }
 
-    fn delete(&mut self, id: Id) -> Result<Taken, Refusal> {
-        if self.is_deleted(id) {
-            return Ok(Taken::Known);
-        }
-        if self.find(id).is_some() {
-            for entry in &mut self.entries {
-                if entry.id == id {
-                    entry.deleted = true;
-                }
-            }
-            return Ok(Taken::New);
+    /// Knows the identifier from now on, if the limit allows.
+    fn know(&mut self, id: Id) -> Result<(), Refusal> {
+        if self.known.as_slice().contains(&id) {
+            return Ok(());
         }
         if self.known() >= self.limit {
             return Err(Refusal::Full);
         }
-        self.early.push(id)?;
-        Ok(Taken::New)
+        Ok(self.known.push(id)?)
     }
 
     pub fn known(&self) -> usize {
-        self.entries
-            .as_slice()
-            .len()
-            .wrapping_add(self.early.as_slice().len())
+        self.known.as_slice().len()
     }
 
     pub fn is_deleted(&self, id: Id) -> bool {
-        let marked = match self.find(id) {
-            Some(entry) => entry.deleted,
-            None => false,
-        };
-        marked || self.early.as_slice().contains(&id)
+        self.ops.as_slice().contains(&Op::Delete { id })
     }
 
-    fn find(&self, id: Id) -> Option<Entry> {
-        for entry in &self.entries {
-            if entry.id == id {
-                return Some(*entry);
+    /// The parent and the character of an element.
+    fn element(&self, element: Id) -> Option<(Id, char)> {
+        for op in &self.ops {
+            match op {
+                Op::Insert { id, parent, ch } if *id == element => return Some((*parent, *ch)),
+                _ => {}
             }
         }
         None
     }
 
-    /// The complete elements, each found as the first one behind the one before it.
-    pub fn order(&self) -> Result<Vec<Id>, Fail> {
+    /// The complete elements, by their root paths.
+    pub fn order(&self) -> Result<Vec<Id>, Refusal> {
         let mut order = Vec::new(self.alloc);
-        let mut last = Vec::new(self.alloc);
-        for _ in 0..self.entries.as_slice().len() {
-            if let Some(path) = self.first_behind(&last)? {
-                if let Some(id) = path.as_slice().last() {
-                    order.push(*id)?;
-                }
-                last = path;
+        for path in &self.root_paths()? {
+            if let Some(Reverse(id)) = path.as_slice().last() {
+                order.push(*id)?;
             }
         }
         Ok(order)
     }
 
     /// The characters of the complete elements that are not deleted.
-    pub fn text(&self) -> Result<Vec<char>, Fail> {
+    pub fn text(&self) -> Result<Vec<char>, Refusal> {
         let mut text = Vec::new(self.alloc);
         for id in &self.order()? {
-            if let Some(entry) = self.find(*id) {
-                if !entry.deleted {
-                    text.push(entry.ch)?;
-                }
+            if let (Some((_, ch)), false) = (self.element(*id), self.is_deleted(*id)) {
+                text.push(ch)?;
             }
         }
         Ok(text)
     }
 
-    fn first_behind(&self, last: &[Id]) -> Result<Option<Vec<Id>>, Fail> {
-        let mut first = Vec::new(self.alloc);
-        for entry in &self.entries {
-            if let Some(path) = self.root_path(entry.id)? {
-                let behind = compare_paths(last, &path) == Ordering::Less;
-                let earlier = first.as_slice().is_empty()
-                    || compare_paths(&path, &first) == Ordering::Less;
-                if behind && earlier {
-                    first = path;
+    /// The root paths of all complete elements, sorted.
+    fn root_paths(&self) -> Result<Vec<RootPath>, Refusal> {
+        let mut paths = Vec::new(self.alloc);
+        for op in &self.ops {
+            if let Op::Insert { id, .. } = op {
+                if let Some(path) = self.root_path(*id)? {
+                    paths.push(path)?;
                 }
             }
         }
-        if first.as_slice().is_empty() {
-            return Ok(None);
-        }
-        Ok(Some(first))
+        paths.sort()?;
+        Ok(paths)
     }
 
-    /// The identifiers from below the root down to an element, if it is complete.
-    fn root_path(&self, id: Id) -> Result<Option<Vec<Id>>, Fail> {
+    /// The root path of an element, if it is complete.
+    fn root_path(&self, id: Id) -> Result<Option<RootPath>, Refusal> {
         let mut path = Vec::new(self.alloc);
         let mut at = id;
-        for _ in 0..self.entries.as_slice().len() {
-            if let Some(entry) = self.find(at) {
-                path.push(at)?;
-                at = entry.parent;
+        for _ in 0..self.known() {
+            if let Some((parent, _)) = self.element(at) {
+                path.push(Reverse(at))?;
+                at = parent;
             }
         }
         if at != Id::ROOT {
@@ -166,15 +121,4 @@ impl ListStore {
         path.as_mut_slice().reverse();
         Ok(Some(path))
     }
-}
-
-/// A beginning comes first; else the path with the larger identifier at the first difference.
-fn compare_paths(p: &[Id], q: &[Id]) -> Ordering {
-    for (a, b) in p.iter().zip(q.iter()) {
-        let ordering = b.cmp(a);
-        if ordering != Ordering::Equal {
-            return ordering;
-        }
-    }
-    p.len().cmp(&q.len())
 }

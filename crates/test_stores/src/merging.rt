@@ -1,9 +1,8 @@
 //! Merges of small stores: answers, contents and orders.
-use crate::stores::store_of;
-use rga_ops::Refusal;
+use crate::words::{alike, prints, store_of};
 use rga_store::{TextStore, TreeStore};
+use std::alloc::Global;
 use std::test::Fail;
-use test_ops::id;
 
 /// Two elements one behind the other.
 const HERE: &str = "a1.1<0.0 b2.1<1.1";
@@ -11,49 +10,83 @@ const HERE: &str = "a1.1<0.0 b2.1<1.1";
 /// Another element at the root, and the deletion of the second.
 const THERE: &str = "x1.2<0.0 -2.1";
 
-fn has_same(a: &TreeStore, b: &TreeStore) -> Result<bool, Fail> {
-    Ok(a.ops()?.as_slice() == b.ops()?.as_slice() && a.order()?.as_slice() == b.order()?.as_slice())
+/// What both say.
+const BOTH: &str = "a1.1<0.0 b2.1<1.1 x1.2<0.0 -2.1";
+
+/// Whether the store has the answer to a merge with one that took these operations.
+fn answers(alloc: Global, store: &mut TreeStore, other: &str, answer: &str) -> bool {
+    match store_of(alloc, 10, other) {
+        Ok(other) => prints(alloc, &store.merge(&other), answer),
+        Err(_) => false,
+    }
+}
+
+/// Whether the store has the operations and the order of one that took these.
+fn is_like(alloc: Global, store: &TreeStore, words: &str) -> bool {
+    match store_of(alloc, 10, words) {
+        Ok(other) => alike(store, &other),
+        Err(_) => false,
+    }
+}
+
+/// Whether a merge of two stores has the answer, keeps the limit, and leaves what stands last.
+fn merges(alloc: Global, limit: usize, own: &str, other: &str, answer: &str, after: &str) -> bool {
+    match store_of(alloc, limit, own) {
+        Ok(mut store) => {
+            answers(alloc, &mut store, other, answer)
+                && store.limit() == limit
+                && is_like(alloc, &store, after)
+        }
+        Err(_) => false,
+    }
 }
 
 #[test]
-fn a_merge_joins_either_way_round(rt: HostRuntime) -> Result<(), Fail> {
-    let first = store_of(rt.alloc(), 3, HERE)?;
-    let second = store_of(rt.alloc(), 3, THERE)?;
-    let both = store_of(rt.alloc(), 3, "a1.1<0.0 b2.1<1.1 x1.2<0.0 -2.1")?;
-    for (own, other) in [(&first, &second), (&second, &first)] {
-        let mut store = own.copy()?;
-        assert_eq!(rt; store.merge(other), Ok(()));
-        assert!(rt; has_same(&store, &both)?);
+fn a_merge_joins_either_way_round(rt: HostRuntime) {
+    for (own, other) in &[(HERE, THERE), (THERE, HERE)] {
+        assert!(rt; merges(rt.alloc(), 3, own, other, "Ok(())", BOTH), "{own}");
     }
-    Ok(())
 }
 
 #[test]
-fn each_merge_has_its_answer(rt: HostRuntime) -> Result<(), Fail> {
-    let conflict = Err(Refusal::Conflict(id(1, 1)?));
-    let table = [
-        ("nothing", 2usize, "", Ok(())),
-        ("a known element deleted", 2, "-1.1", Ok(())),
-        ("too many", 2, THERE, Err(Refusal::Full)),
-        ("just enough", 3, THERE, Ok(())),
-        ("two conflicts", 2, "z2.1<0.0 q1.1<0.0", conflict),
-    ];
-    for (name, limit, there, answer) in table {
-        let mut store = store_of(rt.alloc(), limit, HERE)?;
-        let before = store.copy()?;
-        let other = store_of(rt.alloc(), 10, there)?;
-        assert_eq!(rt; store.merge(&other), answer, "{name}");
-        assert_eq!(rt; store.limit(), limit, "{name}");
-        assert!(rt; answer.is_ok() || has_same(&store, &before)?, "{name}");
+fn each_merge_has_its_answer(rt: HostRuntime) {
+    for (name, limit, there, answer, after) in &[
+        ("nothing", 2usize, "", "Ok(())", HERE),
+        (
+            "a known element deleted",
+            2,
+            "-1.1",
+            "Ok(())",
+            "a1.1<0.0 b2.1<1.1 -1.1",
+        ),
+        ("too many", 2, THERE, "Err(Full)", HERE),
+        ("just enough", 3, THERE, "Ok(())", BOTH),
+        (
+            "two conflicts",
+            2,
+            "z2.1<0.0 q1.1<0.0",
+            "Err(Conflict(Id { counter: 1, replica: 1 }))",
+            HERE,
+        ),
+    ] {
+        assert!(rt;
+            merges(rt.alloc(), *limit, HERE, there, answer, after),
+            "{name}"
+        );
     }
-    Ok(())
+}
+
+/// Whether the store stays as it is when it is merged with its copy.
+fn keeps_itself(store: &mut TreeStore) -> bool {
+    match store.copy() {
+        Ok(copy) => store.merge(&copy) == Ok(()) && alike(store, &copy),
+        Err(_) => false,
+    }
 }
 
 #[test]
 fn a_merge_with_its_own_copy_changes_nothing(rt: HostRuntime) -> Result<(), Fail> {
     let mut store = store_of(rt.alloc(), 2, HERE)?;
-    let copy = store.copy()?;
-    assert_eq!(rt; store.merge(&copy), Ok(()));
-    assert!(rt; has_same(&store, &copy)?);
+    assert!(rt; keeps_itself(&mut store));
     Ok(())
 }

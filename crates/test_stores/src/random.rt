@@ -1,15 +1,18 @@
 //! Operations that look random and are the same at each run.
 use rga_ops::{Op, Refusal};
-use std::alloc::Global;
-use std::test::Fail;
 use test_ops::{deletion, insertion};
 
+/// A generator of operations, others for each seed.
 #[derive(Drop)]
-struct Random {
+pub struct Random {
     state: u64,
 }
 
 impl Random {
+    pub fn new(seed: u64) -> Random {
+        Random { state: seed }
+    }
+
     fn below(&mut self, bound: u64) -> u64 {
         self.state = self
             .state
@@ -20,7 +23,7 @@ impl Random {
 
     /// An operation of one of three replicas. An identifier mostly has one insertion, which comes
     /// again, before its parent or after its deletion; now and then it is another one.
-    fn op(&mut self) -> Result<Op, Refusal> {
+    pub fn op(&mut self) -> Result<Op, Refusal> {
         let counter = self.below(12).wrapping_add(1);
         let replica = self.replica();
         if self.below(4) == 0 {
@@ -41,14 +44,4 @@ impl Random {
             _ => 3,
         }
     }
-}
-
-/// So many operations, others for each seed.
-pub fn random_ops(alloc: Global, seed: u64, count: usize) -> Result<Vec<Op>, Fail> {
-    let mut random = Random { state: seed };
-    let mut ops = Vec::new(alloc);
-    for _ in 0..count {
-        ops.push(random.op()?)?;
-    }
-    Ok(ops)
 }

@@ -1,28 +1,22 @@
 //! The tree store on worked examples.
-use rga_ops::{Id, Op, Refusal};
-use rga_store::{MAX_LIMIT, Taken, Taker, TextStore, TreeStore};
+use crate::words::{holds, prints, shows, store_of};
+use rga_ops::{Id, Refusal};
+use rga_store::{MAX_LIMIT, Taker, TextStore, TreeStore};
 use std::alloc::Global;
 use std::test::Fail;
 use test_ops::{id, insertion, ops_of};
 
-/// A store that took the operations of these words one by one.
-pub fn store_of(alloc: Global, limit: usize, words: &str) -> Result<TreeStore, Fail> {
-    let mut store = TreeStore::new(alloc, limit)?;
-    for op in &ops_of(alloc, words)? {
-        let _taken = store.apply(*op)?;
+/// Whether a store that took these operations shows the text, and so many elements wait.
+fn tells(alloc: Global, words: &str, text: &str, waiting: usize) -> bool {
+    match store_of(alloc, 100, words) {
+        Ok(store) => shows(alloc, &store, text) && store.waiting_count() == Ok(waiting),
+        Err(_) => false,
     }
-    Ok(store)
-}
-
-/// Whether the text of the store is this one.
-fn shows(alloc: Global, store: &TreeStore, text: &str) -> Result<bool, Fail> {
-    let chars = store.text(alloc)?;
-    Ok(String::from_iter(alloc, chars)?.as_str() == text)
 }
 
 #[test]
-fn the_text_follows_the_root_paths(rt: HostRuntime) -> Result<(), Fail> {
-    let table = [
+fn the_text_follows_the_root_paths(rt: HostRuntime) {
+    for (name, words, text, waiting) in &[
         ("nothing", "", "", 0usize),
         ("typing", "a1.1<0.0 b2.1<1.1", "ab", 0),
         ("concurrent at the root", "a1.1<0.0 x1.2<0.0", "xa", 0),
@@ -42,42 +36,50 @@ fn the_text_follows_the_root_paths(rt: HostRuntime) -> Result<(), Fail> {
             "awc",
             0,
         ),
-    ];
-    for (name, words, text, waiting) in table {
-        let store = store_of(rt.alloc(), 100, words)?;
-        assert!(rt; shows(rt.alloc(), &store, text)?, "{name}");
-        assert_eq!(rt; store.waiting_count(), Ok(waiting), "{name}");
+    ] {
+        assert!(rt; tells(rt.alloc(), words, text, *waiting), "{name}");
     }
-    Ok(())
+}
+
+/// Whether the store has this answer to each of the operations.
+fn answers(alloc: Global, store: &mut TreeStore, words: &str, answer: &str) -> bool {
+    match ops_of(alloc, words) {
+        Ok(ops) => ops
+            .as_slice()
+            .iter()
+            .all(|op| prints(alloc, &store.apply(*op), answer)),
+        Err(_) => false,
+    }
 }
 
 #[test]
 fn each_operation_has_its_answer(rt: HostRuntime) -> Result<(), Fail> {
-    let conflict = Err(Refusal::Conflict(id(1, 1)?));
-    let table = [
-        ("a0.0<0.0", Err(Refusal::BadId)),
-        ("a1.1<1.2", Err(Refusal::BadOrder)),
-        ("a1.1<0.0", Ok(Taken::New)),
-        ("a1.1<0.0", Ok(Taken::Known)),
-        ("b1.1<0.0", conflict),
-        ("b2.1<1.1", Ok(Taken::New)),
-        ("-3.1", Ok(Taken::New)),
-        ("d4.1<3.1", Err(Refusal::Full)),
-        ("-9.9", Err(Refusal::Full)),
-        ("c3.1<2.1", Ok(Taken::New)),
-        ("-3.1", Ok(Taken::Known)),
-        ("-2.1", Ok(Taken::New)),
-        ("-2.1", Ok(Taken::Known)),
-    ];
     let mut store = TreeStore::new(rt.alloc(), 3)?;
-    for (words, answer) in table {
-        for op in &ops_of(rt.alloc(), words)? {
-            assert_eq!(rt; store.apply(*op), answer, "{words}");
-        }
+    for (words, answer) in &[
+        ("a0.0<0.0", "Err(BadId)"),
+        ("a1.1<1.2", "Err(BadOrder)"),
+        ("a1.1<0.0", "Ok(New)"),
+        ("a1.1<0.0", "Ok(Known)"),
+        ("b1.1<0.0", "Err(Conflict(Id { counter: 1, replica: 1 }))"),
+        ("b2.1<1.1", "Ok(New)"),
+        ("-3.1", "Ok(New)"),
+        ("d4.1<3.1", "Err(Full)"),
+        ("-9.9", "Err(Full)"),
+        ("c3.1<2.1", "Ok(New)"),
+        ("-3.1", "Ok(Known)"),
+        ("-2.1", "Ok(New)"),
+        ("-2.1", "Ok(Known)"),
+    ] {
+        assert!(rt; answers(rt.alloc(), &mut store, words, answer), "{words}");
     }
-    let order = [id(1, 1)?, id(2, 1)?, id(3, 1)?];
-    assert!(rt; store.order()?.as_slice() == order.as_slice());
+    assert_eq!(rt; has_order_of_three(&store), Ok(true));
     Ok(())
+}
+
+/// Whether the elements of the store are (1, 1), (2, 1) and (3, 1), in this order.
+fn has_order_of_three(store: &TreeStore) -> Result<bool, Refusal> {
+    let order = [id(1, 1)?, id(2, 1)?, id(3, 1)?];
+    Ok(store.order()?.as_slice() == order.as_slice())
 }
 
 /// The operations of a small tree, by identifier.
@@ -86,44 +88,61 @@ const TREE: &str = "a1.1<0.0 b2.2<1.1 c3.1<1.1 d4.1<3.1 -3.1 -7.2";
 /// The same in another order.
 const SHUFFLED: &str = "-7.2 a1.1<0.0 c3.1<1.1 -3.1 d4.1<3.1 b2.2<1.1";
 
+/// The clock of the store, how many identifiers it knows, and how many it may.
+fn numbers(store: &TreeStore) -> (u64, usize, usize) {
+    (store.clock(), store.known(), store.limit())
+}
+
+/// Whether the store has an element, a deletion, an insertion, and another one in its place.
+fn facts(store: &TreeStore) -> Result<[bool; 4], Refusal> {
+    let element = store.get(id(1, 1)?) == Some((Id::ROOT, 'a'));
+    let deletion = store.is_deleted(id(7, 2)?);
+    let insertion_of_c = store.contains(&insertion((3, 1), (1, 1), 'c')?);
+    let insertion_of_x = store.contains(&insertion((3, 1), (1, 1), 'x')?);
+    Ok([element, deletion, insertion_of_c, insertion_of_x])
+}
+
 #[test]
 fn a_store_tells_its_content(rt: HostRuntime) -> Result<(), Fail> {
     let store = store_of(rt.alloc(), 7, SHUFFLED)?;
-    assert_eq!(rt; store.clock(), 7);
-    assert_eq!(rt; store.known(), 5);
-    assert_eq!(rt; store.limit(), 7);
-    assert_eq!(rt; store.get(id(1, 1)?), Some((Id::ROOT, 'a')));
-    assert!(rt; store.is_deleted(id(7, 2)?));
-    assert!(rt; store.contains(&insertion((3, 1), (1, 1), 'c')?));
-    assert!(rt; !store.contains(&insertion((3, 1), (1, 1), 'x')?));
+    assert_eq!(rt; numbers(&store), (7, 5, 7));
+    assert_eq!(rt; facts(&store), Ok([true, true, true, false]));
     Ok(())
 }
 
 #[test]
 fn operations_come_by_identifier(rt: HostRuntime) -> Result<(), Fail> {
     let store = store_of(rt.alloc(), 7, SHUFFLED)?;
-    assert!(rt; store.ops()?.as_slice() == ops_of(rt.alloc(), TREE)?.as_slice());
+    assert!(rt; holds(rt.alloc(), &store, TREE));
     Ok(())
+}
+
+/// Whether a store has the limit, the text and the operations of the small tree.
+fn is_tree(alloc: Global, store: &TreeStore) -> bool {
+    store.limit() == 7 && shows(alloc, store, "adb") && holds(alloc, store, TREE)
 }
 
 #[test]
 fn a_copy_has_the_same_content(rt: HostRuntime) -> Result<(), Fail> {
     let copy = store_of(rt.alloc(), 7, SHUFFLED)?.copy()?;
-    assert_eq!(rt; copy.limit(), 7);
-    assert!(rt; shows(rt.alloc(), &copy, "adb")?);
-    assert!(rt; copy.ops()?.as_slice() == ops_of(rt.alloc(), TREE)?.as_slice());
+    assert!(rt; is_tree(rt.alloc(), &copy));
     Ok(())
+}
+
+/// Whether there may be a store with this limit.
+fn fits(alloc: Global, limit: usize) -> bool {
+    TreeStore::new(alloc, limit).is_ok()
 }
 
 #[test]
 fn a_limit_is_one_to_a_million(rt: HostRuntime) {
-    for (limit, fits) in [
-        (0, false),
+    for (limit, answer) in &[
+        (0usize, false),
         (1, true),
         (MAX_LIMIT, true),
         (MAX_LIMIT + 1, false),
     ] {
-        assert_eq!(rt; TreeStore::new(rt.alloc(), limit).is_ok(), fits, "{limit}");
+        assert_eq!(rt; fits(rt.alloc(), *limit), *answer, "{limit}");
     }
 }
 
@@ -140,27 +159,30 @@ fn sibling(shape: usize, k: u64) -> u64 {
     }
 }
 
-fn siblings(alloc: Global, shape: usize) -> Result<Vec<Op>, Fail> {
-    let mut ops = Vec::new(alloc);
+/// A store that took all of the siblings.
+fn family(alloc: Global, shape: usize) -> Result<TreeStore, Refusal> {
+    let mut store = TreeStore::new(alloc, 1000)?;
     for k in 0..199 {
-        ops.push(insertion((sibling(shape, k), 1), (0, 0), 'a')?)?;
+        let _taken = store.apply(insertion((sibling(shape, k), 1), (0, 0), 'a')?)?;
     }
-    Ok(ops)
+    Ok(store)
+}
+
+/// Whether all of the siblings stand by falling identifier.
+fn falls(store: &TreeStore) -> bool {
+    match store.order() {
+        Ok(order) => order.as_slice().len() == 199 && order.as_slice().is_sorted_by(|a, b| a > b),
+        Err(_) => false,
+    }
 }
 
 /// A large family stands by falling identifier, whichever way it came.
 #[test]
-fn many_siblings(rt: HostRuntime) -> Result<(), Fail> {
+fn many_siblings(rt: HostRuntime) {
     for shape in 0..3 {
-        let mut store = TreeStore::new(rt.alloc(), 1000)?;
-        for op in &siblings(rt.alloc(), shape)? {
-            let _taken = store.apply(*op)?;
-        }
-        let order = store.order()?;
-        assert_eq!(rt; order.as_slice().len(), 199);
-        for pair in order.as_slice().windows(2) {
-            assert!(rt; pair.first() > pair.last(), "{shape}");
-        }
+        assert!(rt;
+            family(rt.alloc(), shape).is_ok_and(|store| falls(&store)),
+            "{shape}"
+        );
     }
-    Ok(())
 }

@@ -1,13 +1,32 @@
 //! Lists of operations that a store takes whole or not at all.
-use crate::stores::store_of;
-use rga_ops::Refusal;
-use rga_store::{Taker, TextStore};
-use std::test::Fail;
-use test_ops::{id, ops_of};
+use crate::words::{holds, prints, store_of};
+use rga_store::{Taker, TreeStore};
+use std::alloc::Global;
+use test_ops::ops_of;
+
+/// The answer to another insertion of (1, 1).
+const CONFLICT: &str = "Err(Conflict(Id { counter: 1, replica: 1 }))";
+
+/// Whether the store has the answer to a list of operations.
+fn answers(alloc: Global, store: &mut TreeStore, list: &str, answer: &str) -> bool {
+    match ops_of(alloc, list) {
+        Ok(ops) => prints(alloc, &store.apply_all(&ops), answer),
+        Err(_) => false,
+    }
+}
+
+/// Whether a store that took the operations before has the answer to the list, and then holds those
+/// after.
+fn takes(alloc: Global, limit: usize, before: &str, list: &str, answer: &str, after: &str) -> bool {
+    match store_of(alloc, limit, before) {
+        Ok(mut store) => { answers(alloc, &mut store, list, answer) && holds(alloc, &store, after) }
+        Err(_) => false,
+    }
+}
 
 #[test]
-fn a_list_is_taken_whole(rt: HostRuntime) -> Result<(), Fail> {
-    let table = [
+fn a_list_is_taken_whole(rt: HostRuntime) {
+    for (name, limit, before, list, after) in &[
         ("nothing", 1usize, "", "", ""),
         (
             "one identifier, twice",
@@ -37,52 +56,45 @@ fn a_list_is_taken_whole(rt: HostRuntime) -> Result<(), Fail> {
             "b2.1<1.1 a1.1<0.0",
             "a1.1<0.0 b2.1<1.1",
         ),
-    ];
-    for (name, limit, before, list, after) in table {
-        let mut store = store_of(rt.alloc(), limit, before)?;
-        let ops = ops_of(rt.alloc(), list)?;
-        assert_eq!(rt; store.apply_all(&ops), Ok(()), "{name}");
-        let after = ops_of(rt.alloc(), after)?;
-        assert!(rt; store.ops()?.as_slice() == after.as_slice(), "{name}");
+    ] {
+        assert!(rt;
+            takes(rt.alloc(), *limit, before, list, "Ok(())", after),
+            "{name}"
+        );
     }
-    Ok(())
 }
 
 #[test]
-fn a_refused_list_changes_nothing(rt: HostRuntime) -> Result<(), Fail> {
-    let conflict = Refusal::Conflict(id(1, 1)?);
-    let table = [
-        ("too many", 1usize, "", "a1.1<0.0 b2.1<1.1", Refusal::Full),
-        ("a deletion too many", 1, "a1.1<0.0", "-2.1", Refusal::Full),
+fn a_refused_list_changes_nothing(rt: HostRuntime) {
+    for (name, limit, before, list, answer) in &[
+        ("too many", 1usize, "", "a1.1<0.0 b2.1<1.1", "Err(Full)"),
+        ("a deletion too many", 1, "a1.1<0.0", "-2.1", "Err(Full)"),
         (
             "two insertions",
             1,
             "",
             "a1.1<0.0 b2.1<1.1 b1.1<0.0",
-            conflict,
+            CONFLICT,
         ),
         (
             "one of the store",
             9,
             "a1.1<0.0",
             "b2.1<1.1 b1.1<0.0",
-            conflict,
+            CONFLICT,
         ),
         (
             "ill-formed",
             9,
             "a1.1<0.0",
             "b1.1<0.0 c3.1<3.1",
-            Refusal::BadOrder,
+            "Err(BadOrder)",
         ),
-        ("the root", 9, "", "-0.0 c3.1<3.1", Refusal::BadId),
-    ];
-    for (name, limit, before, list, refusal) in table {
-        let mut store = store_of(rt.alloc(), limit, before)?;
-        let ops = ops_of(rt.alloc(), list)?;
-        assert_eq!(rt; store.apply_all(&ops), Err(refusal), "{name}");
-        let before = ops_of(rt.alloc(), before)?;
-        assert!(rt; store.ops()?.as_slice() == before.as_slice(), "{name}");
+        ("the root", 9, "", "-0.0 c3.1<3.1", "Err(BadId)"),
+    ] {
+        assert!(rt;
+            takes(rt.alloc(), *limit, before, list, answer, before),
+            "{name}"
+        );
     }
-    Ok(())
 }

@@ -78,9 +78,8 @@ pub fn places_in_words()
 
 /// A well-formed insertion of a new identifier, which no element waits for, puts it into the order
 /// of a sound content right of its parent and past the larger identifiers that stand there; nothing
-/// else moves. Where its
-/// counter is above all others, it stands directly behind its parent. Where the parent is neither
-/// the root nor complete, the new element waits and the order stays.
+/// else moves. Where its counter is above all others, it stands directly behind its parent. Where
+/// the parent is neither the root nor complete, the new element waits and the order stays.
 pub fn an_insertion_goes_to_its_place()
     ensures skip_rule { (c : Content) (id parent : Identifier) (ch : ℕ) →
         let op = Operation.Insert id parent ch in

@@ -1,2 +1,0 @@
-pub mod CommandLineLemmas
-pub mod ShownLaws

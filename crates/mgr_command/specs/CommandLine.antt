@@ -1,0 +1,74 @@
+-- What a command line asks for.
+use Rattle.std.specs.Prelude.{◌||◌, ℕ, Bool, true, false, List, [], ◌∷◌, ◌++◌, codes, drop, nat_eq}
+use Rattle.std.specs.Prelude.{if◌then◌else◌}
+use Rattle.std.specs.List.{starts_with}
+use Rattle.std.specs.Str.{bytes_eq}
+use Rattle.clap.specs.Simple.{App, Shape, new_app, new_shape, on_top, with_subcommand}
+use Rattle.mgr_command.specs.declared.job.Job.{Job}
+use Rattle.mgr_command.specs.declared.job.Job.TheVariants.{Show}
+use Rattle.mgr_command.specs.declared.job.Topic.{Topic}
+use Rattle.mgr_command.specs.declared.job.Topic.TheVariants as topic
+
+abbrev pub Text : Type 0
+Text = List ℕ
+
+-- a job, help on a topic, the version, or nothing that the program has
+pub data Wish : Type 0 where
+  work : Job → Wish
+  help : Topic → Wish
+  version : Wish
+  mistake : Wish
+
+-- `--help`, or `-h` with anything behind it in the same word
+abbrev pub is_help_flag : Text → Bool
+is_help_flag word = bytes_eq word (codes "--help") || starts_with nat_eq word (codes "-h")
+
+-- `--version`, or `-V` with anything behind it in the same word
+abbrev pub is_version_flag : Text → Bool
+is_version_flag word = bytes_eq word (codes "--version") || starts_with nat_eq word (codes "-V")
+
+-- one word, `--`, which ends the flags
+abbrev pub is_end_of_flags : List Text → Bool
+is_end_of_flags (word ∷ []) = bytes_eq word (codes "--")
+is_end_of_flags _ = false
+
+-- the words behind `show`, which takes none
+abbrev pub show_wish : List Text → Wish
+show_wish [] = work Show
+show_wish (word ∷ rest) =
+    if is_help_flag word then help (topic.Job Show)
+    else if is_end_of_flags (word ∷ rest) then work Show else mistake
+
+-- the words behind the program's name
+abbrev pub arguments_wish : List Text → Wish
+arguments_wish [] = mistake
+arguments_wish (word ∷ rest) =
+    if bytes_eq word (codes "show") then show_wish rest
+    else if is_help_flag word then help topic.Program
+    else if is_version_flag word then version else mistake
+
+-- `help` in front is `--help` behind: `help show` is `show --help`
+abbrev pub with_help_flag : List Text → List Text
+with_help_flag [] = []
+with_help_flag (word ∷ rest) =
+    if bytes_eq word (codes "help") then rest ++ codes "--help" ∷ [] else word ∷ rest
+
+-- all words, of which the first is the program's name
+abbrev pub wish_of : List Text → Wish
+wish_of words = arguments_wish (with_help_flag (drop 1 words))
+
+-- what help is on, where the words behind the program's name ask for it
+abbrev pub topic_of : List Text → Topic
+topic_of [] = topic.Program
+topic_of (word ∷ rest) = if bytes_eq word (codes "show") then topic.Job Show else topic.Program
+
+-- the command line as clap is told of it: `show`, which stands alone
+abbrev pub required : Shape → Shape
+required top = record top {
+  has_version = true;
+  subcommand_required = true;
+  disable_help_subcommand = true;
+}
+
+abbrev pub command_line : App
+command_line = with_subcommand (on_top required (new_app (codes "mgr"))) (new_shape (codes "show"))

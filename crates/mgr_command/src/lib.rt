@@ -1,0 +1,14 @@
+//! The command line of mgr: the words after the program's name, and the job that they ask for.
+//!
+//! clap reads them; no other crate knows it. The program above may rest on the contracts: the job is
+//! the one that the words ask for, help and the version are told where they are asked for, and
+//! every other command line is refused (`job_of`).
+#![tactic(auto)]
+
+mod arguments;
+mod command;
+mod job;
+
+pub use arguments::words;
+pub use command::VERSION;
+pub use job::{Job, JobFault, Topic, fault_of_bytes, job_of, job_status};

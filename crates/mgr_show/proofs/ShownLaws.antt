@@ -1,0 +1,95 @@
+-- What is written of an accepted log.
+use Rattle.std.proofs.Common.{◌≡◌, ℕ, ◌+◌, List, Option, Some, None, Result, Ok, Err, refl, sym, ap, subst, ◌∙◌, inr}
+use Rattle.std.specs.Prelude.{IfSome, ◌⊎◌}
+use Rattle.rga_ops.specs.Content.{Content, nothing, content_of}
+use Rattle.rga_ops.proofs.TakenLaws.{taken_from_nothing, taken_list_agrees}
+use Rattle.rga_ops.specs.Content.{IsAgreed}
+use Rattle.rga_store.specs.declared.text_store.TheConstants.{MAX_LIMIT}
+use Rattle.rga_lines.specs.Counting.{Calls, Writes, WritesFront, WritesNothing}
+use Rattle.rga_lines.specs.Log.{log_operations}
+use Rattle.rga_lines.specs.Stream.{lines_of}
+use Rattle.rga_exchange.specs.declared.fault.LogFault.{LogFault}
+use Rattle.rga_exchange.specs.declared.log.LogEnd.{LogEnd}
+use Rattle.rga_exchange.specs.declared.log.LogEnd.TheVariants.{Whole, Bare, Torn}
+use Rattle.rga_exchange.specs.declared.log.LogRead.{LogRead}
+use Rattle.rga_exchange.specs.Taking.{AreTaken, HasTakenWholeLines}
+use Rattle.rga_exchange.specs.Log.{LogOutcome, log_outcome}
+use Rattle.rga_exchange.proofs.OperationLaws.{log_taken}
+use Rattle.mgr_show.specs.declared.fault.ShowFault.{ShowFault}
+use Rattle.mgr_show.specs.declared.fault.ShowFault.TheVariants as fault
+use Rattle.mgr_show.specs.Log.{Outcome, show_fault, at_end, outcome_of, shown_from, log_of}
+use Rattle.mgr_show.specs.Shown.{text_bytes, log_content, IsAccepted, Shows, BeginsToShow}
+
+abbrev shows_it : Content → Outcome
+shows_it c = Ok c
+
+abbrev outcome : Content → Result LogRead LogFault → LogOutcome
+outcome c r = (c, r)
+
+abbrev fails : ShowFault → Outcome
+fails e = Err e
+
+-- a log whose text is shown was read to its end
+read_to_end : (limit : ℕ) (c : Content) (bytes : List ℕ) → log_of limit bytes ≡ Ok c → (read : LogRead) × (log_outcome limit nothing bytes ≡ (c, Ok read))
+read_to_end limit c bytes h = by_outcome (log_outcome limit nothing bytes) refl h
+  where
+    by_end : (d : Content) (n : ℕ) (end : LogEnd) → at_end d n end ≡ Ok c → d ≡ c
+    by_end d n Whole h = let same : shows_it d ≡ shows_it c = h in cc
+    by_end d n Bare h = let same : shows_it d ≡ shows_it c = h in cc
+    by_end d n (Torn k) h = let clash : fails (fault.Torn (n + 1)) ≡ shows_it c = h in absurd cc
+
+    by_result : (d : Content) (r : Result LogRead LogFault) → outcome_of d r ≡ Ok c → (read : LogRead) × (outcome d r ≡ (c, Ok read))
+    by_result d (Ok read) h = (read, ap (λ e. outcome e (Ok read)) (by_end d read.lines read.end h))
+    by_result d (Err e) h = let clash : fails (show_fault e) ≡ shows_it c = h in absurd cc
+
+    by_outcome : (p : LogOutcome) → log_outcome limit nothing bytes ≡ p → outcome_of p.0 p.1 ≡ Ok c → (read : LogRead) × (log_outcome limit nothing bytes ≡ (c, Ok read))
+    by_outcome (d, r) is h = let w = by_result d r h in (w.0, is ∙ w.1)
+
+log_content_is : (limit : ℕ) (bytes : List ℕ) (c : Content) → log_of limit bytes ≡ Ok c → c ≡ content_of (log_operations bytes)
+log_content_is limit bytes c h =
+    let w = read_to_end limit c bytes h in
+    taken_from_nothing limit (log_operations bytes) c (log_taken limit nothing c w.0 bytes w.1)
+
+log_agrees : (limit : ℕ) (bytes : List ℕ) (c : Content) → log_of limit bytes ≡ Ok c → IsAgreed (log_operations bytes)
+log_agrees limit bytes c h =
+    let w = read_to_end limit c bytes h in
+    taken_list_agrees limit nothing (log_operations bytes) c (log_taken limit nothing c w.0 bytes w.1)
+
+-- what a store holds that took a log from the start, and the text that was made of it
+pub record IsTextOf (bytes : List ℕ) (written : List ℕ) : Type 0 where
+  pub accepted : IsAccepted bytes
+  pub is : written ≡ text_bytes (log_content bytes)
+
+text_of_log : (bytes : List ℕ) (c : Content) (written : List ℕ) → log_of MAX_LIMIT bytes ≡ Ok c → written ≡ text_bytes c → IsTextOf bytes written
+text_of_log bytes c written h is =
+    let content : c ≡ log_content bytes = log_content_is MAX_LIMIT bytes c h in
+    record {
+      accepted = record { agreed = log_agrees MAX_LIMIT bytes c h; content = h ∙ ap Ok content };
+      is = is ∙ ap text_bytes content;
+    }
+
+pub text_of_input : (known : Option (List ℕ)) (limit : ℕ) (start c : Content) (written : List ℕ) → limit ≡ MAX_LIMIT → start ≡ nothing
+    → IfSome known (λ bytes. shown_from limit start bytes ≡ Ok c) → written ≡ text_bytes c → IfSome known (λ bytes. IsTextOf bytes written)
+text_of_input None limit start c written same empty h is = tt
+text_of_input (Some bytes) limit start c written same empty h is =
+    text_of_log bytes c written (sym (λ k. shown_from (same k) (empty k) bytes) ∙ h) is
+
+module _ {W : Type 0} (contents : W → Option (List ℕ)) where
+  pub shows : (known : Option (List ℕ)) (old new : Calls W) (written : List ℕ) → IfSome known (λ bytes. IsTextOf bytes written) → Writes contents old new written → IfSome known (λ bytes. Shows contents old new bytes)
+  shows None old new written h w = tt
+  shows (Some bytes) old new written h w = record { accepted = h.accepted; written = subst (λ l. Writes contents old new l) h.is w }
+
+  pub begins_to_show : (known : Option (List ℕ)) (old new : Calls W) (written : List ℕ) → IfSome known (λ bytes. IsTextOf bytes written) → WritesFront contents old new written → IfSome known (λ bytes. WritesNothing contents old new ⊎ BeginsToShow contents old new bytes)
+  begins_to_show None old new written h w = tt
+  begins_to_show (Some bytes) old new written h w = inr (record { accepted = h.accepted; begun = subst (λ l. WritesFront contents old new l) h.is w })
+
+-- all whole lines that were read were taken, by a store that was made empty
+pub whole_from : {R T : Type 0} (remaining : R → Option (List ℕ)) (limit : T → ℕ) (content : T → Content) (r s : Calls R) (t u : T) → limit t ≡ MAX_LIMIT → content t ≡ nothing → HasTakenWholeLines remaining limit content r s t u → (c : Content) × HasTakenWholeLines remaining (λ _. MAX_LIMIT) (λ held. held) r s nothing c
+whole_from remaining limit content r s t u same empty h = (
+  content u,
+  record {
+    bytes = h.bytes;
+    read = h.read;
+    taken = subst (λ l. AreTaken l (lines_of h.bytes) nothing (content u)) same (subst (λ e. AreTaken (limit t) (lines_of h.bytes) e (content u)) empty h.taken);
+  },
+)

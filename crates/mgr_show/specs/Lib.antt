@@ -1,0 +1,3 @@
+pub mod Log
+pub mod Report
+pub mod Shown

@@ -1,0 +1,44 @@
+//! Why `mgr show` ends without the text.
+ghost use Rattle.std.specs.Prelude.{◌≡◌};
+ghost use Rattle.mgr_show.specs.Log.{show_fault};
+
+use rga_exchange::LogFault;
+use rga_lines::LineFault;
+use rga_ops::Refusal;
+use thiserror::Error;
+
+/// Why `mgr show` ends without the whole text. Lines count from 1.
+#[derive(Clone, Copy, Debug, PartialEq, Eq, Error)]
+pub enum ShowFault {
+    /// The line is no operation.
+    #[error("line {0} is no operation: {1:?}")]
+    Line(u64, LineFault),
+    /// The operation of the line was refused.
+    #[error("the operation of line {0} was refused: {1:?}")]
+    Refused(u64, Refusal),
+    /// The last line, which has this number, has no newline and is no operation.
+    #[error("line {0} was cut off")]
+    Torn(u64),
+    /// The device of the input failed.
+    #[error("reading failed")]
+    Read,
+    /// The device of the output failed.
+    #[error("writing failed")]
+    Write,
+    /// A growth of memory was refused.
+    #[error("out of memory")]
+    Memory,
+}
+
+impl From<LogFault> for ShowFault {
+    ghost from_gives = { λ fault e. e ≡ show_fault fault };
+
+    fn from(fault: LogFault) -> ShowFault {
+        match fault {
+            LogFault::Line(number, fault) => ShowFault::Line(number, fault),
+            LogFault::Refused(number, refusal) => ShowFault::Refused(number, refusal),
+            LogFault::Read => ShowFault::Read,
+            LogFault::Memory => ShowFault::Memory,
+        }
+    }
+}

@@ -1,0 +1,50 @@
+//! Stores that are made from words, and compared with words and with one another.
+use rga_ops::Refusal;
+use rga_store::{Taker, TextStore, TreeStore};
+use std::alloc::Global;
+use std::fmt::Debug;
+use test_ops::ops_of;
+
+/// A store that took the operations of these words one by one.
+pub fn store_of(alloc: Global, limit: usize, words: &str) -> Result<TreeStore, Refusal> {
+    let ops = ops_of(alloc, words)?;
+    let mut store = TreeStore::new(alloc, limit)?;
+    for op in &ops {
+        let _taken = store.apply(*op)?;
+    }
+    Ok(store)
+}
+
+/// Whether the text of the store is this one.
+pub fn shows(alloc: Global, store: &TreeStore, text: &str) -> bool {
+    match store.text(alloc) {
+        Ok(chars) => chars.as_slice().iter().copied().eq(text.chars()),
+        Err(_) => false,
+    }
+}
+
+/// Whether these are the operations of the store, in their order.
+pub fn holds(alloc: Global, store: &TreeStore, words: &str) -> bool {
+    same(store.ops(), ops_of(alloc, words))
+}
+
+/// Whether both stores hold the same operations, and have the same order.
+pub fn alike(a: &TreeStore, b: &TreeStore) -> bool {
+    same(a.ops(), b.ops()) && same(a.order(), b.order())
+}
+
+/// Whether there are both lists, and they are the same.
+pub fn same<T: PartialEq + Drop>(a: Result<Vec<T>, Refusal>, b: Result<Vec<T>, Refusal>) -> bool {
+    match (a, b) {
+        (Ok(a), Ok(b)) => a.as_slice() == b.as_slice(),
+        _ => false,
+    }
+}
+
+/// Whether the answer is printed so.
+pub fn prints<T: Debug>(alloc: Global, answer: &T, text: &str) -> bool {
+    match format!(in alloc; "{answer:?}") {
+        Ok(printed) => printed.as_str() == text,
+        Err(_) => false,
+    }
+}
