@@ -1,35 +1,14 @@
 -- What the shell is told of a fault of `mgr show`.
-use Rattle.std.specs.Prelude.{ℕ, List, ◌++◌, codes}
+use Rattle.std.specs.Prelude.{ℕ, List, ◌++◌, Result, Ok, Err, codes}
 use Rattle.std.specs.Fmt.{decimal}
-use Rattle.rga_lines.specs.declared.fault.LineFault.{LineFault}
+use Rattle.rga_lines.specs.FaultName.{fault_name}
 use Rattle.rga_lines.specs.declared.fault.LineFault.TheVariants as line
-use Rattle.rga_ops.specs.declared.refusal.Refusal.{Refusal}
+use Rattle.rga_ops.specs.RefusalName.{refusal_name}
 use Rattle.rga_ops.specs.declared.refusal.Refusal.TheVariants as refusal
 use Rattle.mgr_show.specs.declared.fault.ShowFault.{ShowFault}
 use Rattle.mgr_show.specs.declared.fault.ShowFault.TheVariants.{Line, Refused, Torn, Read, Write, Memory}
 use Rattle.mgr_show.specs.declared.report.Message.{Message}
 use Rattle.mgr_show.specs.declared.report.Message.TheVariants as message
-
--- a fault of a line, by its name in the source
-abbrev pub fault_name : LineFault → List ℕ
-fault_name line.Long = codes "Long"
-fault_name line.Json = codes "Json"
-fault_name line.Member = codes "Member"
-fault_name line.Kind = codes "Kind"
-fault_name line.Id = codes "Id"
-fault_name line.Char = codes "Char"
-fault_name line.Order = codes "Order"
-fault_name line.Memory = codes "Memory"
-
--- a refusal, by its name in the source
-abbrev pub refusal_name : Refusal → List ℕ
-refusal_name refusal.BadId = codes "BadId"
-refusal_name refusal.BadOrder = codes "BadOrder"
-refusal_name (refusal.Conflict id) = codes "Conflict"
-refusal_name refusal.Full = codes "Full"
-refusal_name refusal.Range = codes "Range"
-refusal_name refusal.Clock = codes "Clock"
-refusal_name refusal.Memory = codes "Memory"
 
 -- the exit status: 1 where the input is refused, 3 where a device fails, 4 where memory is wanting
 abbrev pub status_of : ShowFault → ℕ
@@ -41,6 +20,11 @@ status_of (Torn number) = 1
 status_of Read = 3
 status_of Write = 3
 status_of Memory = 4
+
+-- that of an answer: 0 where there is no fault
+abbrev pub exit_status_of : Result (Unit {0}) ShowFault → ℕ
+exit_status_of (Ok done) = 0
+exit_status_of (Err fault) = status_of fault
 
 abbrev pub line_text : ℕ → List ℕ → List ℕ
 line_text number name = codes "line " ++ (decimal number ++ (codes ": " ++ name))

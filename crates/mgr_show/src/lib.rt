@@ -14,5 +14,5 @@ mod show;
 mod text;
 
 pub use fault::ShowFault;
-pub use report::{Message, Report};
+pub use report::{Message, Report, exit_status};
 pub use show::show_ops;

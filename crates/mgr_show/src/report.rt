@@ -1,6 +1,6 @@
 //! What a fault means to the shell.
-ghost use Rattle.std.specs.Prelude.{◌≡◌, Some};
-ghost use Rattle.mgr_show.specs.Report.{fault_name, message_of, message_text, refusal_name, status_of};
+ghost use Rattle.std.specs.Prelude.{◌≡◌, ◌↔◌, Some, Ok};
+ghost use Rattle.mgr_show.specs.Report.{exit_status_of, message_of, message_text, status_of};
 
 use crate::fault::ShowFault;
 use rga_lines::LineFault;
@@ -52,8 +52,8 @@ impl Report {
             ShowFault::Memory
             | ShowFault::Line(_, LineFault::Memory)
             | ShowFault::Refused(_, Refusal::Memory) => (4, Message::Memory),
-            ShowFault::Line(line, fault) => (1, Message::Line(line, fault_name(fault))),
-            ShowFault::Refused(line, refusal) => (1, Message::Line(line, refusal_name(refusal))),
+            ShowFault::Line(line, fault) => (1, Message::Line(line, fault.name())),
+            ShowFault::Refused(line, refusal) => (1, Message::Line(line, refusal.name())),
             ShowFault::Torn(line) => (1, Message::Line(line, "Torn")),
             ShowFault::Read | ShowFault::Write => (3, Message::Device),
         };
@@ -61,31 +61,13 @@ impl Report {
     }
 }
 
-fn fault_name(fault: LineFault) -> &'static str
-    ensures { result.now ≡ fault_name fault }
+/// The exit status of `mgr show`: 0 where the text was written, and else that of the fault.
+pub fn exit_status(answer: &Result<(), ShowFault>) -> u8
+    ensures exact { result ≡ exit_status_of answer.now }
+    ensures done { (result ≡ 0) ↔ (answer.now ≡ Ok tt) }
 {
-    match fault {
-        LineFault::Long => "Long",
-        LineFault::Json => "Json",
-        LineFault::Member => "Member",
-        LineFault::Kind => "Kind",
-        LineFault::Id => "Id",
-        LineFault::Char => "Char",
-        LineFault::Order => "Order",
-        LineFault::Memory => "Memory",
-    }
-}
-
-fn refusal_name(refusal: Refusal) -> &'static str
-    ensures { result.now ≡ refusal_name refusal }
-{
-    match refusal {
-        Refusal::BadId => "BadId",
-        Refusal::BadOrder => "BadOrder",
-        Refusal::Conflict(_) => "Conflict",
-        Refusal::Full => "Full",
-        Refusal::Range => "Range",
-        Refusal::Clock => "Clock",
-        Refusal::Memory => "Memory",
+    match answer {
+        Ok(()) => 0,
+        Err(fault) => Report::of(fault).status,
     }
 }

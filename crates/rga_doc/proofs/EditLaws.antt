@@ -1,6 +1,6 @@
 -- Local edits: the operations of an allowed splice, and of several in turn, are taken, and they change the text and the
 -- order at their place.
-use Rattle.std.proofs.Common.{◌≡◌, ℕ, ◌+◌, ◌≤◌, suc, Bool, true, false, cond, not, ◌&&◌, nat_le, nat_lt, leb-true, ltb-false, List, [], ◌∷◌, ◌++◌, map, take, drop, length, refl, sym, ap, ◌∙◌, subst, arith, drop_at, drop-drop, length-take-le}
+use Rattle.std.proofs.Common.{◌≡◌, ℕ, ◌+◌, ◌≤◌, suc, Bool, true, false, cond, ◌&&◌, nat_le, nat_lt, leb-true, ltb-false, List, [], ◌∷◌, ◌++◌, map, take, drop, length, refl, sym, ap, ◌∙◌, subst, arith, drop_at, drop-drop, length-take-le}
 use Rattle.std.specs.Prelude.{Some, None, Ok, Err}
 use Rattle.std.specs.Option.{unwrap_or}
 use Rattle.std.specs.List.{slice_get}
@@ -11,7 +11,7 @@ use Rattle.rga_ops.specs.Identifier.{Identifier, identifier, root}
 use Rattle.rga_ops.specs.Content.{Content, known_ids, clock_of, join, single, content_of}
 use Rattle.rga_ops.specs.Order.{order, text}
 use Rattle.rga_ops.specs.Places.{visible}
-use Rattle.rga_ops.specs.Splice.{spliced}
+use Rattle.rga_ops.specs.Splice.{spliced, text_after, are_falling, new_characters}
 use Rattle.rga_ops.specs.ListAnswer.{Verdict, and_check, union_answer, list_answer}
 use Rattle.rga_ops.proofs.VisibleLaws.{text_long}
 use Rattle.rga_ops.proofs.ListAnswerLaws.{union_taken-iff}
@@ -19,10 +19,10 @@ use Rattle.rga_ops.proofs.NewestLaws.{newest_element, order-newest}
 use Rattle.rga_ops.proofs.DeletionLaws.{visible-deletion_at, order-deletion}
 use Rattle.rga_ops.specs.declared.op.Op.{Op}
 use Rattle.rga_ops.specs.declared.op.Op.TheVariants.{Insert, Delete}
-use Rattle.rga_ops.specs.declared.refusal.Refusal.TheVariants.{Full, Range, Clock}
+use Rattle.rga_ops.specs.declared.refusal.Refusal.TheVariants.{Full, Range}
 use Rattle.rga_ops.specs.declared.splice.Splice.{Splice}
 use Rattle.rga_ops.proofs.AnswerLaws.{passed, bad}
-use Rattle.rga_doc.specs.LocalEdit.{left_of, chain, splice_operations, splices_operations, text_after, are_falling, new_characters, room_answer, place_answer, counter_answer, edit_answer, splice_answer, splices_answer, new_ids, put_row_behind, order_after}
+use Rattle.rga_doc.specs.LocalEdit.{left_of, chain, splice_operations, splices_operations, room_answer, place_answer, counter_answer, edit_answer, splice_answer, splices_answer, new_ids, put_row_behind, order_after}
 use Rattle.rga_doc.proofs.SplicedLists.{cut, length-cut, same_begin, get_at_drop, same_left, put_no_row, put_row_on}
 use Rattle.rga_doc.proofs.EditSteps.{Leads, leads_nowhere, leads_on, Shows, shows_itself, shows_on, shows_begin, shows_long, deletion_leads, deletion_shows, IsLeft, left_is, newer, insertion_leads, insertion_visible, insertion_shows, not_in_order}
 

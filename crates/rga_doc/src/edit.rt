@@ -1,9 +1,10 @@
 //! Edits by place.
-ghost use Rattle.std.specs.Prelude.{◌≡◌, min, true, [], IfOk, OnOk, OnErr};
+ghost use Rattle.std.specs.Prelude.{◌≡◌, ◌≤◌, min, true, [], length, Ok, Err, IfOk, OnOk, OnErr};
 ghost use Rattle.rga_ops.specs.Prelude.{clock_of, content_of, join, order, text, IsAnswer};
-ghost use Rattle.rga_ops.specs.Splice.{spliced};
+ghost use Rattle.rga_ops.specs.Splice.{spliced, text_after, are_falling, end_of, new_characters};
 ghost use Rattle.rga_store.specs.Limit.{is_limit};
-ghost use Rattle.rga_doc.specs.LocalEdit.{splice_operations, splices_operations, splice_answer, splices_answer, room_answer, place_answer, counter_answer, text_after, order_after, are_falling, new_characters};
+ghost use Rattle.rga_doc.specs.LocalEdit.{splice_operations, splices_operations, splice_answer, splices_answer, room_answer, place_answer, counter_answer, order_after};
+ghost use Rattle.rga_ops.specs.declared.refusal.Refusal.TheVariants.{Memory};
 
 use crate::doc::Doc;
 use crate::draft::Draft;
@@ -36,10 +37,17 @@ impl<S: TextStore> Doc<S> {
             (order self.new.content ≡ order_after self.old.replica self.old.content lo put.now) }
 
         ensures same { OnErr result (self.new ≡ self.old) }
+        // Nothing asks for memory before there is room and the places are in order.
+        ensures room { result ≡ Err Memory →
+            room_answer self.old.limit self.old.content (length put.now) ≡ Ok tt }
+        ensures ordered { result ≡ Err Memory → lo ≤ hi }
     {
         self.check_room(put.len())?;
+        if lo > hi {
+            return Err(Refusal::Range);
+        }
         let elements = visible_elements(&self.store)?;
-        if lo > hi || hi > elements.as_slice().len() {
+        if hi > elements.as_slice().len() {
             return Err(Refusal::Range);
         }
         self.check_counters(put.len())?;
@@ -67,11 +75,19 @@ impl<S: TextStore> Doc<S> {
             (text self.new.content ≡ text_after (text self.old.content) splices.now) }
 
         ensures same { OnErr result (self.new ≡ self.old) }
+        ensures room { result ≡ Err Memory →
+            room_answer self.old.limit self.old.content (new_characters splices.now) ≡ Ok tt }
+        ensures ordered { result ≡ Err Memory →
+            are_falling (end_of splices.now) splices.now ≡ true }
     {
         let new = count_characters(splices);
         self.check_room(new)?;
+        let end = end_of(splices);
+        check_falling(end, splices)?;
         let elements = visible_elements(&self.store)?;
-        check_falling(elements.as_slice().len(), splices)?;
+        if end > elements.as_slice().len() {
+            return Err(Refusal::Range);
+        }
         self.check_counters(new)?;
         let mut draft = self.draft();
         for splice in splices {
@@ -128,12 +144,22 @@ fn count_characters(splices: &[Splice]) -> usize
     count
 }
 
-/// `Range` unless each splice ends at or before the begin of the one before it, the first within
-/// the text.
-fn check_falling(length: usize, splices: &[Splice]) -> Result<(), Refusal>
-    ensures { result ≡ place_answer (are_falling length splices.now) }
+/// Where the first splice ends, and so all of them where they fall; 0 where there is none.
+fn end_of(splices: &[Splice]) -> usize
+    ensures { result ≡ end_of splices.now }
 {
-    let mut bound = length;
+    match splices.first() {
+        Some(splice) => splice.hi,
+        None => 0,
+    }
+}
+
+/// `Range` unless each splice ends at or before the begin of the one before it, and the first at or
+/// before the end.
+fn check_falling(end: usize, splices: &[Splice]) -> Result<(), Refusal>
+    ensures { result ≡ place_answer (are_falling end splices.now) }
+{
+    let mut bound = end;
     for splice in splices {
         if splice.lo > splice.hi || splice.hi > bound {
             return Err(Refusal::Range);

@@ -39,9 +39,14 @@ module _ {T : Type 0} where
       (λ n. new.failures ≡ (if (n == 0) && nat_lt 0 (length buf) then one_more old.failures else old.failures))
       (λ _. new.failures ≡ one_more old.failures)
 
-  -- No call comes back, of at most so many. One that answers `Ok` was passed on, so fewer are left.
+  -- A call that is passed on costs one of those that are left, whether it fails or not; one that is not costs none.
+  pub record Costs (old new : Calls T) : Type 0 where
+    pub passed_on : ¬ (IsSpent old) → old.left ≡ new.left + 1
+    pub refused : IsSpent old → new.left ≡ old.left
+
+  -- So does this one, of at most so many; what answers `Ok` was passed on.
   abbrev pub UsesCall : {A E : Type 0} → Result A E → Calls T → Calls T → Type 0
-  UsesCall r old new = (old.left ≤ MAX_CALLS) × (new.left ≤ old.left) × MatchResult r (λ _. new.left < old.left) (λ _. ⊤)
+  UsesCall r old new = (old.left ≤ MAX_CALLS) × MatchResult r (λ _. old.left ≡ new.left + 1) (λ _. ⊤) × Costs old new
 
   -- Where this fault is answered, the device failed once more; and at any other answer it did not.
   pub record CountsAs {A E : Type 0} (fault : E) (r : Result A E) (old new : Calls T) : Type 0 where

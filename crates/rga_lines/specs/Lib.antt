@@ -4,3 +4,4 @@ pub mod Log
 pub mod Counting
 pub mod Members
 pub mod Spelling
+pub mod FaultName

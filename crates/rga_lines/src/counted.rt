@@ -122,7 +122,7 @@ impl<R: Read> Read for Counted<R> {
 }
 
 impl<W: Write> Write for Counted<W> {
-    ghost use Rattle.std.specs.Prelude.{◌≡◌, IsErr, OnOk};
+    ghost use Rattle.std.specs.Prelude.{◌≡◌, ◌≤◌, IsErr, OnOk};
     ghost use Rattle.std.specs.Io.{WritesAtMost};
     ghost use Rattle.std.specs.Io.KnownBytes.{WriteAppends};
     ghost use Rattle.rga_lines.specs.Counting.{Counts, WriteCounts, UsesCall, IsSpent, Writes, WritesFront, WritesNothing};
@@ -180,6 +180,7 @@ impl<W: Write> Write for Counted<W> {
         ensures bytes { OnOk result (Writes W.contents self.old self.new buf.now) }
         ensures begun { WritesFront W.contents self.old self.new buf.now }
         ensures device { Counts result self.old self.new }
+        ensures calls { self.new.left ≤ self.old.left }
     {
         let mut rest = buf;
         'rest: while !rest.is_empty() {

@@ -1,6 +1,7 @@
 //! What can be wrong with a line.
 ghost use Rattle.std.specs.Prelude.{◌≡◌};
 ghost use Rattle.rga_lines.specs.declared.fault.LineFault.TheVariants.{Memory};
+ghost use Rattle.rga_lines.specs.FaultName.{fault_name};
 
 use std::alloc::AllocError;
 
@@ -30,6 +31,24 @@ pub enum LineFault {
     Order,
     /// A growth of memory was refused.
     Memory,
+}
+
+impl LineFault {
+    /// The fault's name, as it is printed.
+    pub fn name(self) -> &'static str
+        ensures { result.now ≡ fault_name self }
+    {
+        match self {
+            LineFault::Long => "Long",
+            LineFault::Json => "Json",
+            LineFault::Member => "Member",
+            LineFault::Kind => "Kind",
+            LineFault::Id => "Id",
+            LineFault::Char => "Char",
+            LineFault::Order => "Order",
+            LineFault::Memory => "Memory",
+        }
+    }
 }
 
 impl From<AllocError> for LineFault {

@@ -6,6 +6,7 @@ pub mod BeforeLaws
 pub mod SortedLaws
 pub mod PlacedLaws
 pub mod OrderLaws
+pub mod GrowLaws
 pub mod VisibleLaws
 pub mod OperationLaws
 pub mod AnswerLaws

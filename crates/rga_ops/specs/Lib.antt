@@ -9,5 +9,6 @@ pub mod Places
 pub mod Splice
 pub mod ListAnswer
 pub mod Took
+pub mod RefusalName
 pub mod Placement
 pub mod Prelude

@@ -3,6 +3,7 @@
 //! Each function does nothing: its contract is a theorem over the definitions of `specs/`, which
 //! the check proves like any other contract.
 mod content;
+mod identifiers;
 mod order;
 mod taking;
 
@@ -11,11 +12,12 @@ pub use content::{
     join_is_the_least_upper_bound, same_operations_show_the_same_text,
     the_clock_is_the_greatest_counter,
 };
+pub use identifiers::identifiers_are_ordered_by_counter_and_replica;
 pub use order::{
     a_deletion_moves_nothing, an_insertion_goes_to_its_place, elements_are_in_one_order,
     elements_stand_in_the_order_or_wait, functions_say_what_the_relations_say,
-    path_order_is_strict_and_total, places_in_words, the_text_is_of_the_visible_elements,
-    there_is_one_order_list,
+    path_order_is_strict_and_total, places_in_words, the_order_is_for_good,
+    the_text_is_of_the_visible_elements, there_is_one_order_list,
 };
 pub use taking::{
     answers_in_words, answers_to_a_list_in_words, merging_in_words,

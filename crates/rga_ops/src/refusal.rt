@@ -1,6 +1,7 @@
 //! The answers to an operation.
 ghost use Rattle.std.specs.Prelude.{◌≡◌};
 ghost use Rattle.rga_ops.specs.declared.refusal.Refusal.TheVariants.{Memory as NoMemory};
+ghost use Rattle.rga_ops.specs.RefusalName.{refusal_name};
 
 use crate::id::Id;
 use std::alloc::{AllocError, AllocFailed};
@@ -32,6 +33,23 @@ pub enum Refusal {
     Clock,
     /// A growth of memory was refused.
     Memory,
+}
+
+impl Refusal {
+    /// The refusal's name, as it is printed.
+    pub fn name(self) -> &'static str
+        ensures { result.now ≡ refusal_name self }
+    {
+        match self {
+            Refusal::BadId => "BadId",
+            Refusal::BadOrder => "BadOrder",
+            Refusal::Conflict(_) => "Conflict",
+            Refusal::Full => "Full",
+            Refusal::Range => "Range",
+            Refusal::Clock => "Clock",
+            Refusal::Memory => "Memory",
+        }
+    }
 }
 
 impl From<AllocError> for Refusal {

@@ -1,4 +1,4 @@
-//! Theorems about stores of any kind.
+//! Theorems about replicas of any kind: stores, and whatever else takes operations.
 //!
 //! Each function does nothing: its contract is a theorem, which the check proves like any other
 //! contract. What a store's methods answer is their own contract in `TextStore`.
@@ -9,21 +9,21 @@ ghost use Rattle.rga_ops.specs.Order.{order, text};
 ghost use Rattle.rga_ops.specs.Took.{Took};
 ghost use Rattle.rga_ops.specs.declared.op.Op.{Op as Operation};
 
-use crate::text_store::TextStore;
+use crate::taker::Taker;
 
-/// Two stores of one content show the same elements in the same order, and the same text, whatever
-/// they keep inside and whatever their limits are.
-pub fn stores_of_one_content_show_the_same<S: TextStore, T: TextStore>()
+/// Two replicas of one content show the same elements in the same order, and the same text,
+/// whatever they keep inside and whatever their limits are.
+pub fn replicas_of_one_content_show_the_same<S: Taker, T: Taker>()
     ensures order { (s : S) (t : T) →
         S.content s ≡ T.content t → order (S.content s) ≡ order (T.content t) }
     ensures text { (s : S) (t : T) →
         S.content s ≡ T.content t → text (S.content s) ≡ text (T.content t) }
 {}
 
-/// So do two stores that took the same operations, in any order and with any repeats, one by one,
-/// as lists or from other stores. The premise is that the operations agree: no identifier names
+/// So do two replicas that took the same operations, in any order and with any repeats, one by one,
+/// as lists or from other replicas. The premise is that the operations agree: no identifier names
 /// two insertions.
-pub fn stores_that_took_the_same_show_the_same<S: TextStore, T: TextStore>()
+pub fn replicas_that_took_the_same_show_the_same<S: Taker, T: Taker>()
     ensures content { (xs ys : List Operation) (s : S) (t : T) →
         Took xs (S.content s) → Took ys (T.content t) → IsAgreed xs → HasSameOperations xs ys →
         S.content s ≡ T.content t }

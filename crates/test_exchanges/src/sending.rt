@@ -89,6 +89,9 @@ fn appended(alloc: Global, ops: &[Op]) -> (Result<u64, SendFault>, Vec<u8>) {
 
 #[test]
 fn lists_are_appended_without_an_end_line(rt: HostRuntime) -> Result<(), Refusal> {
+    let (answer, log) = appended(rt.alloc(), &[]);
+    assert_eq!(rt; answer, Ok(0));
+    assert!(rt; log.is_empty());
     let (answer, log) = appended(rt.alloc(), &operations()?);
     assert_eq!(rt; answer, Ok(4));
     assert!(rt; log.as_slice() == LOG.as_bytes());

@@ -98,3 +98,70 @@ fn all_are_taken(alloc: Global, bytes: &[u8]) -> bool {
 fn a_writer_that_takes_all(rt: HostRuntime) {
     assert!(rt; all_are_taken(rt.alloc(), b"ab"));
 }
+
+/// A device that counts the calls that it gets, and answers each of them alike.
+#[derive(Drop)]
+struct Recording {
+    calls: u64,
+    fault: Option<ErrorKind>,
+}
+
+impl Recording {
+    fn answer(&mut self) -> io::Result<()> {
+        self.calls = self.calls.saturating_add(1);
+        match self.fault {
+            Some(kind) => Err(io::Error::from(kind)),
+            None => Ok(()),
+        }
+    }
+}
+
+impl Read for Recording {
+    fn read(&mut self, _buf: &mut [u8]) -> io::Result<usize> {
+        self.answer()?;
+        Ok(0)
+    }
+}
+
+impl Write for Recording {
+    fn write(&mut self, buf: &[u8]) -> io::Result<usize> {
+        self.answer()?;
+        Ok(buf.len())
+    }
+
+    fn flush(&mut self) -> io::Result<()> {
+        self.answer()
+    }
+}
+
+fn counted(fault: Option<ErrorKind>) -> Counted<Recording> {
+    Counted::new(Recording { calls: 0, fault })
+}
+
+/// How many calls a read makes of a device that answers so.
+fn calls_of_a_read(fault: Option<ErrorKind>) -> u64 {
+    let mut reader = counted(fault);
+    drop(reader.read(&mut [0u8; 2]));
+    reader.into_inner().calls
+}
+
+fn calls_of_a_write(fault: Option<ErrorKind>) -> u64 {
+    let mut writer = counted(fault);
+    drop(writer.write(b"ab"));
+    writer.into_inner().calls
+}
+
+fn calls_of_a_flush(fault: Option<ErrorKind>) -> u64 {
+    let mut writer = counted(fault);
+    drop(writer.flush());
+    writer.into_inner().calls
+}
+
+#[test]
+fn a_call_is_one_call_of_the_device(rt: HostRuntime) {
+    for fault in [None, Some(ErrorKind::Interrupted), Some(ErrorKind::Other)] {
+        assert_eq!(rt; calls_of_a_read(fault), 1, "{fault:?}");
+        assert_eq!(rt; calls_of_a_write(fault), 1, "{fault:?}");
+        assert_eq!(rt; calls_of_a_flush(fault), 1, "{fault:?}");
+    }
+}

@@ -207,7 +207,7 @@ fn a_reader_that_fails_in_mid_stream(rt: HostRuntime) {
 
 /// What is answered where the writer has room for so many bytes, two at a time, and whether it took
 /// just so many of the text.
-fn answer_in_room(alloc: Global, room: usize) -> Option<(Answer, bool)> {
+fn answer_in_room(alloc: Global, room: usize, flushes: bool) -> Option<(Answer, bool)> {
     let log = bytes_of(alloc, "ABCXY").ok()?;
     let mut reader = Counted::new(log.as_slice());
     let mut writer = Counted::new(Narrow {
@@ -215,7 +215,7 @@ fn answer_in_room(alloc: Global, room: usize) -> Option<(Answer, bool)> {
         room,
         most: 2,
         writes: 0,
-        flushes: true,
+        flushes,
     });
     let answer = show_ops(alloc, &mut reader, &mut writer);
     let taken = writer.into_inner().taken;
@@ -226,7 +226,13 @@ fn answer_in_room(alloc: Global, room: usize) -> Option<(Answer, bool)> {
 fn a_writer_that_takes_part_of_the_bytes(rt: HostRuntime) {
     for room in 0..5 {
         let refused = Some((Err(ShowFault::Write), true));
-        assert_eq!(rt; answer_in_room(rt.alloc(), room), refused, "{room}");
+        assert_eq!(rt; answer_in_room(rt.alloc(), room, true), refused, "{room}");
     }
-    assert_eq!(rt; answer_in_room(rt.alloc(), 5), Some((Ok(()), true)));
+    assert_eq!(rt; answer_in_room(rt.alloc(), 5, true), Some((Ok(()), true)));
+}
+
+#[test]
+fn a_flush_that_fails_is_a_device_fault(rt: HostRuntime) {
+    let refused = Some((Err(ShowFault::Write), true));
+    assert_eq!(rt; answer_in_room(rt.alloc(), 5, false), refused);
 }

@@ -1,14 +1,16 @@
 //! What the shell is told of the faults of `mgr show`.
-use mgr_show::{Report, ShowFault};
+use mgr_show::{Report, ShowFault, exit_status};
 use rga_lines::LineFault;
 use rga_ops::{Id, Refusal};
 use std::alloc::Global;
 
-/// Whether the shell is told this status and this line.
+/// Whether the shell is told this status and this line, and the program ends with the status.
 fn tells(alloc: Global, fault: &ShowFault, status: u8, line: &str) -> bool {
     let report = Report::of(fault);
     match report.to_string(alloc) {
-        Ok(text) => report.status == status && text.as_str() == line,
+        Ok(text) => {
+            report.status == status && exit_status(&Err(*fault)) == status && text.as_str() == line
+        }
         Err(_) => false,
     }
 }
@@ -33,4 +35,5 @@ fn what_the_shell_is_told(rt: HostRuntime) {
     for (fault, status, line) in table {
         assert!(rt; tells(rt.alloc(), &fault, status, line), "{line}");
     }
+    assert_eq!(rt; exit_status(&Ok(())), 0);
 }

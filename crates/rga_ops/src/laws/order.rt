@@ -1,12 +1,12 @@
 //! The order of a content's elements, and its text.
-ghost use Rattle.std.specs.Prelude.{◌≡◌, ◌≢◌, ◌<◌, ◌↔◌, ◌⊎◌, ◌+◌, ℕ, List, true, false, Some, None, Ok, map, length, position};
+ghost use Rattle.std.specs.Prelude.{◌≡◌, ◌≢◌, ◌<◌, ◌↔◌, ◌⊎◌, ◌+◌, ℕ, List, true, false, Some, None, Ok, map, length, position, filter};
 ghost use Rattle.std.specs.List.{IsDistinct, list_any, slice_get};
 ghost use Rattle.std.specs.Ordering.{eq_by_cmp};
 ghost use Rattle.std.specs.declared.cmp.Ordering.TheVariants.{Less};
 ghost use Rattle.std.specs.FinMap as finite_map;
 ghost use Rattle.rga_ops.specs.Identifier.{Identifier, id_cmp, is_id, is_root};
 ghost use Rattle.rga_ops.specs.Operation.{checked};
-ghost use Rattle.rga_ops.specs.Content.{Element, Content, nothing, IsSound, join, single, clock_of};
+ghost use Rattle.rga_ops.specs.Content.{Element, Content, nothing, IsSound, IsWithin, join, single, clock_of};
 ghost use Rattle.rga_ops.specs.RootPath.{Path, root_path, is_complete, IsComplete, IsRootPath, IsBefore, path_cmp};
 ghost use Rattle.rga_ops.specs.Order.{order, waiting, text, IsOrderList, Precedes};
 ghost use Rattle.rga_ops.specs.Places.{is_visible, visible, character, place};
@@ -47,6 +47,18 @@ pub fn there_is_one_order_list()
     ensures is_one { (c : Content) → IsOrderList c (order c) }
     ensures only { (c : Content) (ids : List Identifier) → IsOrderList c ids → ids ≡ order c }
     ensures once { (c : Content) → IsDistinct (eq_by_cmp id_cmp) (order c) }
+{}
+
+/// The order is for good: what is complete stays so in every content that holds this one, and keeps
+/// its root path, and of any two elements the one that stands before the other stays before it. So
+/// the order is that of the larger content, without the elements that are not complete here.
+pub fn the_order_is_for_good()
+    ensures complete { (c d : Content) (id : Identifier) →
+        IsWithin c d → is_complete c id ≡ true → is_complete d id ≡ true }
+    ensures path { (c d : Content) (id : Identifier) →
+        IsWithin c d → is_complete c id ≡ true → root_path d id ≡ root_path c id }
+    ensures order { (c d : Content) →
+        IsWithin c d → order c ≡ filter (is_complete c) (order d) }
 {}
 
 /// Each inserted element either stands in the order or waits.

@@ -64,7 +64,7 @@ reads-preserved g c =
     let m = length-take c.in-Ok.count c.read.new.buf in
     record {
       whole = ap (λ (s : Splitting). s.broken) now;
-      room = rw waits (omega (arith, k, m, c.in-Ok.ensures.bound, c.in-Ok.ensures.calls.0, c.in-Ok.ensures.calls.2, room, c.reads.invariant.room));
+      room = rw waits (omega (arith, k, m, c.in-Ok.ensures.bound, c.in-Ok.ensures.calls.0, c.in-Ok.ensures.calls.1, room, c.reads.invariant.room));
       limit = c.in_ok-number.ensures.limit ∙ c.reads.invariant.limit;
       same_failures = c.in-Ok.ensures.device ∙ c.reads.invariant.same_failures;
       read = rw waits (read_piece _ _ _ c.args.reader.now c.reads.reader c.read.new.self c.args.taker.now c.take_lines.new.taker c.take_lines.new.lines c.take_lines.new.splitter.waiting piece tracks none.0 c.in-Ok.ensures.bytes.0 (omega (arith, m, c.in-Ok.ensures.bound)));

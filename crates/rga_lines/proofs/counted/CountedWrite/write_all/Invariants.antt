@@ -1,4 +1,4 @@
-use Rattle.std.proofs.Common.{◌≡◌, length}
+use Rattle.std.proofs.Common.{◌≡◌, ◌≤◌, length}
 use Rattle.rga_lines.specs.Counting.{WritesAllBut}
 use Rattle.rga_lines.proofs.counted.CountedWrite.write_all.Given as goal
 
@@ -6,6 +6,7 @@ abbrev pub invariant-rest : goal.invariant-rest
 invariant-rest g l = record {
   begun : WritesAllBut g.W.Write.contents l.fn.self l.self l.fn.buf l.rest;
   count : l.self.failures ≡ l.fn.self.failures;
+  left : l.self.left ≤ l.fn.self.left;
 }
 
 abbrev pub decreases-rest : goal.decreases-rest

@@ -1,7 +1,7 @@
 use Rattle.std.proofs.Common.{ap}
 use Rattle.rga_ops.specs.Order.{order, text}
 use Rattle.rga_ops.proofs.TookLaws.{took_same}
-use Rattle.rga_store.proofs.laws.stores_that_took_the_same_show_the_same.Goals as goal
+use Rattle.rga_store.proofs.laws.replicas_that_took_the_same_show_the_same.Goals as goal
 
 pub returns : goal.returns
 returns g c = record {

@@ -1,10 +1,10 @@
 //! The job of the command line, done, and what the shell is told of it.
 ghost use Rattle.std.specs.Prelude.{◌≡◌, ◌≤◌};
-ghost use Rattle.mgr.specs.Status.{IsStatusOf};
-ghost use Rattle.mgr_show.specs.Report.{status_of};
+ghost use Rattle.mgr_show.specs.Report.{exit_status_of};
+ghost use Rattle.mgr_shell.specs.Status.{IsStatusOf};
 
 use mgr_command::{Job, JobFault, job_of, job_status, words};
-use mgr_show::{Report, ShowFault, show_ops};
+use mgr_show::{Report, ShowFault, exit_status, show_ops};
 use rga_lines::Counted;
 use std::io;
 use std::rt::Env;
@@ -26,33 +26,31 @@ fn show<R: AllocGlobal + Input + Print + Eprint>(rt: &R) -> u8
 {
     let mut reader = Counted::new(rt.reader());
     let mut writer = Counted::new(io::writer(rt));
-    match show_ops(rt.alloc(), &mut reader, &mut writer) {
-        Ok(()) => 0,
-        Err(fault) => tell(rt, &fault),
-    }
-}
-
-/// A line that standard error does not take is lost: there is nowhere left to say so.
-fn tell<R: Eprint>(rt: &R, fault: &ShowFault) -> u8
-    ensures { result ≡ status_of fault.now }
-{
-    let report = Report::of(fault);
-    let _ = rt.eprintln(report);
-    report.status
+    finish(rt, show_ops(rt.alloc(), &mut reader, &mut writer))
 }
 
 fn refuse<R: Print + Eprint>(rt: &R, fault: &JobFault) -> u8
     ensures { IsStatusOf fault.now result }
 {
     match fault {
-        JobFault::Help(_, text) | JobFault::Version(text) => match text.print(rt) {
-            Ok(()) => job_status(fault),
-            Err(_) => tell(rt, &ShowFault::Write),
-        },
+        JobFault::Help(_, text) | JobFault::Version(text) => {
+            finish(rt, text.print(rt).map_err(|_| ShowFault::Write))
+        }
         JobFault::Usage(text) => {
             let _ = text.print(rt);
             job_status(fault)
         }
-        JobFault::Memory => tell(rt, &ShowFault::Memory),
+        JobFault::Memory => finish(rt, Err(ShowFault::Memory)),
     }
+}
+
+/// Tells of a fault, and answers the exit status. A line that standard error does not take is lost:
+/// there is nowhere left to say so.
+fn finish<R: Eprint>(rt: &R, answer: Result<(), ShowFault>) -> u8
+    ensures { result ≡ exit_status_of answer }
+{
+    if let Err(fault) = &answer {
+        let _ = rt.eprintln(Report::of(fault));
+    }
+    exit_status(&answer)
 }
