@@ -11,6 +11,7 @@ pub mod VisibleLaws
 pub mod OperationLaws
 pub mod AnswerLaws
 pub mod TakenLaws
+pub mod NewLaws
 pub mod KnownLaws
 pub mod ClockLaws
 pub mod WaitingLaws

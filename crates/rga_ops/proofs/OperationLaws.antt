@@ -76,7 +76,7 @@ content_inserted (op ∷ ops) id x h =
     (λ e. Contains-later op (Insert id x.parent x.ch) ops (content_inserted ops id x e))
     (sym (get-join (single op) (content_of ops) id) ∙ h)
 
-single_deleted : (op : Op) (id : Identifier) → finite_set.contains (single op).deleted id ≡ true → op ≡ Delete id
+pub single_deleted : (op : Op) (id : Identifier) → finite_set.contains (single op).deleted id ≡ true → op ≡ Delete id
 single_deleted (Insert i parent ch) id h = absurd (true≢false (sym h ∙ finite_set.contains-empty id_cmp id))
 single_deleted (Delete i) id h = ap Delete (sym (same_id id i (sym (contains-single i id) ∙ h)))
 

@@ -10,5 +10,6 @@ pub mod Splice
 pub mod ListAnswer
 pub mod Took
 pub mod RefusalName
+pub mod NewOperations
 pub mod Placement
 pub mod Prelude

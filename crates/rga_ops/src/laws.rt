@@ -20,6 +20,6 @@ pub use order::{
     the_text_is_of_the_visible_elements, there_is_one_order_list,
 };
 pub use taking::{
-    answers_in_words, answers_to_a_list_in_words, merging_in_words,
+    answers_in_words, answers_to_a_list_in_words, merging_in_words, new_operations_in_words,
     replicas_that_took_the_same_hold_the_same, taking_one_by_one_leads_to_the_content,
 };

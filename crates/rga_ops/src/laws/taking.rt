@@ -1,5 +1,5 @@
 //! What a store answers, and what replicas hold by what they took.
-ghost use Rattle.std.specs.Prelude.{◌≡◌, ◌≢◌, ◌<◌, ◌≤◌, ◌↔◌, ◌⊎◌, ◌++◌, ◌+◌, ℕ, List, [], ◌∷◌, false, Ok, Err, Contains};
+ghost use Rattle.std.specs.Prelude.{◌≡◌, ◌≢◌, ◌<◌, ◌≤◌, ◌↔◌, ◌⊎◌, ◌++◌, ◌+◌, ℕ, List, [], ◌∷◌, true, false, Ok, Err, Contains};
 ghost use Rattle.std.specs.FinSet as finite_set;
 ghost use Rattle.rga_ops.specs.Identifier.{Identifier};
 ghost use Rattle.rga_ops.specs.Operation.{checked, id_of};
@@ -8,9 +8,10 @@ ghost use Rattle.rga_ops.specs.Order.{order, text};
 ghost use Rattle.rga_ops.specs.Operations.{operations};
 ghost use Rattle.rga_ops.specs.Answer.{answer, taken, taken_one_by_one};
 ghost use Rattle.rga_ops.specs.ListAnswer.{list_answer, merge_answer, AreWellFormed, IsJoinable, IsFirstIllFormed, IsFirstConflict, IsLeastConflict};
+ghost use Rattle.rga_ops.specs.NewOperations.{holds, new_operations};
 ghost use Rattle.rga_ops.specs.Took.{Took};
 ghost use Rattle.rga_ops.specs.declared.op.Op.{Op as Operation};
-ghost use Rattle.rga_ops.specs.declared.refusal.Taken.TheVariants.{Known};
+ghost use Rattle.rga_ops.specs.declared.refusal.Taken.TheVariants.{Known, New};
 ghost use Rattle.rga_ops.specs.declared.refusal.Refusal.{Refusal as Refused};
 ghost use Rattle.rga_ops.specs.declared.refusal.Refusal.TheVariants.{BadId, BadOrder, Conflict, Full, Range, Clock, Memory};
 
@@ -29,6 +30,26 @@ pub fn answers_in_words()
         × (finite_set.contains (known_ids c) (id_of op) ≡ false) × (known_count c ≡ limit)) }
     ensures no_other { (limit : ℕ) (c : Content) (op : Operation) (e : Refused) →
         answer limit c op ≡ Err e → (e ≢ Range) × (e ≢ Clock) × (e ≢ Memory) }
+{}
+
+/// Of a list that is taken one by one at a content, the new operations are those that it did not
+/// hold, and no other; they lead to the same content. A list in two parts has those of the first,
+/// and then those of the second at what is held by then. What a store answers to an operation tells
+/// whether it is new.
+pub fn new_operations_in_words()
+    ensures held { (c : Content) (op : Operation) → (holds c op ≡ true) ↔ Holds c op }
+    ensures content { (c : Content) (ops : List Operation) →
+        join c (content_of (new_operations c ops)) ≡ join c (content_of ops) }
+    ensures of_the_list { (c : Content) (ops : List Operation) (op : Operation) →
+        Contains (new_operations c ops) op → Contains ops op × (¬ (Holds c op)) }
+    ensures no_other { (c : Content) (ops : List Operation) (op : Operation) →
+        Contains ops op → Holds c op ⊎ Contains (new_operations c ops) op }
+    ensures in_parts { (c : Content) (xs ys : List Operation) → new_operations c (xs ++ ys)
+        ≡ new_operations c xs ++ new_operations (join c (content_of xs)) ys }
+    ensures new { (limit : ℕ) (c : Content) (op : Operation) →
+        answer limit c op ≡ Ok New → new_operations c (op ∷ []) ≡ op ∷ [] }
+    ensures known { (limit : ℕ) (c : Content) (op : Operation) →
+        answer limit c op ≡ Ok Known → new_operations c (op ∷ []) ≡ [] }
 {}
 
 /// Operations that are taken one by one, from nothing on, lead to the content of their list. They
