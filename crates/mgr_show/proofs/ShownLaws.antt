@@ -4,6 +4,7 @@ use Rattle.std.specs.Prelude.{IfSome, ◌⊎◌}
 use Rattle.rga_ops.specs.Content.{Content, nothing, content_of}
 use Rattle.rga_ops.proofs.TakenLaws.{taken_from_nothing, taken_list_agrees}
 use Rattle.rga_ops.specs.Content.{IsAgreed}
+use Rattle.rga_ops.specs.declared.op.Op.{Op}
 use Rattle.rga_store.specs.declared.text_store.TheConstants.{MAX_LIMIT}
 use Rattle.rga_lines.specs.Counting.{Calls, Writes, WritesFront, WritesNothing}
 use Rattle.rga_lines.specs.Log.{log_operations}
@@ -84,12 +85,13 @@ module _ {W : Type 0} (contents : W → Option (List ℕ)) where
   begins_to_show (Some bytes) old new written h w = inr (record { accepted = h.accepted; begun = subst (λ l. WritesFront contents old new l) h.is w })
 
 -- all whole lines that were read were taken, by a store that was made empty
-pub whole_from : {R T : Type 0} (remaining : R → Option (List ℕ)) (limit : T → ℕ) (content : T → Content) (r s : Calls R) (t u : T) → limit t ≡ MAX_LIMIT → content t ≡ nothing → HasTakenWholeLines remaining limit content r s t u → (c : Content) × HasTakenWholeLines remaining (λ _. MAX_LIMIT) (λ held. held) r s nothing c
-whole_from remaining limit content r s t u same empty h = (
+pub whole_from : {R T : Type 0} (remaining : R → Option (List ℕ)) (limit : T → ℕ) (content : T → Content) (follows : T → List Op → T → Type 0) (r s : Calls R) (t u : T) → limit t ≡ MAX_LIMIT → content t ≡ nothing → HasTakenWholeLines remaining limit content follows r s t u → (c : Content) × HasTakenWholeLines remaining (λ _. MAX_LIMIT) (λ held. held) (λ _ _ _. Unit {0}) r s nothing c
+whole_from remaining limit content follows r s t u same empty h = (
   content u,
   record {
     bytes = h.bytes;
     read = h.read;
     taken = subst (λ l. AreTaken l (lines_of h.bytes) nothing (content u)) same (subst (λ e. AreTaken (limit t) (lines_of h.bytes) e (content u)) empty h.taken);
+    beside = tt;
   },
 )

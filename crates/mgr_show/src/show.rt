@@ -38,8 +38,10 @@ pub fn show_ops<R: Read, W: Write>(
         WritesNothing W.contents writer.old writer.new
         ⊎ BeginsToShow W.contents writer.old writer.new bytes)) }
 
+    // Of what was taken the content alone is told: the store is made and dropped here.
     ensures whole_lines { result ≡ Err ShowFault.Read → (c : Content) × HasTakenWholeLines
-        R.remaining (λ _. MAX_LIMIT) (λ held. held) reader.old reader.new nothing c }
+        R.remaining (λ _. MAX_LIMIT) (λ held. held) (λ _ _ _. Unit {0})
+        reader.old reader.new nothing c }
     // A call that failed is told as such, and not as something else.
     ensures reads { CountsAs ShowFault.Read result reader.old reader.new }
     ensures writes { CountsAs ShowFault.Write result writer.old writer.new }
@@ -64,7 +66,7 @@ fn take_whole_log<T: Taker, R: Read>(
         (λ bytes. shown_from (T.limit taker.old) (T.content taker.old) bytes ≡ Err e)) }
 
     ensures whole_lines { IfErr result (λ e. e ≡ ShowFault.Read → HasTakenWholeLines
-        R.remaining T.limit T.content reader.old reader.new taker.old taker.new) }
+        R.remaining T.limit T.content T.follows reader.old reader.new taker.old taker.new) }
     ensures device { CountsAs ShowFault.Read result reader.old reader.new }
     ensures no_write { result ≢ Err ShowFault.Write }
 {

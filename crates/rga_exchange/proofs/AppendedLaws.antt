@@ -21,15 +21,9 @@ use Rattle.rga_lines.proofs.SplitterLemmas.{no_line}
 use Rattle.rga_lines.proofs.ReadBack.{operation_back, end_is_no_operation}
 use Rattle.rga_lines.proofs.NewlineLemmas.{line_has_none, end_has_none}
 use Rattle.rga_exchange.specs.Sending.{log_text, exchange_lines, stream_text, AreWritable, StandsFor}
+use Rattle.rga_exchange.proofs.TakingLaws.{operations_of-append}
 
 -- ---- lines that are operations
-
-operations_of-append : (xs ys : List (List ℕ)) → AllByRecursion IsOperation xs → operations_of (xs ++ ys) ≡ operations_of xs ++ operations_of ys
-operations_of-append [] ys all = refl
-operations_of-append (x ∷ xs) ys all =
-    ap (λ r. then_operations r (operations_of (xs ++ ys))) (all.0).1
-    ∙ ap (λ (os : List Op). (all.0).0 ∷ os) (operations_of-append xs ys all.1)
-    ∙ sym (ap (λ r. then_operations r (operations_of xs) ++ operations_of ys) (all.0).1)
 
 are_operations-append : (xs ys : List (List ℕ)) → AllByRecursion IsOperation xs → AllByRecursion IsOperation ys → AllByRecursion IsOperation (xs ++ ys)
 are_operations-append [] ys all more = more

@@ -89,7 +89,7 @@ pub no_fault : {c d : Content} (e : LogFault) (read : LogRead) → ran (Err e) c
 no_fault e read h = let clash : Err e ≡ is_read_to_end read = ap (λ (o : LogOutcome). o.1) h in cc
 
 -- how the rest of a log ends it, at content c behind n lines
-rest_taken : (limit n : ℕ) (c d : Content) (read : LogRead) (rest : List ℕ) → after_rest limit n c rest ≡ (d, Ok read) → taken_one_by_one limit c (operations_of (rest ∷ [])) ≡ Ok d
+pub rest_taken : (limit n : ℕ) (c d : Content) (read : LogRead) (rest : List ℕ) → after_rest limit n c rest ≡ (d, Ok read) → taken_one_by_one limit c (operations_of (rest ∷ [])) ≡ Ok d
 rest_taken limit n c d read [] h =
     ap (λ r. taken_one_by_one limit c (then_operations r [])) no_line ∙ ap Ok (ap (λ (o : LogOutcome). o.0) h)
 rest_taken limit n c d read (b ∷ bytes) h = by_reading (line_at (b ∷ bytes)) refl h
@@ -158,17 +158,17 @@ received_count None limit n number c d h = tt
 received_count (Some bytes) limit n number c d h = let w = stream_ends limit n c d number bytes h in omega (arith, w.count)
 
 -- a log of which all lines were taken, and then the rest; the taker's own limit may be another name of the same number
-log_ends : (limit own n : ℕ) (c e d : Content) (rest bytes : List ℕ) (end : LogEnd) → own ≡ limit → (stream_taken limit c bytes ≡ progress n e AllTaken) × (rest_of bytes ≡ rest) → after_rest own n e rest ≡ end_outcome n d end → log_outcome limit c bytes ≡ end_outcome n d end
-log_ends limit own n c e d rest bytes end is h outcome =
+log_ends : (limit own n : ℕ) (c e d : Content) (rest bytes : List ℕ) (told : Result LogRead LogFault) → own ≡ limit → (stream_taken limit c bytes ≡ progress n e AllTaken) × (rest_of bytes ≡ rest) → after_rest own n e rest ≡ ran told d → log_outcome limit c bytes ≡ ran told d
+log_ends limit own n c e d rest bytes told is h outcome =
     (λ k. after_lines limit (h.1 k) (h.0 k)) ∙ sym (ap (λ l. after_rest l n e rest) is) ∙ outcome
 
-pub log_ends_outcome : (known : Option (List ℕ)) (limit own n : ℕ) (c e d : Content) (rest : List ℕ) (end : LogEnd) → own ≡ limit → IfSome known (λ bytes. (stream_taken limit c bytes ≡ progress n e AllTaken) × (rest_of bytes ≡ rest)) → after_rest own n e rest ≡ end_outcome n d end → IfSome known (λ bytes. let p = log_outcome limit c bytes in (p.0 ≡ d) × (p.1 ≡ is_read_to_end (record { lines = n; end = end })))
-log_ends_outcome None limit own n c e d rest end is h outcome = tt
-log_ends_outcome (Some bytes) limit own n c e d rest end is h outcome =
-    let all : log_outcome limit c bytes ≡ end_outcome n d end = log_ends limit own n c e d rest bytes end is h outcome in
+pub log_ends_outcome : (known : Option (List ℕ)) (limit own n : ℕ) (c e d : Content) (rest : List ℕ) (told : Result LogRead LogFault) → own ≡ limit → IfSome known (λ bytes. (stream_taken limit c bytes ≡ progress n e AllTaken) × (rest_of bytes ≡ rest)) → after_rest own n e rest ≡ ran told d → IfSome known (λ bytes. let p = log_outcome limit c bytes in (p.0 ≡ d) × (p.1 ≡ told))
+log_ends_outcome None limit own n c e d rest told is h outcome = tt
+log_ends_outcome (Some bytes) limit own n c e d rest told is h outcome =
+    let all : log_outcome limit c bytes ≡ ran told d = log_ends limit own n c e d rest bytes told is h outcome in
     (ap (λ (o : LogOutcome). o.0) all, ap (λ (o : LogOutcome). o.1) all)
 
 pub log_ends_joined : (known : Option (List ℕ)) (limit own n : ℕ) (c e d : Content) (rest : List ℕ) (end : LogEnd) → own ≡ limit → IfSome known (λ bytes. (stream_taken limit c bytes ≡ progress n e AllTaken) × (rest_of bytes ≡ rest)) → after_rest own n e rest ≡ end_outcome n d end → IfSome known (λ bytes. d ≡ join c (content_of (log_operations bytes)))
 log_ends_joined None limit own n c e d rest end is h outcome = tt
 log_ends_joined (Some bytes) limit own n c e d rest end is h outcome =
-    log_joined limit c d (record { lines = n; end = end }) bytes (log_ends limit own n c e d rest bytes end is h outcome)
+    log_joined limit c d (record { lines = n; end = end }) bytes (log_ends limit own n c e d rest bytes (Ok (record { lines = n; end = end })) is h outcome)

@@ -1,27 +1,35 @@
 -- What was read of a device, and what was taken of it.
-use Rattle.std.proofs.Common.{◌≡◌, ℕ, ◌≤◌, List, [], ◌++◌, length, Option, Some, None, sym, ap, subst, ◌∙◌, append-nil, arith}
+use Rattle.std.proofs.Common.{◌≡◌, ℕ, ◌+◌, ◌≤◌, List, [], ◌∷◌, ◌++◌, length, Option, Some, None, sym, ap, subst, ◌∙◌, append-nil, arith}
 use Rattle.std.specs.Prelude.{IfSome}
 use Rattle.std.specs.Io.KnownBytes.{Consumes, Keeps, IsAtEnd}
 use Rattle.std.proofs.KnownBytes.{Consumes-nil, Consumes-trans, Consumes-kept, Consumes-whole}
 use Rattle.rga_ops.specs.Content.{Content}
+use Rattle.rga_ops.specs.Answer.{taken_one_by_one}
+use Rattle.rga_ops.specs.declared.op.Op.{Op}
 use Rattle.rga_lines.specs.Counting.{Calls, OnBytes}
+use Rattle.rga_lines.specs.Log.{operations_of}
 use Rattle.rga_lines.specs.Stream.{lines_of, rest_of}
 use Rattle.rga_lines.specs.declared.reading.TheConstants.{MAX_LINE}
 use Rattle.rga_lines.proofs.SplitterLemmas.{rest_is_all}
 use Rattle.rga_exchange.specs.declared.block.TheConstants.{BLOCK}
 use Rattle.rga_exchange.specs.declared.fault.LogFault.{LogFault}
-use Rattle.rga_exchange.specs.Taking.{Stop, AllTaken, AtFault, progress, lines_taken, bytes_taken, AreTaken, HasTakenLines, HasTakenWholeLines}
+use Rattle.rga_exchange.specs.Taking.{Stop, AllTaken, AtFault, progress, lines_taken, bytes_taken, AreTaken, HasTakenLines, HasTakenWholeLines, HasTakenLog}
+use Rattle.rga_exchange.specs.declared.log.LogEnd.{LogEnd}
+use Rattle.rga_exchange.specs.Log.{after_rest, end_outcome}
 use Rattle.rga_exchange.specs.Receiving.{EndsWithLastRead}
-use Rattle.rga_exchange.specs.Parts.{Takes, TakesUpTo, StopsAs, LeadsTo, HasTakenOfRead}
-use Rattle.rga_exchange.proofs.TakingLaws.{takes_nothing, takes_chain, takes_more_bytes, takes_after, only_rest, are_taken}
+use Rattle.rga_exchange.specs.Parts.{Takes, TakesUpTo, StopsAs, LeadsTo, HasTakenOfRead, HasTakenAllBut}
+use Rattle.rga_exchange.proofs.TakingLaws.{takes_nothing, takes_more_bytes, takes_after, only_rest, are_taken, operations_of-append, FollowsOn, then_nothing, up_to_chain}
+use Rattle.rga_exchange.proofs.OperationLaws.{then_taken, rest_taken}
+use Rattle.rga_exchange.proofs.StopLaws.{operations_are_taken}
 
 -- where no line waits, the lines that were taken are all that were read
+all_lines : (limit n : ℕ) (c d : Content) (bytes w : List ℕ) (s : Takes limit 0 c bytes n d w) → lines_of w ≡ [] → lines_of bytes ≡ s.lines
+all_lines limit n c d bytes w s none =
+    ap lines_of (sym (append-nil bytes)) ∙ s.cut [] ∙ ap (λ l. s.lines ++ lines_of l) (append-nil w) ∙ ap (λ ls. s.lines ++ ls) none ∙ append-nil s.lines
+
 whole : (limit n : ℕ) (c d : Content) (bytes w : List ℕ) → Takes limit 0 c bytes n d w → lines_of w ≡ [] → AreTaken limit (lines_of bytes) c d
 whole limit n c d bytes w s none =
-    are_taken limit 0 n c d (lines_of bytes)
-    (ap (lines_taken limit 0 c)
-    (ap lines_of (sym (append-nil bytes)) ∙ s.cut [] ∙ ap (λ l. s.lines ++ lines_of l) (append-nil w) ∙ ap (λ ls. s.lines ++ ls) none ∙ append-nil s.lines)
-    ∙ s.taken)
+    are_taken limit 0 n c d (lines_of bytes) (ap (lines_taken limit 0 c) (all_lines limit n c d bytes w s none) ∙ s.taken)
 
 -- what holds of all bytes that were read, whatever follows them, holds of what the reader is known to give
 on_all : (old now : Option (List ℕ)) (all : List ℕ) (P : List ℕ → Type 0) → Consumes old now all → ((more : List ℕ) → P (all ++ more)) → IfSome old P
@@ -32,82 +40,116 @@ on_all (Some bytes) (Some left) all P read holds = subst P (sym read) (holds lef
 abbrev all_read : {R : Type 0} {remaining : R → Option (List ℕ)} {r s : Calls R} → EndsWithLastRead remaining r s → List ℕ
 all_read h = h.before ++ h.last
 
-module _ {R T : Type 0} (remaining : R → Option (List ℕ)) (limit : T → ℕ) (content : T → Content) where
-  pub read_nothing : (r : Calls R) (t : T) → HasTakenOfRead remaining limit content r r t t 0 []
-  read_nothing r t = record {
+module _ {R T : Type 0} (remaining : R → Option (List ℕ)) (limit : T → ℕ) (content : T → Content) (follows : T → List Op → T → Type 0) where
+  pub read_nothing : ((t : T) → follows t [] t) → (r : Calls R) (t : T) → HasTakenOfRead remaining limit content follows r r t t 0 []
+  read_nothing follows_nothing r t = record {
     read = record { before = []; last = []; read = Consumes-nil (remaining r.inner); one_block = omega arith; operations = tt };
-    takes = takes_nothing (limit t) 0 (content t) [];
+    up_to = record { takes = takes_nothing (limit t) 0 (content t) []; beside = follows_nothing t };
   }
 
   -- the taker's own limit may be another name of the same number
-  pub read_lines : (r s : Calls R) (t u v : T) (n m : ℕ) (w x : List ℕ) → limit u ≡ limit t → HasTakenOfRead remaining limit content r s t u n w → TakesUpTo limit content u v n m w x → HasTakenOfRead remaining limit content r s t v m x
-  read_lines r s t u v n m w x is h more = record {
+  pub read_lines : FollowsOn follows → (r s : Calls R) (t u v : T) (n m : ℕ) (w x : List ℕ) → limit u ≡ limit t → HasTakenOfRead remaining limit content follows r s t u n w → TakesUpTo limit content follows u v n m w x → HasTakenOfRead remaining limit content follows r s t v m x
+  read_lines follows_on r s t u v n m w x is h more = record {
     read = h.read;
-    takes = takes_chain (limit t) 0 n m (content t) (content u) (content v) (all_read h.read) w x h.takes (subst (λ l. Takes l n (content u) w m (content v) x) is more);
+    up_to = up_to_chain limit content follows follows_on t u v 0 n m (all_read h.read) w x is h.up_to more;
   }
 
-  pub read_piece : (r s next : Calls R) (t u : T) (n : ℕ) (w piece : List ℕ) → HasTakenOfRead remaining limit content r s t u n w → lines_of w ≡ [] → Consumes (remaining s.inner) (remaining next.inner) piece → length piece ≤ BLOCK → HasTakenOfRead remaining limit content r next t u n (w ++ piece)
+  pub read_piece : (r s next : Calls R) (t u : T) (n : ℕ) (w piece : List ℕ) → HasTakenOfRead remaining limit content follows r s t u n w → lines_of w ≡ [] → Consumes (remaining s.inner) (remaining next.inner) piece → length piece ≤ BLOCK → HasTakenOfRead remaining limit content follows r next t u n (w ++ piece)
   read_piece r s next t u n w piece h none more fits = record {
     read = record {
       before = all_read h.read;
       last = piece;
       read = Consumes-trans (remaining r.inner) (remaining s.inner) (remaining next.inner) (all_read h.read) piece h.read.read more;
       one_block = fits;
-      operations = (whole (limit t) n (content t) (content u) (all_read h.read) w h.takes none).operations;
+      operations = (whole (limit t) n (content t) (content u) (all_read h.read) w h.up_to.takes none).operations;
     };
-    takes = takes_more_bytes (limit t) 0 n (content t) (content u) (all_read h.read) w piece h.takes;
+    up_to = record { takes = takes_more_bytes (limit t) 0 n (content t) (content u) (all_read h.read) w piece h.up_to.takes; beside = h.up_to.beside };
   }
 
   -- at the end of the input what waits is the rest
-  pub read_all : (r s next : Calls R) (t u : T) (n : ℕ) (w rest : List ℕ) → HasTakenOfRead remaining limit content r s t u n w → Consumes (remaining s.inner) (remaining next.inner) [] → IsAtEnd (remaining next.inner) → lines_of w ≡ [] → length w ≤ MAX_LINE → rest ≡ w
+  pub read_all : (r s next : Calls R) (t u : T) (n : ℕ) (w rest : List ℕ) → HasTakenOfRead remaining limit content follows r s t u n w → Consumes (remaining s.inner) (remaining next.inner) [] → IsAtEnd (remaining next.inner) → lines_of w ≡ [] → length w ≤ MAX_LINE → rest ≡ w
       → OnBytes remaining r (λ bytes. LeadsTo limit content t u bytes n AllTaken × (rest_of bytes ≡ rest))
   read_all r s next t u n w rest h nothing end none short is =
       let all = all_read h.read in
       Consumes-whole (remaining r.inner) (remaining next.inner) (all ++ []) (λ bytes. LeadsTo limit content t u bytes n AllTaken × (rest_of bytes ≡ rest))
       (Consumes-trans (remaining r.inner) (remaining s.inner) (remaining next.inner) all [] h.read.read nothing) end (
-        takes_after (limit t) 0 n (content t) (content u) all w h.takes [] ∙ only_rest (limit t) n (content u) w none (rest_is_all w none) short,
-        h.takes.rest [] ∙ ap rest_of (append-nil w) ∙ rest_is_all w none ∙ sym is,
+        takes_after (limit t) 0 n (content t) (content u) all w h.up_to.takes [] ∙ only_rest (limit t) n (content u) w none (rest_is_all w none) short,
+        h.up_to.takes.rest [] ∙ ap rest_of (append-nil w) ∙ rest_is_all w none ∙ sym is,
       )
 
   -- a stop that stands whatever follows is the stop of all
-  pub read_stop : (r s : Calls R) (t u v : T) (n m : ℕ) (w : List ℕ) (stop : Stop) → limit u ≡ limit t → HasTakenOfRead remaining limit content r s t u n w → StopsAs limit content u v n m w stop
+  pub read_stop : (r s : Calls R) (t u v : T) (n m : ℕ) (w : List ℕ) (stop : Stop) → limit u ≡ limit t → HasTakenOfRead remaining limit content follows r s t u n w → StopsAs limit content u v n m w stop
       → OnBytes remaining r (λ bytes. LeadsTo limit content t v bytes m stop)
   read_stop r s t u v n m w stop is h stands =
       let all = all_read h.read in
       on_all (remaining r.inner) (remaining s.inner) all (λ bytes. LeadsTo limit content t v bytes m stop) h.read.read (λ more.
-      takes_after (limit t) 0 n (content t) (content u) all w h.takes more
+      takes_after (limit t) 0 n (content t) (content u) all w h.up_to.takes more
       ∙ subst (λ l. bytes_taken l n (content u) (w ++ more) ≡ progress m (content v) stop) is (stands more))
 
-  pub read_fault : (r s : Calls R) (t u v : T) (n m : ℕ) (w : List ℕ) (fault : LogFault) → limit u ≡ limit t → HasTakenOfRead remaining limit content r s t u n w → StopsAs limit content u v n m w (AtFault fault)
+  pub read_fault : (r s : Calls R) (t u v : T) (n m : ℕ) (w : List ℕ) (fault : LogFault) → limit u ≡ limit t → HasTakenOfRead remaining limit content follows r s t u n w → StopsAs limit content u v n m w (AtFault fault)
       → OnBytes remaining r (λ bytes. (lines : ℕ) × LeadsTo limit content t v bytes lines (AtFault fault))
   read_fault r s t u v n m w fault is h stands =
       let all = all_read h.read in
       on_all (remaining r.inner) (remaining s.inner) all (λ bytes. (lines : ℕ) × LeadsTo limit content t v bytes lines (AtFault fault)) h.read.read (λ more. (
         m,
-        takes_after (limit t) 0 n (content t) (content u) all w h.takes more
+        takes_after (limit t) 0 n (content t) (content u) all w h.up_to.takes more
             ∙ subst (λ l. bytes_taken l n (content u) (w ++ more) ≡ progress m (content v) (AtFault fault)) is (stands more),
       ))
 
-  -- where a read fails all whole lines of what was read were taken
-  pub whole_lines : (r s next : Calls R) (t u : T) (n : ℕ) (w : List ℕ) → HasTakenOfRead remaining limit content r s t u n w → Keeps (remaining s.inner) (remaining next.inner) → lines_of w ≡ [] → HasTakenWholeLines remaining limit content r next t u
-  whole_lines r s next t u n w h kept none = record {
+  -- where no line waits, all whole lines of what was read were taken
+  abbrev whole_read : (r s next : Calls R) (t u : T) (n : ℕ) (w : List ℕ) (h : HasTakenOfRead remaining limit content follows r s t u n w) → Consumes (remaining r.inner) (remaining next.inner) (all_read h.read) → lines_of w ≡ [] → HasTakenWholeLines remaining limit content follows r next t u
+  whole_read r s next t u n w h gave none = record {
     bytes = all_read h.read;
-    read = Consumes-kept (remaining r.inner) (remaining s.inner) (remaining next.inner) (all_read h.read) h.read.read kept;
-    taken = whole (limit t) n (content t) (content u) (all_read h.read) w h.takes none;
+    read = gave;
+    taken = whole (limit t) n (content t) (content u) (all_read h.read) w h.up_to.takes none;
+    beside = subst (λ ls. follows t (operations_of ls) u) (sym (all_lines (limit t) n (content t) (content u) (all_read h.read) w h.up_to.takes none)) h.up_to.beside;
   }
 
+  -- and so they were where a read fails
+  pub whole_lines : (r s next : Calls R) (t u : T) (n : ℕ) (w : List ℕ) → HasTakenOfRead remaining limit content follows r s t u n w → Keeps (remaining s.inner) (remaining next.inner) → lines_of w ≡ [] → HasTakenWholeLines remaining limit content follows r next t u
+  whole_lines r s next t u n w h kept none =
+      whole_read r s next t u n w h (Consumes-kept (remaining r.inner) (remaining s.inner) (remaining next.inner) (all_read h.read) h.read.read kept) none
+
+  -- and where the input ends, with what waits as the rest
+  pub all_but_rest : (r s next : Calls R) (t u : T) (n : ℕ) (w rest : List ℕ) → HasTakenOfRead remaining limit content follows r s t u n w → Consumes (remaining s.inner) (remaining next.inner) [] → lines_of w ≡ [] → rest ≡ w → HasTakenAllBut remaining limit content follows r next t u rest
+  all_but_rest r s next t u n w rest h nothing none is =
+      let all = all_read h.read in
+      record {
+        whole = whole_read r s next t u n w h (subst (Consumes (remaining r.inner) (remaining next.inner)) (append-nil all) (Consumes-trans (remaining r.inner) (remaining s.inner) (remaining next.inner) all [] h.read.read nothing)) none;
+        rest = ap rest_of (sym (append-nil all)) ∙ h.up_to.takes.rest [] ∙ ap rest_of (append-nil w) ∙ rest_is_all w none ∙ sym is;
+      }
+
+  -- the rest of a log is taken behind its lines; the taker's own limit may be another name of the same number
+  pub whole_log : FollowsOn follows → (r s : Calls R) (t u v : T) (n : ℕ) (rest : List ℕ) (end : LogEnd) → limit u ≡ limit t → HasTakenAllBut remaining limit content follows r s t u rest → after_rest (limit u) n (content u) rest ≡ end_outcome n (content v) end → follows u (operations_of (rest ∷ [])) v → HasTakenLog remaining limit content follows r s t v
+  whole_log follows_on r s t u v n rest end is h ends more =
+      let bytes = h.whole.bytes in
+      let before = h.whole.taken in
+      record {
+        bytes = bytes;
+        read = h.whole.read;
+        taken = then_taken (limit t) 0 (0 + length (lines_of bytes)) (content t) (content u) (lines_of bytes) (rest_of bytes ∷ [])
+            (operations_are_taken (limit t) 0 (content t) (content u) (lines_of bytes) before.operations before.taken)
+            ∙ ap (λ l. taken_one_by_one (limit t) (content u) (operations_of (l ∷ []))) h.rest
+            ∙ rest_taken (limit t) n (content u) (content v) (record { lines = n; end = end }) rest
+            (subst (λ l. after_rest l n (content u) rest ≡ end_outcome n (content v) end) is ends);
+        beside = subst (λ ops. follows t ops v) (sym (operations_of-append (lines_of bytes) (rest_of bytes ∷ []) before.operations))
+            (follows_on t u v (operations_of (lines_of bytes)) (operations_of (rest_of bytes ∷ [])) h.whole.beside
+            (subst (λ l. follows u (operations_of (l ∷ [])) v) (sym h.rest) more));
+      }
+
   -- whatever fails, the first lines of what was read were taken
-  pub first_lines : (r s : Calls R) (t u : T) (n : ℕ) (w : List ℕ) → HasTakenOfRead remaining limit content r s t u n w → HasTakenLines remaining limit content r s t u
+  pub first_lines : (r s : Calls R) (t u : T) (n : ℕ) (w : List ℕ) → HasTakenOfRead remaining limit content follows r s t u n w → HasTakenLines remaining limit content follows r s t u
   first_lines r s t u n w h = record {
     bytes = all_read h.read;
     read = h.read.read;
-    lines = h.takes.lines;
+    lines = h.up_to.takes.lines;
     later = lines_of (w ++ []);
-    begins = ap lines_of (sym (append-nil (all_read h.read))) ∙ h.takes.cut [];
-    taken = are_taken (limit t) 0 n (content t) (content u) h.takes.lines h.takes.taken;
+    begins = ap lines_of (sym (append-nil (all_read h.read))) ∙ h.up_to.takes.cut [];
+    taken = are_taken (limit t) 0 n (content t) (content u) h.up_to.takes.lines h.up_to.takes.taken;
+    beside = h.up_to.beside;
   }
 
-  pub first_of_whole : (r s : Calls R) (t u : T) → HasTakenWholeLines remaining limit content r s t u → HasTakenLines remaining limit content r s t u
+  pub first_of_whole : (r s : Calls R) (t u : T) → HasTakenWholeLines remaining limit content follows r s t u → HasTakenLines remaining limit content follows r s t u
   first_of_whole r s t u h = record {
     bytes = h.bytes;
     read = h.read;
@@ -115,15 +157,17 @@ module _ {R T : Type 0} (remaining : R → Option (List ℕ)) (limit : T → ℕ
     later = [];
     begins = sym (append-nil (lines_of h.bytes));
     taken = h.taken;
+    beside = h.beside;
   }
 
   -- a taker that holds the same took the same lines
-  pub same_lines : (r s : Calls R) (t u v : T) → content v ≡ content u → HasTakenLines remaining limit content r s t u → HasTakenLines remaining limit content r s t v
-  same_lines r s t u v same h = record {
+  pub same_lines : FollowsOn follows → (r s : Calls R) (t u v : T) → content v ≡ content u → follows u [] v → HasTakenLines remaining limit content follows r s t u → HasTakenLines remaining limit content follows r s t v
+  same_lines follows_on r s t u v same none h = record {
     bytes = h.bytes;
     read = h.read;
     lines = h.lines;
     later = h.later;
     begins = h.begins;
     taken = subst (AreTaken (limit t) h.lines (content t)) (sym same) h.taken;
+    beside = then_nothing limit content follows follows_on t u v (operations_of h.lines) h.beside none;
   }

@@ -1,5 +1,5 @@
 -- A stream line by line: what is taken of it, in whatever parts it comes.
-use Rattle.std.proofs.Common.{◌≡◌, ℕ, ◌+◌, ◌≤◌, List, [], ◌∷◌, ◌++◌, length, Result, Ok, Err, refl, sym, ap, ◌∙◌, append_assoc, append-nil, cond}
+use Rattle.std.proofs.Common.{◌≡◌, ℕ, ◌+◌, ◌≤◌, List, [], ◌∷◌, ◌++◌, length, Result, Ok, Err, refl, sym, ap, subst, ◌∙◌, append_assoc, append-nil, cond}
 use Rattle.std.specs.List.{AllByRecursion}
 use Rattle.std.proofs.lemmas.Bool.{lt-ltb, le-ltb}
 use Rattle.rga_ops.specs.Content.{Content}
@@ -18,7 +18,7 @@ use Rattle.rga_lines.proofs.SplitterLemmas.{GivesLine}
 use Rattle.rga_exchange.specs.declared.fault.LogFault.{LogFault}
 use Rattle.rga_exchange.specs.declared.fault.LogFault.TheVariants as fault
 use Rattle.rga_exchange.specs.Taking.{Stop, AllTaken, AtEnd, AtFault, Progress, progress, refused_at, after_line, go_on, lines_taken, with_rest, bytes_taken, AreTaken}
-use Rattle.rga_exchange.specs.Parts.{Takes}
+use Rattle.rga_exchange.specs.Parts.{Takes, TakesUpTo}
 
 abbrev pub on : Content → Result Content Stop
 on c = Ok c
@@ -73,10 +73,10 @@ lines_taken-append limit n m c d (x ∷ xs) ys h =
 
 -- ---- what was taken of a stream in parts
 
-pub takes_nothing : (limit n : ℕ) (c : Content) (bytes : List ℕ) → Takes limit n c bytes n c bytes
+abbrev pub takes_nothing : (limit n : ℕ) (c : Content) (bytes : List ℕ) → Takes limit n c bytes n c bytes
 takes_nothing limit n c bytes = record { lines = []; cut = λ more. refl; rest = λ more. refl; taken = refl }
 
-pub takes_line : (limit n : ℕ) (c d : Content) (s t : Splitting) (line : List ℕ) → GivesLine s t line → after_line limit (n + 1) c (any_line_at line) ≡ Ok d → Takes limit n c s.waiting (n + 1) d t.waiting
+abbrev pub takes_line : (limit n : ℕ) (c d : Content) (s t : Splitting) (line : List ℕ) → GivesLine s t line → after_line limit (n + 1) c (any_line_at line) ≡ Ok d → Takes limit n c s.waiting (n + 1) d t.waiting
 takes_line limit n c d s t line given h = record {
   lines = line ∷ [];
   cut = given.lines;
@@ -84,7 +84,7 @@ takes_line limit n c d s t line given h = record {
   taken = ap (λ r. go_on n c r (λ e. lines_taken limit (n + 1) e [])) h;
 }
 
-pub takes_chain : (limit n m k : ℕ) (c d e : Content) (a b w : List ℕ) → Takes limit n c a m d b → Takes limit m d b k e w → Takes limit n c a k e w
+abbrev pub takes_chain : (limit n m k : ℕ) (c d e : Content) (a b w : List ℕ) → Takes limit n c a m d b → Takes limit m d b k e w → Takes limit n c a k e w
 takes_chain limit n m k c d e a b w s t = record {
   lines = s.lines ++ t.lines;
   cut = λ more. s.cut more ∙ ap (λ ls. s.lines ++ ls) (t.cut more) ∙ sym (append_assoc s.lines t.lines (lines_of (w ++ more)));
@@ -92,7 +92,7 @@ takes_chain limit n m k c d e a b w s t = record {
   taken = lines_taken-append limit n m c d s.lines t.lines s.taken ∙ t.taken;
 }
 
-pub takes_more_bytes : (limit n m : ℕ) (c d : Content) (bytes waiting piece : List ℕ) → Takes limit n c bytes m d waiting → Takes limit n c (bytes ++ piece) m d (waiting ++ piece)
+abbrev pub takes_more_bytes : (limit n m : ℕ) (c d : Content) (bytes waiting piece : List ℕ) → Takes limit n c bytes m d waiting → Takes limit n c (bytes ++ piece) m d (waiting ++ piece)
 takes_more_bytes limit n m c d bytes waiting piece s = record {
   lines = s.lines;
   cut = λ more. ap lines_of (append_assoc bytes piece more) ∙ s.cut (piece ++ more) ∙ ap (λ l. s.lines ++ lines_of l) (sym (append_assoc waiting piece more));
@@ -162,3 +162,46 @@ pub are_taken : (limit n m : ℕ) (c d : Content) (lines : List (List ℕ)) → 
 are_taken limit n m c d lines h =
     let w = lines_are_operations limit n m c d lines h in
     record { operations = w.0; taken = w.1; joined = (taken_list_is limit c (operations_of lines) d w.1).joined }
+
+pub operations_of-append : (xs ys : List (List ℕ)) → AllByRecursion IsOperation xs → operations_of (xs ++ ys) ≡ operations_of xs ++ operations_of ys
+operations_of-append [] ys all = refl
+operations_of-append (x ∷ xs) ys all =
+    ap (λ r. then_operations r (operations_of (xs ++ ys))) (all.0).1
+    ∙ ap (λ (os : List Op). (all.0).0 ∷ os) (operations_of-append xs ys all.1)
+    ∙ sym (ap (λ r. then_operations r (operations_of xs) ++ operations_of ys) (all.0).1)
+
+-- ---- what was taken from one state of a taker to another
+
+abbrev pub FollowsOn : {T : Type 0} → (T → List Op → T → Type 0) → Type 0
+FollowsOn {T} follows = (s t u : T) (xs ys : List Op) → follows s xs t → follows t ys u → follows s (xs ++ ys) u
+
+module _ {T : Type 0} (limit : T → ℕ) (content : T → Content) (follows : T → List Op → T → Type 0) (follows_on : FollowsOn follows) where
+  -- to take nothing more
+  pub then_nothing : (t u v : T) (ops : List Op) → follows t ops u → follows u [] v → follows t ops v
+  then_nothing t u v ops first none = subst (λ os. follows t os v) (append-nil ops) (follows_on t u v ops [] first none)
+
+  -- the taker's own limit may be another name of the same number
+  pub up_to_chain : (t u v : T) (n m k : ℕ) (a b w : List ℕ) → limit u ≡ limit t → TakesUpTo limit content follows t u n m a b → TakesUpTo limit content follows u v m k b w → TakesUpTo limit content follows t v n k a w
+  up_to_chain t u v n m k a b w is s h = record {
+    takes = takes_chain (limit t) n m k (content t) (content u) (content v) a b w s.takes (record {
+      lines = h.takes.lines;
+      cut = h.takes.cut;
+      rest = h.takes.rest;
+      taken = subst (λ l. lines_taken l m (content u) h.takes.lines ≡ progress k (content v) AllTaken) is h.takes.taken;
+    });
+    beside = subst (λ ops. follows t ops v)
+        (sym (operations_of-append s.takes.lines h.takes.lines (lines_are_operations (limit t) n m (content t) (content u) s.takes.lines s.takes.taken).0))
+        (follows_on t u v (operations_of s.takes.lines) (operations_of h.takes.lines) s.beside h.beside);
+  }
+
+  -- a taker that holds the same
+  pub up_to_same : (t u v : T) (n m : ℕ) (a w : List ℕ) → content v ≡ content u → follows u [] v → TakesUpTo limit content follows t u n m a w → TakesUpTo limit content follows t v n m a w
+  up_to_same t u v n m a w same none s = record {
+    takes = record {
+      lines = s.takes.lines;
+      cut = s.takes.cut;
+      rest = s.takes.rest;
+      taken = s.takes.taken ∙ ap (λ d. progress m d AllTaken) (sym same);
+    };
+    beside = then_nothing t u v (operations_of s.takes.lines) s.beside none;
+  }

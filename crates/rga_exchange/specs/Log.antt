@@ -1,6 +1,7 @@
 -- What a log leads to.
 use Rattle.std.specs.Prelude.{◌≡◌, ◌≢◌, ℕ, ◌+◌, List, [], ◌∷◌, length, Option, Result, Ok, Err, OnOk, OnErr}
 use Rattle.rga_ops.specs.Prelude.{Content, taken, join, content_of}
+use Rattle.rga_ops.specs.declared.op.Op.{Op}
 use Rattle.rga_ops.specs.declared.refusal.Refusal.{Refusal}
 use Rattle.rga_lines.specs.Counting.{Calls, OnBytes}
 use Rattle.rga_lines.specs.Log.{log_operations}
@@ -14,7 +15,7 @@ use Rattle.rga_exchange.specs.declared.log.LogEnd.TheVariants.{Whole, Bare, Torn
 use Rattle.rga_exchange.specs.declared.log.LogRead.{LogRead}
 use Rattle.rga_exchange.specs.declared.fault.ReceiveFault.{ReceiveFault}
 use Rattle.rga_exchange.specs.Receiving.{receive_fault}
-use Rattle.rga_exchange.specs.Taking.{Stop, AllTaken, AtEnd, AtFault, Progress, stream_taken, HasTakenLines, HasTakenWholeLines}
+use Rattle.rga_exchange.specs.Taking.{Stop, AllTaken, AtEnd, AtFault, Progress, stream_taken, HasTakenLines, HasTakenWholeLines, HasTakenLog}
 
 -- the content, and the number of lines with how the log ends, or a fault
 abbrev pub LogOutcome : Type 0
@@ -60,12 +61,14 @@ log_end (Ok read) = Ok read.end
 log_end (Err e) = Err (receive_fault e)
 
 -- What comes of a log that a taker takes from a reader, where its outcome is told so.
-module _ {R T A E : Type 0} (remaining : R → Option (List ℕ)) (limit : T → ℕ) (content : T → Content) (told : Result LogRead LogFault → Result A E) (result : Result A E) where
+module _ {R T A E : Type 0} (remaining : R → Option (List ℕ)) (limit : T → ℕ) (content : T → Content) (follows : T → List Op → T → Type 0) (told : Result LogRead LogFault → Result A E) (result : Result A E) where
   pub record TakesLog (r s : Calls R) (t u : T) : Type 0 where
     -- however the reads cut the bytes, they lead to what the whole log leads to
     pub outcome : result ≢ told (Err fault.Read) → result ≢ told (Err fault.Memory) → OnBytes remaining r (λ bytes.
         let p = log_outcome (limit t) (content t) bytes in (p.0 ≡ content u) × (told p.1 ≡ result))
     pub joined : OnOk result (OnBytes remaining r (λ bytes. content u ≡ join (content t) (content_of (log_operations bytes))))
-    pub whole_lines : result ≡ told (Err fault.Read) → HasTakenWholeLines remaining limit content r s t u
+    pub whole_lines : result ≡ told (Err fault.Read) → HasTakenWholeLines remaining limit content follows r s t u
     -- whatever the fault, the first lines that were read were taken, and nothing else
-    pub lines : OnErr result (HasTakenLines remaining limit content r s t u)
+    pub lines : OnErr result (HasTakenLines remaining limit content follows r s t u)
+    -- without one all operations were, and nothing else
+    pub log : OnOk result (HasTakenLog remaining limit content follows r s t u)

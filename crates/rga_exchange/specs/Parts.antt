@@ -1,11 +1,13 @@
 -- A stream that is taken in parts, as it is read.
 use Rattle.std.specs.Prelude.{◌≡◌, ℕ, List, ◌++◌, Option, Result}
 use Rattle.rga_ops.specs.Content.{Content}
+use Rattle.rga_ops.specs.declared.op.Op.{Op}
 use Rattle.rga_lines.specs.Counting.{Calls}
+use Rattle.rga_lines.specs.Log.{operations_of}
 use Rattle.rga_lines.specs.Stream.{lines_of, rest_of}
 use Rattle.rga_lines.specs.Table.{any_line_at}
 use Rattle.rga_exchange.specs.Receiving.{EndsWithLastRead}
-use Rattle.rga_exchange.specs.Taking.{Stop, AllTaken, AtEnd, progress, after_line, lines_taken, bytes_taken, stream_taken}
+use Rattle.rga_exchange.specs.Taking.{Stop, AllTaken, AtEnd, progress, after_line, lines_taken, bytes_taken, stream_taken, HasTakenWholeLines}
 use Rattle.rga_exchange.specs.declared.taking.StreamEnd.{StreamEnd}
 use Rattle.rga_exchange.specs.declared.taking.StreamEnd.TheVariants.{EndLine, Input}
 
@@ -21,11 +23,13 @@ pub record Takes (limit n : ℕ) (c : Content) (bytes : List ℕ) (m : ℕ) (d :
 abbrev pub line_outcome : {T : Type 0} → (T → ℕ) → (T → Content) → T → ℕ → List ℕ → Result Content Stop
 line_outcome limit content t n line = after_line (limit t) n (content t) (any_line_at line)
 
-module _ {T : Type 0} (limit : T → ℕ) (content : T → Content) (t u : T) where
-  -- the same from the one state of a taker to the other
-  abbrev pub TakesUpTo : ℕ → ℕ → List ℕ → List ℕ → Type 0
-  TakesUpTo n m bytes waiting = Takes (limit t) n (content t) bytes m (content u) waiting
+-- the same from the one state of a taker to the other, with what it keeps beside its content
+module _ {T : Type 0} (limit : T → ℕ) (content : T → Content) (follows : T → List Op → T → Type 0) (t u : T) where
+  pub record TakesUpTo (n m : ℕ) (bytes waiting : List ℕ) : Type 0 where
+    pub takes : Takes (limit t) n (content t) bytes m (content u) waiting
+    pub beside : follows t (operations_of takes.lines) u
 
+module _ {T : Type 0} (limit : T → ℕ) (content : T → Content) (t u : T) where
   -- whatever follows the bytes, behind n lines they lead to m lines, and stop so there
   abbrev pub StopsAs : ℕ → ℕ → List ℕ → Stop → Type 0
   StopsAs n m bytes stop = (more : List ℕ) → bytes_taken (limit t) n (content t) (bytes ++ more) ≡ progress m (content u) stop
@@ -46,7 +50,17 @@ module _ {R : Type 0} (remaining : R → Option (List ℕ)) (r s : Calls R) wher
   StopsReading (Input bytes) = Unit {0}
 
 -- what a reader gave, and what of it was taken
-module _ {R T : Type 0} (remaining : R → Option (List ℕ)) (limit : T → ℕ) (content : T → Content) where
+module _ {R T : Type 0} (remaining : R → Option (List ℕ)) (limit : T → ℕ) (content : T → Content) (follows : T → List Op → T → Type 0) where
   pub record HasTakenOfRead (r s : Calls R) (t u : T) (n : ℕ) (waiting : List ℕ) : Type 0 where
     pub read : EndsWithLastRead remaining r s
-    pub takes : TakesUpTo limit content t u 0 n (read.before ++ read.last) waiting
+    pub up_to : TakesUpTo limit content follows t u 0 n (read.before ++ read.last) waiting
+
+  -- all whole lines were taken, and this rest is left
+  pub record HasTakenAllBut (r s : Calls R) (t u : T) (left : List ℕ) : Type 0 where
+    pub whole : HasTakenWholeLines remaining limit content follows r s t u
+    pub rest : rest_of whole.bytes ≡ left
+
+  -- the rest at the end of the input
+  abbrev pub LeavesRest : Calls R → Calls R → T → T → StreamEnd → Type 0
+  LeavesRest r s t u (EndLine number) = Unit {0}
+  LeavesRest r s t u (Input rest) = HasTakenAllBut r s t u rest.items

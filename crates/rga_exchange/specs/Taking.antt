@@ -4,12 +4,13 @@ use Rattle.std.specs.List.{AllByRecursion}
 use Rattle.std.specs.Io.KnownBytes.{Consumes}
 use Rattle.rga_ops.specs.Content.{Content, join, content_of}
 use Rattle.rga_ops.specs.Answer.{taken, taken_one_by_one}
+use Rattle.rga_ops.specs.declared.op.Op.{Op}
 use Rattle.rga_ops.specs.declared.refusal.Refusal.{Refusal}
 use Rattle.rga_lines.specs.Counting.{Calls}
 use Rattle.rga_lines.specs.Table.{AnyReading, any_line_at}
 use Rattle.rga_lines.specs.declared.reading.TheConstants.{MAX_LINE}
 use Rattle.rga_lines.specs.Stream.{lines_of, rest_of}
-use Rattle.rga_lines.specs.Log.{operations_of, IsOperation}
+use Rattle.rga_lines.specs.Log.{operations_of, log_operations, IsOperation}
 use Rattle.rga_lines.specs.declared.reading.Line.TheVariants.{One, Last}
 use Rattle.rga_lines.specs.declared.fault.LineFault.TheVariants as line_fault
 use Rattle.rga_exchange.specs.declared.fault.LogFault.{LogFault}
@@ -80,8 +81,9 @@ pub record AreTaken (limit : ℕ) (lines : List (List ℕ)) (c d : Content) : Ty
   pub taken : taken_one_by_one limit c (operations_of lines) ≡ Ok d
   pub joined : d ≡ join c (content_of (operations_of lines))
 
--- between two states of a reader, and of a taker, by their members
-module _ {R T : Type 0} (remaining : R → Option (List ℕ)) (limit : T → ℕ) (content : T → Content) (r s : Calls R) (t u : T) where
+-- Between two states of a reader, and of a taker, by their members: `follows` says what the taker keeps beside its
+-- content and its limit, by the operations that it took.
+module _ {R T : Type 0} (remaining : R → Option (List ℕ)) (limit : T → ℕ) (content : T → Content) (follows : T → List Op → T → Type 0) (r s : Calls R) (t u : T) where
   -- the first lines of what the reader gave were taken, and nothing else
   pub record HasTakenLines : Type 0 where
     pub bytes : List ℕ
@@ -90,9 +92,18 @@ module _ {R T : Type 0} (remaining : R → Option (List ℕ)) (limit : T → ℕ
     pub later : List (List ℕ)
     pub begins : lines_of bytes ≡ lines ++ later
     pub taken : AreTaken (limit t) lines (content t) (content u)
+    pub beside : follows t (operations_of lines) u
 
-  -- all whole lines of what the reader gave were taken
+  -- all whole lines of what the reader gave were taken, and nothing else
   pub record HasTakenWholeLines : Type 0 where
     pub bytes : List ℕ
     pub read : Consumes (remaining r.inner) (remaining s.inner) bytes
     pub taken : AreTaken (limit t) (lines_of bytes) (content t) (content u)
+    pub beside : follows t (operations_of (lines_of bytes)) u
+
+  -- all operations of what the reader gave were taken as those of a log, and nothing else
+  pub record HasTakenLog : Type 0 where
+    pub bytes : List ℕ
+    pub read : Consumes (remaining r.inner) (remaining s.inner) bytes
+    pub taken : taken_one_by_one (limit t) (content t) (log_operations bytes) ≡ Ok (content u)
+    pub beside : follows t (log_operations bytes) u

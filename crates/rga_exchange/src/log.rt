@@ -1,6 +1,7 @@
 //! Logs, read into whatever takes operations.
-ghost use Rattle.std.specs.Prelude.{◌≡◌, ◌≢◌, ◌<◌, ◌^◌, Err, OnErr, IfOk, IfErr};
+ghost use Rattle.std.specs.Prelude.{◌≡◌, ◌≢◌, ◌<◌, ◌^◌, [], ◌∷◌, Err, OnErr, IfOk, IfErr, MatchResult};
 ghost use Rattle.rga_lines.specs.Counting.{CountsAs};
+ghost use Rattle.rga_lines.specs.Log.{operations_of};
 ghost use Rattle.rga_exchange.specs.Log.{TakesLog, log_end, rest_outcome, end_outcome};
 ghost use Rattle.rga_exchange.specs.declared.fault.LogFault.TheVariants.{Memory as NoMemory, Read as ReadFailed};
 
@@ -43,8 +44,8 @@ pub fn take_log<T: Taker, R: Read>(
     taker: &mut T,
     reader: &mut Counted<R>,
 ) -> Result<LogRead, LogFault>
-    ensures taken { TakesLog R.remaining T.limit T.content (λ outcome. outcome) result
-        reader.old reader.new taker.old taker.new }
+    ensures taken { TakesLog R.remaining T.limit T.content T.follows (λ outcome. outcome)
+        result reader.old reader.new taker.old taker.new }
     ensures device { CountsAs LogFault.Read result reader.old reader.new }
     ensures limit { T.limit taker.new ≡ T.limit taker.old }
     ensures bound { IfOk result (λ log. log.lines < 2 ^ 63) }
@@ -74,6 +75,9 @@ fn take_rest<T: Taker>(
     ensures same { OnErr result (T.content taker.new ≡ T.content taker.old) }
     ensures device { IfErr result (λ e. e ≢ ReadFailed) }
     ensures limit { T.limit taker.new ≡ T.limit taker.old }
+    ensures follows { MatchResult result
+        (λ _. T.follows taker.old (operations_of (rest.now ∷ [])) taker.new)
+        (λ _. T.follows taker.old [] taker.new) }
 {
     if rest.is_empty() {
         return Ok(LogEnd::Whole);
@@ -95,8 +99,8 @@ pub fn read_log<T: Taker, R: Read>(
     taker: &mut T,
     reader: &mut Counted<R>,
 ) -> Result<LogEnd, ReceiveFault>
-    ensures taken { TakesLog R.remaining T.limit T.content log_end result
-        reader.old reader.new taker.old taker.new }
+    ensures taken { TakesLog R.remaining T.limit T.content T.follows log_end
+        result reader.old reader.new taker.old taker.new }
     ensures device { CountsAs ReceiveFault.Read result reader.old reader.new }
     ensures limit { T.limit taker.new ≡ T.limit taker.old }
 {

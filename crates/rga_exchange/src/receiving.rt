@@ -42,9 +42,9 @@ pub fn receive<T: Taker, R: Read>(
         → EndsWithLastRead R.remaining reader.old reader.new }
 
     ensures whole_lines { result ≡ Err ReceiveFault.Read → HasTakenWholeLines
-        R.remaining T.limit T.content reader.old reader.new taker.old taker.new }
+        R.remaining T.limit T.content T.follows reader.old reader.new taker.old taker.new }
     // Whatever the answer, the first lines that were read were taken, and nothing else.
-    ensures lines { HasTakenLines R.remaining T.limit T.content
+    ensures lines { HasTakenLines R.remaining T.limit T.content T.follows
         reader.old reader.new taker.old taker.new }
     ensures device { CountsAs ReceiveFault.Read result reader.old reader.new }
     ensures limit { T.limit taker.new ≡ T.limit taker.old }

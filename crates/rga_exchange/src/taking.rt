@@ -1,11 +1,12 @@
 //! The lines of a stream, taken in turn into whatever takes operations.
-ghost use Rattle.std.specs.Prelude.{◌≡◌, ◌≢◌, ◌+◌, ◌^◌, ◌<◌, ◌≤◌, ℕ, List, length, [], false, Ok, Err, Some, None, OnOk, IfOk, OnErr, IfErr};
+ghost use Rattle.std.specs.Prelude.{◌≡◌, ◌≢◌, ◌+◌, ◌^◌, ◌<◌, ◌≤◌, ℕ, List, length, [], ◌∷◌, false, Ok, Err, Some, None, OnOk, IfOk, OnErr, IfErr, MatchResult};
 ghost use Rattle.rga_ops.specs.Prelude.{taken};
 ghost use Rattle.rga_lines.specs.Counting.{CountsAs, OnBytes};
+ghost use Rattle.rga_lines.specs.Log.{operations_of};
 ghost use Rattle.rga_lines.specs.Stream.{lines_of};
 ghost use Rattle.rga_lines.specs.declared.reading.TheConstants.{MAX_LINE};
 ghost use Rattle.rga_exchange.specs.Taking.{AtEnd, AtFault, refused_at, HasTakenLines, HasTakenWholeLines};
-ghost use Rattle.rga_exchange.specs.Parts.{line_outcome, TakesUpTo, StopsAs, LeadsTo, EndsAs, StopsReading};
+ghost use Rattle.rga_exchange.specs.Parts.{line_outcome, TakesUpTo, StopsAs, LeadsTo, EndsAs, LeavesRest, StopsReading};
 ghost use Rattle.rga_exchange.specs.declared.fault.LogFault.TheVariants.{Memory, Read as ReadFailed};
 
 use crate::block::BLOCK;
@@ -42,10 +43,13 @@ pub(crate) fn take_stream<T: Taker, R: Read>(
     ensures fault { IfErr result (λ e. e ≢ ReadFailed → e ≢ Memory → OnBytes R.remaining reader.old
         (λ bytes. (n : ℕ) × LeadsTo T.limit T.content taker.old taker.new bytes n (AtFault e))) }
 
-    ensures lines { HasTakenLines R.remaining T.limit T.content
+    // Whatever the answer, the first lines that were read were taken, and nothing else.
+    ensures lines { HasTakenLines R.remaining T.limit T.content T.follows
         reader.old reader.new taker.old taker.new }
     ensures whole_lines { IfErr result (λ e. e ≡ ReadFailed → HasTakenWholeLines
-        R.remaining T.limit T.content reader.old reader.new taker.old taker.new) }
+        R.remaining T.limit T.content T.follows reader.old reader.new taker.old taker.new) }
+    ensures rest { IfOk result (λ s. LeavesRest R.remaining T.limit T.content T.follows
+        reader.old reader.new taker.old taker.new s.end) }
     ensures last { IfOk result (λ s. StopsReading R.remaining reader.old reader.new s.end) }
     ensures device { CountsAs ReadFailed result reader.old reader.new }
     ensures limit { T.limit taker.new ≡ T.limit taker.old }
@@ -82,9 +86,9 @@ fn take_lines<T: Taker>(
 ) -> Result<Option<u64>, LogFault>
     requires whole { splitter.old.broken ≡ false }
     requires room { lines.old + length splitter.old.waiting < 2 ^ 63 }
-    ensures taken { (waiting : List ℕ) × TakesUpTo T.limit T.content taker.old taker.new
-        lines.old lines.new splitter.old.waiting waiting }
-    ensures all { result ≡ Ok None → TakesUpTo T.limit T.content taker.old taker.new
+    ensures taken { (waiting : List ℕ) × TakesUpTo T.limit T.content T.follows
+        taker.old taker.new lines.old lines.new splitter.old.waiting waiting }
+    ensures all { result ≡ Ok None → TakesUpTo T.limit T.content T.follows taker.old taker.new
         lines.old lines.new splitter.old.waiting splitter.new.waiting }
     ensures end { (number : ℕ) → result ≡ Ok (Some number) → StopsAs T.limit T.content
         taker.old taker.new lines.old lines.new splitter.old.waiting (AtEnd number) }
@@ -130,6 +134,9 @@ fn take_line<T: Taker>(
     ensures device { IfErr result (λ e. e ≢ ReadFailed) }
     ensures same { result ≢ Ok None → T.content taker.new ≡ T.content taker.old }
     ensures limit { T.limit taker.new ≡ T.limit taker.old }
+    ensures follows { result ≡ Ok None →
+        T.follows taker.old (operations_of (line.now ∷ [])) taker.new }
+    ensures follows_nothing { result ≢ Ok None → T.follows taker.old [] taker.new }
 {
     match read_any(alloc, line) {
         Ok(Line::One(op)) => {
@@ -151,6 +158,8 @@ pub(crate) fn take<T: Taker>(taker: &mut T, number: u64, op: Op) -> Result<(), L
     ensures device { IfErr result (λ e. e ≢ ReadFailed) }
     ensures same { OnErr result (T.content taker.new ≡ T.content taker.old) }
     ensures limit { T.limit taker.new ≡ T.limit taker.old }
+    ensures follows { MatchResult result
+        (λ _. T.follows taker.old (op ∷ []) taker.new) (λ _. T.follows taker.old [] taker.new) }
 {
     match taker.apply(op) {
         Ok(_) => Ok(()),

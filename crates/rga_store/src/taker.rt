@@ -1,5 +1,5 @@
 //! What takes operations.
-ghost use Rattle.std.specs.Prelude.{◌≡◌, ◌≢◌, ℕ, Ok, Err};
+ghost use Rattle.std.specs.Prelude.{◌≡◌, ◌≢◌, ℕ, List, [], ◌∷◌, ◌++◌, Ok, Err, MatchResult};
 ghost use Rattle.rga_ops.specs.Prelude.{Content, all_checked, answer, content_of, join, list_answer, single};
 ghost use Rattle.rga_ops.specs.declared.op.Op.{Op as Operation};
 
@@ -16,6 +16,17 @@ pub trait Taker {
     /// The operations that it may need memory for.
     ghost may_grow: { Self → Operation → Type 0 };
 
+    /// What may stand beside the content and the limit once these operations were taken in turn,
+    /// from the first state to the second.
+    ghost follows: { Self → List Operation → Self → Type 0 };
+
+    /// To take nothing changes nothing.
+    ghost follows_nothing: { (s : Self) → follows s [] s };
+
+    /// Operations may be taken in parts.
+    ghost follows_on: { (s t u : Self) (xs ys : List Operation) →
+        follows s xs t → follows t ys u → follows s (xs ++ ys) u };
+
     /// Takes an operation. `New` adds exactly it to the content; `Known` says that it was there.
     ///
     /// Refusals, in this order: `BadId`, `BadOrder`, `Conflict`, `Full`, `Memory`. A refusal
@@ -30,7 +41,9 @@ pub trait Taker {
         ensures new { result ≡ Ok Taken.New →
             content self.new ≡ join (content self.old) (single op) }
         ensures same { result ≢ Ok Taken.New → content self.new ≡ content self.old }
-        ensures limit { limit self.new ≡ limit self.old };
+        ensures limit { limit self.new ≡ limit self.old }
+        ensures follows { MatchResult result
+            (λ _. follows self.old (op ∷ []) self.new) (λ _. follows self.old [] self.new) };
 
     /// Takes all operations of a list, or none.
     ///
@@ -46,5 +59,7 @@ pub trait Taker {
         ensures whole { result ≡ Ok tt →
             content self.new ≡ join (content self.old) (content_of ops.now) }
         ensures same { result ≢ Ok tt → content self.new ≡ content self.old }
-        ensures limit { limit self.new ≡ limit self.old };
+        ensures limit { limit self.new ≡ limit self.old }
+        ensures follows { MatchResult result
+            (λ _. follows self.old ops.now self.new) (λ _. follows self.old [] self.new) };
 }

@@ -65,6 +65,12 @@ impl Taker for TreeStore {
 
     ghost may_grow = { λ s op. NeedsRoom s.content op };
 
+    ghost follows = { λ s ops t. Unit {0} };
+
+    ghost follows_nothing = { λ s. tt };
+
+    ghost follows_on = { λ s t u xs ys a b. tt };
+
     fn apply(&mut self, op: Op) -> Result<Taken, Refusal> {
         let answer = self.answer(op);
         if answer != Ok(Taken::New) {

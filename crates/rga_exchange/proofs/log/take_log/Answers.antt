@@ -1,4 +1,10 @@
+use Rattle.std.proofs.Common.{◌≡◌, Result, Err, ap}
+use Rattle.std.proofs.lemmas.Result.{err_from_is_err_and}
+use Rattle.rga_exchange.specs.declared.fault.LogFault.{LogFault}
+use Rattle.rga_exchange.specs.declared.fault.LogFault.TheVariants.{Read}
+use Rattle.rga_exchange.specs.declared.log.LogRead.{LogRead}
 use Rattle.rga_exchange.proofs.OperationLaws.{log_ends_outcome, log_ends_joined}
+use Rattle.rga_exchange.proofs.ReadLaws.{whole_log, same_lines}
 use Rattle.rga_exchange.proofs.log.take_log.Goals as goal
 
 pub returns-in_ok-end-in-Input-clause-taken : goal.returns-in_ok-end-in-Input-clause-taken
@@ -10,4 +16,22 @@ returns-in_ok-end-in-Input-clause-taken g c =
       joined = log_ends_joined _ _ _ _ _ _ _ _ _ c.in_ok-lines.ensures.limit all rest;
       whole_lines = λ e. absurd cc;
       lines = tt;
+      log = whole_log _ _ _ _ g.T.Taker.follows_on _ _ _ _ _ _ _ _ c.in_ok-lines.ensures.limit (rw c.in-Input.is at c.in_ok-lines.ensures.rest) rest (rw c.deref.ensures.value at c.in_ok-end-in-Input.ensures.follows);
     }
+
+abbrev failed : LogFault → Result LogRead LogFault
+failed e = Err e
+
+pub returns-in_err-end-in-Input-clause-taken : goal.returns-in_err-end-in-Input-clause-taken
+returns-in_err-end-in-Input-clause-taken g c =
+    let p = err_from_is_err_and c.from_residual-in_err-end-in-Input.result c.from_residual-in_err-end-in-Input.ensures.1 in
+    let all = rw c.in-Input.is at c.in_ok-lines.ensures.end in
+    let rest = c.in_err-end-in-Input.ensures in
+    let e = c.in_err-end-in-Input.field-0.0 in
+    rw (p.1, p.2) (record {
+      outcome = λ read memory. log_ends_outcome _ _ _ _ _ _ _ _ (failed e) c.in_ok-lines.ensures.limit all (rw c.deref.ensures.value at (rest.fault (λ is. memory (ap failed is))));
+      joined = tt;
+      whole_lines = λ told. let same : failed e ≡ failed Read = told in let is : e ≡ Read = cc in absurd (rest.device is);
+      lines = same_lines _ _ _ _ g.T.Taker.follows_on c.args.reader.now c.take_stream.new.reader c.args.taker.now c.take_stream.new.taker c.take_rest.new.taker rest.same rest.follows c.in_ok-lines.ensures.lines;
+      log = tt;
+    })

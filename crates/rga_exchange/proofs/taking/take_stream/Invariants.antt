@@ -10,7 +10,7 @@ invariant-reads g l = record {
   room : l.lines + length l.splitter.waiting + BLOCK * min l.reader.left MAX_CALLS ≤ BLOCK * MAX_CALLS;
   limit : g.T.Taker.limit l.taker ≡ g.T.Taker.limit l.fn.taker;
   same_failures : l.reader.failures ≡ l.fn.reader.failures;
-  read : HasTakenOfRead g.R.Read.remaining g.T.Taker.limit g.T.Taker.content l.fn.reader l.reader l.fn.taker l.taker l.lines l.splitter.waiting;
+  read : HasTakenOfRead g.R.Read.remaining g.T.Taker.limit g.T.Taker.content g.T.Taker.follows l.fn.reader l.reader l.fn.taker l.taker l.lines l.splitter.waiting;
 }
 
 abbrev pub decreases-reads : goal.decreases-reads
