@@ -1,5 +1,5 @@
 -- Written operations behind a log, and before the end of an exchange.
-use Rattle.std.proofs.Common.{◌≡◌, ◌≢◌, ℕ, ◌<◌, ◌^◌, List, [], ◌∷◌, ◌++◌, map, length, Ok, refl, sym, ap, ◌∙◌, subst, append-nil, inl}
+use Rattle.std.proofs.Common.{◌≡◌, ◌≢◌, ℕ, ◌<◌, ◌≤◌, lit≤, ◌^◌, List, [], ◌∷◌, ◌++◌, map, length, Ok, refl, sym, ap, ◌∙◌, subst, append-nil}
 use Rattle.std.specs.Prelude.{All}
 use Rattle.std.specs.List.{AllByRecursion}
 use Rattle.std.proofs.lemmas.List.Elements.{All-nil, All-cons}
@@ -12,6 +12,7 @@ use Rattle.rga_ops.proofs.OperationLaws.{Contains-first, Contains-later, content
 use Rattle.rga_ops.proofs.OperationsLaws.{operations_hold}
 use Rattle.rga_ops.proofs.AgreeLaws.{agree_swap, agree_nothing}
 use Rattle.rga_ops.proofs.ListAnswerLaws.{joinable_append}
+use Rattle.rga_lines.specs.declared.reading.TheConstants.{MAX_LINE}
 use Rattle.rga_lines.specs.Table.{line_at}
 use Rattle.rga_lines.specs.Log.{then_operations, operations_of, stream_operations, log_operations, IsOperation}
 use Rattle.rga_lines.specs.Spelling.{line, end_line}
@@ -25,19 +26,19 @@ use Rattle.rga_exchange.proofs.TakingLaws.{operations_of-append}
 
 -- ---- lines that are operations
 
-are_operations-append : (xs ys : List (List ℕ)) → AllByRecursion IsOperation xs → AllByRecursion IsOperation ys → AllByRecursion IsOperation (xs ++ ys)
+pub are_operations-append : (xs ys : List (List ℕ)) → AllByRecursion IsOperation xs → AllByRecursion IsOperation ys → AllByRecursion IsOperation (xs ++ ys)
 are_operations-append [] ys all more = more
 are_operations-append (x ∷ xs) ys all more = (all.0, are_operations-append xs ys all.1 more)
 
 -- ---- written lines
 
-later_writable : (op : Op) (ops : List Op) → AreWritable (op ∷ ops) → AreWritable ops
+pub later_writable : (op : Op) (ops : List Op) → AreWritable (op ∷ ops) → AreWritable ops
 later_writable op ops writable o m = writable o (Contains-later op o ops m)
 
-later_well_formed : (op : Op) (ops : List Op) → AreWellFormed (op ∷ ops) → AreWellFormed ops
+pub later_well_formed : (op : Op) (ops : List Op) → AreWellFormed (op ∷ ops) → AreWellFormed ops
 later_well_formed op ops well o m = well o (Contains-later op o ops m)
 
-first_back : (op : Op) (ops : List Op) → AreWritable (op ∷ ops) → AreWellFormed (op ∷ ops) → line_at (line op) ≡ Ok op
+pub first_back : (op : Op) (ops : List Op) → AreWritable (op ∷ ops) → AreWellFormed (op ∷ ops) → line_at (line op) ≡ Ok op
 first_back op ops writable well = operation_back op (writable op (Contains-first op ops)) (well op (Contains-first op ops))
 
 pub are_operations-written : (ops : List Op) → AreWritable ops → AreWellFormed ops → AllByRecursion IsOperation (map line ops)
@@ -84,7 +85,7 @@ rest_appended bytes ops ended writable =
     ∙ sym (log_cut ops writable).1
 
 -- where no rest is left the operations of a log are those of its lines
-operations_ended : (bytes : List ℕ) → rest_of bytes ≡ [] → AllByRecursion IsOperation (lines_of bytes) → log_operations bytes ≡ operations_of (lines_of bytes)
+pub operations_ended : (bytes : List ℕ) → rest_of bytes ≡ [] → AllByRecursion IsOperation (lines_of bytes) → log_operations bytes ≡ operations_of (lines_of bytes)
 operations_ended bytes ended all =
     operations_of-append (lines_of bytes) (rest_of bytes ∷ []) all
     ∙ ap (λ (rest : List ℕ). operations_of (lines_of bytes) ++ operations_of (rest ∷ [])) ended
@@ -103,7 +104,7 @@ operations_appended bytes ops all ended writable well =
     ∙ (λ k. sym (operations_ended bytes ended all) k ++ operations_of-written ops writable well k)
 
 -- operations that agree, and further ones that can be joined to their content, agree
-agreed_append : (xs ys : List Op) → IsAgreed xs → IsJoinable (content_of xs) ys → IsAgreed (xs ++ ys)
+pub agreed_append : (xs ys : List Op) → IsAgreed xs → IsJoinable (content_of xs) ys → IsAgreed (xs ++ ys)
 agreed_append xs ys agreed joinable =
     ((joinable_append nothing xs ys).1 (
       record { agreed = agreed; agree = agree_swap (content_of xs) nothing (agree_nothing (content_of xs)) },
@@ -112,10 +113,11 @@ agreed_append xs ys agreed joinable =
 
 pub stands_appended : (bytes : List ℕ) (c : Content) (ops : List Op) → StandsFor bytes c → rest_of bytes ≡ [] → AreWritable ops → AreWellFormed ops → IsJoinable c ops → StandsFor (bytes ++ log_text ops) (join c (content_of ops))
 stands_appended bytes c ops stands ended writable well joinable =
-    let all : AllByRecursion IsOperation (lines_of bytes) = stands.only.lines in
+    let all : AllByRecursion IsOperation (lines_of bytes) = stands.lines in
     let both : log_operations (bytes ++ log_text ops) ≡ log_operations bytes ++ ops = operations_appended bytes ops all ended writable well in
     record {
-      only = record { lines = only_appended bytes ops all ended writable well; rest = inl (rest_appended bytes ops ended writable) };
+      lines = only_appended bytes ops all ended writable well;
+      short = subst (λ (rest : List ℕ). length rest ≤ MAX_LINE) (sym (rest_appended bytes ops ended writable)) (lit≤ tt);
       agreed = subst IsAgreed (sym both) (agreed_append (log_operations bytes) ops stands.agreed (subst (λ d. IsJoinable d ops) stands.content joinable));
       content = ap (λ d. join d (content_of ops)) stands.content ∙ sym (content_of-append (log_operations bytes) ops) ∙ ap content_of (sym both);
     }

@@ -8,3 +8,5 @@ pub mod StopLaws
 pub mod LogLaws
 pub mod MeetingLaws
 pub mod WritableLaws
+pub mod BegunLogLaws
+pub mod FirstLinesLemmas

@@ -1,11 +1,11 @@
 -- Logs that are read to their end, in words.
-use Rattle.std.proofs.Common.{◌≡◌, ℕ, ◌+◌, ◌≤◌, Bool, true, false, cond, nat_lt, List, [], ◌∷◌, ◌++◌, length, Result, Ok, Err, refl, sym, ap, subst, ◌∙◌, arith, inl, inr}
+use Rattle.std.proofs.Common.{◌≡◌, ℕ, ◌+◌, ◌≤◌, Bool, true, false, cond, nat_lt, List, [], ◌∷◌, ◌++◌, length, Result, Ok, Err, refl, sym, ap, subst, ◌∙◌, arith, inl, inr, lit≤}
 use Rattle.std.specs.Prelude.{◌⊎◌, Contains}
 use Rattle.std.specs.List.{AllByRecursion}
 use Rattle.std.specs.FinSet as finite_set
-use Rattle.std.proofs.lemmas.Bool.{ltb-true}
+use Rattle.std.proofs.lemmas.Bool.{ltb-true, cases_lt}
 use Rattle.rga_ops.specs.Operation.{checked}
-use Rattle.rga_ops.specs.Content.{Content, join, content_of, known_ids}
+use Rattle.rga_ops.specs.Content.{Content, Agree, join, content_of, known_ids}
 use Rattle.rga_ops.specs.Answer.{taken, and_take, taken_one_by_one}
 use Rattle.rga_ops.specs.ListAnswer.{IsJoinable}
 use Rattle.rga_ops.specs.declared.op.Op.{Op}
@@ -18,6 +18,7 @@ use Rattle.rga_lines.specs.Table.{Reading, line_at}
 use Rattle.rga_lines.specs.declared.reading.TheConstants.{MAX_LINE}
 use Rattle.rga_lines.specs.Stream.{lines_of, rest_of}
 use Rattle.rga_lines.specs.Log.{operations_of, then_operations, log_operations, IsOperation, HasOnlyOperations}
+use Rattle.rga_lines.specs.declared.fault.LineFault.{LineFault}
 use Rattle.rga_lines.specs.declared.fault.LineFault.TheVariants as line_fault
 use Rattle.rga_lines.proofs.ReadingLemmas.{well_formed}
 use Rattle.rga_lines.proofs.SplitterLemmas.{long_line, no_line}
@@ -27,6 +28,7 @@ use Rattle.rga_exchange.specs.declared.log.LogEnd.TheVariants.{Whole, Bare, Torn
 use Rattle.rga_exchange.specs.declared.log.LogRead.{LogRead}
 use Rattle.rga_exchange.specs.Taking.{AllTaken, AtFault, progress, stop_at_rest}
 use Rattle.rga_exchange.specs.Log.{LogOutcome, end_outcome, after_bare_operation, after_bare_line, after_rest, after_stop, after_lines, log_outcome}
+use Rattle.rga_exchange.specs.Sending.{StandsFor}
 use Rattle.rga_exchange.specs.Stops.{HasNothingTorn}
 use Rattle.rga_exchange.proofs.TakingLaws.{are_taken}
 use Rattle.rga_exchange.proofs.OperationLaws.{is_read_to_end, no_fault, is_read, log_taken}
@@ -108,43 +110,88 @@ parts_taken limit c d (line ∷ lines) others all h =
       later.2,
     )
 
--- a rest that is an operation, or none, ends a log with nothing torn off
-rest_read : (limit n : ℕ) (c d : Content) (rest : List ℕ) → (rest ≡ []) ⊎ IsOperation rest → taken_one_by_one limit c (operations_of (rest ∷ [])) ≡ Ok d → (read : LogRead) × (after_rest limit n c rest ≡ (d, Ok read)) × HasNothingTorn read.end
-rest_read limit n c d [] one h =
+-- a rest that is not empty and no operation
+none_torn : (b : ℕ) (bytes : List ℕ) (e : LineFault) → line_at (b ∷ bytes) ≡ Err e → (b ∷ bytes ≡ []) ⊎ IsOperation (b ∷ bytes) → ⊥
+none_torn b bytes e says (inl none) = absurd cc
+none_torn b bytes e says (inr (op, reads)) =
+    let clash : no_operation e ≡ operation op = sym says ∙ reads in
+    absurd cc
+
+-- The rest ends a log. With one that is an operation, or none, nothing is torn off.
+rest_read : (limit n : ℕ) (c d : Content) (rest : List ℕ) → taken_one_by_one limit c (operations_of (rest ∷ [])) ≡ Ok d → (read : LogRead) × (after_rest limit n c rest ≡ (d, Ok read)) × ((rest ≡ []) ⊎ IsOperation rest → HasNothingTorn read.end)
+rest_read limit n c d [] h =
     let same : took c ≡ took d = sym (ap (λ r. taken_one_by_one limit c (then_operations r [])) no_line) ∙ h in
     let is : c ≡ d = cc in
-    (record { lines = n; end = Whole }, ap (λ e. end_outcome n e Whole) is, tt)
-rest_read limit n c d (b ∷ bytes) (inl none) h = absurd cc
-rest_read limit n c d (b ∷ bytes) (inr (op, says)) h =
-    let w = took_first limit c d op [] (sym (ap (λ r. taken_one_by_one limit c (then_operations r [])) says) ∙ h) in
-    let same : took w.0 ≡ took d = w.2 in
-    let is : w.0 ≡ d = cc in (
-      record { lines = n; end = Bare },
-      ap (after_bare_line limit n c (length (b ∷ bytes))) says ∙ ap (after_bare_operation n c) w.1 ∙ ap (λ e. end_outcome n e Bare) is,
-      tt,
-    )
-
--- such a rest is not too long
-rest_is_short : (rest : List ℕ) → (rest ≡ []) ⊎ IsOperation rest → nat_lt MAX_LINE (length rest) ≡ false
-rest_is_short rest one = by_size (nat_lt MAX_LINE (length rest)) refl one
+    (record { lines = n; end = Whole }, ap (λ e. end_outcome n e Whole) is, λ _. tt)
+rest_read limit n c d (b ∷ bytes) h = by_reading (line_at (b ∷ bytes)) refl
   where
-    by_size : (long : Bool) → nat_lt MAX_LINE (length rest) ≡ long → (rest ≡ []) ⊎ IsOperation rest → long ≡ false
-    by_size false size one = refl
-    by_size true size (inl none) = let short : nat_lt MAX_LINE (length rest) ≡ false = ap (λ (r : List ℕ). nat_lt MAX_LINE (length r)) none in absurd cc
-    by_size true size (inr (op, says)) =
-        let clash : no_operation line_fault.Long ≡ operation op = sym (long_line rest (ltb-true MAX_LINE (length rest) size)) ∙ says in
-        absurd cc
+    by_reading : (r : Reading) → line_at (b ∷ bytes) ≡ r → (read : LogRead) × (after_rest limit n c (b ∷ bytes) ≡ (d, Ok read)) × ((b ∷ bytes ≡ []) ⊎ IsOperation (b ∷ bytes) → HasNothingTorn read.end)
+    by_reading (Ok op) says =
+        let w = took_first limit c d op [] (sym (ap (λ r. taken_one_by_one limit c (then_operations r [])) says) ∙ h) in
+        let same : took w.0 ≡ took d = w.2 in
+        let is : w.0 ≡ d = cc in (
+          record { lines = n; end = Bare },
+          ap (after_bare_line limit n c (length (b ∷ bytes))) says ∙ ap (after_bare_operation n c) w.1 ∙ ap (λ e. end_outcome n e Bare) is,
+          λ _. tt,
+        )
+    by_reading (Err e) says =
+        let same : took c ≡ took d = sym (ap (λ r. taken_one_by_one limit c (then_operations r [])) says) ∙ h in
+        let is : c ≡ d = cc in
+        let end : LogEnd = Torn (length (b ∷ bytes)) in (
+          record { lines = n; end = end },
+          ap (after_bare_line limit n c (length (b ∷ bytes))) says ∙ ap (λ e. end_outcome n e end) is,
+          λ one. absurd (none_torn b bytes e says one),
+        )
 
-pub log_without_fault : (limit : ℕ) (c : Content) (bytes : List ℕ) → HasOnlyOperations bytes → IsJoinable c (log_operations bytes) → finite_set.len (known_ids (join c (content_of (log_operations bytes)))) ≤ limit → (read : LogRead) × (log_outcome limit c bytes ≡ (join c (content_of (log_operations bytes)), Ok read)) × HasNothingTorn read.end
-log_without_fault limit c bytes only joinable fits =
+-- a rest that is an operation, or none, is not too long
+rest_is_short : (rest : List ℕ) → (rest ≡ []) ⊎ IsOperation rest → length rest ≤ MAX_LINE
+rest_is_short rest (inl none) = subst (λ (r : List ℕ). length r ≤ MAX_LINE) (sym none) (lit≤ tt)
+rest_is_short rest (inr (op, says)) = elim (cases_lt MAX_LINE (length rest)) [
+  | inl long ↦
+      let clash : no_operation line_fault.Long ≡ operation op = sym (long_line rest long) ∙ says in
+      absurd cc
+  | inr short ↦ short
+]
+
+not_long : (rest : List ℕ) → length rest ≤ MAX_LINE → nat_lt MAX_LINE (length rest) ≡ false
+not_long rest short = by_size (nat_lt MAX_LINE (length rest)) refl
+  where
+    by_size : (long : Bool) → nat_lt MAX_LINE (length rest) ≡ long → long ≡ false
+    by_size false size = refl
+    by_size true size = absurd (omega (arith, short, ltb-true MAX_LINE (length rest) size))
+
+log_to_end : (limit : ℕ) (c : Content) (bytes : List ℕ) → AllByRecursion IsOperation (lines_of bytes) → length (rest_of bytes) ≤ MAX_LINE → IsJoinable c (log_operations bytes) → finite_set.len (known_ids (join c (content_of (log_operations bytes)))) ≤ limit → (read : LogRead) × (log_outcome limit c bytes ≡ (join c (content_of (log_operations bytes)), Ok read)) × ((rest_of bytes ≡ []) ⊎ IsOperation (rest_of bytes) → HasNothingTorn read.end)
+log_to_end limit c bytes operations short joinable fits =
     let rest : List ℕ = rest_of bytes in
     let lines : List (List ℕ) = lines_of bytes in
     let all = takeable_is_taken limit c (log_operations bytes) (record { well_formed = operations_well_formed (lines ++ rest ∷ []); joinable = joinable; fits = fits }) in
-    let parts = parts_taken limit c (join c (content_of (log_operations bytes))) lines (rest ∷ []) only.lines all in
-    let read = rest_read limit (0 + length lines) parts.0 (join c (content_of (log_operations bytes))) rest only.rest parts.2 in (
+    let parts = parts_taken limit c (join c (content_of (log_operations bytes))) lines (rest ∷ []) operations all in
+    let read = rest_read limit (0 + length lines) parts.0 (join c (content_of (log_operations bytes))) rest parts.2 in (
       read.0,
-      ap (λ t. after_lines limit rest (progress t.lines t.content (stop_at_rest t.lines rest t.stop))) (operations_are_taken limit 0 c parts.0 lines only.lines parts.1)
-          ∙ ap (λ long. after_stop limit rest (0 + length lines) parts.0 (cond long (AtFault (fault.Line (0 + length lines + 1) line_fault.Long)) AllTaken)) (rest_is_short rest only.rest)
+      ap (λ t. after_lines limit rest (progress t.lines t.content (stop_at_rest t.lines rest t.stop))) (operations_are_taken limit 0 c parts.0 lines operations parts.1)
+          ∙ ap (λ long. after_stop limit rest (0 + length lines) parts.0 (cond long (AtFault (fault.Line (0 + length lines + 1) line_fault.Long)) AllTaken)) (not_long rest short)
           ∙ read.1,
       read.2,
     )
+
+pub log_without_fault : (limit : ℕ) (c : Content) (bytes : List ℕ) → HasOnlyOperations bytes → IsJoinable c (log_operations bytes) → finite_set.len (known_ids (join c (content_of (log_operations bytes)))) ≤ limit → (read : LogRead) × (log_outcome limit c bytes ≡ (join c (content_of (log_operations bytes)), Ok read)) × HasNothingTorn read.end
+log_without_fault limit c bytes only joinable fits =
+    let read = log_to_end limit c bytes only.lines (rest_is_short (rest_of bytes) only.rest) joinable fits in
+    (read.0, read.1, read.2 only.rest)
+
+-- ---- what a log stands for, whatever its rest
+
+pub log_stands : (limit : ℕ) (c d : Content) (read : LogRead) (bytes : List ℕ) → finite_set.len (known_ids c) ≤ limit → log_outcome limit c bytes ≡ (d, Ok read) → StandsFor bytes (content_of (log_operations bytes))
+log_stands limit c d read bytes within h =
+    let w = is_read limit c d read bytes h in
+    record {
+      lines = (are_taken limit 0 w.lines c w.content (lines_of bytes) w.taken).operations;
+      short = w.short;
+      agreed = (log_joinable limit c d read bytes within h).0.agreed;
+      content = refl;
+    }
+
+pub log_that_stands : (limit : ℕ) (c d : Content) (bytes : List ℕ) → StandsFor bytes d → Agree c d → finite_set.len (known_ids (join c d)) ≤ limit → (read : LogRead) × (log_outcome limit c bytes ≡ (join c d, Ok read))
+log_that_stands limit c d bytes stands agree fits =
+    let read = log_to_end limit c bytes stands.lines stands.short (record { agreed = stands.agreed; agree = subst (Agree c) stands.content agree }) (subst (λ e. finite_set.len (known_ids (join c e)) ≤ limit) stands.content fits) in
+    (read.0, subst (λ e. log_outcome limit c bytes ≡ (join c e, Ok read.0)) (sym stands.content) read.1)

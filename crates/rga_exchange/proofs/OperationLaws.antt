@@ -1,6 +1,7 @@
 -- What was taken of a stream or a log, as operations.
-use Rattle.std.proofs.Common.{◌≡◌, ℕ, ◌+◌, Bool, true, false, cond, List, [], ◌∷◌, ◌++◌, length, Option, Some, None, Result, Ok, Err, refl, sym, ap, ◌∙◌, arith, nat_lt}
+use Rattle.std.proofs.Common.{◌≡◌, ℕ, ◌+◌, ◌≤◌, Bool, true, false, cond, List, [], ◌∷◌, ◌++◌, length, Option, Some, None, Result, Ok, Err, refl, sym, ap, ◌∙◌, arith, nat_lt}
 use Rattle.std.specs.Prelude.{IfSome}
+use Rattle.std.proofs.lemmas.Bool.{ltb-false}
 use Rattle.rga_ops.specs.Content.{Content, join, content_of}
 use Rattle.rga_ops.specs.Answer.{taken, and_take, taken_one_by_one}
 use Rattle.rga_ops.specs.declared.op.Op.{Op}
@@ -122,6 +123,7 @@ pub record IsRead (limit : ℕ) (c d : Content) (read : LogRead) (bytes : List �
   pub content : Content
   pub taken : lines_taken limit 0 c (lines_of bytes) ≡ progress lines content AllTaken
   pub rest : after_rest limit lines content (rest_of bytes) ≡ (d, Ok read)
+  pub short : length (rest_of bytes) ≤ MAX_LINE
 
 pub is_read : (limit : ℕ) (c d : Content) (read : LogRead) (bytes : List ℕ) → log_outcome limit c bytes ≡ (d, Ok read) → IsRead limit c d read bytes
 is_read limit c d read bytes h = by_stop t.stop refl h
@@ -129,12 +131,12 @@ is_read limit c d read bytes h = by_stop t.stop refl h
     t : Progress
     t = lines_taken limit 0 c (lines_of bytes)
 
-    by_size : (long : Bool) → t.stop ≡ AllTaken → after_stop limit (rest_of bytes) t.lines t.content (cond long (AtFault (fault.Line (t.lines + 1) line_fault.Long)) AllTaken) ≡ (d, Ok read) → IsRead limit c d read bytes
-    by_size true is g = absurd (no_fault (fault.Line (t.lines + 1) line_fault.Long) read g)
-    by_size false is g = record { lines = t.lines; content = t.content; taken = ap (progress t.lines t.content) is; rest = g }
+    by_size : (long : Bool) → nat_lt MAX_LINE (length (rest_of bytes)) ≡ long → t.stop ≡ AllTaken → after_stop limit (rest_of bytes) t.lines t.content (cond long (AtFault (fault.Line (t.lines + 1) line_fault.Long)) AllTaken) ≡ (d, Ok read) → IsRead limit c d read bytes
+    by_size true size is g = absurd (no_fault (fault.Line (t.lines + 1) line_fault.Long) read g)
+    by_size false size is g = record { lines = t.lines; content = t.content; taken = ap (progress t.lines t.content) is; rest = g; short = ltb-false MAX_LINE (length (rest_of bytes)) size }
 
     by_stop : (stop : Stop) → t.stop ≡ stop → after_stop limit (rest_of bytes) t.lines t.content (stop_at_rest t.lines (rest_of bytes) stop) ≡ (d, Ok read) → IsRead limit c d read bytes
-    by_stop AllTaken is g = by_size (nat_lt MAX_LINE (length (rest_of bytes))) is g
+    by_stop AllTaken is g = by_size (nat_lt MAX_LINE (length (rest_of bytes))) refl is g
     by_stop (AtEnd number) is g = absurd (no_fault (fault.Line (t.lines + 1) line_fault.Kind) read g)
     by_stop (AtFault e) is g = absurd (no_fault e read g)
 

@@ -1,11 +1,15 @@
 -- Operations as the lines of a log, and of an exchange.
-use Rattle.std.specs.Prelude.{◌≡◌, ℕ, List, [], ◌∷◌, ◌++◌, map, length, Contains}
-use Rattle.rga_ops.specs.Content.{Content, content_of, IsAgreed}
+use Rattle.std.specs.Prelude.{◌≡◌, ◌≤◌, ℕ, List, [], ◌∷◌, ◌++◌, map, length, take, Option, Contains}
+use Rattle.std.specs.List.{AllByRecursion}
+use Rattle.rga_ops.specs.Content.{Content, join, content_of, IsAgreed}
+use Rattle.rga_ops.specs.ListAnswer.{AreWellFormed, IsJoinable}
 use Rattle.rga_ops.specs.Operations.{operations}
 use Rattle.rga_ops.specs.declared.op.Op.{Op}
-use Rattle.rga_lines.specs.Log.{log_operations, HasOnlyOperations}
+use Rattle.rga_lines.specs.declared.reading.TheConstants.{MAX_LINE}
+use Rattle.rga_lines.specs.Counting.{Calls, Writes, WritesFront}
+use Rattle.rga_lines.specs.Log.{log_operations, IsOperation}
 use Rattle.rga_lines.specs.Spelling.{line, end_line, IsWritable}
-use Rattle.rga_lines.specs.Stream.{bytes_of_lines}
+use Rattle.rga_lines.specs.Stream.{bytes_of_lines, lines_of, rest_of}
 
 -- the lines of operations, each with its newline
 abbrev pub log_text : List Op → List ℕ
@@ -23,8 +27,33 @@ stream_text c = bytes_of_lines (exchange_lines (operations c))
 abbrev pub AreWritable : List Op → Type 0
 AreWritable ops = (op : Op) → Contains ops op → IsWritable op
 
--- a log whose lines all are operations that agree stands for the content of its operations
+-- A log whose lines all are operations stands for the content of its operations, where these agree. Its rest may be
+-- anything that is not too long: it counts where it is an operation, and else was cut off.
 pub record StandsFor (bytes : List ℕ) (c : Content) : Type 0 where
-  pub only : HasOnlyOperations bytes
+  pub lines : AllByRecursion IsOperation (lines_of bytes)
+  pub short : length (rest_of bytes) ≤ MAX_LINE
   pub agreed : IsAgreed (log_operations bytes)
   pub content : c ≡ content_of (log_operations bytes)
+
+-- With this behind it a log has the first so many of the operations behind its own, and stands for its content joined
+-- with theirs.
+pub record GainsFirst (bytes front : List ℕ) (c : Content) (ops : List Op) : Type 0 where
+  pub count : ℕ
+  pub within : count ≤ length ops
+  pub operations : log_operations (bytes ++ front) ≡ log_operations bytes ++ take count ops
+  pub stands : StandsFor (bytes ++ front) (join c (content_of (take count ops)))
+
+module _ {W : Type 0} (contents : W → Option (List ℕ)) (old new : Calls W) where
+  -- Known bytes grew by these, with which a log that is empty or ends in a newline gains the first of the operations.
+  pub record AppendsFirst (ops : List Op) : Type 0 where
+    pub front : List ℕ
+    pub written : Writes contents old new front
+    pub gained : (bytes : List ℕ) (c : Content) → StandsFor bytes c → rest_of bytes ≡ [] → AreWellFormed ops → IsJoinable c ops → GainsFirst bytes front c ops
+
+  -- Known bytes grew by a beginning of some bytes and the lines of the first so many of the operations. Each of these
+  -- can be written, where all are well-formed.
+  pub record WritesFirst (bytes : List ℕ) (ops : List Op) : Type 0 where
+    pub count : ℕ
+    pub within : count ≤ length ops
+    pub writable : AreWellFormed ops → AreWritable (take count ops)
+    pub begun : WritesFront contents old new (bytes ++ log_text (take count ops))

@@ -6,7 +6,8 @@ ghost use Rattle.rga_ops.specs.Operations.{operations};
 ghost use Rattle.rga_ops.specs.declared.op.Op.{Op as Operation};
 ghost use Rattle.rga_lines.specs.Log.{stream_operations, log_operations, HasOnlyOperations};
 ghost use Rattle.rga_lines.specs.Stream.{newline, lines_of, rest_of};
-ghost use Rattle.rga_exchange.specs.Sending.{log_text, exchange_lines, stream_text, AreWritable, StandsFor};
+ghost use Rattle.rga_exchange.specs.Sending.{log_text, exchange_lines, stream_text};
+ghost use Rattle.rga_exchange.specs.Sending.{AreWritable, StandsFor, GainsFirst};
 ghost use Rattle.rga_exchange.specs.Taking.{Stop, progress, lines_taken, stream_taken};
 ghost use Rattle.rga_exchange.specs.Log.{log_outcome};
 ghost use Rattle.rga_exchange.specs.Receiving.{exchange_outcome};
@@ -27,6 +28,16 @@ pub fn appended_lines_are_joined()
     // No rest is left of no bytes, and of bytes that end in a newline.
     ensures empty { rest_of [] ≡ [] }
     ensures newline { (front : List ℕ) → rest_of (front ++ newline ∷ []) ≡ [] }
+{}
+
+/// Where a log is empty or ends in a newline and stands for a content, and behind it is written a
+/// beginning, however short, of the lines of operations as in `appended_lines_are_joined`, it has
+/// the first so many of them behind its own, and stands for the content joined with them. So a log
+/// that is cut off there loses no whole operation; the last one counts without its newline too.
+pub fn cut_logs_stand_for_their_first_operations()
+    ensures { (bytes : List ℕ) (c : Content) (ops : List Operation) (front rest : List ℕ)
+        → StandsFor bytes c → rest_of bytes ≡ [] → AreWritable ops → AreWellFormed ops
+        → IsJoinable c ops → front ++ rest ≡ log_text ops → GainsFirst bytes front c ops }
 {}
 
 /// What is sent of a content is cut into the lines that were written, with nothing behind them; the
@@ -64,7 +75,8 @@ pub fn streams_in_words()
 /// A log is read to its end with nothing torn off exactly where each line is an operation, the rest
 /// is one or is empty, the operations agree with one another and with what is held, and all
 /// together know no more identifiers than the limit. What is held is then joined with their
-/// content. Where a line was torn off, that holds of the lines before it.
+/// content. Where a line was torn off, all that holds of the lines before it: the log stands for
+/// the content of their operations, and what is held is joined with that.
 pub fn logs_stand_for_their_operations()
     ensures joined { (limit : ℕ) (c d : Content) (read : LogRead) (bytes : List ℕ)
         → log_outcome limit c bytes ≡ (d, Ok read)
@@ -83,4 +95,13 @@ pub fn logs_stand_for_their_operations()
         → known_count (join c (content_of (log_operations bytes))) ≤ limit
         → (read : LogRead) × (log_outcome limit c bytes
         ≡ (join c (content_of (log_operations bytes)), Ok read)) × HasNothingTorn read.end }
+
+    // Whatever the rest: a log that is read to its end stands for the content of its operations,
+    // and one that stands for a content is read to its end.
+    ensures stands { (limit : ℕ) (c d : Content) (read : LogRead) (bytes : List ℕ)
+        → known_count c ≤ limit → log_outcome limit c bytes ≡ (d, Ok read)
+        → StandsFor bytes (content_of (log_operations bytes)) }
+    ensures read { (limit : ℕ) (c d : Content) (bytes : List ℕ) → StandsFor bytes d
+        → Agree c d → known_count (join c d) ≤ limit
+        → (read : LogRead) × (log_outcome limit c bytes ≡ (join c d, Ok read)) }
 {}

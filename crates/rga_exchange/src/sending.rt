@@ -6,6 +6,7 @@ ghost use Rattle.rga_lines.specs.Counting.{CountsAs, Writes, WritesFront, Writes
 ghost use Rattle.rga_lines.specs.Spelling.{line as line_of, IsWritable};
 ghost use Rattle.rga_lines.specs.Stream.{newline, rest_of};
 ghost use Rattle.rga_exchange.specs.Sending.{log_text, stream_text, AreWritable, StandsFor};
+ghost use Rattle.rga_exchange.specs.Sending.{AppendsFirst, WritesFirst};
 ghost use Rattle.rga_exchange.specs.Receiving.{exchange_outcome};
 
 use crate::block::Block;
@@ -73,6 +74,9 @@ pub fn append_log<W: Write>(
         → rest_of bytes ≡ [] → AreWellFormed ops.now → IsJoinable c ops.now
         → StandsFor (bytes ++ log_text ops.now) (join c (content_of ops.now))) }
     ensures begun { WritesFront W.contents writer.old writer.new (log_text ops.now) }
+    // Whatever is answered, such a log, with what was written behind it, stands for that content
+    // joined with the first so many of the operations.
+    ensures gained { AppendsFirst W.contents writer.old writer.new ops.now }
     ensures device { CountsAs SendFault.Write result writer.old writer.new }
 {
     let mut block = Block::new(alloc)?;
@@ -92,6 +96,7 @@ fn push_lines<W: Write>(
         (block.old ++ log_text ops.now) block.new) }
     ensures writable { OnOk result (AreWellFormed ops.now → AreWritable ops.now) }
     ensures begun { WritesFront W.contents writer.old writer.new (block.old ++ log_text ops.now) }
+    ensures first { WritesFirst W.contents writer.old writer.new block.old ops.now }
     ensures device { CountsAs SendFault.Write result writer.old writer.new }
 {
     for op in ops {

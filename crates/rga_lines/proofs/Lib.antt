@@ -10,3 +10,4 @@ pub mod MembersLemmas
 pub mod PartsLemmas
 pub mod NewlineLemmas
 pub mod WritableLemmas
+pub mod BeginningLemmas

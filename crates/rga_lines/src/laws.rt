@@ -1,6 +1,6 @@
 //! Laws over the definitions of `specs/` alone. Each is the contract of a function that does
 //! nothing.
-ghost use Rattle.std.specs.Prelude.{◌≡◌, ℕ, ◌<◌, ◌^◌, ◌++◌, [], List, true, false, Ok, Err};
+ghost use Rattle.std.specs.Prelude.{◌≡◌, ℕ, ◌<◌, ◌^◌, ◌++◌, [], ◌∷◌, List, true, false, Ok, Err};
 ghost use Rattle.rga_ops.specs.Operation.{checked};
 ghost use Rattle.rga_ops.specs.declared.op.Op.{Op};
 ghost use Rattle.rga_lines.specs.Table.{any_line_at, line_at};
@@ -8,6 +8,7 @@ ghost use Rattle.rga_lines.specs.Spelling.{line, end_line, IsWritable};
 ghost use Rattle.rga_lines.specs.Stream.{HasNoNewline, lines_of, rest_of, IsCut, BeginsLong};
 ghost use Rattle.rga_lines.specs.Stream.{Call, holds, after_calls, lines_given, bytes_fed};
 ghost use Rattle.rga_lines.specs.declared.reading.Line.TheVariants.{One, Last};
+ghost use Rattle.rga_lines.specs.declared.fault.LineFault.{LineFault};
 ghost use Rattle.rga_lines.specs.declared.fault.LineFault.TheVariants.{Kind};
 
 /// The operation that a line says is well-formed, where the line may also be the end of an
@@ -39,6 +40,13 @@ pub fn written_ends_read_back()
 pub fn written_lines_have_no_newline()
     ensures operation { (op : Op) → IsWritable op → HasNoNewline (line op) }
     ensures end { (operations : ℕ) → operations < 2 ^ 64 → HasNoNewline (end_line operations) }
+{}
+
+/// No proper beginning of an operation's line is an operation or the end of an exchange.
+pub fn beginnings_of_lines_are_none()
+    ensures { (op : Op) (front : List ℕ) (b : ℕ) (back : List ℕ)
+        → IsWritable op → line op ≡ front ++ b ∷ back
+        → (e : LineFault) × (any_line_at front ≡ Err e) }
 {}
 
 /// A stream is cut into lines and a rest in one way.

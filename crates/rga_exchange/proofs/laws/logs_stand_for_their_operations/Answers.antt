@@ -1,5 +1,5 @@
 use Rattle.rga_exchange.proofs.OperationLaws.{log_joined}
-use Rattle.rga_exchange.proofs.LogLaws.{log_joinable, log_lines, log_only_operations, log_without_fault}
+use Rattle.rga_exchange.proofs.LogLaws.{log_joinable, log_lines, log_only_operations, log_without_fault, log_stands, log_that_stands}
 use Rattle.rga_exchange.proofs.laws.logs_stand_for_their_operations.Goals as goal
 
 pub returns : goal.returns
@@ -9,4 +9,6 @@ returns c = record {
   lines = log_lines;
   operations = log_only_operations;
   without_fault = log_without_fault;
+  stands = log_stands;
+  read = log_that_stands;
 }

@@ -1,6 +1,7 @@
-use Rattle.std.proofs.Common.{◌∙◌, ap, true≢false}
+use Rattle.std.proofs.Common.{◌∙◌, ap, true≢false, arith}
 use Rattle.std.specs.Result.{is_ok}
 use Rattle.rga_exchange.proofs.BegunLemmas.{begun_part}
+use Rattle.rga_exchange.proofs.FirstLinesLemmas.{first_begun}
 use Rattle.rga_exchange.proofs.LogTextLemmas.{begun_line}
 use Rattle.rga_exchange.proofs.WritableLaws.{writable_next}
 use Rattle.rga_exchange.proofs.sending.push_lines.Goals as goal
@@ -14,3 +15,7 @@ loop-op-preserved g c = record {
 
 pub returns-in_err-push_line-clause-begun : goal.returns-in_err-push_line-clause-begun
 returns-in_err-push_line-clause-begun g c = begun_part _ _ _ _ _ _ _ c.loop-op.invariant.begun c.in_err-push_line.ensures.begun
+
+pub returns-in_err-push_line-clause-first : goal.returns-in_err-push_line-clause-first
+returns-in_err-push_line-clause-first g c =
+    first_begun _ _ _ _ _ _ c.args.ops.now c.loop-op.op-index (omega (arith, c.loop-op-test.true)) c.loop-op.invariant.writable c.loop-op.invariant.begun c.in_err-push_line.ensures.begun

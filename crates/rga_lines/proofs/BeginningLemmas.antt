@@ -1,0 +1,340 @@
+-- No proper beginning of the line of an operation is an operation: the bracket that closes its object is still missing.
+use Rattle.std.proofs.Common.{◌≡◌, ℕ, ◌<◌, ◌^◌, zero, suc, Bool, true, false, cond, ◌==◌, ◌-◌, take, nat_lt, if◌then◌else◌, List, [], ◌∷◌, ◌++◌, length, codes, decimal, Option, Some, None, option_map, option_and_then, Err, refl, sym, ap, ◌∙◌, subst, arith, append_assoc, length-append, drop, get_or}
+use Rattle.std.specs.Prelude.{⊤}
+use Rattle.std.specs.Str.{is_utf8}
+use Rattle.json.specs.Token.{Token, begin_object, end_object, begin_array, end_array, key, string, number, boolean, null, bad}
+use Rattle.json.specs.Word.{word, head, ends_word, literal, number_before, after_number}
+use Rattle.json.specs.Ascii as ascii
+use Rattle.json.specs.Text.{content, plain}
+use Rattle.json.specs.Lex.{Lexeme, token, comma, colon, string_token, Class, class, Mode, lex, lex_byte, between, in_string, Place, begins_colon, if_allowed, place_token, punctuate, tokens}
+use Rattle.json.specs.Json.{Json, Items, Members, Parse, parse_map, after_end_array, items_step, items, members, value_with, value, if_last}
+use Rattle.json.proofs.Printed.Decimals.{IsNumber-decimal}
+use Rattle.json.proofs.Printed.Numbers.{lex-number}
+use Rattle.json.proofs.Printed.Strings.{lex-escape}
+use Rattle.serde_json.specs.Data.{Data}
+use Rattle.serde_json.specs.Data as datum
+use Rattle.serde_json.specs.Read.{read, of_json, of_items, number_of, max_depth}
+use Rattle.serde_json.specs.Find.{as_object}
+use Rattle.rga_ops.specs.Identifier.{Identifier}
+use Rattle.rga_ops.specs.declared.op.Op.{Op}
+use Rattle.rga_ops.specs.declared.op.Op.TheVariants.{Insert, Delete}
+use Rattle.rga_lines.specs.declared.fault.LineFault.{LineFault}
+use Rattle.rga_lines.specs.declared.fault.LineFault.TheVariants as fault
+use Rattle.rga_lines.specs.Spelling.{escaped, pair_text, line, IsWritable}
+use Rattle.rga_lines.specs.declared.reading.TheConstants.{MAX_LINE}
+use Rattle.rga_lines.specs.Table.{value_line, text_line, any_line_at}
+use Rattle.rga_lines.proofs.SpellingLemmas.{escape-encode}
+use Rattle.rga_lines.proofs.ReadBack.{InBounds, within, in_bounds}
+
+-- ---- lexemes and tokens, none of which closes an object
+
+abbrev Stays : Token → Type 0
+Stays begin_object = Unit {0}
+Stays end_object = ⊥
+Stays begin_array = Unit {0}
+Stays end_array = Unit {0}
+Stays (key s) = Unit {0}
+Stays (string s) = Unit {0}
+Stays (number s) = Unit {0}
+Stays (boolean b) = Unit {0}
+Stays null = Unit {0}
+Stays bad = Unit {0}
+
+abbrev Open : List Token → Type 0
+Open [] = Unit {0}
+Open (t ∷ ts) = Stays t × Open ts
+
+abbrev StaysLexeme : Lexeme → Type 0
+StaysLexeme (token t) = Stays t
+StaysLexeme comma = Unit {0}
+StaysLexeme colon = Unit {0}
+
+abbrev OpenLexemes : List Lexeme → Type 0
+OpenLexemes [] = Unit {0}
+OpenLexemes (l ∷ ls) = StaysLexeme l × OpenLexemes ls
+
+string_stays : (o : Option (List ℕ)) → Stays (string_token o)
+string_stays None = tt
+string_stays (Some s) = tt
+
+word_stays : (t : List ℕ) → Stays (word t)
+unfolding word
+word_stays t = choose (head t == ascii.lower_t) (head t == ascii.lower_f) (head t == ascii.lower_n) _ _ _ _ (literal_stays ascii.true_text (boolean true) tt) (literal_stays ascii.false_text (boolean false) tt) (literal_stays ascii.null_text null tt) (of_number (after_number t))
+  where
+    one_or_bad : (b : Bool) (u : Token) → Stays u → Stays (cond b u bad)
+    one_or_bad true u h = h
+    one_or_bad false u h = tt
+
+    literal_stays : (name : List ℕ) (u : Token) → Stays u → Stays (literal name u t)
+    literal_stays name u h = one_or_bad _ u h
+
+    of_number : (o : Option (List ℕ)) → Stays (number_before t o)
+    of_number None = tt
+    of_number (Some rest) = one_or_bad (ends_word rest) (number (take (length t - length rest) t)) tt
+
+    choose : (a b c : Bool) (u v w x : Token) → Stays u → Stays v → Stays w → Stays x → Stays (cond a u (cond b v (cond c w x)))
+    choose true b c u v w x h i j k = h
+    choose false true c u v w x h i j k = i
+    choose false false true u v w x h i j k = j
+    choose false false false u v w x h i j k = k
+
+-- ---- a beginning of bytes that close nothing closes nothing
+
+byte_stays : (m : Mode) (c : Class) (x : ℕ) (xs ys : List ℕ) (j k : Mode → List Lexeme) → ((n : Mode) → OpenLexemes (j n) → OpenLexemes (k n)) → OpenLexemes (lex_byte m c x xs j) → OpenLexemes (lex_byte m c x ys k)
+byte_stays Mode.between Class.quote x xs ys j k on h = (string_stays (content plain ys), on _ h.1)
+byte_stays Mode.between Class.backslash x xs ys j k on h = (tt, on _ h.1)
+byte_stays Mode.between Class.operator x xs ys j k on h = (h.0, on _ h.1)
+byte_stays Mode.between Class.space x xs ys j k on h = on _ h
+byte_stays Mode.between Class.other x xs ys j k on h = (word_stays (x ∷ ys), on _ h.1)
+byte_stays Mode.in_word Class.quote x xs ys j k on h = on _ h
+byte_stays Mode.in_word Class.backslash x xs ys j k on h = on _ h
+byte_stays Mode.in_word Class.operator x xs ys j k on h = (h.0, on _ h.1)
+byte_stays Mode.in_word Class.space x xs ys j k on h = on _ h
+byte_stays Mode.in_word Class.other x xs ys j k on h = on _ h
+byte_stays Mode.in_string Class.quote x xs ys j k on h = on _ h
+byte_stays Mode.in_string Class.backslash x xs ys j k on h = on _ h
+byte_stays Mode.in_string Class.operator x xs ys j k on h = on _ h
+byte_stays Mode.in_string Class.space x xs ys j k on h = on _ h
+byte_stays Mode.in_string Class.other x xs ys j k on h = on _ h
+byte_stays Mode.in_escape c x xs ys j k on h = on _ h
+
+front_open : (m : Mode) (front back : List ℕ) → OpenLexemes (lex m (front ++ back)) → OpenLexemes (lex m front)
+unfolding lex
+front_open m [] back h = tt
+front_open m (x ∷ front) back h = byte_stays m (class x) x (front ++ back) front (λ next. lex next (front ++ back)) (λ next. lex next front) (λ next. front_open next front back) h
+
+-- ---- the tokens
+
+allowed : (b : Bool) (t : Token) (k : Place → List Token) (next : Place) → Stays t → ((p : Place) → Open (k p)) → Open (if_allowed b t k next)
+allowed true t k next h on = (h, on next)
+allowed false t k next h on = (tt, tt)
+
+placed : (p : Place) (t : Token) (colon_next : Bool) (k : Place → List Token) → Stays t → ((q : Place) → Open (k q)) → Open (place_token p t colon_next k)
+placed p begin_object c k h on = allowed _ _ k _ tt on
+placed p end_object c k h on = absurd h
+placed p begin_array c k h on = allowed _ _ k _ tt on
+placed p end_array c k h on = allowed _ _ k _ tt on
+placed p (key s) c k h on = (tt, tt)
+placed p (string s) true k h on = allowed _ _ k _ tt on
+placed p (string s) false k h on = allowed _ _ k _ tt on
+placed p (number s) c k h on = allowed _ _ k _ tt on
+placed p (boolean b) c k h on = allowed _ _ k _ tt on
+placed p null c k h on = allowed _ _ k _ tt on
+placed p bad c k h on = (tt, tt)
+
+punctuated : (p : Place) (ls : List Lexeme) → OpenLexemes ls → Open (punctuate p ls)
+unfolding punctuate
+punctuated Place.fresh [] h = tt
+punctuated Place.after_value [] h = tt
+punctuated Place.after_comma [] h = (tt, tt)
+punctuated Place.after_key [] h = (tt, tt)
+punctuated Place.fresh (token t ∷ ls) h = placed Place.fresh t (begins_colon ls) (λ next. punctuate next ls) h.0 (λ q. punctuated q ls h.1)
+punctuated Place.after_value (token t ∷ ls) h = placed Place.after_value t (begins_colon ls) (λ next. punctuate next ls) h.0 (λ q. punctuated q ls h.1)
+punctuated Place.after_comma (token t ∷ ls) h = placed Place.after_comma t (begins_colon ls) (λ next. punctuate next ls) h.0 (λ q. punctuated q ls h.1)
+punctuated Place.after_key (token t ∷ ls) h = placed Place.after_key t (begins_colon ls) (λ next. punctuate next ls) h.0 (λ q. punctuated q ls h.1)
+punctuated Place.fresh (comma ∷ ls) h = (tt, tt)
+punctuated Place.after_value (comma ∷ ls) h = punctuated Place.after_comma ls h.1
+punctuated Place.after_comma (comma ∷ ls) h = (tt, tt)
+punctuated Place.after_key (comma ∷ ls) h = (tt, tt)
+punctuated Place.fresh (colon ∷ ls) h = (tt, tt)
+punctuated Place.after_value (colon ∷ ls) h = (tt, tt)
+punctuated Place.after_comma (colon ∷ ls) h = (tt, tt)
+punctuated Place.after_key (colon ∷ ls) h = punctuated Place.fresh ls h.1
+
+-- ---- the value
+
+abbrev NoObject : Json → Type 0
+NoObject Json.null = Unit {0}
+NoObject (Json.boolean b) = Unit {0}
+NoObject (Json.number s) = Unit {0}
+NoObject (Json.string s) = Unit {0}
+NoObject (Json.array js) = Unit {0}
+NoObject (Json.object ms) = ⊥
+
+-- what is left behind what was read closes no object either
+abbrev Leaves : {A : Type 0} → Option (A × List Token) → Type 0
+Leaves None = ⊤
+Leaves (Some p) = Open p.1
+
+abbrev Reads : Option (Json × List Token) → Type 0
+Reads None = ⊤
+Reads (Some p) = NoObject p.0 × Open p.1
+
+abbrev ReadsOpen : Parse Json → Type 0
+ReadsOpen value = (ts : List Token) → Open ts → Reads (value ts)
+
+leaves_map : {A B : Type 0} (f : A → B) (o : Option (A × List Token)) → Leaves o → Leaves (parse_map f o)
+leaves_map f None h = tt
+leaves_map f (Some p) h = h
+
+end_leaves : (ts : List Token) → Open ts → (rest : List Token) → after_end_array ts ≡ Some rest → Open rest
+end_leaves [] h rest e = absurd cc
+end_leaves (begin_object ∷ ts) h rest e = absurd cc
+end_leaves (end_object ∷ ts) h rest e = absurd cc
+end_leaves (begin_array ∷ ts) h rest e = absurd cc
+end_leaves (end_array ∷ ts) h rest e = subst Open (some_is e) h.1
+  where
+    some_is : {a b : List Token} → Some a ≡ Some b → a ≡ b
+    some_is q = cc
+end_leaves (key s ∷ ts) h rest e = absurd cc
+end_leaves (string s ∷ ts) h rest e = absurd cc
+end_leaves (number s ∷ ts) h rest e = absurd cc
+end_leaves (boolean b ∷ ts) h rest e = absurd cc
+end_leaves (null ∷ ts) h rest e = absurd cc
+end_leaves (bad ∷ ts) h rest e = absurd cc
+
+module _ (value_of : Parse Json) (reads : ReadsOpen value_of) where
+  and_items : (more : Parse Items) → ((ts : List Token) → Open ts → Leaves (more ts)) → (o : Option (Json × List Token)) → Reads o → Leaves (option_and_then (λ q. parse_map (Items.item q.0) (more q.1)) o)
+  and_items more on None h = tt
+  and_items more on (Some q) h = leaves_map (Items.item q.0) (more q.1) (on q.1 h.1)
+
+  item_turn : (more : Parse Items) → ((ts : List Token) → Open ts → Leaves (more ts)) → (ts : List Token) → Open ts → (o : Option (List Token)) → ((rest : List Token) → o ≡ Some rest → Open rest) → Leaves (items_step value_of more ts o)
+  item_turn more on ts h (Some rest) k = k rest refl
+  item_turn more on ts h None k = and_items more on (value_of ts) (reads ts h)
+
+  items_leave : (n : ℕ) (ts : List Token) → Open ts → Leaves (items value_of n ts)
+  unfolding items
+  items_leave zero ts h = tt
+  items_leave (suc n) ts h = item_turn (items value_of n) (items_leave n) ts h (after_end_array ts) (end_leaves ts h)
+
+  and_members : (s : List ℕ) (more : Parse Members) → ((ts : List Token) → Open ts → more ts ≡ None) → (o : Option (Json × List Token)) → Reads o → option_and_then (λ q. parse_map (Members.member s q.0) (more q.1)) o ≡ None
+  and_members s more on None h = refl
+  and_members s more on (Some q) h = ap (parse_map (Members.member s q.0)) (on q.1 h.1)
+
+  no_members : (n : ℕ) (ts : List Token) → Open ts → members value_of n ts ≡ None
+  unfolding members
+  no_members zero ts h = refl
+  no_members (suc n) [] h = refl
+  no_members (suc n) (begin_object ∷ ts) h = refl
+  no_members (suc n) (end_object ∷ ts) h = absurd h.0
+  no_members (suc n) (begin_array ∷ ts) h = refl
+  no_members (suc n) (end_array ∷ ts) h = refl
+  no_members (suc n) (key s ∷ ts) h = and_members s (members value_of n) (no_members n) (value_of ts) (reads ts h.1)
+  no_members (suc n) (string s ∷ ts) h = refl
+  no_members (suc n) (number s ∷ ts) h = refl
+  no_members (suc n) (boolean b ∷ ts) h = refl
+  no_members (suc n) (null ∷ ts) h = refl
+  no_members (suc n) (bad ∷ ts) h = refl
+
+array_reads : (o : Option (Items × List Token)) → Leaves o → Reads (parse_map Json.array o)
+array_reads None h = tt
+array_reads (Some p) h = (tt, h)
+
+object_reads : (o : Option (Members × List Token)) → o ≡ None → Reads (parse_map Json.object o)
+object_reads None e = tt
+object_reads (Some p) e = absurd cc
+
+one_level : (a : Parse Items) (o : Parse Members) → ((ts : List Token) → Open ts → Leaves (a ts)) → ((ts : List Token) → Open ts → o ts ≡ None) → ReadsOpen (value_with a o)
+one_level a o p q [] h = tt
+one_level a o p q (begin_object ∷ ts) h = object_reads (o ts) (q ts h.1)
+one_level a o p q (end_object ∷ ts) h = tt
+one_level a o p q (begin_array ∷ ts) h = array_reads (a ts) (p ts h.1)
+one_level a o p q (end_array ∷ ts) h = tt
+one_level a o p q (key s ∷ ts) h = tt
+one_level a o p q (string s ∷ ts) h = (tt, h.1)
+one_level a o p q (number s ∷ ts) h = (tt, h.1)
+one_level a o p q (boolean b ∷ ts) h = (tt, h.1)
+one_level a o p q (null ∷ ts) h = (tt, h.1)
+one_level a o p q (bad ∷ ts) h = tt
+
+value_reads : (depth : ℕ) → ReadsOpen (value depth)
+unfolding value
+value_reads zero = one_level (λ ts. None) (λ ts. None) (λ ts h. tt) (λ ts h. refl)
+value_reads (suc depth) = one_level (λ ts. items (value depth) (length ts) ts) (λ ts. members (value depth) (length ts) ts) (λ ts. items_leave (value depth) (value_reads depth) (length ts) ts) (λ ts. no_members (value depth) (value_reads depth) (length ts) ts)
+
+-- ---- the line
+
+abbrev IsNone : Option Data → Type 0
+IsNone None = ⊤
+IsNone (Some d) = as_object d ≡ None
+
+abbrev of_option : {A : Type 0} (f : A → Data) → ((a : A) → as_object (f a) ≡ None) → (o : Option A) → IsNone (option_map f o)
+of_option f h None = tt
+of_option f h (Some a) = h a
+
+no_object : (j : Json) → NoObject j → IsNone (of_json j)
+no_object Json.null h = refl
+no_object (Json.boolean b) h = refl
+no_object (Json.number s) h = of_option datum.number (λ n. refl) (number_of s)
+no_object (Json.string s) h = refl
+no_object (Json.array js) h = of_option datum.array (λ ds. refl) (of_items js)
+no_object (Json.object ms) h = absurd h
+
+if_last_none : (j : Json) (ts : List Token) → NoObject j → IsNone (option_and_then of_json (if_last j ts))
+if_last_none j [] h = no_object j h
+if_last_none j (t ∷ ts) h = tt
+
+read_none : (o : Option (Json × List Token)) → Reads o → IsNone (option_and_then of_json (option_and_then (λ p. if_last p.0 p.1) o))
+read_none None h = tt
+read_none (Some p) h = if_last_none p.0 p.1 h.0
+
+-- the bytes are no operation, nor the end of an exchange
+abbrev pub IsRefused : List ℕ → Type 0
+IsRefused bytes = (e : LineFault) × (any_line_at bytes ≡ Err e)
+
+value_refused : (d : Data) → as_object d ≡ None → value_line d ≡ Err fault.Kind
+unfolding value_line
+value_refused d e = rw e
+
+open_refused : (bytes : List ℕ) → OpenLexemes (lex between bytes) → IsRefused bytes
+unfolding any_line_at
+open_refused bytes h = by_length (nat_lt MAX_LINE (length bytes)) (is_utf8 bytes) (read bytes) (read_none (value max_depth (tokens bytes)) (value_reads max_depth (tokens bytes) (punctuated Place.fresh (lex between bytes) h)))
+  where
+    by_length : (long utf8 : Bool) (o : Option Data) → IsNone o → (e : LineFault) × ((if long then Err fault.Long else text_line utf8 o) ≡ Err e)
+    by_length true utf8 o h = (fault.Long, refl)
+    by_length false true None h = (fault.Json, refl)
+    by_length false true (Some d) h = (fault.Kind, value_refused d h)
+    by_length false false o h = (fault.Json, refl)
+
+-- ---- an operation's line before its last bracket
+
+open_number : (n : ℕ) → n < 2 ^ 64 → (b : ℕ) (more : List ℕ) → ends_word (b ∷ more) ≡ true → OpenLexemes (lex between (b ∷ more)) → OpenLexemes (lex between (decimal n ++ b ∷ more))
+open_number n h b more ended on = subst OpenLexemes (sym (lex-number (decimal n) (b ∷ more) (IsNumber-decimal n h) ended)) (tt, on)
+
+open_pair : (s : Identifier) → InBounds s → (more : List ℕ) → OpenLexemes (lex between more) → OpenLexemes (lex between (pair_text s ++ more))
+unfolding lex
+open_pair s h more on =
+    let two : OpenLexemes (lex between (44 ∷ (decimal s.replica ++ 93 ∷ more))) = (tt, open_number s.replica (omega (arith, h.replica)) 93 more refl (tt, on)) in
+    let one : OpenLexemes (lex between (91 ∷ (decimal s.counter ++ 44 ∷ (decimal s.replica ++ 93 ∷ more)))) = (tt, open_number s.counter (omega (arith, h.counter)) 44 (decimal s.replica ++ 93 ∷ more) refl two) in
+    let parts : pair_text s ++ more ≡ 91 ∷ (decimal s.counter ++ 44 ∷ (decimal s.replica ++ 93 ∷ more)) =
+    ap (λ (l : List ℕ). 91 ∷ l) (append_assoc (decimal s.counter) (44 ∷ (decimal s.replica ++ 93 ∷ [])) more ∙ ap (λ (l : List ℕ). decimal s.counter ++ 44 ∷ l) (append_assoc (decimal s.replica) (93 ∷ []) more)) in
+    subst (λ (l : List ℕ). OpenLexemes (lex between l)) (sym parts) one
+
+open_char : (c : ℕ) (more : List ℕ) → OpenLexemes (lex between more) → OpenLexemes (lex in_string (escaped c ++ 34 ∷ more))
+open_char c more on = subst OpenLexemes (sym (ap (λ (l : List ℕ). lex in_string (l ++ 34 ∷ more)) (sym (escape-encode c)) ∙ lex-escape _ more)) on
+
+-- the line without its last bracket, and then more
+abbrev before_last : Op → List ℕ → List ℕ
+before_last (Insert id parent ch) more = codes "{\"char\":\"" ++ (escaped ch ++ (codes "\",\"id\":" ++ (pair_text id ++ (codes ",\"op\":\"ins\",\"parent\":" ++ (pair_text parent ++ more)))))
+before_last (Delete id) more = codes "{\"id\":" ++ (pair_text id ++ (codes ",\"op\":\"del\"" ++ more))
+
+open_line : (op : Op) → IsWritable op → OpenLexemes (lex between (before_last op []))
+unfolding lex content
+open_line (Insert id parent ch) h =
+    (tt, (tt, (tt, (string_stays _, open_char ch _ (tt, (tt, (tt, open_pair id (within id h.0) _ (tt, (tt, (tt, (tt, (tt, (tt, (tt, open_pair parent (in_bounds parent h.1) [] tt))))))))))))))
+open_line (Delete id) h = (tt, (tt, (tt, open_pair id (within id h) _ (tt, (tt, (tt, (tt, tt)))))))
+
+closed : (op : Op) → line op ≡ before_last op (125 ∷ [])
+unfolding line
+closed (Insert id parent ch) = refl
+closed (Delete id) = refl
+
+before_last-append : (op : Op) (more : List ℕ) → before_last op more ≡ before_last op [] ++ more
+before_last-append (Insert id parent ch) more = simp append_assoc
+before_last-append (Delete id) more = simp append_assoc
+
+-- what stands before some byte of a list stands before its last one
+within_init : (xs front back : List ℕ) (a b : ℕ) → xs ++ a ∷ [] ≡ front ++ b ∷ back → (more : List ℕ) × (xs ≡ front ++ more)
+within_init xs [] back a b e = (xs, refl)
+within_init [] (y ∷ front) back a b e = absurd (omega (arith, ap length e, length-append front (b ∷ back)))
+within_init (x ∷ xs) (y ∷ front) back a b e =
+    let tails : xs ++ a ∷ [] ≡ front ++ b ∷ back = ap (drop 1) e in
+    let heads : x ≡ y = ap (λ (l : List ℕ). get_or l 0 0) e in
+    let later = within_init xs front back a b tails in
+    (later.0, λ k. heads k ∷ later.1 k)
+
+-- no proper beginning of an operation's line is an operation, or the end of an exchange
+pub beginning_refused : (op : Op) (front : List ℕ) (b : ℕ) (back : List ℕ) → IsWritable op → line op ≡ front ++ b ∷ back → IsRefused front
+beginning_refused op front b back h e =
+    let inside = within_init (before_last op []) front back 125 b (sym (before_last-append op (125 ∷ [])) ∙ sym (closed op) ∙ e) in
+    open_refused front (front_open between front inside.0 (subst (λ (l : List ℕ). OpenLexemes (lex between l)) inside.1 (open_line op h)))
