@@ -135,10 +135,15 @@ fn help_of_mgr_names_its_jobs(rt: HostRuntime) {
     }
 }
 
-/// The version that answers this line, where the answer is the program's name and a version.
+/// What stands between the program's name and the newline.
+fn version_in(text: &str) -> Option<&str> {
+    text.strip_prefix("mgr ")?.strip_suffix("\n")
+}
+
+/// Whether this line is answered by the program's name and its version, in a line of their own.
 fn is_version_told(alloc: Global, line: &str) -> bool {
     match text(alloc, line) {
-        Some(text) => text.strip_prefix("mgr ").map(str::trim_end) == Some(VERSION),
+        Some(text) => version_in(&text) == Some(VERSION),
         None => false,
     }
 }
