@@ -11,7 +11,7 @@ use Rattle.rga_ops.specs.Identifier.{Identifier, identifier, root}
 use Rattle.rga_ops.specs.Content.{Content, known_ids, clock_of, join, single, content_of}
 use Rattle.rga_ops.specs.Order.{order, text}
 use Rattle.rga_ops.specs.Places.{visible}
-use Rattle.rga_ops.specs.Splice.{spliced, text_after, are_falling, new_characters}
+use Rattle.rga_ops.specs.Splice.{Splice, spliced, text_after, are_falling, new_characters}
 use Rattle.rga_ops.specs.ListAnswer.{Verdict, and_check, union_answer, list_answer}
 use Rattle.rga_ops.proofs.VisibleLaws.{text_long}
 use Rattle.rga_ops.proofs.ListAnswerLaws.{union_taken-iff}
@@ -20,7 +20,6 @@ use Rattle.rga_ops.proofs.DeletionLaws.{visible-deletion_at, order-deletion}
 use Rattle.rga_ops.specs.declared.op.Op.{Op}
 use Rattle.rga_ops.specs.declared.op.Op.TheVariants.{Insert, Delete}
 use Rattle.rga_ops.specs.declared.refusal.Refusal.TheVariants.{Full, Range}
-use Rattle.rga_ops.specs.declared.splice.Splice.{Splice}
 use Rattle.rga_ops.proofs.AnswerLaws.{passed, bad}
 use Rattle.rga_doc.specs.LocalEdit.{left_of, chain, splice_operations, splices_operations, room_answer, place_answer, counter_answer, edit_answer, splice_answer, splices_answer, new_ids, put_row_behind, order_after}
 use Rattle.rga_doc.proofs.SplicedLists.{cut, length-cut, same_begin, get_at_drop, same_left, put_no_row, put_row_on}
@@ -30,8 +29,8 @@ use Rattle.rga_doc.proofs.EditSteps.{Leads, leads_nowhere, leads_on, Shows, show
 abbrev pub drafted : ℕ → List Identifier → ℕ → List Splice → List Op
 drafted replica elements last [] = []
 drafted replica elements last (s ∷ splices) =
-    (map Delete (drop s.lo (take s.hi elements)) ++ chain replica last (left_of elements s.lo) s.put.items)
-    ++ drafted replica elements (last + length s.put.items) splices
+    (map Delete (drop s.lo (take s.hi elements)) ++ chain replica last (left_of elements s.lo) s.put)
+    ++ drafted replica elements (last + length s.put) splices
 
 -- ---- deletions of visible elements in a row
 
@@ -208,13 +207,13 @@ splices_all (s ∷ splices) c replica bound reaches falling =
     let falls = falls_first s splices bound falling in
     let here : s.hi ≤ length (visible c) = omega (arith, falls.within, reaches) in
     let low : s.lo ≤ length (visible c) = omega (arith, falls.up, here) in
-    let one = splices_at c replica s.lo s.hi s.put.items falls.up here in
-    let own : List Op = splice_operations replica c s.lo s.hi s.put.items in
-    let later = splices_all splices one.outcome replica s.lo (shows_long c one.outcome s.lo s.hi (new_ids replica (clock_of c) s.put.items) s.put.items low one.shows) falls.further in
+    let one = splices_at c replica s.lo s.hi s.put falls.up here in
+    let own : List Op = splice_operations replica c s.lo s.hi s.put in
+    let later = splices_all splices one.outcome replica s.lo (shows_long c one.outcome s.lo s.hi (new_ids replica (clock_of c) s.put) s.put low one.shows) falls.further in
     record {
       outcome = later.outcome;
-      leads = subst (λ d. Leads c later.outcome (own ++ splices_operations replica d splices) (length s.put.items + new_characters splices)) one.leads.joined
-          (leads_on c one.outcome later.outcome own (splices_operations replica one.outcome splices) (length s.put.items) (new_characters splices) one.leads later.leads);
+      leads = subst (λ d. Leads c later.outcome (own ++ splices_operations replica d splices) (length s.put + new_characters splices)) one.leads.joined
+          (leads_on c one.outcome later.outcome own (splices_operations replica one.outcome splices) (length s.put) (new_characters splices) one.leads later.leads);
       reads = later.reads ∙ ap (λ chars. text_after chars splices) one.shows.characters;
     }
 
@@ -242,7 +241,7 @@ drafted_from (s ∷ splices) c replica elements last bound now reaches same fall
     let falls = falls_first s splices bound falling in
     let here : s.hi ≤ length (visible c) = omega (arith, falls.within, reaches) in
     let low : s.lo ≤ length (visible c) = omega (arith, falls.up, here) in
-    let put : List ℕ = s.put.items in
+    let put : List ℕ = s.put in
     let one = splices_at c replica s.lo s.hi put falls.up here in
     let ids : List Identifier = new_ids replica (clock_of c) put in
     let front : take s.hi (visible c) ≡ take s.hi elements = same_begin (visible c) elements s.hi bound falls.within same in

@@ -4,9 +4,8 @@
 ghost use Rattle.std.specs.Prelude.{◌≡◌, true, ℕ, List, Ok};
 ghost use Rattle.std.specs.FinMap as finite_map;
 ghost use Rattle.rga_ops.specs.Prelude.{Content, Identifier, content_of, join, list_answer, order, text};
-ghost use Rattle.rga_ops.specs.Splice.{spliced, text_after};
+ghost use Rattle.rga_ops.specs.Splice.{Splice, spliced, text_after};
 ghost use Rattle.rga_ops.specs.declared.op.Op.TheVariants.{Delete};
-ghost use Rattle.rga_ops.specs.declared.splice.Splice.{Splice};
 ghost use Rattle.rga_doc.specs.Document.{Document};
 ghost use Rattle.rga_doc.specs.LocalEdit.{splice_operations, splices_operations, splice_answer, splices_answer, order_after};
 
