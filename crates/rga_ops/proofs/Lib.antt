@@ -28,6 +28,7 @@ pub mod NewestTextLaws
 pub mod DeletionLaws
 pub mod AgreeLaws
 pub mod ListAnswerLaws
+pub mod EarlyLaws
 pub mod MergeLaws
 pub mod TookLaws
 pub mod CountLaws

@@ -13,7 +13,7 @@ use Rattle.rga_ops.proofs.ContentLaws.{get-join, join_assoc, join_nothing, or_no
 use Rattle.rga_ops.proofs.OperationLaws.{get-single, content_of-append}
 use Rattle.rga_ops.proofs.KnownLaws.{known_taken}
 use Rattle.rga_ops.proofs.DeletionLaws.{inserted-deletion}
-use Rattle.rga_ops.proofs.ListAnswerLaws.{ill_formed_refusal}
+use Rattle.rga_ops.proofs.ListAnswerLaws.{ill_formed_refusal, first_conflict-append}
 use Rattle.rga_ops.specs.declared.op.Op.{Op}
 use Rattle.rga_ops.specs.declared.op.Op.TheVariants.{Insert, Delete}
 use Rattle.rga_ops.specs.declared.refusal.Refusal.TheVariants.{Memory}
@@ -41,9 +41,13 @@ get-insertion c id parent ch q absent =
 pub get-deletion : (c : Content) (id q : Identifier) → finite_map.get (join c (single (Delete id))).inserted q ≡ finite_map.get c.inserted q
 get-deletion c id q = ap (λ inserted. finite_map.get inserted q) (inserted-deletion c id)
 
--- an operation that does not conflict counts as held for those behind it
-pub first_conflict-next : (c : Content) (op : Op) (ops : List Op) → has_another c op ≡ false → first_conflict c (op ∷ ops) ≡ first_conflict (join c (single op)) ops
-first_conflict-next c op ops h = ap (λ b. cond b (Some (id_of op)) (first_conflict (join c (single op)) ops)) h
+-- no conflict comes with an operation that does not conflict
+pub free_more : (c : Content) (ops : List Op) (op : Op) → first_conflict c ops ≡ None → has_another (join c (content_of ops)) op ≡ false → first_conflict c (ops ++ op ∷ []) ≡ None
+free_more c ops op free other =
+    let d : Content = join c (content_of ops) in
+    first_conflict-append c ops (op ∷ [])
+    ∙ ap (λ o. option_or o (first_conflict d (op ∷ []))) free
+    ∙ ap (λ b. cond b (Some (id_of op)) None) other
 
 -- an ill-formed operation is never refused for want of memory
 pub checked_without_memory : (ops : List Op) → all_checked ops ≢ Err Memory

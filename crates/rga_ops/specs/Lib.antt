@@ -4,6 +4,7 @@ pub mod Content
 pub mod RootPath
 pub mod Order
 pub mod Answer
+pub mod Found
 pub mod Operations
 pub mod Places
 pub mod Splice

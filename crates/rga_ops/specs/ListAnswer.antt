@@ -1,5 +1,5 @@
 -- What a store answers to a list of operations that it takes whole or not at all, and to the content of another store.
-use Rattle.std.specs.Prelude.{◌≡◌, ◌≢◌, ◌⊎◌, ℕ, nat_le, Bool, not, false, List, [], ◌∷◌, ◌++◌, find, Contains, Option, Some, None, Result, Ok, Err, MatchResult, if◌then◌else◌}
+use Rattle.std.specs.Prelude.{◌≡◌, ◌≢◌, ◌⊎◌, ℕ, nat_le, Bool, not, false, List, [], ◌∷◌, ◌++◌, find, take_while, Contains, Option, Some, None, Result, Ok, Err, MatchResult, if◌then◌else◌}
 use Rattle.std.specs.Option.{option_map_or}
 use Rattle.std.specs.FinMap as finite_map
 use Rattle.rga_ops.specs.Identifier.{Identifier, IsLarger}
@@ -37,6 +37,16 @@ has_another c (Delete id) = false
 abbrev pub first_conflict : Content → List Op → Option Identifier
 first_conflict c [] = None
 first_conflict c (op ∷ ops) = if has_another c op then Some (id_of op) else first_conflict (join c (single op)) ops
+
+-- whether the operation inserts what the content has not inserted
+abbrev pub inserts_anew : Content → Op → Bool
+inserts_anew c (Insert id parent ch) = not (finite_map.contains_key c.inserted id)
+inserts_anew c (Delete id) = false
+
+-- The first conflict, if it stands in front of all that the list inserts anew. What stands there conflicts with the content
+-- or not at all, so it is found before anything of the list has to be remembered.
+abbrev pub early_conflict : Content → List Op → Option Identifier
+early_conflict c ops = first_conflict c (take_while (λ op. not (inserts_anew c op)) ops)
 
 -- a conflict, or a union with more identifiers than the limit
 abbrev pub union_answer : ℕ → Option Identifier → Content → Verdict

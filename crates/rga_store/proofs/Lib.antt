@@ -8,3 +8,4 @@ pub mod WalkLaws
 pub mod TreeLaws
 pub mod MergingLaws
 pub mod BackLaws
+pub mod ElementSteps

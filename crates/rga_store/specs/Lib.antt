@@ -1,5 +1,4 @@
 pub mod Limit
-pub mod Found
 pub mod Kept
 pub mod Growth
 pub mod Children

@@ -10,7 +10,6 @@
 //! (`laws`).
 #![tactic(auto)]
 
-mod answer;
 mod child_list;
 pub mod laws;
 mod list_answer;

@@ -1,10 +1,10 @@
 //! The answer to a list of operations that is taken whole or not at all.
-ghost use Rattle.std.specs.Prelude.{◌≡◌, ◌≢◌, ◌+◌, Ok, Err, IfOk, IfErr};
+ghost use Rattle.std.specs.Prelude.{◌≡◌, ◌≢◌, ◌+◌, None, Ok, Err, OnErr, IfOk, IfErr};
 ghost use Rattle.std.specs.Option.{option_or};
 ghost use Rattle.std.specs.FinSet as finite_set;
 ghost use Rattle.indexmap.specs.IndexMap.{get as get_added};
 ghost use Rattle.rga_ops.specs.Prelude.{all_checked, content_of, element_at, is_id, join, known_count, known_ids, list_answer};
-ghost use Rattle.rga_ops.specs.ListAnswer.{first_conflict};
+ghost use Rattle.rga_ops.specs.ListAnswer.{early_conflict, first_conflict};
 
 use crate::text_store::TextStore;
 use crate::tree_store::TreeStore;
@@ -13,11 +13,14 @@ use rga_ops::{Id, Op, Refusal};
 use std::alloc::Global;
 
 /// What is answered to a list that is taken whole or not at all. `Memory` where the list's own
-/// insertions or identifiers have no room; never for an ill-formed operation.
+/// insertions or identifiers have no room; never for an ill-formed operation, nor for a conflict in
+/// front of which nothing is inserted anew.
 pub(crate) fn answer_to_list(alloc: Global, store: &TreeStore, ops: &[Op]) -> Result<(), Refusal>
     ensures exact { result ≢ Err Refusal.Memory →
         result ≡ list_answer store.now.limit store.now.content ops.now }
     ensures memory { result ≡ Err Refusal.Memory → all_checked ops.now ≡ Ok tt }
+    ensures early { result ≡ Err Refusal.Memory →
+        early_conflict store.now.content ops.now ≡ None }
 {
     check_each(ops)?;
     if let Some(id) = first_conflict(alloc, store, ops)? {
@@ -40,10 +43,11 @@ fn check_each(ops: &[Op]) -> Result<(), Refusal>
 }
 
 /// The identifier of the first operation that conflicts with what the store holds or with one
-/// before it in the list. `Memory` alone.
+/// before it in the list. `Memory` alone, and only behind an insertion that is new to the store.
 fn first_conflict(alloc: Global, store: &TreeStore, ops: &[Op]) -> Result<Option<Id>, Refusal>
     ensures ok { IfOk result (λ conflict. conflict ≡ first_conflict store.now.content ops.now) }
     ensures memory { IfErr result (λ e. e ≡ Refusal.Memory) }
+    ensures early { OnErr result (early_conflict store.now.content ops.now ≡ None) }
 {
     let mut added = IndexMap::new(alloc);
     for op in ops {

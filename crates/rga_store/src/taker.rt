@@ -1,6 +1,7 @@
 //! What takes operations.
-ghost use Rattle.std.specs.Prelude.{◌≡◌, ◌≢◌, ℕ, List, [], ◌∷◌, ◌++◌, Ok, Err, MatchResult};
+ghost use Rattle.std.specs.Prelude.{◌≡◌, ◌≢◌, ℕ, List, [], ◌∷◌, ◌++◌, None, Ok, Err, MatchResult};
 ghost use Rattle.rga_ops.specs.Prelude.{Content, all_checked, answer, content_of, join, list_answer, single};
+ghost use Rattle.rga_ops.specs.ListAnswer.{early_conflict};
 ghost use Rattle.rga_ops.specs.declared.op.Op.{Op as Operation};
 
 use rga_ops::{Op, Refusal, Taken};
@@ -50,11 +51,14 @@ pub trait Taker {
     /// Refusals, in this order: `BadId` or `BadOrder` of the first operation that is ill-formed;
     /// `Conflict` of the first that conflicts with the content or with one before it in the list;
     /// `Full` where more identifiers would be known than the limit allows; `Memory`. A refusal
-    /// changes nothing. An ill-formed operation is found without memory.
+    /// changes nothing. An ill-formed operation is found without memory, and so is a conflict in
+    /// front of which nothing is inserted anew.
     fn apply_all(&mut self, ops: &[Op]) -> Result<(), Refusal>
         ensures exact { result ≢ Err Refusal.Memory →
             result ≡ list_answer (limit self.old) (content self.old) ops.now }
         ensures memory { result ≡ Err Refusal.Memory → all_checked ops.now ≡ Ok tt }
+        ensures early { result ≡ Err Refusal.Memory →
+            early_conflict (content self.old) ops.now ≡ None }
 
         ensures whole { result ≡ Ok tt →
             content self.new ≡ join (content self.old) (content_of ops.now) }

@@ -4,13 +4,12 @@ ghost use Rattle.std.specs.FinMap as finite_map;
 ghost use Rattle.std.specs.FinSet as finite_set;
 ghost use Rattle.rga_ops.specs.Content.{element_at, join, single, known_count, IsSound};
 ghost use Rattle.rga_ops.specs.Answer.{answer, facts};
-ghost use Rattle.rga_store.specs.Found.{facts_of};
+ghost use Rattle.rga_ops.specs.Found.{facts_of};
 ghost use Rattle.rga_store.specs.Limit.{is_limit};
 
 mod removal;
 mod whole_list;
 
-use crate::answer::{Found, answer_to};
 use crate::list_answer::answer_to_list;
 use crate::merging::{count_unknown, least_conflict};
 use crate::nodes::{Node, add_child, ensure_node, mark, set_element};
@@ -19,7 +18,7 @@ use crate::taker::Taker;
 use crate::text_store::{MAX_LIMIT, TextStore};
 use crate::walk::{walked, walked_text};
 use indexmap::IndexMap;
-use rga_ops::{Id, Op, Refusal, Taken};
+use rga_ops::{Found, Id, Op, Refusal, Taken, answer_to};
 use std::alloc::Global;
 use std::marker::Model;
 use whole_list::take_one_by_one;

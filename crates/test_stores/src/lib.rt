@@ -1,9 +1,9 @@
 //! Tests of stores.
 //!
-//! The worked examples of `TreeStore`; and the tree beside a plain list: seeded random operations
-//! go into both, the list being searched from the front and comparing whole root paths, and after
-//! each both must answer and show the same. Nothing stands on this crate, so nothing waits for its
-//! proof.
+//! The worked examples of `TreeStore`, and of what is asked of it before it takes anything; and
+//! the tree beside a plain list: seeded random operations go into both, the list being searched
+//! from the front and comparing whole root paths, and after each both must answer and show the
+//! same. Nothing stands on this crate, so nothing waits for its proof.
 #![tactic(auto)]
 
 #[cfg(test)]
@@ -12,6 +12,8 @@ mod comparison;
 mod list_store;
 #[cfg(test)]
 mod merging;
+#[cfg(test)]
+mod new_operations;
 #[cfg(test)]
 mod random;
 #[cfg(test)]

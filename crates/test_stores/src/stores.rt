@@ -1,5 +1,6 @@
 //! The tree store on worked examples.
 use crate::words::{holds, prints, shows, store_of};
+use rga_answers::answer_at;
 use rga_ops::{Id, Refusal};
 use rga_store::{MAX_LIMIT, Taker, TextStore, TreeStore};
 use std::alloc::Global;
@@ -41,13 +42,13 @@ fn the_text_follows_the_root_paths(rt: HostRuntime) {
     }
 }
 
-/// Whether the store has this answer to each of the operations.
+/// Whether the store has this answer to each of the operations, and tells it before it takes them.
 fn answers(alloc: Global, store: &mut TreeStore, words: &str, answer: &str) -> bool {
     match ops_of(alloc, words) {
-        Ok(ops) => ops
-            .as_slice()
-            .iter()
-            .all(|op| prints(alloc, &store.apply(*op), answer)),
+        Ok(ops) => ops.as_slice().iter().all(|op| {
+            prints(alloc, &answer_at(store, *op), answer)
+                && prints(alloc, &store.apply(*op), answer)
+        }),
         Err(_) => false,
     }
 }

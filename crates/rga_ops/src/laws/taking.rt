@@ -1,5 +1,5 @@
 //! What a store answers, and what replicas hold by what they took.
-ghost use Rattle.std.specs.Prelude.{◌≡◌, ◌≢◌, ◌<◌, ◌≤◌, ◌↔◌, ◌⊎◌, ◌++◌, ◌+◌, ℕ, List, [], ◌∷◌, true, false, Ok, Err, Contains};
+ghost use Rattle.std.specs.Prelude.{◌≡◌, ◌≢◌, ◌<◌, ◌≤◌, ◌↔◌, ◌⊎◌, ◌++◌, ◌+◌, ℕ, List, [], ◌∷◌, true, false, Some, None, Ok, Err, Contains};
 ghost use Rattle.std.specs.FinSet as finite_set;
 ghost use Rattle.rga_ops.specs.Identifier.{Identifier};
 ghost use Rattle.rga_ops.specs.Operation.{checked, id_of};
@@ -7,7 +7,7 @@ ghost use Rattle.rga_ops.specs.Content.{Content, nothing, known_count, known_ids
 ghost use Rattle.rga_ops.specs.Order.{order, text};
 ghost use Rattle.rga_ops.specs.Operations.{operations};
 ghost use Rattle.rga_ops.specs.Answer.{answer, taken, taken_one_by_one};
-ghost use Rattle.rga_ops.specs.ListAnswer.{list_answer, merge_answer, AreWellFormed, IsJoinable, IsFirstIllFormed, IsFirstConflict, IsLeastConflict};
+ghost use Rattle.rga_ops.specs.ListAnswer.{list_answer, merge_answer, early_conflict, AreWellFormed, IsJoinable, IsFirstIllFormed, IsFirstConflict, IsLeastConflict};
 ghost use Rattle.rga_ops.specs.NewOperations.{holds, new_operations};
 ghost use Rattle.rga_ops.specs.Took.{Took};
 ghost use Rattle.rga_ops.specs.declared.op.Op.{Op as Operation};
@@ -72,7 +72,8 @@ pub fn taking_one_by_one_leads_to_the_content()
 
 /// The answers to a list that is taken whole or not at all, each exactly where it comes. Where it
 /// is taken, its operations would all be taken one by one, and lead to the same content. Where they
-/// would be, and what is held is within the limit, it is taken.
+/// would be, and what is held is within the limit, it is taken. An early conflict is the first one,
+/// and a list that is taken has none.
 pub fn answers_to_a_list_in_words()
     ensures taken { (limit : ℕ) (c : Content) (ops : List Operation) →
         (list_answer limit c ops ≡ Ok tt)
@@ -94,6 +95,11 @@ pub fn answers_to_a_list_in_words()
         taken_one_by_one limit c ops ≡ Ok (join c (content_of ops)) }
     ensures whole { (limit : ℕ) (c d : Content) (ops : List Operation) → known_count c ≤ limit →
         taken_one_by_one limit c ops ≡ Ok d → list_answer limit c ops ≡ Ok tt }
+
+    ensures early { (c : Content) (ops : List Operation) (id : Identifier) →
+        early_conflict c ops ≡ Some id → IsFirstConflict c ops id }
+    ensures not_early { (limit : ℕ) (c : Content) (ops : List Operation) →
+        list_answer limit c ops ≡ Ok tt → early_conflict c ops ≡ None }
 {}
 
 /// The answers to a merge, each exactly where it comes: contents that agree are joined where the

@@ -1,6 +1,4 @@
 use Rattle.std.proofs.Common.{◌≡◌, ℕ, ◌+◌, ◌<◌, Bool, true, false, cond, not, ◌||◌, List, [], ◌∷◌, ◌++◌, take, length, get_or, refl, sym, ap, ◌∙◌, arith}
-use Rattle.std.specs.Prelude.{Result, Ok, Err}
-use Rattle.std.specs.Result.{IfOk, is_ok}
 use Rattle.std.specs.List.{list_any}
 use Rattle.std.specs.FinSet as finite_set
 use Rattle.std.specs.FinSet.{FinSet}
@@ -14,7 +12,6 @@ use Rattle.rga_ops.proofs.IdentifierLaws.{ids_total, ids_exact, is, same_id, is_
 use Rattle.rga_ops.proofs.ContentLaws.{join_nothing}
 use Rattle.rga_ops.proofs.ListSteps.{known_more}
 use Rattle.rga_ops.specs.declared.op.Op.{Op}
-use Rattle.rga_store.proofs.ChildLaws.{on_ok}
 use Rattle.rga_store.proofs.list_answer.count_new_ids.Goals.{then-not-is_known+in_ok-_is_new, else-not-is_known}
 use Rattle.rga_store.proofs.list_answer.count_new_ids.Goals as goal
 

@@ -1,25 +1,29 @@
 //! The answer to an operation, by what a store finds.
 ghost use Rattle.std.specs.Prelude.{◌≡◌, Ok, Err, if◌then◌else◌};
 ghost use Rattle.rga_ops.specs.Answer.{answer_from, has_room};
-ghost use Rattle.rga_store.specs.Found.{facts_of};
+ghost use Rattle.rga_ops.specs.Found.{facts_of};
 
-use rga_ops::{Id, Op, Refusal, Taken};
+use crate::id::Id;
+use crate::op::Op;
+use crate::refusal::{Refusal, Taken};
 
 /// What a store knows of the identifier of an operation, and of its own room.
 #[derive(Clone, Copy)]
-pub(crate) struct Found {
+pub struct Found {
     /// The parent and the character of its insertion.
-    pub(crate) element: Option<(Id, char)>,
+    pub element: Option<(Id, char)>,
     /// Whether it is deleted.
-    pub(crate) deleted: bool,
+    pub deleted: bool,
     /// How many identifiers the store knows.
-    pub(crate) known: usize,
+    pub known: usize,
     /// How many it may know.
-    pub(crate) limit: usize,
+    pub limit: usize,
 }
 
-/// What is answered, want of memory aside.
-pub(crate) fn answer_to(op: Op, found: Found) -> Result<Taken, Refusal>
+/// What a store answers that found this of the operation's identifier, want of memory aside.
+///
+/// Refusals, in this order: `BadId`, `BadOrder`, `Conflict`, `Full`. Takes no memory.
+pub fn answer_to(op: Op, found: Found) -> Result<Taken, Refusal>
     ensures { result ≡ answer_from op (facts_of found) }
 {
     op.check()?;

@@ -2,7 +2,7 @@
 use Rattle.std.specs.Option.{option_map}
 use Rattle.rga_ops.specs.Content.{element}
 use Rattle.rga_ops.specs.Answer.{Facts}
-use Rattle.rga_store.specs.declared.answer.Found.{Found}
+use Rattle.rga_ops.specs.declared.answer.Found.{Found}
 
 abbrev pub facts_of : Found → Facts
 facts_of f = record {

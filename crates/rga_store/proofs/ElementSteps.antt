@@ -1,0 +1,23 @@
+-- An element as a store tells it, its parent and its character, and one that is looked up in two places.
+use Rattle.std.proofs.Common.{◌≡◌, ℕ, Bool, true, false, cond, refl, sym, ap}
+use Rattle.std.specs.Prelude.{Option, Some, None}
+use Rattle.std.specs.Option.{option_map, option_or}
+use Rattle.std.proofs.lemmas.Option.{same_Some, none-some}
+use Rattle.rga_ops.specs.Identifier.{Identifier}
+use Rattle.rga_ops.specs.Content.{Element, element}
+
+abbrev pub pair_of : Option Element → Option (Identifier × ℕ)
+pair_of = option_map (λ x. (x.parent, x.ch))
+
+pub found_element : (o : Option Element) (e : Identifier × ℕ) → pair_of o ≡ Some e → o ≡ Some (element e.0 e.1)
+found_element None e h = absurd (none-some _ h)
+found_element (Some x) e h = ap (λ (p : Identifier × ℕ). Some (element p.0 p.1)) (same_Some _ _ h)
+
+pub found_none : (o : Option Element) → pair_of o ≡ None → o ≡ None
+found_none None h = refl
+found_none (Some x) h = absurd (none-some _ (sym h))
+
+-- an element that neither has is added
+pub added_element : (t : Bool) (a b : Option (Identifier × ℕ)) (o : Option Element) (parent : Identifier) (ch : ℕ) → (t ≡ true → a ≡ None) → option_or a b ≡ pair_of o → option_or a (cond t (Some (parent, ch)) b) ≡ pair_of (cond t (Some (element parent ch)) o)
+added_element true a b o parent ch h e = ap (λ x. option_or x (Some (parent, ch))) (h refl)
+added_element false a b o parent ch h e = e

@@ -1,0 +1,36 @@
+//! Lists of operations, and those of them that are new to a store.
+use crate::words::{same, store_of};
+use rga_answers::new_operations_at;
+use std::alloc::Global;
+use test_ops::ops_of;
+
+/// Whether these operations of the list are new to a store that took the operations before.
+fn has_new(alloc: Global, before: &str, list: &str, new: &str) -> bool {
+    match (store_of(alloc, 9, before), ops_of(alloc, list)) {
+        (Ok(store), Ok(ops)) => same(new_operations_at(alloc, &store, &ops), ops_of(alloc, new)),
+        _ => false,
+    }
+}
+
+#[test]
+fn what_is_held_and_repeats_are_not_new(rt: HostRuntime) {
+    for (name, before, list, new) in &[
+        ("nothing", "a1.1<0.0", "", ""),
+        ("all", "", "-1.1 a1.1<0.0", "-1.1 a1.1<0.0"),
+        (
+            "known ones",
+            "a1.1<0.0 -1.1",
+            "-1.1 b2.1<1.1 a1.1<0.0",
+            "b2.1<1.1",
+        ),
+        (
+            "repeats",
+            "",
+            "b2.1<1.1 -2.1 b2.1<1.1 -2.1",
+            "b2.1<1.1 -2.1",
+        ),
+        ("a conflict", "a1.1<0.0", "b1.1<0.0", "b1.1<0.0"),
+    ] {
+        assert!(rt; has_new(rt.alloc(), before, list, new), "{name}");
+    }
+}
