@@ -1,0 +1,43 @@
+-- Deletions, and kills, which keep what they take.
+use Rattle.std.specs.Prelude.{ℕ, ◌+◌, ◌-◌, List, [], ◌++◌, length, min, max, Some, None, Result, Ok, Err, if◌then◌else◌, nat_le, nat_lt}
+use Rattle.std.specs.List.{slice_range}
+use Rattle.mg_plain.specs.declared.view.Kind.{Kind}
+use Rattle.mg_plain.specs.declared.view.Kind.TheVariants.{Plain, Killing, Vertical}
+use Rattle.mg_plain.specs.declared.outcome.Notice.{Notice}
+use Rattle.mg_plain.specs.declared.outcome.Notice.TheVariants.{BeginningOfBuffer, EndOfBuffer, NoMark}
+use Rattle.mg_plain.specs.Situation.{Situation}
+use Rattle.mg_plain.specs.Effect.{Effect, one_splice, edit_effect}
+use Rattle.mg_plain.specs.Lines.{line_end}
+use Rattle.mg_plain.specs.Words.{word_end}
+
+abbrev pub deletion : Situation → ℕ → ℕ → Effect
+deletion s lo hi = edit_effect s (one_splice lo hi [])
+
+abbrev pub delete_char : ℕ → Situation → Result Effect Notice
+delete_char n s = if nat_le (s.point + n) (length s.text) then Ok (deletion s s.point (s.point + n)) else Err EndOfBuffer
+
+abbrev pub delete_backward_char : ℕ → Situation → Result Effect Notice
+delete_backward_char n s = if nat_le n s.point then Ok (deletion s (s.point - n) s.point) else Err BeginningOfBuffer
+
+-- what a kill goes behind: the kill buffer, where the command before killed too
+abbrev pub kill_so_far : Kind → List ℕ → List ℕ
+kill_so_far Killing kill = kill
+kill_so_far Plain kill = []
+kill_so_far Vertical kill = []
+
+abbrev pub kill_effect : Situation → ℕ → ℕ → Effect
+kill_effect s lo hi = record (deletion s lo hi) { kill = Some (kill_so_far s.last s.kill ++ slice_range s.text lo hi); kind = Killing }
+
+-- from point to a place behind it, of which there is none at the end of the text
+abbrev pub kill_up_to : Situation → ℕ → Result Effect Notice
+kill_up_to s hi = if nat_lt s.point (length s.text) then Ok (kill_effect s s.point hi) else Err EndOfBuffer
+
+-- the rest of the line, or the newline where point stands at one
+abbrev pub kill_line : Situation → Result Effect Notice
+kill_line s = kill_up_to s (max (line_end s.text s.point) (s.point + 1))
+
+abbrev pub kill_word : Situation → Result Effect Notice
+kill_word s = kill_up_to s (word_end s.text s.point)
+
+abbrev pub kill_region : Situation → Result Effect Notice
+kill_region s = elim s.mark [ None ↦ Err NoMark | Some m ↦ Ok (kill_effect s (min s.point m) (max s.point m)) ]

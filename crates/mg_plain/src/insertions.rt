@@ -1,0 +1,80 @@
+//! Insertions at point.
+ghost use Rattle.std.specs.Prelude.{◌≡◌, ◌∷◌, replicate, take_while, IfOk};
+ghost use Rattle.mg_plain.specs.Characters.{is_blank, newline};
+ghost use Rattle.mg_plain.specs.Insertions as spec;
+
+use crate::characters::is_blank;
+use crate::edit::{change, copy};
+use crate::lines::line_begin;
+use crate::outcome::Plan;
+use crate::view::View;
+use std::alloc::{AllocError, Global};
+
+/// Characters at point, which stays.
+fn put(alloc: Global, view: &View<'_>, chars: Vec<char>) -> Result<Plan, AllocError>
+    ensures { IfOk result (λ p. p ≡ spec.insertion view.now chars.items) }
+{
+    change(alloc, view, view.point, view.point, chars)
+}
+
+/// Characters at point, which goes behind them.
+fn type_in(alloc: Global, view: &View<'_>, chars: Vec<char>) -> Result<Plan, AllocError>
+    ensures { IfOk result (λ p. p ≡ spec.typing view.now chars.items) }
+{
+    let count = chars.as_slice().len();
+    let plan = put(alloc, view, chars)?;
+    match view.point.checked_add(count) {
+        None => Err(AllocError),
+        Some(point) => Ok(Plan { point, ..plan }),
+    }
+}
+
+fn repeated(alloc: Global, ch: char, n: u16) -> Result<Vec<char>, AllocError>
+    ensures { IfOk result (λ v. v.items ≡ replicate n ch) }
+{
+    Ok(vec![in alloc; ch; usize::from(n)]?)
+}
+
+pub(crate) fn insert(alloc: Global, view: &View<'_>, ch: char, n: u16) -> Result<Plan, AllocError>
+    ensures { IfOk result (λ p. p ≡ spec.insert ch n view.now) }
+{
+    type_in(alloc, view, repeated(alloc, ch, n)?)
+}
+
+pub(crate) fn open_line(alloc: Global, view: &View<'_>, n: u16) -> Result<Plan, AllocError>
+    ensures { IfOk result (λ p. p ≡ spec.open_line n view.now) }
+{
+    put(alloc, view, repeated(alloc, '\n', n)?)
+}
+
+/// A newline and the blanks that the line begins with.
+fn newline_and_blanks(alloc: Global, line: &[char]) -> Result<Vec<char>, AllocError>
+    ensures { IfOk result (λ v. v.items ≡ newline ∷ take_while is_blank line.now) }
+{
+    let mut put = vec![in alloc; '\n']?;
+    for c in line {
+        if !is_blank(*c) {
+            return Ok(put);
+        }
+        put.push(*c)?;
+    }
+    Ok(put)
+}
+
+pub(crate) fn newline_and_indent(alloc: Global, view: &View<'_>) -> Result<Plan, AllocError>
+    ensures { IfOk result (λ p. p ≡ spec.newline_and_indent view.now) }
+{
+    let begin = line_begin(view.text, view.point);
+    let put = newline_and_blanks(alloc, &view.text[begin..view.point])?;
+    type_in(alloc, view, put)
+}
+
+pub(crate) fn yank(alloc: Global, view: &View<'_>) -> Result<Plan, AllocError>
+    ensures { IfOk result (λ p. p ≡ spec.yank view.now) }
+{
+    let plan = type_in(alloc, view, copy(alloc, view.kill)?)?;
+    Ok(Plan {
+        mark: Some(view.point),
+        ..plan
+    })
+}

@@ -1,0 +1,98 @@
+//! Deletions, and kills, which keep what they take.
+ghost use Rattle.std.specs.Prelude.{◌≡◌, ◌≤◌, ◌++◌, length, IfOk};
+ghost use Rattle.std.specs.List.{slice_range};
+ghost use Rattle.mg_plain.specs.Answer.{IsAnswer};
+ghost use Rattle.mg_plain.specs.Kills as spec;
+
+use crate::edit::change;
+use crate::lines::line_end;
+use crate::outcome::{Notice, Plan};
+use crate::view::{Kind, View};
+use crate::words::word_end;
+use std::alloc::{AllocError, Global};
+
+fn delete(alloc: Global, view: &View<'_>, lo: usize, hi: usize) -> Result<Plan, AllocError>
+    ensures { IfOk result (λ p. p ≡ spec.deletion view.now lo hi) }
+{
+    change(alloc, view, lo, hi, Vec::new(alloc))
+}
+
+pub(crate) fn delete_char(alloc: Global, view: &View<'_>, n: u16) -> Result<Plan, Notice>
+    ensures { IsAnswer result (spec.delete_char n view.now) }
+{
+    if usize::from(n) > view.text.len() - view.point {
+        return Err(Notice::EndOfBuffer);
+    }
+    Ok(delete(alloc, view, view.point, view.point + usize::from(n))?)
+}
+
+pub(crate) fn delete_backward_char(alloc: Global, view: &View<'_>, n: u16) -> Result<Plan, Notice>
+    ensures { IsAnswer result (spec.delete_backward_char n view.now) }
+{
+    if usize::from(n) > view.point {
+        return Err(Notice::BeginningOfBuffer);
+    }
+    Ok(delete(alloc, view, view.point - usize::from(n), view.point)?)
+}
+
+/// The new kill buffer: behind the old one, where the command before killed too.
+fn kill_buffer(
+    alloc: Global,
+    view: &View<'_>,
+    lo: usize,
+    hi: usize,
+) -> Result<Vec<char>, AllocError>
+    requires order { lo ≤ hi }
+    requires within { hi ≤ length view.now.text }
+    ensures { IfOk result (λ v. v.items
+        ≡ spec.kill_so_far view.now.last view.now.kill ++ slice_range view.now.text lo hi) }
+{
+    let mut chars = Vec::new(alloc);
+    if view.last == Kind::Killing {
+        chars.extend_from_slice(view.kill)?;
+    }
+    chars.extend_from_slice(&view.text[lo..hi])?;
+    Ok(chars)
+}
+
+fn kill(alloc: Global, view: &View<'_>, lo: usize, hi: usize) -> Result<Plan, AllocError>
+    requires order { lo ≤ hi }
+    requires within { hi ≤ length view.now.text }
+    ensures { IfOk result (λ p. p ≡ spec.kill_effect view.now lo hi) }
+{
+    let chars = kill_buffer(alloc, view, lo, hi)?;
+    let plan = delete(alloc, view, lo, hi)?;
+    Ok(Plan {
+        kill: Some(chars),
+        kind: Kind::Killing,
+        ..plan
+    })
+}
+
+pub(crate) fn kill_line(alloc: Global, view: &View<'_>) -> Result<Plan, Notice>
+    ensures { IsAnswer result (spec.kill_line view.now) }
+{
+    if view.point == view.text.len() {
+        return Err(Notice::EndOfBuffer);
+    }
+    let end = line_end(view.text, view.point).max(view.point + 1);
+    Ok(kill(alloc, view, view.point, end)?)
+}
+
+pub(crate) fn kill_word(alloc: Global, view: &View<'_>) -> Result<Plan, Notice>
+    ensures { IsAnswer result (spec.kill_word view.now) }
+{
+    if view.point == view.text.len() {
+        return Err(Notice::EndOfBuffer);
+    }
+    Ok(kill(alloc, view, view.point, word_end(view.text, view.point))?)
+}
+
+pub(crate) fn kill_region(alloc: Global, view: &View<'_>) -> Result<Plan, Notice>
+    ensures { IsAnswer result (spec.kill_region view.now) }
+{
+    match view.mark {
+        None => Err(Notice::NoMark),
+        Some(mark) => Ok(kill(alloc, view, view.point.min(mark), view.point.max(mark))?),
+    }
+}

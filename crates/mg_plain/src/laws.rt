@@ -1,0 +1,18 @@
+//! Theorems about what commands do.
+//!
+//! Each function does nothing: its contract is a theorem over the definitions of `specs/`, which
+//! the check proves like any other contract. The examples are theorems too: they are computed.
+mod effects;
+mod examples;
+mod filling;
+mod places;
+mod searches;
+
+pub use effects::{case_keeps_the_length, effects_stay_within_the_text, kills_keep_what_they_take};
+pub use examples::{
+    edits_of_a_line, kills_and_yanks, scrolls_over_five_lines, searches_replacements_and_filling,
+    steps_over_words, the_goal_stays_over_a_short_line,
+};
+pub use filling::{filling_makes_the_layout, filling_touches_no_word, words_are_the_greatest_runs};
+pub use places::{places_in_words, scans_find_the_least_and_the_greatest};
+pub use searches::searches_in_words;

@@ -1,0 +1,39 @@
+//! The commands of the editor, on a plain text.
+//!
+//! `plan` says what each command of mg(1) does to a text: which splices it makes, where point and
+//! mark go, what the kill buffer becomes; or the notice that is given instead. There is no replica,
+//! no key and no screen in sight, and nothing is changed: a plan is a value. The crate stands on
+//! rga_ops, for the splices alone. The layer above may rest on one equation: what `plan` answers is
+//! the `effect` of the command, a total function with one line a command, want of memory aside,
+//! which comes last. The laws say in words what that function is: least and greatest places, one
+//! layout of a paragraph's words, splices that fall within the text.
+#![tactic(auto)]
+
+mod cases;
+mod characters;
+mod command;
+mod edit;
+mod filling;
+mod insertions;
+mod kills;
+pub mod laws;
+mod lines;
+mod mark;
+mod matching;
+mod motions;
+mod outcome;
+mod paragraphs;
+mod planning;
+mod replacement;
+mod search;
+mod steps;
+mod view;
+mod words;
+
+pub use command::Command;
+pub use matching::{count_matches, find};
+pub use outcome::{Notice, Plan};
+pub use planning::plan;
+pub use rga_ops::Splice;
+pub use steps::Direction;
+pub use view::{Kind, View};

@@ -1,0 +1,84 @@
+//! What each command does.
+ghost use Rattle.std.specs.Prelude.{◌≡◌, true, Err};
+ghost use Rattle.mg_plain.specs.Answer.{IsAnswer};
+ghost use Rattle.mg_plain.specs.Commands.{effect, needs_memory};
+ghost use Rattle.mg_plain.specs.declared.outcome.Notice.TheVariants.{Memory};
+
+use crate::cases::{Casing, recase_word, transpose_chars};
+use crate::command::Command;
+use crate::filling::fill_paragraph;
+use crate::insertions::{insert, newline_and_indent, open_line, yank};
+use crate::kills::{delete_backward_char, delete_char, kill_line, kill_region, kill_word};
+use crate::mark::{
+    copy_region_as_kill, exchange_point_and_mark, mark_whole_buffer, set_mark_command,
+};
+use crate::motions::{
+    backward_char, beginning_of_line, by_lines, by_words, end_of_line, forward_char, move_to,
+    scroll,
+};
+use crate::outcome::{Notice, Plan};
+use crate::replacement::{replace_all, replace_one};
+use crate::search::{search_backward, search_forward};
+use crate::steps::Direction;
+use crate::view::View;
+use std::alloc::Global;
+
+/// What a command does to a text with the argument and the fill column, or the notice why it is not
+/// done. The argument 0 moves, inserts and deletes nothing, and is no notice.
+///
+/// Notices: `BeginningOfBuffer` and `EndOfBuffer` where there is too little text, `NoMark` where a
+/// command of the region has none, `SearchFailed` where a pattern is not found, does not stand
+/// where it is to be replaced, or is empty there; `Memory`, which comes last. Motions, searches and
+/// the commands that set the mark take no memory.
+pub fn plan(
+    alloc: Global,
+    command: &Command,
+    arg: u16,
+    view: &View<'_>,
+    fill: u16,
+) -> Result<Plan, Notice>
+    ensures exact { IsAnswer result (effect command.now arg view.now fill) }
+    ensures memory { result ≡ Err Memory → needs_memory command.now ≡ true }
+{
+    match command {
+        Command::Insert(ch) => Ok(insert(alloc, view, *ch, arg)?),
+        Command::Newline => Ok(insert(alloc, view, '\n', arg)?),
+        Command::OpenLine => Ok(open_line(alloc, view, arg)?),
+        Command::NewlineAndIndent => Ok(newline_and_indent(alloc, view)?),
+        Command::ForwardChar => forward_char(alloc, view, arg),
+        Command::BackwardChar => backward_char(alloc, view, arg),
+        Command::BeginningOfLine => Ok(beginning_of_line(alloc, view)),
+        Command::EndOfLine => Ok(end_of_line(alloc, view)),
+        Command::BeginningOfBuffer => Ok(move_to(alloc, view, 0)),
+        Command::EndOfBuffer => Ok(move_to(alloc, view, view.text.len())),
+        Command::NextLine => by_lines(alloc, view, arg, Direction::Forward),
+        Command::PreviousLine => by_lines(alloc, view, arg, Direction::Backward),
+        Command::ScrollUp { rows } => scroll(alloc, view, *rows, Direction::Forward),
+        Command::ScrollDown { rows } => scroll(alloc, view, *rows, Direction::Backward),
+        Command::ForwardWord => by_words(alloc, view, arg, Direction::Forward),
+        Command::BackwardWord => by_words(alloc, view, arg, Direction::Backward),
+        Command::DeleteChar => delete_char(alloc, view, arg),
+        Command::DeleteBackwardChar => delete_backward_char(alloc, view, arg),
+        Command::KillLine => kill_line(alloc, view),
+        Command::KillWord => kill_word(alloc, view),
+        Command::KillRegion => kill_region(alloc, view),
+        Command::CopyRegionAsKill => copy_region_as_kill(alloc, view),
+        Command::Yank => Ok(yank(alloc, view)?),
+        Command::SetMarkCommand => Ok(set_mark_command(alloc, view)),
+        Command::ExchangePointAndMark => exchange_point_and_mark(alloc, view),
+        Command::MarkWholeBuffer => Ok(mark_whole_buffer(alloc, view)),
+        Command::TransposeChars => transpose_chars(alloc, view),
+        Command::UpcaseWord => recase_word(alloc, view, Casing::Upper),
+        Command::DowncaseWord => recase_word(alloc, view, Casing::Lower),
+        Command::CapitalizeWord => recase_word(alloc, view, Casing::Capital),
+        Command::SearchForward { pattern, start } => {
+            search_forward(alloc, view, pattern, *start)
+        }
+        Command::SearchBackward { pattern, start } => {
+            search_backward(alloc, view, pattern, *start)
+        }
+        Command::ReplaceOne { pattern, put } => replace_one(alloc, pattern, put, view),
+        Command::ReplaceAll { pattern, put } => replace_all(alloc, pattern, put, view),
+        Command::FillParagraph => fill_paragraph(alloc, view, fill),
+    }
+}

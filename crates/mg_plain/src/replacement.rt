@@ -1,0 +1,113 @@
+//! Replacements of matches.
+ghost use Rattle.std.specs.Prelude.{◌≡◌, ◌≤◌, ◌<◌, ◌∷◌, length, [], true, IfOk};
+ghost use Rattle.mg_plain.specs.Answer.{IsAnswer};
+ghost use Rattle.mg_plain.specs.Effect.{edit_effect};
+ghost use Rattle.mg_plain.specs.Replacement as spec;
+
+use crate::edit::{carry_over, edit, splice};
+use crate::matching::{first_match, stands_at};
+use crate::outcome::{Notice, Plan};
+use crate::view::View;
+use rga_ops::Splice;
+use std::alloc::{AllocError, Global};
+
+/// Whether a match ends at point, of a pattern that is not empty.
+fn stands_before_point(pattern: &[char], view: &View<'_>) -> bool
+    ensures exact { result ≡ spec.stands_before_point pattern.now view.now }
+    ensures some { result ≡ true → 0 < length pattern.now }
+{
+    if pattern.is_empty() || pattern.len() > view.point {
+        return false;
+    }
+    stands_at(pattern, view.text, view.point - pattern.len())
+}
+
+/// The splices that replace the match that ends at point and all that follow, falling, and the end
+/// of the last one.
+fn replacements(
+    alloc: Global,
+    pattern: &[char],
+    put: &[char],
+    text: &[char],
+    point: usize,
+) -> Result<(Vec<Splice>, usize), AllocError>
+    requires some { 0 < length pattern.now }
+    requires within { point ≤ length text.now }
+    ensures { IfOk result (λ r. let matches = spec.all_matches pattern.now text.now point in
+        (r.0.items ≡ spec.replacements put.now matches) × (r.1 ≡ spec.last_end point matches)) }
+{
+    let mut end = point;
+    let mut splices = Vec::new(alloc);
+    let first = splice(alloc, point.saturating_sub(pattern.len()), point, put)?;
+    splices.push(first)?;
+    while let Some(i) = first_match(pattern, text, end) {
+        end = i + pattern.len();
+        let next = splice(alloc, i, end, put)?;
+        splices.push(next)?;
+    }
+    splices.reverse();
+    Ok((splices, end))
+}
+
+fn replace_each(
+    alloc: Global,
+    pattern: &[char],
+    put: &[char],
+    view: &View<'_>,
+) -> Result<Plan, AllocError>
+    requires some { 0 < length pattern.now }
+    ensures { IfOk result (λ p. p ≡ spec.replacement_effect put.now
+        (spec.all_matches pattern.now view.now.text view.now.point) view.now) }
+{
+    let (splices, end) = replacements(alloc, pattern, put, view.text, view.point)?;
+    match carry_over(splices.as_slice(), end) {
+        None => Err(AllocError),
+        Some(point) => {
+            let plan = edit(view, splices)?;
+            Ok(Plan { point, ..plan })
+        }
+    }
+}
+
+pub(crate) fn replace_all(
+    alloc: Global,
+    pattern: &[char],
+    put: &[char],
+    view: &View<'_>,
+) -> Result<Plan, Notice>
+    ensures { IsAnswer result (spec.replace_all pattern.now put.now view.now) }
+{
+    if !stands_before_point(pattern, view) {
+        return Err(Notice::SearchFailed);
+    }
+    Ok(replace_each(alloc, pattern, put, view)?)
+}
+
+/// The match that ends at point is replaced.
+fn replace_here(
+    alloc: Global,
+    pattern: &[char],
+    put: &[char],
+    view: &View<'_>,
+) -> Result<Plan, AllocError>
+    ensures { IfOk result (λ p. p ≡ edit_effect view.now
+        (spec.replacements put.now (spec.current_match pattern.now view.now.point ∷ []))) }
+{
+    let begin = view.point.saturating_sub(pattern.len());
+    let one = splice(alloc, begin, view.point, put)?;
+    edit(view, vec![in alloc; one]?)
+}
+
+pub(crate) fn replace_one(
+    alloc: Global,
+    pattern: &[char],
+    put: &[char],
+    view: &View<'_>,
+) -> Result<Plan, Notice>
+    ensures { IsAnswer result (spec.replace_one pattern.now put.now view.now) }
+{
+    if !stands_before_point(pattern, view) {
+        return Err(Notice::SearchFailed);
+    }
+    Ok(replace_here(alloc, pattern, put, view)?)
+}
