@@ -15,4 +15,4 @@ mod text;
 
 pub use fault::ShowFault;
 pub use report::{Message, Report, exit_status};
-pub use show::show_ops;
+pub use show::{show_ops, write_text};

@@ -77,7 +77,8 @@ fn take_whole_log<T: Taker, R: Read>(
     }
 }
 
-fn write_text<W: Write>(text: &str, writer: &mut Counted<W>) -> Result<(), ShowFault>
+/// Writes a text, and flushes the device. `Write` comes exactly where a call failed.
+pub fn write_text<W: Write>(text: &str, writer: &mut Counted<W>) -> Result<(), ShowFault>
     ensures written { OnOk result (Writes W.contents writer.old writer.new text.now) }
     ensures begun { WritesFront W.contents writer.old writer.new text.now }
     ensures fault { IfErr result (λ e. e ≡ ShowFault.Write) }

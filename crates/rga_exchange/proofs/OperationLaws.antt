@@ -23,7 +23,7 @@ use Rattle.rga_exchange.specs.Taking.{Stop, AllTaken, AtEnd, AtFault, Progress, 
 use Rattle.rga_exchange.specs.Log.{LogOutcome, end_outcome, after_bare_operation, after_bare_line, after_rest, after_stop, after_lines, log_outcome}
 use Rattle.rga_exchange.proofs.TakingLaws.{goes_on, line_taken}
 
-abbrev ran : Result LogRead LogFault → Content → LogOutcome
+abbrev pub ran : Result LogRead LogFault → Content → LogOutcome
 ran r c = (c, r)
 
 -- ---- up to the end line
@@ -160,7 +160,7 @@ received_count None limit n number c d h = tt
 received_count (Some bytes) limit n number c d h = let w = stream_ends limit n c d number bytes h in omega (arith, w.count)
 
 -- a log of which all lines were taken, and then the rest; the taker's own limit may be another name of the same number
-log_ends : (limit own n : ℕ) (c e d : Content) (rest bytes : List ℕ) (told : Result LogRead LogFault) → own ≡ limit → (stream_taken limit c bytes ≡ progress n e AllTaken) × (rest_of bytes ≡ rest) → after_rest own n e rest ≡ ran told d → log_outcome limit c bytes ≡ ran told d
+pub log_ends : (limit own n : ℕ) (c e d : Content) (rest bytes : List ℕ) (told : Result LogRead LogFault) → own ≡ limit → (stream_taken limit c bytes ≡ progress n e AllTaken) × (rest_of bytes ≡ rest) → after_rest own n e rest ≡ ran told d → log_outcome limit c bytes ≡ ran told d
 log_ends limit own n c e d rest bytes told is h outcome =
     (λ k. after_lines limit (h.1 k) (h.0 k)) ∙ sym (ap (λ l. after_rest l n e rest) is) ∙ outcome
 

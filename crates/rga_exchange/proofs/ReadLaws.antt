@@ -1,26 +1,25 @@
 -- What was read of a device, and what was taken of it.
-use Rattle.std.proofs.Common.{◌≡◌, ℕ, ◌+◌, ◌≤◌, List, [], ◌∷◌, ◌++◌, length, Option, Some, None, sym, ap, subst, ◌∙◌, append-nil, arith}
+use Rattle.std.proofs.Common.{◌≡◌, ℕ, ◌≤◌, List, [], ◌∷◌, ◌++◌, length, Option, Some, None, Result, Ok, sym, ap, subst, ◌∙◌, append-nil, arith}
 use Rattle.std.specs.Prelude.{IfSome}
 use Rattle.std.specs.Io.KnownBytes.{Consumes, Keeps, IsAtEnd}
 use Rattle.std.proofs.KnownBytes.{Consumes-nil, Consumes-trans, Consumes-kept, Consumes-whole}
 use Rattle.rga_ops.specs.Content.{Content}
-use Rattle.rga_ops.specs.Answer.{taken_one_by_one}
 use Rattle.rga_ops.specs.declared.op.Op.{Op}
-use Rattle.rga_lines.specs.Counting.{Calls, OnBytes}
+use Rattle.rga_lines.specs.Counting.{Calls, IsReadToEnd, OnBytes}
 use Rattle.rga_lines.specs.Log.{operations_of}
 use Rattle.rga_lines.specs.Stream.{lines_of, rest_of}
 use Rattle.rga_lines.specs.declared.reading.TheConstants.{MAX_LINE}
 use Rattle.rga_lines.proofs.SplitterLemmas.{rest_is_all}
 use Rattle.rga_exchange.specs.declared.block.TheConstants.{BLOCK}
 use Rattle.rga_exchange.specs.declared.fault.LogFault.{LogFault}
-use Rattle.rga_exchange.specs.Taking.{Stop, AllTaken, AtFault, progress, lines_taken, bytes_taken, AreTaken, HasTakenLines, HasTakenWholeLines, HasTakenLog}
+use Rattle.rga_exchange.specs.Taking.{Stop, AllTaken, AtFault, progress, lines_taken, bytes_taken, AreTaken, HasTakenLines, HasTakenWholeLines}
 use Rattle.rga_exchange.specs.declared.log.LogEnd.{LogEnd}
-use Rattle.rga_exchange.specs.Log.{after_rest, end_outcome}
+use Rattle.rga_exchange.specs.declared.log.LogRead.{LogRead}
+use Rattle.rga_exchange.specs.Log.{LogOutcome, after_rest, end_outcome, HasTakenLog}
 use Rattle.rga_exchange.specs.Receiving.{EndsWithLastRead}
 use Rattle.rga_exchange.specs.Parts.{Takes, TakesUpTo, StopsAs, LeadsTo, HasTakenOfRead, HasTakenAllBut}
 use Rattle.rga_exchange.proofs.TakingLaws.{takes_nothing, takes_more_bytes, takes_after, only_rest, are_taken, operations_of-append, FollowsOn, then_nothing, up_to_chain}
-use Rattle.rga_exchange.proofs.OperationLaws.{then_taken, rest_taken}
-use Rattle.rga_exchange.proofs.StopLaws.{operations_are_taken}
+use Rattle.rga_exchange.proofs.OperationLaws.{log_ends, log_taken}
 
 -- where no line waits, the lines that were taken are all that were read
 all_lines : (limit n : ℕ) (c d : Content) (bytes w : List ℕ) (s : Takes limit 0 c bytes n d w) → lines_of w ≡ [] → lines_of bytes ≡ s.lines
@@ -111,28 +110,31 @@ module _ {R T : Type 0} (remaining : R → Option (List ℕ)) (limit : T → ℕ
       whole_read r s next t u n w h (Consumes-kept (remaining r.inner) (remaining s.inner) (remaining next.inner) (all_read h.read) h.read.read kept) none
 
   -- and where the input ends, with what waits as the rest
-  pub all_but_rest : (r s next : Calls R) (t u : T) (n : ℕ) (w rest : List ℕ) → HasTakenOfRead remaining limit content follows r s t u n w → Consumes (remaining s.inner) (remaining next.inner) [] → lines_of w ≡ [] → rest ≡ w → HasTakenAllBut remaining limit content follows r next t u rest
-  all_but_rest r s next t u n w rest h nothing none is =
+  pub all_but_rest : (r s next : Calls R) (t u : T) (n : ℕ) (w rest : List ℕ) → HasTakenOfRead remaining limit content follows r s t u n w → Consumes (remaining s.inner) (remaining next.inner) [] → IsReadToEnd remaining next → lines_of w ≡ [] → length w ≤ MAX_LINE → rest ≡ w → HasTakenAllBut remaining limit content follows r next t u n rest
+  all_but_rest r s next t u n w rest h nothing end none short is =
       let all = all_read h.read in
       record {
+        end = end;
+        lines = ap (bytes_taken (limit t) 0 (content t)) (sym (append-nil all))
+            ∙ takes_after (limit t) 0 n (content t) (content u) all w h.up_to.takes []
+            ∙ only_rest (limit t) n (content u) w none (rest_is_all w none) short;
         whole = whole_read r s next t u n w h (subst (Consumes (remaining r.inner) (remaining next.inner)) (append-nil all) (Consumes-trans (remaining r.inner) (remaining s.inner) (remaining next.inner) all [] h.read.read nothing)) none;
         rest = ap rest_of (sym (append-nil all)) ∙ h.up_to.takes.rest [] ∙ ap rest_of (append-nil w) ∙ rest_is_all w none ∙ sym is;
       }
 
   -- the rest of a log is taken behind its lines; the taker's own limit may be another name of the same number
-  pub whole_log : FollowsOn follows → (r s : Calls R) (t u v : T) (n : ℕ) (rest : List ℕ) (end : LogEnd) → limit u ≡ limit t → HasTakenAllBut remaining limit content follows r s t u rest → after_rest (limit u) n (content u) rest ≡ end_outcome n (content v) end → follows u (operations_of (rest ∷ [])) v → HasTakenLog remaining limit content follows r s t v
+  pub whole_log : FollowsOn follows → (r s : Calls R) (t u v : T) (n : ℕ) (rest : List ℕ) (end : LogEnd) → limit u ≡ limit t → HasTakenAllBut remaining limit content follows r s t u n rest → after_rest (limit u) n (content u) rest ≡ end_outcome n (content v) end → follows u (operations_of (rest ∷ [])) v
+      → HasTakenLog remaining limit content follows (λ (o : Result LogRead LogFault). o) (Ok (record { lines = n; end = end })) r s t v
   whole_log follows_on r s t u v n rest end is h ends more =
       let bytes = h.whole.bytes in
-      let before = h.whole.taken in
+      let all = log_ends (limit t) (limit u) n (content t) (content u) (content v) rest bytes (Ok (record { lines = n; end = end })) is (h.lines, h.rest) ends in
       record {
+        end = h.end;
         bytes = bytes;
         read = h.whole.read;
-        taken = then_taken (limit t) 0 (0 + length (lines_of bytes)) (content t) (content u) (lines_of bytes) (rest_of bytes ∷ [])
-            (operations_are_taken (limit t) 0 (content t) (content u) (lines_of bytes) before.operations before.taken)
-            ∙ ap (λ l. taken_one_by_one (limit t) (content u) (operations_of (l ∷ []))) h.rest
-            ∙ rest_taken (limit t) n (content u) (content v) (record { lines = n; end = end }) rest
-            (subst (λ l. after_rest l n (content u) rest ≡ end_outcome n (content v) end) is ends);
-        beside = subst (λ ops. follows t ops v) (sym (operations_of-append (lines_of bytes) (rest_of bytes ∷ []) before.operations))
+        outcome = (ap (λ (o : LogOutcome). o.0) all, ap (λ (o : LogOutcome). o.1) all);
+        taken = log_taken (limit t) (content t) (content v) (record { lines = n; end = end }) bytes all;
+        beside = subst (λ ops. follows t ops v) (sym (operations_of-append (lines_of bytes) (rest_of bytes ∷ []) h.whole.taken.operations))
             (follows_on t u v (operations_of (lines_of bytes)) (operations_of (rest_of bytes ∷ [])) h.whole.beside
             (subst (λ l. follows u (operations_of (l ∷ [])) v) (sym h.rest) more));
       }

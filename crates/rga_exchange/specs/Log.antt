@@ -1,9 +1,11 @@
 -- What a log leads to.
 use Rattle.std.specs.Prelude.{◌≡◌, ◌≢◌, ℕ, ◌+◌, List, [], ◌∷◌, length, Option, Result, Ok, Err, OnOk, OnErr}
+use Rattle.std.specs.Io.KnownBytes.{Consumes}
 use Rattle.rga_ops.specs.Prelude.{Content, taken, join, content_of}
+use Rattle.rga_ops.specs.Answer.{taken_one_by_one}
 use Rattle.rga_ops.specs.declared.op.Op.{Op}
 use Rattle.rga_ops.specs.declared.refusal.Refusal.{Refusal}
-use Rattle.rga_lines.specs.Counting.{Calls, OnBytes}
+use Rattle.rga_lines.specs.Counting.{Calls, IsReadToEnd, OnBytes}
 use Rattle.rga_lines.specs.Log.{log_operations}
 use Rattle.rga_lines.specs.Table.{Reading, line_at}
 use Rattle.rga_lines.specs.Stream.{rest_of}
@@ -15,7 +17,7 @@ use Rattle.rga_exchange.specs.declared.log.LogEnd.TheVariants.{Whole, Bare, Torn
 use Rattle.rga_exchange.specs.declared.log.LogRead.{LogRead}
 use Rattle.rga_exchange.specs.declared.fault.ReceiveFault.{ReceiveFault}
 use Rattle.rga_exchange.specs.Receiving.{receive_fault}
-use Rattle.rga_exchange.specs.Taking.{Stop, AllTaken, AtEnd, AtFault, Progress, stream_taken, HasTakenLines, HasTakenWholeLines, HasTakenLog}
+use Rattle.rga_exchange.specs.Taking.{Stop, AllTaken, AtEnd, AtFault, Progress, stream_taken, HasTakenLines, HasTakenWholeLines}
 
 -- the content, and the number of lines with how the log ends, or a fault
 abbrev pub LogOutcome : Type 0
@@ -62,13 +64,26 @@ log_end (Err e) = Err (receive_fault e)
 
 -- What comes of a log that a taker takes from a reader, where its outcome is told so.
 module _ {R T A E : Type 0} (remaining : R → Option (List ℕ)) (limit : T → ℕ) (content : T → Content) (follows : T → List Op → T → Type 0) (told : Result LogRead LogFault → Result A E) (result : Result A E) where
+  -- these bytes, as a whole log, lead to what is held and to what is answered
+  abbrev pub LeadsToAnswer : T → T → List ℕ → Type 0
+  LeadsToAnswer t u bytes = let p = log_outcome (limit t) (content t) bytes in (p.0 ≡ content u) × (told p.1 ≡ result)
+
+  -- The reader was read to its end. What it gave, as a whole log, led to what is held and to what is answered: all its
+  -- operations were taken, and nothing else.
+  pub record HasTakenLog (r s : Calls R) (t u : T) : Type 0 where
+    pub end : IsReadToEnd remaining s
+    pub bytes : List ℕ
+    pub read : Consumes (remaining r.inner) (remaining s.inner) bytes
+    pub outcome : LeadsToAnswer t u bytes
+    pub taken : taken_one_by_one (limit t) (content t) (log_operations bytes) ≡ Ok (content u)
+    pub beside : follows t (log_operations bytes) u
+
   pub record TakesLog (r s : Calls R) (t u : T) : Type 0 where
     -- however the reads cut the bytes, they lead to what the whole log leads to
-    pub outcome : result ≢ told (Err fault.Read) → result ≢ told (Err fault.Memory) → OnBytes remaining r (λ bytes.
-        let p = log_outcome (limit t) (content t) bytes in (p.0 ≡ content u) × (told p.1 ≡ result))
+    pub outcome : result ≢ told (Err fault.Read) → result ≢ told (Err fault.Memory) → OnBytes remaining r (LeadsToAnswer t u)
     pub joined : OnOk result (OnBytes remaining r (λ bytes. content u ≡ join (content t) (content_of (log_operations bytes))))
     pub whole_lines : result ≡ told (Err fault.Read) → HasTakenWholeLines remaining limit content follows r s t u
     -- whatever the fault, the first lines that were read were taken, and nothing else
     pub lines : OnErr result (HasTakenLines remaining limit content follows r s t u)
-    -- without one all operations were, and nothing else
-    pub log : OnOk result (HasTakenLog remaining limit content follows r s t u)
+    -- without one all operations were, to the end of the input, and nothing else
+    pub log : OnOk result (HasTakenLog r s t u)

@@ -2,7 +2,7 @@
 use Rattle.std.specs.Prelude.{◌≡◌, ℕ, List, ◌++◌, Option, Result}
 use Rattle.rga_ops.specs.Content.{Content}
 use Rattle.rga_ops.specs.declared.op.Op.{Op}
-use Rattle.rga_lines.specs.Counting.{Calls}
+use Rattle.rga_lines.specs.Counting.{Calls, IsReadToEnd}
 use Rattle.rga_lines.specs.Log.{operations_of}
 use Rattle.rga_lines.specs.Stream.{lines_of, rest_of}
 use Rattle.rga_lines.specs.Table.{any_line_at}
@@ -55,12 +55,14 @@ module _ {R T : Type 0} (remaining : R → Option (List ℕ)) (limit : T → ℕ
     pub read : EndsWithLastRead remaining r s
     pub up_to : TakesUpTo limit content follows t u 0 n (read.before ++ read.last) waiting
 
-  -- all whole lines were taken, and this rest is left
-  pub record HasTakenAllBut (r s : Calls R) (t u : T) (left : List ℕ) : Type 0 where
+  -- the input was read to its end, all whole lines were taken, so many, and this rest is left
+  pub record HasTakenAllBut (r s : Calls R) (t u : T) (n : ℕ) (left : List ℕ) : Type 0 where
+    pub end : IsReadToEnd remaining s
     pub whole : HasTakenWholeLines remaining limit content follows r s t u
+    pub lines : LeadsTo limit content t u whole.bytes n AllTaken
     pub rest : rest_of whole.bytes ≡ left
 
   -- the rest at the end of the input
-  abbrev pub LeavesRest : Calls R → Calls R → T → T → StreamEnd → Type 0
-  LeavesRest r s t u (EndLine number) = Unit {0}
-  LeavesRest r s t u (Input rest) = HasTakenAllBut r s t u rest.items
+  abbrev pub LeavesRest : Calls R → Calls R → T → T → ℕ → StreamEnd → Type 0
+  LeavesRest r s t u n (EndLine number) = Unit {0}
+  LeavesRest r s t u n (Input rest) = HasTakenAllBut r s t u n rest.items

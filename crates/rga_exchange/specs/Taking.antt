@@ -10,7 +10,7 @@ use Rattle.rga_lines.specs.Counting.{Calls}
 use Rattle.rga_lines.specs.Table.{AnyReading, any_line_at}
 use Rattle.rga_lines.specs.declared.reading.TheConstants.{MAX_LINE}
 use Rattle.rga_lines.specs.Stream.{lines_of, rest_of}
-use Rattle.rga_lines.specs.Log.{operations_of, log_operations, IsOperation}
+use Rattle.rga_lines.specs.Log.{operations_of, IsOperation}
 use Rattle.rga_lines.specs.declared.reading.Line.TheVariants.{One, Last}
 use Rattle.rga_lines.specs.declared.fault.LineFault.TheVariants as line_fault
 use Rattle.rga_exchange.specs.declared.fault.LogFault.{LogFault}
@@ -100,10 +100,3 @@ module _ {R T : Type 0} (remaining : R → Option (List ℕ)) (limit : T → ℕ
     pub read : Consumes (remaining r.inner) (remaining s.inner) bytes
     pub taken : AreTaken (limit t) (lines_of bytes) (content t) (content u)
     pub beside : follows t (operations_of (lines_of bytes)) u
-
-  -- all operations of what the reader gave were taken as those of a log, and nothing else
-  pub record HasTakenLog : Type 0 where
-    pub bytes : List ℕ
-    pub read : Consumes (remaining r.inner) (remaining s.inner) bytes
-    pub taken : taken_one_by_one (limit t) (content t) (log_operations bytes) ≡ Ok (content u)
-    pub beside : follows t (log_operations bytes) u

@@ -33,7 +33,8 @@ pub struct LogRead {
 
 /// Takes the operations of a log, to the end of the input: those of its lines, and that of a last
 /// line without newline where it is one. Answers what stands behind the whole lines, and how many
-/// they are. Before each read the whole lines read so far are taken.
+/// they are. Before each read the whole lines read so far are taken. `Ok` comes only once a read
+/// gave no bytes, whatever the reader.
 ///
 /// Faults, of which the first in the order of the lines is answered: `Line`, where an end line of
 /// an exchange is `Kind` and a rest of more than 65536 bytes is `Long`; `Refused`. `Read` and
@@ -101,6 +102,7 @@ pub fn read_log<T: Taker, R: Read>(
 ) -> Result<LogEnd, ReceiveFault>
     ensures taken { TakesLog R.remaining T.limit T.content T.follows log_end
         result reader.old reader.new taker.old taker.new }
+    ensures never { (result ≢ Err ReceiveFault.Cut) × (result ≢ Err ReceiveFault.Count) }
     ensures device { CountsAs ReceiveFault.Read result reader.old reader.new }
     ensures limit { T.limit taker.new ≡ T.limit taker.old }
 {

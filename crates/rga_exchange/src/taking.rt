@@ -49,7 +49,7 @@ pub(crate) fn take_stream<T: Taker, R: Read>(
     ensures whole_lines { IfErr result (λ e. e ≡ ReadFailed → HasTakenWholeLines
         R.remaining T.limit T.content T.follows reader.old reader.new taker.old taker.new) }
     ensures rest { IfOk result (λ s. LeavesRest R.remaining T.limit T.content T.follows
-        reader.old reader.new taker.old taker.new s.end) }
+        reader.old reader.new taker.old taker.new s.lines s.end) }
     ensures last { IfOk result (λ s. StopsReading R.remaining reader.old reader.new s.end) }
     ensures device { CountsAs ReadFailed result reader.old reader.new }
     ensures limit { T.limit taker.new ≡ T.limit taker.old }

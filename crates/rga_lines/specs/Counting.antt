@@ -1,20 +1,23 @@
 -- A device whose failed calls are counted, and whose calls come to an end.
-use Rattle.std.specs.Prelude.{◌≡◌, ◌≢◌, ℕ, ◌+◌, ◌-◌, ◌^◌, ◌<◌, ◌≤◌, ◌⊎◌, ◌&&◌, ◌==◌, min, List, ◌++◌, length, nat_lt, if◌then◌else◌, Option, IfSome, Result, Err, MatchResult, ⊤, refl}
-use Rattle.std.specs.Coded.{Coded, code_by, coded×, coded_ℕ}
-use Rattle.std.specs.Io.KnownBytes.{Keeps, Appends}
+use Rattle.std.specs.Prelude.{◌≡◌, ◌≢◌, ℕ, ◌+◌, ◌-◌, ◌^◌, ◌≤◌, ◌⊎◌, ◌&&◌, ◌==◌, Bool, true, min, List, ◌++◌, length, nat_lt, if◌then◌else◌, Option, IfSome, Result, Err, MatchResult, ⊤, refl}
+use Rattle.std.specs.Coded.{Coded, code_by, coded×, coded_bool, coded_ℕ}
+use Rattle.std.specs.Io.KnownBytes.{Keeps, Appends, IsAtEnd}
 use Rattle.rga_lines.specs.declared.counted.TheConstants.{MAX_CALLS}
 
--- what a contract sees of a `Counted`: the device, how many calls failed, and how many more are passed on to it
+-- what a contract sees of a `Counted`: the device, how many calls failed, how many more are passed on to it, and whether
+-- the last read that it answered gave no bytes though there was room
 pub record Calls (T : Type 0) : Type 0 where
   pub inner : T
   pub failures : ℕ
   pub left : ℕ
+  pub at_end : Bool
 
 -- they are stored as the tuple of the fields
 abbrev pub calls_code : {T : Type 0} → Coded T → Coded (Calls T)
 calls_code {T} code =
-    code_by (T × (ℕ × ℕ)) (coded× code (coded× coded_ℕ coded_ℕ)) (λ c. (c.inner, (c.failures, c.left)))
-    (λ p. record { inner = p.0; failures = p.1.0; left = p.1.1 }) (λ _. refl)
+    code_by (T × (ℕ × (ℕ × Bool))) (coded× code (coded× coded_ℕ (coded× coded_ℕ coded_bool)))
+    (λ c. (c.inner, (c.failures, (c.left, c.at_end))))
+    (λ p. record { inner = p.0; failures = p.1.0; left = p.1.1.0; at_end = p.1.1.1 }) (λ _. refl)
 
 -- where the count of failures stops: the greatest `u64`
 abbrev pub max_failures : ℕ
@@ -39,6 +42,10 @@ module _ {T : Type 0} where
       (λ n. new.failures ≡ (if (n == 0) && nat_lt 0 (length buf) then one_more old.failures else old.failures))
       (λ _. new.failures ≡ one_more old.failures)
 
+  -- a read that is answered tells whether it gave no bytes though there was room, and one that fails tells nothing
+  abbrev pub TellsEnd : {E : Type 0} → Result ℕ E → List ℕ → Calls T → Calls T → Type 0
+  TellsEnd r buf old new = MatchResult r (λ n. new.at_end ≡ ((n == 0) && nat_lt 0 (length buf))) (λ _. new.at_end ≡ old.at_end)
+
   -- A call that is passed on costs one of those that are left, whether it fails or not; one that is not costs none.
   pub record Costs (old new : Calls T) : Type 0 where
     pub passed_on : ¬ (IsSpent old) → old.left ≡ new.left + 1
@@ -56,6 +63,12 @@ module _ {T : Type 0} where
 -- what a reader is known to give leads to this
 abbrev pub OnBytes : {R : Type 0} → (R → Option (List ℕ)) → Calls R → (List ℕ → Type 0) → Type 0
 OnBytes remaining reader P = IfSome (remaining reader.inner) P
+
+-- The input was read to its end: the last read gave no bytes though there was room, whatever the reader; and of known
+-- bytes none is left.
+pub record IsReadToEnd {R : Type 0} (remaining : R → Option (List ℕ)) (new : Calls R) : Type 0 where
+  pub last_read : new.at_end ≡ true
+  pub none_left : IsAtEnd (remaining new.inner)
 
 module _ {W : Type 0} (contents : W → Option (List ℕ)) (old new : Calls W) where
   -- known bytes stay as they were

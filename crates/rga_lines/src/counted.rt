@@ -11,11 +11,14 @@ pub const MAX_CALLS: u64 = 1099511627776;
 /// write of some bytes that takes none of them. At most `MAX_CALLS` calls in all are passed on; a
 /// further one is not made and counts as failed, so that each loop over a device ends. At the
 /// greatest `u64` of failures no call is made any more, and each fails.
+///
+/// It also keeps whether the last read that was answered found the end of the input.
 #[derive(Drop)]
 pub struct Counted<T> {
     inner: T,
     left: u64,
     failures: u64,
+    at_end: bool,
 }
 
 impl<T> Model for Counted<T> {
@@ -27,25 +30,36 @@ impl<T> Model for Counted<T> {
 
     ghost coded = { calls_code T.code };
 
-    ghost view = { λ c. record { inner = c.inner; failures = c.failures; left = c.left } };
+    ghost view = { λ c. record {
+      inner = c.inner;
+      failures = c.failures;
+      left = c.left;
+      at_end = c.at_end;
+    } };
 
     ghost invariant = { λ c. c.left ≤ MAX_CALLS };
 }
 
 impl<T> Counted<T> {
-    ghost use Rattle.std.specs.Prelude.{◌≡◌, ◌+◌, ◌≤◌};
+    ghost use Rattle.std.specs.Prelude.{◌≡◌, ◌+◌, ◌≤◌, false};
     ghost use Rattle.std.specs.Bool.{MatchBool};
     ghost use Rattle.rga_lines.specs.Counting.{one_more, IsSpent};
     ghost use Rattle.rga_lines.specs.declared.counted.TheConstants.{MAX_CALLS};
 
-    /// The device, with no failure yet and all calls left.
+    /// The device, with no failure yet, no end found and all calls left.
     pub fn new(inner: T) -> Self
-        ensures { result ≡ record { inner = inner; failures = 0; left = MAX_CALLS } }
+        ensures { result ≡ record {
+          inner = inner;
+          failures = 0;
+          left = MAX_CALLS;
+          at_end = false;
+        } }
     {
         Counted {
             inner,
             left: MAX_CALLS,
             failures: 0,
+            at_end: false,
         }
     }
 
@@ -57,6 +71,7 @@ impl<T> Counted<T> {
             inner,
             left: _,
             failures: _,
+            at_end: _,
         } = self;
         inner
     }
@@ -95,7 +110,7 @@ impl<R: Read> Read for Counted<R> {
     ghost use Rattle.std.specs.Prelude.{◌≡◌, IsErr};
     ghost use Rattle.std.specs.Io.{ReadsAtMost};
     ghost use Rattle.std.specs.Io.KnownBytes.{ReadConsumes};
-    ghost use Rattle.rga_lines.specs.Counting.{Counts, UsesCall, IsSpent};
+    ghost use Rattle.rga_lines.specs.Counting.{Counts, TellsEnd, UsesCall, IsSpent};
 
     ghost remaining = { λ c. R.remaining c.inner };
 
@@ -103,6 +118,7 @@ impl<R: Read> Read for Counted<R> {
         ensures bound { ReadsAtMost result buf.new }
         ensures bytes { ReadConsumes (R.remaining self.old.inner) (R.remaining self.new.inner)
             result buf.new }
+        ensures end { TellsEnd result buf.new self.old self.new }
         ensures device { Counts result self.old self.new }
         ensures calls { UsesCall result self.old self.new }
         ensures spent { IsSpent self.old → IsErr result × (self.new.inner ≡ self.old.inner) }
@@ -112,7 +128,10 @@ impl<R: Read> Read for Counted<R> {
             return Err(Error::from(ErrorKind::Other));
         }
         match self.inner.read(buf) {
-            Ok(n) => Ok(n),
+            Ok(n) => {
+                self.at_end = n == 0 && !buf.is_empty();
+                Ok(n)
+            }
             Err(e) => {
                 self.fail();
                 Err(e)

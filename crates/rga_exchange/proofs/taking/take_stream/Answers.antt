@@ -1,6 +1,8 @@
-use Rattle.std.proofs.Common.{◌≡◌, ◌∙◌, ◌++◌, Ok, take, refl, ap, arith, length-append}
+use Rattle.std.proofs.Common.{◌≡◌, ◌∙◌, ◌++◌, Ok, take, length, refl, ap, arith, length-append}
+use Rattle.std.proofs.lemmas.Bool.{lt-ltb}
 use Rattle.std.proofs.lemmas.Result.{err_from_is_err_and}
 use Rattle.std.proofs.lemmas.List.{length-take}
+use Rattle.rga_lines.specs.Counting.{IsReadToEnd}
 use Rattle.rga_lines.specs.Stream.{Splitting, holds}
 use Rattle.rga_lines.proofs.SplitterLemmas.{fed_holds}
 use Rattle.rga_exchange.specs.Taking.{AtEnd}
@@ -93,4 +95,5 @@ returns-then-count-eq0-clause-rest g c =
     let tracks = read_lines _ _ _ _ g.T.Taker.follows_on c.args.reader.now c.reads.reader c.args.taker.now c.reads.taker c.take_lines.new.taker c.reads.lines c.take_lines.new.lines c.reads.splitter.waiting c.take_lines.new.splitter.waiting c.reads.invariant.limit c.reads.invariant.read (c.in_ok-number.ensures.all cc) in
     let read = rw c.if-count-eq0.true at c.in-Ok.ensures.bytes in
     let none = c.in_ok-number.ensures.none_left cc in
-    all_but_rest _ _ _ _ c.args.reader.now c.reads.reader c.read.new.self c.args.taker.now c.take_lines.new.taker c.take_lines.new.lines c.take_lines.new.splitter.waiting c.finish.result.items tracks read.0 none.0 c.finish.ensures.rest
+    let end : IsReadToEnd g.R.Read.remaining c.read.new.self = record { last_read = (rw c.if-count-eq0.true at c.in-Ok.ensures.end) ∙ lt-ltb 0 (length c.read.new.buf) (omega arith); none_left = read.1 refl (omega arith) } in
+    all_but_rest _ _ _ _ c.args.reader.now c.reads.reader c.read.new.self c.args.taker.now c.take_lines.new.taker c.take_lines.new.lines c.take_lines.new.splitter.waiting c.finish.result.items tracks read.0 end none.0 none.1 c.finish.ensures.rest
