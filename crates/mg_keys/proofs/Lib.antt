@@ -1,0 +1,3 @@
+pub mod HighLaws
+pub mod NameLaws
+pub mod TextLaws

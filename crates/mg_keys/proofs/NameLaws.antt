@@ -1,0 +1,14 @@
+-- Names of other lengths.
+use Rattle.std.proofs.Common.{◌≡◌, ℕ, suc, true, false, ◌&&◌, List, [], ◌∷◌, length, ap, refl}
+use Rattle.std.specs.Prelude.{nat_eq}
+use Rattle.mg_keys.specs.KeyTable.{same_keys}
+
+-- what has another length is another name
+pub other_length : (js ks : List ℕ) → (length js ≡ length ks → ⊥) → false ≡ same_keys js ks
+other_length [] [] h = absurd (h refl)
+other_length [] (k ∷ ks) h = refl
+other_length (j ∷ js) [] h = refl
+other_length (j ∷ js) (k ∷ ks) h = elim (nat_eq j k) as (λ b. false ≡ (b && same_keys js ks)) [
+  | true ↦ other_length js ks (λ e. h (ap suc e))
+  | false ↦ refl
+]

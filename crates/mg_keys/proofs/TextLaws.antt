@@ -1,0 +1,38 @@
+-- A character goes on, in a prompt and in a search.
+use Rattle.std.proofs.Common.{◌≡◌, ℕ, sym, subst}
+use Rattle.mg_keys.specs.declared.argument.Argument.{Argument}
+use Rattle.mg_keys.specs.declared.sequence.Advance.{Advance}
+use Rattle.mg_keys.specs.declared.sequence.Advance.TheVariants.{Whole, On, Nothing}
+use Rattle.mg_keys.specs.declared.sequence.Sequence.{Sequence}
+use Rattle.mg_keys.specs.declared.sequence.Sequence.TheVariants.{Character}
+use Rattle.mg_keys.specs.declared.step.Mode.{Mode}
+use Rattle.mg_keys.specs.declared.step.Mode.TheVariants.{Prompt, Search}
+use Rattle.mg_keys.specs.declared.utf8.Continuation.{Continuation}
+use Rattle.mg_keys.specs.Begun.{KeyState, text_rest}
+use Rattle.mg_keys.specs.Advance.{TextAdvances, Advances}
+
+abbrev keys_at : Mode → Argument → Sequence → KeyState
+keys_at m a sequence = record { mode = m; argument = a; sequence = sequence }
+
+in_prompt : (a : Argument) (begun : Continuation) (byte : ℕ) (r : Advance) → TextAdvances Prompt (text_rest Prompt (Character begun)) byte r → Advances (keys_at Prompt a (Character begun)) byte r
+in_prompt a begun byte (Whole s) h = h
+in_prompt a begun byte (On b sequence) h = h
+in_prompt a begun byte Nothing h = h
+
+in_search : (a : Argument) (begun : Continuation) (byte : ℕ) (r : Advance) → TextAdvances Search (text_rest Search (Character begun)) byte r → Advances (keys_at Search a (Character begun)) byte r
+in_search a begun byte (Whole s) h = h
+in_search a begun byte (On b sequence) h = h
+in_search a begun byte Nothing h = h
+
+-- keys of that mode that have read that much
+at : (keys : KeyState) (m : Mode) (begun : Continuation) (byte : ℕ) (r : Advance) → keys.mode ≡ m → keys.sequence ≡ Character begun → Advances (keys_at m keys.argument (Character begun)) byte r → Advances keys byte r
+at keys m begun byte r by on h =
+    let P : Mode → Type 0 = λ x. Advances (keys_at x keys.argument (Character begun)) byte r in
+    let Q : Sequence → Type 0 = λ x. Advances (keys_at keys.mode keys.argument x) byte r in
+    subst Q (sym on) (subst P (sym by) h)
+
+pub prompt_character : (keys : KeyState) (begun : Continuation) (byte : ℕ) (r : Advance) → keys.mode ≡ Prompt → keys.sequence ≡ Character begun → TextAdvances Prompt (text_rest Prompt (Character begun)) byte r → Advances keys byte r
+prompt_character keys begun byte r by on h = at keys Prompt begun byte r by on (in_prompt keys.argument begun byte r h)
+
+pub search_character : (keys : KeyState) (begun : Continuation) (byte : ℕ) (r : Advance) → keys.mode ≡ Search → keys.sequence ≡ Character begun → TextAdvances Search (text_rest Search (Character begun)) byte r → Advances keys byte r
+search_character keys begun byte r by on h = at keys Search begun byte r by on (in_search keys.argument begun byte r h)

@@ -1,0 +1,33 @@
+-- Arguments, as C-u and digits give them.
+use Rattle.std.specs.Prelude.{ℕ, ◌+◌, ◌*◌, ◌-◌, Bool, Option, Some, None, nat_eq, if◌then◌else◌, min}
+use Rattle.mg_keys.specs.declared.argument.Argument.{Argument}
+use Rattle.mg_keys.specs.declared.argument.Argument.TheVariants.{Absent, Multiplied, Typed}
+use Rattle.mg_keys.specs.declared.argument.TheConstants.{MAX_ARGUMENT}
+use Rattle.mg_keys.specs.declared.bytes.TheConstants.{UNIVERSAL_ARGUMENT}
+use Rattle.mg_keys.specs.Utf8.{is_between}
+
+abbrev pub is_digit : ℕ → Bool
+is_digit b = is_between 48 57 b
+
+abbrev pub capped : ℕ → ℕ
+capped n = min n MAX_ARGUMENT
+
+-- the first digit behind a C-u replaces what it gave, further ones are appended; without a C-u a digit is a character
+abbrev pub with_digit : Argument → ℕ → Option Argument
+with_digit Absent d = None
+with_digit (Multiplied n) d = Some (Typed d)
+with_digit (Typed n) d = Some (Typed (capped (10 * n + d)))
+
+abbrev pub four_times : Argument → Argument
+four_times Absent = Multiplied 4
+four_times (Multiplied n) = Multiplied (capped (4 * n))
+four_times (Typed n) = Multiplied (capped (4 * n))
+
+-- the argument with one byte more of an argument part, if the byte goes on with it
+abbrev pub with_byte : Argument → ℕ → Option Argument
+with_byte a b = if nat_eq b UNIVERSAL_ARGUMENT then Some (four_times a) else (if is_digit b then with_digit a (b - 48) else None)
+
+abbrev pub value : Argument → ℕ
+value Absent = 1
+value (Multiplied n) = n
+value (Typed n) = n

@@ -1,0 +1,50 @@
+-- Key sequences that have begun.
+use Rattle.std.specs.Prelude.{◌≡◌, ℕ, List, [], ◌∷◌, ◌++◌}
+use Rattle.mg_keys.specs.declared.argument.Argument.{Argument}
+use Rattle.mg_keys.specs.declared.bytes.TheConstants.{QUOTE, CONTROL_X, ESCAPE}
+use Rattle.mg_keys.specs.declared.sequence.Sequence.{Sequence}
+use Rattle.mg_keys.specs.declared.sequence.Sequence.TheVariants.{Start, Escape, ControlX, Quote, Character}
+use Rattle.mg_keys.specs.declared.step.Mode.{Mode}
+use Rattle.mg_keys.specs.declared.step.Mode.TheVariants as mode
+use Rattle.mg_keys.specs.declared.step.Step.{Step}
+use Rattle.mg_keys.specs.declared.step.Step.TheVariants as step
+use Rattle.mg_keys.specs.Argument.{value}
+use Rattle.mg_keys.specs.Utf8.{behind}
+use Rattle.mg_keys.specs.Meaning.{Meaning, whole, beginning, no_key, meaning, plain_meaning, meaning_of_keys, insertion, text, query_meaning}
+
+-- what the keys have read since the last whole sequence
+pub record KeyState : Type 0 where
+  pub mode : Mode
+  pub argument : Argument
+  pub sequence : Sequence
+
+-- what further bytes mean, in mode Plain, behind an argument and the beginning of a sequence
+abbrev pub plain_rest : Argument → Sequence → List ℕ → Meaning
+plain_rest a Start rest = plain_meaning a rest
+plain_rest a Escape rest = meaning_of_keys (value a) (ESCAPE ∷ rest)
+plain_rest a ControlX rest = meaning_of_keys (value a) (CONTROL_X ∷ rest)
+plain_rest a Quote rest = meaning_of_keys (value a) (QUOTE ∷ rest)
+plain_rest a (Character begun) rest = insertion (value a) (behind begun rest)
+
+abbrev pub text_rest : Mode → Sequence → List ℕ → Meaning
+text_rest m (Character begun) rest = text (behind begun rest)
+text_rest m sequence rest = meaning m rest
+
+-- the same in any mode
+abbrev pub rest_meaning : KeyState → List ℕ → Meaning
+rest_meaning keys rest = elim keys.mode [
+  | mode.Plain ↦ plain_rest keys.argument keys.sequence rest
+  | mode.Prompt ↦ text_rest mode.Prompt keys.sequence rest
+  | mode.Search ↦ text_rest mode.Search keys.sequence rest
+  | mode.Query ↦ query_meaning rest
+]
+
+-- the keys stand where these bytes lead, since the last whole sequence: whatever follows means the same
+pub record HasBegun (keys : KeyState) (bytes : List ℕ) : Type 0 where
+  pub same : (rest : List ℕ) → meaning keys.mode (bytes ++ rest) ≡ rest_meaning keys rest
+
+-- what is answered to a byte, and where the keys then stand
+abbrev pub Answers : Meaning → List ℕ → Step → KeyState → Type 0
+Answers (whole s) bytes answer keys = (answer ≡ s) × HasBegun keys []
+Answers beginning bytes answer keys = (answer ≡ step.Pending) × HasBegun keys bytes
+Answers no_key bytes answer keys = (answer ≡ step.Unbound) × HasBegun keys []

@@ -1,0 +1,110 @@
+-- What lists of bytes mean.
+use Rattle.std.specs.Prelude.{ℕ, List, [], ◌∷◌, Bool, Option, Some, None, nat_eq, nat_le, nat_lt, ◌||◌, if◌then◌else◌}
+use Rattle.mg_plain.specs.declared.command.Command.TheVariants as run
+use Rattle.mg_keys.specs.declared.argument.Argument.{Argument}
+use Rattle.mg_keys.specs.declared.argument.Argument.TheVariants.{Absent}
+use Rattle.mg_keys.specs.declared.bytes.TheConstants.{CANCEL, TAB, RETURN, QUOTE, SEARCH_BACKWARD, SEARCH_FORWARD, CONTROL_X, ESCAPE, DELETE}
+use Rattle.mg_keys.specs.declared.step.Answer.TheVariants as answer
+use Rattle.mg_keys.specs.declared.step.Mode.{Mode}
+use Rattle.mg_keys.specs.declared.step.Mode.TheVariants as mode
+use Rattle.mg_keys.specs.declared.step.Step.{Step}
+use Rattle.mg_keys.specs.declared.step.Step.TheVariants as step
+use Rattle.mg_keys.specs.Argument.{with_byte, value}
+use Rattle.mg_keys.specs.Commands.{step_of}
+use Rattle.mg_keys.specs.KeyTable.{bound, begins_some, same_keys}
+use Rattle.mg_keys.specs.Utf8.{Reading, is, begins, neither, is_between, ended, character}
+
+-- bytes that are a key sequence, a proper beginning of one, or neither
+pub data Meaning : Type 0 where
+  whole : Step → Meaning
+  beginning : Meaning
+  no_key : Meaning
+
+-- ---- mode Plain
+
+-- C-g by itself, and directly behind a prefix key
+abbrev pub is_cancel : List ℕ → Bool
+is_cancel keys = same_keys (CANCEL ∷ []) keys || (same_keys (ESCAPE ∷ CANCEL ∷ []) keys || same_keys (CONTROL_X ∷ CANCEL ∷ []) keys)
+
+-- the character that C-q takes
+abbrev pub quoted : List ℕ → Reading
+quoted [] = begins
+quoted (b ∷ bs) = if nat_lt b 128 then ended b bs else character b bs
+
+-- the character that bytes are by themselves: none of the control characters but TAB
+abbrev pub itself : ℕ → List ℕ → Reading
+itself b bs = if nat_eq b TAB || is_between 32 126 b then ended b bs else (if nat_le 128 b then character b bs else neither)
+
+abbrev pub inserted_character : List ℕ → Reading
+inserted_character [] = neither
+inserted_character (k ∷ ks) = if nat_eq k QUOTE then quoted ks else itself k ks
+
+abbrev pub insertion : ℕ → Reading → Meaning
+insertion n (is c) = whole (step.Run (run.Insert c) n)
+insertion n begins = beginning
+insertion n neither = no_key
+
+-- what the keys behind an argument part mean
+abbrev pub meaning_of_keys : ℕ → List ℕ → Meaning
+meaning_of_keys n keys =
+    if is_cancel keys then whole step.Cancel else elim (bound keys) [
+      | Some command ↦ whole (step_of command n)
+      | None ↦ (if begins_some keys then beginning else insertion n (inserted_character keys))
+    ]
+
+-- the argument part as far as it goes, then the keys behind it
+abbrev pub plain_meaning : Argument → List ℕ → Meaning
+plain_meaning a [] = beginning
+plain_meaning a (b ∷ bs) = elim (with_byte a b) [ Some c ↦ plain_meaning c bs | None ↦ meaning_of_keys (value a) (b ∷ bs) ]
+
+-- ---- prompts
+
+abbrev pub text : Reading → Meaning
+text (is c) = whole (step.Text c)
+text begins = beginning
+text neither = no_key
+
+abbrev pub line_key : ℕ → Option Step
+line_key k =
+    if nat_eq k DELETE then Some step.Rub else (
+    if nat_eq k RETURN then Some step.Accept else (
+    if nat_eq k CANCEL then Some step.Cancel else None))
+
+abbrev pub search_key : ℕ → Option Step
+search_key k = if nat_eq k SEARCH_FORWARD then Some step.Next else (if nat_eq k SEARCH_BACKWARD then Some step.Prev else line_key k)
+
+-- `y` or a space, `n` or DEL, `!`, `q` or RET
+abbrev pub query_key : ℕ → Option Step
+query_key k =
+    if nat_eq k 121 || nat_eq k 32 then Some (step.Answer answer.Yes) else (
+    if nat_eq k 110 || nat_eq k DELETE then Some (step.Answer answer.No) else (
+    if nat_eq k 33 then Some (step.Answer answer.All) else (
+    if nat_eq k 113 || nat_eq k RETURN then Some (step.Answer answer.Quit) else (
+    if nat_eq k CANCEL then Some step.Cancel else None))))
+
+-- a byte that begins no character leaves a search
+abbrev pub or_leave : Meaning → Meaning
+or_leave (whole s) = whole s
+or_leave beginning = beginning
+or_leave no_key = whole step.Leave
+
+abbrev pub prompt_meaning : List ℕ → Meaning
+prompt_meaning [] = beginning
+prompt_meaning (k ∷ ks) = elim (line_key k) [ Some s ↦ whole s | None ↦ text (itself k ks) ]
+
+-- a byte by itself may leave the search; a sequence that breaks is no key, and the search stays
+abbrev pub search_meaning : List ℕ → Meaning
+search_meaning [] = beginning
+search_meaning (k ∷ []) = elim (search_key k) [ Some s ↦ whole s | None ↦ or_leave (text (itself k [])) ]
+search_meaning (k ∷ c ∷ cs) = text (itself k (c ∷ cs))
+
+abbrev pub query_meaning : List ℕ → Meaning
+query_meaning [] = beginning
+query_meaning (k ∷ ks) = elim (query_key k) [ Some s ↦ whole s | None ↦ no_key ]
+
+-- what the bytes since the last whole sequence mean
+abbrev pub meaning : Mode → List ℕ → Meaning
+meaning mode.Plain bytes = plain_meaning Absent bytes
+meaning mode.Prompt bytes = prompt_meaning bytes
+meaning mode.Search bytes = search_meaning bytes
+meaning mode.Query bytes = query_meaning bytes

@@ -1,0 +1,111 @@
+//! The commands that keys are bound to.
+ghost use Rattle.std.specs.Prelude.{◌≡◌};
+ghost use Rattle.mg_keys.specs.Commands.{step_of};
+
+use crate::step::{Question, Step, WindowCommand};
+use mg_plain::Command;
+
+/// A command that a key sequence is bound to, by its name in mg(1).
+#[derive(Clone, Copy, Debug, PartialEq, Eq)]
+pub enum KeyCommand {
+    SetMarkCommand,
+    BeginningOfLine,
+    EndOfLine,
+    BackwardChar,
+    ForwardChar,
+    DeleteChar,
+    DeleteBackwardChar,
+    NewlineAndIndent,
+    Newline,
+    OpenLine,
+    KillLine,
+    KillRegion,
+    Yank,
+    Recenter,
+    NextLine,
+    PreviousLine,
+    IsearchForward,
+    IsearchBackward,
+    TransposeChars,
+    ScrollUp,
+    ScrollDown,
+    Undo,
+    BeginningOfBuffer,
+    EndOfBuffer,
+    BackwardWord,
+    ForwardWord,
+    KillWord,
+    CapitalizeWord,
+    DowncaseWord,
+    UpcaseWord,
+    FillParagraph,
+    CopyRegionAsKill,
+    ExecuteExtendedCommand,
+    QueryReplace,
+    SaveBuffersKillEmacs,
+    FindFile,
+    SaveBuffer,
+    ExchangePointAndMark,
+    SwitchToBuffer,
+    KillBuffer,
+    MarkWholeBuffer,
+    DeleteWindow,
+    DeleteOtherWindows,
+    SplitWindowVertically,
+    OtherWindow,
+}
+
+impl KeyCommand {
+    /// The step that its keys lead to with such an argument.
+    pub fn step(self, argument: u16) -> Step
+        ensures { result ≡ step_of self argument }
+    {
+        match self {
+            KeyCommand::SetMarkCommand => Step::Run(Command::SetMarkCommand, argument),
+            KeyCommand::BeginningOfLine => Step::Run(Command::BeginningOfLine, argument),
+            KeyCommand::EndOfLine => Step::Run(Command::EndOfLine, argument),
+            KeyCommand::BackwardChar => Step::Run(Command::BackwardChar, argument),
+            KeyCommand::ForwardChar => Step::Run(Command::ForwardChar, argument),
+            KeyCommand::DeleteChar => Step::Run(Command::DeleteChar, argument),
+            KeyCommand::DeleteBackwardChar => Step::Run(Command::DeleteBackwardChar, argument),
+            KeyCommand::NewlineAndIndent => Step::Run(Command::NewlineAndIndent, argument),
+            KeyCommand::Newline => Step::Run(Command::Newline, argument),
+            KeyCommand::OpenLine => Step::Run(Command::OpenLine, argument),
+            KeyCommand::KillLine => Step::Run(Command::KillLine, argument),
+            KeyCommand::KillRegion => Step::Run(Command::KillRegion, argument),
+            KeyCommand::Yank => Step::Run(Command::Yank, argument),
+            KeyCommand::Recenter => Step::Edge(WindowCommand::Recenter),
+            KeyCommand::NextLine => Step::Run(Command::NextLine, argument),
+            KeyCommand::PreviousLine => Step::Run(Command::PreviousLine, argument),
+            KeyCommand::IsearchForward => Step::Ask(Question::Forward),
+            KeyCommand::IsearchBackward => Step::Ask(Question::Backward),
+            KeyCommand::TransposeChars => Step::Run(Command::TransposeChars, argument),
+            KeyCommand::ScrollUp => Step::Edge(WindowCommand::ScrollUp),
+            KeyCommand::ScrollDown => Step::Edge(WindowCommand::ScrollDown),
+            KeyCommand::Undo => Step::Ask(Question::Undo),
+            KeyCommand::BeginningOfBuffer => Step::Run(Command::BeginningOfBuffer, argument),
+            KeyCommand::EndOfBuffer => Step::Run(Command::EndOfBuffer, argument),
+            KeyCommand::BackwardWord => Step::Run(Command::BackwardWord, argument),
+            KeyCommand::ForwardWord => Step::Run(Command::ForwardWord, argument),
+            KeyCommand::KillWord => Step::Run(Command::KillWord, argument),
+            KeyCommand::CapitalizeWord => Step::Run(Command::CapitalizeWord, argument),
+            KeyCommand::DowncaseWord => Step::Run(Command::DowncaseWord, argument),
+            KeyCommand::UpcaseWord => Step::Run(Command::UpcaseWord, argument),
+            KeyCommand::FillParagraph => Step::Run(Command::FillParagraph, argument),
+            KeyCommand::CopyRegionAsKill => Step::Run(Command::CopyRegionAsKill, argument),
+            KeyCommand::ExecuteExtendedCommand => Step::Ask(Question::Extended),
+            KeyCommand::QueryReplace => Step::Ask(Question::Replace),
+            KeyCommand::SaveBuffersKillEmacs => Step::Ask(Question::Quit),
+            KeyCommand::FindFile => Step::Ask(Question::Find),
+            KeyCommand::SaveBuffer => Step::Ask(Question::Save),
+            KeyCommand::ExchangePointAndMark => Step::Run(Command::ExchangePointAndMark, argument),
+            KeyCommand::SwitchToBuffer => Step::Ask(Question::Switch),
+            KeyCommand::KillBuffer => Step::Ask(Question::Kill),
+            KeyCommand::MarkWholeBuffer => Step::Run(Command::MarkWholeBuffer, argument),
+            KeyCommand::DeleteWindow => Step::Edge(WindowCommand::Remove),
+            KeyCommand::DeleteOtherWindows => Step::Edge(WindowCommand::Only),
+            KeyCommand::SplitWindowVertically => Step::Edge(WindowCommand::Split),
+            KeyCommand::OtherWindow => Step::Edge(WindowCommand::Other),
+        }
+    }
+}
