@@ -1,3 +1,4 @@
 pub mod HighLaws
 pub mod NameLaws
 pub mod TextLaws
+pub mod Utf8Laws
