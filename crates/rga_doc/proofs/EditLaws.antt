@@ -98,11 +98,11 @@ inserts (ch ∷ put) c replica lo last after now within is =
 -- ---- one splice
 
 -- what the operations of a splice lead to, and what it shows
-record SplicesAt (c : Content) (replica lo hi : ℕ) (put : List ℕ) : Type 0 where
-  outcome : Content
-  leads : Leads c outcome (splice_operations replica c lo hi put) (length put)
-  shows : Shows c outcome lo hi (new_ids replica (clock_of c) put) put
-  stands : order outcome ≡ put_row_behind (left_of (visible c) lo) (new_ids replica (clock_of c) put) (order c)
+pub record SplicesAt (c : Content) (replica lo hi : ℕ) (put : List ℕ) : Type 0 where
+  pub outcome : Content
+  pub leads : Leads c outcome (splice_operations replica c lo hi put) (length put)
+  pub shows : Shows c outcome lo hi (new_ids replica (clock_of c) put) put
+  pub stands : order outcome ≡ put_row_behind (left_of (visible c) lo) (new_ids replica (clock_of c) put) (order c)
 
 -- the deletions, and then the insertions
 splice_of : (c : Content) (replica lo hi : ℕ) (put : List ℕ) → lo ≤ length (visible c) → (gone : Deletes c lo hi (drop lo (take hi (visible c)))) → Inserts gone.outcome replica lo (clock_of c) (left_of (visible c) lo) put → SplicesAt c replica lo hi put
@@ -120,7 +120,7 @@ splice_of c replica lo hi put reaches gone come =
     no_more : (n : ℕ) → 0 + n ≡ n
     no_more n = omega arith
 
-splices_at : (c : Content) (replica lo hi : ℕ) (put : List ℕ) → lo ≤ hi → hi ≤ length (visible c) → SplicesAt c replica lo hi put
+pub splices_at : (c : Content) (replica lo hi : ℕ) (put : List ℕ) → lo ≤ hi → hi ≤ length (visible c) → SplicesAt c replica lo hi put
 splices_at c replica lo hi put up within =
     let reaches : lo ≤ length (visible c) = omega (arith, up, within) in
     let gone : Deletes c lo hi (drop lo (take hi (visible c))) =
@@ -137,7 +137,7 @@ both_pass : (r q : Verdict) → and_check r q ≡ passed → (r ≡ passed) × (
 both_pass (Ok u) q h = (refl, h)
 both_pass (Err e) q h = let clash : bad e ≡ passed = h in absurd (cc)
 
-allowed : (limit : ℕ) (c : Content) (in_range : Bool) (new : ℕ) → edit_answer limit c in_range new ≡ Ok tt → (finite_set.len (known_ids c) + new ≤ limit) × (in_range ≡ true)
+pub allowed : (limit : ℕ) (c : Content) (in_range : Bool) (new : ℕ) → edit_answer limit c in_range new ≡ Ok tt → (finite_set.len (known_ids c) + new ≤ limit) × (in_range ≡ true)
 allowed limit c in_range new h =
     let first = both_pass (room_answer limit c new) (and_check (place_answer in_range) (counter_answer c new)) h in
     let second = both_pass (place_answer in_range) (counter_answer c new) first.1 in
@@ -152,7 +152,7 @@ allowed limit c in_range new h =
     in_it false h = let clash : bad Range ≡ passed = h in absurd (cc)
 
 -- operations that lead to another content are taken where that has no more identifiers than the limit
-taken_if : (limit : ℕ) (c d : Content) (ops : List Op) (new : ℕ) → Leads c d ops new → finite_set.len (known_ids c) + new ≤ limit → list_answer limit c ops ≡ Ok tt
+pub taken_if : (limit : ℕ) (c d : Content) (ops : List Op) (new : ℕ) → Leads c d ops new → finite_set.len (known_ids c) + new ≤ limit → list_answer limit c ops ≡ Ok tt
 taken_if limit c d ops new s room =
     let fits : finite_set.len (known_ids (join c (content_of ops))) ≤ limit = subst (λ e. finite_set.len (known_ids e) ≤ limit) s.joined (omega (arith, s.size, room)) in
     (λ j. and_check (s.well_formed j) (union_answer limit (s.free j) (join c (content_of ops))))

@@ -2,3 +2,12 @@ pub mod SplicedLists
 pub mod EditSteps
 pub mod EditLaws
 pub mod EditAnswers
+pub mod RevertSets
+pub mod RevertLaws
+pub mod PutBackLaws
+pub mod PlaceLaws
+pub mod UndoLists
+pub mod ApartLists
+pub mod RevertedLaws
+pub mod UndoLaws
+pub mod UndoApart

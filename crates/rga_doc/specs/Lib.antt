@@ -1,2 +1,4 @@
 pub mod Document
 pub mod LocalEdit
+pub mod Revert
+pub mod UndoGroup

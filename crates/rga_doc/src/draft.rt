@@ -39,7 +39,7 @@ impl Draft {
     }
 
     /// A deletion of each element.
-    fn delete(&mut self, elements: &[Id]) -> Result<(), Refusal>
+    pub(crate) fn delete(&mut self, elements: &[Id]) -> Result<(), Refusal>
         ensures ops { OnOk result
             (self.new.ops.items ≡ self.old.ops.items ++ map Op.Delete elements.now) }
         ensures last { self.new.last ≡ self.old.last }

@@ -99,7 +99,7 @@ impl<S: TextStore> Doc<S> {
 
     /// `Full` unless the limit leaves room for so many more. The store says with its limit that
     /// this is in range.
-    fn check_room(&self, new: usize) -> Result<(), Refusal>
+    pub(crate) fn check_room(&self, new: usize) -> Result<(), Refusal>
         ensures answer { result ≡ room_answer self.now.limit self.now.content new }
         ensures limited { is_limit self.now.limit ≡ true }
     {
@@ -110,7 +110,7 @@ impl<S: TextStore> Doc<S> {
     }
 
     /// `Clock` where there are new characters and not that many counters above the clock.
-    fn check_counters(&self, new: usize) -> Result<(), Refusal>
+    pub(crate) fn check_counters(&self, new: usize) -> Result<(), Refusal>
         ensures { result ≡ counter_answer self.now.content new }
     {
         if new as u64 > Id::MAX_COUNTER.saturating_sub(self.store.clock()) {
@@ -120,7 +120,7 @@ impl<S: TextStore> Doc<S> {
     }
 
     /// An edit with no operations yet.
-    fn draft(&self) -> Draft
+    pub(crate) fn draft(&self) -> Draft
         ensures ops { result.ops.items ≡ [] }
         ensures replica { result.replica ≡ self.now.replica }
         ensures last { result.last ≡ clock_of self.now.content }

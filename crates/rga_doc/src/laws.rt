@@ -1,4 +1,4 @@
-//! Theorems about local edits.
+//! Theorems about local edits and reverts.
 //!
 //! Each function does nothing: its contract is a theorem that the check proves.
 ghost use Rattle.std.specs.Prelude.{◌≡◌, true, ℕ, List, Ok};
@@ -9,7 +9,13 @@ ghost use Rattle.rga_ops.specs.declared.op.Op.TheVariants.{Delete};
 ghost use Rattle.rga_doc.specs.Document.{Document};
 ghost use Rattle.rga_doc.specs.LocalEdit.{splice_operations, splices_operations, splice_answer, splices_answer, order_after};
 
+mod reverting;
+
 use crate::doc::Doc;
+pub use reverting::{
+    a_revert_can_be_reverted, a_revert_puts_elements_back_in_their_places,
+    undoing_an_edit_gives_the_text_before, what_has_a_place_keeps_one,
+};
 use rga_store::{Taker, TextStore};
 
 /// The operations of a splice that is allowed are taken whole by a store of the same limit. They

@@ -13,4 +13,6 @@ mod local_edits;
 #[cfg(test)]
 mod merging;
 #[cfg(test)]
+mod reverts;
+#[cfg(test)]
 mod taking;

@@ -1,36 +1,8 @@
 //! Splices by place, as a user meets them: the operations that they answer, and the text then.
-use crate::documents::{AB, ABC, Document, document, shows};
+use crate::documents::{AB, ABC, Document, are, document, shows, splice};
 use rga_ops::{Op, Refusal, Splice};
 use rga_store::TextStore;
 use std::alloc::Global;
-use test_ops::ops_of;
-
-fn chars_of(alloc: Global, text: &str) -> Result<Vec<char>, Refusal> {
-    let mut chars = Vec::new(alloc);
-    for ch in text.chars() {
-        chars.push(ch)?;
-    }
-    Ok(chars)
-}
-
-/// What a document answers where the characters `lo` to `hi - 1` are replaced by the text.
-fn splice(
-    alloc: Global,
-    doc: &mut Document,
-    (lo, hi): (usize, usize),
-    put: &str,
-) -> Result<Vec<Op>, Refusal> {
-    let put = chars_of(alloc, put)?;
-    doc.splice(lo, hi, &put)
-}
-
-/// Whether the answer of an edit is the operations that the words say.
-fn are(alloc: Global, answer: Result<Vec<Op>, Refusal>, words: &str) -> bool {
-    match (answer, ops_of(alloc, words)) {
-        (Ok(ops), Ok(expected)) => ops.as_slice() == expected.as_slice(),
-        _ => false,
-    }
-}
 
 /// Whether a splice is answered by the operations that the words say.
 fn answers(

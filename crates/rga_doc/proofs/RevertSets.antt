@@ -1,0 +1,110 @@
+-- Elements that were met before, in the lists of a revert.
+use Rattle.std.proofs.Common.{◌≡◌, ℕ, ◌+◌, ◌<◌, Bool, true, false, cond, not, ◌&&◌, ◌||◌, List, [], ◌∷◌, map, filter, drop, length, get_or, refl, sym, ap, ◌∙◌}
+use Rattle.std.specs.List.{list_any, AllByRecursion}
+use Rattle.std.proofs.lemmas.Bool.{and_parts, or_parts, not-true}
+use Rattle.std.proofs.lemmas.List.{drop_more}
+use Rattle.rga_ops.specs.Identifier.{Identifier, is_id}
+use Rattle.rga_ops.specs.Content.{Content}
+use Rattle.rga_ops.specs.RootPath.{is_complete}
+use Rattle.rga_ops.specs.Placement.{without}
+use Rattle.rga_ops.proofs.IdentifierLaws.{is, is_swap, is_id-same}
+use Rattle.rga_doc.specs.Revert.{distinct_elements, are_restorable}
+
+-- the rest of a list from an item on
+pub from : {A : Type 0} (xs : List A) (i : ℕ) (x : A) → i < length xs → x ≡ get_or xs i x → drop i xs ≡ x ∷ drop (i + 1) xs
+from xs i x within is = drop_more xs i x within ∙ ap (λ y. y ∷ drop (i + 1) xs) (sym is)
+
+id_swap : (a b : Identifier) → is_id a b ≡ is_id b a
+id_swap a b = is_id-same a b ∙ is_swap b a ∙ sym (is_id-same b a)
+
+abbrev pub none_seen : (Identifier → Bool) → List (Identifier × ℕ) → Bool
+none_seen seen [] = true
+none_seen seen (b ∷ back) = not (seen b.0) && none_seen seen back
+
+-- whether what is left can be restored, where some were met before
+abbrev pub left_able : Content → (Identifier → Bool) → List (Identifier × ℕ) → Bool
+left_able c seen back = are_restorable c back && none_seen seen back
+
+abbrev pub among : Identifier → List (Identifier × ℕ) → Bool
+among id back = list_any (λ (x : Identifier × ℕ). is_id x.0 id) back
+
+pub none_at_first : (seen : Identifier → Bool) (back : List (Identifier × ℕ)) → ((q : Identifier) → seen q ≡ false) → none_seen seen back ≡ true
+none_at_first seen [] h = refl
+none_at_first seen (b ∷ back) h = λ k. not (h b.0 k) && none_at_first seen back h k
+
+unseen_more : (seen now : Identifier → Bool) (x : Identifier) (back : List (Identifier × ℕ)) → ((q : Identifier) → now q ≡ (is_id x q || seen q)) → none_seen now back ≡ (not (among x back) && none_seen seen back)
+unseen_more seen now x [] h = refl
+unseen_more seen now x (b ∷ back) h =
+    (λ k. not ((h b.0 ∙ ap (λ t. t || seen b.0) (id_swap x b.0)) k) && unseen_more seen now x back h k)
+    ∙ by (is_id b.0 x) (seen b.0) (among x back) (none_seen seen back)
+  where
+    by : (a s m r : Bool) → (not (a || s) && (not m && r)) ≡ (not (a || m) && (not s && r))
+    by true s m r = refl
+    by false true true r = refl
+    by false true false r = refl
+    by false false m r = refl
+
+pub able_on : (c : Content) (seen now : Identifier → Bool) (b : Identifier × ℕ) (back : List (Identifier × ℕ)) → is_complete c b.0 ≡ true → seen b.0 ≡ false → ((q : Identifier) → now q ≡ (is_id b.0 q || seen q)) → left_able c now back ≡ left_able c seen (b ∷ back)
+able_on c seen now b back complete new h =
+    ap (λ t. are_restorable c back && t) (unseen_more seen now b.0 back h)
+    ∙ by (among b.0 back) (are_restorable c back) (none_seen seen back)
+    ∙ (λ k. ((sym complete k && not (among b.0 back)) && are_restorable c back) && (not (sym new k) && none_seen seen back))
+  where
+    by : (m r n : Bool) → (r && (not m && n)) ≡ (((true && not m) && r) && (not false && n))
+    by true true n = refl
+    by true false n = refl
+    by false true n = refl
+    by false false n = refl
+
+pub not_complete : (c : Content) (seen : Identifier → Bool) (b : Identifier × ℕ) (back : List (Identifier × ℕ)) → is_complete c b.0 ≡ false → left_able c seen (b ∷ back) ≡ false
+not_complete c seen b back h = ap (λ t. ((t && not (among b.0 back)) && are_restorable c back) && (not (seen b.0) && none_seen seen back)) h
+
+-- ---- elements that are apart
+
+abbrev pub elements_of : List (Identifier × ℕ) → List Identifier
+elements_of back = map (λ (b : Identifier × ℕ). b.0) back
+
+abbrev pub AreApart : List (Identifier × ℕ) → Type 0
+AreApart [] = Unit {0}
+AreApart (b ∷ back) = AllByRecursion (λ q. is q b.0 ≡ false) (elements_of back) × AreApart back
+
+pub not_among : (id : Identifier) (back : List (Identifier × ℕ)) → among id back ≡ false → AllByRecursion (λ q. is q id ≡ false) (elements_of back)
+not_among id [] h = tt
+not_among id (b ∷ back) h =
+    let parts : (is_id b.0 id ≡ false) × (among id back ≡ false) = or_parts (is_id b.0 id) (among id back) h in
+    (is_swap b.0 id ∙ sym (is_id-same b.0 id) ∙ parts.0, not_among id back parts.1)
+
+pub apart_if_restorable : (c : Content) (back : List (Identifier × ℕ)) → are_restorable c back ≡ true → AreApart back
+apart_if_restorable c [] h = tt
+apart_if_restorable c (b ∷ back) h =
+    let parts = and_parts (is_complete c b.0 && not (among b.0 back)) (are_restorable c back) h in
+    let other : not (among b.0 back) ≡ true = (and_parts (is_complete c b.0) (not (among b.0 back)) parts.0).1 in
+    (not_among b.0 back (not-true (among b.0 back) other), apart_if_restorable c back parts.1)
+
+-- ---- each once
+
+abbrev pub new_only : (Identifier → Bool) → List Identifier → List Identifier
+new_only seen ids = filter (λ q. not (seen q)) ids
+
+pub all_new : (seen : Identifier → Bool) (ids : List Identifier) → ((q : Identifier) → seen q ≡ false) → new_only seen ids ≡ ids
+all_new seen [] h = refl
+all_new seen (x ∷ ids) h = ap (λ t. cond (not t) (x ∷ new_only seen ids) (new_only seen ids)) (h x) ∙ ap (λ r. x ∷ r) (all_new seen ids h)
+
+without_new : (seen now : Identifier → Bool) (x : Identifier) (ids : List Identifier) → ((q : Identifier) → now q ≡ (is_id x q || seen q)) → new_only seen (without x ids) ≡ new_only now ids
+without_new seen now x [] h = refl
+without_new seen now x (y ∷ ids) h = elim (is_id y x) as (λ b. is_id y x ≡ b → new_only seen (cond (not b) (y ∷ without x ids) (without x ids)) ≡ cond (not (now y)) (y ∷ new_only now ids) (new_only now ids)) [
+  | true ↦ λ t. without_new seen now x ids h ∙ sym (ap (λ s. cond (not s) (y ∷ new_only now ids) (new_only now ids)) (h y ∙ ap (λ a. a || seen y) (id_swap x y ∙ t)))
+  | false ↦ λ f.
+      ap (λ r. cond (not (seen y)) (y ∷ r) r) (without_new seen now x ids h)
+      ∙ sym (ap (λ s. cond (not s) (y ∷ new_only now ids) (new_only now ids)) (h y ∙ ap (λ a. a || seen y) (id_swap x y ∙ f)))
+] refl
+
+pub once_met : (seen now : Identifier → Bool) (x : Identifier) (ids : List Identifier) → seen x ≡ true → ((q : Identifier) → now q ≡ (is_id x q || seen q)) → new_only seen (distinct_elements (x ∷ ids)) ≡ new_only now (distinct_elements ids)
+once_met seen now x ids h more = ap (λ s. cond (not s) (x ∷ new_only seen (without x (distinct_elements ids))) (new_only seen (without x (distinct_elements ids)))) h ∙ without_new seen now x (distinct_elements ids) more
+
+pub once_new : (seen now : Identifier → Bool) (x : Identifier) (ids : List Identifier) → seen x ≡ false → ((q : Identifier) → now q ≡ (is_id x q || seen q)) → new_only seen (distinct_elements (x ∷ ids)) ≡ x ∷ new_only now (distinct_elements ids)
+once_new seen now x ids h more = ap (λ s. cond (not s) (x ∷ new_only seen (without x (distinct_elements ids))) (new_only seen (without x (distinct_elements ids)))) h ∙ ap (λ r. x ∷ r) (without_new seen now x (distinct_elements ids) more)
+
+pub any_id : (q : Identifier) (xs : List Identifier) → list_any (is_id q) xs ≡ list_any (is q) xs
+any_id q [] = refl
+any_id q (x ∷ xs) = λ k. (is_id-same q x ∙ is_swap x q) k || any_id q xs k

@@ -1,0 +1,92 @@
+-- What a revert deleted can be restored, and what it inserted is complete.
+use Rattle.std.proofs.Common.{◌≡◌, ℕ, ◌+◌, ◌<◌, Bool, true, false, ◌&&◌, ◌||◌, not, List, [], ◌∷◌, ◌++◌, map, filter, length, refl, sym, ap, ◌∙◌, subst, arith, append-nil}
+use Rattle.std.specs.Prelude.{Ok}
+use Rattle.std.specs.List.{list_any, list_all, AllByRecursion}
+use Rattle.std.proofs.lemmas.Bool.{or_right}
+use Rattle.rga_ops.specs.Identifier.{Identifier, identifier, is_id, is_root}
+use Rattle.rga_ops.specs.Content.{Content, clock_of, join, single, content_of}
+use Rattle.rga_ops.specs.RootPath.{is_complete}
+use Rattle.rga_ops.specs.Places.{is_visible}
+use Rattle.rga_ops.specs.declared.op.Op.{Op}
+use Rattle.rga_ops.specs.declared.op.Op.TheVariants.{Insert, Delete}
+use Rattle.rga_ops.proofs.IdentifierLaws.{is, is_itself, is_id-same}
+use Rattle.rga_ops.proofs.MemberLaws.{all_map}
+use Rattle.rga_ops.proofs.ContentLaws.{join_assoc}
+use Rattle.rga_ops.proofs.OperationLaws.{content_of-append}
+use Rattle.rga_ops.proofs.InsertionLaws.{is_complete-insertion}
+use Rattle.rga_ops.proofs.NewestLaws.{newest_leaf}
+use Rattle.rga_doc.specs.Revert.{distinct_elements, restorations, revert_operations, revert_answer, are_restorable}
+use Rattle.rga_doc.specs.UndoGroup.{inserted_elements, deleted_elements, element_characters}
+use Rattle.rga_doc.proofs.EditLaws.{allowed}
+use Rattle.rga_doc.proofs.UndoLists.{deleted_elements-append, deleted_elements-deletions, inserted_elements-append, inserted_elements-deletions, deleted_elements-restorations}
+use Rattle.rga_doc.proofs.PlaceLaws.{complete_still}
+use Rattle.rga_doc.proofs.ApartLists.{Apart, apart_if_once}
+use Rattle.rga_doc.proofs.RevertSets.{elements_of}
+use Rattle.rga_doc.proofs.RevertLaws.{AreComplete, restoration_leads, newest, removes, gone_complete, back_complete, complete_by_order}
+
+-- ---- a revert of what is complete and apart is not refused for it
+
+none_with : (c : Content) (id : Identifier) (ids : List Identifier) → AllByRecursion (λ y. is id y ≡ false) ids → list_any (λ (x : Identifier × ℕ). is_id x.0 id) (element_characters c ids) ≡ false
+none_with c id [] h = refl
+none_with c id (y ∷ ids) h = λ k. (is_id-same y id ∙ h.0) k || none_with c id ids h.1 k
+
+pub restorable_if : (c d : Content) (ids : List Identifier) → AreComplete d ids → Apart ids → are_restorable d (element_characters c ids) ≡ true
+restorable_if c d [] complete apart = refl
+restorable_if c d (id ∷ ids) complete apart = λ k. (complete.0 k && not (none_with c id ids apart.0 k)) && restorable_if c d ids complete.1 apart.1 k
+
+-- ---- a revert
+
+restored_complete : (back : List (Identifier × ℕ)) (f : Content) (replica last : ℕ) → last ≡ clock_of f → AreComplete f (elements_of back) → AreComplete (join f (content_of (restorations replica last back))) (inserted_elements (restorations replica last back))
+restored_complete [] f replica last now complete = tt
+restored_complete (b ∷ back) f replica last now complete =
+    let y : Identifier = identifier (last + 1) replica in
+    let next : last + 1 ≡ clock_of f + 1 = ap (λ n. n + 1) now in
+    let newer : clock_of f < y.counter = newest f y b.0 b.1 next complete.0 in
+    let g : Content = join f (single (Insert y b.0 b.1)) in
+    let leads = restoration_leads f y b.0 b.1 next complete.0 in
+    let rest : List Op = restorations replica (last + 1) back in
+    let here : is_complete g y ≡ true =
+    is_complete-insertion f y b.0 b.1 (newest_leaf f y newer) y
+    ∙ (λ k. (is_itself y k && or_right (is_root b.0) (is_complete f b.0) complete.0 k) || is_complete f y) in
+    let further : AreComplete g (elements_of back) = all_map (λ q. is_complete f q ≡ true) (λ q. is_complete g q ≡ true) (λ q h. complete_still f (single (Insert y b.0 b.1)) q h) (elements_of back) complete.1 in
+    subst (λ e. AreComplete e (y ∷ inserted_elements rest)) (join_assoc f (single (Insert y b.0 b.1)) (content_of rest))
+    (complete_still g (content_of rest) y here, restored_complete back g replica (last + 1) (next ∙ sym leads.time) further)
+
+record Reverted (c : Content) (ops : List Op) : Type 0 where
+  inserted : AreComplete (join c (content_of ops)) (inserted_elements ops)
+  deleted : AreComplete (join c (content_of ops)) (deleted_elements ops)
+  apart : Apart (deleted_elements ops)
+
+reverted : (limit replica : ℕ) (c : Content) (gone : List Identifier) (back : List (Identifier × ℕ)) → revert_answer limit c back ≡ Ok tt → Reverted c (revert_operations replica c gone back)
+reverted limit replica c gone back h =
+    let able = (allowed limit c (are_restorable c back) (length back) h).1 in
+    let ids : List Identifier = distinct_elements (filter (is_visible c) gone) in
+    let rs : List Op = restorations replica (clock_of c) back in
+    let removed = removes ids c (gone_complete c gone) in
+    let now : clock_of c ≡ clock_of removed.outcome = omega (arith, removed.leads.time) in
+    let complete : AreComplete removed.outcome (elements_of back) =
+    all_map (λ q. is_complete c q ≡ true) (λ q. is_complete removed.outcome q ≡ true) (λ q h. complete_by_order c removed.outcome removed.stays q ∙ h) (elements_of back) (back_complete c back able) in
+    let e_is : join c (content_of (map Delete ids ++ rs)) ≡ join removed.outcome (content_of rs) =
+    ap (join c) (content_of-append (map Delete ids) rs) ∙ sym (join_assoc c (content_of (map Delete ids)) (content_of rs)) ∙ ap (λ f. join f (content_of rs)) (sym removed.leads.joined) in
+    let inserts : inserted_elements (map Delete ids ++ rs) ≡ inserted_elements rs = inserted_elements-append (map Delete ids) rs ∙ ap (λ xs. xs ++ inserted_elements rs) (inserted_elements-deletions ids) in
+    let deletes : deleted_elements (map Delete ids ++ rs) ≡ ids =
+    deleted_elements-append (map Delete ids) rs ∙ (λ k. deleted_elements-deletions ids k ++ deleted_elements-restorations replica (clock_of c) back k) ∙ append-nil ids in
+    record {
+      inserted = subst (λ xs. AreComplete (join c (content_of (map Delete ids ++ rs))) xs) (sym inserts) (subst (λ f. AreComplete f (inserted_elements rs)) (sym e_is) (restored_complete back removed.outcome replica (clock_of c) now complete));
+      deleted = subst (λ xs. AreComplete (join c (content_of (map Delete ids ++ rs))) xs) (sym deletes)
+          (all_map (λ q. is_complete c q ≡ true) (λ q. is_complete (join c (content_of (map Delete ids ++ rs))) q ≡ true) (λ q h. complete_still c (content_of (map Delete ids ++ rs)) q h) ids (gone_complete c gone));
+      apart = subst Apart (sym deletes) (apart_if_once (filter (is_visible c) gone));
+    }
+
+pub reverted_complete : (limit replica : ℕ) (c : Content) (gone : List Identifier) (back : List (Identifier × ℕ)) → revert_answer limit c back ≡ Ok tt → list_all (is_complete (join c (content_of (revert_operations replica c gone back)))) (inserted_elements (revert_operations replica c gone back)) ≡ true
+reverted_complete limit replica c gone back h = all (is_complete (join c (content_of (revert_operations replica c gone back)))) (inserted_elements (revert_operations replica c gone back)) (reverted limit replica c gone back h).inserted
+  where
+    all : (p : Identifier → Bool) (ids : List Identifier) → AllByRecursion (λ q. p q ≡ true) ids → list_all p ids ≡ true
+    all p [] h = refl
+    all p (id ∷ ids) h = λ k. h.0 k && all p ids h.1 k
+
+pub reverted_restorable : (limit replica : ℕ) (c : Content) (gone : List Identifier) (back : List (Identifier × ℕ)) → revert_answer limit c back ≡ Ok tt → are_restorable (join c (content_of (revert_operations replica c gone back))) (element_characters c (deleted_elements (revert_operations replica c gone back))) ≡ true
+reverted_restorable limit replica c gone back h =
+    let ops : List Op = revert_operations replica c gone back in
+    let done = reverted limit replica c gone back h in
+    restorable_if c (join c (content_of ops)) (deleted_elements ops) done.deleted done.apart

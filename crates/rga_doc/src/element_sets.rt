@@ -1,0 +1,52 @@
+//! Sets of elements.
+ghost use Rattle.std.specs.Prelude.{◌≡◌, ◌||◌, not, IfOk, IfErr, OnOk};
+ghost use Rattle.std.specs.List.{list_any};
+ghost use Rattle.indexmap.specs.IndexSet.{contains};
+ghost use Rattle.rga_ops.specs.Prelude.{Identifier, is_id};
+ghost use Rattle.rga_doc.specs.Revert.{distinct_elements};
+
+use indexmap::IndexSet;
+use rga_ops::{Id, Refusal};
+use std::alloc::Global;
+
+/// The set of the elements. `Memory` alone.
+pub(crate) fn collect_set(alloc: Global, ids: &[Id]) -> Result<IndexSet<Id>, Refusal>
+    ensures ok { IfOk result (λ set. (q : Identifier) →
+        contains is_id set q ≡ list_any (is_id q) ids.now) }
+    ensures memory { IfErr result (λ e. e ≡ Refusal.Memory) }
+{
+    let mut set = IndexSet::new(alloc);
+    for id in ids {
+        put_in(&mut set, *id)?;
+    }
+    Ok(set)
+}
+
+/// Puts an element in, and tells whether it is new. `Memory` alone.
+pub(crate) fn put_in(set: &mut IndexSet<Id>, id: Id) -> Result<bool, Refusal>
+    ensures new { IfOk result (λ new. new ≡ not (contains is_id set.old id)) }
+    ensures members { OnOk result ((q : Identifier) →
+        contains is_id set.new q ≡ (is_id id q || contains is_id set.old q)) }
+    ensures memory { IfErr result (λ e. e ≡ Refusal.Memory) }
+{
+    match set.insert(id) {
+        Ok(new) => Ok(new),
+        Err(_) => Err(Refusal::Memory),
+    }
+}
+
+/// Each element once, where it stands first. `Memory` alone.
+pub(crate) fn drop_repeats(alloc: Global, ids: &[Id]) -> Result<Vec<Id>, Refusal>
+    ensures ok { IfOk result (λ kept. kept.items ≡ distinct_elements ids.now) }
+    ensures memory { IfErr result (λ e. e ≡ Refusal.Memory) }
+{
+    let mut seen = IndexSet::new(alloc);
+    let mut kept = Vec::new(alloc);
+    for id in ids {
+        let new = put_in(&mut seen, *id)?;
+        if new {
+            kept.push(*id)?;
+        }
+    }
+    Ok(kept)
+}

@@ -1,0 +1,125 @@
+//! Edits that are reverted.
+ghost use Rattle.std.specs.Prelude.{◌≡◌, ◌+◌, ◌≤◌, ◌<◌, ◌++◌, filter, length, Ok, Err, IfOk, IfErr, OnOk, OnErr};
+ghost use Rattle.indexmap.specs.IndexSet.{contains};
+ghost use Rattle.rga_ops.specs.Prelude.{Identifier, is_id, clock_of, content_of, join, order, IsAnswer};
+ghost use Rattle.rga_ops.specs.RootPath.{is_complete};
+ghost use Rattle.rga_ops.specs.Places.{is_visible};
+ghost use Rattle.rga_ops.specs.declared.refusal.Refusal.TheVariants.{Memory};
+ghost use Rattle.rga_doc.specs.LocalEdit.{room_answer, place_answer};
+ghost use Rattle.rga_doc.specs.Revert.{distinct_elements, restorations, revert_operations, are_restorable, revert_answer, put_back};
+
+use crate::doc::Doc;
+use crate::draft::Draft;
+use crate::element_sets::{collect_set, drop_repeats, put_in};
+use indexmap::IndexSet;
+use rga_ops::{Id, Op, Refusal};
+use rga_store::{Taker, TextStore};
+
+impl<S: TextStore> Doc<S> {
+    /// Reverts an edit that inserted the elements `gone` and deleted those of `back`: deletes those
+    /// of `gone` that are visible, each once, in the order given, and then inserts each character
+    /// of `back` with its element as the parent, with counters that go on from the clock. So each
+    /// restored element stands directly behind the one that it restores, whatever stood there.
+    ///
+    /// Refusals, in this order: `Full` where the new characters exceed the limit; `Range` where an
+    /// element of `back` is not complete or stands there twice; `Clock` where there are new
+    /// characters and not that many counters; `Memory`. A refusal changes nothing.
+    pub fn revert(&mut self, gone: &[Id], back: &[(Id, char)]) -> Result<Vec<Op>, Refusal>
+        ensures exact { IsAnswer result
+            (revert_answer self.old.limit self.old.content back.now) }
+
+        ensures operations { IfOk result (λ ops. ops.items
+            ≡ revert_operations self.old.replica self.old.content gone.now back.now) }
+        ensures content { IfOk result (λ ops. self.new
+            ≡ record self.old { content = join self.old.content (content_of ops.items) }) }
+        // Each restored element stands directly behind the one that it restores.
+        ensures place { OnOk result (order self.new.content
+            ≡ put_back self.old.replica (clock_of self.old.content) back.now
+            (order self.old.content)) }
+
+        ensures same { OnErr result (self.new ≡ self.old) }
+        // Nothing asks for memory before there is room.
+        ensures room { result ≡ Err Memory →
+            room_answer self.old.limit self.old.content (length back.now) ≡ Ok tt }
+    {
+        let ops = self.draft_revert(gone, back)?;
+        self.store.apply_all(&ops)?;
+        Ok(ops)
+    }
+
+    /// The operations of `revert`, which are not taken. The refusals are those of `revert`.
+    pub fn draft_revert(&self, gone: &[Id], back: &[(Id, char)]) -> Result<Vec<Op>, Refusal>
+        ensures exact { IsAnswer result
+            (revert_answer self.now.limit self.now.content back.now) }
+
+        ensures operations { IfOk result (λ ops. ops.items
+            ≡ revert_operations self.now.replica self.now.content gone.now back.now) }
+
+        ensures room { result ≡ Err Memory →
+            room_answer self.now.limit self.now.content (length back.now) ≡ Ok tt }
+    {
+        self.check_room(back.len())?;
+        let order = self.store.order()?;
+        let complete = collect_set(self.alloc, &order)?;
+        self.check_restorable(&complete, back)?;
+        self.check_counters(back.len())?;
+        let visible = self.collect_visible(&complete, gone)?;
+        let mut draft = self.draft();
+        draft.delete(&visible)?;
+        draft.restore(back)?;
+        Ok(draft.ops)
+    }
+
+    /// `Range` where an element is not complete or stands twice; `Memory`.
+    fn check_restorable(&self, complete: &IndexSet<Id>, back: &[(Id, char)]) -> Result<(), Refusal>
+        requires complete { (q : Identifier) →
+            contains is_id complete.now q ≡ is_complete self.now.content q }
+        ensures { IsAnswer result (place_answer (are_restorable self.now.content back.now)) }
+    {
+        let mut seen = IndexSet::new(self.alloc);
+        for (element, _) in back {
+            if !complete.contains(element) {
+                return Err(Refusal::Range);
+            }
+            let new = put_in(&mut seen, *element)?;
+            if !new {
+                return Err(Refusal::Range);
+            }
+        }
+        Ok(())
+    }
+
+    /// Those of the elements that are visible, each once. `Memory` alone.
+    fn collect_visible(&self, complete: &IndexSet<Id>, ids: &[Id]) -> Result<Vec<Id>, Refusal>
+        requires complete { (q : Identifier) →
+            contains is_id complete.now q ≡ is_complete self.now.content q }
+        ensures ok { IfOk result (λ kept. kept.items
+            ≡ distinct_elements (filter (is_visible self.now.content) ids.now)) }
+        ensures memory { IfErr result (λ e. e ≡ Refusal.Memory) }
+    {
+        let mut visible = Vec::from_slice(self.alloc, ids)?;
+        visible.retain(|id| complete.contains(id) && !self.store.is_deleted(*id));
+        drop_repeats(self.alloc, &visible)
+    }
+}
+
+impl Draft {
+    /// One new element for each character, with its element as the parent.
+    fn restore(&mut self, back: &[(Id, char)]) -> Result<(), Refusal>
+        requires { 0 < length back.now → self.old.last + length back.now ≤ Id.MAX_COUNTER }
+        ensures ops { OnOk result (self.new.ops.items
+            ≡ self.old.ops.items ++ restorations self.old.replica self.old.last back.now) }
+        ensures memory { IfErr result (λ e. e ≡ Refusal.Memory) }
+    {
+        for (element, ch) in back {
+            let id = Id::new(self.last + 1, self.replica)?;
+            self.ops.push(Op::Insert {
+                id,
+                parent: *element,
+                ch: *ch,
+            })?;
+            self.last += 1;
+        }
+        Ok(())
+    }
+}
