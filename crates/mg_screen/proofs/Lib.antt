@@ -1,0 +1,6 @@
+pub mod CellLaws
+pub mod LineLaws
+pub mod RowLaws
+pub mod ScreenLaws
+pub mod LayoutLaws
+pub mod HeightLaws

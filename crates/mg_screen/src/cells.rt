@@ -1,0 +1,83 @@
+//! What a character shows in a row, and how wide it is.
+ghost use Rattle.std.specs.Prelude.{◌≡◌, ◌≤◌, replicate, OnOk};
+ghost use Rattle.mg_screen.specs.Written.{Adds};
+ghost use Rattle.mg_screen.specs.declared.cells.TheConstants.{TAB_STOP};
+ghost use Rattle.mg_screen.specs.Cells as spec;
+
+use std::alloc::AllocError;
+use unicode_width::UnicodeWidthChar;
+
+/// Tab stops stand at the multiples of so many columns.
+pub(crate) const TAB_STOP: usize = 8;
+
+/// How wide the cell of a character is that begins at this column.
+fn cell_width(column: usize, c: char) -> usize
+    ensures width { result ≡ (spec.cell_of column c).width }
+    ensures bound { result ≤ TAB_STOP }
+{
+    match c {
+        '\t' => TAB_STOP - column % TAB_STOP,
+        '\0'..='\x1f' | '\x7f' => 2,
+        '\u{80}'..='\u{9f}' => 1,
+        _ => c.width().unwrap_or(0),
+    }
+}
+
+/// Writes a character so many times.
+pub(crate) fn push_times(row: &mut String, c: char, count: usize) -> Result<(), AllocError>
+    ensures { OnOk result (Adds (replicate count c) row.old row.new) }
+{
+    for _i in 0..count {
+        row.push(c)?;
+    }
+    Ok(())
+}
+
+/// Writes the cell of a character that begins at this column.
+fn push_cell(row: &mut String, column: usize, c: char) -> Result<(), AllocError>
+    ensures { OnOk result (Adds (spec.cell_of column c).shown row.old row.new) }
+{
+    match c {
+        '\t' => push_times(row, ' ', TAB_STOP - column % TAB_STOP)?,
+        '\0'..='\x1f' => {
+            row.push('^')?;
+            row.push(char::from(c as u8 + 64))?;
+        }
+        '\x7f' => row.push_str("^?")?,
+        '\u{80}'..='\u{9f}' => row.push('?')?,
+        _ => row.push(c)?,
+    }
+    Ok(())
+}
+
+/// The width of a line where it is at most `most`.
+pub(crate) fn width_within(line: &[char], most: usize) -> Option<usize>
+    ensures { result ≡ spec.width_if (spec.cells line.now) most }
+{
+    let mut column = 0;
+    for c in line {
+        let width = cell_width(column, *c);
+        if width > most - column {
+            return None;
+        }
+        column += width;
+    }
+    Some(column)
+}
+
+/// Writes the longest beginning of whole cells of a line whose width is at most `most`.
+pub(crate) fn push_beginning(row: &mut String, line: &[char], most: usize) -> Result<(), AllocError>
+    ensures { let cells = spec.beginning most (spec.cells line.now) in
+        OnOk result (Adds (spec.shown cells) row.old row.new) }
+{
+    let mut column = 0;
+    for c in line {
+        let width = cell_width(column, *c);
+        if width > most - column {
+            return Ok(());
+        }
+        push_cell(row, column, *c)?;
+        column += width;
+    }
+    Ok(())
+}

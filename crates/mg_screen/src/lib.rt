@@ -1,0 +1,28 @@
+//! The screen of the editor: how its rows are shared among windows, and what stands in them.
+//!
+//! `Windows` shares the rows among windows, `first_line` and `centred_line` place a window over its
+//! text, and `frame` makes the rows of the whole screen. There is no command, no key and no buffer
+//! in sight, and nothing is drawn: a frame is a value. The crate stands on unicode_width, for the
+//! widths of characters alone. The layer above may rest on equations: each call of `Windows` leaves
+//! the layout that its word says, and the windows and the echo line fill the screen as before; the
+//! first line of a window is the one of the rule; a frame has exactly the rows of its windows and
+//! its echo line (`frame_rows`). Want of memory changes nothing.
+#![tactic(auto)]
+
+mod cells;
+mod frames;
+mod heights;
+pub mod laws;
+mod lines;
+mod mode_line;
+mod rows;
+mod screen;
+mod size;
+mod text_rows;
+mod windows;
+
+pub use frames::frame;
+pub use lines::{centred_line, first_line};
+pub use screen::{FrameFault, Pane, Screen};
+pub use size::{MAX_COLUMNS, MAX_ROWS, MIN_COLUMNS, MIN_ROWS};
+pub use windows::{WindowFault, Windows};

@@ -1,0 +1,92 @@
+//! The lines of a text, and where a window stands over them.
+ghost use Rattle.std.specs.Prelude.{◌≡◌, ◌≤◌, ◌+◌, length, drop};
+ghost use Rattle.std.specs.List.{position_or_len};
+ghost use Rattle.mg_screen.specs.Lines as spec;
+
+/// The line in which a place stands.
+pub(crate) fn line_of(text: &[char], place: usize) -> usize
+    requires { place ≤ length text.now }
+    ensures exact { result ≡ spec.line_of text.now place }
+    ensures bound { result ≤ length text.now }
+{
+    let mut line = 0;
+    for c in &text[..place] {
+        if *c == '\n' {
+            line += 1;
+        }
+    }
+    line
+}
+
+/// How many characters stand between the begin of its line and a place.
+pub(crate) fn column_of(text: &[char], place: usize) -> usize
+    requires { place ≤ length text.now }
+    ensures exact { result ≡ spec.column_of text.now place }
+{
+    let mut begin = place;
+    while begin > 0 && text[begin - 1] != '\n' {
+        begin -= 1;
+    }
+    place - begin
+}
+
+/// The first line of a window of so many text rows in whose middle point stands (mg(1), recenter).
+/// Lines count from 0, and point counts characters. Takes no memory.
+pub fn centred_line(text: &[char], point: usize, height: usize) -> usize
+    requires { point ≤ length text.now }
+    ensures { result ≡ spec.centred (spec.line_of text.now point) height }
+{
+    line_of(text, point).saturating_sub(height / 2)
+}
+
+/// The first line of a window before a frame: the old one, `first`, where the window shows point's
+/// line then, else the one that puts point's line in its middle. Lines count from 0, and point
+/// counts characters. Takes no memory.
+pub fn first_line(text: &[char], point: usize, first: usize, height: usize) -> usize
+    requires { point ≤ length text.now }
+    ensures { result ≡ spec.first_line text.now point first height }
+{
+    let line = line_of(text, point);
+    if line < first || line - first >= height {
+        line.saturating_sub(height / 2)
+    } else {
+        first
+    }
+}
+
+/// How many characters the first line of a text has.
+fn front_len(text: &[char]) -> usize
+    ensures exact { result ≡ position_or_len spec.is_newline text.now }
+    ensures within { result ≤ length text.now }
+{
+    for (n, c) in text.iter().enumerate() {
+        if *c == '\n' {
+            return n;
+        }
+    }
+    text.len()
+}
+
+/// The end of the line that begins at a place.
+pub(crate) fn line_end(text: &[char], start: usize) -> usize
+    requires { start ≤ length text.now }
+    ensures exact { result ≡ start + position_or_len spec.is_newline (drop start text.now) }
+    ensures within { result ≤ length text.now }
+{
+    start + front_len(&text[start..])
+}
+
+/// Where a line begins. A line that the text has not begins behind its end.
+pub(crate) fn line_start(text: &[char], line: usize) -> usize
+    ensures exact { spec.lines_from text.now result ≡ drop line (spec.lines text.now) }
+    ensures within { result ≤ length text.now + 1 }
+{
+    let mut start = 0;
+    for _i in 0..line {
+        if start > text.len() {
+            break;
+        }
+        start = line_end(text, start) + 1;
+    }
+    start
+}

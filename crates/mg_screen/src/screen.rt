@@ -1,0 +1,72 @@
+//! What a frame is made of: the windows with their texts, and the echo line.
+use std::alloc::AllocError;
+use std::marker::Model;
+
+/// A window: the text that it shows from a line on, and what its mode line says. Point is a place
+/// of the text, and there are 1 to `MAX_ROWS` text rows.
+#[derive(Drop)]
+pub struct Pane<'a> {
+    pub text: &'a [char],
+    /// How many characters stand before point.
+    pub point: usize,
+    /// The line in the topmost row, from 0.
+    pub first: usize,
+    /// How many text rows the window has.
+    pub height: usize,
+    /// The name of what is edited.
+    pub name: String,
+    /// Whether that has changes that are not saved.
+    pub changed: bool,
+    /// How many insertions wait for the one that they stand behind.
+    pub waiting: usize,
+}
+
+impl<'a> Model for Pane<'a> {
+    ghost use Rattle.std.specs.Prelude.{◌≤◌, length, string_bytes};
+    ghost use Rattle.mg_screen.specs.Screen as spec;
+    ghost use Rattle.mg_screen.specs.declared.size.TheConstants.{MAX_ROWS};
+
+    ghost Value = { spec.Pane };
+
+    ghost view = { λ p. record {
+      text = p.text.now;
+      point = p.point;
+      first = p.first;
+      height = p.height;
+      name = string_bytes p.name;
+      changed = p.changed;
+      waiting = p.waiting;
+    } };
+
+    ghost invariant = { λ p.
+        (p.point ≤ length p.text.now) × (1 ≤ p.height) × (p.height ≤ MAX_ROWS) };
+}
+
+/// The windows from the top on, and what the echo line says.
+#[derive(Drop)]
+pub struct Screen<'a> {
+    pub panes: Vec<Pane<'a>>,
+    pub echo: String,
+}
+
+impl<'a> Model for Screen<'a> {
+    ghost use Rattle.std.specs.Prelude.{string_bytes};
+    ghost use Rattle.mg_screen.specs.Screen as spec;
+
+    ghost Value = { spec.Screen };
+
+    ghost view = { λ s. record { panes = s.panes.items; echo = string_bytes s.echo } };
+}
+
+/// Why there is no frame.
+#[derive(Clone, Copy, Debug, PartialEq, Eq)]
+pub enum FrameFault {
+    /// A growth of memory was refused.
+    Memory,
+}
+
+impl From<AllocError> for FrameFault {
+    fn from(_: AllocError) -> FrameFault {
+        FrameFault::Memory
+    }
+}

@@ -1,0 +1,13 @@
+//! How large a screen may be.
+
+/// One window of one text row, its mode line and the echo line.
+pub const MIN_ROWS: usize = 3;
+
+/// The most rows of a screen.
+pub const MAX_ROWS: usize = 200;
+
+/// The fewest columns of a screen.
+pub const MIN_COLUMNS: usize = 20;
+
+/// The most columns of a screen.
+pub const MAX_COLUMNS: usize = 500;
