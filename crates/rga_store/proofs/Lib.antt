@@ -5,6 +5,7 @@ pub mod NodeLaws
 pub mod StepLaws
 pub mod PickedLaws
 pub mod WalkLaws
+pub mod ShownLaws
 pub mod TreeLaws
 pub mod MergingLaws
 pub mod BackLaws

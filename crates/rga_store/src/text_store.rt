@@ -5,6 +5,7 @@ ghost use Rattle.std.specs.FinSet as finite_set;
 ghost use Rattle.rga_ops.specs.Prelude.{Identifier, IsSound, clock_of, join, known_count, merge_answer, nothing, operations, order, text};
 ghost use Rattle.rga_ops.specs.Content.{element_at, Holds};
 ghost use Rattle.rga_ops.specs.Order.{waiting};
+ghost use Rattle.rga_ops.specs.Places.{visible};
 ghost use Rattle.rga_ops.specs.declared.op.Op.TheVariants.{Delete};
 ghost use Rattle.rga_store.specs.Limit.{is_limit};
 
@@ -63,6 +64,12 @@ pub trait TextStore: Taker + Sized + Drop {
     /// The characters of the visible elements, in order. `Memory` alone.
     fn text(&self, alloc: Global) -> Result<Vec<char>, Refusal>
         ensures ok { IfOk result (λ chars. chars.items ≡ text (Self.content self.now)) }
+        ensures memory { IfErr result (λ e. e ≡ Refusal.Memory) };
+
+    /// The visible elements, in order, and their characters. `Memory` alone.
+    fn visible(&self, alloc: Global) -> Result<(Vec<Id>, Vec<char>), Refusal>
+        ensures elements { IfOk result (λ p. p.0.items ≡ visible (Self.content self.now)) }
+        ensures characters { IfOk result (λ p. p.1.items ≡ text (Self.content self.now)) }
         ensures memory { IfErr result (λ e. e ≡ Refusal.Memory) };
 
     /// How many inserted elements wait for an ancestor, and so are not in the order. `Memory`

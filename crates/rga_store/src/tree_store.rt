@@ -16,7 +16,7 @@ use crate::nodes::{Node, add_child, ensure_node, mark, set_element};
 use crate::operations::operations_of;
 use crate::taker::Taker;
 use crate::text_store::{MAX_LIMIT, TextStore};
-use crate::walk::{walked, walked_text};
+use crate::walk::{walked, walked_text, walked_visible};
 use indexmap::IndexMap;
 use rga_ops::{Found, Id, Op, Refusal, Taken, answer_to};
 use std::alloc::Global;
@@ -257,6 +257,10 @@ impl TextStore for TreeStore {
 
     fn text(&self, alloc: Global) -> Result<Vec<char>, Refusal> {
         walked_text(alloc, &self.nodes)
+    }
+
+    fn visible(&self, alloc: Global) -> Result<(Vec<Id>, Vec<char>), Refusal> {
+        walked_visible(alloc, &self.nodes)
     }
 
     fn waiting_count(&self) -> Result<usize, Refusal> {

@@ -1,11 +1,12 @@
 //! The elements in order, and their characters, by a walk over the child lists. What is on a walk's
 //! stack is still to come, its top next: an element that comes leaves its children there, the
 //! newest on top. So each list of children is looked at once.
-ghost use Rattle.std.specs.Prelude.{◌≡◌, ◌++◌, [], IfOk, IfErr, OnOk};
+ghost use Rattle.std.specs.Prelude.{◌≡◌, ◌++◌, ◌∷◌, [], if◌then◌else◌, is_some, IfOk, IfErr, OnOk};
 ghost use Rattle.std.specs.List.{cons_option};
 ghost use Rattle.std.specs.Option.{option_copied};
 ghost use Rattle.rga_ops.specs.Content.{IsSound};
 ghost use Rattle.rga_ops.specs.Order.{order, text};
+ghost use Rattle.rga_ops.specs.Places.{visible};
 ghost use Rattle.rga_store.specs.Nodes.{content_of_nodes, char_at, AreApart};
 ghost use Rattle.rga_store.specs.Tree.{HasFamilies};
 
@@ -49,6 +50,52 @@ pub(crate) fn walked_text(alloc: Global, nodes: &IndexMap<Id, Node>) -> Result<V
         push_char(&mut chars, node)?;
     }
     Ok(chars)
+}
+
+/// The visible elements in order, and their characters.
+pub(crate) fn walked_visible(
+    alloc: Global,
+    nodes: &IndexMap<Id, Node>,
+) -> Result<(Vec<Id>, Vec<char>), Refusal>
+    requires apart { AreApart nodes.now.entries }
+    requires family { HasFamilies nodes.now.entries }
+    requires sound { IsSound (content_of_nodes nodes.now.entries) }
+    ensures elements { IfOk result
+        (λ p. p.0.items ≡ visible (content_of_nodes nodes.now.entries)) }
+    ensures characters { IfOk result
+        (λ p. p.1.items ≡ text (content_of_nodes nodes.now.entries)) }
+    ensures memory { IfErr result (λ e. e ≡ Refusal.Memory) }
+{
+    let mut ids = Vec::with_capacity(alloc, nodes.len())?;
+    let mut chars = Vec::with_capacity(alloc, nodes.len())?;
+    let mut stack = Vec::new(alloc);
+    let mut next = 0;
+    push_children(&mut stack, nodes, &mut next, Id::ROOT)?;
+    while let Some(id) = stack.pop() {
+        let node = push_children(&mut stack, nodes, &mut next, id)?;
+        push_visible(&mut ids, &mut chars, id, node)?;
+    }
+    Ok((ids, chars))
+}
+
+/// An element goes to the end where its node is inserted and not deleted, and its character too.
+fn push_visible(
+    ids: &mut Vec<Id>,
+    chars: &mut Vec<char>,
+    id: Id,
+    node: Option<&Node>,
+) -> Result<(), Refusal>
+    ensures elements { OnOk result (ids.new.items ≡ ids.old.items
+        ++ (if is_some (char_at (option_copied node.entry)) then id ∷ [] else [])) }
+    ensures characters { OnOk result
+        (chars.new.items ≡ chars.old.items ++ cons_option (char_at (option_copied node.entry)) []) }
+    ensures memory { IfErr result (λ e. e ≡ Refusal.Memory) }
+{
+    if let Some(ch) = char_of(node) {
+        ids.push(id)?;
+        chars.push(ch)?;
+    }
+    Ok(())
 }
 
 /// The character of a node that is inserted and not deleted goes to the end of the text.

@@ -37,6 +37,20 @@ impl Pair {
     fn shows_alike(&self) -> bool {
         same(self.tree.order(), self.list.order())
             && same(self.tree.text(self.alloc), self.list.text())
+            && self.lists_alike()
+    }
+
+    /// Whether the tree store lists those of the plain list's elements that are not deleted, and
+    /// its text.
+    fn lists_alike(&self) -> bool {
+        let Ok((ids, chars)) = self.tree.visible(self.alloc) else {
+            return false;
+        };
+        let Ok(mut order) = self.list.order() else {
+            return false;
+        };
+        order.retain(|id| !self.list.is_deleted(*id));
+        same(Ok(ids), Ok(order)) && same(Ok(chars), self.list.text())
     }
 }
 

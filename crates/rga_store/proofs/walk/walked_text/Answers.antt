@@ -9,17 +9,9 @@ use Rattle.rga_ops.specs.Order.{shown}
 use Rattle.rga_store.specs.declared.nodes.Node.{Node}
 use Rattle.rga_store.specs.Nodes.{Nodes, content_of_nodes, children_of, char_at, AreApart}
 use Rattle.rga_store.proofs.NodeLaws.{shown_at}
+use Rattle.rga_store.proofs.ShownLaws.{shows_more}
 use Rattle.rga_store.proofs.WalkLaws.{IsWalk, walk_start, walk_step, walk_smaller, walk_order}
 use Rattle.rga_store.proofs.walk.walked_text.Goals as goal
-
--- one more element, with the character that its node shows
-shows_more : (ns : Nodes) (done : List Identifier) (id : Identifier) (found : Option Node) (chars : List ℕ) (ch : Option ℕ) → AreApart ns → found ≡ lookup (is_id id) ns → ch ≡ char_at found
-    → chars ≡ filter_map (shown (content_of_nodes ns)) done → chars ++ cons_option ch [] ≡ filter_map (shown (content_of_nodes ns)) (done ++ id ∷ [])
-shows_more ns done id found chars ch apart at is shows =
-    let sees : Identifier → Option ℕ = shown (content_of_nodes ns) in
-    ap (λ xs. xs ++ cons_option ch []) shows
-    ∙ ap (λ o. filter_map sees done ++ cons_option o []) (is ∙ ap char_at at ∙ sym (shown_at ns apart id))
-    ∙ sym (filter_map-append sees done (id ∷ []))
 
 pub loop-id-init : goal.loop-id-init
 loop-id-init c =
