@@ -4,7 +4,7 @@
 Prints a row a command: the microseconds of user time of one plan. The words of the text have five
 letters, its lines 72 characters, and none is empty, so that all of it is one paragraph; point
 stands in the middle. The search finds nothing, the paragraph is filled to 70 columns, and some
-16,700 matches are replaced. The time of the same run with no plan in it, which makes the text, is
+8,300 matches are replaced. The time of the same run with no plan in it, which makes the text, is
 taken off. Of several measurements the least counts.
 """
 

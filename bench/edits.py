@@ -1,17 +1,25 @@
 #!/usr/bin/env python3
-"""Measures edits of a document: one order of its store, and one splice of one character.
+"""Measures edits of a document beside one order of its store.
 
-Prints a row a size: the milliseconds of user time of an order and of a splice, and their ratio. The
-time of the same run with no order or splice in it, which makes the document, is taken off. Of
-several measurements the least counts.
+Prints a row a size: the milliseconds of user time of an order; of a character typed in the middle,
+with the anchor behind it and the text; of the same behind an insertion of another replica; of an
+edit of a thousand changes; and of a deletion of all of the text with its revert. The time of the
+same run with nothing of it done, which makes the document, is taken off. Of several measurements
+the least counts.
 """
 
 import pathlib
 import resource
 import subprocess
 
-# How often an order or a splice is repeated in a run.
-TIMES = {10_000: 500, 100_000: 50, 1_000_000: 5}
+# How often each is repeated in a run. No document may know more than a million elements.
+TIMES = {
+    10_000: {"order": 500, "type": 2_000, "remote": 500, "change": 100, "revert": 2},
+    100_000: {"order": 50, "type": 5_000, "remote": 50, "change": 50, "revert": 2},
+    300_000: {"revert": 2},
+    990_000: {"order": 5, "type": 1_000, "remote": 5, "change": 5},
+}
+WORKS = ("order", "type", "remote", "change", "revert")
 MEASUREMENTS = 5
 
 PROGRAM = pathlib.Path(__file__).parent.parent / "build" / "bench_edits"
@@ -28,11 +36,14 @@ def seconds(work, size, times):
 
 
 def main():
-    print("  elements   order, ms   splice, ms   splice/order")
+    print("characters" + "".join(f"{work + ', ms':>13}" for work in WORKS))
     for size, times in TIMES.items():
         made = seconds("order", size, 0)
-        order, splice = ((seconds(work, size, times) - made) / times * 1e3 for work in ("order", "splice"))
-        print(f"{size:>10,} {order:>11.2f} {splice:>12.2f} {splice / order:>14.2f}", flush=True)
+        row = f"{size:>10,}"
+        for work in WORKS:
+            cost = f"{(seconds(work, size, times[work]) - made) / times[work] * 1e3:.4f}" if work in times else ""
+            row += f"{cost:>13}"
+        print(row, flush=True)
 
 
 if __name__ == "__main__":

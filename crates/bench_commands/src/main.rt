@@ -1,7 +1,7 @@
 //! Commands on a text, to be timed (`bench/commands.py`).
 //!
 //! `COMMAND SIZE TIMES` makes a text of SIZE characters and plans the command on it so many times,
-//! with point in the middle; to replace all, at the end of the first match. It prints what the
+//! with point in the middle; to replace all, at the end of the match there. It prints what the
 //! places add up to where point goes in these plans; a search that finds nothing adds nothing. It
 //! stands on mg_plain, and nothing stands on it.
 #![tactic(auto)]

@@ -61,10 +61,12 @@ fn characters(alloc: Global, of: &[char]) -> Result<Vec<char>, AllocError> {
     Ok(characters)
 }
 
-/// The middle; to replace all, the end of the first match.
+/// The middle; to replace all, the end of the match there.
 fn point_of(command: &Command, size: usize) -> usize {
     match command {
-        Command::ReplaceAll { pattern, .. } => pattern.len(),
+        Command::ReplaceAll { pattern, .. } => (size / 12)
+            .saturating_mul(6)
+            .saturating_add(pattern.len()),
         _ => size / 2,
     }
 }

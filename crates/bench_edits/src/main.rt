@@ -1,9 +1,11 @@
 //! Edits of a document, to be timed (`bench/edits.py`).
 //!
-//! `order SIZE TIMES` makes a document of SIZE characters and asks its store for the order so many
-//! times; `splice SIZE TIMES` puts in so many characters one by one, in the middle of a text that
-//! then has SIZE characters. Either prints how many elements there are in the end. It stands on
-//! rga_doc and rga_store, and nothing stands on it.
+//! The words WORK SIZE TIMES make a document of SIZE characters, and do the work so many times:
+//! `order` asks the store for its order; `type` puts a character in the middle and asks for the
+//! anchor behind it and for the text; `remote` does so behind an insertion of another replica;
+//! `change` makes a thousand changes in one edit; `revert` deletes all of the text and reverts
+//! that. Each prints how many elements there are in the end. It stands on rga_doc and rga_store,
+//! and nothing stands on it.
 #![tactic(auto)]
 
 mod task;
@@ -22,6 +24,8 @@ fn main(rt: HostRuntime) -> io::Result<()> {
             Ok(count) => println!(rt; "{count} elements"),
             Err(refusal) => eprintln!(rt; "{refusal:?}"),
         },
-        None => eprintln!(rt; "say `order SIZE TIMES` or `splice SIZE TIMES`"),
+        None => eprintln!(rt;
+            "say `order`, `type`, `remote`, `change` or `revert`, SIZE and TIMES"
+        ),
     }
 }

@@ -5,14 +5,20 @@
 pub enum Work {
     /// The store's order.
     Order,
-    /// One more character in the middle of the text.
-    Splice,
+    /// One more character in the middle of the text, the anchor behind it, and the text, lent.
+    Type,
+    /// The same behind an insertion of another replica.
+    Remote,
+    /// A thousand changes in one edit, spread over the text.
+    Change,
+    /// A deletion of all of the text, and its revert.
+    Revert,
 }
 
 #[derive(Drop)]
 pub struct Task {
     pub work: Work,
-    /// How many elements there are in the end.
+    /// How many characters the text has.
     pub size: usize,
     pub times: usize,
 }
@@ -21,7 +27,10 @@ pub struct Task {
 pub fn task_of(words: &[String]) -> Option<Task> {
     let work = match words.get(1)?.as_str() {
         "order" => Work::Order,
-        "splice" => Work::Splice,
+        "type" => Work::Type,
+        "remote" => Work::Remote,
+        "change" => Work::Change,
+        "revert" => Work::Revert,
         _ => return None,
     };
     let size = words.get(2)?.parse::<usize>().ok()?;

@@ -151,6 +151,12 @@ allowed limit c in_range new h =
     in_it true h = refl
     in_it false h = let clash : bad Range ≡ passed = h in absurd (cc)
 
+-- there are counters for what is new
+pub allowed_counters : (limit : ℕ) (c : Content) (in_range : Bool) (new : ℕ) → edit_answer limit c in_range new ≡ Ok tt → counter_answer c new ≡ Ok tt
+allowed_counters limit c in_range new h =
+    let first = both_pass (room_answer limit c new) (and_check (place_answer in_range) (counter_answer c new)) h in
+    (both_pass (place_answer in_range) (counter_answer c new) first.1).1
+
 -- operations that lead to another content are taken where that has no more identifiers than the limit
 pub taken_if : (limit : ℕ) (c d : Content) (ops : List Op) (new : ℕ) → Leads c d ops new → finite_set.len (known_ids c) + new ≤ limit → list_answer limit c ops ≡ Ok tt
 taken_if limit c d ops new s room =
@@ -176,6 +182,11 @@ pub splice_text : (limit replica lo hi : ℕ) (c : Content) (put : List ℕ) →
 splice_text limit replica lo hi c put h =
     let s = splicing limit replica lo hi c put h in
     ap text (sym s.0.leads.joined) ∙ s.0.shows.characters
+
+pub splice_visible : (limit replica lo hi : ℕ) (c : Content) (put : List ℕ) → splice_answer limit c lo hi put ≡ Ok tt → visible (join c (content_of (splice_operations replica c lo hi put))) ≡ spliced (visible c) lo hi (new_ids replica (clock_of c) put)
+splice_visible limit replica lo hi c put h =
+    let s = splicing limit replica lo hi c put h in
+    ap visible (sym s.0.leads.joined) ∙ s.0.shows.elements
 
 pub splice_order : (limit replica lo hi : ℕ) (c : Content) (put : List ℕ) → splice_answer limit c lo hi put ≡ Ok tt → order (join c (content_of (splice_operations replica c lo hi put))) ≡ order_after replica c lo put
 splice_order limit replica lo hi c put h =
@@ -231,6 +242,11 @@ pub splices_text : (limit replica : ℕ) (c : Content) (splices : List Splice) �
 splices_text limit replica c splices h =
     let s = editing limit replica c splices h in
     ap text (sym s.0.leads.joined) ∙ s.0.reads
+
+-- and so where they were taken
+pub splices_taken_text : (limit replica : ℕ) (c d : Content) (splices : List Splice) (ops : List Op) → splices_answer limit c splices ≡ Ok tt → ops ≡ splices_operations replica c splices → d ≡ join c (content_of ops) → text d ≡ text_after (text c) splices
+splices_taken_text limit replica c d splices ops h are taken =
+    ap text (taken ∙ ap (λ done. join c (content_of done)) are) ∙ splices_text limit replica c splices h
 
 -- ---- drafts
 

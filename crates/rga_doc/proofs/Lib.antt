@@ -11,3 +11,6 @@ pub mod ApartLists
 pub mod RevertedLaws
 pub mod UndoLaws
 pub mod UndoApart
+pub mod ListingLaws
+pub mod AnchorLaws
+pub mod AnewLaws

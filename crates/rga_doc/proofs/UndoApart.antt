@@ -3,7 +3,7 @@ use Rattle.std.proofs.Common.{◌≡◌, ℕ, zero, suc, ◌+◌, ◌-◌, ◌�
 use Rattle.std.specs.Prelude.{Ok}
 use Rattle.std.specs.List.{list_any, AllByRecursion}
 use Rattle.std.proofs.lemmas.Bool.{and_parts}
-use Rattle.std.proofs.lemmas.List.{take-append-drop, drop-take}
+use Rattle.std.proofs.lemmas.List.{take-append-drop}
 use Rattle.rga_ops.specs.Identifier.{Identifier}
 use Rattle.rga_ops.specs.Content.{Content, clock_of, join, content_of}
 use Rattle.rga_ops.specs.RootPath.{is_complete}
@@ -18,6 +18,7 @@ use Rattle.rga_ops.proofs.VisibleLaws.{visible_distinct}
 use Rattle.rga_doc.specs.LocalEdit.{chain, splices_operations, splices_answer, left_of}
 use Rattle.rga_doc.specs.Revert.{are_restorable, revert_operations}
 use Rattle.rga_doc.specs.UndoGroup.{inserted_elements, deleted_elements, element_characters}
+use Rattle.rga_doc.proofs.SplicedLists.{part}
 use Rattle.rga_doc.proofs.EditLaws.{allowed, falls_first, drafted, splices_drafted}
 use Rattle.rga_doc.proofs.UndoLists.{all_take, all_drop, deleted_elements-append, deleted_elements-deletions, deleted_elements-chain}
 use Rattle.rga_doc.proofs.RevertLaws.{AreComplete}
@@ -55,12 +56,10 @@ draft_apart (s ∷ splices) replica elements last bound all falling =
     ∙ ap (λ xs. xs ++ deleted_elements rest) (deleted_elements-append (map Delete seg) row ∙ (λ k. deleted_elements-deletions seg k ++ deleted_elements-chain replica last (left_of elements s.lo) put k) ∙ append-nil seg) in
     let later = draft_apart splices replica elements (last + length put) s.lo all falls.further in
     let parts : Apart (take s.lo elements ++ drop s.lo elements) = subst Apart (sym (take-append-drop s.lo elements)) all in
-    let reaches : s.lo + (s.hi - s.lo) ≡ s.hi = omega (arith, falls.up) in
-    let part : seg ≡ take (s.hi - s.lo) (drop s.lo elements) = ap (λ n. drop s.lo (take n elements)) (sym reaches) ∙ drop-take s.lo (s.hi - s.lo) elements in
-    let own : Apart seg = subst Apart (sym part) (apart_take (s.hi - s.lo) (drop s.lo elements) (apart_right (take s.lo elements) (drop s.lo elements) parts)) in
+    let own : Apart seg = subst Apart (part elements s.lo s.hi falls.up) (apart_take (s.hi - s.lo) (drop s.lo elements) (apart_right (take s.lo elements) (drop s.lo elements) parts)) in
     let cross : AllByRecursion (λ y. AllByRecursion (λ z. is z y ≡ false) seg) (deleted_elements rest) =
     all_map (λ q. list_any (is q) (take s.lo elements) ≡ true) (λ y. AllByRecursion (λ z. is z y ≡ false) seg)
-    (λ y m. subst (AllByRecursion (λ z. is z y ≡ false)) (sym part) (all_take (λ z. is z y ≡ false) (s.hi - s.lo) (drop s.lo elements) (apart_parts (take s.lo elements) (drop s.lo elements) y parts m))) (deleted_elements rest) later.within in
+    (λ y m. subst (AllByRecursion (λ z. is z y ≡ false)) (part elements s.lo s.hi falls.up) (all_take (λ z. is z y ≡ false) (s.hi - s.lo) (drop s.lo elements) (apart_parts (take s.lo elements) (drop s.lo elements) y parts m))) (deleted_elements rest) later.within in
     let low : AllByRecursion (λ q. list_any (is q) (take bound elements) ≡ true) (deleted_elements rest) =
     all_map (λ q. list_any (is q) (take s.lo elements) ≡ true) (λ q. list_any (is q) (take bound elements) ≡ true) (λ q m. in_take s.lo bound elements q (omega (arith, falls.up, falls.within)) m) (deleted_elements rest) later.within in
     let here : AllByRecursion (λ q. list_any (is q) (take bound elements) ≡ true) seg =

@@ -1,4 +1,6 @@
 pub mod Document
+pub mod Following
+pub mod Listing
 pub mod LocalEdit
 pub mod Revert
 pub mod UndoGroup

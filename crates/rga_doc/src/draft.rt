@@ -1,8 +1,9 @@
 //! The operations of an edit that is not taken yet.
-ghost use Rattle.std.specs.Prelude.{◌≡◌, ◌<◌, ◌≤◌, ◌+◌, ◌++◌, map, length, OnOk, IfErr};
+ghost use Rattle.std.specs.Prelude.{◌≡◌, ◌<◌, ◌≤◌, ◌+◌, ◌++◌, [], map, length, OnOk, IfErr};
 ghost use Rattle.rga_doc.specs.LocalEdit.{chain, operations_at};
 
 use rga_ops::{Id, Op, Refusal};
+use std::alloc::Global;
 
 /// Operations in the order in which they are made, and what names the next insertion.
 #[derive(Drop)]
@@ -15,6 +16,20 @@ pub(crate) struct Draft {
 }
 
 impl Draft {
+    /// An edit with no operations yet.
+    pub(crate) fn new(alloc: Global, replica: u16, last: u64) -> Draft
+        requires { 1 ≤ replica }
+        ensures ops { result.ops.items ≡ [] }
+        ensures replica { result.replica ≡ replica }
+        ensures last { result.last ≡ last }
+    {
+        Draft {
+            ops: Vec::new(alloc),
+            replica,
+            last,
+        }
+    }
+
     /// The operations of a splice, by the visible elements of the text that its places are meant
     /// in.
     pub(crate) fn splice(

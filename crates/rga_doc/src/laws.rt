@@ -3,10 +3,11 @@
 //! Each function does nothing: its contract is a theorem that the check proves.
 ghost use Rattle.std.specs.Prelude.{◌≡◌, true, ℕ, List, Ok};
 ghost use Rattle.std.specs.FinMap as finite_map;
-ghost use Rattle.rga_ops.specs.Prelude.{Content, Identifier, content_of, join, list_answer, order, text};
+ghost use Rattle.rga_ops.specs.Prelude.{Content, Identifier, clock_of, content_of, join, list_answer, order, text, visible};
 ghost use Rattle.rga_ops.specs.Splice.{Splice, spliced, text_after};
 ghost use Rattle.rga_ops.specs.declared.op.Op.TheVariants.{Delete};
 ghost use Rattle.rga_doc.specs.Document.{Document};
+ghost use Rattle.rga_doc.specs.Listing.{elements_after};
 ghost use Rattle.rga_doc.specs.LocalEdit.{splice_operations, splices_operations, splice_answer, splices_answer, order_after};
 
 mod reverting;
@@ -35,7 +36,8 @@ pub fn a_splice_changes_the_text_at_its_place()
         order (join c (content_of ops)) ≡ order_after replica c lo put }
 {}
 
-/// The same for several splices in turn.
+/// The same for several splices in turn, and the visible elements: the new ones stand where their
+/// characters do.
 pub fn splices_change_the_text_in_turn()
     ensures taken { (limit replica : ℕ) (c : Content) (splices : List Splice) →
         splices_answer limit c splices ≡ Ok tt →
@@ -44,6 +46,11 @@ pub fn splices_change_the_text_in_turn()
         splices_answer limit c splices ≡ Ok tt →
         let ops = splices_operations replica c splices in
         text (join c (content_of ops)) ≡ text_after (text c) splices }
+    ensures elements { (limit replica : ℕ) (c : Content) (splices : List Splice) →
+        splices_answer limit c splices ≡ Ok tt →
+        let ops = splices_operations replica c splices in
+        visible (join c (content_of ops))
+        ≡ elements_after replica (clock_of c) (visible c) splices }
 {}
 
 /// The deletion of an inserted element takes no memory at a document over any store either.

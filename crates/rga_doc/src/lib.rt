@@ -2,12 +2,14 @@
 //!
 //! A `Doc` is a store with the number of its own replica. Its text is edited by splices: each makes
 //! the operations that a splice stands for, which the document takes itself and the caller passes
-//! on to other replicas. An edit is reverted by what it inserted and deleted. A place among others'
-//! edits is kept by an `Anchor`. The crate stands on rga_ops, on the traits of rga_store and on
-//! rga_walk, and is generic over any `TextStore`. The layer above may rest on the contracts: the
-//! operations answered are those of the definition, the content is joined with them, and the text
-//! afterwards is the splice of the text before; by a law, the revert of splices gives the text from
-//! before them.
+//! on to other replicas. An edit can be drafted and taken later, and it is reverted by what it
+//! inserted and deleted. A place among others' edits is kept by an `Anchor`. A document may list
+//! its visible elements and their characters, so that edits and anchors cost no walk.
+//!
+//! The crate stands on rga_ops, on the traits of rga_store and on rga_walk, and is generic over any
+//! `TextStore`. The layer above may rest on the contracts: the operations answered are those of the
+//! definition, the content is joined with them, and the text afterwards is the splice of the text
+//! before; by a law, the revert of splices gives the text from before them.
 #![tactic(auto)]
 
 mod anchor;
@@ -16,7 +18,10 @@ mod draft;
 mod edit;
 mod element_sets;
 pub mod laws;
+mod listing;
+mod listing_anew;
 mod revert;
+mod taking;
 
 pub use anchor::Anchor;
 pub use doc::Doc;

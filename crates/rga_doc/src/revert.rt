@@ -1,5 +1,5 @@
 //! Edits that are reverted.
-ghost use Rattle.std.specs.Prelude.{◌≡◌, ◌+◌, ◌≤◌, ◌<◌, ◌++◌, filter, length, Ok, Err, IfOk, IfErr, OnOk, OnErr};
+ghost use Rattle.std.specs.Prelude.{◌≡◌, false, ◌+◌, ◌≤◌, ◌<◌, ◌++◌, filter, length, Ok, Err, IfOk, IfErr, OnOk, OnErr};
 ghost use Rattle.indexmap.specs.IndexSet.{contains};
 ghost use Rattle.rga_ops.specs.Prelude.{Identifier, is_id, clock_of, content_of, join, order, IsAnswer};
 ghost use Rattle.rga_ops.specs.RootPath.{is_complete};
@@ -10,6 +10,7 @@ ghost use Rattle.rga_doc.specs.Revert.{distinct_elements, restorations, revert_o
 
 use crate::doc::Doc;
 use crate::draft::Draft;
+use crate::edit::{check_counters, check_room};
 use crate::element_sets::{collect_set, drop_repeats, put_in};
 use indexmap::IndexSet;
 use rga_ops::{Id, Op, Refusal};
@@ -31,7 +32,8 @@ impl<S: TextStore> Doc<S> {
         ensures operations { IfOk result (λ ops. ops.items
             ≡ revert_operations self.old.replica self.old.content gone.now back.now) }
         ensures content { IfOk result (λ ops. self.new
-            ≡ record self.old { content = join self.old.content (content_of ops.items) }) }
+            ≡ record self.old
+            { content = join self.old.content (content_of ops.items); listed = false }) }
         // Each restored element stands directly behind the one that it restores.
         ensures place { OnOk result (order self.new.content
             ≡ put_back self.old.replica (clock_of self.old.content) back.now
@@ -44,6 +46,7 @@ impl<S: TextStore> Doc<S> {
     {
         let ops = self.draft_revert(gone, back)?;
         self.store.apply_all(&ops)?;
+        self.listing.listed = false;
         Ok(ops)
     }
 
@@ -58,13 +61,13 @@ impl<S: TextStore> Doc<S> {
         ensures room { result ≡ Err Memory →
             room_answer self.now.limit self.now.content (length back.now) ≡ Ok tt }
     {
-        self.check_room(back.len())?;
+        check_room(&self.store, back.len())?;
         let order = self.store.order()?;
         let complete = collect_set(self.alloc, &order)?;
         self.check_restorable(&complete, back)?;
-        self.check_counters(back.len())?;
+        check_counters(&self.store, back.len())?;
         let visible = self.collect_visible(&complete, gone)?;
-        let mut draft = self.draft();
+        let mut draft = Draft::new(self.alloc, self.replica, self.store.clock());
         draft.delete(&visible)?;
         draft.restore(back)?;
         Ok(draft.ops)

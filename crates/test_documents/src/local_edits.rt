@@ -43,7 +43,7 @@ fn clock_goes_on_from_a_deletion(rt: HostRuntime) {
 }
 
 /// One letter at each of the places.
-fn letters(alloc: Global, places: [(usize, char); 2]) -> Result<Vec<Splice>, Refusal> {
+pub fn letters(alloc: Global, places: [(usize, char); 2]) -> Result<Vec<Splice>, Refusal> {
     let mut splices = Vec::new(alloc);
     for (place, letter) in places {
         let mut put = Vec::new(alloc);

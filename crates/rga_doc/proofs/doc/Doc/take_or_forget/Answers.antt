@@ -1,0 +1,13 @@
+use Rattle.std.proofs.Common.{ap, ◌∙◌}
+use Rattle.rga_ops.specs.ListAnswer.{list_answer}
+use Rattle.rga_doc.specs.Document.{Document}
+use Rattle.rga_doc.proofs.EditLaws.{splices_taken}
+use Rattle.rga_doc.proofs.doc.Doc.take_or_forget.Goals as goal
+
+-- a refusal changed nothing, and the store takes the operations
+pub take_unlisted-requires : goal.take_unlisted-requires
+take_unlisted-requires g c =
+    let old : Document = c.args.self.now in
+    ap (λ (d : Document). list_answer d.limit d.content c.args.ops.now) c.in-Err.ensures.same
+    ∙ ap (list_answer old.limit old.content) c.requires.operations
+    ∙ splices_taken old.limit old.replica old.content c.args.splices.now c.requires.allowed

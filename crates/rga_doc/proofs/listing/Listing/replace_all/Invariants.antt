@@ -1,0 +1,17 @@
+use Rattle.std.proofs.Common.{◌≡◌, ◌≤◌, ◌+◌, true, drop, length, vec_capacity}
+use Rattle.rga_ops.specs.Splice.{text_after, are_falling, new_characters}
+use Rattle.rga_doc.specs.Listing.{elements_after}
+use Rattle.rga_doc.proofs.listing.Listing.replace_all.Given as goal
+
+-- the splices that are left complete those that were wanted, and find their places and room
+abbrev pub invariant-loop-splice : goal.invariant-loop-splice
+invariant-loop-splice l = record {
+  elements : elements_after l.replica l.counter l.self.elements.items (drop l.splice-index l.splices) ≡ elements_after l.replica l.fn.last l.fn.self.elements.items l.splices;
+  characters : text_after l.self.characters.items (drop l.splice-index l.splices) ≡ text_after l.fn.self.characters.items l.splices;
+  listed : l.self.listed ≡ l.fn.self.listed;
+  falling : are_falling (length l.self.elements.items) (drop l.splice-index l.splices) ≡ true;
+  alike : length l.self.characters.items ≡ length l.self.elements.items;
+  counters : l.counter + new_characters (drop l.splice-index l.splices) ≡ l.fn.last + new_characters l.splices;
+  elements_fit : length l.self.elements.items + new_characters (drop l.splice-index l.splices) ≤ vec_capacity l.self.elements;
+  characters_fit : length l.self.characters.items + new_characters (drop l.splice-index l.splices) ≤ vec_capacity l.self.characters;
+}

@@ -1,0 +1,266 @@
+//! The visible elements and their characters, listed beside a store.
+ghost use Rattle.std.specs.Prelude.{◌≡◌, ◌≤◌, ◌<◌, ◌+◌, ◌++◌, ◌∷◌, [], false, true, length, vec_len, vec_capacity, position, IfErr, IfSome, OnOk, OnErr};
+ghost use Rattle.rga_ops.specs.Identifier.{identifier, is_id};
+ghost use Rattle.rga_ops.specs.Splice.{spliced, text_after, are_falling, new_characters};
+ghost use Rattle.rga_doc.specs.Listing.{IsListOf, IsListing, elements_after};
+ghost use Rattle.rga_doc.specs.LocalEdit.{left_of, new_ids};
+
+use rga_ops::{Id, Refusal, Splice};
+use rga_store::TextStore;
+use std::alloc::Global;
+
+/// The visible elements of a store and their characters, in order, while they are listed.
+#[derive(Drop)]
+pub(crate) struct Listing {
+    pub(crate) elements: Vec<Id>,
+    pub(crate) characters: Vec<char>,
+    pub(crate) listed: bool,
+}
+
+impl Listing {
+    /// Nothing listed.
+    pub(crate) fn new(alloc: Global) -> Listing
+        ensures { result.listed ≡ false }
+    {
+        Listing {
+            elements: Vec::new(alloc),
+            characters: Vec::new(alloc),
+            listed: false,
+        }
+    }
+
+    /// Lists what a store shows, where it is not listed. `Memory` alone; then all stays.
+    pub(crate) fn list<S: TextStore>(&mut self, alloc: Global, store: &S) -> Result<(), Refusal>
+        requires { IsListing (S.content store.now)
+            self.old.listed self.old.elements.items self.old.characters.items }
+        ensures listed { OnOk result (self.new.listed ≡ true) }
+        ensures lists { OnOk result
+            (IsListOf (S.content store.now) self.new.elements.items self.new.characters.items) }
+        ensures memory { IfErr result (λ e. e ≡ Refusal.Memory) }
+        ensures same { OnErr result (self.new ≡ self.old) }
+        ensures kept { self.old.listed ≡ true → result ≡ Ok tt }
+    {
+        if self.listed {
+            return Ok(());
+        }
+        let (mut elements, mut characters) = store.visible(alloc)?;
+        // A store may have made room for what is deleted too.
+        elements.shrink_to_fit();
+        characters.shrink_to_fit();
+        self.elements = elements;
+        self.characters = characters;
+        self.listed = true;
+        Ok(())
+    }
+
+    /// Gives up what is listed, and its memory.
+    pub(crate) fn forget(&mut self, alloc: Global)
+        ensures { self.new.listed ≡ false }
+    {
+        *self = Listing::new(alloc);
+    }
+
+    /// The element that a place is behind: the root at the front.
+    pub(crate) fn left_element(&self, k: usize) -> Id
+        requires { k ≤ length self.now.elements.items }
+        ensures { result ≡ left_of self.now.elements.items k }
+    {
+        if k == 0 {
+            return Id::ROOT;
+        }
+        self.elements.as_slice()[k - 1]
+    }
+
+    /// The index of an element in the text, where it is listed.
+    pub(crate) fn index_of(&self, element: Id) -> Option<usize>
+        ensures value { result ≡ position (λ x. is_id x element) self.now.elements.items }
+        ensures within { IfSome result (λ index. index + 1 ≤ usize.MAX) }
+    {
+        self.elements.iter().position(|x| *x == element)
+    }
+
+    /// Makes room for so many more. `Memory` alone; what is listed stays.
+    pub(crate) fn reserve(&mut self, more: usize) -> Result<(), Refusal>
+        ensures elements { self.new.elements.items ≡ self.old.elements.items }
+        ensures characters { self.new.characters.items ≡ self.old.characters.items }
+        ensures listed { self.new.listed ≡ self.old.listed }
+        ensures memory { IfErr result (λ e. e ≡ Refusal.Memory) }
+        ensures elements_fit { OnOk result
+            (length self.new.elements.items + more ≤ vec_capacity self.new.elements) }
+        ensures characters_fit { OnOk result
+            (length self.new.characters.items + more ≤ vec_capacity self.new.characters) }
+    {
+        reserve(&mut self.elements, more)?;
+        reserve(&mut self.characters, more)
+    }
+
+    /// Makes room for so many more, and gives up what is listed where that is refused.
+    pub(crate) fn make_room(&mut self, alloc: Global, more: usize)
+        ensures listed { self.new.listed ≡ true → self.old.listed ≡ true }
+        ensures elements { self.new.listed ≡ true
+            → self.new.elements.items ≡ self.old.elements.items }
+        ensures characters { self.new.listed ≡ true
+            → self.new.characters.items ≡ self.old.characters.items }
+        ensures elements_fit { self.new.listed ≡ true
+            → length self.new.elements.items + more ≤ vec_capacity self.new.elements }
+        ensures characters_fit { self.new.listed ≡ true
+            → length self.new.characters.items + more ≤ vec_capacity self.new.characters }
+    {
+        if self.reserve(more).is_err() {
+            self.forget(alloc);
+        }
+    }
+
+    /// Splices what is listed, if anything is, as `replace` does.
+    pub(crate) fn splice(&mut self, lo: usize, hi: usize, put: &[char], replica: u16, last: u64)
+        requires ordered { lo ≤ hi }
+        requires in_elements { self.old.listed ≡ true → hi ≤ length self.old.elements.items }
+        requires in_characters { self.old.listed ≡ true → hi ≤ length self.old.characters.items }
+        requires numbered { 1 ≤ replica }
+        requires counters { 0 < length put.now → last + length put.now ≤ Id.MAX_COUNTER }
+        requires elements_fit { self.old.listed ≡ true
+            → length self.old.elements.items + length put.now ≤ vec_capacity self.old.elements }
+        requires characters_fit { self.old.listed ≡ true
+            → length self.old.characters.items + length put.now ≤ vec_capacity self.old.characters }
+        ensures elements { self.new.listed ≡ true → self.new.elements.items
+            ≡ spliced self.old.elements.items lo hi (new_ids replica last put.now) }
+        ensures characters { self.new.listed ≡ true → self.new.characters.items
+            ≡ spliced self.old.characters.items lo hi put.now }
+        ensures listed { self.new.listed ≡ self.old.listed }
+    {
+        if self.listed {
+            self.replace(lo, hi, put, replica, last);
+        }
+    }
+
+    /// Splices both lists in place, with new elements whose counters go on from the last one.
+    pub(crate) fn replace(&mut self, lo: usize, hi: usize, put: &[char], replica: u16, last: u64)
+        requires ordered { lo ≤ hi }
+        requires in_elements { hi ≤ length self.old.elements.items }
+        requires in_characters { hi ≤ length self.old.characters.items }
+        requires numbered { 1 ≤ replica }
+        requires counters { 0 < length put.now → last + length put.now ≤ Id.MAX_COUNTER }
+        requires elements_fit { length self.old.elements.items + length put.now
+            ≤ vec_capacity self.old.elements }
+        requires characters_fit { length self.old.characters.items + length put.now
+            ≤ vec_capacity self.old.characters }
+        ensures elements { self.new.elements.items
+            ≡ spliced self.old.elements.items lo hi (new_ids replica last put.now) }
+        ensures characters { self.new.characters.items
+            ≡ spliced self.old.characters.items lo hi put.now }
+        ensures listed { self.new.listed ≡ self.old.listed }
+        ensures room_of_elements { vec_capacity self.old.elements ≤ vec_capacity self.new.elements }
+        ensures room_of_characters { vec_capacity self.old.characters
+            ≤ vec_capacity self.new.characters }
+    {
+        replace_elements(&mut self.elements, lo, hi, put, replica, last);
+        replace_characters(&mut self.characters, lo, hi, put);
+    }
+
+    /// Splices both lists in place, by each splice in turn. There is room for all.
+    pub(crate) fn replace_all(&mut self, splices: &[Splice], replica: u16, last: u64)
+        requires falling { are_falling (length self.old.elements.items) splices.now ≡ true }
+        requires alike { length self.old.characters.items ≡ length self.old.elements.items }
+        requires numbered { 1 ≤ replica }
+        requires counters { 0 < new_characters splices.now
+            → last + new_characters splices.now ≤ Id.MAX_COUNTER }
+        requires elements_fit { length self.old.elements.items + new_characters splices.now
+            ≤ vec_capacity self.old.elements }
+        requires characters_fit { length self.old.characters.items + new_characters splices.now
+            ≤ vec_capacity self.old.characters }
+        ensures elements { self.new.elements.items
+            ≡ elements_after replica last self.old.elements.items splices.now }
+        ensures characters { self.new.characters.items
+            ≡ text_after self.old.characters.items splices.now }
+        ensures listed { self.new.listed ≡ self.old.listed }
+    {
+        let mut counter = last;
+        for splice in splices {
+            let put = splice.put.as_slice();
+            self.replace(splice.lo, splice.hi, put, replica, counter);
+            counter += put.len() as u64;
+        }
+    }
+}
+
+/// Makes room for so many more items; for an eighth more than there are where that is more, so that
+/// typing seldom moves them all. `Memory` alone; the items stay.
+fn reserve<T>(items: &mut Vec<T>, more: usize) -> Result<(), Refusal>
+    ensures items { items.new.items ≡ items.old.items }
+    ensures memory { IfErr result (λ e. e ≡ Refusal.Memory) }
+    ensures room { OnOk result (length items.new.items + more ≤ vec_capacity items.new) }
+{
+    let count = items.as_slice().len();
+    if items.capacity() - count < more {
+        items.reserve_exact(more.max(count / 8))?;
+    }
+    Ok(())
+}
+
+/// Replaces elements in place by new ones. There is room.
+fn replace_elements(
+    elements: &mut Vec<Id>,
+    lo: usize,
+    hi: usize,
+    put: &[char],
+    replica: u16,
+    last: u64,
+)
+    requires ordered { lo ≤ hi }
+    requires in_list { hi ≤ length elements.old.items }
+    requires numbered { 1 ≤ replica }
+    requires counters { 0 < length put.now → last + length put.now ≤ Id.MAX_COUNTER }
+    requires room { length elements.old.items + length put.now ≤ vec_capacity elements.old }
+    ensures items { elements.new.items
+        ≡ spliced elements.old.items lo hi (new_ids replica last put.now) }
+    ensures capacity { vec_capacity elements.old ≤ vec_capacity elements.new }
+{
+    let count = elements.as_slice().len();
+    push_elements(elements, put, replica, last);
+    elements[hi..count + put.len()].rotate_right(put.len());
+    elements.drain(lo..hi);
+}
+
+/// Adds a new element for each character. There is room.
+pub(crate) fn push_elements(elements: &mut Vec<Id>, put: &[char], replica: u16, last: u64)
+    requires numbered { 1 ≤ replica }
+    requires counters { 0 < length put.now → last + length put.now ≤ Id.MAX_COUNTER }
+    requires room { vec_len elements.old + length put.now ≤ vec_capacity elements.old }
+    ensures items { elements.new.items ≡ elements.old.items ++ new_ids replica last put.now }
+    ensures len { vec_len elements.new ≡ vec_len elements.old + length put.now }
+    ensures capacity { vec_capacity elements.old ≤ vec_capacity elements.new }
+{
+    let mut counter = last;
+    for _ in put {
+        counter += 1;
+        push_element(elements, counter, replica);
+    }
+}
+
+/// Adds the element of a counter. There is room.
+fn push_element(elements: &mut Vec<Id>, counter: u64, replica: u16)
+    requires numbered { 1 ≤ replica }
+    requires counters { (1 ≤ counter) × (counter ≤ Id.MAX_COUNTER) }
+    requires room { vec_len elements.old < vec_capacity elements.old }
+    ensures items { elements.new.items ≡ elements.old.items ++ identifier counter replica ∷ [] }
+    ensures len { vec_len elements.new ≡ vec_len elements.old + 1 }
+    ensures capacity { vec_capacity elements.old ≤ vec_capacity elements.new }
+{
+    if let Ok(id) = Id::new(counter, replica) {
+        let _ = elements.push(id);
+    }
+}
+
+/// Replaces characters in place by others. There is room.
+fn replace_characters(characters: &mut Vec<char>, lo: usize, hi: usize, put: &[char])
+    requires ordered { lo ≤ hi }
+    requires in_list { hi ≤ length characters.old.items }
+    requires room { length characters.old.items + length put.now ≤ vec_capacity characters.old }
+    ensures items { characters.new.items ≡ spliced characters.old.items lo hi put.now }
+    ensures capacity { vec_capacity characters.old ≤ vec_capacity characters.new }
+{
+    let count = characters.as_slice().len();
+    let _ = characters.extend_from_slice(put);
+    characters[hi..count + put.len()].rotate_right(put.len());
+    characters.drain(lo..hi);
+}

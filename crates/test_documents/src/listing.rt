@@ -1,0 +1,117 @@
+//! The listed elements and characters of a document, and what is asked of them.
+use crate::documents::{AB, ABC, Document, document, shows};
+use crate::local_edits::letters;
+use rga_doc::Anchor;
+use rga_ops::{Id, Op, Refusal};
+use rga_store::{Taker, TextStore};
+use std::alloc::Global;
+use test_ops::{id, spells};
+
+/// Whether the characters that a document lists are the store's own text.
+fn lists_its_text(alloc: Global, doc: &mut Document) -> Result<bool, Refusal> {
+    doc.list()?;
+    let own = doc.store().text(alloc)?;
+    Ok(doc.characters() == own.as_slice())
+}
+
+/// Two letters put in by a draft that is then taken.
+fn put_two(alloc: Global, doc: &mut Document, lo: usize, hi: usize) -> Result<(), Refusal> {
+    let splices = letters(alloc, [(hi, 'd'), (lo, 'c')])?;
+    let ops = doc.draft(&splices)?;
+    doc.take(&splices, &ops)
+}
+
+/// An insertion of another replica behind the element left of a place, taken twice.
+fn insert_remotely(doc: &mut Document, place: usize) -> Result<(), Refusal> {
+    let id = Id::new(doc.store().clock().saturating_add(1), 2)?;
+    let parent = doc.anchor_at(place)?.element;
+    let op = Op::Insert {
+        id,
+        parent,
+        ch: 'r',
+    };
+    let _new = doc.apply(op)?;
+    let _known = doc.apply(op)?;
+    Ok(())
+}
+
+/// An edit that the number chooses.
+fn edit(alloc: Global, doc: &mut Document, number: u64) -> Result<(), Refusal> {
+    doc.list()?;
+    let len = doc.characters().len();
+    let lo = ((number >> 20) as usize & 15).min(len);
+    let hi = lo.saturating_add((number >> 30) as usize & 3).min(len);
+    match number >> 61 {
+        0 | 1 => insert_remotely(doc, lo),
+        2 => {
+            let id = doc.anchor_at(hi)?.element;
+            let _refused_at_the_front = doc.apply(Op::Delete { id });
+            Ok(())
+        }
+        3 => put_two(alloc, doc, lo, hi),
+        _ => {
+            let _ops = doc.splice(lo, hi, &['x', 'y'])?;
+            Ok(())
+        }
+    }
+}
+
+/// Whether the listed text is the store's own after each of many edits, of this replica and of
+/// another in turn.
+fn stays_true(alloc: Global, doc: &mut Document, seed: u64) -> Result<bool, Refusal> {
+    let mut number = seed;
+    for _ in 0..100 {
+        number = number
+            .wrapping_mul(6364136223846793005)
+            .wrapping_add(1442695040888963407);
+        edit(alloc, doc, number)?;
+        if !lists_its_text(alloc, doc)? {
+            return Ok(false);
+        }
+    }
+    Ok(true)
+}
+
+#[test]
+fn list_stays_the_text_of_the_store(rt: HostRuntime) {
+    for seed in &[1, 2, 3] {
+        let mut doc = document(rt.alloc(), 1, 1000, AB).expect(&rt, "a document");
+        assert!(rt;
+            stays_true(rt.alloc(), &mut doc, *seed) == Ok(true),
+            "{seed}"
+        );
+    }
+}
+
+/// The element that a place of the listed text is behind; the root where the text is shorter.
+fn element_at(doc: &mut Document, place: usize) -> Result<Id, Refusal> {
+    doc.list()?;
+    if place > doc.characters().len() {
+        return Ok(Id::ROOT);
+    }
+    Ok(doc.listed_anchor(place).element)
+}
+
+#[test]
+fn anchors_by_the_list(rt: HostRuntime) {
+    let element = id(2, 1).expect(&rt, "an element");
+    let mut doc = document(rt.alloc(), 1, 100, ABC).expect(&rt, "a document");
+    assert!(rt; element_at(&mut doc, 2) == Ok(element));
+    assert!(rt; doc.place(Anchor { element }) == Ok(2));
+    assert!(rt; doc.anchor_at(4).err() == Some(Refusal::Range));
+    assert!(rt; shows(&doc, "abc"));
+}
+
+/// Whether a document lists these characters once two letters were put in.
+fn lists(alloc: Global, doc: &mut Document, expected: &str) -> Result<bool, Refusal> {
+    put_two(alloc, doc, 1, 2)?;
+    doc.list()?;
+    Ok(spells(doc.characters(), expected))
+}
+
+#[test]
+fn draft_is_taken(rt: HostRuntime) {
+    let mut doc = document(rt.alloc(), 1, 4, AB).expect(&rt, "a document");
+    assert!(rt; lists(rt.alloc(), &mut doc, "acbd") == Ok(true));
+    assert!(rt; lists(rt.alloc(), &mut doc, "") == Err(Refusal::Full));
+}
