@@ -3,7 +3,7 @@ use Rattle.std.proofs.Common.{◌≡◌, ℕ, ◌+◌, ◌-◌, ◌≤◌, ◌<�
 use Rattle.std.proofs.lemmas.List.{drop_more}
 use Rattle.std.proofs.lemmas.Bool.{cases_Bool}
 use Rattle.std.proofs.lemmas.Bool.Decides.{nat_tests}
-use Rattle.mg_screen.specs.Cells.{Cell, cell_of, cells, cells_from, width_of, width_if, shown, beginning, IsLongest}
+use Rattle.mg_screen.specs.Cells.{Cell, cell_of, cells, cells_from, width_of, width_if, beginning, IsLongest}
 
 -- one character more, of those that are left
 pub times_more : (row : List ℕ) (c k left : ℕ) → k ≡ suc left → (row ++ encode_utf8 c) ++ encode_utf8_all (replicate left c) ≡ row ++ encode_utf8_all (replicate k c)
@@ -37,23 +37,30 @@ too_wide line most column i d w inside met is over fits sofar =
     let more = ap width_of (cells_left line column i d inside met) in
     omega (arith, more, is, over, fits, sofar)
 
--- what is shown of the rest, whose first cell has room
+-- the longest beginning of the rest, whose first cell has room
 pub beginning_on : (line : List ℕ) (most column i d w : ℕ) → i < length line → d ≡ get_or line i d → w ≡ (cell_of column d).width → w ≤ most - column → column ≤ most
-    → shown (beginning (most - column) (cells_from column (drop i line)))
-    ≡ (cell_of column d).shown ++ shown (beginning (most - (column + w)) (cells_from (column + w) (drop (i + 1) line)))
+    → beginning (most - column) (cells_from column (drop i line)) ≡ cell_of column d ∷ beginning (most - (column + w)) (cells_from (column + w) (drop (i + 1) line))
 beginning_on line most column i d w inside met is room fits =
     let cells_are : cells_from column (drop i line) ≡ cell_of column d ∷ cells_from (column + w) (drop (i + 1) line) =
     cells_left line column i d inside met ∙ ap (λ k. cell_of column d ∷ cells_from (column + k) (drop (i + 1) line)) (sym is) in
     let has_room : nat_le (cell_of column d).width (most - column) ≡ true = grind (arith, nat_tests) in
     let left : (most - column) - (cell_of column d).width ≡ most - (column + w) = omega (arith, is) in
-    ap (λ cs. shown (beginning (most - column) cs)) cells_are ∙ rw (has_room, left) refl
+    ap (beginning (most - column)) cells_are ∙ rw (has_room, left) refl
 
--- what is shown of the rest, whose first cell has no room
+-- the longest beginning of the rest, whose first cell has no room
 pub beginning_ends : (line : List ℕ) (most column i d w : ℕ) → i < length line → d ≡ get_or line i d → w ≡ (cell_of column d).width → most - column < w
-    → shown (beginning (most - column) (cells_from column (drop i line))) ≡ []
+    → beginning (most - column) (cells_from column (drop i line)) ≡ []
 beginning_ends line most column i d w inside met is over =
     let none : nat_le (cell_of column d).width (most - column) ≡ false = grind (arith, nat_tests) in
-    ap (λ cs. shown (beginning (most - column) cs)) (cells_left line column i d inside met) ∙ rw none refl
+    ap (beginning (most - column)) (cells_left line column i d inside met) ∙ rw none refl
+
+-- the width of the longest beginning, whose rest begins at a column
+pub beginning_width_on : (line : List ℕ) (most column i d w : ℕ) → i < length line → d ≡ get_or line i d → w ≡ (cell_of column d).width → w ≤ most - column → column ≤ most
+    → column + width_of (beginning (most - column) (cells_from column (drop i line))) ≡ width_of (beginning most (cells line))
+    → (column + w) + width_of (beginning (most - (column + w)) (cells_from (column + w) (drop (i + 1) line))) ≡ width_of (beginning most (cells line))
+beginning_width_on line most column i d w inside met is room fits sofar =
+    let more = ap width_of (beginning_on line most column i d w inside met is room fits) in
+    omega (arith, more, is, sofar)
 
 -- bytes of a row, with one cell more
 pub row_on : (row before all more rest old : List ℕ) → before ≡ row ++ encode_utf8_all more → all ≡ more ++ rest

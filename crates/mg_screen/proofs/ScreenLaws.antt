@@ -41,11 +41,11 @@ pane_on old new all columns i ps p inside met is told =
     ap (λ rs. rs ++ utf8 (panes_rows columns (drop (i + 1) ps))) is ∙ append_assoc old (utf8 (pane_rows columns p)) (utf8 (panes_rows columns (drop (i + 1) ps)))
     ∙ ap (λ rs. old ++ rs) (sym (utf8-append (pane_rows columns p) (panes_rows columns (drop (i + 1) ps)))) ∙ ap (λ qs. old ++ utf8 (panes_rows columns qs)) (sym left) ∙ told
 
-length-text_rows : (columns n : ℕ) (ls : List (List ℕ)) → length (text_rows columns n ls) ≡ n
+pub length-text_rows : (columns n : ℕ) (ls : List (List ℕ)) → length (text_rows columns n ls) ≡ n
 length-text_rows columns zero ls = refl
 length-text_rows columns (suc n) ls = let rest = length-text_rows columns n (drop 1 ls) in omega (arith, rest)
 
-length-panes_rows : (columns : ℕ) (ps : List Pane) → length (panes_rows columns ps) ≡ sum_by (λ p. p.height + 1) ps
+pub length-panes_rows : (columns : ℕ) (ps : List Pane) → length (panes_rows columns ps) ≡ sum_by (λ p. p.height + 1) ps
 length-panes_rows columns [] = refl
 length-panes_rows columns (p ∷ ps) =
     let rest = length-panes_rows columns ps in

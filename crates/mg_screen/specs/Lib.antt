@@ -4,5 +4,6 @@ pub mod Written
 pub mod Lines
 pub mod Screen
 pub mod Frame
+pub mod Cursor
 pub mod Layout
 pub mod Inside

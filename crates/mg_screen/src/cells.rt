@@ -1,5 +1,5 @@
 //! What a character shows in a row, and how wide it is.
-ghost use Rattle.std.specs.Prelude.{◌≡◌, ◌≤◌, replicate, OnOk};
+ghost use Rattle.std.specs.Prelude.{◌≡◌, ◌≤◌, chars, replicate, OnOk};
 ghost use Rattle.mg_screen.specs.Written.{Adds};
 ghost use Rattle.mg_screen.specs.declared.cells.TheConstants.{TAB_STOP};
 ghost use Rattle.mg_screen.specs.Cells as spec;
@@ -63,6 +63,36 @@ pub(crate) fn width_within(line: &[char], most: usize) -> Option<usize>
         column += width;
     }
     Some(column)
+}
+
+/// The width of the longest beginning of whole cells of a line whose width is at most `most`.
+pub(crate) fn beginning_width(line: &[char], most: usize) -> usize
+    ensures { result ≡ spec.width_of (spec.beginning most (spec.cells line.now)) }
+{
+    let mut column = 0;
+    for c in line {
+        let width = cell_width(column, *c);
+        if width > most - column {
+            return column;
+        }
+        column += width;
+    }
+    column
+}
+
+/// The same of a text.
+pub(crate) fn text_width(text: &str, most: usize) -> usize
+    ensures { result ≡ spec.width_of (spec.beginning most (spec.cells (chars text.now))) }
+{
+    let mut column = 0;
+    for c in text.chars() {
+        let width = cell_width(column, c);
+        if width > most - column {
+            return column;
+        }
+        column += width;
+    }
+    column
 }
 
 /// Writes the longest beginning of whole cells of a line whose width is at most `most`.

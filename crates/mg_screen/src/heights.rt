@@ -1,7 +1,7 @@
 //! Heights of windows, and beside these what the windows show.
 ghost use Rattle.std.specs.Prelude.{◌≡◌, ℕ, ◌+◌, ◌-◌, ◌<◌, ◌≤◌, OnOk, OnErr};
 ghost use Rattle.std.specs.Prelude.{length, insert, slice_index, sum_by};
-ghost use Rattle.mg_screen.specs.declared.size.TheConstants.{MAX_ROWS};
+ghost use Rattle.mg_screen.specs.declared.size.TheConstants.{MAX_ROWS, MIN_SPLIT_HEIGHT};
 ghost use Rattle.mg_screen.specs.Inside.{IsKept};
 ghost use Rattle.mg_screen.specs.Layout as spec;
 
@@ -37,7 +37,7 @@ pub(crate) fn split_both<T: Copy>(
 ) -> Result<(), AllocError>
     requires paired { length heights.old.items ≡ length shown.old.items }
     requires inside { index < length heights.old.items }
-    requires large { 3 ≤ slice_index heights.old.items index }
+    requires large { MIN_SPLIT_HEIGHT ≤ slice_index heights.old.items index }
     ensures paired { length heights.new.items ≡ length shown.new.items }
     ensures exact { OnOk result
         (spec.windows_of heights.new.items shown.new.items ≡

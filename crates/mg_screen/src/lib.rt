@@ -10,6 +10,7 @@
 #![tactic(auto)]
 
 mod cells;
+mod cursors;
 mod frames;
 mod heights;
 pub mod laws;
@@ -21,8 +22,9 @@ mod size;
 mod text_rows;
 mod windows;
 
+pub use cursors::{cursor, echo_cursor};
 pub use frames::frame;
 pub use lines::{centred_line, first_line};
-pub use screen::{FrameFault, Pane, Screen};
-pub use size::{MAX_COLUMNS, MAX_ROWS, MIN_COLUMNS, MIN_ROWS};
+pub use screen::{FrameFault, Pane, Position, Screen};
+pub use size::{MAX_COLUMNS, MAX_ROWS, MIN_COLUMNS, MIN_ROWS, MIN_SPLIT_HEIGHT};
 pub use windows::{WindowFault, Windows};

@@ -58,6 +58,13 @@ impl<'a> Model for Screen<'a> {
     ghost view = { λ s. record { panes = s.panes.items; echo = string_bytes s.echo } };
 }
 
+/// A row and a column of a screen, each from 0.
+#[derive(Clone, Copy, Debug, PartialEq, Eq)]
+pub struct Position {
+    pub row: usize,
+    pub column: usize,
+}
+
 /// Why there is no frame.
 #[derive(Clone, Copy, Debug, PartialEq, Eq)]
 pub enum FrameFault {

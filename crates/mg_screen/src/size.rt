@@ -11,3 +11,7 @@ pub const MIN_COLUMNS: usize = 20;
 
 /// The most columns of a screen.
 pub const MAX_COLUMNS: usize = 500;
+
+/// The fewest text rows of a window that is split: one for each half, and one that becomes the
+/// upper half's mode line.
+pub const MIN_SPLIT_HEIGHT: usize = 3;

@@ -2,18 +2,20 @@
 ghost use Rattle.std.specs.Prelude.{◌≡◌, ◌-◌, ◌<◌, ◌≤◌, [], ◌∷◌, Err, length};
 ghost use Rattle.std.specs.Prelude.{OnOk, OnErr, IfOk, IfErr, IsOk};
 ghost use Rattle.mg_screen.specs.declared.size.TheConstants.{MIN_ROWS, MAX_ROWS};
+ghost use Rattle.mg_screen.specs.declared.size.TheConstants.{MIN_SPLIT_HEIGHT};
 ghost use Rattle.mg_screen.specs.declared.windows.WindowFault.TheVariants.{TooSmall, OnlyOne};
 ghost use Rattle.mg_screen.specs.declared.windows.WindowFault.TheVariants.{Memory};
 ghost use Rattle.mg_screen.specs.Layout as spec;
 
 use crate::heights::{remove_both, split_both};
+use crate::size::MIN_SPLIT_HEIGHT;
 use std::alloc::{AllocError, Global};
 use std::marker::Model;
 
 /// Why the windows stay as they are. Where several hold, the first is answered.
 #[derive(Clone, Copy, Debug, PartialEq, Eq)]
 pub enum WindowFault {
-    /// The current window has fewer than 3 text rows.
+    /// The current window has fewer text rows than `MIN_SPLIT_HEIGHT`.
     TooSmall,
     /// There is one window alone.
     OnlyOne,
@@ -125,17 +127,17 @@ impl<T: Copy> Windows<T> {
     }
 
     /// The current window in two, of which the upper is current, and both show the same (mg(1),
-    /// split-window-vertically). `TooSmall` where it has fewer than 3 text rows, then `Memory`;
-    /// nothing changes then.
+    /// split-window-vertically). `TooSmall` where it has fewer text rows than `MIN_SPLIT_HEIGHT`,
+    /// then `Memory`; nothing changes then.
     pub fn split(&mut self) -> Result<(), WindowFault>
         ensures exact { OnOk result (self.new ≡ spec.split_layout self.old) }
         ensures filled { spec.KeepsRows self.old self.new }
         ensures same { OnErr result (self.new ≡ self.old) }
-        ensures too_small { spec.current_height self.old < 3 → result ≡ Err TooSmall }
-        ensures memory { 3 ≤ spec.current_height self.old → IfErr result (λ e. e ≡ Memory) }
+        ensures too_small { spec.current_height self.old < MIN_SPLIT_HEIGHT → result ≡ Err TooSmall }
+        ensures memory { MIN_SPLIT_HEIGHT ≤ spec.current_height self.old → IfErr result (λ e. e ≡ Memory) }
     {
         let index = self.current;
-        if self.heights[index] < 3 {
+        if self.heights[index] < MIN_SPLIT_HEIGHT {
             return Err(WindowFault::TooSmall);
         }
         split_both(&mut self.heights, &mut self.shown, index)?;
