@@ -5,6 +5,8 @@
 #![tactic(auto)]
 
 #[cfg(test)]
+mod cursors;
+#[cfg(test)]
 mod first_lines;
 #[cfg(test)]
 mod frames;
