@@ -16,6 +16,8 @@ begin_of text place = place - column_of text place
 pub record BeginsLine (text : List ℕ) (place : ℕ) : Type 0 where
   pub begins : lines_from text (place - column_of text place) ≡ drop (line_of text place) (lines text)
   pub clear : (k : ℕ) → place - column_of text place ≤ k → k < place → is_newline (get_or text k 0) ≡ false
+  pub first : column_of text (place - column_of text place) ≡ 0
+  pub same : line_of text (place - column_of text place) ≡ line_of text place
 
 pub column_within : (text : List ℕ) (place : ℕ) → column_of text place ≤ place
 column_within text place =
@@ -52,6 +54,8 @@ next_place text n inside before = by_char (is_newline (get_or text n 0)) refl
         record {
           begins = ap (lines_from text) begin ∙ next ∙ ap (λ k. drop k (lines text)) (sym more);
           clear = λ k from to. absurd (omega (arith, begin, from, to));
+          first = ap (column_of text) begin ∙ none;
+          same = ap (line_of text) begin;
         }
     by_char false e =
         let here : not (is_newline (get_or text (n + 1 - 1) 0)) ≡ true = ap (λ k. not (is_newline (get_or text k 0))) last ∙ ap not e in
@@ -62,6 +66,8 @@ next_place text n inside before = by_char (is_newline (get_or text n 0)) refl
         record {
           begins = ap (lines_from text) begin ∙ before.begins ∙ ap (λ k. drop k (lines text)) (sym same);
           clear = λ k from to. by_place e k (omega (arith, begin, from)) to (nat_lt k n) refl;
+          first = ap (column_of text) begin ∙ before.first;
+          same = ap (line_of text) begin ∙ before.same ∙ sym same;
         }
       where
         by_place : is_newline (get_or text n 0) ≡ false → (k : ℕ) → begin_of text n ≤ k → k < n + 1 → (b : Bool) → nat_lt k n ≡ b → is_newline (get_or text k 0) ≡ false
@@ -78,6 +84,8 @@ line_begin text zero within =
     record {
       begins = ap (lines_from text) start ∙ whole;
       clear = λ k _ before. absurd (omega (arith, before));
+      first = ap (column_of text) start;
+      same = ap (line_of text) start;
     }
 line_begin text (suc n) within =
     let one : n + 1 ≡ suc n = omega arith in
@@ -126,3 +134,32 @@ column_in_line text place start end within begin is inside =
     let long = length-drop start text in
     let all : length (take (end - start) (drop start text)) ≡ end - start = taken ∙ min-eq_left (omega (arith, long, inside)) in
     omega (arith, all, before, begin, column)
+
+-- behind a place at which a line begins, where it is not the first, stands a newline that is the end of the line above
+pub line_above : (text : List ℕ) (begin : ℕ) → begin ≤ length text → column_of text begin ≡ 0 → 0 < line_of text begin
+    → (0 < begin) × (line_of text (begin - 1) + 1 ≡ line_of text begin)
+line_above text zero within first some = absurd (omega (arith, some))
+line_above text (suc n) within first some = by_char (is_newline (get_or text n 0)) refl
+  where
+    one : n + 1 ≡ suc n
+    one = omega arith
+
+    last : suc n - 1 ≡ n
+    last = omega arith
+
+    by_char : (b : Bool) → is_newline (get_or text n 0) ≡ b → (0 < suc n) × (line_of text (suc n - 1) + 1 ≡ line_of text (suc n))
+    by_char true e =
+        let more : line_of text (n + 1) ≡ line_of text n + 1 = count_by_more_yes is_newline text n 0 (omega (arith, within)) e in
+        (omega arith, ap (λ k. line_of text k + 1) last ∙ sym more ∙ ap (line_of text) one)
+    by_char false e =
+        let here : not (is_newline (get_or text (suc n - 1) 0)) ≡ true = ap (λ k. not (is_newline (get_or text k 0))) last ∙ ap not e in
+        let more : column_of text (suc n) ≡ 1 + column_of text (suc n - 1) =
+        suffix_len-take_yes (λ c. not (is_newline c)) text (suc n) 0 (omega arith) within here in
+        absurd (omega (arith, first, more))
+
+-- the lines from the begin of one on
+pub lines_at_begin : (text : List ℕ) (begin line : ℕ) → begin ≤ length text → column_of text begin ≡ 0 → line_of text begin ≡ line
+    → lines_from text begin ≡ drop line (lines text)
+lines_at_begin text begin line within first is =
+    let start : begin - column_of text begin ≡ begin = omega (arith, first) in
+    ap (lines_from text) (sym start) ∙ (line_begin text begin within).begins ∙ ap (λ k. drop k (lines text)) is

@@ -5,6 +5,7 @@ ghost use Rattle.mg_screen.specs.Rows.{cut_row};
 ghost use Rattle.mg_screen.specs.Written.{Spells, SpellRows, AddsRows};
 ghost use Rattle.mg_screen.specs.Frame as spec;
 
+use crate::lines::{line_of, line_start};
 use crate::mode_line::mode_row;
 use crate::rows::{characters, cut_row, push_row};
 use crate::screen::{FrameFault, Pane, Screen};
@@ -21,8 +22,10 @@ fn push_pane(
     ensures { OnOk result
         (AddsRows (spec.pane_rows columns pane.now) rows.old.items rows.new.items) }
 {
-    push_text_rows(alloc, columns, pane.height, pane.text, pane.first, rows)?;
-    push_row(rows, mode_row(alloc, columns, pane)?)
+    let line = line_of(pane.text, pane.point);
+    let begin = line_start(pane.text, pane.point, line, pane.first);
+    push_text_rows(alloc, columns, pane.height, pane.text, begin, rows)?;
+    push_row(rows, mode_row(alloc, columns, pane, line)?)
 }
 
 fn echo_row(alloc: Global, columns: usize, echo: &str) -> Result<String, AllocError>

@@ -76,17 +76,61 @@ pub(crate) fn line_end(text: &[char], start: usize) -> usize
     start + front_len(&text[start..])
 }
 
-/// Where a line begins. A line that the text has not begins behind its end.
-pub(crate) fn line_start(text: &[char], line: usize) -> usize
-    ensures exact { spec.lines_from text.now result ≡ drop line (spec.lines text.now) }
+/// Where the line begins in which a place stands.
+fn line_begin(text: &[char], place: usize) -> usize
+    requires { place ≤ length text.now }
+    ensures begins { spec.column_of text.now result ≡ 0 }
+    ensures line { spec.line_of text.now result ≡ spec.line_of text.now place }
+    ensures within { result ≤ length text.now }
+{
+    place - column_of(text, place)
+}
+
+/// Where the line begins that is so many lines above the one that begins at a place.
+fn begin_above(text: &[char], begin: usize, count: usize) -> usize
+    requires within { begin ≤ length text.now }
+    requires begins { spec.column_of text.now begin ≡ 0 }
+    requires above { count ≤ spec.line_of text.now begin }
+    ensures begins { spec.column_of text.now result ≡ 0 }
+    ensures line { spec.line_of text.now result + count ≡ spec.line_of text.now begin }
+    ensures within { result ≤ length text.now }
+{
+    let mut start = begin;
+    for _i in 0..count {
+        start = line_begin(text, start - 1);
+    }
+    start
+}
+
+/// Where the line begins that is so many lines below the one that begins at a place. A line that
+/// the text has not begins behind its end.
+fn begin_below(text: &[char], begin: usize, count: usize) -> usize
+    requires { begin ≤ length text.now }
+    ensures exact { spec.lines_from text.now result ≡ drop count (spec.lines_from text.now begin) }
     ensures within { result ≤ length text.now + 1 }
 {
-    let mut start = 0;
-    for _i in 0..line {
+    let mut start = begin;
+    for _i in 0..count {
         if start > text.len() {
             break;
         }
         start = line_end(text, start) + 1;
     }
     start
+}
+
+/// Where a line begins, which is looked for from a place on: nothing is read of the text that is
+/// further from there. `here` is the line of that place. A line that the text has not begins behind
+/// its end.
+pub(crate) fn line_start(text: &[char], place: usize, here: usize, line: usize) -> usize
+    requires within { place ≤ length text.now }
+    requires here { here ≡ spec.line_of text.now place }
+    ensures exact { spec.lines_from text.now result ≡ drop line (spec.lines text.now) }
+    ensures within { result ≤ length text.now + 1 }
+{
+    let begin = line_begin(text, place);
+    if line <= here {
+        return begin_above(text, begin, here - line);
+    }
+    begin_below(text, begin, line - here)
 }

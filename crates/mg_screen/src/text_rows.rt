@@ -1,10 +1,10 @@
 //! The text rows of a window.
 ghost use Rattle.std.specs.Prelude.{◌≡◌, ◌≤◌, ◌<◌, ◌+◌, length, drop, IfOk, OnOk};
 ghost use Rattle.mg_screen.specs.Written.{Spells, AddsRows};
-ghost use Rattle.mg_screen.specs.Lines.{lines, lines_from};
+ghost use Rattle.mg_screen.specs.Lines.{lines_from};
 ghost use Rattle.mg_screen.specs.Frame as spec;
 
-use crate::lines::{line_end, line_start};
+use crate::lines::line_end;
 use crate::rows::{push_row, text_row};
 use std::alloc::{AllocError, Global};
 
@@ -31,20 +31,21 @@ fn next_row(
     Ok((row, end + 1))
 }
 
-/// So many rows more, which show the lines from `first` on.
+/// So many rows more, which show the lines from the one on that begins at a place.
 pub(crate) fn push_text_rows(
     alloc: Global,
     columns: usize,
     height: usize,
     text: &[char],
-    first: usize,
+    begin: usize,
     rows: &mut Vec<String>,
 ) -> Result<(), AllocError>
-    requires { 0 < columns }
-    ensures { let shown = drop first (lines text.now) in
+    requires some { 0 < columns }
+    requires within { begin ≤ length text.now + 1 }
+    ensures { let shown = lines_from text.now begin in
         OnOk result (AddsRows (spec.text_rows columns height shown) rows.old.items rows.new.items) }
 {
-    let mut start = line_start(text, first);
+    let mut start = begin;
     for _i in 0..height {
         let (row, next) = next_row(alloc, columns, text, start)?;
         push_row(rows, row)?;
