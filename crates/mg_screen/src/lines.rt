@@ -1,7 +1,26 @@
 //! The lines of a text, and where a window stands over them.
-ghost use Rattle.std.specs.Prelude.{◌≡◌, ◌≤◌, ◌+◌, length, drop};
+ghost use Rattle.std.specs.Prelude.{◌≡◌, ◌≤◌, ◌+◌, length, drop, count_by};
 ghost use Rattle.std.specs.List.{position_or_len};
+ghost use Rattle.mg_screen.specs.declared.lines.TheConstants.{BLOCK};
 ghost use Rattle.mg_screen.specs.Lines as spec;
+
+/// How many characters are counted at a time, in 32 bits: all of them in 64 bits would take twice
+/// as long.
+const BLOCK: usize = 4096;
+
+fn newlines(block: &[char]) -> u32
+    requires { length block.now ≤ BLOCK }
+    ensures exact { result ≡ count_by spec.is_newline block.now }
+    ensures bound { result ≤ length block.now }
+{
+    let mut count: u32 = 0;
+    for c in block {
+        if *c == '\n' {
+            count += 1;
+        }
+    }
+    count
+}
 
 /// The line in which a place stands.
 pub(crate) fn line_of(text: &[char], place: usize) -> usize
@@ -10,12 +29,13 @@ pub(crate) fn line_of(text: &[char], place: usize) -> usize
     ensures bound { result ≤ length text.now }
 {
     let mut line = 0;
-    for c in &text[..place] {
-        if *c == '\n' {
-            line += 1;
-        }
+    let mut rest = &text[..place];
+    while rest.len() > BLOCK {
+        let (block, behind) = rest.split_at(BLOCK);
+        line += newlines(block) as usize;
+        rest = behind;
     }
-    line
+    line + newlines(rest) as usize
 }
 
 /// How many characters stand between the begin of its line and a place.
