@@ -58,7 +58,8 @@ impl Keys {
     /// whole sequence, and one that is none, is forgotten. Takes no memory.
     pub fn feed(&mut self, byte: u8) -> Step
         ensures exact { (bytes : List ℕ) → HasBegun self.old bytes →
-            Answers (meaning self.old.mode (bytes ++ byte ∷ [])) (bytes ++ byte ∷ []) result self.new }
+            let all = bytes ++ byte ∷ [] in
+            Answers (meaning self.old.mode all) all result self.new }
         ensures mode { self.new.mode ≡ self.old.mode }
     {
         match advance(self, byte) {
