@@ -1,5 +1,6 @@
 pub mod CellLaws
 pub mod LineLaws
+pub mod BlockLaws
 pub mod RowLaws
 pub mod ScreenLaws
 pub mod PlaceLaws

@@ -1,12 +1,14 @@
 //! The screen of the editor: how its rows are shared among windows, and what stands in them.
 //!
 //! `Windows` shares the rows among windows, `first_line` and `centred_line` place a window over its
-//! text, and `frame` makes the rows of the whole screen. There is no command, no key and no buffer
-//! in sight, and nothing is drawn: a frame is a value. The crate stands on unicode_width, for the
-//! widths of characters alone. The layer above may rest on equations: each call of `Windows` leaves
-//! the layout that its word says, and the windows and the echo line fill the screen as before; the
-//! first line of a window is the one of the rule; a frame has exactly the rows of its windows and
-//! its echo line (`frame_rows`). Want of memory changes nothing.
+//! text, `frame` makes the rows of the whole screen, and `cursor` and `echo_cursor` say where the
+//! cursor stands in it. There is no command, no key and no buffer in sight, and nothing is drawn: a
+//! frame is a value. The crate stands on unicode_width, for the widths of characters alone. The
+//! layer above may rest on equations: each call of `Windows` leaves the layout that its word says,
+//! and the windows and the echo line fill the screen as before; the first line of a window is the
+//! one of the rule; a frame has exactly the rows of its windows and its echo line (`frame_rows`),
+//! and the cursor stands on the cell at point where its row shows that. Want of memory changes
+//! nothing.
 #![tactic(auto)]
 
 mod cells;

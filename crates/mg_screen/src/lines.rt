@@ -1,12 +1,12 @@
 //! The lines of a text, and where a window stands over them.
-ghost use Rattle.std.specs.Prelude.{◌≡◌, ◌≤◌, ◌+◌, length, drop, count_by};
+ghost use Rattle.std.specs.Prelude.{◌≡◌, ◌≤◌, ◌+◌, ◌-◌, length, drop, count_by};
 ghost use Rattle.std.specs.List.{position_or_len};
 ghost use Rattle.mg_screen.specs.declared.lines.TheConstants.{BLOCK};
 ghost use Rattle.mg_screen.specs.Lines as spec;
 
-/// How many characters are counted at a time, in 32 bits: all of them in 64 bits would take twice
-/// as long.
-const BLOCK: usize = 4096;
+/// How many characters are looked at together, where newlines are counted or looked for: so many
+/// are counted in 32 bits, several at a time.
+const BLOCK: usize = 512;
 
 fn newlines(block: &[char]) -> u32
     requires { length block.now ≤ BLOCK }
@@ -38,12 +38,25 @@ pub(crate) fn line_of(text: &[char], place: usize) -> usize
     line + newlines(rest) as usize
 }
 
+/// A place of the same line, some whole blocks before.
+fn blocks_before(text: &[char], place: usize) -> usize
+    requires { place ≤ length text.now }
+    ensures same_line { (place - result) + spec.column_of text.now result ≡ spec.column_of text.now place }
+    ensures within { result ≤ place }
+{
+    let mut begin = place;
+    while begin >= BLOCK && newlines(&text[begin - BLOCK..begin]) == 0 {
+        begin -= BLOCK;
+    }
+    begin
+}
+
 /// How many characters stand between the begin of its line and a place.
 pub(crate) fn column_of(text: &[char], place: usize) -> usize
     requires { place ≤ length text.now }
     ensures exact { result ≡ spec.column_of text.now place }
 {
-    let mut begin = place;
+    let mut begin = blocks_before(text, place);
     while begin > 0 && text[begin - 1] != '\n' {
         begin -= 1;
     }
@@ -87,13 +100,28 @@ fn front_len(text: &[char]) -> usize
     text.len()
 }
 
+/// A place of the same line, some whole blocks behind.
+fn blocks_behind(text: &[char], place: usize) -> usize
+    requires { place ≤ length text.now }
+    ensures same_line { result + position_or_len spec.is_newline (drop result text.now) ≡
+        place + position_or_len spec.is_newline (drop place text.now) }
+    ensures within { result ≤ length text.now }
+{
+    let mut end = place;
+    while text.len() - end >= BLOCK && newlines(&text[end..end + BLOCK]) == 0 {
+        end += BLOCK;
+    }
+    end
+}
+
 /// The end of the line that begins at a place.
 pub(crate) fn line_end(text: &[char], start: usize) -> usize
     requires { start ≤ length text.now }
     ensures exact { result ≡ start + position_or_len spec.is_newline (drop start text.now) }
     ensures within { result ≤ length text.now }
 {
-    start + front_len(&text[start..])
+    let near = blocks_behind(text, start);
+    near + front_len(&text[near..])
 }
 
 /// Where the line begins in which a place stands.
