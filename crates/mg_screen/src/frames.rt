@@ -1,6 +1,7 @@
 //! The whole screen as rows of characters.
 ghost use Rattle.std.specs.Prelude.{◌≡◌, ◌≤◌, ◌<◌, length, chars, IfOk, OnOk};
-ghost use Rattle.mg_screen.specs.declared.size.TheConstants.{MIN_ROWS, MAX_ROWS, MIN_COLUMNS, MAX_COLUMNS};
+ghost use Rattle.mg_screen.specs.declared.size.TheConstants.{MIN_ROWS, MAX_ROWS};
+ghost use Rattle.mg_screen.specs.declared.size.TheConstants.{MIN_COLUMNS, MAX_COLUMNS};
 ghost use Rattle.mg_screen.specs.Rows.{cut_row};
 ghost use Rattle.mg_screen.specs.Written.{Spells, SpellRows, AddsRows};
 ghost use Rattle.mg_screen.specs.Frame as spec;

@@ -8,6 +8,7 @@ ghost use Rattle.mg_screen.specs.Lines as spec;
 /// are counted in 32 bits, several at a time.
 const BLOCK: usize = 512;
 
+/// How many newlines a block has.
 fn newlines(block: &[char]) -> u32
     requires { length block.now ≤ BLOCK }
     ensures exact { result ≡ count_by spec.is_newline block.now }
@@ -41,7 +42,8 @@ pub(crate) fn line_of(text: &[char], place: usize) -> usize
 /// A place of the same line, some whole blocks before.
 fn blocks_before(text: &[char], place: usize) -> usize
     requires { place ≤ length text.now }
-    ensures same_line { (place - result) + spec.column_of text.now result ≡ spec.column_of text.now place }
+    ensures same_line { (place - result) + spec.column_of text.now result ≡
+        spec.column_of text.now place }
     ensures within { result ≤ place }
 {
     let mut begin = place;
@@ -167,9 +169,8 @@ fn begin_below(text: &[char], begin: usize, count: usize) -> usize
     start
 }
 
-/// Where a line begins, which is looked for from a place on: nothing is read of the text that is
-/// further from there. `here` is the line of that place. A line that the text has not begins behind
-/// its end.
+/// Where a line begins. It is looked for from a place on, whose line is `here`, so that no more of
+/// the text is read than what stands between. A line that the text has not begins behind its end.
 pub(crate) fn line_start(text: &[char], place: usize, here: usize, line: usize) -> usize
     requires within { place ≤ length text.now }
     requires here { here ≡ spec.line_of text.now place }

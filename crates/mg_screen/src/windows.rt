@@ -133,8 +133,10 @@ impl<T: Copy> Windows<T> {
         ensures exact { OnOk result (self.new ≡ spec.split_layout self.old) }
         ensures filled { spec.KeepsRows self.old self.new }
         ensures same { OnErr result (self.new ≡ self.old) }
-        ensures too_small { spec.current_height self.old < MIN_SPLIT_HEIGHT → result ≡ Err TooSmall }
-        ensures memory { MIN_SPLIT_HEIGHT ≤ spec.current_height self.old → IfErr result (λ e. e ≡ Memory) }
+        ensures too_small { spec.current_height self.old < MIN_SPLIT_HEIGHT →
+            result ≡ Err TooSmall }
+        ensures memory { MIN_SPLIT_HEIGHT ≤ spec.current_height self.old →
+            IfErr result (λ e. e ≡ Memory) }
     {
         let index = self.current;
         if self.heights[index] < MIN_SPLIT_HEIGHT {
