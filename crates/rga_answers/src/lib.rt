@@ -9,7 +9,9 @@
 #![tactic(auto)]
 
 mod answer;
+mod early_answer;
 mod new_operations;
 
 pub use answer::answer_at;
+pub use early_answer::early_answer_at;
 pub use new_operations::new_operations_at;
