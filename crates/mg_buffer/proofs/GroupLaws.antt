@@ -1,0 +1,159 @@
+-- Groups: which one an undo takes, that each can be reverted, and that point keeps a place over an undo.
+use Rattle.std.proofs.Common.{◌≡◌, ℕ, zero, suc, ◌-◌, ◌<◌, ◌≤◌, true, false, cond, ◌&&◌, is_some, List, [], ◌∷◌, filter, get_or, length, refl, sym, ap, ◌∙◌, arith}
+use Rattle.std.specs.Prelude.{Option, Some, None, Ok}
+use Rattle.std.specs.Option.{option_map, option_map_or}
+use Rattle.std.specs.List.{slice_get, list_all}
+use Rattle.std.proofs.lemmas.Bool.{and_parts}
+use Rattle.std.proofs.lemmas.Option.{slice_get_past, slice_get-get_or, same_Some}
+use Rattle.std.proofs.lemmas.List.Folds.{list_all-append}
+use Rattle.rga_ops.specs.Identifier.{Identifier, is_root}
+use Rattle.rga_ops.specs.Content.{Content, join, content_of}
+use Rattle.rga_ops.specs.Order.{order}
+use Rattle.rga_ops.specs.Places.{is_visible, up_to, place}
+use Rattle.rga_ops.specs.RootPath.{is_complete}
+use Rattle.rga_ops.specs.Splice.{Splice}
+use Rattle.rga_ops.specs.declared.op.Op.{Op}
+use Rattle.rga_doc.specs.LocalEdit.{edit_answer, splices_operations, splices_answer}
+use Rattle.rga_doc.specs.Revert.{revert_operations, revert_answer, are_restorable}
+use Rattle.rga_doc.specs.UndoGroup.{inserted_elements, deleted_elements, element_characters}
+use Rattle.rga_doc.proofs.PlaceLaws.{stands_still}
+use Rattle.rga_doc.proofs.RevertedLaws.{reverted_complete, reverted_restorable}
+use Rattle.rga_doc.proofs.UndoApart.{edit_restorable}
+use Rattle.mg_buffer.specs.declared.spot.Spot.{Spot}
+use Rattle.mg_buffer.specs.Groups.{Past, past_of, with_group, are_revertible, last_group, stand_in, all_substituted, first_of, last_of, point_after}
+use Rattle.mg_buffer.specs.Kept.{stands}
+use Rattle.mg_buffer.proofs.RestorableLaws.{restorable_still, gone_restorable, substituted_restorable}
+
+-- ---- the group that an undo takes
+
+-- a group that was found by its index
+pub record IsTaken (groups : List Past) (n i : ℕ) : Type 0 where
+  pub group : Past
+  pub taken : last_group groups n ≡ Some (i, group)
+  pub there : slice_get groups i ≡ Some group
+
+pub taken_at : (groups : List Past) (n i : ℕ) → option_map (λ (p : ℕ × Past). p.0) (last_group groups n) ≡ Some i → IsTaken groups n i
+taken_at groups zero i h = let clash : None ≡ Some i = h in cc
+taken_at groups (suc k) i h = by (slice_get groups k) refl h
+  where
+    by : (o : Option Past) → slice_get groups k ≡ o → option_map (λ (p : ℕ × Past). p.0) (option_map (λ (g : Past). (k, g)) o) ≡ Some i → IsTaken groups (suc k) i
+    by None e h = let clash : None ≡ Some i = h in cc
+    by (Some g) e h =
+        let same : k ≡ i = same_Some k i h in
+        record {
+          group = g;
+          taken = ap (option_map (λ (g : Past). (k, g))) e ∙ ap (λ j. Some (j, g)) same;
+          there = ap (slice_get groups) (sym same) ∙ e;
+        }
+
+pub none_taken : (groups : List Past) (n : ℕ) → option_map (λ (p : ℕ × Past). p.0) (last_group groups n) ≡ None → last_group groups n ≡ None
+none_taken groups n h = by (last_group groups n) h
+  where
+    by : (o : Option (ℕ × Past)) → option_map (λ (p : ℕ × Past). p.0) o ≡ None → o ≡ None
+    by None h = refl
+    by (Some p) h = let clash : Some p.0 ≡ None = h in cc
+
+pub none_first : (groups : List Past) (n : ℕ) → n ≡ 0 → None ≡ option_map (λ (p : ℕ × Past). p.0) (last_group groups n)
+none_first groups n zero_is = ap (λ m. option_map (λ (p : ℕ × Past). p.0) (last_group groups m)) (sym zero_is)
+
+pub none_past : (groups : List Past) (n : ℕ) → length groups < n → None ≡ option_map (λ (p : ℕ × Past). p.0) (last_group groups n)
+none_past groups zero past = absurd (omega (arith, past))
+none_past groups (suc k) past = ap (λ o. option_map (λ (p : ℕ × Past). p.0) (option_map (λ (g : Past). (k, g)) o)) (sym (slice_get_past groups k (omega (arith, past))))
+
+pub index_taken : (groups : List Past) (n : ℕ) → ¬ (n ≡ 0) → n ≤ length groups → Some (n - 1) ≡ option_map (λ (p : ℕ × Past). p.0) (last_group groups n)
+index_taken groups zero other within = absurd (other refl)
+index_taken groups (suc k) other within = by (slice_get groups k) refl
+  where
+    by : (o : Option Past) → slice_get groups k ≡ o → Some (suc k - 1) ≡ option_map (λ (p : ℕ × Past). p.0) (option_map (λ (g : Past). (k, g)) o)
+    by None e = absurd (omega (arith, within, past_if_none groups k e))
+      where
+        past_if_none : (gs : List Past) (j : ℕ) → slice_get gs j ≡ None → length gs ≤ j
+        past_if_none [] j e = omega arith
+        past_if_none (g ∷ gs) zero e = let clash : Some g ≡ None = e in cc
+        past_if_none (g ∷ gs) (suc j) e = omega (arith, past_if_none gs j e)
+    by (Some g) e = let same : suc k - 1 ≡ k = omega arith in ap Some same
+
+-- the group at an index is the one that is read there
+pub group_is : (groups : List Past) (i : ℕ) (x g : Past) → x ≡ get_or groups i x → i < length groups → slice_get groups i ≡ Some g → g ≡ x
+group_is groups i x g is within at = same_Some g (get_or groups i x) (sym at ∙ slice_get-get_or groups i x within) ∙ sym is
+
+-- ---- every group can be reverted
+
+pub revertible_at : (c : Content) (groups : List Past) (i : ℕ) (g : Past) → are_revertible c groups ≡ true → slice_get groups i ≡ Some g → are_restorable c g.deleted ≡ true
+revertible_at c [] i g h at = let clash : None ≡ Some g = at in cc
+revertible_at c (x ∷ groups) zero g h at =
+    ap (λ (y : Past). are_restorable c y.deleted) (sym (same_Some x g at)) ∙ (and_parts (are_restorable c x.deleted) (are_revertible c groups) h).0
+revertible_at c (x ∷ groups) (suc i) g h at = revertible_at c groups i g (and_parts (are_restorable c x.deleted) (are_revertible c groups) h).1 at
+
+-- a group that can be reverted is refused for its room and its counters alone
+pub revert_answer_is : (limit : ℕ) (c : Content) (groups : List Past) (i : ℕ) (g : Past) (back : List (Identifier × ℕ)) → are_revertible c groups ≡ true → slice_get groups i ≡ Some g → back ≡ g.deleted → revert_answer limit c back ≡ edit_answer limit c true (length g.deleted)
+revert_answer_is limit c groups i g back h at is =
+    ap (revert_answer limit c) is ∙ ap (λ t. edit_answer limit c t (length g.deleted)) (revertible_at c groups i g h at)
+
+pub still_revertible : (c x : Content) (groups : List Past) → are_revertible c groups ≡ true → are_revertible (join c x) groups ≡ true
+still_revertible c x [] h = refl
+still_revertible c x (g ∷ groups) h =
+    let p = and_parts (are_restorable c g.deleted) (are_revertible c groups) h in
+    (λ k. restorable_still c x g.deleted p.0 k && still_revertible c x groups p.1 k)
+
+with_revertible : (c : Content) (groups : List Past) (g : Past) (ops : List Op) → are_revertible c groups ≡ true → are_restorable c g.deleted ≡ true → are_revertible c (with_group groups g ops) ≡ true
+with_revertible c groups g [] h able = h
+with_revertible c groups g (op ∷ ops) h able = list_all-append (λ (x : Past). are_restorable c x.deleted) groups (g ∷ []) ∙ (λ k. h k && (able k && true))
+
+-- a command leaves them so, and its own group
+pub edited_revertible : (limit replica : ℕ) (c : Content) (splices : List Splice) (groups : List Past) → splices_answer limit c splices ≡ Ok tt → are_revertible c groups ≡ true →
+    are_revertible (join c (content_of (splices_operations replica c splices))) (with_group groups (past_of c (splices_operations replica c splices)) (splices_operations replica c splices)) ≡ true
+edited_revertible limit replica c splices groups allowed h =
+    let ops : List Op = splices_operations replica c splices in
+    with_revertible (join c (content_of ops)) groups (past_of c ops) ops (still_revertible c (content_of ops) groups h) (edit_restorable limit replica c splices allowed)
+
+complete_stands : (c : Content) (id : Identifier) → is_complete c id ≡ true → is_some (place c id) ≡ true
+complete_stands c id h = elim (is_root id) as (λ b. is_some (cond b (Some 0) (cond (is_complete c id) (Some (length (filter (is_visible c) (up_to id (order c))))) None)) ≡ true) [
+  | true ↦ refl
+  | false ↦ ap (λ t. is_some (cond t (Some (length (filter (is_visible c) (up_to id (order c))))) None)) h
+]
+
+module _ (limit replica : ℕ) (c : Content) (gone : List Identifier) (back : List (Identifier × ℕ)) (allowed : revert_answer limit c back ≡ Ok tt) where
+  abbrev ops : List Op
+  ops = revert_operations replica c gone back
+
+  abbrev after : Content
+  after = join c (content_of ops)
+
+  all_substituted_revertible : (groups : List Past) → are_revertible c groups ≡ true → are_revertible after groups ≡ true → are_revertible after (all_substituted (stand_in ops) groups) ≡ true
+  all_substituted_revertible [] h there = refl
+  all_substituted_revertible (g ∷ groups) h there =
+      let p = and_parts (are_restorable c g.deleted) (are_revertible c groups) h in
+      let q = and_parts (are_restorable after g.deleted) (are_revertible after groups) there in
+      (λ k. substituted_restorable limit replica c gone back g allowed p.0 q.0 k && all_substituted_revertible groups p.1 q.1 k)
+
+  -- an undo leaves them so, and its own group
+  pub reverted_revertible : (groups : List Past) → are_revertible c groups ≡ true → are_revertible after (all_substituted (stand_in ops) (with_group groups (past_of c ops) ops)) ≡ true
+  reverted_revertible groups h =
+      let all : List Past = with_group groups (past_of c ops) ops in
+      let before : are_revertible c all ≡ true = with_revertible c groups (past_of c ops) ops h (gone_restorable limit replica c gone back) in
+      all_substituted_revertible all before (still_revertible c (content_of ops) all before)
+
+  -- ---- point keeps a place
+
+  last_stands : (id : Identifier) (ids : List Identifier) → is_some (place after id) ≡ true → list_all (is_complete after) ids ≡ true → is_some (place after (last_of id ids)) ≡ true
+  last_stands id [] h all = h
+  last_stands id (x ∷ xs) h all =
+      let p = and_parts (is_complete after x) (list_all (is_complete after) xs) all in
+      last_stands x xs (complete_stands after x p.0) p.1
+
+  first_stands : (id : Identifier) (deleted : List (Identifier × ℕ)) → is_some (place after id) ≡ true → are_restorable after deleted ≡ true → is_some (place after (first_of id deleted)) ≡ true
+  first_stands id [] h able = h
+  first_stands id (b ∷ deleted) h able =
+      let p = and_parts (is_complete after b.0 && _) (are_restorable after deleted) able in
+      complete_stands after b.0 (and_parts (is_complete after b.0) _ p.0).0
+
+  pub point_stands : (point : Identifier) → is_some (place c point) ≡ true → is_some (place after (point_after point (past_of c ops))) ≡ true
+  point_stands point h =
+      last_stands (first_of point (element_characters c (deleted_elements ops))) (inserted_elements ops)
+      (first_stands point (element_characters c (deleted_elements ops)) (stands_still c (content_of ops) point h) (reverted_restorable limit replica c gone back allowed))
+      (reverted_complete limit replica c gone back allowed)
+
+pub mark_stands_still : (c x : Content) (mark : Option Spot) → option_map_or (stands c) mark true ≡ true → option_map_or (stands (join c x)) mark true ≡ true
+mark_stands_still c x None h = h
+mark_stands_still c x (Some s) h = stands_still c x s.element h

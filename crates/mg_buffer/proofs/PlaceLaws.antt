@@ -1,0 +1,77 @@
+-- A place is within the text, so that point and mark are where a command can look.
+use Rattle.std.proofs.Common.{◌≡◌, ℕ, ◌≤◌, Bool, true, false, cond, List, [], ◌∷◌, is_some, filter, length, refl, ap, subst, arith}
+use Rattle.std.specs.Prelude.{Option, Some, None}
+use Rattle.std.specs.Option.{option_map, option_map_or, unwrap_or, IfSome}
+use Rattle.std.proofs.lemmas.Option.{same_Some}
+use Rattle.rga_ops.specs.Identifier.{Identifier, is_id, is_root}
+use Rattle.rga_ops.specs.Content.{Content}
+use Rattle.rga_ops.specs.Order.{order, text}
+use Rattle.rga_ops.specs.Places.{is_visible, visible, up_to}
+use Rattle.rga_ops.specs.RootPath.{is_complete}
+use Rattle.rga_ops.proofs.VisibleLaws.{text_long}
+use Rattle.mg_plain.specs.Situation.{IsView}
+use Rattle.mg_buffer.specs.declared.spot.Spot.{Spot}
+use Rattle.mg_buffer.specs.Kept.{stands, IsPlaced}
+use Rattle.mg_buffer.specs.State.{State}
+use Rattle.mg_buffer.specs.Sight.{Notes, place_of, situation_of}
+
+up_to_shorter : (p : Identifier → Bool) (id : Identifier) (xs : List Identifier) → length (filter p (up_to id xs)) ≤ length (filter p xs)
+up_to_shorter p id [] = omega arith
+up_to_shorter p id (x ∷ xs) =
+    elim (is_id x id) as (λ b. length (filter p (cond b (x ∷ []) (x ∷ up_to id xs))) ≤ length (filter p (x ∷ xs))) [
+      | true ↦ elim (p x) as (λ t. length (cond t (x ∷ []) []) ≤ length (cond t (x ∷ filter p xs) (filter p xs))) [ true ↦ omega arith | false ↦ omega arith ]
+      | false ↦ elim (p x) as (λ t. length (cond t (x ∷ filter p (up_to id xs)) (filter p (up_to id xs))) ≤ length (cond t (x ∷ filter p xs) (filter p xs))) [
+        | true ↦ omega (arith, up_to_shorter p id xs)
+        | false ↦ up_to_shorter p id xs
+      ]
+    ]
+
+value_within : (o : Option ℕ) (n : ℕ) → ((k : ℕ) → o ≡ Some k → k ≤ n) → unwrap_or o 0 ≤ n
+value_within None n h = omega arith
+value_within (Some k) n h = h k refl
+
+pub place_within : (c : Content) (id : Identifier) → place_of c id ≤ length (text c)
+place_within c id =
+    let shorter : length (filter (is_visible c) (up_to id (order c))) ≤ length (visible c) = up_to_shorter (is_visible c) id (order c) in
+    let long : length (text c) ≡ length (visible c) = text_long c in
+    elim (is_root id) as (λ b. unwrap_or (cond b (Some 0) (cond (is_complete c id) (Some (length (filter (is_visible c) (up_to id (order c))))) None)) 0 ≤ length (text c)) [
+      | true ↦ omega arith
+      | false ↦ elim (is_complete c id) as (λ t. unwrap_or (cond t (Some (length (filter (is_visible c) (up_to id (order c))))) None) 0 ≤ length (text c)) [
+        | true ↦ omega (arith, shorter, long)
+        | false ↦ omega arith
+      ]
+    ]
+
+mark_within : (c : Content) (mark : Option Identifier) (m : ℕ) → option_map (place_of c) mark ≡ Some m → m ≤ length (text c)
+mark_within c None m h = let clash : None ≡ Some m = h in cc
+mark_within c (Some id) m h =
+    let same : place_of c id ≡ m = same_Some (place_of c id) m h in
+    omega (arith, place_within c id, same)
+
+-- what a command sees of a buffer is a text with two places of it
+pub is_view : (b : State) (notes : Notes) → IsView (situation_of b notes)
+is_view b notes = record { point = place_within b.content b.point; mark = mark_within b.content b.mark }
+
+-- ---- places at hand
+
+pub placed_within : (c : Content) (s : Spot) (chars : List ℕ) → chars ≡ text c → IsPlaced c s → s.place ≤ length chars
+placed_within c s chars is at =
+    let value : place_of c s.element ≡ s.place = ap (λ o. unwrap_or o 0) at in
+    let long : length chars ≡ length (text c) = ap length is in
+    omega (arith, place_within c s.element, value, long)
+
+pub mark_placed_within : (c : Content) (mark : Option Spot) (chars : List ℕ) → chars ≡ text c → IfSome mark (IsPlaced c) → (x : ℕ) → option_map (λ (s : Spot). s.place) mark ≡ Some x → x ≤ length chars
+mark_placed_within c None chars is at x h = let clash : None ≡ Some x = h in cc
+mark_placed_within c (Some s) chars is at x h = subst (λ n. n ≤ length chars) (same_Some s.place x h) (placed_within c s chars is at)
+
+-- what has a place at hand has a place
+pub stands_if_placed : (c : Content) (s : Spot) → IsPlaced c s → stands c s ≡ true
+stands_if_placed c s at = ap is_some at
+
+pub mark_stands_if : (c : Content) (mark : Option Spot) → IfSome mark (IsPlaced c) → option_map_or (stands c) mark true ≡ true
+mark_stands_if c None at = refl
+mark_stands_if c (Some s) at = ap is_some at
+
+pub if_some : (o : Option ℕ) (n : ℕ) → ((x : ℕ) → o ≡ Some x → x ≤ n) → IfSome o (λ x. x ≤ n)
+if_some None n h = tt
+if_some (Some x) n h = h x refl

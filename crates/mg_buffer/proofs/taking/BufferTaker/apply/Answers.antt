@@ -1,0 +1,81 @@
+use Rattle.std.proofs.Common.{rules, ◌≡◌, List, [], ◌∷◌, ◌++◌, true, false, sym, ap, ◌∙◌, true≢false}
+use Rattle.std.specs.Prelude.{Ok}
+use Rattle.std.specs.Option.{option_map, option_map_or}
+use Rattle.std.specs.String.{string_bytes}
+use Rattle.rga_ops.specs.Content.{Content, join, single}
+use Rattle.rga_ops.specs.Answer.{answer}
+use Rattle.rga_ops.specs.declared.op.Op.{Op}
+use Rattle.rga_ops.specs.declared.refusal.Taken.TheVariants.{New, Known}
+use Rattle.rga_ops.proofs.ContentLaws.{join_nothing}
+use Rattle.rga_ops.proofs.NewLaws.{new_if_new}
+use Rattle.rga_doc.specs.Following.{Follows}
+use Rattle.rga_doc.proofs.PlaceLaws.{stands_still}
+use Rattle.mg_buffer.specs.declared.spot.Spot.{Spot}
+use Rattle.mg_buffer.specs.Groups.{are_revertible}
+use Rattle.mg_buffer.specs.Kept.{stands}
+use Rattle.mg_buffer.specs.State.{State, state}
+use Rattle.mg_buffer.specs.Following.{follows_nothing}
+use Rattle.mg_buffer.proofs.GroupLaws.{still_revertible, mark_stands_still}
+use Rattle.mg_buffer.proofs.TakingLaws.{match_err, follows_same, same_document, follows_known}
+use Rattle.mg_buffer.proofs.taking.BufferTaker.apply.Goals as goal
+
+pub returns-in_err-answer_at-clause-follows : goal.returns-in_err-answer_at-clause-follows
+returns-in_err-answer_at-clause-follows g c = match_err _ _ c.from_residual.result c.from_residual.ensures.0 (follows_nothing c.args.self.now)
+
+pub returns-then-eq-clause-follows : goal.returns-then-eq-clause-follows
+returns-then-eq-clause-follows g c =
+    let known : answer c.args.self.now.limit c.args.self.now.content c.args.op ≡ Ok Known = search rules in
+    follows_known c.args.self.now.limit c.args.self.now c.args.op known
+
+pub returns-in_err-reserve-clause-follows : goal.returns-in_err-reserve-clause-follows
+returns-in_err-reserve-clause-follows g c =
+    match_err _ _ c.from_residual-in_err-reserve.result c.from_residual-in_err-reserve.ensures.0
+    (follows_same c.args.self.now _
+    (ap (λ (xs : List Op). state c.self.inside.doc (string_bytes c.self.inside.name) c.self.inside.point.element (option_map (λ (m : Spot). m.element) c.self.inside.mark) c.self.inside.groups.items c.self.inside.undone xs c.self.inside.listed) c.reserve.ensures.items
+    ∙ c.self.view_is))
+
+pub returns-in_err-apply-clause-follows : goal.returns-in_err-apply-clause-follows
+returns-in_err-apply-clause-follows g c =
+    let stays : c.apply.new.self.content ≡ c.self.inside.doc.content = search rules in
+    let follows : Follows c.self.inside.doc [] c.apply.new.self = c.in_err-apply.ensures.follows in
+    let doc : c.apply.new.self ≡ c.self.inside.doc = same_document c.self.inside.doc c.apply.new.self stays c.apply.ensures.limit follows in
+    match_err _ _ c.from_residual-in_err-apply.result c.from_residual-in_err-apply.ensures.0
+    (follows_same c.args.self.now _
+    ((λ k. state (doc k) (string_bytes c.self.inside.name) c.self.inside.point.element (option_map (λ (m : Spot). m.element) c.self.inside.mark) c.self.inside.groups.items c.self.inside.undone (c.reserve.ensures.items k) c.self.inside.listed)
+    ∙ c.self.view_is))
+
+pub invariant_of-self-2 : goal.invariant_of-self-2
+invariant_of-self-2 g c =
+    let content : Content = c.self.inside.doc.content in
+    let whole : c.apply.new.self.content ≡ join content (single c.args.op) = search rules in
+    record {
+      point_stands = ap (λ d. stands d c.self.inside.point) whole ∙ stands_still content (single c.args.op) c.self.inside.point.element c.self.invariant.point_stands;
+      mark_stands = ap (λ d. option_map_or (stands d) c.self.inside.mark true) whole ∙ mark_stands_still content (single c.args.op) c.self.inside.mark c.self.invariant.mark_stands;
+      revertible = ap (λ d. are_revertible d c.self.inside.groups.items) whole ∙ still_revertible content (single c.args.op) c.self.inside.groups.items c.self.invariant.revertible;
+      at_hand = λ h. absurd (true≢false (sym h));
+    }
+
+pub returns-clause-follows : goal.returns-clause-follows
+returns-clause-follows g c =
+    let before : State = c.args.self.now in
+    let new : answer before.limit before.content c.args.op ≡ Ok New = search rules in
+    let whole : c.apply.new.self.content ≡ join before.content (single c.args.op) = search rules in
+    let follows : Follows c.self.inside.doc (c.args.op ∷ []) c.apply.new.self = c.in_ok-apply.ensures.follows in
+    record {
+      content = whole ∙ ap (join before.content) (sym (join_nothing (single c.args.op)));
+      unsaved = c.add_all.ensures ∙ (λ k. (c.reserve.ensures.items ∙ ap (λ (b : State). b.unsaved) c.self.view_is) k ++ c.args.op ∷ [])
+          ∙ ap (λ xs. before.unsaved ++ xs) (sym (new_if_new before.limit before.content c.args.op new));
+      rest = λ k. record {
+        content = c.apply.new.self.content;
+        limit = (c.apply.ensures.limit ∙ ap (λ (b : State). b.limit) c.self.view_is) k;
+        replica = (follows.replica ∙ ap (λ (b : State). b.replica) c.self.view_is) k;
+        name = (c.self.view_is k).name;
+        point = (c.self.view_is k).point;
+        mark = (c.self.view_is k).mark;
+        groups = (c.self.view_is k).groups;
+        undone = (c.self.view_is k).undone;
+        unsaved = c.add_all.new.all.items;
+        listed = false;
+      };
+      listed = λ none. let clash : c.args.op ∷ [] ≡ [] = none in cc;
+    }

@@ -1,0 +1,35 @@
+-- What operations of others that are taken in turn leave of a buffer.
+use Rattle.std.proofs.Common.{◌≡◌, List, [], ◌∷◌, ◌++◌, refl, sym, ap, ◌∙◌, append-nil, append_assoc}
+use Rattle.rga_ops.specs.Content.{join, content_of}
+use Rattle.rga_ops.specs.NewOperations.{new_operations}
+use Rattle.rga_ops.specs.declared.op.Op.{Op}
+use Rattle.rga_ops.proofs.ContentLaws.{join_nothing, join_assoc}
+use Rattle.rga_ops.proofs.OperationLaws.{content_of-append}
+use Rattle.rga_ops.proofs.NewLaws.{new_in_parts}
+use Rattle.mg_buffer.specs.State.{State}
+
+-- `unsaved` grows by exactly those that were new, in order; point, mark, groups and all else stay
+pub record Follows (b : State) (ops : List Op) (d : State) : Type 0 where
+  pub content : d.content ≡ join b.content (content_of ops)
+  pub unsaved : d.unsaved ≡ b.unsaved ++ new_operations b.content ops
+  pub rest : d ≡ record b { content = d.content; unsaved = d.unsaved; listed = d.listed }
+  pub listed : ops ≡ [] → d.listed ≡ b.listed
+
+-- to take nothing changes nothing
+pub follows_nothing : (b : State) → Follows b [] b
+follows_nothing b = record { content = sym (join_nothing b.content); unsaved = sym (append-nil b.unsaved); rest = refl; listed = λ none. refl }
+
+-- operations may be taken in parts
+pub follows_on : (b d e : State) (xs ys : List Op) → Follows b xs d → Follows d ys e → Follows b (xs ++ ys) e
+follows_on b d e xs ys f g = record {
+  content = g.content ∙ ap (λ c. join c (content_of ys)) f.content ∙ join_assoc b.content (content_of xs) (content_of ys) ∙ ap (join b.content) (sym (content_of-append xs ys));
+  unsaved = g.unsaved ∙ (λ k. f.unsaved k ++ new_operations (f.content k) ys)
+      ∙ append_assoc b.unsaved (new_operations b.content xs) (new_operations (join b.content (content_of xs)) ys)
+      ∙ ap (λ ops. b.unsaved ++ ops) (sym (new_in_parts b.content xs ys));
+  rest = g.rest ∙ ap (λ (s : State). record s { content = e.content; unsaved = e.unsaved; listed = e.listed }) f.rest;
+  listed = by xs ys f.listed g.listed;
+}
+  where
+    by : (xs ys : List Op) → (xs ≡ [] → d.listed ≡ b.listed) → (ys ≡ [] → e.listed ≡ d.listed) → xs ++ ys ≡ [] → e.listed ≡ b.listed
+    by [] ys p q h = q h ∙ p refl
+    by (x ∷ xs) ys p q h = let clash : x ∷ (xs ++ ys) ≡ [] = h in cc

@@ -1,0 +1,29 @@
+-- What is true of each buffer.
+use Rattle.std.specs.Prelude.{◌≡◌, Bool, true, List, Option, Some, is_some}
+use Rattle.std.specs.Option.{option_map_or, IfSome}
+use Rattle.rga_ops.specs.Content.{Content}
+use Rattle.rga_ops.specs.Places.{place}
+use Rattle.rga_doc.specs.Document.{Document}
+use Rattle.mg_buffer.specs.declared.spot.Spot.{Spot}
+use Rattle.mg_buffer.specs.Groups.{Past, are_revertible}
+
+-- the element has a place
+abbrev pub stands : Content → Spot → Bool
+stands c s = is_some (place c s.element)
+
+-- the element has that place
+abbrev pub IsPlaced : Content → Spot → Type 0
+IsPlaced c s = place c s.element ≡ Some s.place
+
+-- the document is listed, and the places are those of point and mark
+pub record IsAtHand (d : Document) (point : Spot) (mark : Option Spot) : Type 0 where
+  pub document : d.listed ≡ true
+  pub place_of_point : IsPlaced d.content point
+  pub place_of_mark : IfSome mark (IsPlaced d.content)
+
+-- point and mark have places, every group can be reverted, and what is listed is at hand
+pub record IsKept (d : Document) (point : Spot) (mark : Option Spot) (groups : List Past) (listed : Bool) : Type 0 where
+  pub point_stands : stands d.content point ≡ true
+  pub mark_stands : option_map_or (stands d.content) mark true ≡ true
+  pub revertible : are_revertible d.content groups ≡ true
+  pub at_hand : listed ≡ true → IsAtHand d point mark

@@ -1,0 +1,36 @@
+-- What the editor keeps between commands, and what a command sees of a buffer.
+use Rattle.std.specs.Prelude.{ℕ, List}
+use Rattle.std.specs.Option.{option_map, unwrap_or}
+use Rattle.rga_ops.specs.Identifier.{Identifier}
+use Rattle.rga_ops.specs.Content.{Content}
+use Rattle.rga_ops.specs.Order.{text}
+use Rattle.rga_ops.specs.Places.{place}
+use Rattle.mg_plain.specs.declared.view.Kind.{Kind}
+use Rattle.mg_plain.specs.Effect.{Effect}
+use Rattle.mg_plain.specs.Situation.{Situation}
+use Rattle.mg_buffer.specs.State.{State}
+
+-- the kill buffer, of which kind the last command was, and the goal of motions over lines
+pub record Notes : Type 0 where
+  pub kill : List ℕ
+  pub kind : Kind
+  pub goal : ℕ
+
+-- those that an effect leaves
+abbrev pub notes_after : Notes → Effect → Notes
+notes_after notes e = record { kill = unwrap_or e.kill notes.kill; kind = e.kind; goal = e.goal }
+
+-- the place of an element that has one
+abbrev pub place_of : Content → Identifier → ℕ
+place_of c id = unwrap_or (place c id) 0
+
+-- the text, the places of point and mark in it, and the notes
+abbrev pub situation_of : State → Notes → Situation
+situation_of b notes = record {
+  text = text b.content;
+  point = place_of b.content b.point;
+  mark = option_map (place_of b.content) b.mark;
+  kill = notes.kill;
+  goal = notes.goal;
+  last = notes.kind;
+}

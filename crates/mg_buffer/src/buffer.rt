@@ -1,0 +1,151 @@
+//! Buffers: a document with a name, point, mark, undo groups and unsaved operations.
+ghost use Rattle.std.specs.Prelude.{◌≡◌, ◌≤◌, [], true, false, Some, None, length, IfOk, IfErr, IfSome, OnOk, OnErr};
+ghost use Rattle.std.specs.Option.{option_map};
+ghost use Rattle.std.specs.String.{string_bytes};
+ghost use Rattle.rga_ops.specs.Prelude.{is_root, place, text};
+ghost use Rattle.rga_ops.specs.Identifier.{root};
+ghost use Rattle.mg_plain.specs.declared.view.Kind.TheVariants.{Plain};
+ghost use Rattle.mg_buffer.specs.Sight.{situation_of};
+ghost use Rattle.mg_buffer.specs.State.{state};
+
+use crate::group::Group;
+use crate::memo::Memo;
+use crate::spot::{Spot, find, find_mark, mark_place};
+use mg_plain::{Kind, View};
+use rga_doc::Doc;
+use rga_ops::{Id, Op, Refusal};
+use rga_store::TextStore;
+use std::alloc::Global;
+use std::marker::Model;
+
+/// A document that commands run on, over any store.
+///
+/// Point and mark are behind elements, so others' edits move them with the text. While the buffer
+/// is listed, the text and the places of point and mark are at hand; what is taken from elsewhere
+/// ends that.
+#[derive(Drop)]
+pub struct Buffer<S: TextStore> {
+    pub(crate) alloc: Global,
+    pub(crate) doc: Doc<S>,
+    pub(crate) name: String,
+    pub(crate) point: Spot,
+    pub(crate) mark: Option<Spot>,
+    pub(crate) groups: Vec<Group>,
+    /// In a run of undos, the index of the group that was undone last.
+    pub(crate) undone: Option<usize>,
+    pub(crate) unsaved: Vec<Op>,
+    pub(crate) listed: bool,
+}
+
+impl<S: TextStore> Model for Buffer<S> {
+    ghost use Rattle.std.specs.Option.{option_map};
+    ghost use Rattle.std.specs.String.{string_bytes};
+    ghost use Rattle.mg_buffer.specs.State.{State, state_code, state};
+    ghost use Rattle.mg_buffer.specs.Kept.{IsKept};
+
+    ghost Value = { State };
+
+    ghost coded = { state_code };
+
+    ghost view = { λ b. state b.doc (string_bytes b.name) b.point.element
+        (option_map (λ m. m.element) b.mark) b.groups.items b.undone b.unsaved.items b.listed };
+
+    ghost invariant = { λ b. IsKept b.doc b.point b.mark b.groups.items b.listed };
+}
+
+impl<S: TextStore> Buffer<S> {
+    /// A buffer of a document, with operations that are in it but not saved. Point is at the front,
+    /// there is no mark, and nothing to undo. Takes no memory.
+    pub fn new(alloc: Global, doc: Doc<S>, name: String, own: Vec<Op>) -> Buffer<S>
+        ensures { result ≡ state doc (string_bytes name) root None [] None own.items false }
+    {
+        Buffer {
+            alloc,
+            doc,
+            name,
+            point: Spot {
+                element: Id::ROOT,
+                place: 0,
+            },
+            mark: None,
+            groups: Vec::new(alloc),
+            undone: None,
+            unsaved: own,
+            listed: false,
+        }
+    }
+
+    /// The name.
+    pub fn name(&self) -> &str
+        ensures { result.now ≡ self.now.name }
+    {
+        self.name.as_str()
+    }
+
+    /// The store of the document.
+    pub fn store(&self) -> &S
+        ensures content { S.content result.now ≡ self.now.content }
+        ensures limit { S.limit result.now ≡ self.now.limit }
+    {
+        self.doc.store()
+    }
+
+    /// The operations that were new since the last save, own ones and others', in the order in
+    /// which they were taken.
+    pub fn unsaved(&self) -> &[Op]
+        ensures { result.now ≡ self.now.unsaved }
+    {
+        &self.unsaved
+    }
+
+    /// Notes that all operations are saved. Takes no memory.
+    pub fn mark_saved(&mut self)
+        ensures { self.new ≡ record self.old { unsaved = [] } }
+    {
+        self.unsaved.clear();
+    }
+
+    /// Lists the text and the places of point and mark, so that `view` finds them. A command does
+    /// so too. `Memory` alone, and never where the buffer is listed; a refusal changes nothing.
+    pub fn list(&mut self) -> Result<(), Refusal>
+        ensures listed { OnOk result (self.new ≡ record self.old { listed = true }) }
+        ensures memory { IfErr result (λ e. e ≡ Refusal.Memory) }
+        ensures same { OnErr result (self.new ≡ self.old) }
+        ensures kept { self.old.listed ≡ true → result ≡ Ok tt }
+    {
+        if self.listed {
+            return Ok(());
+        }
+        self.doc.list()?;
+        self.point = find(&self.doc, self.point)?;
+        self.mark = find_mark(&self.doc, self.mark)?;
+        self.listed = true;
+        Ok(())
+    }
+
+    /// What a command sees: the text, lent, the places of point and mark, and what the memo keeps.
+    /// Takes no memory.
+    pub fn view<'a>(&'a self, memo: &'a Memo) -> View<'a>
+        requires { self.now.listed ≡ true }
+        ensures { result ≡ situation_of self.now memo.now }
+    {
+        View {
+            text: self.doc.characters(),
+            point: self.point.place,
+            mark: mark_place(self.mark),
+            kill: &memo.kill,
+            goal: memo.goal,
+            last: memo.kind,
+        }
+    }
+
+    /// Does nothing, as a key that is no command on the text: ends a run of undos, and the kind
+    /// becomes Plain. Takes no memory.
+    pub fn idle(&mut self, memo: &mut Memo)
+        ensures buffer { self.new ≡ record self.old { undone = None } }
+        ensures memo { memo.new ≡ record memo.old { kind = Plain } }
+    {
+        self.undone = None;
+        memo.kind = Kind::Plain;
+    }
+}

@@ -1,0 +1,37 @@
+//! Why a command or an undo was refused.
+ghost use Rattle.std.specs.Prelude.{◌≡◌};
+ghost use Rattle.mg_buffer.specs.declared.fault.BufferFault.TheVariants.{Store as StoreFault};
+
+use mg_plain::Notice;
+use rga_ops::Refusal;
+
+/// Why a command or an undo was refused. Nothing changed then.
+#[derive(Clone, Copy, Debug, PartialEq, Eq)]
+pub enum BufferFault {
+    /// The text has nothing for it to work on. Never `Memory`.
+    Notice(Notice),
+    /// The document refused: `Full`, `Clock`, or `Memory`, also where the command found none.
+    Store(Refusal),
+}
+
+impl From<Notice> for BufferFault {
+    ghost use Rattle.std.specs.Prelude.{◌≡◌};
+    ghost use Rattle.mg_buffer.specs.Faults.{fault_of};
+
+    ghost from_gives = { λ notice fault. fault ≡ fault_of notice };
+
+    fn from(notice: Notice) -> BufferFault {
+        match notice {
+            Notice::Memory => BufferFault::Store(Refusal::Memory),
+            _ => BufferFault::Notice(notice),
+        }
+    }
+}
+
+impl From<Refusal> for BufferFault {
+    ghost from_gives = { λ refusal fault. fault ≡ StoreFault refusal };
+
+    fn from(refusal: Refusal) -> BufferFault {
+        BufferFault::Store(refusal)
+    }
+}

@@ -1,0 +1,26 @@
+//! Buffers: documents that commands run on.
+//!
+//! A `Buffer` is a document with a name, a point and a mark that survive others' edits, the groups
+//! by which one's own edits are undone, and the operations that are not saved. It runs the commands
+//! of mg_plain on its text, and is a `Taker`: operations of others go through it. The crate stands
+//! on rga_doc for the document, on mg_plain for what commands do, and on rga_answers for what is
+//! found before anything is changed; it is generic over any `TextStore`. The layer above may rest
+//! on three records of facts, one for each way in which a buffer changes: `Ran` of a command,
+//! `Undid` of an undo, `Follows` of operations that were taken. A refusal changes nothing.
+#![tactic(auto)]
+
+mod buffer;
+mod fault;
+mod group;
+pub mod laws;
+mod memo;
+mod room;
+mod running;
+mod spot;
+mod stand_ins;
+mod taking;
+mod undoing;
+
+pub use buffer::Buffer;
+pub use fault::BufferFault;
+pub use memo::Memo;

@@ -1,0 +1,88 @@
+//! Commands that run on a buffer.
+ghost use Rattle.std.specs.Prelude.{◌≡◌, ◌≤◌, true, Err, IsOk, length, IfSome, OnOk, OnErr};
+ghost use Rattle.rga_ops.specs.Prelude.{text};
+ghost use Rattle.rga_ops.specs.ListAnswer.{IsAnswer};
+ghost use Rattle.rga_ops.specs.Splice.{text_after};
+ghost use Rattle.rga_doc.specs.LocalEdit.{splices_answer};
+ghost use Rattle.mg_plain.specs.Commands.{effect};
+ghost use Rattle.mg_buffer.specs.Faults.{IsAnswer as IsFaultAnswer, run_answer};
+ghost use Rattle.mg_buffer.specs.Ran.{Edited, Ran};
+ghost use Rattle.mg_buffer.specs.Sight.{situation_of};
+ghost use Rattle.rga_ops.specs.declared.refusal.Refusal.TheVariants.{Memory};
+ghost use Rattle.mg_buffer.specs.declared.fault.BufferFault.TheVariants.{Store};
+
+use crate::buffer::Buffer;
+use crate::fault::BufferFault;
+use crate::group::Group;
+use crate::memo::Memo;
+use crate::room::{add_all, add_group};
+use crate::spot::{mark_at, spot_at};
+use mg_plain::{Command, Plan, plan};
+use rga_ops::{Refusal, Splice};
+use rga_store::TextStore;
+
+impl<S: TextStore> Buffer<S> {
+    /// Runs a command with its argument and the fill column: the text, point, mark and the memo
+    /// become what its plan at the view says. The operations of its splices are taken and are
+    /// unsaved; they are a group where there are any. A run of undos ends.
+    ///
+    /// Faults, in this order: the notice that the command has; `Full` and `Clock` where the
+    /// document has them for the new characters; `Memory`. A fault changes nothing in the buffer,
+    /// but that it may be listed then or not, and nothing in the memo.
+    pub fn run(
+        &mut self,
+        command: &Command,
+        arg: u16,
+        memo: &mut Memo,
+        fill: u16,
+    ) -> Result<(), BufferFault>
+        ensures exact { IsFaultAnswer result (run_answer command.now arg fill self.old memo.old) }
+        ensures ran { OnOk result (Ran command.now arg fill self.old memo.old self.new memo.new) }
+        ensures same { OnErr result (self.new ≡ record self.old { listed = self.new.listed }) }
+        ensures memo { OnErr result (memo.new ≡ memo.old) }
+        // What is listed is looked at before memory is asked for.
+        ensures noticed { result ≡ Err (Store Memory) → self.old.listed ≡ true →
+            IsOk (effect command.now arg (situation_of self.old memo.old) fill) }
+    {
+        self.list()?;
+        let plan = plan(self.alloc, command, arg, &self.view(memo), fill)?;
+        let Plan {
+            splices,
+            point,
+            mark,
+            kill,
+            goal,
+            kind,
+        } = plan;
+        self.edit(&splices, point, mark)?;
+        memo.keep(kill, kind, goal);
+        Ok(())
+    }
+
+    /// Makes the splices, and puts point and mark at places of the new text. `Full`, `Range`,
+    /// `Clock`, `Memory`, as the document has them.
+    fn edit(&mut self, splices: &[Splice], point: usize, mark: Option<usize>) -> Result<(), Refusal>
+        requires listed { self.old.listed ≡ true }
+        requires point { point ≤ length (text_after (text self.old.content) splices.now) }
+        requires mark { IfSome mark
+            (λ k. k ≤ length (text_after (text self.old.content) splices.now)) }
+        ensures exact { IsAnswer result
+            (splices_answer self.old.limit self.old.content splices.now) }
+        ensures edited { OnOk result (Edited splices.now point mark self.old self.new) }
+        ensures same { OnErr result (self.new ≡ record self.old { listed = self.new.listed }) }
+    {
+        self.listed = false;
+        let ops = self.doc.draft(splices)?;
+        let group = Group::of(self.alloc, self.doc.store(), &ops)?;
+        self.groups.reserve(1)?;
+        self.unsaved.reserve(ops.len())?;
+        self.doc.take(splices, &ops)?;
+        self.point = spot_at(&self.doc, point);
+        self.mark = mark_at(&self.doc, mark);
+        add_group(&mut self.groups, group, &ops);
+        add_all(&mut self.unsaved, &ops);
+        self.undone = None;
+        self.listed = true;
+        Ok(())
+    }
+}

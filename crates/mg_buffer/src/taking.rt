@@ -1,0 +1,54 @@
+//! Operations that a buffer takes from elsewhere.
+ghost use Rattle.std.specs.Prelude.{◌≡◌, [], true};
+
+use crate::buffer::Buffer;
+use crate::room::add_all;
+use rga_answers::{answer_at, early_answer_at, new_operations_at};
+use rga_ops::{Op, Refusal, Taken};
+use rga_store::{Taker, TextStore};
+
+impl<S: TextStore> Taker for Buffer<S> {
+    ghost use Rattle.mg_buffer.specs.Following.{Follows, follows_nothing, follows_on};
+
+    ghost content = { λ b. b.content };
+
+    ghost limit = { λ b. b.limit };
+
+    ghost may_grow = { λ b op. Unit {0} };
+
+    ghost follows = { λ b ops d. Follows b ops d };
+
+    ghost follows_nothing = { λ b. follows_nothing b };
+
+    ghost follows_on = { λ b d e xs ys f g. follows_on b d e xs ys f g };
+
+    fn apply(&mut self, op: Op) -> Result<Taken, Refusal> {
+        if answer_at(self.doc.store(), op)? == Taken::Known {
+            return Ok(Taken::Known);
+        }
+        self.unsaved.reserve(1)?;
+        self.doc.apply(op)?;
+        self.listed = false;
+        add_all(&mut self.unsaved, &[op]);
+        Ok(Taken::New)
+    }
+
+    fn apply_all(&mut self, ops: &[Op]) -> Result<(), Refusal> {
+        early_answer_at(self.doc.store(), ops)?;
+        let new = new_operations_at(self.alloc, self.doc.store(), ops)?;
+        self.unsaved.reserve(new.len())?;
+        self.doc.apply_all(ops)?;
+        self.listed = stays_listed(self.listed, ops);
+        add_all(&mut self.unsaved, &new);
+        Ok(())
+    }
+}
+
+/// Whether a buffer is listed once it took operations: a listed one is where there was none.
+fn stays_listed(listed: bool, ops: &[Op]) -> bool
+    ensures listed { result ≡ true → listed ≡ true }
+    ensures none { result ≡ true → ops.now ≡ [] }
+    ensures kept { ops.now ≡ [] → result ≡ listed }
+{
+    listed && ops.is_empty()
+}

@@ -1,0 +1,88 @@
+//! Undo.
+ghost use Rattle.std.specs.Prelude.{◌≡◌, ◌<◌, Some, Err, IsSome, length, OnOk, OnErr};
+ghost use Rattle.std.specs.Option.{option_map};
+ghost use Rattle.std.specs.List.{slice_get};
+ghost use Rattle.rga_ops.specs.ListAnswer.{IsAnswer};
+ghost use Rattle.mg_buffer.specs.Faults.{IsAnswer as IsFaultAnswer, growth_answer, undo_answer};
+ghost use Rattle.mg_buffer.specs.Groups.{Past, group_to_undo};
+ghost use Rattle.mg_buffer.specs.Undid.{Reverted, Undid};
+ghost use Rattle.rga_ops.specs.declared.refusal.Refusal.TheVariants.{Memory};
+ghost use Rattle.mg_buffer.specs.declared.fault.BufferFault.TheVariants.{Store};
+
+use crate::buffer::Buffer;
+use crate::fault::BufferFault;
+use crate::group::{Group, substitute_all};
+use crate::memo::Memo;
+use crate::room::{add_all, add_group};
+use crate::spot::Spot;
+use crate::stand_ins::stand_ins_of;
+use mg_plain::{Kind, Notice};
+use rga_ops::Refusal;
+use rga_store::{Taker, TextStore};
+
+impl<S: TextStore> Buffer<S> {
+    /// Undoes the newest group, or in a run of undos the group before the one that was undone last:
+    /// takes the operations of its revert, which are unsaved then, and a group of their own where
+    /// there are any. From then on each restored element stands in every group for the one that it
+    /// restores. Point goes behind the last element inserted, else behind the first deleted, else
+    /// it stays; the mark stays behind its element. The kind becomes Plain.
+    ///
+    /// Faults, in this order: `NothingToUndo` where there is no group to take; `Full` and `Clock`
+    /// of the restored characters; `Memory`. A fault changes nothing.
+    pub fn undo(&mut self, memo: &mut Memo) -> Result<(), BufferFault>
+        ensures exact { IsFaultAnswer result (undo_answer self.old) }
+        ensures undid { OnOk result (Undid self.old memo.old self.new memo.new) }
+        ensures same { OnErr result (self.new ≡ self.old) }
+        ensures memo { OnErr result (memo.new ≡ memo.old) }
+        // Where there is nothing to undo, no memory is asked for.
+        ensures noticed { result ≡ Err (Store Memory) →
+            IsSome (group_to_undo self.old.groups self.old.undone) }
+    {
+        let Some(index) = self.index_to_undo() else {
+            return Err(BufferFault::Notice(Notice::NothingToUndo));
+        };
+        self.revert(index)?;
+        memo.kind = Kind::Plain;
+        Ok(())
+    }
+
+    /// The index of the group that an undo takes.
+    fn index_to_undo(&self) -> Option<usize>
+        ensures { result
+            ≡ option_map (λ p. p.0) (group_to_undo self.now.groups self.now.undone) }
+    {
+        let count = self.undone.unwrap_or(self.groups.as_slice().len());
+        if count == 0 || count > self.groups.as_slice().len() {
+            return None;
+        }
+        Some(count - 1)
+    }
+
+    /// Reverts a group. `Full`, `Clock` and `Memory`, as the document has them.
+    fn revert(&mut self, index: usize) -> Result<(), Refusal>
+        requires { index < length self.old.groups }
+        ensures exact { (g : Past) → slice_get self.old.groups index ≡ Some g →
+            IsAnswer result (growth_answer self.old (length g.deleted)) }
+        ensures reverted { OnOk result ((g : Past) → slice_get self.old.groups index ≡ Some g →
+            Reverted index g self.old self.new) }
+        ensures same { OnErr result (self.new ≡ self.old) }
+    {
+        let group = &self.groups[index];
+        let ops = self.doc.draft_revert(&group.inserted, &group.deleted)?;
+        let done = Group::of(self.alloc, self.doc.store(), &ops)?;
+        let stand_ins = stand_ins_of(self.alloc, &ops)?;
+        self.groups.reserve(1)?;
+        self.unsaved.reserve(ops.len())?;
+        self.doc.apply_all(&ops)?;
+        self.point = Spot {
+            element: done.point_after(self.point.element),
+            place: 0,
+        };
+        add_group(&mut self.groups, done, &ops);
+        substitute_all(&mut self.groups, &stand_ins);
+        add_all(&mut self.unsaved, &ops);
+        self.undone = Some(index);
+        self.listed = false;
+        Ok(())
+    }
+}
