@@ -2,8 +2,9 @@
 # Builds mgr, the generator of logs and the native program, and measures `mgr show` against the
 # native program: microseconds an operation, the ratios of user time and of peak memory, and how
 # the cost of an operation grows (`bench/measure.py`); then what an edit of a document costs
-# (`bench/edits.py`), a command of the editor (`bench/commands.py`) and a frame of it
-# (`bench/frames.py`), and what it costs to read and to write logs and exchanges (`bench/logs.py`).
+# (`bench/edits.py`), a command of the editor by itself (`bench/commands.py`) and on a buffer
+# (`bench/buffers.py`) and a frame of it (`bench/frames.py`), and what it costs to read and to
+# write logs and exchanges (`bench/logs.py`).
 # `make bench` calls it. A call by hand may say `--largest N`, to have `mgr show` measured on no log
 # of more than N operations, and `--shape SHAPE`.
 #
@@ -26,6 +27,8 @@ done
 cp crates/bench_edits/out/bench_edits build/bench_edits
 (cd crates/bench_commands && rt run -- forward-char 1 1 </dev/null >/dev/null)
 cp crates/bench_commands/out/bench_commands build/bench_commands
+(cd crates/bench_buffers && rt run -- insert 1 1 </dev/null >/dev/null)
+cp crates/bench_buffers/out/bench_buffers build/bench_buffers
 (cd crates/bench_frames && rt run -- all 60 1 1 </dev/null >/dev/null)
 cp crates/bench_frames/out/bench_frames build/bench_frames
 (cd crates/bench_logs && rt run -- bytes </dev/null >/dev/null)
@@ -36,6 +39,8 @@ echo
 python3 bench/edits.py
 echo
 python3 bench/commands.py
+echo
+python3 bench/buffers.py
 echo
 python3 bench/frames.py
 echo

@@ -1,0 +1,100 @@
+//! The task, done.
+use crate::task::{Task, Work};
+use crate::text::document;
+use mg_buffer::{Buffer, BufferFault, Memo};
+use mg_plain::Command;
+use rga_ops::{Id, Op, Refusal};
+use rga_store::{Taker, TextStore, TreeStore};
+use std::alloc::Global;
+
+/// The column to which nothing is filled here.
+const FILL: u16 = 70;
+
+/// Does the task, and answers how many identifiers are known in the end.
+pub fn done(alloc: Global, task: &Task) -> Result<usize, BufferFault> {
+    let doc = document(alloc, task.size)?;
+    if let Work::Store = task.work {
+        let mut store = doc.store().copy()?;
+        take(&mut store, task.times)?;
+        return Ok(store.known());
+    }
+    let mut buffer = Buffer::new(alloc, doc, String::new(alloc), Vec::new(alloc));
+    let mut memo = Memo::new(alloc);
+    go_to(alloc, &mut buffer, &mut memo, task.size / 2)?;
+    if let Work::Take = task.work {
+        take(&mut buffer, task.times)?;
+    } else {
+        for _ in 0..task.times {
+            do_once(task.work, &mut buffer, &mut memo)?;
+        }
+    }
+    Ok(buffer.store().known())
+}
+
+/// Point goes to a place: there an empty pattern is found.
+fn go_to(
+    alloc: Global,
+    buffer: &mut Buffer<TreeStore>,
+    memo: &mut Memo,
+    start: usize,
+) -> Result<(), BufferFault> {
+    let pattern = Vec::new(alloc);
+    buffer.run(&Command::SearchForward { pattern, start }, 1, memo, FILL)
+}
+
+fn do_once(work: Work, buffer: &mut Buffer<TreeStore>, memo: &mut Memo) -> Result<(), BufferFault> {
+    buffer.list()?;
+    match work {
+        Work::Insert => run(buffer, memo, &Command::Insert('a'))?,
+        Work::Motion => {
+            run(buffer, memo, &Command::ForwardChar)?;
+            run(buffer, memo, &Command::BackwardChar)?;
+        }
+        Work::KillLine => {
+            run(buffer, memo, &Command::KillLine)?;
+            run(buffer, memo, &Command::Yank)?;
+            run(buffer, memo, &Command::BeginningOfLine)?;
+        }
+        Work::KillAll => kill_all(buffer, memo)?,
+        Work::UndoAll => {
+            kill_all(buffer, memo)?;
+            buffer.undo(memo)?;
+        }
+        Work::Take | Work::Store => {}
+    }
+    Ok(())
+}
+
+/// Runs a command, and looks at the view.
+fn run(
+    buffer: &mut Buffer<TreeStore>,
+    memo: &mut Memo,
+    command: &Command,
+) -> Result<(), BufferFault> {
+    buffer.run(command, 1, memo, FILL)?;
+    buffer.list()?;
+    let _place = buffer.view(memo).point;
+    Ok(())
+}
+
+fn kill_all(buffer: &mut Buffer<TreeStore>, memo: &mut Memo) -> Result<(), BufferFault> {
+    buffer.list()?;
+    buffer.run(&Command::MarkWholeBuffer, 1, memo, FILL)?;
+    buffer.run(&Command::KillRegion, 1, memo, FILL)?;
+    Ok(())
+}
+
+/// Has a taker take so many insertions of another replica, each behind the one before.
+fn take<T: Taker>(taker: &mut T, times: usize) -> Result<(), Refusal> {
+    let mut parent = Id::ROOT;
+    for k in 0..times {
+        let id = Id::new((k as u64).saturating_add(2_000_000), 2)?;
+        let _taken = taker.apply(Op::Insert {
+            id,
+            parent,
+            ch: 'c',
+        })?;
+        parent = id;
+    }
+    Ok(())
+}
