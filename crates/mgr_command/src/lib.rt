@@ -1,7 +1,7 @@
 //! The command line of mgr: the words after the program's name, and the job that they ask for.
 //!
-//! clap reads them; no other crate knows it. The program above may rest on the contracts: the job is
-//! the one that the words ask for, help and the version are told where they are asked for, and
+//! clap reads them; no other crate knows it. The program above may rest on the contracts: the job
+//! is the one that the words ask for, help and the version are told where they are asked for, and
 //! every other command line is refused (`job_of`).
 #![tactic(auto)]
 

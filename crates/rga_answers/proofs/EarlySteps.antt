@@ -1,14 +1,11 @@
 -- Operations in front of the first insertion that is new, one after another.
-use Rattle.std.proofs.Common.{◌≡◌, ℕ, ◌+◌, ◌<◌, Bool, true, false, cond, not, is_some, List, [], ◌∷◌, ◌++◌, take, drop, length, get_or, refl, sym, ap, ◌∙◌}
-use Rattle.std.specs.Prelude.{Option, Some, None}
-use Rattle.std.specs.Option.{option_map_or}
+use Rattle.std.proofs.Common.{◌≡◌, ℕ, ◌+◌, ◌<◌, Bool, true, false, cond, not, List, [], ◌∷◌, ◌++◌, take, drop, length, get_or, sym, ap, ◌∙◌}
+use Rattle.std.specs.Prelude.{Some, None}
 use Rattle.std.specs.List.{take_while}
-use Rattle.std.specs.FinMap as finite_map
 use Rattle.std.proofs.lemmas.List.{take_more, drop_more}
 use Rattle.std.proofs.lemmas.List.Sums.{take_while-cons}
-use Rattle.rga_ops.specs.Identifier.{Identifier}
 use Rattle.rga_ops.specs.Operation.{id_of}
-use Rattle.rga_ops.specs.Content.{Element, element, Content, join, single, content_of}
+use Rattle.rga_ops.specs.Content.{Content, join, single, content_of}
 use Rattle.rga_ops.specs.ListAnswer.{has_another, first_conflict, inserts_anew}
 use Rattle.rga_ops.proofs.ListSteps.{join_more}
 use Rattle.rga_ops.specs.declared.op.Op.{Op}

@@ -8,8 +8,8 @@ use rga_store::TextStore;
 
 /// What a store answers to a list that is taken whole or not at all, as far as this is found
 /// without memory: `BadId` or `BadOrder` of the first operation that is ill-formed, and a
-/// `Conflict` in front of which nothing is inserted anew. `Ok` where there is neither: the store may
-/// still refuse the list, with `Memory` too.
+/// `Conflict` in front of which nothing is inserted anew. `Ok` where there is neither: the store
+/// may still refuse the list, with `Memory` too.
 pub fn early_answer_at<S: TextStore>(store: &S, ops: &[Op]) -> Result<(), Refusal>
     ensures refused { IfErr result (λ e. (limit : ℕ) →
         list_answer limit (S.content store.now) ops.now ≡ Err e) }

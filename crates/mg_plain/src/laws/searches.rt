@@ -11,7 +11,8 @@ pub fn searches_in_words()
         first_match pattern text start ≡ Some i →
         IsLeast (stands_at pattern text) start (suc (length text)) i }
     ensures no_first { (pattern text : List ℕ) (start : ℕ) →
-        first_match pattern text start ≡ None → (k : ℕ) → start ≤ k → k ≤ length text → stands_at pattern text k ≡ false }
+        first_match pattern text start ≡ None →
+        (k : ℕ) → start ≤ k → k ≤ length text → stands_at pattern text k ≡ false }
     ensures last { (pattern text : List ℕ) (start i : ℕ) → last_match pattern text start ≡ Some i →
         IsGreatest (stands_at pattern text) (suc start) i }
     ensures no_last { (pattern text : List ℕ) (start : ℕ) → start ≤ length text →

@@ -1,5 +1,4 @@
 use Rattle.std.proofs.Common.{◌≡◌, Some, sym, ap, ◌∙◌}
-use Rattle.std.specs.Prelude.{Ok, Err}
 use Rattle.rga_ops.specs.Content.{Content, join, content_of}
 use Rattle.rga_ops.specs.ListAnswer.{and_check, union_answer, first_conflict}
 use Rattle.rga_ops.proofs.EarlyLaws.{early_is_first}

@@ -1,11 +1,10 @@
-use Rattle.std.proofs.Common.{◌≡◌, ℕ, ◌+◌, Bool, true, false, not, is_some, take, refl, sym, ap, ◌∙◌}
-use Rattle.std.specs.Prelude.{Option, Some, None}
-use Rattle.std.specs.Option.{option_map, option_map_or}
+use Rattle.std.proofs.Common.{◌≡◌, ◌+◌, true, false, not, is_some, take, sym, ap, ◌∙◌}
+use Rattle.std.specs.Prelude.{Some}
+use Rattle.std.specs.Option.{option_map_or}
 use Rattle.std.specs.List.{take_while}
 use Rattle.std.specs.FinMap as finite_map
-use Rattle.rga_ops.specs.Identifier.{Identifier}
 use Rattle.rga_ops.specs.Operation.{id_of}
-use Rattle.rga_ops.specs.Content.{Element, element, Content, join, single, content_of}
+use Rattle.rga_ops.specs.Content.{element, Content, join, single, content_of}
 use Rattle.rga_ops.specs.Answer.{is_element}
 use Rattle.rga_ops.specs.ListAnswer.{has_another, first_conflict, inserts_anew}
 use Rattle.rga_ops.proofs.AnswerLaws.{is_element-is}
@@ -13,8 +12,8 @@ use Rattle.rga_ops.proofs.ContentLaws.{join_nothing}
 use Rattle.rga_ops.proofs.ListSteps.{get-deletion}
 use Rattle.rga_ops.proofs.TakenLaws.{held_adds_nothing}
 use Rattle.rga_ops.specs.declared.op.Op.TheVariants.{Insert}
-use Rattle.rga_store.proofs.ElementSteps.{found_element, found_none}
-use Rattle.rga_answers.proofs.EarlySteps.{joined, stopped, conflicting, passed}
+use Rattle.rga_store.proofs.ElementSteps.{found_element}
+use Rattle.rga_answers.proofs.EarlySteps.{joined, conflicting, passed}
 use Rattle.rga_answers.proofs.early_answer.early_conflict_at.Goals.{in-Insert+in-Some, in_default}
 use Rattle.rga_answers.proofs.early_answer.early_conflict_at.Goals as goal
 

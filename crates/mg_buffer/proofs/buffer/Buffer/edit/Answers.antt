@@ -1,4 +1,4 @@
-use Rattle.std.proofs.Common.{rules, ◌≡◌, List, true, is_some, ap, ◌∙◌}
+use Rattle.std.proofs.Common.{rules, ◌≡◌, List, true, ap, ◌∙◌}
 use Rattle.rga_ops.specs.Content.{join, content_of}
 use Rattle.rga_ops.specs.declared.op.Op.{Op}
 use Rattle.rga_doc.specs.Document.{Document}
