@@ -8,9 +8,7 @@ store alone. The time of the same run with nothing of it done, which makes the b
 off; from an undo also the kill. Of several measurements the least counts.
 """
 
-import pathlib
-import resource
-import subprocess
+import timing
 
 # How often each is repeated in a run. No store may know more than a million identifiers.
 TIMES = {
@@ -18,19 +16,11 @@ TIMES = {
     100_000: {"insert": 5_000, "motion": 50_000, "kill-line": 1_000, "undo-all": 1, "take": 100_000},
     990_000: {"insert": 1_000, "motion": 50_000, "kill-line": 100},
 }
-MEASUREMENTS = 5
-
-PROGRAM = pathlib.Path(__file__).parent.parent / "build" / "bench_buffers"
 
 
 def seconds(work, size, times):
     """Returns the least user time of such a run."""
-    least = float("inf")
-    for _ in range(MEASUREMENTS):
-        before = resource.getrusage(resource.RUSAGE_CHILDREN).ru_utime
-        subprocess.run([PROGRAM, work, str(size), str(times)], stdout=subprocess.DEVNULL, check=True)
-        least = min(least, resource.getrusage(resource.RUSAGE_CHILDREN).ru_utime - before)
-    return least
+    return timing.seconds("bench_buffers", work, size, times)
 
 
 def cost(work, size, times, without=None):

@@ -8,9 +8,7 @@ same run with nothing of it done, which makes the document, is taken off. Of sev
 the least counts.
 """
 
-import pathlib
-import resource
-import subprocess
+import timing
 
 # How often each is repeated in a run. No document may know more than a million elements.
 TIMES = {
@@ -20,19 +18,11 @@ TIMES = {
     990_000: {"order": 5, "type": 1_000, "remote": 5, "change": 5},
 }
 WORKS = ("order", "type", "remote", "change", "revert")
-MEASUREMENTS = 5
-
-PROGRAM = pathlib.Path(__file__).parent.parent / "build" / "bench_edits"
 
 
 def seconds(work, size, times):
     """Returns the least user time of such a run."""
-    least = float("inf")
-    for _ in range(MEASUREMENTS):
-        before = resource.getrusage(resource.RUSAGE_CHILDREN).ru_utime
-        subprocess.run([PROGRAM, work, str(size), str(times)], stdout=subprocess.DEVNULL, check=True)
-        least = min(least, resource.getrusage(resource.RUSAGE_CHILDREN).ru_utime - before)
-    return least
+    return timing.seconds("bench_edits", work, size, times)
 
 
 def main():
