@@ -14,7 +14,7 @@ import timing
 TIMES = {
     10_000: {"insert": 2_000, "motion": 50_000, "kill-line": 2_000, "undo-all": 1, "take": 100_000},
     100_000: {"insert": 5_000, "motion": 50_000, "kill-line": 1_000, "undo-all": 1, "take": 100_000},
-    990_000: {"insert": 1_000, "motion": 50_000, "kill-line": 100},
+    900_000: {"insert": 5_000, "motion": 50_000, "kill-line": 1_300},
 }
 
 

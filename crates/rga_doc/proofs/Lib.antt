@@ -14,3 +14,4 @@ pub mod UndoApart
 pub mod ListingLaws
 pub mod AnchorLaws
 pub mod AnewLaws
+pub mod GapLaws

@@ -1,5 +1,6 @@
 pub mod Document
 pub mod Following
+pub mod Gap
 pub mod Listing
 pub mod LocalEdit
 pub mod Revert

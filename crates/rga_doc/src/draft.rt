@@ -2,6 +2,7 @@
 ghost use Rattle.std.specs.Prelude.{◌≡◌, ◌<◌, ◌≤◌, ◌+◌, ◌++◌, [], map, length, OnOk, IfErr};
 ghost use Rattle.rga_doc.specs.LocalEdit.{chain, operations_at};
 
+use crate::gap_list::GapList;
 use rga_ops::{Id, Op, Refusal};
 use std::alloc::Global;
 
@@ -34,23 +35,24 @@ impl Draft {
     /// in.
     pub(crate) fn splice(
         &mut self,
-        elements: &[Id],
+        elements: &GapList,
         lo: usize,
         hi: usize,
         put: &[char],
     ) -> Result<(), Refusal>
         requires ordered { lo ≤ hi }
-        requires in_text { hi ≤ length elements.now }
+        requires in_text { hi ≤ length elements.now.items }
         requires counters { 0 < length put.now → self.old.last + length put.now ≤ Id.MAX_COUNTER }
         ensures ops { OnOk result (self.new.ops.items ≡ self.old.ops.items
-            ++ operations_at elements.now self.old.replica self.old.last lo hi put.now) }
+            ++ operations_at elements.now.items self.old.replica self.old.last lo hi put.now) }
         ensures last { OnOk result (self.new.last ≡ self.old.last + length put.now) }
         ensures replica { self.new.replica ≡ self.old.replica }
         ensures memory { IfErr result (λ e. e ≡ Refusal.Memory) }
     {
-        self.delete(&elements[lo..hi])?;
-        let after = if lo == 0 { Id::ROOT } else { elements[lo - 1] };
-        self.insert(after, put)
+        let (before, behind) = elements.parts(lo, hi);
+        self.delete(before)?;
+        self.delete(behind)?;
+        self.insert(elements.left_of(lo), put)
     }
 
     /// A deletion of each element.

@@ -1,5 +1,5 @@
 //! Edits by place.
-ghost use Rattle.std.specs.Prelude.{◌≡◌, ◌≤◌, min, true, length, Ok, Err, IfOk, IfErr, OnOk, OnErr};
+ghost use Rattle.std.specs.Prelude.{◌≡◌, ◌≤◌, min, true, length, Ok, Err, IfOk, OnOk, OnErr};
 ghost use Rattle.rga_ops.specs.Prelude.{content_of, join, order, text, IsAnswer};
 ghost use Rattle.rga_ops.specs.Splice.{spliced, text_after, are_falling, end_of, new_characters};
 ghost use Rattle.rga_store.specs.Limit.{is_limit};
@@ -49,7 +49,7 @@ impl<S: TextStore> Doc<S> {
             return Err(Refusal::Range);
         }
         self.listing.list(self.alloc, &self.store)?;
-        if hi > self.listing.elements.as_slice().len() {
+        if hi > self.listing.len() {
             return Err(Refusal::Range);
         }
         check_counters(&self.store, put.len())?;
@@ -116,7 +116,7 @@ impl<S: TextStore> Doc<S> {
         let end = end_of(splices);
         check_falling(end, splices)?;
         self.listing.list(self.alloc, &self.store)?;
-        if end > self.listing.elements.as_slice().len() {
+        if end > self.listing.len() {
             return Err(Refusal::Range);
         }
         check_counters(&self.store, new)?;

@@ -17,10 +17,12 @@ mod doc;
 mod draft;
 mod edit;
 mod element_sets;
+mod gap_list;
 pub mod laws;
 mod listing;
 mod listing_anew;
 mod revert;
+mod tail;
 mod taking;
 
 pub use anchor::Anchor;

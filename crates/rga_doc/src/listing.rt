@@ -1,10 +1,12 @@
 //! The visible elements and their characters, listed beside a store.
-ghost use Rattle.std.specs.Prelude.{◌≡◌, ◌≤◌, ◌<◌, ◌+◌, ◌++◌, ◌∷◌, [], false, true, length, vec_len, vec_capacity, position, IfErr, IfSome, OnOk, OnErr};
-ghost use Rattle.rga_ops.specs.Identifier.{identifier, is_id};
+ghost use Rattle.std.specs.Prelude.{◌≡◌, ◌≤◌, ◌<◌, ◌+◌, false, true, length, vec_capacity, position, IfErr, IfSome, OnOk, OnErr};
+ghost use Rattle.rga_ops.specs.Identifier.{is_id};
 ghost use Rattle.rga_ops.specs.Splice.{spliced, text_after, are_falling, new_characters};
 ghost use Rattle.rga_doc.specs.Listing.{IsListOf, IsListing, elements_after};
 ghost use Rattle.rga_doc.specs.LocalEdit.{left_of, new_ids};
 
+use crate::gap_list::GapList;
+use crate::tail::move_tail;
 use rga_ops::{Id, Refusal, Splice};
 use rga_store::TextStore;
 use std::alloc::Global;
@@ -12,7 +14,7 @@ use std::alloc::Global;
 /// The visible elements of a store and their characters, in order, while they are listed.
 #[derive(Drop)]
 pub(crate) struct Listing {
-    pub(crate) elements: Vec<Id>,
+    pub(crate) elements: GapList,
     pub(crate) characters: Vec<char>,
     pub(crate) listed: bool,
 }
@@ -23,7 +25,7 @@ impl Listing {
         ensures { result.listed ≡ false }
     {
         Listing {
-            elements: Vec::new(alloc),
+            elements: GapList::of(Vec::new(alloc)),
             characters: Vec::new(alloc),
             listed: false,
         }
@@ -47,7 +49,7 @@ impl Listing {
         // A store may have made room for what is deleted too.
         elements.shrink_to_fit();
         characters.shrink_to_fit();
-        self.elements = elements;
+        self.elements = GapList::of(elements);
         self.characters = characters;
         self.listed = true;
         Ok(())
@@ -60,15 +62,19 @@ impl Listing {
         *self = Listing::new(alloc);
     }
 
+    /// How many elements are listed.
+    pub(crate) fn len(&self) -> usize
+        ensures { result ≡ length self.now.elements.items }
+    {
+        self.elements.len()
+    }
+
     /// The element that a place is behind: the root at the front.
     pub(crate) fn left_element(&self, k: usize) -> Id
         requires { k ≤ length self.now.elements.items }
         ensures { result ≡ left_of self.now.elements.items k }
     {
-        if k == 0 {
-            return Id::ROOT;
-        }
-        self.elements.as_slice()[k - 1]
+        self.elements.left_of(k)
     }
 
     /// The index of an element in the text, where it is listed.
@@ -76,7 +82,7 @@ impl Listing {
         ensures value { result ≡ position (λ x. is_id x element) self.now.elements.items }
         ensures within { IfSome result (λ index. index + 1 ≤ usize.MAX) }
     {
-        self.elements.iter().position(|x| *x == element)
+        self.elements.position(element)
     }
 
     /// Makes room for so many more. `Memory` alone; what is listed stays.
@@ -85,12 +91,11 @@ impl Listing {
         ensures characters { self.new.characters.items ≡ self.old.characters.items }
         ensures listed { self.new.listed ≡ self.old.listed }
         ensures memory { IfErr result (λ e. e ≡ Refusal.Memory) }
-        ensures elements_fit { OnOk result
-            (length self.new.elements.items + more ≤ vec_capacity self.new.elements) }
+        ensures elements_fit { OnOk result (more ≤ self.new.elements.room) }
         ensures characters_fit { OnOk result
             (length self.new.characters.items + more ≤ vec_capacity self.new.characters) }
     {
-        reserve(&mut self.elements, more)?;
+        self.elements.make_room(more)?;
         reserve(&mut self.characters, more)
     }
 
@@ -101,8 +106,7 @@ impl Listing {
             → self.new.elements.items ≡ self.old.elements.items }
         ensures characters { self.new.listed ≡ true
             → self.new.characters.items ≡ self.old.characters.items }
-        ensures elements_fit { self.new.listed ≡ true
-            → length self.new.elements.items + more ≤ vec_capacity self.new.elements }
+        ensures elements_fit { self.new.listed ≡ true → more ≤ self.new.elements.room }
         ensures characters_fit { self.new.listed ≡ true
             → length self.new.characters.items + more ≤ vec_capacity self.new.characters }
     {
@@ -119,7 +123,7 @@ impl Listing {
         requires numbered { 1 ≤ replica }
         requires counters { 0 < length put.now → last + length put.now ≤ Id.MAX_COUNTER }
         requires elements_fit { self.old.listed ≡ true
-            → length self.old.elements.items + length put.now ≤ vec_capacity self.old.elements }
+            → length put.now ≤ self.old.elements.room }
         requires characters_fit { self.old.listed ≡ true
             → length self.old.characters.items + length put.now ≤ vec_capacity self.old.characters }
         ensures elements { self.new.listed ≡ true → self.new.elements.items
@@ -140,8 +144,7 @@ impl Listing {
         requires in_characters { hi ≤ length self.old.characters.items }
         requires numbered { 1 ≤ replica }
         requires counters { 0 < length put.now → last + length put.now ≤ Id.MAX_COUNTER }
-        requires elements_fit { length self.old.elements.items + length put.now
-            ≤ vec_capacity self.old.elements }
+        requires elements_fit { length put.now ≤ self.old.elements.room }
         requires characters_fit { length self.old.characters.items + length put.now
             ≤ vec_capacity self.old.characters }
         ensures elements { self.new.elements.items
@@ -149,11 +152,12 @@ impl Listing {
         ensures characters { self.new.characters.items
             ≡ spliced self.old.characters.items lo hi put.now }
         ensures listed { self.new.listed ≡ self.old.listed }
-        ensures room_of_elements { vec_capacity self.old.elements ≤ vec_capacity self.new.elements }
+        ensures room_of_elements { self.old.elements.room
+            ≤ self.new.elements.room + length put.now }
         ensures room_of_characters { vec_capacity self.old.characters
             ≤ vec_capacity self.new.characters }
     {
-        replace_elements(&mut self.elements, lo, hi, put, replica, last);
+        self.elements.splice(lo, hi, put, replica, last);
         replace_characters(&mut self.characters, lo, hi, put);
     }
 
@@ -164,8 +168,7 @@ impl Listing {
         requires numbered { 1 ≤ replica }
         requires counters { 0 < new_characters splices.now
             → last + new_characters splices.now ≤ Id.MAX_COUNTER }
-        requires elements_fit { length self.old.elements.items + new_characters splices.now
-            ≤ vec_capacity self.old.elements }
+        requires elements_fit { new_characters splices.now ≤ self.old.elements.room }
         requires characters_fit { length self.old.characters.items + new_characters splices.now
             ≤ vec_capacity self.old.characters }
         ensures elements { self.new.elements.items
@@ -197,61 +200,7 @@ fn reserve<T>(items: &mut Vec<T>, more: usize) -> Result<(), Refusal>
     Ok(())
 }
 
-/// Replaces elements in place by new ones. There is room.
-fn replace_elements(
-    elements: &mut Vec<Id>,
-    lo: usize,
-    hi: usize,
-    put: &[char],
-    replica: u16,
-    last: u64,
-)
-    requires ordered { lo ≤ hi }
-    requires in_list { hi ≤ length elements.old.items }
-    requires numbered { 1 ≤ replica }
-    requires counters { 0 < length put.now → last + length put.now ≤ Id.MAX_COUNTER }
-    requires room { length elements.old.items + length put.now ≤ vec_capacity elements.old }
-    ensures items { elements.new.items
-        ≡ spliced elements.old.items lo hi (new_ids replica last put.now) }
-    ensures capacity { vec_capacity elements.old ≤ vec_capacity elements.new }
-{
-    let count = elements.as_slice().len();
-    push_elements(elements, put, replica, last);
-    elements[hi..count + put.len()].rotate_right(put.len());
-    elements.drain(lo..hi);
-}
-
-/// Adds a new element for each character. There is room.
-pub(crate) fn push_elements(elements: &mut Vec<Id>, put: &[char], replica: u16, last: u64)
-    requires numbered { 1 ≤ replica }
-    requires counters { 0 < length put.now → last + length put.now ≤ Id.MAX_COUNTER }
-    requires room { vec_len elements.old + length put.now ≤ vec_capacity elements.old }
-    ensures items { elements.new.items ≡ elements.old.items ++ new_ids replica last put.now }
-    ensures len { vec_len elements.new ≡ vec_len elements.old + length put.now }
-    ensures capacity { vec_capacity elements.old ≤ vec_capacity elements.new }
-{
-    let mut counter = last;
-    for _ in put {
-        counter += 1;
-        push_element(elements, counter, replica);
-    }
-}
-
-/// Adds the element of a counter. There is room.
-fn push_element(elements: &mut Vec<Id>, counter: u64, replica: u16)
-    requires numbered { 1 ≤ replica }
-    requires counters { (1 ≤ counter) × (counter ≤ Id.MAX_COUNTER) }
-    requires room { vec_len elements.old < vec_capacity elements.old }
-    ensures items { elements.new.items ≡ elements.old.items ++ identifier counter replica ∷ [] }
-    ensures len { vec_len elements.new ≡ vec_len elements.old + 1 }
-    ensures capacity { vec_capacity elements.old ≤ vec_capacity elements.new }
-{
-    if let Ok(id) = Id::new(counter, replica) {
-        let _ = elements.push(id);
-    }
-}
-
-/// Replaces characters in place by others. There is room.
+/// Replaces characters in place by others; what stands behind them is moved once. There is room.
 fn replace_characters(characters: &mut Vec<char>, lo: usize, hi: usize, put: &[char])
     requires ordered { lo ≤ hi }
     requires in_list { hi ≤ length characters.old.items }
@@ -259,8 +208,7 @@ fn replace_characters(characters: &mut Vec<char>, lo: usize, hi: usize, put: &[c
     ensures items { characters.new.items ≡ spliced characters.old.items lo hi put.now }
     ensures capacity { vec_capacity characters.old ≤ vec_capacity characters.new }
 {
-    let count = characters.as_slice().len();
-    let _ = characters.extend_from_slice(put);
-    characters[hi..count + put.len()].rotate_right(put.len());
-    characters.drain(lo..hi);
+    let end = lo + put.len();
+    move_tail(characters, hi, end, ' ');
+    characters[lo..end].copy_from_slice(put);
 }

@@ -5,7 +5,8 @@ ghost use Rattle.rga_ops.specs.Splice.{text_after, are_falling, new_characters};
 ghost use Rattle.rga_doc.specs.Listing.{elements_after};
 ghost use Rattle.rga_doc.specs.LocalEdit.{new_ids};
 
-use crate::listing::{Listing, push_elements};
+use crate::gap_list::GapList;
+use crate::listing::Listing;
 use rga_ops::{Id, Refusal, Splice};
 use std::alloc::Global;
 
@@ -32,7 +33,7 @@ impl Listing {
         ensures listed { IfOk result (λ l. l.listed ≡ true) }
         ensures memory { IfErr result (λ e. e ≡ Refusal.Memory) }
     {
-        let count = self.elements.as_slice().len();
+        let count = self.elements.len();
         let mut next = Listing::with_room(alloc, count.saturating_add(new))?;
         let mut counter = last + new as u64;
         let mut end = 0;
@@ -60,7 +61,7 @@ impl Listing {
         let elements = Vec::with_capacity(alloc, room)?;
         let characters = Vec::with_capacity(alloc, room)?;
         Ok(Listing {
-            elements,
+            elements: GapList::of(elements),
             characters,
             listed: true,
         })
@@ -78,7 +79,9 @@ impl Listing {
         ensures listed { self.new.listed ≡ self.old.listed }
         ensures memory { IfErr result (λ e. e ≡ Refusal.Memory) }
     {
-        self.elements.extend_from_slice(&other.elements[lo..hi])?;
+        let (before, behind) = other.elements.parts(lo, hi);
+        self.elements.extend(before)?;
+        self.elements.extend(behind)?;
         self.characters
             .extend_from_slice(&other.characters[lo..hi])?;
         Ok(())
@@ -95,8 +98,7 @@ impl Listing {
         ensures listed { self.new.listed ≡ self.old.listed }
         ensures memory { IfErr result (λ e. e ≡ Refusal.Memory) }
     {
-        self.elements.reserve(put.len())?;
-        push_elements(&mut self.elements, put, replica, last);
+        self.elements.extend_new(put, replica, last)?;
         self.characters.extend_from_slice(put)?;
         Ok(())
     }

@@ -8,7 +8,7 @@ use Rattle.rga_ops.specs.declared.op.Op.{Op}
 use Rattle.rga_ops.specs.declared.refusal.Taken.TheVariants.{New, Known}
 use Rattle.rga_ops.proofs.ContentLaws.{join_nothing}
 use Rattle.rga_ops.proofs.NewLaws.{new_if_new}
-use Rattle.rga_doc.specs.Following.{Follows}
+use Rattle.rga_doc.specs.Document.{Document, document}
 use Rattle.rga_doc.proofs.PlaceLaws.{stands_still}
 use Rattle.mg_buffer.specs.declared.spot.Spot.{Spot}
 use Rattle.mg_buffer.specs.Groups.{are_revertible}
@@ -16,7 +16,7 @@ use Rattle.mg_buffer.specs.Kept.{stands}
 use Rattle.mg_buffer.specs.State.{State, state}
 use Rattle.mg_buffer.specs.Following.{follows_nothing}
 use Rattle.mg_buffer.proofs.GroupLaws.{still_revertible, mark_stands_still}
-use Rattle.mg_buffer.proofs.TakingLaws.{match_err, follows_same, same_document, follows_known}
+use Rattle.mg_buffer.proofs.TakingLaws.{match_err, follows_same, follows_known}
 use Rattle.mg_buffer.proofs.taking.BufferTaker.apply.Goals as goal
 
 pub returns-in_err-answer_at-clause-follows : goal.returns-in_err-answer_at-clause-follows
@@ -36,9 +36,7 @@ returns-in_err-reserve-clause-follows g c =
 
 pub returns-in_err-apply-clause-follows : goal.returns-in_err-apply-clause-follows
 returns-in_err-apply-clause-follows g c =
-    let stays : c.apply.new.self.content ≡ c.self.inside.doc.content = search rules in
-    let follows : Follows c.self.inside.doc [] c.apply.new.self = c.in_err-apply.ensures.follows in
-    let doc : c.apply.new.self ≡ c.self.inside.doc = same_document c.self.inside.doc c.apply.new.self stays c.apply.ensures.limit follows in
+    let doc : c.apply.new.self ≡ c.self.inside.doc = search rules in
     match_err _ _ c.from_residual-in_err-apply.result c.from_residual-in_err-apply.ensures.0
     (follows_same c.args.self.now _
     ((λ k. state (doc k) (string_bytes c.self.inside.name) c.self.inside.point.element (option_map (λ (m : Spot). m.element) c.self.inside.mark) c.self.inside.groups.items c.self.inside.undone (c.reserve.ensures.items k) c.self.inside.listed)
@@ -59,16 +57,17 @@ pub returns-clause-follows : goal.returns-clause-follows
 returns-clause-follows g c =
     let before : State = c.args.self.now in
     let new : answer before.limit before.content c.args.op ≡ Ok New = search rules in
+    let old : Document = c.self.inside.doc in
+    let doc : c.apply.new.self ≡ document (join old.content (single c.args.op)) old.limit old.replica false = search rules in
     let whole : c.apply.new.self.content ≡ join before.content (single c.args.op) = search rules in
-    let follows : Follows c.self.inside.doc (c.args.op ∷ []) c.apply.new.self = c.in_ok-apply.ensures.follows in
     record {
       content = whole ∙ ap (join before.content) (sym (join_nothing (single c.args.op)));
       unsaved = c.add_all.ensures ∙ (λ k. (c.reserve.ensures.items ∙ ap (λ (b : State). b.unsaved) c.self.view_is) k ++ c.args.op ∷ [])
           ∙ ap (λ xs. before.unsaved ++ xs) (sym (new_if_new before.limit before.content c.args.op new));
       rest = λ k. record {
         content = c.apply.new.self.content;
-        limit = (c.apply.ensures.limit ∙ ap (λ (b : State). b.limit) c.self.view_is) k;
-        replica = (follows.replica ∙ ap (λ (b : State). b.replica) c.self.view_is) k;
+        limit = (ap (λ (d : Document). d.limit) doc ∙ ap (λ (b : State). b.limit) c.self.view_is) k;
+        replica = (ap (λ (d : Document). d.replica) doc ∙ ap (λ (b : State). b.replica) c.self.view_is) k;
         name = (c.self.view_is k).name;
         point = (c.self.view_is k).point;
         mark = (c.self.view_is k).mark;

@@ -12,6 +12,6 @@ invariant-loop-splice l = record {
   falling : are_falling (length l.self.elements.items) (drop l.splice-index l.splices) ≡ true;
   alike : length l.self.characters.items ≡ length l.self.elements.items;
   counters : l.counter + new_characters (drop l.splice-index l.splices) ≡ l.fn.last + new_characters l.splices;
-  elements_fit : length l.self.elements.items + new_characters (drop l.splice-index l.splices) ≤ vec_capacity l.self.elements;
+  elements_fit : new_characters (drop l.splice-index l.splices) ≤ l.self.elements.room;
   characters_fit : length l.self.characters.items + new_characters (drop l.splice-index l.splices) ≤ vec_capacity l.self.characters;
 }

@@ -105,11 +105,11 @@ returns-clause-elements c =
     let elements : List Identifier = c.args.self.now.elements.items in
     let none : c.loop-left.left ≡ 0 = omega (arith, c.loop-left-test.false) in
     let all : drop c.loop-left.left splices ≡ splices = ap (λ n. drop n splices) none in
-    let count : length c.as_slice-count.result.now ≡ length elements = ap length c.as_slice-count.ensures.value in
+    let count : c.len-count.result ≡ length elements = c.len-count.ensures in
     let time : c.loop-left.counter ≡ c.args.last = omega (arith, c.loop-left.invariant.counter, ap new_characters all) in
     let within : c.loop-left.end ≤ length elements = omega (arith, c.loop-left.invariant.end, ap end_of all, falling_end splices (length elements) c.requires.falling) in
     c.in_ok-push_part-2.ensures.elements
-    ∙ ap (λ xs. c.loop-left.next.elements.items ++ drop c.loop-left.end xs) (take_all (length c.as_slice-count.result.now) elements (omega (arith, count)))
+    ∙ ap (λ xs. c.loop-left.next.elements.items ++ drop c.loop-left.end xs) (take_all (c.len-count.result) elements (omega (arith, count)))
     ∙ elements_whole c.args.replica c.args.last elements c.loop-left.next.elements.items splices c.loop-left.end
     (c.loop-left.invariant.elements ∙ (λ k. elements_after c.args.replica (time k) (take c.loop-left.end elements) (all k)))
     (ap (are_falling c.loop-left.end) (sym all) ∙ c.loop-left.invariant.falling) within
@@ -120,11 +120,11 @@ returns-clause-characters c =
     let characters : List ℕ = c.args.self.now.characters.items in
     let none : c.loop-left.left ≡ 0 = omega (arith, c.loop-left-test.false) in
     let all : drop c.loop-left.left splices ≡ splices = ap (λ n. drop n splices) none in
-    let count : length c.as_slice-count.result.now ≡ length c.args.self.now.elements.items = ap length c.as_slice-count.ensures.value in
+    let count : c.len-count.result ≡ length c.args.self.now.elements.items = c.len-count.ensures in
     let within : c.loop-left.end ≤ length characters =
     omega (arith, c.loop-left.invariant.end, ap end_of all, falling_end splices (length c.args.self.now.elements.items) c.requires.falling, c.requires.alike) in
     c.in_ok-push_part-2.ensures.characters
-    ∙ ap (λ xs. c.loop-left.next.characters.items ++ drop c.loop-left.end xs) (take_all (length c.as_slice-count.result.now) characters (omega (arith, count, c.requires.alike)))
+    ∙ ap (λ xs. c.loop-left.next.characters.items ++ drop c.loop-left.end xs) (take_all (c.len-count.result) characters (omega (arith, count, c.requires.alike)))
     ∙ text_whole characters c.loop-left.next.characters.items splices c.loop-left.end
     (c.loop-left.invariant.characters ∙ ap (text_after (take c.loop-left.end characters)) all)
     (ap (are_falling c.loop-left.end) (sym all) ∙ c.loop-left.invariant.falling) within

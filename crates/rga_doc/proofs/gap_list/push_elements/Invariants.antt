@@ -1,6 +1,6 @@
 use Rattle.std.proofs.Common.{◌≡◌, ◌≤◌, ◌+◌, ◌++◌, drop, vec_len, vec_capacity}
 use Rattle.rga_doc.specs.LocalEdit.{new_ids}
-use Rattle.rga_doc.proofs.listing.push_elements.Given as goal
+use Rattle.rga_doc.proofs.gap_list.push_elements.Given as goal
 
 -- the elements that are left complete those that were wanted
 abbrev pub invariant-loop : goal.invariant-loop
