@@ -1,0 +1,6 @@
+pub mod Calls
+pub mod Files
+pub mod OpenState
+pub mod Saving
+pub mod Faults
+pub mod Loading

@@ -1,0 +1,75 @@
+-- What a save does and what it leaves.
+use Rattle.std.specs.Prelude.{◌≡◌, ◌⊎◌, ◌||◌, Bool, true, false, List, [], ◌∷◌, ◌++◌, Option, if◌then◌else◌}
+use Rattle.rga_ops.specs.Operations.{operations}
+use Rattle.rga_ops.specs.declared.op.Op.{Op}
+use Rattle.rga_exchange.specs.Sending.{log_text}
+use Rattle.mg_files.specs.declared.port.CallKind.TheVariants.{Append, Replace, PutText}
+use Rattle.mg_files.specs.declared.port.PortFault.{PortFault}
+use Rattle.mg_files.specs.Calls.{Call, call, refusals, Adds}
+use Rattle.mg_files.specs.Files.{text_bytes}
+use Rattle.mg_files.specs.OpenState.{OpenState}
+
+abbrev are_any : List Op → Bool
+are_any [] = false
+are_any (op ∷ ops) = true
+
+-- some operation is not in the log
+abbrev pub has_unsaved : OpenState → Bool
+has_unsaved b = are_any b.buffer.unsaved
+
+-- there is something to save
+abbrev pub is_changed : OpenState → Bool
+is_changed b = has_unsaved b || b.text_waits
+
+-- ---- the calls of a save that are answered `Ok`
+
+-- the call that brings the log up to date: the lines of all operations, where it is to be written whole
+abbrev pub log_call : OpenState → Call
+log_call b =
+    if b.whole then call Replace b.buffer.name (log_text (operations b.buffer.content))
+    else call Append b.buffer.name (log_text b.buffer.unsaved)
+
+abbrev pub log_calls : OpenState → List Call
+log_calls b = if has_unsaved b then log_call b ∷ [] else []
+
+abbrev pub text_call : OpenState → Call
+text_call b = call PutText b.buffer.name (text_bytes b.buffer.content)
+
+-- none where nothing is changed; else the log's, where operations are unsaved, and then the text's
+abbrev pub save_calls : OpenState → List Call
+save_calls b = if is_changed b then log_calls b ++ text_call b ∷ [] else []
+
+-- ---- what is left
+
+-- once the log was written: nothing is unsaved, and the text waits
+abbrev pub written : OpenState → OpenState
+written b = record { buffer = record b.buffer { unsaved = [] }; whole = false; text_waits = true }
+
+-- where there was something to write
+abbrev pub logged : OpenState → OpenState
+logged b = if has_unsaved b then written b else b
+
+-- once the text was put, too
+abbrev pub saved : OpenState → OpenState
+saved b = record (logged b) { text_waits = false }
+
+-- once writing the log failed
+abbrev pub unlogged : OpenState → OpenState
+unlogged b = record b { whole = true }
+
+-- ---- a save that ends with a fault, by the calls that a port tells before and after it
+
+-- the log was due, and was not written
+pub record FailsAtLog (fault : PortFault) (old new : Option (List Call)) (b d : OpenState) : Type 0 where
+  pub due : has_unsaved b ≡ true
+  pub calls : Adds old new (refusals fault (log_call b))
+  pub left : d ≡ unlogged b
+
+-- the log was written where it was due, and the text was not put
+pub record FailsAtText (fault : PortFault) (old new : Option (List Call)) (b d : OpenState) : Type 0 where
+  pub due : is_changed b ≡ true
+  pub calls : Adds old new (log_calls b ++ refusals fault (text_call b))
+  pub left : d ≡ logged b
+
+abbrev pub SaveFailed : PortFault → Option (List Call) → Option (List Call) → OpenState → OpenState → Type 0
+SaveFailed fault old new b d = FailsAtLog fault old new b d ⊎ FailsAtText fault old new b d

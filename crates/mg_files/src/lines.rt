@@ -1,0 +1,50 @@
+//! What is written to a log and to a text file.
+ghost use Rattle.std.specs.Prelude.{◌≡◌, IfOk, IfErr, string_bytes};
+ghost use Rattle.rga_ops.specs.Operations.{operations};
+ghost use Rattle.rga_exchange.specs.Sending.{log_text};
+ghost use Rattle.mg_files.specs.Files.{text_bytes};
+ghost use Rattle.mg_files.specs.declared.port.PortFault.TheVariants.{Memory};
+
+use crate::port::PortFault;
+use rga_exchange::append_log;
+use rga_lines::Counted;
+use rga_ops::Op;
+use rga_store::TextStore;
+use std::alloc::Global;
+
+/// The lines of operations, each with its newline.
+pub(crate) fn lines_of(alloc: Global, ops: &[Op]) -> Result<Vec<u8>, PortFault>
+    ensures ok { IfOk result (λ bytes. bytes.items ≡ log_text ops.now) }
+    ensures memory { IfErr result (λ e. e ≡ Memory) }
+{
+    let mut writer = Counted::new(Vec::new(alloc));
+    let Ok(_) = append_log(alloc, ops, &mut writer) else {
+        return Err(PortFault::Memory);
+    };
+    Ok(writer.into_inner())
+}
+
+/// The lines of all operations of a store.
+pub(crate) fn all_lines_of<S: TextStore>(alloc: Global, store: &S) -> Result<Vec<u8>, PortFault>
+    ensures ok { IfOk result (λ bytes. bytes.items ≡ log_text (operations (S.content store.now))) }
+    ensures memory { IfErr result (λ e. e ≡ Memory) }
+{
+    let Ok(ops) = store.ops() else {
+        return Err(PortFault::Memory);
+    };
+    lines_of(alloc, &ops)
+}
+
+/// The text of a store.
+pub(crate) fn text_of<S: TextStore>(alloc: Global, store: &S) -> Result<String, PortFault>
+    ensures ok { IfOk result (λ text. string_bytes text ≡ text_bytes (S.content store.now)) }
+    ensures memory { IfErr result (λ e. e ≡ Memory) }
+{
+    let Ok(chars) = rga_walk::text(alloc, store) else {
+        return Err(PortFault::Memory);
+    };
+    chars
+        .into_iter()
+        .collect(alloc)
+        .map_err(|_| PortFault::Memory)
+}

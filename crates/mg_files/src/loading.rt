@@ -1,0 +1,152 @@
+//! How a buffer is loaded.
+ghost use Rattle.std.specs.Prelude.{◌≡◌, ◌≢◌, [], true, false, None, Ok, Err, MatchResult, IfOk, IfSome, ◌⊎◌, chars, string_bytes};
+ghost use Rattle.rga_ops.specs.Prelude.{nothing};
+ghost use Rattle.rga_doc.specs.Document.{document};
+ghost use Rattle.mg_files.specs.Files.{Files, text_bytes};
+ghost use Rattle.mg_files.specs.Loading.{load_outcome, opened_and_end, opening_answer, log_loaded, text_loaded, loaded, HasText};
+ghost use Rattle.std.specs.Str.{is_utf8};
+ghost use Rattle.rga_exchange.specs.declared.log.LogEnd.TheVariants.{Whole};
+ghost use Rattle.mg_files.specs.declared.fault.LoadFault.TheVariants.{Memory, NotText};
+
+use crate::fault::LoadFault;
+use crate::opened::Opened;
+use crate::port::Found;
+use mg_buffer::Buffer;
+use rga_doc::Doc;
+use rga_exchange::{LogEnd, read_log};
+use rga_lines::Counted;
+use rga_ops::Refusal;
+use rga_store::{MAX_LIMIT, TextStore};
+use std::alloc::Global;
+
+impl<S: TextStore> Opened<S> {
+    /// Opens the buffer of a name, of a replica that may know `limit` identifiers, by what was
+    /// found under the name, and answers how its log ends.
+    ///
+    /// Where a log is there, be it of no bytes, the text is not looked at: the buffer has the
+    /// operations of the log, and is unchanged however the log ends. Else it has the characters of
+    /// the text, inserted by one splice and all unsaved; else nothing. Point is at the front, there
+    /// is no mark, and nothing to undo.
+    ///
+    /// Faults, in this order: `Store` with `BadId` for replica 0 and with `Range` unless the limit
+    /// is 1 to `MAX_LIMIT`; `Log` with the first fault of the log; `NotText`; `Store` with `Full`
+    /// where the text has more characters than the limit; `Memory`. Only a log and the characters
+    /// of a text ask for memory before a fault.
+    pub fn load(
+        alloc: Global,
+        name: String,
+        replica: u16,
+        limit: usize,
+        found: Found,
+    ) -> Result<(Opened<S>, LogEnd), LoadFault>
+        ensures exact { result ≢ Err Memory →
+            result ≡ load_outcome (string_bytes name) replica limit found }
+        // What is loaded of a text shows that text.
+        ensures shown { IfOk result (λ o. found.log ≡ None → IfSome found.text
+            (λ bytes. text_bytes o.0.buffer.content ≡ bytes)) }
+        ensures memory { result ≡ Err Memory →
+            (opening_answer replica limit ≡ Ok tt) × HasText found.log found.text }
+    {
+        check_opening(replica, limit)?;
+        let Found { log, text } = found;
+        if let Some(log) = log {
+            return load_log(alloc, name, replica, limit, &log);
+        }
+        if let Some(text) = text {
+            return load_text(alloc, name, replica, limit, &text);
+        }
+        load_nothing(alloc, name, replica, limit)
+    }
+}
+
+/// Whether there are buffers of such a replica with such a limit. Takes no memory.
+fn check_opening(replica: u16, limit: usize) -> Result<(), LoadFault>
+    ensures { result ≡ opening_answer replica limit }
+{
+    if replica == 0 {
+        return Err(LoadFault::Store(Refusal::BadId));
+    }
+    if limit == 0 || limit > MAX_LIMIT {
+        return Err(LoadFault::Store(Refusal::Range));
+    }
+    Ok(())
+}
+
+/// A document that holds nothing.
+fn empty_doc<S: TextStore>(alloc: Global, replica: u16, limit: usize) -> Result<Doc<S>, LoadFault>
+    requires { opening_answer replica limit ≡ Ok tt }
+    ensures { MatchResult result
+        (λ doc. doc ≡ document nothing limit replica false) (λ e. e ≡ Memory) }
+{
+    let store = S::new(alloc, limit)?;
+    Ok(Doc::new(alloc, store, replica)?)
+}
+
+/// The buffer of a log.
+fn load_log<S: TextStore>(
+    alloc: Global,
+    name: String,
+    replica: u16,
+    limit: usize,
+    bytes: &[u8],
+) -> Result<(Opened<S>, LogEnd), LoadFault>
+    requires { opening_answer replica limit ≡ Ok tt }
+    ensures { result ≢ Err Memory →
+        result ≡ opened_and_end (string_bytes name) replica limit (log_loaded limit bytes.now) }
+{
+    let mut doc = empty_doc(alloc, replica, limit)?;
+    let mut reader = Counted::new(bytes);
+    let end = read_log(alloc, &mut doc, &mut reader)?;
+    let buffer = Buffer::new(alloc, doc, name, Vec::new(alloc));
+    Ok((Opened::new(alloc, buffer, end), end))
+}
+
+/// The buffer of a text. What is no text is found before memory is asked for.
+fn load_text<S: TextStore>(
+    alloc: Global,
+    name: String,
+    replica: u16,
+    limit: usize,
+    bytes: &[u8],
+) -> Result<(Opened<S>, LogEnd), LoadFault>
+    requires { opening_answer replica limit ≡ Ok tt }
+    ensures exact { result ≢ Err Memory → result
+        ≡ opened_and_end (string_bytes name) replica limit (text_loaded replica limit bytes.now) }
+    ensures shown { IfOk result (λ o. text_bytes o.0.buffer.content ≡ bytes.now) }
+    ensures memory { result ≡ Err Memory → is_utf8 bytes.now ≡ true }
+{
+    let put = characters_of(alloc, bytes)?;
+    let mut doc = empty_doc(alloc, replica, limit)?;
+    let ops = doc.splice(0, 0, &put)?;
+    let buffer = Buffer::new(alloc, doc, name, ops);
+    Ok((Opened::new(alloc, buffer, LogEnd::Whole), LogEnd::Whole))
+}
+
+/// The characters of a text. What is no text is found before memory is asked for.
+fn characters_of(alloc: Global, bytes: &[u8]) -> Result<Vec<char>, LoadFault>
+    ensures { MatchResult result
+        (λ put. (put.items ≡ chars bytes.now) × (is_utf8 bytes.now ≡ true))
+        (λ e. ((e ≡ NotText) × (is_utf8 bytes.now ≡ false))
+        ⊎ ((e ≡ Memory) × (is_utf8 bytes.now ≡ true))) }
+{
+    let Ok(text) = str::from_utf8(bytes) else {
+        return Err(LoadFault::NotText);
+    };
+    Ok(text.chars().collect(alloc)?)
+}
+
+/// The buffer of neither.
+fn load_nothing<S: TextStore>(
+    alloc: Global,
+    name: String,
+    replica: u16,
+    limit: usize,
+) -> Result<(Opened<S>, LogEnd), LoadFault>
+    requires { opening_answer replica limit ≡ Ok tt }
+    ensures { result ≢ Err Memory → result
+        ≡ opened_and_end (string_bytes name) replica limit (Ok (loaded nothing [] Whole)) }
+{
+    let doc = empty_doc(alloc, replica, limit)?;
+    let buffer = Buffer::new(alloc, doc, name, Vec::new(alloc));
+    Ok((Opened::new(alloc, buffer, LogEnd::Whole), LogEnd::Whole))
+}

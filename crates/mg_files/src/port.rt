@@ -1,0 +1,95 @@
+//! Where the files of buffers are.
+ghost use Rattle.std.specs.Prelude.{◌≡◌, ℕ, List, Option};
+ghost use Rattle.mg_files.specs.Calls.{Call, call, Adds, told, failures_after};
+
+use std::alloc::AllocError;
+use std::marker::Model;
+
+/// Why a port did not do what it was asked.
+#[derive(Clone, Copy, Debug, PartialEq, Eq)]
+pub enum PortFault {
+    /// A file could not be read or written.
+    File,
+    /// A growth of memory was refused.
+    Memory,
+}
+
+impl From<AllocError> for PortFault {
+    ghost use Rattle.std.specs.Prelude.{◌≡◌};
+    ghost use Rattle.mg_files.specs.declared.port.PortFault.TheVariants.{Memory};
+
+    ghost from_gives = { λ _ fault. fault ≡ Memory };
+
+    fn from(_: AllocError) -> PortFault {
+        PortFault::Memory
+    }
+}
+
+/// Which of a port's calls that write.
+#[derive(Clone, Copy, Debug, PartialEq, Eq)]
+pub enum CallKind {
+    Append,
+    Replace,
+    PutText,
+}
+
+/// What is there under a name: the log, and the text.
+#[derive(Debug, Drop)]
+pub struct Found {
+    pub log: Option<Vec<u8>>,
+    pub text: Option<Vec<u8>>,
+}
+
+impl Model for Found {
+    ghost use Rattle.std.specs.Option.{option_map};
+    ghost use Rattle.mg_files.specs.Files.{Files};
+
+    ghost Value = { Files };
+
+    ghost view = { λ found. record {
+      log = option_map (λ bytes. bytes.items) found.log;
+      text = option_map (λ bytes. bytes.items) found.text;
+    } };
+}
+
+/// A place for the files of buffers, which has a log and a text under a name.
+///
+/// A port may tell its calls that write, in their order: one in memory does, one of real files need
+/// not. A call that the port refuses with `File` is told too, as refused. With `Memory` no call is
+/// told: memory was wanting before anything was done.
+pub trait Port {
+    /// The calls so far that write, where the port tells them.
+    ghost calls: { Self → Option (List Call) };
+
+    /// How many calls failed.
+    ghost failures: { Self → ℕ };
+
+    /// What is there under a name. Where there is a log, the text may be left out. Tells no call,
+    /// since it writes nothing.
+    fn load(&mut self, name: &str) -> Result<Found, PortFault>
+        ensures tells { calls self.new ≡ calls self.old }
+        ensures device { failures self.new ≡ failures_after result (failures self.old) };
+
+    /// Adds bytes at the end of the log, which is made where there is none. Where it answers `File`
+    /// any beginning of the bytes may have been added.
+    fn append(&mut self, name: &str, bytes: &[u8]) -> Result<(), PortFault>
+        ensures tells { Adds (calls self.old) (calls self.new)
+            (told result (call CallKind.Append name.now bytes.now)) }
+        ensures device { failures self.new ≡ failures_after result (failures self.old) };
+
+    /// Makes these bytes the whole log. Where it answers `File` the log is the old one or this one.
+    fn replace(&mut self, name: &str, bytes: &[u8]) -> Result<(), PortFault>
+        ensures tells { Adds (calls self.old) (calls self.new)
+            (told result (call CallKind.Replace name.now bytes.now)) }
+        ensures device { failures self.new ≡ failures_after result (failures self.old) };
+
+    /// Makes these bytes the whole text.
+    fn put_text(&mut self, name: &str, bytes: &[u8]) -> Result<(), PortFault>
+        ensures tells { Adds (calls self.old) (calls self.new)
+            (told result (call CallKind.PutText name.now bytes.now)) }
+        ensures device { failures self.new ≡ failures_after result (failures self.old) };
+
+    /// How many calls failed: `File` adds one, up to the greatest `u64`, and nothing else does.
+    fn failures(&self) -> u64
+        ensures { result ≡ failures self.now };
+}

@@ -1,0 +1,84 @@
+//! How a buffer is saved.
+ghost use Rattle.std.specs.Prelude.{◌≡◌, false, IfOk, IfErr, OnOk, OnErr};
+ghost use Rattle.mg_files.specs.Calls.{Adds, told, failures_after};
+ghost use Rattle.mg_files.specs.Saving.{is_changed, log_call, log_calls, text_call, save_calls, logged, saved, unlogged, written, FailsAtLog, SaveFailed};
+
+use crate::lines::{all_lines_of, lines_of, text_of};
+use crate::opened::Opened;
+use crate::port::{Port, PortFault};
+use rga_store::TextStore;
+
+impl<S: TextStore> Opened<S> {
+    /// Saves what is changed: the unsaved operations are appended to the log, or the whole log is
+    /// written where it may not end in a newline, and then the text is put. Answers whether there
+    /// was something to save; where there was not, no call of the port is made.
+    ///
+    /// `File` where the port refused a call, which then is the last one made, and `Memory`. A fault
+    /// before the log is written leaves the operations unsaved, and the next writing of the log is a
+    /// whole one; after it nothing is unsaved, and the text waits. In no case does it change the
+    /// text, point, mark or groups.
+    pub fn save<P: Port>(&mut self, port: &mut P) -> Result<bool, PortFault>
+        ensures changed { IfOk result (λ changed. changed ≡ is_changed self.old) }
+        ensures calls { OnOk result
+            (Adds (P.calls port.old) (P.calls port.new) (save_calls self.old)) }
+        ensures saved { OnOk result (self.new ≡ saved self.old) }
+        ensures failed { IfErr result (λ fault.
+            SaveFailed fault (P.calls port.old) (P.calls port.new) self.old self.new) }
+        ensures device { P.failures port.new ≡ failures_after result (P.failures port.old) }
+    {
+        if !self.is_changed() {
+            return Ok(false);
+        }
+        if !self.buffer.unsaved().is_empty() {
+            self.save_log(port)?;
+        }
+        self.save_text(port)?;
+        Ok(true)
+    }
+
+    /// Writes the log, which then has all operations, or has to be written whole.
+    fn save_log<P: Port>(&mut self, port: &mut P) -> Result<(), PortFault>
+        ensures tells { Adds (P.calls port.old) (P.calls port.new)
+            (told result (log_call self.old)) }
+        ensures logged { OnOk result (self.new ≡ written self.old) }
+        ensures unlogged { OnErr result (self.new ≡ unlogged self.old) }
+        ensures device { P.failures port.new ≡ failures_after result (P.failures port.old) }
+    {
+        if let Err(fault) = self.write_log(port) {
+            self.whole = true;
+            return Err(fault);
+        }
+        self.buffer.mark_saved();
+        self.whole = false;
+        self.text_waits = true;
+        Ok(())
+    }
+
+    /// Appends the unsaved operations to the log, or writes all operations as the whole log.
+    fn write_log<P: Port>(&self, port: &mut P) -> Result<(), PortFault>
+        ensures tells { Adds (P.calls port.old) (P.calls port.new)
+            (told result (log_call self.now)) }
+        ensures device { P.failures port.new ≡ failures_after result (P.failures port.old) }
+    {
+        if self.whole {
+            let lines = all_lines_of(self.alloc, self.buffer.store())?;
+            return port.replace(self.buffer.name(), &lines);
+        }
+        let lines = lines_of(self.alloc, self.buffer.unsaved())?;
+        port.append(self.buffer.name(), &lines)
+    }
+
+    /// Puts the text, which then waits no more.
+    fn save_text<P: Port>(&mut self, port: &mut P) -> Result<(), PortFault>
+        ensures tells { Adds (P.calls port.old) (P.calls port.new)
+            (told result (text_call self.old)) }
+        ensures put { OnOk result (self.new ≡ record self.old { text_waits = false }) }
+        ensures same { OnErr result (self.new ≡ self.old) }
+        ensures device { P.failures port.new ≡ failures_after result (P.failures port.old) }
+    {
+        let text = text_of(self.alloc, self.buffer.store())?;
+        port.put_text(self.buffer.name(), text.as_bytes())?;
+        self.text_waits = false;
+        Ok(())
+    }
+}

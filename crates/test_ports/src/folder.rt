@@ -1,0 +1,107 @@
+//! Files in memory.
+use mg_files::CallKind;
+use std::alloc::{AllocError, Global};
+
+/// The log and the text of a name, where they are there.
+#[derive(Drop)]
+struct Entry {
+    name: String,
+    log: Option<Vec<u8>>,
+    text: Option<Vec<u8>>,
+}
+
+/// Files by name.
+#[derive(Drop)]
+pub(crate) struct Folder {
+    alloc: Global,
+    entries: Vec<Entry>,
+}
+
+impl Folder {
+    pub(crate) fn new(alloc: Global) -> Folder {
+        Folder {
+            alloc,
+            entries: Vec::new(alloc),
+        }
+    }
+
+    pub(crate) fn log(&self, name: &str) -> Option<&[u8]> {
+        self.entry(name)?.log.as_deref()
+    }
+
+    pub(crate) fn text(&self, name: &str) -> Option<&[u8]> {
+        self.entry(name)?.text.as_deref()
+    }
+
+    fn entry(&self, name: &str) -> Option<&Entry> {
+        self.entries
+            .iter()
+            .find(|entry| entry.name.as_str() == name)
+    }
+
+    /// Puts files under a new name.
+    pub(crate) fn put(
+        &mut self,
+        name: &str,
+        log: Option<&[u8]>,
+        text: Option<&[u8]>,
+    ) -> Result<(), AllocError> {
+        let entry = Entry {
+            name: String::from_str(self.alloc, name)?,
+            log: copy_of(self.alloc, log)?,
+            text: copy_of(self.alloc, text)?,
+        };
+        self.entries.push(entry)?;
+        Ok(())
+    }
+
+    /// Makes room for the files of a name.
+    pub(crate) fn make_entry(&mut self, name: &str) -> Result<(), AllocError> {
+        if self.entry(name).is_none() {
+            self.put(name, None, None)?;
+        }
+        Ok(())
+    }
+
+    /// The file that a call writes, as it leaves it.
+    pub(crate) fn file_after(
+        &self,
+        kind: CallKind,
+        name: &str,
+        bytes: &[u8],
+    ) -> Result<Vec<u8>, AllocError> {
+        let old = match kind {
+            CallKind::Append => self.log(name).unwrap_or(&[]),
+            CallKind::Replace | CallKind::PutText => &[],
+        };
+        let mut file = Vec::from_slice(self.alloc, old)?;
+        file.extend_from_slice(bytes)?;
+        Ok(file)
+    }
+
+    /// Puts the file in its place, where the name is there.
+    pub(crate) fn keep(&mut self, kind: CallKind, name: &str, file: Vec<u8>) {
+        for entry in self.entries.iter_mut() {
+            if entry.name.as_str() == name {
+                entry.keep(kind, file);
+                return;
+            }
+        }
+    }
+}
+
+impl Entry {
+    fn keep(&mut self, kind: CallKind, file: Vec<u8>) {
+        match kind {
+            CallKind::Append | CallKind::Replace => self.log = Some(file),
+            CallKind::PutText => self.text = Some(file),
+        }
+    }
+}
+
+pub(crate) fn copy_of(alloc: Global, bytes: Option<&[u8]>) -> Result<Option<Vec<u8>>, AllocError> {
+    match bytes {
+        Some(bytes) => Ok(Some(Vec::from_slice(alloc, bytes)?)),
+        None => Ok(None),
+    }
+}

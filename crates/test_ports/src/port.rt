@@ -1,0 +1,153 @@
+//! A port in memory.
+ghost use Rattle.std.specs.Prelude.{◌≡◌, [], ◌∷◌, ◌++◌, Some, IfErr, OnOk, OnErr};
+ghost use Rattle.mg_files.specs.Calls.{call, told, failures_after};
+ghost use Rattle.mg_files.specs.declared.port.PortFault.TheVariants.{Memory};
+
+use crate::call::MadeCall;
+use crate::folder::{Folder, copy_of};
+use mg_files::{CallKind, Found, Port, PortFault};
+use std::alloc::{AllocError, Global};
+
+/// Holds files by name, and tells the calls that write.
+#[derive(Drop)]
+pub struct MemoryPort {
+    alloc: Global,
+    folder: Folder,
+    /// The calls so far.
+    pub calls: Vec<MadeCall>,
+    failures: u64,
+    /// The kind of call that is refused from now on.
+    pub refused: Option<CallKind>,
+    /// How many bytes a refused append adds to the log all the same.
+    pub begun: usize,
+    /// Whether a load is refused from now on.
+    pub is_away: bool,
+}
+
+impl MemoryPort {
+    /// A port with no files, which refuses nothing.
+    pub fn new(alloc: Global) -> MemoryPort {
+        MemoryPort {
+            alloc,
+            folder: Folder::new(alloc),
+            calls: Vec::new(alloc),
+            failures: 0,
+            refused: None,
+            begun: 0,
+            is_away: false,
+        }
+    }
+
+    /// The log of a name.
+    pub fn log(&self, name: &str) -> Option<&[u8]> {
+        self.folder.log(name)
+    }
+
+    /// The text of a name.
+    pub fn text(&self, name: &str) -> Option<&[u8]> {
+        self.folder.text(name)
+    }
+
+    /// Puts files under a new name. This is no call of the port.
+    pub fn put(
+        &mut self,
+        name: &str,
+        log: Option<&[u8]>,
+        text: Option<&[u8]>,
+    ) -> Result<(), AllocError> {
+        self.folder.put(name, log, text)
+    }
+
+    /// Makes a call that writes, or refuses it.
+    fn call(&mut self, kind: CallKind, name: &str, bytes: &[u8]) -> Result<(), PortFault>
+        ensures tells { self.new.calls.items
+            ≡ self.old.calls.items ++ told result (call kind name.now bytes.now) }
+        ensures device { self.new.failures ≡ failures_after result self.old.failures }
+    {
+        if self.refused == Some(kind) {
+            return self.refuse(kind, name, bytes);
+        }
+        let file = self.folder.file_after(kind, name, bytes)?;
+        self.folder.make_entry(name)?;
+        self.note(kind, name, bytes, true)?;
+        self.folder.keep(kind, name, file);
+        Ok(())
+    }
+
+    /// Refuses a call that writes, of which an append may have begun.
+    fn refuse(&mut self, kind: CallKind, name: &str, bytes: &[u8]) -> Result<(), PortFault>
+        ensures tells { self.new.calls.items
+            ≡ self.old.calls.items ++ told result (call kind name.now bytes.now) }
+        ensures device { self.new.failures ≡ failures_after result self.old.failures }
+    {
+        let front = &bytes[..self.begun.min(bytes.len())];
+        let file = self.folder.file_after(kind, name, front)?;
+        self.folder.make_entry(name)?;
+        self.note(kind, name, bytes, false)?;
+        if kind == CallKind::Append {
+            self.folder.keep(kind, name, file);
+        }
+        self.failures = self.failures.saturating_add(1);
+        Err(PortFault::File)
+    }
+
+    /// Notes a call.
+    fn note(
+        &mut self,
+        kind: CallKind,
+        name: &str,
+        bytes: &[u8],
+        answered: bool,
+    ) -> Result<(), PortFault>
+        ensures noted { OnOk result (self.new ≡ record self.old { calls = self.new.calls }) }
+        ensures made { OnOk result (self.new.calls.items ≡ self.old.calls.items
+            ++ record (call kind name.now bytes.now) { answered = answered } ∷ []) }
+        ensures same { OnErr result ((self.new.calls.items ≡ self.old.calls.items)
+            × (self.new.failures ≡ self.old.failures)) }
+        ensures memory { IfErr result (λ e. e ≡ Memory) }
+    {
+        let made = MadeCall {
+            kind,
+            name: String::from_str(self.alloc, name)?,
+            bytes: Vec::from_slice(self.alloc, bytes)?,
+            answered,
+        };
+        if self.calls.push(made).is_err() {
+            return Err(PortFault::Memory);
+        }
+        Ok(())
+    }
+}
+
+impl Port for MemoryPort {
+    ghost calls = { λ p. Some p.calls.items };
+
+    ghost failures = { λ p. p.failures };
+
+    fn load(&mut self, name: &str) -> Result<Found, PortFault> {
+        if self.is_away {
+            self.failures = self.failures.saturating_add(1);
+            return Err(PortFault::File);
+        }
+        Ok(Found {
+            log: copy_of(self.alloc, self.log(name))?,
+            text: copy_of(self.alloc, self.text(name))?,
+        })
+    }
+
+    fn append(&mut self, name: &str, bytes: &[u8]) -> Result<(), PortFault> {
+        self.call(CallKind::Append, name, bytes)
+    }
+
+    fn replace(&mut self, name: &str, bytes: &[u8]) -> Result<(), PortFault> {
+        self.call(CallKind::Replace, name, bytes)
+    }
+
+    fn put_text(&mut self, name: &str, bytes: &[u8]) -> Result<(), PortFault> {
+        self.call(CallKind::PutText, name, bytes)
+    }
+
+    fn failures(&self) -> u64 {
+        self.failures
+    }
+}
