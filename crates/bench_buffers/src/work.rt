@@ -2,7 +2,7 @@
 use crate::task::{Task, Work};
 use crate::text::document;
 use mg_buffer::{Buffer, BufferFault, Memo};
-use mg_plain::Command;
+use mg_plain::{Chars, Command};
 use rga_ops::{Id, Op, Refusal};
 use rga_store::{Taker, TextStore, TreeStore};
 use std::alloc::Global;
@@ -38,7 +38,7 @@ fn go_to(
     memo: &mut Memo,
     start: usize,
 ) -> Result<(), BufferFault> {
-    let pattern = Vec::new(alloc);
+    let pattern = Chars::new(alloc);
     buffer.run(&Command::SearchForward { pattern, start }, 1, memo, FILL)
 }
 

@@ -1,5 +1,5 @@
 //! What is to be timed.
-use mg_plain::Command;
+use mg_plain::{Chars, Command};
 use std::alloc::{AllocError, Global};
 
 #[derive(Drop)]
@@ -42,23 +42,17 @@ fn command_of(alloc: Global, name: &str) -> Result<Option<Command>, AllocError> 
         "kill-line" => Command::KillLine,
         "capitalize-word" => Command::CapitalizeWord,
         "search-forward" => Command::SearchForward {
-            pattern: characters(alloc, &['z', 'z'])?,
+            pattern: Chars::from_slice(alloc, &['z', 'z'])?,
             start: 0,
         },
         "fill-paragraph" => Command::FillParagraph,
         "replace-all" => Command::ReplaceAll {
-            pattern: characters(alloc, &['w', 'o'])?,
-            put: characters(alloc, &['W', 'O', 'O'])?,
+            pattern: Chars::from_slice(alloc, &['w', 'o'])?,
+            put: Chars::from_slice(alloc, &['W', 'O', 'O'])?,
         },
         _ => return Ok(None),
     };
     Ok(Some(command))
-}
-
-fn characters(alloc: Global, of: &[char]) -> Result<Vec<char>, AllocError> {
-    let mut characters = Vec::new(alloc);
-    characters.extend_from_slice(of)?;
-    Ok(characters)
 }
 
 /// The middle; to replace all, the end of the match there.
@@ -66,7 +60,7 @@ fn point_of(command: &Command, size: usize) -> usize {
     match command {
         Command::ReplaceAll { pattern, .. } => (size / 12)
             .saturating_mul(6)
-            .saturating_add(pattern.len()),
+            .saturating_add(pattern.as_slice().len()),
         _ => size / 2,
     }
 }

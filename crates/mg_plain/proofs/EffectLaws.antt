@@ -326,15 +326,15 @@ effect-inside UpcaseWord n s column e seen h = recasing-within Upper s e seen h
 effect-inside DowncaseWord n s column e seen h = recasing-within Lower s e seen h
 effect-inside CapitalizeWord n s column e seen h = recasing-within Capital s e seen h
 effect-inside (SearchForward pattern start) n s column e seen h =
-    by_find s (first_match pattern.items s.text start) (λ i. motion s (i + length pattern.items)) SearchFailed e (λ i found. motion-within s (i + length pattern.items) seen (match-within pattern.items s.text start i found).1) h
+    by_find s (first_match pattern s.text start) (λ i. motion s (i + length pattern)) SearchFailed e (λ i found. motion-within s (i + length pattern) seen (match-within pattern s.text start i found).1) h
 effect-inside (SearchBackward pattern start) n s column e seen h =
-    by_find s (last_match pattern.items s.text start) (motion s) SearchFailed e
-    (λ i found. let last = last_is pattern.items s.text start i found in motion-within s i seen (omega (arith, last.0, last.1.below))) h
+    by_find s (last_match pattern s.text start) (motion s) SearchFailed e
+    (λ i found. let last = last_is pattern s.text start i found in motion-within s i seen (omega (arith, last.0, last.1.below))) h
 effect-inside (ReplaceOne pattern put) n s column e seen h =
-    by_if s (stands_before_point pattern.items s) (edit_effect s (replacements put.items (current_match pattern.items s.point ∷ []))) SearchFailed e
-    (λ t. edit-within s (replacements put.items (current_match pattern.items s.point ∷ [])) seen (omega arith, seen.point, tt)) h
+    by_if s (stands_before_point pattern s) (edit_effect s (replacements put (current_match pattern s.point ∷ []))) SearchFailed e
+    (λ t. edit-within s (replacements put (current_match pattern s.point ∷ [])) seen (omega arith, seen.point, tt)) h
 effect-inside (ReplaceAll pattern put) n s column e seen h =
-    by_if s (stands_before_point pattern.items s) (replacement_effect put.items (all_matches pattern.items s.text s.point) s) SearchFailed e (λ t. replacement_effect-within pattern.items put.items s seen t) h
+    by_if s (stands_before_point pattern s) (replacement_effect put (all_matches pattern s.text s.point) s) SearchFailed e (λ t. replacement_effect-within pattern put s seen t) h
 effect-inside FillParagraph n s column e seen h = by_ok s (edit_effect s (if has_nonblank s.text (line_begin s.text s.point) then filling column s.text (paragraph s.text s.point) else [])) e (fill-within column s seen (has_nonblank s.text (line_begin s.text s.point))) h
 
 pub effect-within : (command : Command) (n : ℕ) (s : Situation) (column : ℕ) (e : Effect) → IsView s → effect command n s column ≡ Ok e → IsWithin s e

@@ -48,10 +48,10 @@ effect TransposeChars n s column = transpose_chars s
 effect UpcaseWord n s column = recasing Upper s
 effect DowncaseWord n s column = recasing Lower s
 effect CapitalizeWord n s column = recasing Capital s
-effect (SearchForward pattern start) n s column = search_forward pattern.items start s
-effect (SearchBackward pattern start) n s column = search_backward pattern.items start s
-effect (ReplaceOne pattern put) n s column = replace_one pattern.items put.items s
-effect (ReplaceAll pattern put) n s column = replace_all pattern.items put.items s
+effect (SearchForward pattern start) n s column = search_forward pattern start s
+effect (SearchBackward pattern start) n s column = search_backward pattern start s
+effect (ReplaceOne pattern put) n s column = replace_one pattern put s
+effect (ReplaceAll pattern put) n s column = replace_all pattern put s
 effect FillParagraph n s column = Ok (fill_paragraph column s)
 
 -- whether a command needs memory: those that put or keep characters do, motions, searches and the mark do not

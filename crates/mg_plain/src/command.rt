@@ -1,4 +1,5 @@
 //! Commands on a text.
+use crate::chars::Chars;
 
 /// A command on a text, named as mg(1) names it. Those that obey an argument say so; the others
 /// ignore it. A place is carried where nothing else is said of it: it stays before what a splice
@@ -67,13 +68,13 @@ pub enum Command {
     /// The first word character becomes upper case, all others lower case.
     CapitalizeWord,
     /// Point goes behind the first match from the start on; ASCII case makes no difference.
-    SearchForward { pattern: Vec<char>, start: usize },
+    SearchForward { pattern: Chars, start: usize },
     /// Point goes to the begin of the last match up to the start.
-    SearchBackward { pattern: Vec<char>, start: usize },
+    SearchBackward { pattern: Chars, start: usize },
     /// Replaces the match that ends at point, and point goes behind.
-    ReplaceOne { pattern: Vec<char>, put: Vec<char> },
+    ReplaceOne { pattern: Chars, put: Chars },
     /// The same for this match and all that follow, each found from the end of the one before.
-    ReplaceAll { pattern: Vec<char>, put: Vec<char> },
+    ReplaceAll { pattern: Chars, put: Chars },
     /// Lays the words of point's paragraph out in lines of at most the fill column.
     FillParagraph,
 }

@@ -11,6 +11,7 @@
 
 mod cases;
 mod characters;
+mod chars;
 mod command;
 mod edit;
 mod filling;
@@ -30,6 +31,7 @@ mod steps;
 mod view;
 mod words;
 
+pub use chars::Chars;
 pub use command::Command;
 pub use matching::{count_matches, find};
 pub use outcome::{Notice, Plan};

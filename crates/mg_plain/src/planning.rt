@@ -72,13 +72,23 @@ pub fn plan(
         Command::DowncaseWord => recase_word(alloc, view, Casing::Lower),
         Command::CapitalizeWord => recase_word(alloc, view, Casing::Capital),
         Command::SearchForward { pattern, start } => {
-            search_forward(alloc, view, pattern, *start)
+            search_forward(alloc, view, pattern.as_slice(), *start)
         }
         Command::SearchBackward { pattern, start } => {
-            search_backward(alloc, view, pattern, *start)
+            search_backward(alloc, view, pattern.as_slice(), *start)
         }
-        Command::ReplaceOne { pattern, put } => replace_one(alloc, pattern, put, view),
-        Command::ReplaceAll { pattern, put } => replace_all(alloc, pattern, put, view),
+        Command::ReplaceOne { pattern, put } => replace_one(
+            alloc,
+            pattern.as_slice(),
+            put.as_slice(),
+            view,
+        ),
+        Command::ReplaceAll { pattern, put } => replace_all(
+            alloc,
+            pattern.as_slice(),
+            put.as_slice(),
+            view,
+        ),
         Command::FillParagraph => fill_paragraph(alloc, view, fill),
     }
 }

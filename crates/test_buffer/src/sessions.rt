@@ -90,12 +90,12 @@ fn changing(word: &str) -> Option<Command> {
 fn asking(alloc: Global, name: &str, rest: &str) -> Result<Option<Command>, AllocError> {
     match (name, rest.split_once(':')) {
         ("find", None) => Ok(Some(Command::SearchForward {
-            pattern: chars_of(alloc, rest)?,
+            pattern: chars_of(alloc, rest)?.into(),
             start: 0,
         })),
         ("all", Some((pattern, put))) => Ok(Some(Command::ReplaceAll {
-            pattern: chars_of(alloc, pattern)?,
-            put: chars_of(alloc, put)?,
+            pattern: chars_of(alloc, pattern)?.into(),
+            put: chars_of(alloc, put)?.into(),
         })),
         _ => Ok(None),
     }

@@ -5,6 +5,8 @@
 #![tactic(auto)]
 
 #[cfg(test)]
+mod chars;
+#[cfg(test)]
 mod edits;
 #[cfg(test)]
 mod filling;

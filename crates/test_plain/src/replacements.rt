@@ -1,6 +1,6 @@
 //! Replacements of a match, and of all that follow.
 use crate::scenes::{PLAIN, chars_of, leads, notice};
-use mg_plain::{Command, Notice};
+use mg_plain::{Chars, Command, Notice};
 use std::alloc::{AllocError, Global};
 
 /// A replacement of one match, or of all.
@@ -10,8 +10,8 @@ fn replacement_of(
     pattern: &str,
     put: &str,
 ) -> Result<Command, AllocError> {
-    let pattern = chars_of(alloc, pattern)?;
-    let put = chars_of(alloc, put)?;
+    let pattern = Chars::from(chars_of(alloc, pattern)?);
+    let put = Chars::from(chars_of(alloc, put)?);
     Ok(if all {
         Command::ReplaceAll { pattern, put }
     } else {

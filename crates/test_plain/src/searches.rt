@@ -1,6 +1,6 @@
 //! Searches, and what they rest on: where a pattern is found, and how often.
 use crate::scenes::{PLAIN, chars_of, leads, notice};
-use mg_plain::{Command, Direction, Notice, count_matches, find};
+use mg_plain::{Chars, Command, Direction, Notice, count_matches, find};
 use std::alloc::{AllocError, Global};
 
 /// A search from a start.
@@ -10,7 +10,7 @@ fn search(
     pattern: &str,
     start: usize,
 ) -> Result<Command, AllocError> {
-    let pattern = chars_of(alloc, pattern)?;
+    let pattern = Chars::from(chars_of(alloc, pattern)?);
     Ok(match direction {
         Direction::Forward => Command::SearchForward { pattern, start },
         Direction::Backward => Command::SearchBackward { pattern, start },

@@ -1,0 +1,10 @@
+pub mod Prompts
+pub mod Messages
+pub mod Endings
+pub mod Scenes
+pub mod Typing
+pub mod PlainStep
+pub mod LineStep
+pub mod SearchStep
+pub mod ReplacementStep
+pub mod PromptStep

@@ -1,0 +1,62 @@
+-- What a step leads to while a line of text is asked for, or whether to quit.
+use Rattle.std.specs.Prelude.{ℕ, List, [], Some, None, nat_eq, if◌then◌else◌}
+use Rattle.mg_keys.specs.Commands.{step_of}
+use Rattle.mg_keys.specs.Names.{named}
+use Rattle.mg_keys.specs.declared.names.NamedCommand.{NamedCommand}
+use Rattle.mg_keys.specs.declared.names.NamedCommand.TheVariants.{Key, ReplicaExchange, ReplicaServe}
+use Rattle.mg_keys.specs.declared.step.Step.{Step}
+use Rattle.mg_keys.specs.declared.step.Step.TheVariants.{Text, Rub, Accept, Cancel, Unbound}
+use Rattle.mg_prompts.specs.declared.ending.Deed.TheVariants as deed
+use Rattle.mg_prompts.specs.declared.ending.Ending.{Ending}
+use Rattle.mg_prompts.specs.declared.ending.Next.TheVariants.{Closed, Open}
+use Rattle.mg_prompts.specs.declared.ending.Reaction.{Reaction}
+use Rattle.mg_prompts.specs.declared.ending.Reaction.TheVariants.{Ends}
+use Rattle.mg_prompts.specs.declared.ending.Request.TheVariants as request
+use Rattle.mg_prompts.specs.declared.message.Message.TheVariants as message
+use Rattle.mg_prompts.specs.declared.prompt.Asked.{Asked}
+use Rattle.mg_prompts.specs.declared.prompt.Asked.TheVariants.{Command, Pattern}
+use Rattle.mg_prompts.specs.declared.prompt.Prompt.TheVariants.{Line, Replacement}
+use Rattle.mg_prompts.specs.Endings.{ending_of, requesting, shows, idles, unbound, closing}
+use Rattle.mg_prompts.specs.PlainStep.{plain_step, undefined}
+use Rattle.mg_prompts.specs.Scenes.{Scene}
+use Rattle.mg_prompts.specs.Typing.{typed, rubbed}
+
+abbrev pub asks_on : Asked → List ℕ → Reaction
+asks_on asked answer = shows (Open (Line asked answer)) message.Nothing
+
+-- a command that was named does what its key does with the argument 1; those of replicas are none yet
+abbrev pub named_step : NamedCommand → Scene → Ending
+named_step (Key command) scene = plain_step (step_of command 1) scene
+named_step ReplicaExchange scene = undefined
+named_step ReplicaServe scene = undefined
+
+abbrev pub extended : List ℕ → Scene → Reaction
+extended answer scene = elim (named answer) [
+  | Some command ↦ Ends (closing (named_step command scene))
+  | None ↦ shows Closed message.NoSuchCommand
+]
+
+abbrev pub asks_replacement : List ℕ → Reaction
+asks_replacement pattern = shows (Open (Replacement pattern [])) message.Nothing
+
+abbrev pub accepted : Asked → List ℕ → Scene → Reaction
+accepted Command answer scene = extended answer scene
+accepted Pattern answer scene = asks_replacement answer
+
+abbrev pub line_step : Asked → List ℕ → Step → Scene → Reaction
+line_step asked answer (Text c) scene = asks_on asked (typed answer c)
+line_step asked answer Rub scene = asks_on asked (rubbed answer)
+line_step asked answer Accept scene = accepted asked answer scene
+line_step asked answer Cancel scene = idles Closed message.Quit
+line_step asked answer _ scene = unbound
+
+-- the prompt closes, and the session is to end
+abbrev pub quits : Reaction
+quits = Ends (requesting request.Quit (ending_of deed.Rests Closed message.Nothing))
+
+-- `y` quits, and any other step ends the question
+abbrev pub quit_step : Step → Reaction
+quit_step (Text c) = if nat_eq c 121 then quits else shows Closed message.Nothing
+quit_step Cancel = idles Closed message.Quit
+quit_step Unbound = idles Closed message.UndefinedKey
+quit_step _ = shows Closed message.Nothing

@@ -1,0 +1,23 @@
+-- The texts of messages, as UTF-8.
+use Rattle.std.specs.Prelude.{ℕ, List, [], ◌++◌, codes}
+use Rattle.std.specs.Fmt.{decimal}
+use Rattle.mg_plain.specs.NoticeMessage.{notice_message}
+use Rattle.mg_prompts.specs.declared.message.Message.{Message}
+use Rattle.mg_prompts.specs.declared.message.Message.TheVariants.{Nothing, Quit, UndefinedKey, Refused, BufferFull, IdentifiersUsedUp, Replaced, NoSuchCommand, WindowTooSmall, OnlyOneWindow, Wrote, NoChanges, TornLog, FileFault}
+
+-- of a buffer with that name
+abbrev pub message_text : Message → List ℕ → List ℕ
+message_text Nothing name = []
+message_text Quit name = codes "Quit"
+message_text UndefinedKey name = codes "Undefined key"
+message_text (Refused notice) name = notice_message notice
+message_text BufferFull name = codes "Buffer full"
+message_text IdentifiersUsedUp name = codes "Identifiers used up"
+message_text (Replaced count) name = codes "Replaced " ++ decimal count
+message_text NoSuchCommand name = codes "No such command"
+message_text WindowTooSmall name = codes "Window too small"
+message_text OnlyOneWindow name = codes "Only one window"
+message_text Wrote name = codes "Wrote " ++ name
+message_text NoChanges name = codes "No changes"
+message_text (TornLog bytes) name = codes "Torn log: " ++ (decimal bytes ++ codes " bytes left out")
+message_text FileFault name = codes "File fault"

@@ -1,0 +1,61 @@
+-- What a step leads to where no prompt is open.
+use Rattle.std.specs.Prelude.{ℕ, [], Bool, None, if◌then◌else◌}
+use Rattle.mg_plain.specs.declared.command.Command.TheVariants.{ScrollUp, ScrollDown}
+use Rattle.mg_plain.specs.declared.steps.Direction.{Direction}
+use Rattle.mg_plain.specs.declared.steps.Direction.TheVariants.{Forward, Backward}
+use Rattle.mg_keys.specs.declared.step.Question.TheVariants as question
+use Rattle.mg_keys.specs.declared.step.Step.{Step}
+use Rattle.mg_keys.specs.declared.step.Step.TheVariants.{Pending, Run, Ask, Edge, Cancel}
+use Rattle.mg_keys.specs.declared.step.WindowCommand.TheVariants as window
+use Rattle.mg_prompts.specs.declared.ending.Arrangement.TheVariants as arrangement
+use Rattle.mg_prompts.specs.declared.ending.Deed.{Deed}
+use Rattle.mg_prompts.specs.declared.ending.Deed.TheVariants as deed
+use Rattle.mg_prompts.specs.declared.ending.Ending.{Ending}
+use Rattle.mg_prompts.specs.declared.ending.Next.TheVariants.{Same, Open}
+use Rattle.mg_prompts.specs.declared.ending.Request.TheVariants as request
+use Rattle.mg_prompts.specs.declared.message.Message.TheVariants as message
+use Rattle.mg_prompts.specs.declared.prompt.Asked.TheVariants.{Command, Pattern}
+use Rattle.mg_prompts.specs.declared.prompt.Prompt.{Prompt}
+use Rattle.mg_prompts.specs.declared.prompt.Prompt.TheVariants.{Line, Searching, Quitting}
+use Rattle.mg_prompts.specs.Endings.{ending_of, requesting}
+use Rattle.mg_prompts.specs.Scenes.{Scene}
+
+-- a deed, with the prompt as it is and no message
+abbrev pub does : Deed → Ending
+does deed = ending_of deed Same message.Nothing
+
+-- a prompt that opens, with no message
+abbrev pub opens : Deed → Prompt → Ending
+opens deed prompt = ending_of deed (Open prompt) message.Nothing
+
+abbrev pub undefined : Ending
+undefined = ending_of deed.Idles Same message.UndefinedKey
+
+-- a search that begins
+abbrev pub begun : ℕ → Direction → Prompt
+begun origin direction = Searching (record { origin = origin; direction = direction; pattern = []; found = None })
+
+-- quitting is asked for first where a buffer is changed
+abbrev pub quits : Bool → Ending
+quits changed = if changed then opens deed.Idles Quitting else requesting request.Quit (does deed.Idles)
+
+abbrev pub plain_step : Step → Scene → Ending
+plain_step (Run command n) scene = does (deed.Runs command n)
+plain_step (Ask question.Extended) scene = opens deed.Rests (Line Command [])
+plain_step (Ask question.Replace) scene = opens deed.Rests (Line Pattern [])
+plain_step (Ask question.Forward) scene = opens deed.Rests (begun scene.point Forward)
+plain_step (Ask question.Backward) scene = opens deed.Rests (begun scene.point Backward)
+plain_step (Ask question.Save) scene = requesting request.Save (does deed.Idles)
+plain_step (Ask question.Undo) scene = does deed.Undoes
+plain_step (Ask question.Quit) scene = quits scene.changed
+plain_step (Edge window.ScrollUp) scene = does (deed.Runs (ScrollUp scene.rows) 1)
+plain_step (Edge window.ScrollDown) scene = does (deed.Runs (ScrollDown scene.rows) 1)
+plain_step (Edge window.Split) scene = does (deed.Arranges arrangement.Split)
+plain_step (Edge window.Remove) scene = does (deed.Arranges arrangement.Remove)
+plain_step (Edge window.Only) scene = does (deed.Arranges arrangement.Only)
+plain_step (Edge window.Other) scene = does (deed.Arranges arrangement.Other)
+plain_step (Edge window.Recenter) scene = does (deed.Arranges arrangement.Recenter)
+-- a byte that left a search and waits for more
+plain_step Pending scene = does deed.Rests
+plain_step Cancel scene = ending_of deed.Idles Same message.Quit
+plain_step _ scene = undefined

@@ -1,0 +1,140 @@
+//! What steps lead to.
+ghost use Rattle.std.specs.Prelude.{◌≡◌};
+ghost use Rattle.mg_prompts.specs.Endings as spec;
+
+use crate::message::Message;
+use crate::prompt::Prompt;
+use mg_plain::{Chars, Command};
+
+/// A change of the windows.
+#[derive(Clone, Copy, Debug, PartialEq, Eq)]
+pub enum Arrangement {
+    Split,
+    Remove,
+    Only,
+    Other,
+    Recenter,
+}
+
+/// What is done first.
+#[derive(Debug, Drop)]
+pub enum Deed {
+    /// Nothing.
+    Rests,
+    /// The current buffer is told that a run of commands ends.
+    Idles,
+    /// The current buffer runs a command with its argument.
+    Runs(Command, u16),
+    /// The current buffer undoes.
+    Undoes,
+    /// The windows change, and a run of commands ends.
+    Arranges(Arrangement),
+}
+
+/// The prompt behind a step.
+#[derive(Debug, Drop)]
+pub enum Next {
+    /// It is the one before.
+    Same,
+    Closed,
+    Open(Prompt),
+}
+
+/// What is asked of the files.
+#[derive(Clone, Copy, Debug, PartialEq, Eq)]
+pub enum Request {
+    /// Nothing.
+    Idle,
+    /// That the current buffer be saved.
+    Save,
+    /// That the session end.
+    Quit,
+}
+
+/// What is done, and what follows: the prompt, the message and the request where it is done, and the
+/// prompt where it is refused. Want of memory leaves the prompt as it is.
+#[derive(Debug, Drop)]
+pub struct Ending {
+    pub deed: Deed,
+    pub next: Next,
+    pub message: Message,
+    pub request: Request,
+    pub refused: Next,
+}
+
+/// What a step leads to at an open prompt.
+#[derive(Debug, Drop)]
+pub enum Reaction {
+    Ends(Ending),
+    /// The match at point is replaced, and then the next one is looked for.
+    Replaces {
+        pattern: Chars,
+        put: Chars,
+        count: usize,
+    },
+    /// The search closes, and its pattern is the last one accepted.
+    Accepts,
+}
+
+/// An ending that requests nothing. Where its deed is refused the prompt stays.
+pub(crate) fn ending_of(deed: Deed, next: Next, message: Message) -> Ending
+    ensures { result ≡ spec.ending_of deed next message }
+{
+    Ending {
+        deed,
+        next,
+        message,
+        request: Request::Idle,
+        refused: Next::Same,
+    }
+}
+
+/// Nothing is done.
+pub(crate) fn shows(next: Next, message: Message) -> Reaction
+    ensures { result ≡ spec.shows next message }
+{
+    Reaction::Ends(ending_of(Deed::Rests, next, message))
+}
+
+/// A run of commands ends.
+pub(crate) fn idles(next: Next, message: Message) -> Reaction
+    ensures { result ≡ spec.idles next message }
+{
+    Reaction::Ends(ending_of(Deed::Idles, next, message))
+}
+
+/// A command is run, with the argument 1.
+pub(crate) fn runs(command: Command, next: Next, message: Message) -> Reaction
+    ensures { result ≡ spec.runs command next message }
+{
+    Reaction::Ends(ending_of(Deed::Runs(command, 1), next, message))
+}
+
+/// A key that means nothing at the open prompt, which stays.
+pub(crate) fn unbound() -> Reaction
+    ensures { result ≡ spec.unbound }
+{
+    idles(Next::Same, Message::UndefinedKey)
+}
+
+/// An ending behind which the prompt that was open is closed, whatever comes of it.
+pub(crate) fn closing(ending: Ending) -> Ending
+    ensures { result ≡ spec.closing ending }
+{
+    Ending {
+        deed: ending.deed,
+        next: or_closed(ending.next),
+        message: ending.message,
+        request: ending.request,
+        refused: Next::Closed,
+    }
+}
+
+fn or_closed(next: Next) -> Next
+    ensures { result ≡ spec.or_closed next }
+{
+    match next {
+        Next::Open(prompt) => Next::Open(prompt),
+        Next::Same | Next::Closed => Next::Closed,
+    }
+}

@@ -1,0 +1,57 @@
+//! Messages of the echo line.
+ghost use Rattle.std.specs.Prelude.{◌≡◌, IfOk, string_bytes};
+ghost use Rattle.mg_prompts.specs.Messages.{message_text};
+
+use mg_plain::Notice;
+use std::alloc::{AllocError, Global};
+
+/// What the echo line says. A message stands until the next step that is not pending.
+#[derive(Clone, Copy, Debug, PartialEq, Eq)]
+pub enum Message {
+    /// Nothing: an open prompt shows.
+    Nothing,
+    Quit,
+    UndefinedKey,
+    /// A command, a search or an undo was not done.
+    Refused(Notice),
+    /// The document has no room for more identifiers.
+    BufferFull,
+    /// No counter is left for a new identifier.
+    IdentifiersUsedUp,
+    /// Query-replace has ended, with so many replacements.
+    Replaced(usize),
+    NoSuchCommand,
+    WindowTooSmall,
+    OnlyOneWindow,
+    /// The buffer was saved.
+    Wrote,
+    /// There was nothing to save.
+    NoChanges,
+    /// The last line of the log was cut off, and so many bytes were left out.
+    TornLog(u64),
+    FileFault,
+}
+
+impl Message {
+    /// The message as the echo line shows it, of a buffer with that name.
+    pub fn text(self, alloc: Global, name: &str) -> Result<String, AllocError>
+        ensures { IfOk result (λ text. string_bytes text ≡ message_text self name.now) }
+    {
+        match self {
+            Message::Nothing => Ok(String::new(alloc)),
+            Message::Quit => String::from_str(alloc, "Quit"),
+            Message::UndefinedKey => String::from_str(alloc, "Undefined key"),
+            Message::Refused(notice) => String::from_str(alloc, notice.message()),
+            Message::BufferFull => String::from_str(alloc, "Buffer full"),
+            Message::IdentifiersUsedUp => String::from_str(alloc, "Identifiers used up"),
+            Message::Replaced(count) => format!(in alloc; "Replaced {count}"),
+            Message::NoSuchCommand => String::from_str(alloc, "No such command"),
+            Message::WindowTooSmall => String::from_str(alloc, "Window too small"),
+            Message::OnlyOneWindow => String::from_str(alloc, "Only one window"),
+            Message::Wrote => format!(in alloc; "Wrote {name}"),
+            Message::NoChanges => String::from_str(alloc, "No changes"),
+            Message::TornLog(bytes) => format!(in alloc; "Torn log: {bytes} bytes left out"),
+            Message::FileFault => String::from_str(alloc, "File fault"),
+        }
+    }
+}

@@ -1,0 +1,227 @@
+//! A text under keys, with the prompt that is open: motions and single replacements are done, every
+//! other deed is told.
+use mg_keys::{Keys, Mode, Step};
+use mg_plain::{Command, Direction, find};
+use mg_prompts::{
+    Deed, Ending, Message, Next, Prompt, Reaction, Request, Scene, next_match, plain_step,
+    prompt_step,
+};
+use std::alloc::{AllocError, Global};
+
+/// What stands between two keys. A text with characters counts as changed.
+#[derive(Drop)]
+struct Desk {
+    text: Vec<char>,
+    point: usize,
+    prompt: Option<Prompt>,
+    /// The pattern accepted last.
+    last: Vec<char>,
+    message: Message,
+    /// What was told of the last step.
+    told: String,
+}
+
+fn chars_of(alloc: Global, text: &str) -> Result<Vec<char>, AllocError> {
+    let mut chars = Vec::new(alloc);
+    for c in text.chars() {
+        chars.push(c)?;
+    }
+    Ok(chars)
+}
+
+fn scene(desk: &Desk) -> Scene<'_> {
+    Scene {
+        text: &desk.text,
+        point: desk.point,
+        rows: 5,
+        changed: !desk.text.is_empty(),
+    }
+}
+
+/// Where a search that succeeds puts point.
+fn sought(desk: &Desk, command: &Command) -> usize {
+    match command {
+        Command::SearchForward { pattern, start } => {
+            let pattern = pattern.as_slice();
+            match find(Direction::Forward, &desk.text, pattern, *start) {
+                Some(i) => i + pattern.len(),
+                None => desk.point,
+            }
+        }
+        Command::SearchBackward { pattern, start } => {
+            match find(Direction::Backward, &desk.text, pattern.as_slice(), *start) {
+                Some(i) => i,
+                None => desk.point,
+            }
+        }
+        _ => desk.point,
+    }
+}
+
+/// What is done, in words. Searches show at point.
+fn told(alloc: Global, deed: &Deed, request: Request) -> Result<String, AllocError> {
+    match deed {
+        Deed::Rests if request == Request::Idle => Ok(String::new(alloc)),
+        Deed::Runs(Command::SearchForward { .. } | Command::SearchBackward { .. }, 1) => {
+            Ok(String::new(alloc))
+        }
+        Deed::Runs(Command::ReplaceAll { .. }, 1) => String::from_str(alloc, " all"),
+        Deed::Runs(command, n) => format!(in alloc; " {command:?} {n}"),
+        _ => format!(in alloc; " {deed:?} {request:?}"),
+    }
+}
+
+/// Where point is once something is done.
+fn point_after(desk: &Desk, deed: &Deed) -> usize {
+    match deed {
+        Deed::Runs(command, _) => sought(desk, command),
+        _ => desk.point,
+    }
+}
+
+fn behind(next: Next, open: Option<Prompt>) -> Option<Prompt> {
+    match next {
+        Next::Same => open,
+        Next::Closed => None,
+        Next::Open(prompt) => Some(prompt),
+    }
+}
+
+fn ended(alloc: Global, desk: Desk, ending: Ending) -> Result<Desk, AllocError> {
+    let told = told(alloc, &ending.deed, ending.request)?;
+    let point = point_after(&desk, &ending.deed);
+    Ok(Desk {
+        text: desk.text,
+        point,
+        prompt: behind(ending.next, desk.prompt),
+        last: desk.last,
+        message: ending.message,
+        told,
+    })
+}
+
+/// The match at point is replaced, and the next one is looked for.
+fn replaced(
+    alloc: Global,
+    desk: Desk,
+    pattern: &[char],
+    put: &[char],
+    count: usize,
+) -> Result<Desk, AllocError> {
+    let end = desk.point.min(desk.text.len());
+    let begin = end.saturating_sub(pattern.len());
+    let mut text = Vec::from_slice(alloc, &desk.text[..begin])?;
+    text.extend_from_slice(put)?;
+    let point = text.len();
+    text.extend_from_slice(&desk.text[end..])?;
+    let desk = Desk {
+        text,
+        point,
+        ..desk
+    };
+    let count = count.saturating_add(1);
+    let ending = next_match(alloc, pattern, put, count, &scene(&desk))?;
+    ended(alloc, desk, ending)
+}
+
+/// The search closes, and its pattern is kept.
+fn accepted(alloc: Global, desk: Desk) -> Result<Desk, AllocError> {
+    let last = match &desk.prompt {
+        Some(prompt) => Vec::from_slice(alloc, prompt.answer())?,
+        None => Vec::new(alloc),
+    };
+    Ok(Desk {
+        text: desk.text,
+        point: desk.point,
+        prompt: None,
+        last,
+        message: Message::Nothing,
+        told: String::new(alloc),
+    })
+}
+
+fn stepped(alloc: Global, desk: Desk, step: Step) -> Result<Desk, AllocError> {
+    let reaction = match &desk.prompt {
+        None => Reaction::Ends(plain_step(alloc, step, &scene(&desk))),
+        Some(prompt) => prompt_step(alloc, prompt, &step, &scene(&desk), &desk.last)?,
+    };
+    match reaction {
+        Reaction::Ends(ending) => ended(alloc, desk, ending),
+        Reaction::Replaces {
+            pattern,
+            put,
+            count,
+        } => replaced(alloc, desk, pattern.as_slice(), put.as_slice(), count),
+        Reaction::Accepts => accepted(alloc, desk),
+    }
+}
+
+fn mode(desk: &Desk) -> Mode {
+    match &desk.prompt {
+        Some(prompt) => prompt.mode(),
+        None => Mode::Plain,
+    }
+}
+
+fn typed(alloc: Global, desk: Desk, keys: &[u8]) -> Result<Desk, AllocError> {
+    let mut desk = desk;
+    let mut reader = Keys::new();
+    for byte in keys {
+        let step = reader.feed(*byte);
+        if step != Step::Pending {
+            desk = stepped(alloc, desk, step)?;
+            reader.enter(mode(&desk));
+        }
+    }
+    Ok(desk)
+}
+
+/// The desk in one line: point in the text, the prompt with its answer, the message, what was told.
+fn shown(alloc: Global, desk: &Desk) -> Result<String, AllocError> {
+    let mut line = String::new(alloc);
+    for c in &desk.text[..desk.point.min(desk.text.len())] {
+        line.push(*c)?;
+    }
+    line.push('|')?;
+    for c in &desk.text[desk.point.min(desk.text.len())..] {
+        line.push(*c)?;
+    }
+    if let Some(prompt) = &desk.prompt {
+        line.push_str(" / ")?;
+        line.push_str(prompt.label())?;
+        for c in prompt.answer() {
+            line.push(*c)?;
+        }
+    }
+    let message = desk.message.text(alloc, "notes")?;
+    if !message.is_empty() {
+        line.push_str(" / ")?;
+        line.push_str(&message)?;
+    }
+    if !desk.told.is_empty() {
+        line.push_str(" /")?;
+        line.push_str(&desk.told)?;
+    }
+    Ok(line)
+}
+
+fn line_after(alloc: Global, text: &str, point: usize, keys: &str) -> Result<String, AllocError> {
+    let desk = Desk {
+        text: chars_of(alloc, text)?,
+        point,
+        prompt: None,
+        last: Vec::new(alloc),
+        message: Message::Nothing,
+        told: String::new(alloc),
+    };
+    let desk = typed(alloc, desk, keys.as_bytes())?;
+    shown(alloc, &desk)
+}
+
+/// Whether keys lead from a text with that point to such a line.
+pub fn shows(alloc: Global, text: &str, point: usize, keys: &str, line: &str) -> bool {
+    match line_after(alloc, text, point, keys) {
+        Ok(text) => text.as_str() == line,
+        Err(_) => false,
+    }
+}

@@ -1,0 +1,41 @@
+//! The texts of messages.
+use mg_plain::Notice;
+use mg_prompts::Message;
+use std::alloc::Global;
+
+fn reads(alloc: Global, message: Message, expected: &str) -> bool {
+    match message.text(alloc, "notes") {
+        Ok(text) => text.as_str() == expected,
+        Err(_) => false,
+    }
+}
+
+#[test]
+fn messages_are_read(rt: HostRuntime) {
+    for (message, text) in &[
+        (Message::Nothing, ""),
+        (Message::Quit, "Quit"),
+        (Message::UndefinedKey, "Undefined key"),
+        (
+            Message::Refused(Notice::BeginningOfBuffer),
+            "Beginning of buffer",
+        ),
+        (Message::Refused(Notice::EndOfBuffer), "End of buffer"),
+        (Message::Refused(Notice::NoMark), "No mark set"),
+        (Message::Refused(Notice::SearchFailed), "Search failed"),
+        (Message::Refused(Notice::NothingToUndo), "Nothing to undo"),
+        (Message::Refused(Notice::Memory), "Out of memory"),
+        (Message::BufferFull, "Buffer full"),
+        (Message::IdentifiersUsedUp, "Identifiers used up"),
+        (Message::Replaced(3), "Replaced 3"),
+        (Message::NoSuchCommand, "No such command"),
+        (Message::WindowTooSmall, "Window too small"),
+        (Message::OnlyOneWindow, "Only one window"),
+        (Message::Wrote, "Wrote notes"),
+        (Message::NoChanges, "No changes"),
+        (Message::TornLog(19), "Torn log: 19 bytes left out"),
+        (Message::FileFault, "File fault"),
+    ] {
+        assert!(rt; reads(rt.alloc(), *message, text), "{text}");
+    }
+}
