@@ -72,7 +72,7 @@ pub enum Reaction {
         put: Chars,
         count: usize,
     },
-    /// The search closes, and its pattern is the last one accepted.
+    /// The search closes, and its pattern, unless it is empty, is the last one accepted.
     Accepts,
 }
 

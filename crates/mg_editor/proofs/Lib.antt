@@ -1,0 +1,4 @@
+pub mod Results
+pub mod Current
+pub mod Keeping
+pub mod Steps

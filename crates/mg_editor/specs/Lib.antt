@@ -1,0 +1,8 @@
+pub mod Buffers
+pub mod Workspaces
+pub mod Deeds
+pub mod Dialogues
+pub mod Editors
+pub mod Presses
+pub mod Settings
+pub mod Opening

@@ -1,0 +1,161 @@
+//! What is talked with the user: the keys, the open prompt, the message.
+ghost use Rattle.std.specs.Prelude.{◌≡◌, [], IfOk, is_some};
+ghost use Rattle.mg_editor.specs.Dialogues as spec;
+ghost use Rattle.mg_editor.specs.Opening.{Begins};
+
+use mg_keys::{Keys, Mode, Step};
+use mg_plain::Chars;
+use mg_prompts::{Message, Next, Prompt, Reaction, Scene, Search, prompt_step};
+use std::alloc::{AllocError, Global};
+use std::marker::Model;
+
+/// The keys are always read as the open prompt wants it.
+#[derive(Drop)]
+pub(crate) struct Dialogue {
+    keys: Keys,
+    pub(crate) prompt: Option<Prompt>,
+    pub(crate) message: Message,
+    /// The pattern that was accepted last.
+    pub(crate) last: Chars,
+}
+
+impl Model for Dialogue {
+    ghost use Rattle.std.specs.Prelude.{◌≡◌};
+    ghost use Rattle.mg_editor.specs.Dialogues as spec;
+
+    ghost Value = { spec.Dialogue };
+
+    ghost view = { λ d. record {
+      keys = d.keys;
+      prompt = d.prompt;
+      message = d.message;
+      last = d.last;
+    } };
+
+    ghost invariant = { λ d. d.keys.mode ≡ spec.mode_of d.prompt };
+}
+
+fn mode_of(prompt: &Option<Prompt>) -> Mode
+    ensures { result ≡ spec.mode_of prompt.now }
+{
+    match prompt {
+        None => Mode::Plain,
+        Some(prompt) => prompt.mode(),
+    }
+}
+
+impl Dialogue {
+    /// No prompt is open, and this is said. Takes no memory.
+    pub(crate) fn new(alloc: Global, message: Message) -> Dialogue
+        ensures { Begins message result }
+    {
+        Dialogue {
+            keys: Keys::new(),
+            prompt: None,
+            message,
+            last: Chars::new(alloc),
+        }
+    }
+
+    /// What a byte leads to, behind those before it.
+    pub(crate) fn feed(&mut self, byte: u8) -> Step
+        ensures { spec.Fed byte result self.old self.new }
+    {
+        self.keys.feed(byte)
+    }
+
+    /// The prompt and the message behind a step. The key sequence begun is forgotten.
+    pub(crate) fn show(&mut self, next: Next, message: Message)
+        ensures { spec.Shown next message self.old self.new }
+    {
+        match next {
+            Next::Same => {}
+            Next::Closed => self.prompt = None,
+            Next::Open(prompt) => self.prompt = Some(prompt),
+        }
+        self.keys.enter(mode_of(&self.prompt));
+        self.message = message;
+    }
+
+    /// The key sequence begun is forgotten.
+    pub(crate) fn forget(&mut self)
+        ensures { spec.Forgot self.old self.new }
+    {
+        self.keys.enter(mode_of(&self.prompt));
+    }
+
+    /// An open search is closed, and given back.
+    pub(crate) fn take_search(&mut self) -> Option<Search>
+        ensures { spec.TookSearch result self.old self.new }
+    {
+        match self.prompt.take() {
+            Some(Prompt::Searching(search)) => {
+                self.keys.enter(Mode::Plain);
+                Some(search)
+            }
+            other => {
+                self.prompt = other;
+                None
+            }
+        }
+    }
+
+    /// The search is open again.
+    pub(crate) fn reopen(&mut self, search: Search)
+        ensures { spec.Reopened search self.old self.new }
+    {
+        self.prompt = Some(Prompt::Searching(search));
+        self.keys.enter(Mode::Search);
+    }
+
+    /// The pattern of a search becomes the last one accepted, unless it is empty.
+    pub(crate) fn accept(&mut self, search: Search)
+        ensures { self.new ≡ record self.old { last = spec.or_last search.pattern self.old.last } }
+    {
+        let last = std::mem::replace(&mut self.last, search.pattern);
+        if self.last.as_slice().is_empty() {
+            self.last = last;
+        }
+    }
+
+    /// Nothing is said any more.
+    pub(crate) fn fall_silent(&mut self)
+        ensures { self.new ≡ record self.old { message = Message.Nothing } }
+    {
+        self.message = Message::Nothing;
+    }
+
+    /// The prompt closes, and an open search is accepted.
+    pub(crate) fn accept_search(&mut self)
+        ensures { spec.AcceptedSearch self.old self.new }
+    {
+        match self.take_search() {
+            Some(search) => {
+                self.accept(search);
+                self.show(Next::Closed, Message::Nothing);
+            }
+            None => self.show(Next::Closed, Message::Nothing),
+        }
+    }
+
+    pub(crate) fn has_prompt(&self) -> bool
+        ensures { result ≡ is_some self.now.prompt }
+    {
+        self.prompt.is_some()
+    }
+
+    /// What a step leads to at the open prompt.
+    pub(crate) fn react(
+        &self,
+        alloc: Global,
+        step: &Step,
+        scene: &Scene<'_>,
+    ) -> Result<Reaction, AllocError>
+        ensures { IfOk result (λ reaction. spec.IsReaction reaction step.now scene.now self.now) }
+    {
+        match &self.prompt {
+            Some(prompt) => prompt_step(alloc, prompt, step, scene, self.last.as_slice()),
+            None => Ok(Reaction::Accepts),
+        }
+    }
+}

@@ -1,0 +1,39 @@
+//! The state of the editor.
+ghost use Rattle.std.specs.Prelude.{◌≡◌};
+
+use crate::dialogue::Dialogue;
+use crate::workspace::Workspace;
+use mg_prompts::Message;
+use rga_store::TextStore;
+use std::alloc::Global;
+use std::marker::Model;
+
+/// An editor, over any store: what is worked on, and what is talked with the user.
+#[derive(Drop)]
+pub struct Editor<S: TextStore> {
+    pub(crate) alloc: Global,
+    pub(crate) work: Workspace<S>,
+    pub(crate) talk: Dialogue,
+}
+
+impl<S: TextStore> Model for Editor<S> {
+    ghost use Rattle.std.specs.Coded.{codes, coded_ℕ};
+    ghost use Rattle.mg_files.specs.OpenState.{open_state_code};
+    ghost use Rattle.mg_screen.specs.Layout.{layout_code};
+    ghost use Rattle.mg_editor.specs.Editors as spec;
+
+    ghost Value = { spec.Editor };
+
+    ghost coded = { Prim.hlevel (codes, open_state_code, layout_code coded_ℕ) };
+
+    ghost view = { λ e. record { work = e.work; talk = e.talk } };
+}
+
+impl<S: TextStore> Editor<S> {
+    /// What the echo line says, where it does not show an open prompt. Takes no memory.
+    pub fn message(&self) -> Message
+        ensures { result ≡ self.now.talk.message }
+    {
+        self.talk.message
+    }
+}

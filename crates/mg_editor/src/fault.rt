@@ -1,0 +1,74 @@
+//! Why a press was not done.
+ghost use Rattle.std.specs.Prelude.{◌≡◌};
+ghost use Rattle.mg_editor.specs.Deeds as spec;
+
+use mg_buffer::BufferFault;
+use mg_prompts::Message;
+use mg_screen::WindowFault;
+use rga_ops::Refusal;
+use std::alloc::AllocError;
+
+/// Why the editor did not do what it was asked.
+#[derive(Clone, Copy, Debug, PartialEq, Eq)]
+pub enum Fault {
+    /// A growth of memory was refused.
+    Memory,
+}
+
+/// Why a deed was not done.
+#[derive(Clone, Copy, Debug, PartialEq, Eq)]
+pub(crate) enum DeedFault {
+    /// It was refused, for the reason that the message gives.
+    Refused(Message),
+    /// A growth of memory was refused.
+    Memory,
+}
+
+/// What a buffer answered, as what came of a deed.
+pub(crate) fn of_buffer(answer: Result<(), BufferFault>) -> Result<(), DeedFault>
+    ensures { result ≡ spec.of_buffer answer }
+{
+    match answer {
+        Ok(()) => Ok(()),
+        Err(BufferFault::Notice(notice)) => Err(DeedFault::Refused(Message::Refused(notice))),
+        Err(BufferFault::Store(Refusal::Full)) => Err(DeedFault::Refused(Message::BufferFull)),
+        Err(BufferFault::Store(Refusal::Clock)) => {
+            Err(DeedFault::Refused(Message::IdentifiersUsedUp))
+        }
+        Err(BufferFault::Store(_)) => Err(DeedFault::Memory),
+    }
+}
+
+/// What the windows answered, as what came of a deed.
+pub(crate) fn of_windows(answer: Result<(), WindowFault>) -> Result<(), DeedFault>
+    ensures { result ≡ spec.of_windows answer }
+{
+    match answer {
+        Ok(()) => Ok(()),
+        Err(WindowFault::TooSmall) => Err(DeedFault::Refused(Message::WindowTooSmall)),
+        Err(WindowFault::OnlyOne) => Err(DeedFault::Refused(Message::OnlyOneWindow)),
+        Err(WindowFault::Memory) => Err(DeedFault::Memory),
+    }
+}
+
+impl From<AllocError> for Fault {
+    ghost use Rattle.std.specs.Prelude.{◌≡◌};
+    ghost use Rattle.mg_editor.specs.declared.fault.Fault.TheVariants.{Memory};
+
+    ghost from_gives = { λ _ fault. fault ≡ Memory };
+
+    fn from(_: AllocError) -> Fault {
+        Fault::Memory
+    }
+}
+
+impl From<Refusal> for Fault {
+    ghost use Rattle.std.specs.Prelude.{◌≡◌};
+    ghost use Rattle.mg_editor.specs.declared.fault.Fault.TheVariants.{Memory};
+
+    ghost from_gives = { λ _ fault. fault ≡ Memory };
+
+    fn from(_: Refusal) -> Fault {
+        Fault::Memory
+    }
+}

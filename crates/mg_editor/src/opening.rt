@@ -1,0 +1,76 @@
+//! An editor that opens.
+ghost use Rattle.std.specs.Prelude.{◌≡◌, ◌≢◌, Err, IfOk, IfErr};
+ghost use Rattle.rga_ops.specs.Prelude.{text};
+ghost use Rattle.mg_files.specs.declared.fault.LoadFault.TheVariants.{Memory};
+ghost use Rattle.mg_editor.specs.Opening as spec;
+
+use crate::buffers::Buffers;
+use crate::dialogue::Dialogue;
+use crate::editor::Editor;
+use crate::settings::Settings;
+use crate::workspace::Workspace;
+use mg_buffer::Memo;
+use mg_files::{Found, LoadFault, Opened};
+use mg_prompts::Message;
+use mg_screen::Windows;
+use rga_exchange::LogEnd;
+use rga_ops::Refusal;
+use rga_store::TextStore;
+use std::alloc::Global;
+
+/// What is said of a log that was loaded.
+fn message_of(end: LogEnd) -> Message
+    ensures { result ≡ spec.message_of end }
+{
+    match end {
+        LogEnd::Torn(bytes) => Message::TornLog(bytes),
+        LogEnd::Whole | LogEnd::Bare => Message::Nothing,
+    }
+}
+
+impl<S: TextStore> Workspace<S> {
+    /// One buffer in one window, from its first line on.
+    fn new(alloc: Global, settings: &Settings, opened: Opened<S>) -> Result<Workspace<S>, LoadFault>
+        ensures exact { IfOk result (λ w. w ≡ spec.workspace settings.now opened) }
+        ensures memory { IfErr result (λ e. e ≡ Memory) }
+    {
+        let buffers = Buffers::new(alloc, opened)?;
+        let Ok(windows) = Windows::new(alloc, settings.rows(), 0) else {
+            return Err(LoadFault::Memory);
+        };
+        Ok(Workspace {
+            alloc,
+            buffers,
+            memo: Memo::new(alloc),
+            windows,
+            fill: settings.values.fill,
+        })
+    }
+}
+
+impl<S: TextStore> Editor<S> {
+    /// An editor with the buffer that the settings name, by what was found under its name: the
+    /// operations of its log, nothing unsaved, or else the characters of its text, all unsaved, or
+    /// nothing. Point is at the front of it, in one window; a log that was torn is told.
+    ///
+    /// Faults: those of `Opened::load`.
+    pub fn new(alloc: Global, settings: &Settings, found: Found) -> Result<Editor<S>, LoadFault>
+        ensures { result ≢ Err Memory → spec.Opens settings.now found result }
+    {
+        let values = &settings.values;
+        let name = String::from_str(alloc, values.name.as_str())?;
+        let (opened, end) = Opened::load(alloc, name, values.replica, values.limit, found)?;
+        Ok(Editor {
+            alloc,
+            work: Workspace::new(alloc, settings, opened)?,
+            talk: Dialogue::new(alloc, message_of(end)),
+        })
+    }
+
+    /// The text of the current buffer. `Memory` alone.
+    pub fn text(&self) -> Result<Vec<char>, Refusal>
+        ensures { IfOk result (λ chars. spec.IsText self.now chars.items) }
+    {
+        rga_walk::text(self.alloc, self.work.buffers.current().buffer.store())
+    }
+}

@@ -1,0 +1,272 @@
+//! The editor, pressed byte by byte.
+ghost use Rattle.std.specs.Prelude.{◌≡◌, Some, Ok, Err, IfOk, OnOk, OnErr};
+ghost use Rattle.mg_prompts.specs.declared.prompt.Prompt.{Prompt};
+ghost use Rattle.mg_editor.specs.Deeds.{Keeps};
+ghost use Rattle.mg_editor.specs.Presses as spec;
+ghost use Rattle.mg_editor.specs.Workspaces.{HasList};
+ghost use Rattle.mg_editor.specs.declared.fault.Fault.TheVariants.{Memory};
+
+use crate::editor::Editor;
+use crate::fault::{DeedFault, Fault};
+use mg_keys::Step;
+use mg_plain::{Chars, Command, Notice};
+use mg_prompts::{Ending, Message, Next, Reaction, Request, Search, next_match, plain_step};
+use rga_store::TextStore;
+use std::alloc::{AllocError, Global};
+
+impl<S: TextStore> Editor<S> {
+    /// A step where no prompt is open.
+    fn take_plain(&mut self, step: Step) -> Result<Request, Fault>
+        ensures plainly { spec.Plainly step self.old self.new result }
+        ensures refused { OnErr result (spec.IsRefused self.old self.new) }
+    {
+        match self.work.list() {
+            Ok(()) => {
+                let ending = plain_step(self.alloc, step, &self.work.scene());
+                self.end(ending)
+            }
+            Err(_) => self.run_out(),
+        }
+    }
+
+    /// Want of memory: the key sequence begun is forgotten.
+    fn run_out(&mut self) -> Result<Request, Fault>
+        ensures ran_out { spec.RanOut self.old self.new result }
+        ensures work { self.new.work ≡ self.old.work }
+    {
+        self.talk.forget();
+        Err(Fault::Memory)
+    }
+
+    /// Does the deed of an ending, and tells what came of it.
+    fn end(&mut self, ending: Ending) -> Result<Request, Fault>
+        requires { HasList self.old.work }
+        ensures ended { spec.Ended ending self.old self.new result }
+        ensures refused { OnErr result (spec.IsRefused self.old self.new) }
+    {
+        let Ending {
+            deed,
+            next,
+            message,
+            request,
+            refused,
+        } = ending;
+        match self.work.do_deed(&deed) {
+            Ok(()) => self.show(next, message, request),
+            Err(fault) => self.refuse(fault, refused),
+        }
+    }
+
+    /// Tells what was done.
+    fn show(&mut self, next: Next, message: Message, request: Request) -> Result<Request, Fault>
+        ensures told { spec.Shows next message request self.old.talk self.new.talk result }
+        ensures work { self.new.work ≡ self.old.work }
+    {
+        self.talk.show(next, message);
+        Ok(request)
+    }
+
+    /// Tells why a deed was refused. Want of memory leaves prompt and message as they are.
+    fn refuse(&mut self, fault: DeedFault, refused: Next) -> Result<Request, Fault>
+        ensures told { spec.Refuses fault refused self.old.talk self.new.talk result }
+        ensures work { self.new.work ≡ self.old.work }
+    {
+        match fault {
+            DeedFault::Refused(message) => self.show(refused, message, Request::Idle),
+            DeedFault::Memory => self.run_out(),
+        }
+    }
+
+    /// A step at an open prompt.
+    fn take_prompted(&mut self, step: &Step) -> Result<Request, Fault>
+        ensures prompted { (p : Prompt) → self.old.talk.prompt ≡ Some p →
+            spec.Prompted p step.now self.old self.new result }
+        ensures refused { OnErr result (spec.IsRefused self.old self.new) }
+    {
+        match self.work.list() {
+            Ok(()) => self.react(step),
+            Err(_) => self.run_out(),
+        }
+    }
+
+    /// What a step leads to at the open prompt, where the current buffer is listed.
+    fn react(&mut self, step: &Step) -> Result<Request, Fault>
+        requires { HasList self.old.work }
+        ensures reacts { (p : Prompt) → self.old.talk.prompt ≡ Some p →
+            spec.PromptedHere p step.now self.old self.new result }
+        ensures refused { OnErr result (spec.IsRefused self.old self.new) }
+    {
+        match self.talk.react(self.alloc, step, &self.work.scene()) {
+            Ok(reaction) => self.follow(reaction),
+            Err(_) => self.run_out(),
+        }
+    }
+
+    /// What a reaction asks for.
+    fn follow(&mut self, reaction: Reaction) -> Result<Request, Fault>
+        requires { HasList self.old.work }
+        ensures follows { spec.Follows reaction self.old self.new result }
+        ensures refused { OnErr result (spec.IsRefused self.old self.new) }
+    {
+        match reaction {
+            Reaction::Ends(ending) => self.end(ending),
+            Reaction::Replaces {
+                pattern,
+                put,
+                count,
+            } => self.replace(pattern.as_slice(), put.as_slice(), count),
+            Reaction::Accepts => Ok(self.accept()),
+        }
+    }
+
+    /// An open search is accepted.
+    fn accept(&mut self) -> Request
+        ensures { spec.Accepted self.old self.new (Ok result) }
+    {
+        self.talk.accept_search();
+        Request::Idle
+    }
+
+    /// Replaces the match at point, and looks for the next one.
+    fn replace(&mut self, pattern: &[char], put: &[char], count: usize) -> Result<Request, Fault>
+        ensures replaced { spec.Replaced pattern.now put.now count self.old self.new result }
+        ensures refused { OnErr result (spec.IsRefused self.old self.new) }
+    {
+        match self.replace_one(pattern, put) {
+            Ok(()) => Ok(self.go_on(pattern, put, count.saturating_add(1))),
+            Err(fault) => self.refuse(fault, Next::Same),
+        }
+    }
+
+    fn replace_one(&mut self, pattern: &[char], put: &[char]) -> Result<(), DeedFault>
+        ensures one { spec.ReplacesOne pattern.now put.now self.old.work self.new.work result }
+        ensures talk { self.new.talk ≡ self.old.talk }
+    {
+        match replacement(self.alloc, pattern, put) {
+            Ok(command) => self.work.run(&command, 1),
+            Err(_) => Err(DeedFault::Memory),
+        }
+    }
+
+    /// Looks for the next match. Where that finds no memory, query-replace ends.
+    fn go_on(&mut self, pattern: &[char], put: &[char], count: usize) -> Request
+        ensures { spec.GoesOn pattern.now put.now count self.old self.new (Ok result) }
+    {
+        match self.find_next(pattern, put, count) {
+            Ok(request) => request,
+            Err(_) => {
+                self.talk
+                    .show(Next::Closed, Message::Refused(Notice::Memory));
+                Request::Idle
+            }
+        }
+    }
+
+    fn find_next(&mut self, pattern: &[char], put: &[char], count: usize) -> Result<Request, Fault>
+        ensures found { OnOk result
+            (spec.Found pattern.now put.now count self.old self.new result) }
+        ensures refused { OnErr result (spec.IsRefused self.old self.new) }
+    {
+        match self.work.list() {
+            Ok(()) => self.end_or_ask(pattern, put, count),
+            Err(_) => self.run_out(),
+        }
+    }
+
+    fn end_or_ask(&mut self, pattern: &[char], put: &[char], count: usize) -> Result<Request, Fault>
+        requires { HasList self.old.work }
+        ensures found { OnOk result
+            (spec.FoundHere pattern.now put.now count self.old self.new result) }
+        ensures refused { OnErr result (spec.IsRefused self.old self.new) }
+    {
+        match next_match(self.alloc, pattern, put, count, &self.work.scene()) {
+            Ok(ending) => self.end(ending),
+            Err(_) => self.run_out(),
+        }
+    }
+
+    /// A step that neither waits for more bytes nor leaves a search.
+    fn take_step(&mut self, step: Step) -> Result<Request, Fault>
+        ensures stepped { spec.Stepped step self.old self.new result }
+        ensures refused { OnErr result (spec.IsRefused self.old self.new) }
+    {
+        if self.talk.has_prompt() {
+            self.take_prompted(&step)
+        } else {
+            self.take_plain(step)
+        }
+    }
+
+    /// A byte that leaves the search that is open.
+    fn leave(&mut self, byte: u8) -> Result<Request, Fault>
+        ensures leaves { spec.Leaves byte self.old self.new result }
+        ensures refused { OnErr result (spec.IsAsBefore self.old self.new) }
+    {
+        match self.talk.take_search() {
+            Some(search) => {
+                let step = self.talk.feed(byte);
+                self.leave_by(search, step)
+            }
+            None => self.take_step(Step::Unbound),
+        }
+    }
+
+    /// The step of a byte that left a search.
+    fn leave_by(&mut self, search: Search, step: Step) -> Result<Request, Fault>
+        ensures left { spec.LeftBy search step self.old self.new result }
+        ensures refused { OnErr result (spec.LeavesOpen search self.old self.new) }
+    {
+        match step {
+            Step::Pending => {
+                self.talk.accept(search);
+                self.talk.fall_silent();
+                Ok(Request::Idle)
+            }
+            step => self.leave_plainly(search, step),
+        }
+    }
+
+    fn leave_plainly(&mut self, search: Search, step: Step) -> Result<Request, Fault>
+        ensures left { spec.LeftPlainly search step self.old self.new result }
+        ensures refused { OnErr result (spec.LeavesOpen search self.old self.new) }
+    {
+        match self.take_plain(step) {
+            Ok(request) => {
+                self.talk.accept(search);
+                Ok(request)
+            }
+            Err(fault) => {
+                self.talk.reopen(search);
+                Err(fault)
+            }
+        }
+    }
+
+    /// Presses a byte: it goes on with a key sequence, or it ends one, whose step is taken. Where no
+    /// prompt is open a command runs in the current buffer; at an open prompt the answer, the search
+    /// or query-replace goes on. A byte that leaves a search does what it does without one.
+    ///
+    /// The only fault is `Memory`: nothing changed then, but that the key sequence that had begun is
+    /// forgotten.
+    pub fn press(&mut self, byte: u8) -> Result<Request, Fault>
+        ensures pressed { spec.Pressed byte self.old self.new result }
+        ensures refused { OnErr result (spec.IsAsBefore self.old self.new) }
+    {
+        let step = self.talk.feed(byte);
+        match step {
+            Step::Pending => Ok(Request::Idle),
+            Step::Leave => self.leave(byte),
+            step => self.take_step(step),
+        }
+    }
+}
+
+/// The command that replaces the match at point.
+fn replacement(alloc: Global, pattern: &[char], put: &[char]) -> Result<Command, AllocError>
+    ensures { IfOk result (λ command. command ≡ Command.ReplaceOne pattern.now put.now) }
+{
+    Ok(Command::ReplaceOne {
+        pattern: Chars::from_slice(alloc, pattern)?,
+        put: Chars::from_slice(alloc, put)?,
+    })
+}
