@@ -1,3 +1,4 @@
+pub mod BegunLaws
 pub mod HighLaws
 pub mod NameLaws
 pub mod TextLaws

@@ -1,6 +1,7 @@
 -- Key sequences that have begun.
-use Rattle.std.specs.Prelude.{◌≡◌, ℕ, List, [], ◌∷◌, ◌++◌}
+use Rattle.std.specs.Prelude.{◌≡◌, ℕ, List, [], ◌∷◌, ◌++◌, Bool, true, false, ◌||◌}
 use Rattle.mg_keys.specs.declared.argument.Argument.{Argument}
+use Rattle.mg_keys.specs.declared.argument.Argument.TheVariants.{Absent, Multiplied, Typed}
 use Rattle.mg_keys.specs.declared.bytes.TheConstants.{QUOTE, CONTROL_X, ESCAPE}
 use Rattle.mg_keys.specs.declared.sequence.Sequence.{Sequence}
 use Rattle.mg_keys.specs.declared.sequence.Sequence.TheVariants.{Start, Escape, ControlX, Quote, Character}
@@ -48,3 +49,31 @@ abbrev pub Answers : Meaning → List ℕ → Step → KeyState → Type 0
 Answers (whole s) bytes answer keys = (answer ≡ s) × HasBegun keys []
 Answers beginning bytes answer keys = (answer ≡ step.Pending) × HasBegun keys bytes
 Answers no_key bytes answer keys = (answer ≡ step.Unbound) × HasBegun keys []
+
+-- ---- whether more is wanted
+
+abbrev pub is_given : Argument → Bool
+is_given Absent = false
+is_given (Multiplied n) = true
+is_given (Typed n) = true
+
+abbrev pub is_started : Sequence → Bool
+is_started Start = false
+is_started Escape = true
+is_started ControlX = true
+is_started Quote = true
+is_started (Character begun) = true
+
+abbrev pub is_character : Sequence → Bool
+is_character Start = false
+is_character Escape = false
+is_character ControlX = false
+is_character Quote = false
+is_character (Character begun) = true
+
+-- behind an argument part and the beginning of a sequence, in that mode
+abbrev pub waits : Mode → Argument → Sequence → Bool
+waits mode.Plain a sequence = is_given a || is_started sequence
+waits mode.Prompt a sequence = is_character sequence
+waits mode.Search a sequence = is_character sequence
+waits mode.Query a sequence = false

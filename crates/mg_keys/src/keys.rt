@@ -1,6 +1,7 @@
 //! Keys: bytes that become steps.
-ghost use Rattle.std.specs.Prelude.{◌≡◌, ◌∷◌, [], ◌++◌, List, ℕ};
+ghost use Rattle.std.specs.Prelude.{◌≡◌, ◌↔◌, ◌∷◌, [], ◌++◌, List, ℕ, false};
 ghost use Rattle.mg_keys.specs.Advance.{Advances};
+ghost use Rattle.mg_keys.specs.Begun as spec;
 ghost use Rattle.mg_keys.specs.Begun.{HasBegun, Answers};
 ghost use Rattle.mg_keys.specs.Meaning.{meaning};
 
@@ -45,6 +46,13 @@ impl Keys {
         self.mode
     }
 
+    /// Whether some bytes of a key sequence were read, and it is not whole yet. Takes no memory.
+    pub fn has_begun(&self) -> bool
+        ensures { (result ≡ false) ↔ HasBegun self.now [] }
+    {
+        wait(self.mode, self.argument, self.sequence)
+    }
+
     /// The next byte is read by this mode. What had begun of a sequence is forgotten.
     pub fn enter(&mut self, mode: Mode)
         ensures mode { self.new.mode ≡ mode }
@@ -78,6 +86,29 @@ impl Keys {
             }
         }
     }
+}
+
+/// Whether more bytes are wanted behind these.
+fn wait(mode: Mode, argument: Argument, sequence: Sequence) -> bool
+    ensures { result ≡ spec.waits mode argument sequence }
+{
+    match mode {
+        Mode::Plain => argument != Argument::Absent || is_started(sequence),
+        Mode::Prompt | Mode::Search => is_character(sequence),
+        Mode::Query => false,
+    }
+}
+
+fn is_started(sequence: Sequence) -> bool
+    ensures { result ≡ spec.is_started sequence }
+{
+    !matches!(sequence, Sequence::Start)
+}
+
+fn is_character(sequence: Sequence) -> bool
+    ensures { result ≡ spec.is_character sequence }
+{
+    matches!(sequence, Sequence::Character(_))
 }
 
 /// Keys of a mode, behind a whole sequence.
