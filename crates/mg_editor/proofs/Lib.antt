@@ -2,3 +2,4 @@ pub mod Results
 pub mod Current
 pub mod Keeping
 pub mod Steps
+pub mod Saves

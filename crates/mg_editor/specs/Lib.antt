@@ -4,5 +4,5 @@ pub mod Deeds
 pub mod Dialogues
 pub mod Editors
 pub mod Presses
-pub mod Settings
 pub mod Opening
+pub mod Carrying

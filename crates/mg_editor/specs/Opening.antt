@@ -14,7 +14,7 @@ use Rattle.mg_prompts.specs.declared.message.Message.TheVariants.{Nothing, TornL
 use Rattle.mg_screen.specs.Layout.{layout, window}
 use Rattle.mg_editor.specs.Dialogues.{Dialogue, IsFresh}
 use Rattle.mg_editor.specs.Editors.{Editor}
-use Rattle.mg_editor.specs.Settings.{Values}
+use Rattle.mg_settings.specs.Settings.{Values}
 use Rattle.mg_editor.specs.Workspaces.{Workspace, IsCurrent}
 
 -- one buffer in one window, from its first line on

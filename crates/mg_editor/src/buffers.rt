@@ -1,9 +1,11 @@
 //! The open buffers, of which one is current.
 ghost use Rattle.std.specs.Prelude.{[], ◌∷◌, IfOk, ◌≡◌, ◌<◌, ◌≤◌, true, Some, length, vec_len, slice_get, OnOk, OnErr, IfErr};
 ghost use Rattle.mg_editor.specs.Buffers as spec;
+ghost use Rattle.mg_editor.specs.Carrying.{CurrentBecomes, SavesTo};
+ghost use Rattle.mg_files.specs.Calls.{failures_after};
 
-use mg_buffer::{Buffer, BufferFault, Memo};
-use mg_files::Opened;
+use mg_buffer::{BufferFault, Memo};
+use mg_files::{Opened, Port, PortFault};
 use mg_plain::Command;
 use rga_ops::Refusal;
 use rga_store::TextStore;
@@ -93,5 +95,14 @@ impl<S: TextStore> Buffers<S> {
         ensures { spec.AtCurrent (λ b d. spec.IdlesTo b memo.old d memo.new) self.old self.new }
     {
         self.all[self.current].buffer.idle(memo);
+    }
+
+    /// The current buffer is saved.
+    pub(crate) fn save<P: Port>(&mut self, port: &mut P) -> Result<bool, PortFault>
+        ensures saves { CurrentBecomes
+            (SavesTo result (P.calls port.old) (P.calls port.new)) self.old self.new }
+        ensures device { P.failures port.new ≡ failures_after result (P.failures port.old) }
+    {
+        self.all[self.current].save(port)
     }
 }

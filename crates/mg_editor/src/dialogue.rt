@@ -1,5 +1,6 @@
 //! What is talked with the user: the keys, the open prompt, the message.
-ghost use Rattle.std.specs.Prelude.{◌≡◌, [], IfOk, is_some};
+ghost use Rattle.std.specs.Prelude.{◌≡◌, ◌↔◌, [], false, IfOk, is_some};
+ghost use Rattle.mg_keys.specs.Begun.{HasBegun};
 ghost use Rattle.mg_editor.specs.Dialogues as spec;
 ghost use Rattle.mg_editor.specs.Opening.{Begins};
 
@@ -123,6 +124,20 @@ impl Dialogue {
         ensures { self.new ≡ record self.old { message = Message.Nothing } }
     {
         self.message = Message::Nothing;
+    }
+
+    /// Says something.
+    pub(crate) fn tell(&mut self, message: Message)
+        ensures { self.new ≡ record self.old { message = message } }
+    {
+        self.message = message;
+    }
+
+    /// Whether some bytes of a key sequence were read, and it is not whole yet.
+    pub(crate) fn is_amid_keys(&self) -> bool
+        ensures { (result ≡ false) ↔ HasBegun self.now.keys [] }
+    {
+        self.keys.has_begun()
     }
 
     /// The prompt closes, and an open search is accepted.

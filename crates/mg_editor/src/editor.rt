@@ -1,5 +1,6 @@
 //! The state of the editor.
-ghost use Rattle.std.specs.Prelude.{◌≡◌};
+ghost use Rattle.std.specs.Prelude.{◌≡◌, ◌↔◌, [], false};
+ghost use Rattle.mg_keys.specs.Begun.{HasBegun};
 
 use crate::dialogue::Dialogue;
 use crate::workspace::Workspace;
@@ -35,5 +36,22 @@ impl<S: TextStore> Editor<S> {
         ensures { result ≡ self.now.talk.message }
     {
         self.talk.message
+    }
+
+    /// Says a message. Takes no memory.
+    pub fn tell(&mut self, message: Message)
+        ensures { self.new ≡ record self.old {
+          talk = record self.old.talk { message = message };
+        } }
+    {
+        self.talk.tell(message);
+    }
+
+    /// Whether the last byte that was pressed belongs to a key sequence that is not whole yet. Takes
+    /// no memory.
+    pub fn is_amid_keys(&self) -> bool
+        ensures { (result ≡ false) ↔ HasBegun self.now.talk.keys [] }
+    {
+        self.talk.is_amid_keys()
     }
 }

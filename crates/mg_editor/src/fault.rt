@@ -6,7 +6,6 @@ use mg_buffer::BufferFault;
 use mg_prompts::Message;
 use mg_screen::WindowFault;
 use rga_ops::Refusal;
-use std::alloc::AllocError;
 
 /// Why the editor did not do what it was asked.
 #[derive(Clone, Copy, Debug, PartialEq, Eq)]
@@ -48,27 +47,5 @@ pub(crate) fn of_windows(answer: Result<(), WindowFault>) -> Result<(), DeedFaul
         Err(WindowFault::TooSmall) => Err(DeedFault::Refused(Message::WindowTooSmall)),
         Err(WindowFault::OnlyOne) => Err(DeedFault::Refused(Message::OnlyOneWindow)),
         Err(WindowFault::Memory) => Err(DeedFault::Memory),
-    }
-}
-
-impl From<AllocError> for Fault {
-    ghost use Rattle.std.specs.Prelude.{◌≡◌};
-    ghost use Rattle.mg_editor.specs.declared.fault.Fault.TheVariants.{Memory};
-
-    ghost from_gives = { λ _ fault. fault ≡ Memory };
-
-    fn from(_: AllocError) -> Fault {
-        Fault::Memory
-    }
-}
-
-impl From<Refusal> for Fault {
-    ghost use Rattle.std.specs.Prelude.{◌≡◌};
-    ghost use Rattle.mg_editor.specs.declared.fault.Fault.TheVariants.{Memory};
-
-    ghost from_gives = { λ _ fault. fault ≡ Memory };
-
-    fn from(_: Refusal) -> Fault {
-        Fault::Memory
     }
 }

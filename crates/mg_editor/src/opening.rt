@@ -1,18 +1,19 @@
 //! An editor that opens.
 ghost use Rattle.std.specs.Prelude.{◌≡◌, ◌≢◌, Err, IfOk, IfErr};
 ghost use Rattle.rga_ops.specs.Prelude.{text};
+ghost use Rattle.mg_files.specs.Loading.{load_outcome};
 ghost use Rattle.mg_files.specs.declared.fault.LoadFault.TheVariants.{Memory};
 ghost use Rattle.mg_editor.specs.Opening as spec;
 
 use crate::buffers::Buffers;
 use crate::dialogue::Dialogue;
 use crate::editor::Editor;
-use crate::settings::Settings;
 use crate::workspace::Workspace;
 use mg_buffer::Memo;
 use mg_files::{Found, LoadFault, Opened};
 use mg_prompts::Message;
 use mg_screen::Windows;
+use mg_settings::{Settings, Values};
 use rga_exchange::LogEnd;
 use rga_ops::Refusal;
 use rga_store::TextStore;
@@ -26,6 +27,19 @@ fn message_of(end: LogEnd) -> Message
         LogEnd::Torn(bytes) => Message::TornLog(bytes),
         LogEnd::Whole | LogEnd::Bare => Message::Nothing,
     }
+}
+
+/// The buffer that the values name, by what was found under its name.
+fn load<S: TextStore>(
+    alloc: Global,
+    values: &Values,
+    found: Found,
+) -> Result<(Opened<S>, LogEnd), LoadFault>
+    ensures { let v = values.now in
+        result ≢ Err Memory → result ≡ load_outcome v.name v.replica v.limit found }
+{
+    let name = String::from_str(alloc, values.name.as_str())?;
+    Opened::load(alloc, name, values.replica, values.limit, found)
 }
 
 impl<S: TextStore> Workspace<S> {
@@ -43,7 +57,7 @@ impl<S: TextStore> Workspace<S> {
             buffers,
             memo: Memo::new(alloc),
             windows,
-            fill: settings.values.fill,
+            fill: settings.values().fill,
         })
     }
 }
@@ -57,9 +71,7 @@ impl<S: TextStore> Editor<S> {
     pub fn new(alloc: Global, settings: &Settings, found: Found) -> Result<Editor<S>, LoadFault>
         ensures { result ≢ Err Memory → spec.Opens settings.now found result }
     {
-        let values = &settings.values;
-        let name = String::from_str(alloc, values.name.as_str())?;
-        let (opened, end) = Opened::load(alloc, name, values.replica, values.limit, found)?;
+        let (opened, end) = load(alloc, settings.values(), found)?;
         Ok(Editor {
             alloc,
             work: Workspace::new(alloc, settings, opened)?,
@@ -69,7 +81,8 @@ impl<S: TextStore> Editor<S> {
 
     /// The text of the current buffer. `Memory` alone.
     pub fn text(&self) -> Result<Vec<char>, Refusal>
-        ensures { IfOk result (λ chars. spec.IsText self.now chars.items) }
+        ensures text { IfOk result (λ chars. spec.IsText self.now chars.items) }
+        ensures memory { IfErr result (λ e. e ≡ Refusal.Memory) }
     {
         rga_walk::text(self.alloc, self.work.buffers.current().buffer.store())
     }

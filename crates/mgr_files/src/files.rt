@@ -16,17 +16,16 @@ pub(crate) fn read_if_there<R: Files + AllocGlobal>(
     }
 }
 
-/// Adds bytes at the end of a file, which is made where it is not there, in one write, and waits
-/// until they are on the device.
-pub(crate) fn append<R: Files>(rt: &R, name: &str, bytes: &[u8]) -> io::Result<()> {
-    let is_there = fs::exists(rt, name)?;
-    let mut file = OpenOptions::new().append(true).create(true).open(rt, name)?;
-    file.write_all(bytes)?;
-    file.sync_all()?;
-    if is_there {
-        return Ok(());
+/// Adds bytes at the end of a file in one write, and waits until they are on the device. Where the
+/// file is not there it is made whole, beside first: whenever the machine stops it is there with
+/// all of the bytes, or not at all.
+pub(crate) fn append<R: Files>(rt: &R, name: &str, beside: &str, bytes: &[u8]) -> io::Result<()> {
+    if !fs::exists(rt, name)? {
+        return replace(rt, name, beside, bytes);
     }
-    sync_folder(rt, name)
+    let mut file = OpenOptions::new().append(true).open(rt, name)?;
+    file.write_all(bytes)?;
+    file.sync_all()
 }
 
 /// Writes bytes beside a file, under a name that then becomes the file's: whenever the machine

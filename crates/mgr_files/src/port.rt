@@ -82,7 +82,8 @@ impl<R: Files + AllocGlobal + Drop> Port for FilePort<R> {
     /// The bytes are on the device once it answers `Ok`.
     fn append(&mut self, name: &str, bytes: &[u8]) -> Result<(), PortFault> {
         let log = self.name_with(name, ".ops")?;
-        let answer = append(&self.rt, log.as_str(), bytes);
+        let beside = self.name_with(name, ".ops.new")?;
+        let answer = append(&self.rt, log.as_str(), beside.as_str(), bytes);
         self.told(answer)
     }
 

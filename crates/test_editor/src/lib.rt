@@ -10,4 +10,6 @@ mod opening;
 #[cfg(test)]
 mod prompts;
 #[cfg(test)]
+mod saves;
+#[cfg(test)]
 mod sessions;

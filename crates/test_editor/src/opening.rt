@@ -1,6 +1,6 @@
 //! Editors that open, and their settings.
 use crate::sessions::{opens, values};
-use mg_editor::Settings;
+use mg_settings::Settings;
 use std::alloc::Global;
 
 #[test]

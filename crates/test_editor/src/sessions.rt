@@ -1,7 +1,8 @@
 //! An editor under keys, and what shows of it.
-use mg_editor::{Editor, Settings, Values};
+use mg_editor::Editor;
 use mg_files::{Found, LoadFault};
 use mg_prompts::Request;
+use mg_settings::{Settings, Values};
 use rga_store::TreeStore;
 use std::alloc::{AllocError, Global};
 
@@ -15,6 +16,7 @@ pub fn values(alloc: Global) -> Result<Values, AllocError> {
         fill: 10,
         port: None,
         trace: false,
+        cursor: false,
         limit: 1000,
     })
 }
@@ -46,7 +48,7 @@ fn on_text(alloc: Global, text: &str) -> Result<Editor<TreeStore>, LoadFault> {
 }
 
 /// An editor of a log.
-fn on_log(alloc: Global, log: &str) -> Result<Editor<TreeStore>, LoadFault> {
+pub fn on_log(alloc: Global, log: &str) -> Result<Editor<TreeStore>, LoadFault> {
     Editor::new(alloc, &settings(alloc)?, found_log(alloc, log)?)
 }
 

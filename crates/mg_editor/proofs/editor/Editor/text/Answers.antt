@@ -4,8 +4,8 @@ use Rattle.mg_editor.specs.Workspaces.{IsCurrent}
 use Rattle.mg_editor.proofs.Results.{if_ok_map}
 use Rattle.mg_editor.proofs.editor.Editor.text.Goals as goal
 
-pub returns : goal.returns
-returns g c =
+pub returns-clause-text : goal.returns-clause-text
+returns-clause-text g c =
     let b = c.current.result.now in
     let here : IsCurrent c.args.self.now.work b = search rules in
     let content : g.S.Taker.content c.store.result.now ≡ b.buffer.content = search rules in

@@ -1,7 +1,7 @@
 //! What an editing session is given.
 ghost use Rattle.std.specs.Prelude.{◌≡◌, ◌≤◌, ◌↔◌, IsSome, IfSome};
-ghost use Rattle.mg_screen.specs.declared.size.TheConstants.{MIN_ROWS, MAX_ROWS};
-ghost use Rattle.mg_editor.specs.Settings as spec;
+ghost use Rattle.mg_screen.specs.declared.size.TheConstants.{MIN_ROWS, MAX_ROWS, MIN_COLUMNS, MAX_COLUMNS};
+ghost use Rattle.mg_settings.specs.Settings as spec;
 
 use mg_screen::{MAX_COLUMNS, MAX_ROWS, MIN_COLUMNS, MIN_ROWS};
 use rga_store::MAX_LIMIT;
@@ -26,13 +26,15 @@ pub struct Values {
     pub port: Option<u16>,
     /// Whether a frame follows each step.
     pub trace: bool,
+    /// Whether the row and the column of the cursor follow each frame.
+    pub cursor: bool,
     /// How many identifiers the buffer may know.
     pub limit: usize,
 }
 
 impl Model for Values {
     ghost use Rattle.std.specs.Prelude.{string_bytes};
-    ghost use Rattle.mg_editor.specs.Settings as spec;
+    ghost use Rattle.mg_settings.specs.Settings as spec;
 
     ghost Value = { spec.Values };
 
@@ -44,6 +46,7 @@ impl Model for Values {
       fill = v.fill;
       port = v.port;
       trace = v.trace;
+      cursor = v.cursor;
       limit = v.limit;
     } };
 }
@@ -51,11 +54,11 @@ impl Model for Values {
 /// Values within their limits.
 #[derive(Drop)]
 pub struct Settings {
-    pub(crate) values: Values,
+    values: Values,
 }
 
 impl Model for Settings {
-    ghost use Rattle.mg_editor.specs.Settings as spec;
+    ghost use Rattle.mg_settings.specs.Settings as spec;
 
     ghost Value = { spec.Values };
 
@@ -90,12 +93,29 @@ impl Settings {
         Some(Settings { values })
     }
 
+    /// The values, each of which is within its limits.
+    pub fn values(&self) -> &Values
+        ensures exact { result.now ≡ self.now }
+        ensures allowed { spec.AreAllowed result.now }
+    {
+        &self.values
+    }
+
     /// The rows of the screen.
-    pub(crate) fn rows(&self) -> usize
+    pub fn rows(&self) -> usize
         ensures exact { result ≡ self.now.rows }
         ensures from { MIN_ROWS ≤ result }
         ensures to { result ≤ MAX_ROWS }
     {
         self.values.rows
+    }
+
+    /// The columns of the screen.
+    pub fn columns(&self) -> usize
+        ensures exact { result ≡ self.now.columns }
+        ensures from { MIN_COLUMNS ≤ result }
+        ensures to { result ≤ MAX_COLUMNS }
+    {
+        self.values.columns
     }
 }

@@ -3,7 +3,7 @@ use Rattle.std.specs.Prelude.{ℕ, ◌≤◌, Bool, List, length, Option}
 use Rattle.std.specs.Option.{ForSome}
 use Rattle.rga_store.specs.declared.text_store.TheConstants.{MAX_LIMIT}
 use Rattle.mg_screen.specs.declared.size.TheConstants.{MIN_ROWS, MAX_ROWS, MIN_COLUMNS, MAX_COLUMNS}
-use Rattle.mg_editor.specs.declared.settings.TheConstants.{MAX_FILL}
+use Rattle.mg_settings.specs.declared.settings.TheConstants.{MAX_FILL}
 
 pub record Values : Type 0 where
   pub name : List ℕ
@@ -13,6 +13,7 @@ pub record Values : Type 0 where
   pub fill : ℕ
   pub port : Option ℕ
   pub trace : Bool
+  pub cursor : Bool
   pub limit : ℕ
 
 -- each value is within its limits
