@@ -3,3 +3,6 @@ pub mod Current
 pub mod Keeping
 pub mod Steps
 pub mod Saves
+pub mod ShownWindows
+pub mod EchoLine
+pub mod FrameLaws

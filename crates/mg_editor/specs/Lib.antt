@@ -6,3 +6,6 @@ pub mod Editors
 pub mod Presses
 pub mod Opening
 pub mod Carrying
+pub mod Echo
+pub mod Showing
+pub mod Frames

@@ -24,6 +24,7 @@ workspace v b = record {
   notes = record { kill = []; kind = Plain; goal = 0 };
   windows = layout (window (v.rows - 2) 0 ∷ []) 0;
   fill = v.fill;
+  columns = v.columns;
 }
 
 -- a log that was torn is told

@@ -8,12 +8,14 @@ use Rattle.mg_prompts.specs.Scenes as scenes
 use Rattle.mg_editor.specs.Buffers as buffers
 use Rattle.mg_editor.specs.Buffers.{are_changed, AtCurrent}
 
--- the buffers, what commands leave for the next one, the windows with the lines that they show first, and the fill column
+-- the buffers, what commands leave for the next one, the windows with the lines that they show first, the fill column, and
+-- the columns of the screen
 pub record Workspace : Type 0 where
   pub buffers : buffers.Buffers
   pub notes : Notes
   pub windows : Layout ℕ
   pub fill : ℕ
+  pub columns : ℕ
 
 -- that buffer is current
 abbrev pub IsCurrent : Workspace → OpenState → Type 0

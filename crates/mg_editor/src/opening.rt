@@ -58,6 +58,7 @@ impl<S: TextStore> Workspace<S> {
             memo: Memo::new(alloc),
             windows,
             fill: settings.values().fill,
+            columns: settings.columns(),
         })
     }
 }

@@ -1,5 +1,6 @@
 //! What is worked on: the buffers, what commands leave for the next one, and the windows.
-ghost use Rattle.std.specs.Prelude.{◌≡◌, ◌<◌, OnOk, OnErr, IfErr};
+ghost use Rattle.std.specs.Prelude.{◌≡◌, ◌<◌, ◌≤◌, OnOk, OnErr, IfErr};
+ghost use Rattle.mg_screen.specs.declared.size.TheConstants.{MIN_COLUMNS, MAX_COLUMNS};
 ghost use Rattle.mg_editor.specs.Workspaces as spec;
 
 use crate::buffers::Buffers;
@@ -21,9 +22,13 @@ pub(crate) struct Workspace<S: TextStore> {
     pub(crate) windows: Windows<usize>,
     /// The fill column.
     pub(crate) fill: u16,
+    /// The columns of the screen.
+    pub(crate) columns: usize,
 }
 
 impl<S: TextStore> Model for Workspace<S> {
+    ghost use Rattle.std.specs.Prelude.{◌≤◌};
+    ghost use Rattle.mg_screen.specs.declared.size.TheConstants.{MIN_COLUMNS, MAX_COLUMNS};
     ghost use Rattle.mg_editor.specs.Workspaces as spec;
     ghost use Rattle.std.specs.Coded.{codes, coded_ℕ};
     ghost use Rattle.mg_files.specs.OpenState.{open_state_code};
@@ -38,7 +43,10 @@ impl<S: TextStore> Model for Workspace<S> {
       notes = w.memo;
       windows = w.windows;
       fill = w.fill;
+      columns = w.columns;
     } };
+
+    ghost invariant = { λ w. (MIN_COLUMNS ≤ w.columns) × (w.columns ≤ MAX_COLUMNS) };
 }
 
 impl<S: TextStore> Workspace<S> {
@@ -49,6 +57,15 @@ impl<S: TextStore> Workspace<S> {
         ensures memory { IfErr result (λ e. e ≡ Refusal.Memory) }
     {
         self.buffers.list()
+    }
+
+    /// The columns of the screen.
+    pub(crate) fn columns(&self) -> usize
+        ensures exact { result ≡ self.now.columns }
+        ensures from { MIN_COLUMNS ≤ result }
+        ensures to { result ≤ MAX_COLUMNS }
+    {
+        self.columns
     }
 
     /// What a step is decided from. Takes no memory.

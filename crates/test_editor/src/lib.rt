@@ -6,6 +6,8 @@
 #[cfg(test)]
 mod commands;
 #[cfg(test)]
+mod frames;
+#[cfg(test)]
 mod opening;
 #[cfg(test)]
 mod prompts;

@@ -6,7 +6,7 @@ use Rattle.mg_editor.proofs.editor.Editor.save.Goals as goal
 pub returns-clause-saved : goal.returns-clause-saved
 returns-clause-saved g c =
     let s = c.self-inside.inside.0.1.0 in
-    let was : Workspace = record { buffers = s.buffers; notes = s.memo; windows = s.windows; fill = s.fill } in
+    let was : Workspace = record { buffers = s.buffers; notes = s.memo; windows = s.windows; fill = s.fill; columns = s.columns } in
     let is : c.args.self.now.work ≡ was = search rules in
     let saves = SavesTo c.save-answer.result (g.P.Port.calls c.args.port.now) (g.P.Port.calls c.save-answer.new.port) in
     record {

@@ -1,0 +1,99 @@
+//! Frames of the editor's own windows.
+ghost use Rattle.std.specs.Prelude.{◌≡◌, ◌≤◌, Some, IfOk, OnOk, OnErr, IsSome};
+ghost use Rattle.mg_screen.specs.Cursor as cursors;
+ghost use Rattle.mg_screen.specs.Frame.{rows_of};
+ghost use Rattle.mg_screen.specs.declared.size.TheConstants.{MAX_ROWS, MIN_COLUMNS};
+ghost use Rattle.mg_editor.specs.Frames as spec;
+ghost use Rattle.mg_editor.specs.Showing.{IsOnScreen};
+ghost use Rattle.mg_editor.specs.Workspaces.{HasList};
+
+use crate::editor::Editor;
+use crate::fault::Fault;
+use mg_screen::{FrameFault, Position, Screen, cursor, echo_cursor};
+use rga_store::TextStore;
+
+/// The whole screen: its rows from the top on, and where the cursor stands in them.
+#[derive(Drop)]
+pub struct Frame {
+    pub rows: Vec<String>,
+    pub cursor: Position,
+}
+
+/// The cursor at point, in the window at an index, which shows it.
+fn window_cursor(columns: usize, screen: &Screen<'_>, index: usize) -> Position
+    requires rows_to { rows_of screen.now ≤ MAX_ROWS }
+    requires columns_from { MIN_COLUMNS ≤ columns }
+    requires shown { IsSome (cursors.cursor columns screen.now index) }
+    ensures { cursors.cursor columns screen.now index ≡ Some result }
+{
+    match cursor(columns, screen, index) {
+        Some(position) => position,
+        None => unreachable!(),
+    }
+}
+
+impl<S: TextStore> Editor<S> {
+    /// The screen, once the windows are placed.
+    fn screen<'a>(&'a self) -> Result<Screen<'a>, FrameFault>
+        requires listed { HasList self.now.work }
+        requires on_screen { IsOnScreen self.now.work.windows }
+        ensures { IfOk result (λ screen. spec.IsScreen self.now screen) }
+    {
+        let echo = self.talk.echo(self.alloc, self.work.name())?;
+        Ok(Screen {
+            panes: self.work.panes(self.alloc)?,
+            echo,
+        })
+    }
+
+    /// The cursor of the screen.
+    fn cursor_in(&self, screen: &Screen<'_>) -> Position
+        requires rows_to { rows_of screen.now ≤ MAX_ROWS }
+        requires shown { let work = self.now.work in
+            IsSome (cursors.cursor work.columns screen.now work.windows.current) }
+        ensures { spec.cursor_in self.now screen.now ≡ Some result }
+    {
+        let columns = self.work.columns();
+        if self.talk.has_cursor() {
+            return echo_cursor(columns, screen);
+        }
+        window_cursor(columns, screen, self.work.windows.current())
+    }
+
+    /// The frame, once the windows are placed.
+    fn placed_frame(&self) -> Result<Frame, FrameFault>
+        requires { HasList self.now.work }
+        ensures { IfOk result (λ frame. spec.ShowsPlaced self.now frame.rows.items frame.cursor) }
+    {
+        let columns = self.work.columns();
+        let rows = self.work.rows();
+        let screen = self.screen()?;
+        Ok(Frame {
+            rows: mg_screen::frame(self.alloc, rows, columns, &screen)?,
+            cursor: self.cursor_in(&screen),
+        })
+    }
+
+    /// The frame of the editor. Each window first shows the line of point, in its middle where it
+    /// did not show it before, and does so from then on. Then there are the text rows and the mode
+    /// line of each, and the echo line: the message, else the open prompt with the answer so far.
+    /// The cursor stands behind an answer that is all that is asked for, where no message stands,
+    /// else at point, in the current window.
+    ///
+    /// The only fault is `Memory`: nothing changed then.
+    pub fn frame(&mut self) -> Result<Frame, Fault>
+        ensures placed { OnOk result (spec.IsPlaced self.old self.new) }
+        ensures rows { IfOk result (λ frame. spec.ShowsRows self.new frame.rows.items) }
+        ensures cursor { IfOk result (λ frame. spec.ShowsCursor self.new frame.cursor) }
+        ensures refused { OnErr result (spec.IsUnframed self.old self.new) }
+    {
+        let Ok(()) = self.work.list() else {
+            return Err(Fault::Memory);
+        };
+        let Ok(frame) = self.placed_frame() else {
+            return Err(Fault::Memory);
+        };
+        self.work.place_windows();
+        Ok(frame)
+    }
+}
