@@ -1,0 +1,35 @@
+-- What a key of a session leads to.
+use Rattle.std.specs.Prelude.{◌≡◌, ℕ, List, Option, Ok, Err}
+use Rattle.mg_plain.specs.declared.outcome.Notice.TheVariants as notice
+use Rattle.mg_files.specs.Calls.{Call}
+use Rattle.mg_prompts.specs.declared.ending.Request.{Request}
+use Rattle.mg_prompts.specs.declared.ending.Request.TheVariants.{Idle}
+use Rattle.mg_prompts.specs.declared.message.Message.TheVariants.{Refused}
+use Rattle.mg_editor.specs.Carrying as carrying
+use Rattle.mg_editor.specs.Editors.{Editor}
+use Rattle.mg_editor.specs.Presses as presses
+
+-- what a press requests
+abbrev pub request_of : presses.Answer → Request
+request_of (Ok request) = request
+request_of (Err fault) = Idle
+
+-- want of memory is said
+abbrev pub said : presses.Answer → Editor → Editor
+said (Ok request) e = e
+said (Err fault) e = record e { talk = record e.talk { message = Refused notice.Memory } }
+
+-- the byte was pressed
+pub record Presses (byte : ℕ) (old new : Editor) (request : Request) : Type 0 where
+  pub answer : presses.Answer
+  pub between : Editor
+  pub pressed : presses.Pressed byte old between answer
+  pub left : new ≡ said answer between
+  pub requested : request ≡ request_of answer
+
+-- and what it requests was carried
+pub record TakesKey (byte : ℕ) (calls more : Option (List Call)) (old new : Editor) (request : Request) : Type 0 where
+  pub between : Editor
+  pub answer : carrying.Answer
+  pub presses : Presses byte old between request
+  pub carried : carrying.Carried request calls more between new answer

@@ -1,0 +1,90 @@
+//! Frames, as they are written.
+ghost use Rattle.std.specs.Prelude.{◌≡◌, ◌⊎◌, ◌∷◌, ◌++◌, [], map, string_bytes, IfOk, OnOk, IfErr};
+ghost use Rattle.rga_lines.specs.Counting.{CountsAs, Writes};
+ghost use Rattle.rga_lines.specs.Stream.{newline, bytes_of_lines};
+ghost use Rattle.mg_session.specs.Display as spec;
+ghost use Rattle.mg_session.specs.declared.fault.SessionFault.TheVariants.{Screen, Memory};
+
+use crate::fault::SessionFault;
+use mg_editor::Editor;
+use mg_screen::Position;
+use rga_lines::Counted;
+use rga_store::TextStore;
+use std::alloc::{AllocError, Global};
+use std::io::Write;
+
+fn push_row(text: &mut String, row: &str) -> Result<(), AllocError>
+    ensures { OnOk result
+        (string_bytes text.new ≡ string_bytes text.old ++ (row.now ++ newline ∷ [])) }
+{
+    text.push_str(row)?;
+    text.push('\n')?;
+    Ok(())
+}
+
+/// The rows, each with a newline behind it.
+fn rows_text(alloc: Global, rows: &[String]) -> Result<String, AllocError>
+    ensures { IfOk result
+        (λ text. string_bytes text ≡ bytes_of_lines (map string_bytes rows.now)) }
+{
+    let mut text = String::new(alloc);
+    for row in rows {
+        push_row(&mut text, row.as_str())?;
+    }
+    Ok(text)
+}
+
+/// The row and the column, each from 0, with a blank between.
+fn position_text(alloc: Global, at: Position) -> Result<String, AllocError>
+    ensures { IfOk result (λ text. string_bytes text ≡ spec.position_text at) }
+{
+    format!(in alloc; "{} {}", at.row, at.column)
+}
+
+/// The rows of a frame, and behind them the line of the cursor, where that is shown.
+fn frame_text(
+    alloc: Global,
+    rows: &[String],
+    cursor: Option<Position>,
+) -> Result<String, AllocError>
+    ensures { IfOk result (λ text.
+        string_bytes text ≡ spec.frame_text (map string_bytes rows.now) cursor) }
+{
+    let mut text = rows_text(alloc, rows)?;
+    if let Some(at) = cursor {
+        let line = position_text(alloc, at)?;
+        push_row(&mut text, line.as_str())?;
+    }
+    Ok(text)
+}
+
+/// Writes a text, and flushes the device. `Screen` comes exactly where a call failed.
+fn write_text<W: Write>(text: &str, screen: &mut Counted<W>) -> Result<(), SessionFault>
+    ensures written { OnOk result (Writes W.contents screen.old screen.new text.now) }
+    ensures fault { IfErr result (λ e. e ≡ Screen) }
+    ensures device { CountsAs Screen result screen.old screen.new }
+{
+    let Ok(()) = screen.write_all(text.as_bytes()) else {
+        return Err(SessionFault::Screen);
+    };
+    let Ok(()) = screen.flush() else {
+        return Err(SessionFault::Screen);
+    };
+    Ok(())
+}
+
+/// Writes a frame of the editor, and behind it the line of the cursor, where that is asked.
+pub(crate) fn show<S: TextStore, W: Write>(
+    alloc: Global,
+    editor: &mut Editor<S>,
+    has_cursor: bool,
+    screen: &mut Counted<W>,
+) -> Result<(), SessionFault>
+    ensures fault { IfErr result (λ e. (e ≡ Screen) ⊎ (e ≡ Memory)) }
+    ensures device { CountsAs Screen result screen.old screen.new }
+{
+    let frame = editor.frame()?;
+    let cursor = if has_cursor { Some(frame.cursor) } else { None };
+    let text = frame_text(alloc, &frame.rows, cursor)?;
+    write_text(text.as_str(), screen)
+}

@@ -1,0 +1,16 @@
+//! A whole session: from the bytes of the keys to the rows of frames.
+//!
+//! `run_keys` loads a buffer, presses each byte of the keys, carries each request to a port, and
+//! writes frames to a screen, be these files or memory. The crate stands on mg_editor for the
+//! editor, on mg_files for ports, and on rga_lines for devices whose calls are counted. The program
+//! above may rest on it that each session ends, and on its faults: a device's fault is answered
+//! exactly where a call of that device failed.
+#![tactic(auto)]
+
+mod display;
+mod fault;
+mod keys;
+mod session;
+
+pub use fault::SessionFault;
+pub use session::run_keys;

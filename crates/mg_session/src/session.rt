@@ -1,0 +1,167 @@
+//! Sessions.
+ghost use Rattle.std.specs.Prelude.{◌≡◌, ◌≢◌, ◌⊎◌, Err, IfErr};
+ghost use Rattle.rga_lines.specs.Counting.{CountsAs, one_more};
+ghost use Rattle.mg_files.specs.declared.fault.LoadFault.TheVariants.{Memory as NoMemory};
+ghost use Rattle.mg_session.specs.Faults as spec;
+ghost use Rattle.mg_session.specs.declared.fault.SessionFault.TheVariants.{Load, File, Keys, Screen, Memory};
+
+use crate::display::show;
+use crate::fault::SessionFault;
+use crate::keys::take_key;
+use mg_editor::Editor;
+use mg_files::Port;
+use mg_prompts::Request;
+use mg_settings::Settings;
+use rga_lines::Counted;
+use rga_store::TextStore;
+use std::alloc::Global;
+use std::io::{Read, Write};
+
+/// How many bytes one read of the keys asks for.
+const BLOCK: usize = 4096;
+
+/// An editor, and what is shown of it.
+#[derive(Drop)]
+struct Session<S: TextStore> {
+    alloc: Global,
+    editor: Editor<S>,
+    /// Whether a frame follows each step.
+    trace: bool,
+    /// Whether a line with the cursor's row and column follows each frame.
+    cursor: bool,
+}
+
+/// Runs a session: loads what is there under the name of the settings, presses each byte of the keys
+/// and carries each request, up to one to quit or to the end of the keys.
+///
+/// Where steps are traced a frame is written at the start and behind each byte whose step is not
+/// pending; else one at the end. Each row of a frame has a newline behind it. What is written is
+/// flushed before the next read.
+///
+/// Faults end a session at once: `File` and `Load` of the first load, `Keys` and `Screen` of the
+/// devices, and `Memory`, at the load and where a frame is made. Any other fault is said in the
+/// next frame, and the session goes on.
+pub fn run_keys<S: TextStore, R: Read, W: Write, P: Port>(
+    alloc: Global,
+    keys: &mut Counted<R>,
+    screen: &mut Counted<W>,
+    port: &mut P,
+    settings: &Settings,
+) -> Result<(), SessionFault>
+    // A call of a device that failed is told as such, and not as something else.
+    ensures keys { CountsAs Keys result keys.old keys.new }
+    ensures screen { CountsAs Screen result screen.old screen.new }
+    ensures file { result ≡ Err File → P.failures port.new ≡ one_more (P.failures port.old) }
+
+    // Where nothing was loaded, no key was read and nothing was written.
+    ensures unread { IfErr result (λ e. spec.IsOfLoad e → keys.new ≡ keys.old) }
+    ensures unwritten { IfErr result (λ e. spec.IsOfLoad e →
+        (screen.new ≡ screen.old) × (P.calls port.new ≡ P.calls port.old)) }
+    ensures folded { result ≢ Err (Load NoMemory) }
+{
+    let mut session: Session<S> = open(alloc, port, settings)?;
+    session.run(keys, screen, port)
+}
+
+/// Loads what is there under the name of the settings.
+fn open<S: TextStore, P: Port>(
+    alloc: Global,
+    port: &mut P,
+    settings: &Settings,
+) -> Result<Session<S>, SessionFault>
+    ensures fault { IfErr result (λ e. (e ≢ Keys) × (e ≢ Screen) × (e ≢ Load NoMemory)) }
+    ensures file { result ≡ Err File → P.failures port.new ≡ one_more (P.failures port.old) }
+    ensures unwritten { P.calls port.new ≡ P.calls port.old }
+{
+    let values = settings.values();
+    let found = port.load(values.name.as_str())?;
+    Ok(Session {
+        alloc,
+        editor: Editor::new(alloc, settings, found)?,
+        trace: values.trace,
+        cursor: values.cursor,
+    })
+}
+
+impl<S: TextStore> Session<S> {
+    /// Takes all keys, between the first frame and the last.
+    fn run<R: Read, W: Write, P: Port>(
+        &mut self,
+        keys: &mut Counted<R>,
+        screen: &mut Counted<W>,
+        port: &mut P,
+    ) -> Result<(), SessionFault>
+        ensures fault { IfErr result (λ e. ¬ (spec.IsOfLoad e)) }
+        ensures keys { CountsAs Keys result keys.old keys.new }
+        ensures screen { CountsAs Screen result screen.old screen.new }
+    {
+        self.show_if(self.trace, screen)?;
+        self.take_blocks(keys, screen, port)?;
+        self.show_if(!self.trace, screen)
+    }
+
+    /// Writes a frame, where one is asked for.
+    fn show_if<W: Write>(
+        &mut self,
+        is_asked: bool,
+        screen: &mut Counted<W>,
+    ) -> Result<(), SessionFault>
+        ensures fault { IfErr result (λ e. (e ≡ Screen) ⊎ (e ≡ Memory)) }
+        ensures device { CountsAs Screen result screen.old screen.new }
+    {
+        if is_asked {
+            return show(self.alloc, &mut self.editor, self.cursor, screen);
+        }
+        Ok(())
+    }
+
+    /// Whether a frame follows the last byte that was pressed.
+    fn is_traced(&self) -> bool {
+        self.trace && !self.editor.is_amid_keys()
+    }
+
+    /// Takes the keys, block by block, up to one that quits.
+    fn take_blocks<R: Read, W: Write, P: Port>(
+        &mut self,
+        keys: &mut Counted<R>,
+        screen: &mut Counted<W>,
+        port: &mut P,
+    ) -> Result<(), SessionFault>
+        ensures fault { IfErr result (λ e. (e ≡ Keys) ⊎ (e ≡ Screen) ⊎ (e ≡ Memory)) }
+        ensures keys { CountsAs Keys result keys.old keys.new }
+        ensures screen { CountsAs Screen result screen.old screen.new }
+    {
+        let mut block = [0u8; BLOCK];
+        'reads: loop {
+            let Ok(count) = keys.read(&mut block) else {
+                return Err(SessionFault::Keys);
+            };
+            if count == 0 {
+                return Ok(());
+            }
+            if self.take_keys(&block[..count], screen, port)? {
+                return Ok(());
+            }
+        }
+    }
+
+    /// Takes keys up to one that quits, and answers whether there is one.
+    fn take_keys<W: Write, P: Port>(
+        &mut self,
+        keys: &[u8],
+        screen: &mut Counted<W>,
+        port: &mut P,
+    ) -> Result<bool, SessionFault>
+        ensures fault { IfErr result (λ e. (e ≡ Screen) ⊎ (e ≡ Memory)) }
+        ensures device { CountsAs Screen result screen.old screen.new }
+    {
+        for key in keys {
+            let request = take_key(&mut self.editor, *key, port);
+            self.show_if(self.is_traced(), screen)?;
+            if request == Request::Quit {
+                return Ok(true);
+            }
+        }
+        Ok(false)
+    }
+}
