@@ -1,5 +1,5 @@
 -- Which errors clap may answer to the words of the command line.
-use Rattle.std.proofs.Common.{◌≡◌, ◌⊎◌, ◌∙◌, inl, inr, ap, sym, subst, ℕ, ◌==◌, Bool, true, false, not, List, [], ◌∷◌, ◌++◌, Option, Some, None, refl, codes, drop, slice_get, arith, ◌+◌, suc, ap₂, map, string_bytes}
+use Rattle.std.proofs.Common.{◌≡◌, ◌⊎◌, ◌∙◌, inl, inr, ap, sym, subst, ℕ, ◌==◌, Bool, true, false, not, List, [], ◌∷◌, ◌++◌, Option, Some, None, refl, codes, drop, slice_get, arith, ◌+◌, suc, ap₂, map, string_bytes, option_map}
 use Rattle.std.specs.Char.{encode_utf8}
 use Rattle.std.specs.declared.string.String.{String}
 use Rattle.std.specs.declared.alloc.Global.{Global}
@@ -10,8 +10,8 @@ use Rattle.std.proofs.lemmas.Option.{none-some, same_Some}
 use Rattle.std.proofs.lemmas.Slice.Eq.{bytes_eq-Decides}
 use Rattle.std.proofs.lemmas.Str.{IsUtf8-from_is_utf8, IsUtf8-string_bytes, encodes-chars}
 use Rattle.clap.specs.Lexer.{has_byte, long_of, short_of}
-use Rattle.clap.specs.Walk.{Held, Names, Rule, Step, idle, long_or_other, nothing_held, short_or_plain, short_word, value, walk_from}
-use Rattle.clap.specs.Simple.{App, Shape, built, built_leaf, names_of, new_shape}
+use Rattle.clap.specs.Walk.{Held, Names, Row, Rule, Step, idle, long_or_other, nothing_held, short_or_plain, short_word, value, walk_from}
+use Rattle.clap.specs.Simple.{App, Shape, built, built_leaf, names_of, is_simple, new_shape, subcommand_of}
 use Rattle.clap.specs.Faults.{built_fault, fault_of, flag_word_fault, is_simple_and_free, level_fault, step_fault, turn_fault}
 use Rattle.clap.specs.Kinds.{HasKind, IsAmong, Kinds, or_else}
 use Rattle.clap.specs.Values.{kind_of}
@@ -21,17 +21,22 @@ use Rattle.clap.specs.declared.error.kind.ErrorKind.TheVariants as kind
 use Rattle.clap.proofs.FaultLemmas.{stopped_fault}
 use Rattle.clap.proofs.WalkLemmas.{walk_stopped}
 use Rattle.clap.proofs.OnLiterals.{clap_on_literals}
-use Rattle.mgr_command.specs.Job.{IsFaultOf, IsFaultOfKind}
-use Rattle.mgr_command.specs.declared.job.Job.TheVariants.{Show}
+use Rattle.mgr_command.specs.Job.{IsChosen, IsFaultOf, IsFaultOfKind, IsJobOf, IsNotChosen, edit_kinds}
+use Rattle.mgr_command.specs.declared.job.Job.{Job}
+use Rattle.mgr_command.specs.declared.job.Job.TheVariants.{Show, Edit}
 use Rattle.mgr_command.specs.declared.job.JobFault.{JobFault}
 use Rattle.mgr_command.specs.declared.job.JobFault.TheVariants.{Help, Version, Usage, Memory}
 use Rattle.mgr_command.specs.declared.job.Topic.{Topic}
 use Rattle.mgr_command.specs.declared.job.Topic.TheVariants as topic
-use Rattle.mgr_command.specs.CommandLine.{Text, Wish, arguments_wish, command_line, with_help_flag, help, is_end_of_flags, is_help_flag, is_version_flag, mistake, show_wish, topic_of, version, wish_of, work}
+use Rattle.mgr_command.specs.CommandLine.{Text, Wish, arguments_wish, command_line, with_help_flag, editing, help, is_end_of_flags, is_help_flag, is_version_flag, mistake, show_wish, showing, topic_of, version, wish_of}
 
 pub command_line_is_simple : is_simple_and_free command_line ≡ true
 unfolding clap_on_literals
 command_line_is_simple = refl
+
+pub command_line_is_plain : is_simple command_line ≡ true
+unfolding clap_on_literals
+command_line_is_plain = refl
 
 -- ---- kinds of error
 
@@ -51,7 +56,8 @@ pub record IsMistaken (ks : Kinds) : Type 0 where
 
 -- the kinds of error that such a wish may bring, where help is on that topic
 abbrev pub AreKindsOf : Topic → Wish → Kinds → Type 0
-AreKindsOf topic (work job) ks = ks ≡ []
+AreKindsOf topic showing ks = ks ≡ []
+AreKindsOf on (editing words) ks = (on ≡ topic.Edit) × (ks ≡ edit_kinds words)
 AreKindsOf topic (help on) ks = (on ≡ topic) × (ks ≡ kind.DisplayHelp ∷ [])
 AreKindsOf topic version ks = ks ≡ kind.DisplayVersion ∷ []
 AreKindsOf topic mistake ks = IsMistaken ks
@@ -300,10 +306,10 @@ bytes_eq-swap : (a b : Text) → bytes_eq a b ≡ false → bytes_eq b a ≡ fal
 bytes_eq-swap a b unlike =
     false_from_ne_true (bytes_eq b a) (λ same. both_ways _ unlike ((bytes_eq-Decides a b).1 (sym ((bytes_eq-Decides b a).0 same))))
 
-turn_top : (word : Text) → bytes_eq (codes "show") word ≡ false → bytes_eq word (codes "--") ≡ false
+turn_top : (word : Text) → bytes_eq (codes "show") word ≡ false → bytes_eq (codes "edit") word ≡ false → bytes_eq word (codes "--") ≡ false
     → turn_fault top top_names (walk_from nothing_held) word ≡ or_else (flag_kinds true word) (step_fault top 1 (flag_held true word) (flag_step true word))
 unfolding clap_on_literals
-turn_top word unnamed unlike = rw (unnamed, unlike) refl
+turn_top word unshown unedited unlike = rw (unshown, unedited, unlike) refl
 
 turn_leaf : (word : Text) → bytes_eq word (codes "--") ≡ false
     → turn_fault leaf [] (walk_from nothing_held) word ≡ or_else (flag_kinds false word) (step_fault leaf 1 (flag_held false word) (flag_step false word))
@@ -340,13 +346,13 @@ abbrev leaf_fault : List Text → Kinds
 leaf_fault words = level_fault leaf [] nothing_held words false []
 
 -- the words behind `show`
-leaf_kinds : (words : List Text) → AreTexts words → AreKindsOf (topic.Job Show) (show_wish words) (leaf_fault words)
+leaf_kinds : (words : List Text) → AreTexts words → AreKindsOf topic.Show (show_wish words) (leaf_fault words)
 unfolding clap_on_literals
 leaf_kinds [] utf8 = refl
 leaf_kinds (word ∷ rest) utf8 = elim (cases_Bool (bytes_eq word (codes "--"))) [
   | inl dashes ↦
       let is : word ≡ codes "--" = (bytes_eq-Decides word (codes "--")).0 dashes in
-      subst (λ (w : Text). AreKindsOf (topic.Job Show) (show_wish (w ∷ rest)) (leaf_fault (w ∷ rest))) (sym is) (past_dashes rest)
+      subst (λ (w : Text). AreKindsOf topic.Show (show_wish (w ∷ rest)) (leaf_fault (w ∷ rest))) (sym is) (past_dashes rest)
   | inr unlike ↦ otherwise unlike (settles false word _ (step_fault leaf 1 (flag_held false word)) (turn_leaf word unlike) (record { test = refl }) (reads_flag false word utf8.0))
 ]
   where
@@ -354,12 +360,12 @@ leaf_kinds (word ∷ rest) utf8 = elim (cases_Bool (bytes_eq word (codes "--")))
     not_the_end unlike [] = unlike
     not_the_end unlike (x ∷ xs) = refl
 
-    past_dashes : (more : List Text) → AreKindsOf (topic.Job Show) (show_wish (codes "--" ∷ more)) (leaf_fault (codes "--" ∷ more))
+    past_dashes : (more : List Text) → AreKindsOf topic.Show (show_wish (codes "--" ∷ more)) (leaf_fault (codes "--" ∷ more))
     past_dashes [] = refl
     past_dashes (x ∷ xs) = record { test = refl }
 
     otherwise : bytes_eq word (codes "--") ≡ false → Settles false word (turn_fault leaf [] (walk_from nothing_held) word)
-        → AreKindsOf (topic.Job Show) (show_wish (word ∷ rest)) (leaf_fault (word ∷ rest))
+        → AreKindsOf topic.Show (show_wish (word ∷ rest)) (leaf_fault (word ∷ rest))
     otherwise unlike (for_help asked kinds) = rw (asked, kinds) (refl, refl)
     otherwise unlike (for_version no_help asked kinds) = absurd (let clash : false ≡ true = asked in cc)
     otherwise unlike (for_nothing no_help no_version wrong) =
@@ -369,41 +375,51 @@ leaf_kinds (word ∷ rest) utf8 = elim (cases_Bool (bytes_eq word (codes "--")))
 abbrev top_fault : List Text → Kinds
 top_fault words = built_fault (built command_line) nothing_held words
 
--- all words but the program's name
-top_kinds : (words : List Text) → AreTexts words → AreKindsOf (topic_of words) (arguments_wish words) (top_fault words)
-unfolding clap_on_literals
-top_kinds [] utf8 = record { test = refl }
-top_kinds (word ∷ rest) utf8 = elim (cases_Bool (bytes_eq word (codes "show"))) [
-  | inl shown ↦
-      let is : word ≡ codes "show" = (bytes_eq-Decides word (codes "show")).0 shown in
-      subst (λ (w : Text). AreKindsOf (topic_of (w ∷ rest)) (arguments_wish (w ∷ rest)) (top_fault (w ∷ rest))) (sym is) past_show
-  | inr unnamed ↦ elim (cases_Bool (bytes_eq word (codes "--"))) [
-    | inl dashes ↦
-        let is : word ≡ codes "--" = (bytes_eq-Decides word (codes "--")).0 dashes in
-        subst (λ (w : Text). AreKindsOf (topic_of (w ∷ rest)) (arguments_wish (w ∷ rest)) (top_fault (w ∷ rest))) (sym is) (past_dashes rest)
-    | inr unlike ↦ otherwise unnamed
-        (settles true word _ (step_fault top 1 (flag_held true word)) (turn_top word (bytes_eq-swap word (codes "show") unnamed) unlike) (record { test = refl })
-        (reads_flag true word utf8.0))
-  ]
-]
-  where
-    past_dashes : (more : List Text)
-        → AreKindsOf (topic_of (codes "--" ∷ more)) (arguments_wish (codes "--" ∷ more)) (top_fault (codes "--" ∷ more))
-    past_dashes [] = record { test = refl }
-    past_dashes (x ∷ xs) = record { test = refl }
+abbrev AtTop : List Text → Type 0
+AtTop words = AreKindsOf (topic_of words) (arguments_wish words) (top_fault words)
 
+top_show : (rest : List Text) → AreTexts rest → AtTop (codes "show" ∷ rest)
+unfolding clap_on_literals
+top_show rest utf8 = subst (AreKindsOf topic.Show (show_wish rest)) (sym (show_only ∙ or_else-nil (leaf_fault rest))) (leaf_kinds rest utf8)
+  where
     show_only : top_fault (codes "show" ∷ rest) ≡ or_else (leaf_fault rest) []
     show_only = rw (← walk_stopped (rules true) top_names (walk_from nothing_held) (codes "show") [] rest, stopped_fault top top_names (walk_from nothing_held) (codes "show", []) rest) refl
 
-    past_show : AreKindsOf (topic_of (codes "show" ∷ rest)) (arguments_wish (codes "show" ∷ rest)) (top_fault (codes "show" ∷ rest))
-    past_show = subst (AreKindsOf (topic.Job Show) (show_wish rest)) (sym (show_only ∙ or_else-nil (leaf_fault rest))) (leaf_kinds rest utf8.1)
+top_edit : (rest : List Text) → AtTop (codes "edit" ∷ rest)
+unfolding clap_on_literals
+top_edit rest = (refl, refl)
 
-    otherwise : bytes_eq word (codes "show") ≡ false → Settles true word (turn_fault top top_names (walk_from nothing_held) word)
-        → AreKindsOf (topic_of (word ∷ rest)) (arguments_wish (word ∷ rest)) (top_fault (word ∷ rest))
-    otherwise unnamed (for_help asked kinds) = rw (unnamed, asked, kinds) (refl, refl)
-    otherwise unnamed (for_version no_help asked kinds) = rw (unnamed, no_help, asked, kinds) refl
-    otherwise unnamed (for_nothing no_help no_version wrong) =
-        rw (unnamed, no_help, no_version) (first_mistake _ _ (first_mistake _ _ wrong))
+top_dashes : (more : List Text) → AtTop (codes "--" ∷ more)
+unfolding clap_on_literals
+top_dashes [] = record { test = refl }
+top_dashes (x ∷ xs) = record { test = refl }
+
+-- a word that names no job
+top_other : (word : Text) (rest : List Text) → bytes_eq word (codes "show") ≡ false → bytes_eq word (codes "edit") ≡ false
+    → Settles true word (turn_fault top top_names (walk_from nothing_held) word) → AtTop (word ∷ rest)
+unfolding clap_on_literals
+top_other word rest unshown unedited (for_help asked kinds) = rw (unshown, unedited, asked, kinds) (refl, refl)
+top_other word rest unshown unedited (for_version no_help asked kinds) = rw (unshown, unedited, no_help, asked, kinds) refl
+top_other word rest unshown unedited (for_nothing no_help no_version wrong) =
+    rw (unshown, unedited, no_help, no_version) (first_mistake _ _ (first_mistake _ _ wrong))
+
+-- all words but the program's name
+top_kinds : (words : List Text) → AreTexts words → AtTop words
+unfolding clap_on_literals
+top_kinds [] utf8 = record { test = refl }
+top_kinds (word ∷ rest) utf8 = elim (cases_Bool (bytes_eq word (codes "show"))) [
+  | inl shown ↦ subst (λ (w : Text). AtTop (w ∷ rest)) (sym ((bytes_eq-Decides word (codes "show")).0 shown)) (top_show rest utf8.1)
+  | inr unshown ↦ elim (cases_Bool (bytes_eq word (codes "edit"))) [
+    | inl edited ↦ subst (λ (w : Text). AtTop (w ∷ rest)) (sym ((bytes_eq-Decides word (codes "edit")).0 edited)) (top_edit rest)
+    | inr unedited ↦ elim (cases_Bool (bytes_eq word (codes "--"))) [
+      | inl dashes ↦ subst (λ (w : Text). AtTop (w ∷ rest)) (sym ((bytes_eq-Decides word (codes "--")).0 dashes)) (top_dashes rest)
+      | inr unlike ↦ top_other word rest unshown unedited
+          (settles true word _ (step_fault top 1 (flag_held true word))
+          (turn_top word (bytes_eq-swap word (codes "show") unshown) (bytes_eq-swap word (codes "edit") unedited) unlike)
+          (record { test = refl }) (reads_flag true word utf8.0))
+    ]
+  ]
+]
 
 -- ---- what the functions of the crate need
 
@@ -441,12 +457,13 @@ word_kinds app words given app_is given_is =
     subst (λ (ws : List Text). AreKindsOf (topic_of ws) (wish_of (map string_bytes words)) (top_fault ws)) (sym given_is) behind in
     subst (λ (a : App). AreKindsOf (topic_of (drop 1 given)) (wish_of (map string_bytes words)) (fault_of a given)) (sym app_is) at_given
 
--- the one kind that is the program's answer to a wish
+-- the kinds that are the program's answer to a wish
 abbrev IsKindOf : Topic → Wish → ErrorKind → Type 0
-IsKindOf topic (work job) k = ⊥
-IsKindOf topic (help on) k = (on ≡ topic) × (k ≡ kind.DisplayHelp)
-IsKindOf topic version k = k ≡ kind.DisplayVersion
-IsKindOf topic mistake k = is_request k ≡ false
+IsKindOf on showing k = ⊥
+IsKindOf on (editing words) k = (on ≡ topic.Edit) × IsAmong k (edit_kinds words)
+IsKindOf on (help asked) k = (asked ≡ on) × (k ≡ kind.DisplayHelp)
+IsKindOf on version k = k ≡ kind.DisplayVersion
+IsKindOf on mistake k = is_request k ≡ false
 
 only : (k one : ErrorKind) (ks : Kinds) → ks ≡ one ∷ [] → IsAmong k ks → k ≡ one
 only k one ks are among = alone (subst (IsAmong k) are among)
@@ -464,39 +481,147 @@ mistaken : (k : ErrorKind) (ks : Kinds) → IsMistaken ks → IsAmong k ks → i
 mistaken k [] some among = absurd among
 mistaken k (x ∷ xs) some among = no_request k (x ∷ xs) (not-true (list_any is_request (x ∷ xs)) some.test) among
 
-kind_of_wish : (topic : Topic) (wish : Wish) (ks : Kinds) (k : ErrorKind) → AreKindsOf topic wish ks → IsAmong k ks → IsKindOf topic wish k
-kind_of_wish topic (work job) ks k are among = subst (IsAmong k) are among
-kind_of_wish topic (help on) ks k are among = (are.0, only k kind.DisplayHelp ks are.1 among)
-kind_of_wish topic version ks k are among = only k kind.DisplayVersion ks are among
-kind_of_wish topic mistake ks k are among = mistaken k ks are among
+kind_of_wish : (on : Topic) (wish : Wish) (ks : Kinds) (k : ErrorKind) → AreKindsOf on wish ks → IsAmong k ks → IsKindOf on wish k
+kind_of_wish on showing ks k are among = subst (IsAmong k) are among
+kind_of_wish on (editing words) ks k are among = (are.0, subst (IsAmong k) are.1 among)
+kind_of_wish on (help asked) ks k are among = (are.0, only k kind.DisplayHelp ks are.1 among)
+kind_of_wish on version ks k are among = only k kind.DisplayVersion ks are among
+kind_of_wish on mistake ks k are among = mistaken k ks are among
 
-fault_of_kind : (topic : Topic) (wish : Wish) (k : ErrorKind) (fault : JobFault) → IsKindOf topic wish k → IsFaultOfKind topic k fault → IsFaultOf wish fault
-fault_of_kind topic wish k Memory of is = tt
-fault_of_kind topic (work job) k fault of is = absurd of
-fault_of_kind topic (help on) k (Help t text) of is = ap help (of.0 ∙ sym is.1)
-fault_of_kind topic (help on) k (Version text) of is = absurd (let clash : kind.DisplayHelp ≡ kind.DisplayVersion = sym of.1 ∙ is in cc)
-fault_of_kind topic (help on) k (Usage text) of is = absurd (is.0 of.1)
-fault_of_kind topic version k (Help t text) of is = absurd (let clash : kind.DisplayVersion ≡ kind.DisplayHelp = sym of ∙ is.0 in cc)
-fault_of_kind topic version k (Version text) of is = refl
-fault_of_kind topic version k (Usage text) of is = absurd (is.1 of)
-fault_of_kind topic mistake k (Help t text) of is = absurd (both_ways _ of (ap is_request is.0))
-fault_of_kind topic mistake k (Version text) of is = absurd (both_ways _ of (ap is_request is))
-fault_of_kind topic mistake k (Usage text) of is = refl
+-- memory may be wanting at any wish
+pub memory_of : (wish : Wish) → IsFaultOf wish Memory
+memory_of showing = tt
+memory_of (editing words) = tt
+memory_of (help asked) = tt
+memory_of version = tt
+memory_of mistake = tt
 
-fault_of_memory : (topic : Topic) (wish : Wish) (k : ErrorKind) (fault : JobFault) → k ≡ kind.OutOfMemory → IsFaultOfKind topic k fault → IsFaultOf wish fault
-fault_of_memory topic wish k Memory memory is = tt
-fault_of_memory topic wish k (Help t text) memory is = absurd (let clash : kind.OutOfMemory ≡ kind.DisplayHelp = sym memory ∙ is.0 in cc)
-fault_of_memory topic wish k (Version text) memory is = absurd (let clash : kind.OutOfMemory ≡ kind.DisplayVersion = sym memory ∙ is in cc)
-fault_of_memory topic wish k (Usage text) memory is = absurd (is.2 memory)
+fault_of_kind : (on : Topic) (wish : Wish) (k : ErrorKind) (fault : JobFault) → IsKindOf on wish k → IsFaultOfKind on k fault → IsFaultOf wish fault
+fault_of_kind on wish k Memory of is = memory_of wish
+fault_of_kind on showing k fault of is = absurd of
+fault_of_kind on (editing words) k (Help t text) of is = (is.1 ∙ of.0, subst (λ j. IsAmong j (edit_kinds words)) is.0 of.1)
+fault_of_kind on (editing words) k (Version text) of is = subst (λ j. IsAmong j (edit_kinds words)) is of.1
+fault_of_kind on (editing words) k (Usage text) of is = inl (k, is.0, is.1, of.1)
+fault_of_kind on (help asked) k (Help t text) of is = ap help (of.0 ∙ sym is.1)
+fault_of_kind on (help asked) k (Version text) of is = absurd (let clash : kind.DisplayHelp ≡ kind.DisplayVersion = sym of.1 ∙ is in cc)
+fault_of_kind on (help asked) k (Usage text) of is = absurd (is.0 of.1)
+fault_of_kind on version k (Help t text) of is = absurd (let clash : kind.DisplayVersion ≡ kind.DisplayHelp = sym of ∙ is.0 in cc)
+fault_of_kind on version k (Version text) of is = refl
+fault_of_kind on version k (Usage text) of is = absurd (is.1 of)
+fault_of_kind on mistake k (Help t text) of is = absurd (both_ways _ of (ap is_request is.0))
+fault_of_kind on mistake k (Version text) of is = absurd (both_ways _ of (ap is_request is))
+fault_of_kind on mistake k (Usage text) of is = refl
+
+fault_of_memory : (on : Topic) (wish : Wish) (k : ErrorKind) (fault : JobFault) → k ≡ kind.OutOfMemory → IsFaultOfKind on k fault → IsFaultOf wish fault
+fault_of_memory on wish k Memory memory is = memory_of wish
+fault_of_memory on wish k (Help t text) memory is = absurd (let clash : kind.OutOfMemory ≡ kind.DisplayHelp = sym memory ∙ is.0 in cc)
+fault_of_memory on wish k (Version text) memory is = absurd (let clash : kind.OutOfMemory ≡ kind.DisplayVersion = sym memory ∙ is in cc)
+fault_of_memory on wish k (Usage text) memory is = absurd (is.2 memory)
 
 -- the fault that clap's error is, is one of the wish
-pub wish_fault : (topic : Topic) (wish : Wish) (ks : Kinds) (e : Error) (fault : JobFault) → AreKindsOf topic wish ks → HasKind ks e → IsFaultOfKind topic (kind_of e) fault → IsFaultOf wish fault
-wish_fault topic wish ks e fault are (inl memory) is = fault_of_memory topic wish (kind_of e) fault memory is
-wish_fault topic wish ks e fault are (inr among) is = fault_of_kind topic wish (kind_of e) fault (kind_of_wish topic wish ks (kind_of e) are among) is
+pub wish_fault : (on : Topic) (wish : Wish) (ks : Kinds) (e : Error) (fault : JobFault) → AreKindsOf on wish ks → HasKind ks e → IsFaultOfKind on (kind_of e) fault → IsFaultOf wish fault
+wish_fault on wish ks e fault are (inl memory) is = fault_of_memory on wish (kind_of e) fault memory is
+wish_fault on wish ks e fault are (inr among) is = fault_of_kind on wish (kind_of e) fault (kind_of_wish on wish ks (kind_of e) are among) is
 
--- where clap finds no fault, there is a job
-pub wish_work : (topic : Topic) (wish : Wish) (ks : Kinds) → AreKindsOf topic wish ks → ks ≡ [] → wish ≡ work Show
-wish_work topic (work Show) ks are none = refl
-wish_work topic (help on) ks are none = absurd (let same : kind.DisplayHelp ∷ [] ≡ [] = sym are.1 ∙ none in cc)
-wish_work topic version ks are none = absurd (let same : kind.DisplayVersion ∷ [] ≡ [] = sym are ∙ none in cc)
-wish_work topic mistake ks are none = absurd (both_ways _ (ap is_mistaken none) are.test)
+-- ---- what is chosen where clap finds no fault
+
+-- what clap finds behind the job's word
+abbrev pub rows_entered : List Text → Option (List Row)
+rows_entered behind = option_map (λ p. p.1) (subcommand_of command_line (codes "mgr" ∷ behind))
+
+-- the job that is chosen is the one that is wished for, and so is the fault
+record Chooses (behind : List Text) (found : Option (List Row)) : Type 0 where
+  job : (j : Job) → IsChosen (topic_of behind) found j → IsJobOf (arguments_wish behind) j
+  fault : (f : JobFault) → IsNotChosen (topic_of behind) found f → IsFaultOf (arguments_wish behind) f
+
+-- of words that bring no error
+abbrev ChoosesAt : List Text → Type 0
+ChoosesAt behind = (ks : Kinds) → AreKindsOf (topic_of behind) (arguments_wish behind) ks → ks ≡ [] → Chooses behind (rows_entered behind)
+
+no_help : (on asked : Topic) (ks : Kinds) → AreKindsOf on (help asked) ks → ks ≡ [] → ⊥
+no_help on asked ks are none = let same : kind.DisplayHelp ∷ [] ≡ [] = sym are.1 ∙ none in absurd cc
+
+no_version : (on : Topic) (ks : Kinds) → AreKindsOf on version ks → ks ≡ [] → ⊥
+no_version on ks are none = let same : kind.DisplayVersion ∷ [] ≡ [] = sym are ∙ none in absurd cc
+
+no_mistake : (on : Topic) (ks : Kinds) → AreKindsOf on mistake ks → ks ≡ [] → ⊥
+no_mistake on ks are none = both_ways _ (ap is_mistaken none) are.test
+
+shows : (wish : Wish) (ks : Kinds) → AreKindsOf topic.Show wish ks → ks ≡ [] → wish ≡ showing
+shows showing ks are none = refl
+shows (editing words) ks are none = absurd (let clash : topic.Show ≡ topic.Edit = are.0 in cc)
+shows (help asked) ks are none = absurd (no_help topic.Show asked ks are none)
+shows version ks are none = absurd (no_version topic.Show ks are none)
+shows mistake ks are none = absurd (no_mistake topic.Show ks are none)
+
+chooses_show : (rest : List Text) → ChoosesAt (codes "show" ∷ rest)
+unfolding clap_on_literals
+chooses_show rest ks are none = record { job = job; fault = fault }
+  where
+    found : Option (List Row)
+    found = rows_entered (codes "show" ∷ rest)
+
+    job : (j : Job) → IsChosen topic.Show found j → IsJobOf (show_wish rest) j
+    job Show chosen = shows (show_wish rest) ks are none
+    job (Edit s) chosen = absurd chosen
+
+    fault : (f : JobFault) → IsNotChosen topic.Show found f → IsFaultOf (show_wish rest) f
+    fault Memory chosen = memory_of (show_wish rest)
+    fault (Help on text) chosen = absurd chosen
+    fault (Version text) chosen = absurd chosen
+    fault (Usage text) chosen = absurd chosen
+
+chooses_edit : (rest : List Text) → ChoosesAt (codes "edit" ∷ rest)
+unfolding clap_on_literals
+chooses_edit rest ks are none = record { job = job; fault = fault }
+  where
+    found : Option (List Row)
+    found = rows_entered (codes "edit" ∷ rest)
+
+    job : (j : Job) → IsChosen topic.Edit found j → IsJobOf (editing rest) j
+    job Show chosen = absurd chosen
+    job (Edit s) chosen = (rest, refl, (sym are.1 ∙ none, chosen))
+
+    fault : (f : JobFault) → IsNotChosen topic.Edit found f → IsFaultOf (editing rest) f
+    fault Memory chosen = tt
+    fault (Help on text) chosen = absurd chosen
+    fault (Version text) chosen = absurd chosen
+    fault (Usage text) chosen = inr (sym are.1 ∙ none, chosen)
+
+chooses_other : (word : Text) (rest : List Text) → bytes_eq word (codes "show") ≡ false → bytes_eq word (codes "edit") ≡ false → ChoosesAt (word ∷ rest)
+chooses_other word rest unshown unedited ks are none = elim (cases_Bool (is_help_flag word)) [
+  | inl asked ↦ absurd (no_help topic.Program topic.Program ks (rw (unshown, unedited, asked) at are) none)
+  | inr unasked ↦ elim (cases_Bool (is_version_flag word)) [
+    | inl asked ↦ absurd (no_version topic.Program ks (rw (unshown, unedited, unasked, asked) at are) none)
+    | inr other ↦ absurd (no_mistake topic.Program ks (rw (unshown, unedited, unasked, other) at are) none)
+  ]
+]
+
+chooses_behind : (behind : List Text) → ChoosesAt behind
+chooses_behind [] = λ ks are none. absurd (no_mistake topic.Program ks are none)
+chooses_behind (word ∷ rest) = elim (cases_Bool (bytes_eq word (codes "show"))) [
+  | inl shown ↦ subst (λ (w : Text). ChoosesAt (w ∷ rest)) (sym ((bytes_eq-Decides word (codes "show")).0 shown)) (chooses_show rest)
+  | inr unshown ↦ elim (cases_Bool (bytes_eq word (codes "edit"))) [
+    | inl edited ↦ subst (λ (w : Text). ChoosesAt (w ∷ rest)) (sym ((bytes_eq-Decides word (codes "edit")).0 edited)) (chooses_edit rest)
+    | inr unedited ↦ chooses_other word rest unshown unedited
+  ]
+]
+
+-- of all words, as they were given to clap
+pub chooses : (app : App) (words : List (String Global)) (given : List Text) (on : Topic) (found : Option (List Row)) → app ≡ command_line
+    → drop 1 given ≡ with_help_flag (drop 1 (map string_bytes words)) → on ≡ topic_of (drop 1 given) → fault_of app given ≡ []
+    → found ≡ option_map (λ p. p.1) (subcommand_of app given)
+    → ((j : Job) → IsChosen on found j → IsJobOf (wish_of (map string_bytes words)) j)
+    × ((f : JobFault) → IsNotChosen on found f → IsFaultOf (wish_of (map string_bytes words)) f)
+chooses app words given on found app_is given_is on_is none found_is =
+    let behind = with_help_flag (drop 1 (map string_bytes words)) in
+    let kinds = word_kinds app words given app_is given_is in
+    let at : AreKindsOf (topic_of behind) (wish_of (map string_bytes words)) (fault_of app given) =
+    subst (λ (ws : List Text). AreKindsOf (topic_of ws) (wish_of (map string_bytes words)) (fault_of app given)) given_is kinds in
+    let rows : found ≡ rows_entered behind =
+    found_is ∙ ap (λ (a : App). option_map (λ p. p.1) (subcommand_of a given)) app_is ∙ ap (λ (ws : List Text). rows_entered ws) given_is in
+    let topic_is : on ≡ topic_of behind = on_is ∙ ap topic_of given_is in
+    let are : Chooses behind (rows_entered behind) = chooses_behind behind (fault_of app given) at none in (
+      (λ j chosen. are.job j (subst (λ o. IsChosen o (rows_entered behind) j) topic_is (subst (λ f. IsChosen on f j) rows chosen))),
+      (λ f chosen. are.fault f (subst (λ o. IsNotChosen o (rows_entered behind) f) topic_is (subst (λ r. IsNotChosen on r f) rows chosen))),
+    )

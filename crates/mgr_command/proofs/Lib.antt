@@ -1,1 +1,3 @@
 pub mod CommandLineLemmas
+pub mod Adding
+pub mod GivenLemmas

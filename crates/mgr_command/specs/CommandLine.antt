@@ -4,17 +4,17 @@ use Rattle.std.specs.Prelude.{if◌then◌else◌}
 use Rattle.std.specs.List.{starts_with}
 use Rattle.std.specs.Str.{bytes_eq}
 use Rattle.clap.specs.Simple.{App, Shape, new_app, new_shape, on_top, with_subcommand}
-use Rattle.mgr_command.specs.declared.job.Job.{Job}
-use Rattle.mgr_command.specs.declared.job.Job.TheVariants.{Show}
+use Rattle.mgr_command.specs.Edit.{edit_app}
 use Rattle.mgr_command.specs.declared.job.Topic.{Topic}
 use Rattle.mgr_command.specs.declared.job.Topic.TheVariants as topic
 
 abbrev pub Text : Type 0
 Text = List ℕ
 
--- a job, help on a topic, the version, or nothing that the program has
+-- a job, help on a topic, the version, or nothing that the program has; what stands behind `edit` is read by clap
 pub data Wish : Type 0 where
-  work : Job → Wish
+  showing : Wish
+  editing : List Text → Wish
   help : Topic → Wish
   version : Wish
   mistake : Wish
@@ -34,16 +34,17 @@ is_end_of_flags _ = false
 
 -- the words behind `show`, which takes none
 abbrev pub show_wish : List Text → Wish
-show_wish [] = work Show
+show_wish [] = showing
 show_wish (word ∷ rest) =
-    if is_help_flag word then help (topic.Job Show)
-    else if is_end_of_flags (word ∷ rest) then work Show else mistake
+    if is_help_flag word then help topic.Show
+    else if is_end_of_flags (word ∷ rest) then showing else mistake
 
 -- the words behind the program's name
 abbrev pub arguments_wish : List Text → Wish
 arguments_wish [] = mistake
 arguments_wish (word ∷ rest) =
     if bytes_eq word (codes "show") then show_wish rest
+    else if bytes_eq word (codes "edit") then editing rest
     else if is_help_flag word then help topic.Program
     else if is_version_flag word then version else mistake
 
@@ -60,9 +61,11 @@ wish_of words = arguments_wish (with_help_flag (drop 1 words))
 -- what help is on, where the words behind the program's name ask for it
 abbrev pub topic_of : List Text → Topic
 topic_of [] = topic.Program
-topic_of (word ∷ rest) = if bytes_eq word (codes "show") then topic.Job Show else topic.Program
+topic_of (word ∷ rest) =
+    if bytes_eq word (codes "show") then topic.Show
+    else if bytes_eq word (codes "edit") then topic.Edit else topic.Program
 
--- the command line as clap is told of it: `show`, which stands alone
+-- the command line as clap is told of it: `show`, which stands alone, and `edit` with what it takes
 abbrev pub required : Shape → Shape
 required top = record top {
   has_version = true;
@@ -70,5 +73,8 @@ required top = record top {
   disable_help_subcommand = true;
 }
 
+abbrev pub program_alone : App
+program_alone = on_top required (new_app (codes "mgr"))
+
 abbrev pub command_line : App
-command_line = with_subcommand (on_top required (new_app (codes "mgr"))) (new_shape (codes "show"))
+command_line = with_subcommand (with_subcommand program_alone (new_shape (codes "show"))) edit_app.top

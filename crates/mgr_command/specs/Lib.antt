@@ -1,2 +1,3 @@
+pub mod Edit
 pub mod CommandLine
 pub mod Job

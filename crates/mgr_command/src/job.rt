@@ -2,20 +2,24 @@
 ghost use Rattle.std.specs.Prelude.{◌≡◌, IfErr, IfOk, drop, map, string_bytes};
 ghost use Rattle.clap.specs.Values.{kind_of};
 ghost use Rattle.clap.specs.Walk.{texts};
-ghost use Rattle.mgr_command.specs.CommandLine.{mistake, topic_of, wish_of, with_help_flag, work};
-ghost use Rattle.mgr_command.specs.Job.{IsFaultOf, IsFaultOfKind, job_status_of};
+ghost use Rattle.mgr_command.specs.CommandLine.{mistake, topic_of, wish_of, with_help_flag};
+ghost use Rattle.mgr_command.specs.Job.{IsChosen, IsNotChosen, IsFaultOf, IsFaultOfKind, IsJobOf, IsUsage, job_status_of, rows_behind};
 ghost use Rattle.mgr_command.specs.declared.job.JobFault.TheVariants.{Memory};
 
 use crate::command::command;
-use clap::Error;
+use crate::given::settings_of;
 use clap::error::ErrorKind;
+use clap::{ArgMatches, Error};
+use mg_settings::Settings;
 use std::alloc::{AllocError, Global};
 
 /// What the program is to do.
-#[derive(Clone, Copy, Debug, PartialEq, Eq)]
+#[derive(Drop)]
 pub enum Job {
     /// Operation lines in, the text out.
     Show,
+    /// Keys in, frames out.
+    Edit(Settings),
 }
 
 /// What help is on.
@@ -23,8 +27,8 @@ pub enum Job {
 pub enum Topic {
     /// The whole program.
     Program,
-    /// One of its jobs.
-    Job(Job),
+    Show,
+    Edit,
 }
 
 /// Why there is no job.
@@ -66,20 +70,48 @@ pub fn job_status(fault: &JobFault) -> u8
 
 /// The job that the words ask for, of which the first is the program's name.
 ///
-/// `show` alone is `Job::Show`; a `--` may end its flags. `Help` is on the program where the first
-/// word behind its name is `--help`, or `-h` with anything behind it, and on `show` where the first
-/// word behind `show` is. `Version` where the first word is `--version`, or `-V` with anything
-/// behind it. `help` in front is `--help` behind: `mgr help show` asks for what `mgr show --help`
-/// does. `Usage` at any other command line, and `Memory`.
+/// `show` alone is `Job::Show`; a `--` may end its flags. `edit` is followed by what clap reads: a
+/// name, `--replica N`, and the other options, each at most once and within its limits. `Help` is on
+/// the program where the first word behind its name is `--help`, or `-h` with anything behind it, on
+/// `show` where the first word behind `show` is, and on `edit` where clap finds it there. `Version`
+/// where the first word is `--version`, or `-V` with anything behind it. `help` in front is `--help`
+/// behind: `mgr help show` asks for what `mgr show --help` does. `Usage` at any other command line,
+/// and `Memory`.
 pub fn job_of(alloc: Global, words: &[String]) -> Result<Job, JobFault>
-    ensures job { IfOk result (λ job. wish_of (map string_bytes words.now) ≡ work job) }
+    ensures job { IfOk result (IsJobOf (wish_of (map string_bytes words.now))) }
     ensures fault { IfErr result (IsFaultOf (wish_of (map string_bytes words.now))) }
 {
     let words = with_help_flag(alloc, words)?;
     let command = command(alloc)?;
+    let topic = topic_of(&words);
     match command.try_get_matches_from(words.as_slice()) {
-        Ok(_) => Ok(Job::Show),
-        Err(error) => Err(fault_of(error, topic_of(&words))),
+        Ok(matches) => chosen(alloc, topic, &matches),
+        Err(error) => Err(fault_of(error, topic)),
+    }
+}
+
+/// The job that matches ask for, where the words are such that help would be on this topic.
+fn chosen(alloc: Global, topic: Topic, matches: &ArgMatches<'_>) -> Result<Job, JobFault>
+    ensures job { IfOk result (IsChosen topic (rows_behind matches.now)) }
+    ensures fault { IfErr result (IsNotChosen topic (rows_behind matches.now)) }
+{
+    match topic {
+        Topic::Edit => edit_of(alloc, matches),
+        Topic::Program | Topic::Show => Ok(Job::Show),
+    }
+}
+
+/// The session that `edit` was asked for.
+fn edit_of(alloc: Global, matches: &ArgMatches<'_>) -> Result<Job, JobFault>
+    ensures job { IfOk result (IsChosen Topic.Edit (rows_behind matches.now)) }
+    ensures fault { IfErr result (IsNotChosen Topic.Edit (rows_behind matches.now)) }
+{
+    let Some((_, found)) = matches.subcommand() else {
+        return Err(mistake(alloc, "nothing is to be edited"));
+    };
+    match settings_of(alloc, found)? {
+        Some(settings) => Ok(Job::Edit(settings)),
+        None => Err(mistake(alloc, "the name is empty")),
     }
 }
 
@@ -111,11 +143,14 @@ fn texts_of<'a>(alloc: Global, words: &'a [String]) -> Result<Vec<&'a str>, Allo
 fn topic_of(words: &[&str]) -> Topic
     ensures { result ≡ topic_of (drop 1 (texts words.now)) }
 {
-    if words.get(1) == Some(&"show") {
-        Topic::Job(Job::Show)
-    } else {
-        Topic::Program
+    let first = words.get(1);
+    if first == Some(&"show") {
+        return Topic::Show;
     }
+    if first == Some(&"edit") {
+        return Topic::Edit;
+    }
+    Topic::Program
 }
 
 fn fault_of(error: Error, topic: Topic) -> JobFault
@@ -133,14 +168,19 @@ fn fault_of(error: Error, topic: Topic) -> JobFault
 pub fn fault_of_bytes(alloc: Global) -> JobFault
     ensures { IsFaultOf mistake result }
 {
-    match error_of_bytes(alloc) {
+    mistake(alloc, "an argument is not UTF-8")
+}
+
+/// `Usage` with a reason of the program's own, or `Memory`.
+fn mistake(alloc: Global, reason: &str) -> JobFault
+    ensures { IsUsage result }
+{
+    match error_of(alloc, reason) {
         Ok(error) => JobFault::Usage(error),
         Err(_) => JobFault::Memory,
     }
 }
 
-fn error_of_bytes(alloc: Global) -> Result<Error, AllocError>
-    ensures { IfOk result (λ e. kind_of e ≡ ErrorKind.InvalidValue) }
-{
-    command(alloc)?.error(ErrorKind::InvalidValue, "an argument is not UTF-8")
+fn error_of(alloc: Global, reason: &str) -> Result<Error, AllocError> {
+    command(alloc)?.error(ErrorKind::InvalidValue, reason)
 }

@@ -1,1 +1,2 @@
+pub mod Report
 pub mod Status

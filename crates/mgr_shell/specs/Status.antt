@@ -5,7 +5,11 @@ use Rattle.rga_lines.specs.Counting.{Calls, CountsAs, OnBytes, WritesNothing, on
 use Rattle.mgr_command.specs.declared.job.JobFault.{JobFault}
 use Rattle.mgr_command.specs.declared.job.JobFault.TheVariants.{Help, Version, Usage, Memory}
 use Rattle.mgr_show.specs.Log.{log_of}
-use Rattle.mgr_show.specs.Report.{exit_status_of}
+use Rattle.mgr_shell.specs.Report.{edited_status, shown_status}
+use Rattle.mg_session.specs.declared.fault.SessionFault.{SessionFault}
+use Rattle.mg_session.specs.declared.fault.SessionFault.TheVariants as session
+use Rattle.mgr_command.specs.declared.job.Job.{Job}
+use Rattle.mgr_command.specs.declared.job.Job.TheVariants.{Show, Edit}
 use Rattle.mgr_show.specs.Shown.{IsOfInput, Shows}
 use Rattle.mgr_show.specs.declared.fault.ShowFault.{ShowFault}
 use Rattle.mgr_show.specs.declared.fault.ShowFault.TheVariants as fault
@@ -14,12 +18,27 @@ module _ {R W : Type 0} (remaining : R → Option (List ℕ)) (contents : W → 
   -- The status is that of an answer to `show`, which says what was read and what was written.
   pub record IsStatusOfShow (status : ℕ) (r s : Calls R) (old new : Calls W) : Type 0 where
     pub answer : Result (Unit {0}) ShowFault
-    pub exact : status ≡ exit_status_of answer
+    pub exact : status ≡ shown_status answer
     pub shown : OnOk answer (OnBytes remaining r (Shows contents old new))
     pub refused : IfErr answer (λ e. IsOfInput e → OnBytes remaining r (λ bytes. log_of MAX_LIMIT bytes ≡ Err e))
     pub nothing : IfErr answer (λ e. e ≢ fault.Write → e ≢ fault.Memory → WritesNothing contents old new)
     pub reads : CountsAs fault.Read answer r s
     pub writes : CountsAs fault.Write answer old new
+
+module _ {R W P : Type 0} (failures : P → ℕ) where
+  -- The status is that of an answer of a session, which says which device failed.
+  pub record IsStatusOfEdit (status : ℕ) (r s : Calls R) (old new : Calls W) (before after : P) : Type 0 where
+    pub answer : Result (Unit {0}) SessionFault
+    pub exact : status ≡ edited_status answer
+    pub keys : CountsAs session.Keys answer r s
+    pub screen : CountsAs session.Screen answer old new
+    pub file : answer ≡ Err session.File → failures after ≡ one_more (failures before)
+
+module _ {R W P : Type 0} (remaining : R → Option (List ℕ)) (contents : W → Option (List ℕ)) (failures : P → ℕ) where
+  -- of a job; `show` has nothing to do with the port
+  abbrev pub IsStatusOfJob : Job → ℕ → Calls R → Calls R → Calls W → Calls W → P → P → Type 0
+  IsStatusOfJob Show status r s old new before after = IsStatusOfShow remaining contents status r s old new × (after ≡ before)
+  IsStatusOfJob (Edit settings) status r s old new before after = IsStatusOfEdit failures status r s old new before after
 
 module _ {W : Type 0} where
   -- A text that was asked for was printed, or not: 3 exactly where standard output failed, and else 0, or 4 where

@@ -1,12 +1,15 @@
 //! What the program does for the shell: the job of the command line, by standard input and output.
 //!
-//! What the words of the command line ask for belongs to mgr_command, and what is read and written
-//! in between to mgr_show. The shell may rest on the statuses (`do_job`): 0 for `show` says that
-//! the text was written, each other answer of `show_ops` has the status of its fault, and help or
-//! the version that was not printed is never told as done. `run` does that for standard input and
-//! output, which have no name in a clause.
+//! What the words of the command line ask for belongs to mgr_command, what is read and written in
+//! between to mgr_show and mg_session, and files to mgr_files. The shell may rest on the statuses
+//! (`do_job`): 0 for `show` says that the text was written, each other answer of `show_ops` and of
+//! `run_keys` has the status of its fault, and help or the version that was not printed is never
+//! told as done. `Report` is the line on standard error. `run` does that for standard input and
+//! output and for files, which have no name in a clause.
 #![tactic(auto)]
 
+mod report;
 mod shell;
 
+pub use report::{Message, Report};
 pub use shell::{do_job, run};

@@ -1,46 +1,53 @@
 //! The job of the command line, done, and what the shell is told of it.
-ghost use Rattle.std.specs.Prelude.{◌≡◌, ◌⊎◌, ◌≤◌, IfErr, MatchResult};
-ghost use Rattle.rga_lines.specs.Counting.{CountsAs};
-ghost use Rattle.mgr_show.specs.Report.{exit_status_of};
-ghost use Rattle.mgr_shell.specs.Status.{IsStatusOf, IsStatusOfPrint, IsStatusOfShow};
+ghost use Rattle.std.specs.Prelude.{◌≡◌, ◌≤◌, MatchResult};
+ghost use Rattle.mgr_shell.specs.Status.{IsStatusOf, IsStatusOfJob, IsStatusOfEdit, IsStatusOfPrint, IsStatusOfShow};
 
+use crate::report::Report;
+use mg_files::Port;
+use mg_session::run_keys;
+use mg_settings::Settings;
 use mgr_command::{Job, JobFault, job_of, job_status, words};
-use mgr_show::{Report, ShowFault, exit_status, show_ops, write_text};
+use mgr_files::FilePort;
+use mgr_show::{show_ops, write_text};
 use rga_lines::Counted;
+use rga_store::TreeStore;
 use std::alloc::Global;
 use std::fmt::Display;
 use std::io;
 use std::io::{Read, Write};
-use std::rt::Env;
+use std::rt::{Env, Files};
 
-/// Does the job that the command line asks for, by standard input and output, and answers the exit
-/// status that `do_job` does.
-pub fn run<R: Env + AllocGlobal + Input + Print + Eprint>(rt: &R) -> u8
+/// Does the job that the command line asks for, by standard input and output and by files, and
+/// answers the exit status that `do_job` does.
+pub fn run<R: Env + Files + AllocGlobal + Input + Print + Eprint>(rt: &R) -> u8
     ensures { result ≤ 4 }
 {
     let job = words(rt).and_then(|words| job_of(rt.alloc(), &words));
     let mut reader = Counted::new(rt.reader());
     let mut writer = Counted::new(io::writer(rt));
-    do_job(rt, &job, &mut reader, &mut writer)
+    let mut port = FilePort::new(rt);
+    do_job(rt, &job, &mut reader, &mut writer, &mut port)
 }
 
 /// Does a job, or tells why there is none, and answers the exit status: 0 done, 1 the input is
 /// refused, 2 a wrong command line, 3 a device failed, 4 memory was refused. Nothing is written to
 /// standard error where it is 0.
-pub fn do_job<E: AllocGlobal + Eprint, R: Read, W: Write>(
+pub fn do_job<E: AllocGlobal + Eprint, R: Read, W: Write, P: Port>(
     rt: &E,
     job: &Result<Job, JobFault>,
     reader: &mut Counted<R>,
     writer: &mut Counted<W>,
+    port: &mut P,
 ) -> u8
     ensures status { MatchResult job.now
-        (λ _. IsStatusOfShow R.remaining W.contents result
-        reader.old reader.new writer.old writer.new)
+        (λ job. IsStatusOfJob R.remaining W.contents P.failures job result
+        reader.old reader.new writer.old writer.new port.old port.new)
         (λ fault. IsStatusOf fault result writer.old writer.new) }
     ensures bound { result ≤ 4 }
 {
     match job {
         Ok(Job::Show) => show(rt, reader, writer),
+        Ok(Job::Edit(settings)) => edit(rt, settings, reader, writer, port),
         Err(fault) => refuse(rt, fault, writer),
     }
 }
@@ -54,7 +61,27 @@ fn show<E: AllocGlobal + Eprint, R: Read, W: Write>(
         reader.old reader.new writer.old writer.new }
     ensures bound { result ≤ 4 }
 {
-    finish(rt, show_ops(rt.alloc(), reader, writer))
+    match show_ops(rt.alloc(), reader, writer) {
+        Ok(()) => 0,
+        Err(fault) => tell(rt, Report::of_show(&fault)),
+    }
+}
+
+fn edit<E: AllocGlobal + Eprint, R: Read, W: Write, P: Port>(
+    rt: &E,
+    settings: &Settings,
+    reader: &mut Counted<R>,
+    writer: &mut Counted<W>,
+    port: &mut P,
+) -> u8
+    ensures status { IsStatusOfEdit P.failures result
+        reader.old reader.new writer.old writer.new port.old port.new }
+    ensures bound { result ≤ 4 }
+{
+    match run_keys::<TreeStore, _, _, _>(rt.alloc(), reader, writer, port, settings) {
+        Ok(()) => 0,
+        Err(fault) => tell(rt, Report::of_session(&fault)),
+    }
 }
 
 fn refuse<E: AllocGlobal + Eprint, W: Write>(
@@ -70,7 +97,7 @@ fn refuse<E: AllocGlobal + Eprint, W: Write>(
             let _ = rt.eprint(text);
             job_status(fault)
         }
-        JobFault::Memory => finish(rt, Err(ShowFault::Memory)),
+        JobFault::Memory => tell(rt, Report::memory()),
     }
 }
 
@@ -82,30 +109,20 @@ fn print<E: AllocGlobal + Eprint, D: Display, W: Write>(
 ) -> u8
     ensures { IsStatusOfPrint result writer.old writer.new }
 {
-    finish(rt, write_display(rt.alloc(), text, writer))
-}
-
-fn write_display<D: Display, W: Write>(
-    alloc: Global,
-    text: &D,
-    writer: &mut Counted<W>,
-) -> Result<(), ShowFault>
-    ensures fault { IfErr result (λ e. (e ≡ ShowFault.Write) ⊎ (e ≡ ShowFault.Memory)) }
-    ensures device { CountsAs ShowFault.Write result writer.old writer.new }
-{
-    let Ok(text) = text.to_string(alloc) else {
-        return Err(ShowFault::Memory);
+    let Ok(text) = text.to_string(rt.alloc()) else {
+        return tell(rt, Report::memory());
     };
-    write_text(text.as_str(), writer)
+    match write_text(text.as_str(), writer) {
+        Ok(()) => 0,
+        Err(fault) => tell(rt, Report::of_show(&fault)),
+    }
 }
 
-/// Tells of a fault, and answers the exit status. A line that standard error does not take is lost:
+/// Tells of a fault, and answers its exit status. A line that standard error does not take is lost:
 /// there is nowhere left to say so.
-fn finish<E: Eprint>(rt: &E, answer: Result<(), ShowFault>) -> u8
-    ensures { result ≡ exit_status_of answer }
+fn tell<E: Eprint>(rt: &E, report: Report) -> u8
+    ensures { result ≡ report.status }
 {
-    if let Err(fault) = &answer {
-        let _ = rt.eprintln(Report::of(fault));
-    }
-    exit_status(&answer)
+    let _ = rt.eprintln(report);
+    report.status
 }

@@ -1,3 +1,2 @@
 pub mod Log
-pub mod Report
 pub mod Shown

@@ -1,4 +1,5 @@
 //! What command lines ask for, and the texts that answer them.
+use mg_settings::{Settings, Values};
 use mgr_command::{Job, JobFault, Topic, VERSION, fault_of_bytes, job_of, job_status, words};
 use std::alloc::{AllocError, Global};
 
@@ -19,6 +20,7 @@ fn asked(alloc: Global, line: &str) -> Result<Job, JobFault> {
 fn answer(alloc: Global, line: &str) -> (&'static str, u8) {
     match asked(alloc, line) {
         Ok(Job::Show) => ("show", 0),
+        Ok(Job::Edit(_)) => ("edit", 0),
         Err(fault) => (name_of(&fault), job_status(&fault)),
     }
 }
@@ -26,7 +28,8 @@ fn answer(alloc: Global, line: &str) -> (&'static str, u8) {
 fn name_of(fault: &JobFault) -> &'static str {
     match fault {
         JobFault::Help(Topic::Program, _) => "help of mgr",
-        JobFault::Help(Topic::Job(Job::Show), _) => "help of show",
+        JobFault::Help(Topic::Show, _) => "help of show",
+        JobFault::Help(Topic::Edit, _) => "help of edit",
         JobFault::Version(_) => "version",
         JobFault::Usage(_) => "usage",
         JobFault::Memory => "memory",
@@ -56,6 +59,17 @@ const HELP_OF_SHOW: &str = "mgr show --help
 mgr show -h
 mgr help show";
 
+const EDIT: &str = "mgr edit notes --replica 1
+mgr edit --replica 65535 notes
+mgr edit notes --replica=7 --rows 3 --cols 20 --fill 1 --port 1 --trace --cursor
+mgr edit notes --replica 7 --rows 200 --cols 500 --fill 9999 --port 65535
+mgr edit --replica 1 -- --notes";
+
+const HELP_OF_EDIT: &str = "mgr edit --help
+mgr edit -h
+mgr edit notes --replica 1 --help
+mgr help edit";
+
 const VERSIONS: &str = "mgr --version
 mgr -V
 mgr -Vh
@@ -68,6 +82,24 @@ mgr text
 mgr show text
 mgr --text
 mgr show --text
+mgr edit
+mgr edit notes
+mgr edit --replica 1
+mgr edit notes more --replica 1
+mgr edit notes --replica
+mgr edit notes --replica 0
+mgr edit notes --replica 65536
+mgr edit notes --replica one
+mgr edit notes --replica 1 --replica 2
+mgr edit notes --replica 1 --rows 2
+mgr edit notes --replica 1 --rows 201
+mgr edit notes --replica 1 --cols 19
+mgr edit notes --replica 1 --cols 501
+mgr edit notes --replica 1 --fill 0
+mgr edit notes --replica 1 --fill 10000
+mgr edit notes --replica 1 --port 0
+mgr edit notes --replica 1 --trace --trace
+mgr edit notes --replica 1 --text
 mgr --help=text
 mgr --version=1
 mgr show --version
@@ -79,10 +111,12 @@ mgr help show --";
 
 #[test]
 fn jobs_of_command_lines(rt: HostRuntime) {
-    let table: [(&str, u8, &str); 5] = [
+    let table: [(&str, u8, &str); 7] = [
         ("show", 0, SHOW),
+        ("edit", 0, EDIT),
         ("help of mgr", 0, HELP_OF_MGR),
         ("help of show", 0, HELP_OF_SHOW),
+        ("help of edit", 0, HELP_OF_EDIT),
         ("version", 0, VERSIONS),
         ("usage", 2, MISTAKES),
     ];
@@ -93,6 +127,92 @@ fn jobs_of_command_lines(rt: HostRuntime) {
             "{name}"
         );
     }
+}
+
+/// The settings that the words of this line give to an editing session.
+fn settings(alloc: Global, line: &str) -> Option<Settings> {
+    match asked(alloc, line) {
+        Ok(Job::Edit(settings)) => Some(settings),
+        _ => None,
+    }
+}
+
+/// Numbers of settings: the replica, the rows, the columns, the fill column and the port.
+fn numbers(values: &Values) -> (u16, usize, usize, u16, Option<u16>) {
+    let port = values.port;
+    (
+        values.replica,
+        values.rows,
+        values.columns,
+        values.fill,
+        port,
+    )
+}
+
+/// Whether a session is told this name, with these numbers and flags.
+fn gives(
+    alloc: Global,
+    line: &str,
+    name: &str,
+    wanted: (u16, usize, usize, u16, Option<u16>),
+    flags: (bool, bool),
+) -> bool {
+    let Some(settings) = settings(alloc, line) else {
+        return false;
+    };
+    let values = settings.values();
+    values.name.as_str() == name
+        && numbers(values) == wanted
+        && (values.trace, values.cursor) == flags
+}
+
+#[test]
+fn settings_of_command_lines(rt: HostRuntime) {
+    let defaults = (1, 24, 80, 70, None);
+    let all = (7, 3, 20, 1, Some(9));
+    for (line, name, numbers, flags) in [
+        (
+            "mgr edit notes --replica 1",
+            "notes",
+            defaults,
+            (false, false),
+        ),
+        (
+            "mgr edit --replica=1 a/b --trace",
+            "a/b",
+            defaults,
+            (true, false),
+        ),
+        (
+            "mgr edit --cursor --replica 1 -- --x",
+            "--x",
+            defaults,
+            (false, true),
+        ),
+        (
+            "mgr edit x --replica 7 --rows 3 --cols 20 --fill 1 --port 9 --trace --cursor",
+            "x",
+            all,
+            (true, true),
+        ),
+    ] {
+        assert!(rt; gives(rt.alloc(), line, name, numbers, flags), "{line}");
+    }
+}
+
+/// The words of this line, and an empty one behind them.
+fn with_empty_word(alloc: Global, line: &str) -> Result<Vec<String>, AllocError> {
+    let mut words = words_of(alloc, line)?;
+    words.push(String::new(alloc))?;
+    Ok(words)
+}
+
+#[test]
+fn empty_name_is_a_wrong_command_line(rt: HostRuntime) {
+    let words = with_empty_word(rt.alloc(), "mgr edit --replica 1").unwrap_or(Vec::new(rt.alloc()));
+    let answer = job_of(rt.alloc(), &words);
+    assert_eq!(rt; words.len(), 5);
+    assert!(rt; answer.is_err_and(|fault| job_status(&fault) == 2));
 }
 
 /// The text that answers this line in place of a job.
@@ -128,7 +248,9 @@ fn help_of_mgr_names_its_jobs(rt: HostRuntime) {
             "Usage: mgr <COMMAND>\n",
             "\n  show  ",
             "-V, --version",
+            "\n  edit  ",
             "mgr help show",
+            "mgr help edit",
         ] {
             assert!(rt; tells(rt.alloc(), line, part), "{part:?} at {line}");
         }

@@ -5,4 +5,6 @@
 #![tactic(auto)]
 
 #[cfg(test)]
+mod reports;
+#[cfg(test)]
 mod statuses;

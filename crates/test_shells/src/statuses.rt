@@ -7,6 +7,7 @@ use std::cell::Cell;
 use std::fmt::Display;
 use std::io;
 use test_devices::{Narrow, Pieces};
+use test_ports::MemoryPort;
 
 /// A standard error that is to be told this, in one go: a line, or the beginning of a text.
 #[derive(Drop)]
@@ -58,18 +59,26 @@ fn asked(alloc: Global, line: &str) -> Result<Job, JobFault> {
     job_of(alloc, &words_of(alloc, line)?)
 }
 
-/// What a job is given: a log, how many reads of it succeed, and room for what is written.
+/// What a job is given: its input, how many reads of it succeed, and room for what is written.
 #[derive(Clone, Copy)]
 struct Devices<'a> {
-    log: &'a str,
+    input: &'a str,
     reads: usize,
     room: usize,
+}
+
+/// A log that is none, and a text that is no text.
+fn files(alloc: Global) -> Result<MemoryPort, AllocError> {
+    let mut port = MemoryPort::new(alloc);
+    port.put("log", Some(b"x\n"), None)?;
+    port.put("bytes", None, Some(&[255]))?;
+    Ok(port)
 }
 
 /// Whether the job of these words ends with this status, having written a text that begins so.
 fn ends(shell: &Shell<'_>, words: &str, given: Devices<'_>, status: u8, begins: &str) -> bool {
     let mut reader = Counted::new(Pieces {
-        rest: given.log.as_bytes(),
+        rest: given.input.as_bytes(),
         most: 7,
         reads: given.reads,
     });
@@ -81,7 +90,10 @@ fn ends(shell: &Shell<'_>, words: &str, given: Devices<'_>, status: u8, begins: 
         flushes: true,
     });
     let job = asked(shell.alloc, words);
-    let ended = do_job(shell, &job, &mut reader, &mut writer);
+    let Ok(mut port) = files(shell.alloc) else {
+        return false;
+    };
+    let ended = do_job(shell, &job, &mut reader, &mut writer, &mut port);
     ended == status && begins_with(&writer.into_inner().taken, begins)
 }
 
@@ -104,15 +116,26 @@ fn tells(alloc: Global, words: &str, given: Devices<'_>, wanted: (u8, &str, &str
 
 const A: &str = "{\"char\":\"a\",\"id\":[1,1],\"op\":\"ins\",\"parent\":[0,0]}\n";
 
+const EDIT: &str = "mgr edit notes --replica 1 --rows 3 --cols 20";
+
+const EDIT_LOG: &str = "mgr edit log --replica 1";
+
+const EDIT_BYTES: &str = "mgr edit bytes --replica 1";
+
 #[test]
 fn statuses_and_standard_error(rt: HostRuntime) {
-    for (words, log, reads, room, status, begins, told) in [
+    for (words, input, reads, room, status, begins, told) in [
         ("mgr show", "", 99, 0, 0, "", ""),
         ("mgr show", A, 99, 99, 0, "a", ""),
         ("mgr show", A, 99, 0, 3, "", "device fault"),
         ("mgr show", A, 2, 99, 3, "", "device fault"),
         ("mgr show", "x\n", 99, 99, 1, "", "line 1: Json"),
         ("mgr show", "x", 99, 99, 1, "", "line 1: Torn"),
+        (EDIT, "hi", 99, 99, 0, "hi\n-**-Mg: notes (fun", ""),
+        (EDIT, "hi", 1, 99, 3, "", "device fault"),
+        (EDIT, "hi", 99, 0, 3, "", "device fault"),
+        (EDIT_LOG, "hi", 99, 99, 1, "", "line 1: Json"),
+        (EDIT_BYTES, "hi", 99, 99, 1, "", "text: not UTF-8"),
         ("mgr --help", "", 0, 65536, 0, "An editor", ""),
         ("mgr --help", "", 0, 9, 3, "An editor", "device fault"),
         ("mgr --help", "", 0, 0, 3, "", "device fault"),
@@ -121,7 +144,7 @@ fn statuses_and_standard_error(rt: HostRuntime) {
         ("mgr --version", "", 0, 0, 3, "", "device fault"),
         ("mgr text", "", 0, 99, 2, "", "error: "),
     ] {
-        let given = Devices { log, reads, room };
+        let given = Devices { input, reads, room };
         let wanted = (status, begins, told);
         assert!(rt;
             tells(rt.alloc(), words, given, wanted),

@@ -1,9 +1,7 @@
-//! Tests of `mgr show`: the texts and refusals of logs, and what the shell is told of faults.
+//! Tests of `mgr show`: the texts and refusals of logs.
 //!
 //! Nothing stands on this crate, so nothing waits for its proof.
 #![tactic(auto)]
 
 #[cfg(test)]
 mod logs;
-#[cfg(test)]
-mod reports;

@@ -1,0 +1,44 @@
+use Rattle.std.proofs.Common.{rules, ◌≡◌, List, None, Some, refl, subst, sym, codes}
+use Rattle.clap.specs.Matches.{found_of}
+use Rattle.clap.specs.Walk.{Row, rows_of}
+use Rattle.mgr_command.specs.Edit.{GivesNumber, GivesNumberIf}
+use Rattle.mgr_command.proofs.GivenLemmas.{flag_read}
+use Rattle.mgr_command.proofs.given.values_of.Goals as goal
+
+pub returns-in_err-number-clause-none : goal.returns-in_err-number-clause-none
+returns-in_err-number-clause-none c =
+    let none : c.number.result ≡ None = search rules in
+    λ _ v g. subst (GivesNumberIf (rows_of (found_of c.args.found.now)) (codes "replica")) none c.number.ensures v.replica g.replica
+
+pub returns-in_err-number-2-clause-none : goal.returns-in_err-number-2-clause-none
+returns-in_err-number-2-clause-none c =
+    let none : c.number-2.result ≡ None = search rules in
+    λ _ v g. subst (GivesNumberIf (rows_of (found_of c.args.found.now)) (codes "rows")) none c.number-2.ensures v.rows g.rows_of
+
+pub returns-in_err-number-3-clause-none : goal.returns-in_err-number-3-clause-none
+returns-in_err-number-3-clause-none c =
+    let none : c.number-3.result ≡ None = search rules in
+    λ _ v g. subst (GivesNumberIf (rows_of (found_of c.args.found.now)) (codes "cols")) none c.number-3.ensures v.columns g.columns
+
+pub returns-in_err-number-4-clause-none : goal.returns-in_err-number-4-clause-none
+returns-in_err-number-4-clause-none c =
+    let none : c.number-4.result ≡ None = search rules in
+    λ _ v g. subst (GivesNumberIf (rows_of (found_of c.args.found.now)) (codes "fill")) none c.number-4.ensures v.fill g.fill
+
+pub returns-clause-options : goal.returns-clause-options
+returns-clause-options c =
+    let found : List Row = rows_of (found_of c.args.found.now) in
+    let replica : c.number.result ≡ Some c.in_ok-number.field-0 = search rules in
+    let lines : c.number-2.result ≡ Some c.in_ok-number-2.field-0 = search rules in
+    let columns : c.number-3.result ≡ Some c.in_ok-number-3.field-0 = search rules in
+    let fill : c.number-4.result ≡ Some c.in_ok-number-4.field-0 = search rules in
+    record {
+      replica = subst (GivesNumberIf found (codes "replica")) replica c.number.ensures;
+      rows_of = subst (GivesNumber found (codes "rows")) (sym c.from.ensures) (subst (GivesNumberIf found (codes "rows")) lines c.number-2.ensures);
+      columns = subst (GivesNumber found (codes "cols")) (sym c.from-2.ensures) (subst (GivesNumberIf found (codes "cols")) columns c.number-3.ensures);
+      fill = subst (GivesNumberIf found (codes "fill")) fill c.number-4.ensures;
+      port = c.number-5.ensures;
+      trace = flag_read (found_of c.args.found.now) (codes "trace") _ c.get_flag.ensures.none c.get_flag.ensures.value c.get_flag.ensures.other;
+      cursor = flag_read (found_of c.args.found.now) (codes "cursor") _ c.get_flag-2.ensures.none c.get_flag-2.ensures.value c.get_flag-2.ensures.other;
+      limit = refl;
+    }

@@ -1,0 +1,54 @@
+//! The settings that `edit` was given.
+ghost use Rattle.std.specs.Prelude.{◌≡◌, None, IfOk, IfSome, option_map, string_bytes};
+ghost use Rattle.clap.specs.Matches.{found_of};
+ghost use Rattle.clap.specs.Walk.{rows_of};
+ghost use Rattle.mg_settings.specs.Settings.{Values};
+ghost use Rattle.mgr_command.specs.Edit.{GivesNumberIf, GivesFlag, GivesOptions, GivesSettings};
+
+use clap::ArgMatches;
+use mg_settings::{Settings, Values};
+use rga_store::MAX_LIMIT;
+use std::alloc::{AllocError, Global};
+
+/// The settings that clap's matches give; none where they are not allowed, as with no name.
+pub(crate) fn settings_of(
+    alloc: Global,
+    found: &ArgMatches<'_>,
+) -> Result<Option<Settings>, AllocError>
+    ensures { IfOk result (GivesSettings (rows_of (found_of found.now))) }
+{
+    let Some(name) = found.get_str("name") else {
+        return Ok(None);
+    };
+    let Some(values) = values_of(String::from_str(alloc, name)?, found) else {
+        return Ok(None);
+    };
+    Ok(Settings::new(values))
+}
+
+/// What stands there, under a name; none where a number is no number.
+fn values_of(name: String, found: &ArgMatches<'_>) -> Option<Values>
+    ensures name { IfSome result (λ v. v.name ≡ string_bytes name) }
+    ensures options { IfSome result (GivesOptions (rows_of (found_of found.now))) }
+    ensures none { result ≡ None →
+        (v : Values) → GivesOptions (rows_of (found_of found.now)) v → ⊥ }
+{
+    Some(Values {
+        replica: number(found, "replica")?,
+        rows: usize::from(number(found, "rows")?),
+        columns: usize::from(number(found, "cols")?),
+        fill: number(found, "fill")?,
+        port: number(found, "port"),
+        trace: found.get_flag("trace"),
+        cursor: found.get_flag("cursor"),
+        limit: MAX_LIMIT,
+        name,
+    })
+}
+
+/// The number under an id.
+fn number(found: &ArgMatches<'_>, id: &str) -> Option<u16>
+    ensures { GivesNumberIf (rows_of (found_of found.now)) id.now result }
+{
+    found.get_one::<u16>(id)
+}
