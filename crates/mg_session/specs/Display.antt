@@ -1,8 +1,12 @@
 -- Frames, as they are written.
-use Rattle.std.specs.Prelude.{ℕ, List, [], ◌∷◌, ◌++◌, Option, Some, None, codes}
+use Rattle.std.specs.Prelude.{◌≡◌, ℕ, Bool, true, false, List, [], ◌∷◌, ◌++◌, Option, Some, None, map, string_bytes, codes, if◌then◌else◌}
 use Rattle.std.specs.Fmt.{decimal}
+use Rattle.std.specs.declared.alloc.Global.{Global}
+use Rattle.std.specs.declared.string.String.{String}
 use Rattle.rga_lines.specs.Stream.{bytes_of_lines}
 use Rattle.mg_screen.specs.declared.screen.Position.{Position}
+use Rattle.mg_editor.specs.Editors.{Editor}
+use Rattle.mg_editor.specs.Frames.{IsPlaced, ShowsRows, ShowsCursor}
 
 -- the row and the column
 abbrev pub position_text : Position → List ℕ
@@ -15,3 +19,21 @@ frame_lines rows (Some at) = rows ++ position_text at ∷ []
 
 abbrev pub frame_text : List (List ℕ) → Option Position → List ℕ
 frame_text rows cursor = bytes_of_lines (frame_lines rows cursor)
+
+-- what is shown of where the cursor stands
+abbrev pub shown_cursor : Bool → Position → Option Position
+shown_cursor has_cursor at = if has_cursor then Some at else None
+
+-- the text is the frame of the editor, whose windows were placed for it
+pub record ShowsFrame (has_cursor : Bool) (old new : Editor) (text : List ℕ) : Type 0 where
+  pub rows : List (String Global)
+  pub at : Position
+  pub placed : IsPlaced old new
+  pub spelled : ShowsRows new rows
+  pub cursor : ShowsCursor new at
+  pub written : text ≡ frame_text (map string_bytes rows) (shown_cursor has_cursor at)
+
+-- a frame where one is asked for, and else nothing
+abbrev pub ShowsIf : Bool → Bool → Editor → Editor → List ℕ → Type 0
+ShowsIf true has_cursor old new text = ShowsFrame has_cursor old new text
+ShowsIf false has_cursor old new text = (new ≡ old) × (text ≡ [])

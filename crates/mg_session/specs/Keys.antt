@@ -1,9 +1,9 @@
 -- What a key of a session leads to.
-use Rattle.std.specs.Prelude.{◌≡◌, ℕ, List, Option, Ok, Err}
+use Rattle.std.specs.Prelude.{◌≡◌, ℕ, Bool, true, false, List, Option, Ok, Err}
 use Rattle.mg_plain.specs.declared.outcome.Notice.TheVariants as notice
 use Rattle.mg_files.specs.Calls.{Call}
 use Rattle.mg_prompts.specs.declared.ending.Request.{Request}
-use Rattle.mg_prompts.specs.declared.ending.Request.TheVariants.{Idle}
+use Rattle.mg_prompts.specs.declared.ending.Request.TheVariants.{Idle, Save, Quit}
 use Rattle.mg_prompts.specs.declared.message.Message.TheVariants.{Refused}
 use Rattle.mg_editor.specs.Carrying as carrying
 use Rattle.mg_editor.specs.Editors.{Editor}
@@ -33,3 +33,9 @@ pub record TakesKey (byte : ℕ) (calls more : Option (List Call)) (old new : Ed
   pub answer : carrying.Answer
   pub presses : Presses byte old between request
   pub carried : carrying.Carried request calls more between new answer
+
+-- a session ends behind a request to quit
+abbrev pub quits : Request → Bool
+quits Idle = false
+quits Save = false
+quits Quit = true

@@ -1,3 +1,4 @@
 pub mod Faults
 pub mod Display
 pub mod Keys
+pub mod Running

@@ -1,5 +1,5 @@
 //! Frames, as they are written.
-ghost use Rattle.std.specs.Prelude.{◌≡◌, ◌⊎◌, ◌∷◌, ◌++◌, [], map, string_bytes, IfOk, OnOk, IfErr};
+ghost use Rattle.std.specs.Prelude.{◌≡◌, ◌⊎◌, ℕ, List, ◌∷◌, ◌++◌, [], map, string_bytes, IfOk, OnOk, IfErr};
 ghost use Rattle.rga_lines.specs.Counting.{CountsAs, Writes};
 ghost use Rattle.rga_lines.specs.Stream.{newline, bytes_of_lines};
 ghost use Rattle.mg_session.specs.Display as spec;
@@ -73,6 +73,28 @@ fn write_text<W: Write>(text: &str, screen: &mut Counted<W>) -> Result<(), Sessi
     Ok(())
 }
 
+/// Where the cursor stands, where that is shown.
+fn shown_cursor(has_cursor: bool, at: Position) -> Option<Position>
+    ensures { result ≡ spec.shown_cursor has_cursor at }
+{
+    if has_cursor { Some(at) } else { None }
+}
+
+/// The frame of an editor, as it is written.
+fn frame_of<S: TextStore>(
+    alloc: Global,
+    editor: &mut Editor<S>,
+    has_cursor: bool,
+) -> Result<String, SessionFault>
+    ensures shown { IfOk result (λ text.
+        spec.ShowsFrame has_cursor editor.old editor.new (string_bytes text)) }
+    ensures memory { IfErr result (λ e. e ≡ Memory) }
+{
+    let frame = editor.frame()?;
+    let cursor = shown_cursor(has_cursor, frame.cursor);
+    Ok(frame_text(alloc, &frame.rows, cursor)?)
+}
+
 /// Writes a frame of the editor, and behind it the line of the cursor, where that is asked.
 pub(crate) fn show<S: TextStore, W: Write>(
     alloc: Global,
@@ -80,11 +102,13 @@ pub(crate) fn show<S: TextStore, W: Write>(
     has_cursor: bool,
     screen: &mut Counted<W>,
 ) -> Result<(), SessionFault>
+    ensures shown { OnOk result ((text : List ℕ)
+        × spec.ShowsFrame has_cursor editor.old editor.new text
+        × Writes W.contents screen.old screen.new text) }
     ensures fault { IfErr result (λ e. (e ≡ Screen) ⊎ (e ≡ Memory)) }
     ensures device { CountsAs Screen result screen.old screen.new }
 {
-    let frame = editor.frame()?;
-    let cursor = if has_cursor { Some(frame.cursor) } else { None };
-    let text = frame_text(alloc, &frame.rows, cursor)?;
-    write_text(text.as_str(), screen)
+    let text = frame_of(alloc, editor, has_cursor)?;
+    write_text(text.as_str(), screen)?;
+    Ok(())
 }

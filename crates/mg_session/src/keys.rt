@@ -1,4 +1,5 @@
 //! Keys of a session, one by one.
+ghost use Rattle.std.specs.Prelude.{◌≡◌};
 ghost use Rattle.mg_session.specs.Keys as spec;
 
 use mg_editor::{Editor, Fault};
@@ -32,4 +33,14 @@ pub(crate) fn take_key<S: TextStore, P: Port>(
     let request = press(editor, byte);
     let _ = editor.carry(request, port);
     request
+}
+
+/// Whether a session ends behind a request.
+pub(crate) fn quits(request: Request) -> bool
+    ensures { result ≡ spec.quits request }
+{
+    match request {
+        Request::Idle | Request::Save => false,
+        Request::Quit => true,
+    }
 }

@@ -1,13 +1,16 @@
 //! Sessions.
-ghost use Rattle.std.specs.Prelude.{◌≡◌, ◌≢◌, ◌⊎◌, Err, IfErr};
-ghost use Rattle.rga_lines.specs.Counting.{CountsAs, one_more};
+ghost use Rattle.std.specs.Prelude.{◌≡◌, ◌≢◌, ◌⊎◌, ◌↔◌, ℕ, Bool, false, not, ◌&&◌, List, [], Err, IfOk, OnOk, IfErr};
+ghost use Rattle.rga_lines.specs.Counting.{CountsAs, Writes, one_more};
 ghost use Rattle.mg_files.specs.declared.fault.LoadFault.TheVariants.{Memory as NoMemory};
+ghost use Rattle.mg_keys.specs.Begun.{HasBegun};
+ghost use Rattle.mg_session.specs.Display.{ShowsIf};
 ghost use Rattle.mg_session.specs.Faults as spec;
+ghost use Rattle.mg_session.specs.Running as running;
 ghost use Rattle.mg_session.specs.declared.fault.SessionFault.TheVariants.{Load, File, Keys, Screen, Memory};
 
 use crate::display::show;
 use crate::fault::SessionFault;
-use crate::keys::take_key;
+use crate::keys::{quits, take_key};
 use mg_editor::Editor;
 use mg_files::Port;
 use mg_prompts::Request;
@@ -48,6 +51,13 @@ pub fn run_keys<S: TextStore, R: Read, W: Write, P: Port>(
     port: &mut P,
     settings: &Settings,
 ) -> Result<(), SessionFault>
+    // At the end of a session the keys were taken in turn, and what they show was written.
+    ensures ran { OnOk result (running.RanFrom R.remaining W.contents settings.now
+        keys.old keys.new (P.calls port.old) (P.calls port.new) screen.old screen.new) }
+    // So were those before a read that failed.
+    ensures broken { result ≡ Err Keys → running.BrokeOffFrom R.remaining W.contents settings.now
+        keys.old keys.new (P.calls port.old) (P.calls port.new) screen.old screen.new }
+
     // A call of a device that failed is told as such, and not as something else.
     ensures keys { CountsAs Keys result keys.old keys.new }
     ensures screen { CountsAs Screen result screen.old screen.new }
@@ -69,6 +79,8 @@ fn open<S: TextStore, P: Port>(
     port: &mut P,
     settings: &Settings,
 ) -> Result<Session<S>, SessionFault>
+    ensures opened { IfOk result (λ session. running.IsOpened settings.now
+        session.trace session.cursor session.editor) }
     ensures fault { IfErr result (λ e. (e ≢ Keys) × (e ≢ Screen) × (e ≢ Load NoMemory)) }
     ensures file { result ≡ Err File → P.failures port.new ≡ one_more (P.failures port.old) }
     ensures unwritten { P.calls port.new ≡ P.calls port.old }
@@ -91,6 +103,12 @@ impl<S: TextStore> Session<S> {
         screen: &mut Counted<W>,
         port: &mut P,
     ) -> Result<(), SessionFault>
+        ensures ran { OnOk result (running.Ran R.remaining W.contents self.old.trace self.old.cursor
+            keys.old keys.new (P.calls port.old) (P.calls port.new) self.old.editor
+            screen.old screen.new) }
+        ensures broken { result ≡ Err Keys → running.BrokeOff R.remaining W.contents
+            self.old.trace self.old.cursor keys.old keys.new (P.calls port.old)
+            (P.calls port.new) self.old.editor screen.old screen.new }
         ensures fault { IfErr result (λ e. ¬ (spec.IsOfLoad e)) }
         ensures keys { CountsAs Keys result keys.old keys.new }
         ensures screen { CountsAs Screen result screen.old screen.new }
@@ -106,6 +124,10 @@ impl<S: TextStore> Session<S> {
         is_asked: bool,
         screen: &mut Counted<W>,
     ) -> Result<(), SessionFault>
+        ensures shown { OnOk result ((text : List ℕ)
+            × ShowsIf is_asked self.old.cursor self.old.editor self.new.editor text
+            × Writes W.contents screen.old screen.new text) }
+        ensures kept { (self.new.trace ≡ self.old.trace) × (self.new.cursor ≡ self.old.cursor) }
         ensures fault { IfErr result (λ e. (e ≡ Screen) ⊎ (e ≡ Memory)) }
         ensures device { CountsAs Screen result screen.old screen.new }
     {
@@ -116,8 +138,32 @@ impl<S: TextStore> Session<S> {
     }
 
     /// Whether a frame follows the last byte that was pressed.
-    fn is_traced(&self) -> bool {
-        self.trace && !self.editor.is_amid_keys()
+    fn is_traced(&self) -> bool
+        ensures { (amid : Bool) × ((amid ≡ false) ↔ HasBegun self.now.editor.talk.keys [])
+            × (result ≡ (self.now.trace && not amid)) }
+    {
+        let is_amid = self.editor.is_amid_keys();
+        self.trace && !is_amid
+    }
+
+    /// Takes a key, and answers its request.
+    fn take<W: Write, P: Port>(
+        &mut self,
+        key: u8,
+        screen: &mut Counted<W>,
+        port: &mut P,
+    ) -> Result<Request, SessionFault>
+        ensures taken { IfOk result (λ request. (text : List ℕ)
+            × running.Takes self.old.trace self.old.cursor key (P.calls port.old)
+            (P.calls port.new) self.old.editor self.new.editor request text
+            × Writes W.contents screen.old screen.new text) }
+        ensures kept { (self.new.trace ≡ self.old.trace) × (self.new.cursor ≡ self.old.cursor) }
+        ensures fault { IfErr result (λ e. (e ≡ Screen) ⊎ (e ≡ Memory)) }
+        ensures device { CountsAs Screen result screen.old screen.new }
+    {
+        let request = take_key(&mut self.editor, key, port);
+        self.show_if(self.is_traced(), screen)?;
+        Ok(request)
     }
 
     /// Takes the keys, block by block, up to one that quits.
@@ -127,6 +173,13 @@ impl<S: TextStore> Session<S> {
         screen: &mut Counted<W>,
         port: &mut P,
     ) -> Result<(), SessionFault>
+        ensures taken { OnOk result (running.TakesKeys R.remaining W.contents
+            self.old.trace self.old.cursor keys.old keys.new (P.calls port.old)
+            (P.calls port.new) self.old.editor self.new.editor screen.old screen.new) }
+        ensures broken { result ≡ Err Keys → running.TakesRead R.remaining W.contents
+            self.old.trace self.old.cursor keys.old keys.new (P.calls port.old)
+            (P.calls port.new) self.old.editor self.new.editor false screen.old screen.new }
+        ensures kept { (self.new.trace ≡ self.old.trace) × (self.new.cursor ≡ self.old.cursor) }
         ensures fault { IfErr result (λ e. (e ≡ Keys) ⊎ (e ≡ Screen) ⊎ (e ≡ Memory)) }
         ensures keys { CountsAs Keys result keys.old keys.new }
         ensures screen { CountsAs Screen result screen.old screen.new }
@@ -152,13 +205,16 @@ impl<S: TextStore> Session<S> {
         screen: &mut Counted<W>,
         port: &mut P,
     ) -> Result<bool, SessionFault>
+        ensures taken { IfOk result (λ quits. running.TakesOnto W.contents
+            self.old.trace self.old.cursor keys.now (P.calls port.old) (P.calls port.new)
+            self.old.editor self.new.editor quits screen.old screen.new) }
+        ensures kept { (self.new.trace ≡ self.old.trace) × (self.new.cursor ≡ self.old.cursor) }
         ensures fault { IfErr result (λ e. (e ≡ Screen) ⊎ (e ≡ Memory)) }
         ensures device { CountsAs Screen result screen.old screen.new }
     {
         for key in keys {
-            let request = take_key(&mut self.editor, *key, port);
-            self.show_if(self.is_traced(), screen)?;
-            if request == Request::Quit {
+            let request = self.take(*key, screen, port)?;
+            if quits(request) {
                 return Ok(true);
             }
         }

@@ -1,8 +1,12 @@
-use Rattle.std.proofs.Common.{◌≡◌}
+use Rattle.std.proofs.Common.{◌≡◌, false}
+use Rattle.mg_session.specs.Running.{TakesRead}
 use Rattle.mg_session.proofs.session.Session.take_blocks.Given as goal
 
 abbrev pub invariant-reads : goal.invariant-reads
 invariant-reads g l = record {
+  taken : TakesRead g.R.Read.remaining g.W.Write.contents l.fn.self.trace l.fn.self.cursor l.fn.keys l.keys (g.P.Port.calls l.fn.port) (g.P.Port.calls l.port) l.fn.self.editor l.self.editor false l.fn.screen l.screen;
+  trace : l.self.trace ≡ l.fn.self.trace;
+  cursor : l.self.cursor ≡ l.fn.self.cursor;
   keys : l.keys.failures ≡ l.fn.keys.failures;
   screen : l.screen.failures ≡ l.fn.screen.failures;
 }

@@ -1,0 +1,13 @@
+use Rattle.mg_editor.proofs.Results.{on_ok_map}
+use Rattle.mg_session.proofs.TakenLaws.{ran_from, broke_from}
+use Rattle.mg_session.proofs.session.run_keys.Goals as goal
+
+pub returns-clause-ran : goal.returns-clause-ran
+returns-clause-ran g c =
+    let opened = c.in_ok-session.ensures.opened in
+    on_ok_map c.run.result _ _ (ran_from c.args.settings.now _ _ _ _ _ _ _ _ opened c.in_ok-session.ensures.unwritten) c.run.ensures.ran
+
+pub returns-clause-broken : goal.returns-clause-broken
+returns-clause-broken g c = λ keys.
+    let opened = c.in_ok-session.ensures.opened in
+    broke_from c.args.settings.now _ _ _ _ _ _ _ _ opened c.in_ok-session.ensures.unwritten (c.run.ensures.broken keys)
