@@ -2,6 +2,7 @@
 use crate::desk::{glance, leads};
 use mg_files::CallKind;
 use mg_files::CallKind::{Append, PutText, Replace};
+use std::alloc::Global;
 use test_ports::MemoryPort;
 
 /// The insertion of `a` by replica 1.
@@ -29,6 +30,38 @@ fn made(port: &MemoryPort, calls: &[(CallKind, &str, bool)]) -> bool {
                 && made.bytes.as_slice() == call.1.as_bytes()
                 && made.answered == call.2
         })
+}
+
+/// What a session with no keys shows of these files.
+fn found(alloc: Global, log: Option<&str>, text: Option<&str>) -> Option<String> {
+    let mut port = MemoryPort::new(alloc);
+    let log = match log {
+        Some(log) => Some(log.as_bytes()),
+        None => None,
+    };
+    let text = match text {
+        Some(text) => Some(text.as_bytes()),
+        None => None,
+    };
+    port.put("notes", log, text).ok()?;
+    glance(alloc, &mut port, "")
+}
+
+#[test]
+fn what_is_there_is_loaded(rt: HostRuntime) {
+    for (log, text, line) in &[
+        (None, None, "||----|"),
+        (None, Some("ab"), "ab||-**-|"),
+        (None, Some(""), "||----|"),
+        (Some(""), Some("ab"), "||----|"),
+        (Some(HI), Some("ab"), "hi||----|"),
+        (Some(HI.trim_end()), None, "hi||----|"),
+    ] {
+        match found(rt.alloc(), *log, *text) {
+            Some(seen) => assert!(rt; seen.as_str() == *line, "{line}"),
+            None => assert!(rt; false, "{line}"),
+        }
+    }
 }
 
 #[test]
