@@ -8,6 +8,9 @@ use Rattle.mgr_show.specs.Log.{log_of}
 use Rattle.mgr_shell.specs.Report.{edited_status, shown_status}
 use Rattle.mg_session.specs.declared.fault.SessionFault.{SessionFault}
 use Rattle.mg_session.specs.declared.fault.SessionFault.TheVariants as session
+use Rattle.mg_files.specs.Calls.{Call}
+use Rattle.mg_session.specs.Running.{RanFrom}
+use Rattle.mg_settings.specs.Settings.{Values}
 use Rattle.mgr_command.specs.declared.job.Job.{Job}
 use Rattle.mgr_command.specs.declared.job.Job.TheVariants.{Show, Edit}
 use Rattle.mgr_show.specs.Shown.{IsOfInput, Shows}
@@ -25,20 +28,20 @@ module _ {R W : Type 0} (remaining : R → Option (List ℕ)) (contents : W → 
     pub reads : CountsAs fault.Read answer r s
     pub writes : CountsAs fault.Write answer old new
 
-module _ {R W P : Type 0} (failures : P → ℕ) where
-  -- The status is that of an answer of a session, which says which device failed.
-  pub record IsStatusOfEdit (status : ℕ) (r s : Calls R) (old new : Calls W) (before after : P) : Type 0 where
+module _ {R W P : Type 0} (remaining : R → Option (List ℕ)) (contents : W → Option (List ℕ)) (calls : P → Option (List Call)) (failures : P → ℕ) where
+  -- The status is that of an answer of a session, which says what became of the keys, and which device failed.
+  pub record IsStatusOfEdit (settings : Values) (status : ℕ) (r s : Calls R) (old new : Calls W) (before after : P) : Type 0 where
     pub answer : Result (Unit {0}) SessionFault
     pub exact : status ≡ edited_status answer
+    pub ran : OnOk answer (RanFrom remaining contents settings r s (calls before) (calls after) old new)
     pub keys : CountsAs session.Keys answer r s
     pub screen : CountsAs session.Screen answer old new
     pub file : answer ≡ Err session.File → failures after ≡ one_more (failures before)
 
-module _ {R W P : Type 0} (remaining : R → Option (List ℕ)) (contents : W → Option (List ℕ)) (failures : P → ℕ) where
   -- of a job; `show` has nothing to do with the port
   abbrev pub IsStatusOfJob : Job → ℕ → Calls R → Calls R → Calls W → Calls W → P → P → Type 0
   IsStatusOfJob Show status r s old new before after = IsStatusOfShow remaining contents status r s old new × (after ≡ before)
-  IsStatusOfJob (Edit settings) status r s old new before after = IsStatusOfEdit failures status r s old new before after
+  IsStatusOfJob (Edit settings) status r s old new before after = IsStatusOfEdit settings status r s old new before after
 
 module _ {W : Type 0} where
   -- A text that was asked for was printed, or not: 3 exactly where standard output failed, and else 0, or 4 where

@@ -40,7 +40,7 @@ pub fn do_job<E: AllocGlobal + Eprint, R: Read, W: Write, P: Port>(
     port: &mut P,
 ) -> u8
     ensures status { MatchResult job.now
-        (λ job. IsStatusOfJob R.remaining W.contents P.failures job result
+        (λ job. IsStatusOfJob R.remaining W.contents P.calls P.failures job result
         reader.old reader.new writer.old writer.new port.old port.new)
         (λ fault. IsStatusOf fault result writer.old writer.new) }
     ensures bound { result ≤ 4 }
@@ -74,7 +74,7 @@ fn edit<E: AllocGlobal + Eprint, R: Read, W: Write, P: Port>(
     writer: &mut Counted<W>,
     port: &mut P,
 ) -> u8
-    ensures status { IsStatusOfEdit P.failures result
+    ensures status { IsStatusOfEdit R.remaining W.contents P.calls P.failures settings.now result
         reader.old reader.new writer.old writer.new port.old port.new }
     ensures bound { result ≤ 4 }
 {
