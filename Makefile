@@ -2,6 +2,8 @@
 # All real work is done by rt, the command of the Rattle toolchain.
 
 PREFIX = /usr/local
+BINDIR = $(PREFIX)/bin
+MANDIR = $(PREFIX)/share/man
 
 MAKEFLAGS += --no-print-directory
 
@@ -12,7 +14,7 @@ SOURCES := crates.txt HANDLES \
 NEED_RT = command -v rt >/dev/null || { \
 	echo "rt, the Rattle toolchain, is not installed: put KIT/bin on PATH" >&2; exit 1; }
 
-.PHONY: build try test bench install clean help
+.PHONY: build try try-live crash test bench install clean help
 
 build: build/mgr
 	@echo "build/mgr is up to date"
@@ -29,6 +31,14 @@ try:
 	@$(NEED_RT)
 	@examples/try.sh $(BUILT)
 
+# The front, in a terminal of tmux.
+try-live: build/mgr
+	@scripts/try_live.py build/mgr
+
+# Saves that are killed at each call of the system, by strace.
+crash: build/mgr
+	@scripts/crash.py build/mgr
+
 # The gate's last line is the verdict, so nothing may follow it.
 test:
 	@$(NEED_RT); exec rt ci
@@ -37,17 +47,21 @@ bench:
 	@bench/run.sh
 
 install: build/mgr
-	mkdir -p "$(DESTDIR)$(PREFIX)/bin"
-	rm -f "$(DESTDIR)$(PREFIX)/bin/mgr"
-	cp build/mgr "$(DESTDIR)$(PREFIX)/bin/mgr"
+	mkdir -p "$(DESTDIR)$(BINDIR)" "$(DESTDIR)$(MANDIR)/man1"
+	rm -f "$(DESTDIR)$(BINDIR)/mgr" "$(DESTDIR)$(BINDIR)/mgr-live"
+	cp build/mgr front/mgr-live "$(DESTDIR)$(BINDIR)"
+	cp docs/mgr.1 "$(DESTDIR)$(MANDIR)/man1/mgr.1"
 
 clean:
 	rm -rf build crates/*/out
 
 help:
-	@echo "make          proves and builds mgr, and leaves it at build/mgr"
-	@echo "make try      shows one note from two people's logs, in either order; it waits for no proof"
-	@echo "make test     runs every proof and test from nothing; the last line counts them"
-	@echo "make bench    measures mgr beside a native program (needs python3 and rustc)"
-	@echo "make install  copies mgr to PREFIX/bin (PREFIX=$(PREFIX); DESTDIR is put before it)"
-	@echo "make clean    removes what was built and proved"
+	@echo "make           proves and builds mgr, and leaves it at build/mgr"
+	@echo "make try       a first edit, and one note from two people's logs; it waits for no proof"
+	@echo "make try-live  runs mgr-live in a terminal of tmux, and looks at what it shows (needs python3 and tmux)"
+	@echo "make test      runs every proof and test from nothing; the last line counts them"
+	@echo "make crash     kills saves at each call of the system, and loads again (needs python3 and strace)"
+	@echo "make bench     measures mgr beside a native program (needs python3 and rustc)"
+	@echo "make install   copies mgr and mgr-live to BINDIR, and the manual to MANDIR/man1"
+	@echo "               (BINDIR=$(BINDIR) and MANDIR=$(MANDIR), by PREFIX=$(PREFIX); DESTDIR is put before them)"
+	@echo "make clean     removes what was built and proved"

@@ -1,32 +1,57 @@
 #!/bin/sh
-# Shows the text of two logs of one note, in either order, and fails where the texts differ.
-# Alice wrote the note, Bob got her operations, and then both went on without the other's.
-# The argument is a built mgr. With none, `rt try` compiles mgr and runs it, and proves nothing.
+# A first edit: types a sentence through `mgr edit`, and shows the frame and the files. Then shows
+# the text of two logs of one note, in either order, and fails where the texts differ: Alice wrote
+# the note, Bob got her operations, and then both went on without the other's.
+# The argument is a built mgr. With none, `rt try` compiles mgr and runs it, and proves nothing; it
+# keeps no files, so they are not shown then.
 set -eu
 cd "$(dirname "$0")/.."
 
 rm -rf build/try
-mkdir -p build/try/logs
-cat examples/note/alice.ops examples/note/bob.ops >build/try/logs/alice-first
-cat examples/note/bob.ops examples/note/alice.ops >build/try/logs/bob-first
+mkdir -p build/try/cases
+cat examples/note/alice.ops examples/note/bob.ops >build/try/cases/alice-first
+cat examples/note/bob.ops examples/note/alice.ops >build/try/cases/bob-first
+# The sentence, C-a M-c, and C-x C-s, which saves.
+printf 'the quick brown fox\001\033c\030\023' >build/try/cases/keys
+edit='edit notes --replica 1 --rows 5 --cols 50'
 
-# Behind a line `== NAME` stands what mgr wrote for the log of that name.
+# The words of each run stand beside its input, one a line. Behind a line `== NAME` stands what mgr
+# wrote for the input of that name.
 run_unproved() {
-    (cd crates/mgr && rt try --cases ../../build/try/logs -- show) \
+    echo show >build/try/cases/alice-first.args
+    echo show >build/try/cases/bob-first.args
+    echo "$edit" | tr ' ' '\n' >build/try/cases/keys.args
+    (cd crates/mgr && rt try --cases ../../build/try/cases) \
         >build/try/texts 2>build/try/said || return 1
-    [ "$(grep -c '^case=.* run=ended status=0 ' build/try/said)" -eq 2 ] || return 1
-    sed '1d; /^== bob-first$/,$d' build/try/texts >build/try/alice-first
-    sed '1,/^== bob-first$/d' build/try/texts >build/try/bob-first
+    [ "$(grep -c '^case=.* run=ended status=0 ' build/try/said)" -eq 3 ] || return 1
+    for name in alice-first bob-first keys; do
+        awk -v name="$name" '/^== / { on = $0 == "== " name; next } on' build/try/texts \
+            >"build/try/$name"
+    done
 }
 
 if [ $# -eq 1 ]; then
-    "$1" show <build/try/logs/alice-first >build/try/alice-first
-    "$1" show <build/try/logs/bob-first >build/try/bob-first
+    mgr=$(cd "$(dirname "$1")" && pwd)/$(basename "$1")
+    "$mgr" show <build/try/cases/alice-first >build/try/alice-first
+    "$mgr" show <build/try/cases/bob-first >build/try/bob-first
+    # shellcheck disable=SC2086
+    (cd build/try && "$mgr" $edit <cases/keys >keys)
 else
-    echo "compiling mgr, which takes less than a minute"
+    echo "compiling mgr, which takes some minutes"
     run_unproved || { cat build/try/said >&2; exit 1; }
 fi
 
+echo "A sentence is typed, its first word capitalized, and the buffer saved. The frame:"
+cat build/try/keys
+if [ $# -eq 1 ]; then
+    echo "The text is in build/try/notes:"
+    cat build/try/notes
+    echo
+    echo "Its operations are in build/try/notes.ops, which begins so:"
+    head -n 3 build/try/notes.ops
+    "$mgr" show <build/try/notes.ops | cmp - build/try/notes
+fi
+echo
 echo "Alice and Bob edited one note apart. The text of both logs, Alice's first:"
 cat build/try/alice-first
 echo "Bob's first:"

@@ -1,0 +1,193 @@
+#!/usr/bin/env python3
+"""Measures the editor under keys: `mgr edit` from its keys to its frames and files.
+
+Prints a row a figure, with what is wanted of it: the microseconds of user time of a key, where text
+is typed with motions, kills, yanks and undos in a text of 100,000 characters, without frames and
+with one a key; the seconds of 260,000 keys that write a text of 100,000 characters; the loading of
+a log of a million operations, over `mgr show` of it; of a text of a million characters without a
+log; a save of that, over the writing and syncing of the same bytes; and the peak memory of it. The
+time of the same run without keys is taken off where a key is told, and the least of the
+measurements counts. A call by hand may name another mgr, and fewer characters and keys.
+"""
+
+import argparse
+import os
+import pathlib
+import random
+import shutil
+import subprocess
+import sys
+import time
+
+from measure import BUILD, generated
+
+FOLDER = BUILD / "bench" / "keys"
+MEASUREMENTS = 3
+LINE = 60
+TRACED = 20  # of so many keys one is measured with frames
+SAVE = b"\x18\x13"
+
+# The program is the shell's only child, so the peak is its own; the times are of one run.
+USAGE = """
+import resource, subprocess, sys, time
+begin = time.monotonic()
+status = subprocess.call(sys.argv[1:], stdout=subprocess.DEVNULL)
+wall = time.monotonic() - begin
+usage = resource.getrusage(resource.RUSAGE_CHILDREN)
+print(status, usage.ru_utime, wall, usage.ru_maxrss)
+"""
+
+WORDS = "a be can down ever from green house island jumps kindly letters moments nowhere".split()
+MOTIONS = [b"\x02", b"\x06", b"\x0e", b"\x10", b"\x01", b"\x05", b"\x1bf", b"\x1bb"]
+
+
+def text_of(size):
+    """Returns a text of so many characters, in lines of words."""
+    rng, text, column = random.Random(1), [], 0
+    while len(text) < size:
+        word = rng.choice(WORDS)
+        column = 0 if column > LINE else column + len(word) + 1
+        text += word + (" " if column else "\n")
+    return "".join(text[:size])
+
+
+def editing(count):
+    """Returns so many bytes of keys: words that are typed, and behind each run something else."""
+    rng, keys, pressed = random.Random(2), [], 0
+    while pressed < count:
+        typed = [rng.choice(WORDS).encode() + b" " for _ in range(rng.randint(1, 5))]
+        part = rng.randrange(10)
+        if part < 6:
+            more = [rng.choice(MOTIONS) for _ in range(rng.randint(1, 12))]
+        elif part < 7:
+            more = [b"\x0b", rng.choice([b"\x19", b"\x1f"])]
+        elif part < 8:
+            more = [b"\x1f"] * rng.randint(1, 4)
+        else:
+            more = [b"\x7f"] * rng.randint(1, 8)
+        keys += typed + more
+        pressed += sum(map(len, typed + more))
+    return b"".join(keys)[:count]
+
+
+def writing(size, count):
+    """Returns so many keys that write a text of so many characters.
+
+    The rest are characters that are taken back, each with two keys, and motions. Lines end as in a
+    text, so motions of a line are as long.
+    """
+    rng, text, back = random.Random(3), text_of(size).replace("\n", "\r").encode(), (count - size) // 3
+    moves = count - size - 2 * back
+    keys, each = [], max(1, size // max(back, 1))
+    for i in range(0, size, each):
+        run = text[i : i + each]
+        if back:
+            run, back = run + b"x\x7f", back - 1
+        # A step back and on, so that the text is written at its end.
+        if moves >= 2:
+            run, moves = run + rng.choice([b"\x02\x06", b"\x01\x05"]), moves - 2
+        keys.append(run)
+    return b"".join(keys + [b"x\x7f"] * back + [b"\x05"] * moves)
+
+
+class Editor:
+    """An mgr, which is run on files of its own."""
+
+    def __init__(self, program):
+        self.program = program
+
+    def cost(self, words, given, files):
+        """Returns the least user time, the least time by the clock and the peak in kilobytes."""
+        (FOLDER / "given").write_bytes(given) if isinstance(given, bytes) else shutil.copy(given, FOLDER / "given")
+        runs = []
+        for _ in range(MEASUREMENTS):
+            for path in FOLDER.glob("text*"):
+                path.unlink()
+            for name, data in files.items():
+                shutil.copy(data, FOLDER / name) if isinstance(data, pathlib.Path) else (FOLDER / name).write_bytes(data)
+            with open(FOLDER / "given", "rb") as given_file:
+                said = subprocess.check_output(
+                    [sys.executable, "-c", USAGE, self.program, *words], stdin=given_file, cwd=FOLDER
+                ).split()
+            if said[0] != b"0":
+                sys.exit(f"mgr ended with status {said[0].decode()}: {' '.join(words)}")
+            runs.append([float(word) for word in said[1:]])
+        return [min(run) for run in zip(*runs)]
+
+    def edit(self, keys, files, *words):
+        return self.cost(["edit", "text", "--replica", "1", *words], keys, files)
+
+
+def print_row(what, figure, unit, wanted):
+    told = "well" if figure <= wanted else "MORE"
+    print(f"{what:<62} {figure:>9.2f} {unit:<6} {wanted:>7.2f}  {told}", flush=True)
+
+
+def measure_keys(editor, size, count):
+    files = {"text": text_of(size).encode()}
+    keys = editing(count)
+    idle = editor.edit(b"", files)[0]
+    plain = (editor.edit(keys, files)[0] - idle) / len(keys)
+    print_row(f"a key in {size:,} characters, of {len(keys):,}", plain * 1e6, "us", 60)
+    keys = keys[: max(1, count // TRACED)]
+    traced = (editor.edit(keys, files, "--trace")[0] - idle) / len(keys)
+    print_row(f"the same with a frame each, of {len(keys):,}", traced * 1e3, "ms", 1.2)
+
+
+def measure_writing(editor, size, count):
+    keys = writing(size, count)
+    user = editor.edit(keys, {})[0]
+    print_row(f"{len(keys):,} keys that write {size:,} characters", user, "s", 10)
+
+
+def measure_loading(editor, size):
+    log = generated("typing", size)
+    loads = editor.edit(b"", {"text.ops": log})[0]
+    shows = editor.cost(["show"], log, {})[0]
+    print_row(f"a log of {size:,} operations, over mgr show", loads / shows, "times", 1.3)
+
+
+def measure_text(editor, size):
+    """A text of so many characters, of which one is then deleted, so that all fit in a store."""
+    files, keys = {"text": text_of(size).encode()}, b"\x04"
+    user, wall, peak = editor.edit(keys, files)
+    print_row(f"a text of {size:,} characters without a log", user, "s", 2)
+    saved = editor.edit(keys + SAVE, files)
+    written = sum((FOLDER / name).stat().st_size for name in ("text.ops", "text"))
+    bytes_alone = time_of_writing(bytes(written))
+    print_row(f"a save of it, over the writing of its {written:,} bytes", (saved[1] - wall) / bytes_alone, "times", 1.5)
+    print_row("peak memory of it, unsaved and saved", max(peak, saved[2]) / 1024, "MiB", 400)
+
+
+def time_of_writing(data):
+    """Returns the least time by the clock of writing and syncing these bytes."""
+    least = float("inf")
+    for _ in range(MEASUREMENTS):
+        begin = time.monotonic()
+        with open(FOLDER / "bytes", "wb", buffering=0) as output:
+            left = memoryview(data)
+            while left:
+                left = left[output.write(left) :]
+            os.fsync(output.fileno())
+        least = min(least, time.monotonic() - begin)
+        (FOLDER / "bytes").unlink()
+    return least
+
+
+def main():
+    parser = argparse.ArgumentParser(description=__doc__)
+    parser.add_argument("--mgr", metavar="PATH", default=BUILD / "mgr", help="another mgr")
+    parser.add_argument("--part", metavar="N", type=int, default=1, help="an Nth of all characters and keys")
+    given = parser.parse_args()
+    shutil.rmtree(FOLDER, ignore_errors=True)
+    FOLDER.mkdir(parents=True)
+    editor, part = Editor(os.path.abspath(given.mgr)), given.part
+    print(f"{'':<62} {'figure':>9} {'':<6} {'wanted':>7}")
+    measure_keys(editor, 100_000 // part, 100_000 // part)
+    measure_writing(editor, 100_000 // part, 260_000 // part)
+    measure_loading(editor, 1_000_000 // part)
+    measure_text(editor, 1_000_000 // part)
+
+
+if __name__ == "__main__":
+    main()
