@@ -1,15 +1,16 @@
 -- Bytes that were taken, one after the other.
-use Rattle.std.proofs.Common.{◌≡◌, not, ℕ, ◌+◌, ◌<◌, Bool, true, false, List, [], ◌∷◌, ◌++◌, length, get_or, take, drop, Option, refl, sym, ap, subst, ◌∙◌, true≢false, append_assoc, append-nil}
+use Rattle.std.proofs.Common.{◌≡◌, ◌↔◌, not, ◌&&◌, ℕ, ◌+◌, ◌<◌, Bool, true, false, List, [], ◌∷◌, ◌++◌, length, get_or, take, drop, Option, refl, sym, ap, subst, ◌∙◌, true≢false, append_assoc, append-nil}
 use Rattle.std.proofs.lemmas.List.{take_more, take-append-drop}
 use Rattle.std.proofs.KnownBytes.{Appends-nil, Appends-trans, Consumes-nil, Consumes-trans, Consumes-kept}
 use Rattle.std.specs.Io.KnownBytes.{Consumes, Keeps}
 use Rattle.rga_lines.specs.Counting.{Calls, Writes, IsReadToEnd}
+use Rattle.mg_keys.specs.Begun.{HasBegun}
 use Rattle.mg_prompts.specs.declared.ending.Request.{Request}
 use Rattle.mg_prompts.specs.declared.ending.Request.TheVariants.{Idle, Save, Quit}
 use Rattle.mg_settings.specs.Settings.{Values}
 use Rattle.mg_editor.specs.Editors.{Editor}
 use Rattle.mg_session.specs.Display.{ShowsIf}
-use Rattle.mg_session.specs.Keys.{quits}
+use Rattle.mg_session.specs.Keys.{quits, TakesKey}
 use Rattle.mg_session.specs.Running.{Told, Takes, TakesAll, TakesOnto, TakesRead, IsOpened, Began, Ran, BrokeOff, RanFrom, BrokeOffFrom}
 
 -- what is written by bytes that none of quits, and then by further ones
@@ -41,6 +42,24 @@ last_taken trace has_cursor x xs calls more old new Idle text takes is = absurd 
 last_taken trace has_cursor x xs calls more old new Save text takes is = absurd (true≢false (sym is))
 
 -- ---- with what stands on a screen
+
+-- a byte, by what was done of it
+pub takes_by : {W : Type 0} (contents : W → Option (List ℕ)) (trace has_cursor : Bool) (byte : ℕ) (calls more : Told) (old between new : Editor) (request : Request) (traced : Bool) (screen shown : Calls W)
+    → TakesKey byte calls more old between request
+    → (amid : Bool) × ((amid ≡ false) ↔ HasBegun between.talk.keys []) × (traced ≡ (trace && not amid))
+    → (text : List ℕ) × ShowsIf traced has_cursor between new text × Writes contents screen shown text
+    → (text : List ℕ) × Takes trace has_cursor byte calls more old new request text × Writes contents screen shown text
+takes_by contents trace has_cursor byte calls more old between new request traced screen shown taken (amid, is_amid, is) (text, shows, written) = (
+  text,
+  record {
+    between = between;
+    taken = taken;
+    amid = amid;
+    is_amid = is_amid;
+    shown = subst (λ t. ShowsIf t has_cursor between new text) is shows;
+  },
+  written,
+)
 
 module _ {W : Type 0} {contents : W → Option (List ℕ)} {trace has_cursor : Bool} where
   pub none_onto : (calls : Told) (old : Editor) (screen : Calls W) → TakesOnto contents trace has_cursor [] calls calls old old false screen screen
