@@ -5,30 +5,30 @@ use Rattle.clap.specs.Simple.{app_of, is_simple}
 use Rattle.clap.specs.Values.{kind_of}
 use Rattle.clap.specs.Walk.{texts}
 use Rattle.mgr_command.specs.CommandLine.{command_line, topic_of, wish_of, with_help_flag}
-use Rattle.mgr_command.specs.Job.{IsFaultOf, IsFaultOfKind}
+use Rattle.mgr_command.specs.Job.{IsChosen, IsFaultOf, IsFaultOfKind, IsJobOf, IsNotChosen, rows_behind}
+use Rattle.mgr_command.specs.declared.job.Job.{Job}
+use Rattle.mgr_command.specs.declared.job.JobFault.{JobFault}
 use Rattle.mgr_command.specs.declared.job.JobFault.TheVariants.{Memory}
 use Rattle.mgr_command.proofs.CommandLineLemmas.{chooses, command_line_is_plain, command_line_is_simple, memory_of, wish_fault, word_kinds}
+use Rattle.mgr_command.proofs.job.job_of.Goals.{After-drop-words-in-Ok}
 use Rattle.mgr_command.proofs.job.job_of.Goals as goal
 
-pub returns-in-Ok-clause-job : goal.returns-in-Ok-clause-job
-returns-in-Ok-clause-job c =
+-- what is chosen of clap's matches is what is wished for
+wished : (c : After-drop-words-in-Ok) → ((j : Job) → IsChosen c.topic_of-topic.result (rows_behind c.in-Ok.matches) j → IsJobOf (wish_of (map string_bytes c.args.words.now)) j)
+    × ((f : JobFault) → IsNotChosen c.topic_of-topic.result (rows_behind c.in-Ok.matches) f → IsFaultOf (wish_of (map string_bytes c.args.words.now)) f)
+wished c =
     let app_is : app_of c.in_ok-command.command ≡ command_line = search rules in
     let given_is : drop 1 (texts c.as_slice.result.now) ≡ with_help_flag (drop 1 (map string_bytes c.args.words.now)) = search rules in
     let topic_is : c.topic_of-topic.result ≡ topic_of (drop 1 (texts c.as_slice.result.now)) = search rules in
     let kinds = c.in-Ok.ensures.kinds (ap is_simple_and_free app_is ∙ command_line_is_simple) in
     let matches = c.in-Ok.ensures.matches (ap is_simple app_is ∙ command_line_is_plain) in
-    let are = chooses _ c.args.words.now _ _ _ app_is given_is topic_is kinds (ap (option_map (λ p. p.1)) matches.1) in
-    IfOk-weaker c.chosen.result _ _ (λ j is. are.0 j is) c.chosen.ensures.job
+    chooses _ c.args.words.now _ _ _ app_is given_is topic_is kinds (ap (option_map (λ p. p.1)) matches.1)
+
+pub returns-in-Ok-clause-job : goal.returns-in-Ok-clause-job
+returns-in-Ok-clause-job c = IfOk-weaker c.chosen.result _ _ (λ j is. (wished c).0 j is) c.chosen.ensures.job
 
 pub returns-in-Ok-clause-fault : goal.returns-in-Ok-clause-fault
-returns-in-Ok-clause-fault c =
-    let app_is : app_of c.in_ok-command.command ≡ command_line = search rules in
-    let given_is : drop 1 (texts c.as_slice.result.now) ≡ with_help_flag (drop 1 (map string_bytes c.args.words.now)) = search rules in
-    let topic_is : c.topic_of-topic.result ≡ topic_of (drop 1 (texts c.as_slice.result.now)) = search rules in
-    let kinds = c.in-Ok.ensures.kinds (ap is_simple_and_free app_is ∙ command_line_is_simple) in
-    let matches = c.in-Ok.ensures.matches (ap is_simple app_is ∙ command_line_is_plain) in
-    let are = chooses _ c.args.words.now _ _ _ app_is given_is topic_is kinds (ap (option_map (λ p. p.1)) matches.1) in
-    IfErr-weaker c.chosen.result _ _ (λ f is. are.1 f is) c.chosen.ensures.fault
+returns-in-Ok-clause-fault c = IfErr-weaker c.chosen.result _ _ (λ f is. (wished c).1 f is) c.chosen.ensures.fault
 
 pub returns-clause-fault : goal.returns-clause-fault
 returns-clause-fault c =
