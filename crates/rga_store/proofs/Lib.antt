@@ -7,6 +7,8 @@ pub mod PickedLaws
 pub mod WalkLaws
 pub mod ShownLaws
 pub mod TreeLaws
+pub mod RootedLaws
 pub mod MergingLaws
 pub mod BackLaws
+pub mod PrecedingLaws
 pub mod ElementSteps

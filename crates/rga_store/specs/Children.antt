@@ -1,5 +1,6 @@
 -- The children of each parent, as a tree store keeps them.
-use Rattle.std.specs.Prelude.{◌≡◌, ◌&&◌, ◌||◌, Bool, not, List, filter}
+use Rattle.std.specs.Prelude.{◌≡◌, ◌&&◌, ◌||◌, Bool, not, List, filter, find, Option}
+use Rattle.std.specs.Ordering.{is_lt}
 use Rattle.std.specs.List.{list_any}
 use Rattle.std.specs.List.Sorted.{IsStrictlySortedBy}
 use Rattle.rga_ops.specs.Identifier.{Identifier, id_cmp, is_id}
@@ -29,3 +30,7 @@ children_in (Many set) = set.keys
 -- the others
 abbrev pub others_than : Identifier → List Identifier → List Identifier
 others_than id = filter (λ x. not (is_id x id))
+
+-- the first of them that is newer, which is the least where they rise
+abbrev pub next_newer : Identifier → List Identifier → Option Identifier
+next_newer id = find (λ k. is_lt (id_cmp id k))

@@ -1,14 +1,15 @@
 //! The children of one parent.
-ghost use Rattle.std.specs.Prelude.{◌≡◌, ◌≤◌, ◌++◌, [], length, false, IfOk, IfErr, OnOk, OnErr};
+ghost use Rattle.std.specs.Prelude.{◌≡◌, ◌≤◌, ◌++◌, [], length, slice_get, false, IfOk, IfErr, OnOk, OnErr};
 ghost use Rattle.std.specs.List.Sorted.{IsPartitionPoint};
 ghost use Rattle.rga_ops.specs.Identifier.{id_cmp};
-ghost use Rattle.rga_store.specs.Children.{has_child, AddsChild, RemovesChild, IsRising, children_in, others_than};
+ghost use Rattle.rga_store.specs.Children.{has_child, AddsChild, RemovesChild, IsRising, children_in, next_newer, others_than};
 
 use rga_ops::{Id, Refusal};
 use smallvec::SmallVec;
 use std::alloc::Global;
 use std::cmp::Ordering;
 use std::collections::BTreeSet;
+use std::ops::Bound;
 
 /// How many children stand in one piece.
 const MOST_IN_ONE_PIECE: usize = 64;
@@ -60,6 +61,26 @@ impl ChildList {
         match self {
             ChildList::Few(few) => remove_from_few(few, id),
             ChildList::Many(set) => remove_from_many(set, id),
+        }
+    }
+
+    /// The oldest child. Takes no memory.
+    pub(crate) fn oldest(&self) -> Option<Id>
+        ensures { result ≡ slice_get (children_in self.now) 0 }
+    {
+        match self {
+            ChildList::Few(few) => few.as_slice().first().copied(),
+            ChildList::Many(set) => set.first().copied(),
+        }
+    }
+
+    /// The oldest of the children that are newer than an identifier. Takes no memory.
+    pub(crate) fn next_newer(&self, id: Id) -> Option<Id>
+        ensures { result ≡ next_newer id (children_in self.now) }
+    {
+        match self {
+            ChildList::Few(few) => next_among_few(few.as_slice(), id),
+            ChildList::Many(set) => next_among_many(set, id),
         }
     }
 
@@ -140,6 +161,26 @@ fn many_with(alloc: Global, few: &[Id], id: Id) -> Result<BTreeSet<Id>, Refusal>
     }
     put_among_many(&mut set, id)?;
     Ok(set)
+}
+
+fn next_among_few(few: &[Id], id: Id) -> Option<Id>
+    ensures { result ≡ next_newer id few.now }
+{
+    for child in few {
+        if *child > id {
+            return Some(*child);
+        }
+    }
+    None
+}
+
+fn next_among_many(set: &BTreeSet<Id>, id: Id) -> Option<Id>
+    ensures { result ≡ next_newer id set.now.keys }
+{
+    match set.range((Bound::Excluded(id), Bound::Unbounded)).next() {
+        Some(child) => Some(*child),
+        None => None,
+    }
 }
 
 fn push_set(stack: &mut Vec<Id>, set: &BTreeSet<Id>) -> Result<(), Refusal>

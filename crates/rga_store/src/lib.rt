@@ -16,6 +16,7 @@ mod list_answer;
 mod merging;
 mod nodes;
 mod operations;
+mod preceding;
 mod taker;
 mod text_store;
 mod tree_store;

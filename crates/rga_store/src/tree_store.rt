@@ -1,9 +1,10 @@
 //! A store as a tree: a node for each identifier, and under it its children.
-ghost use Rattle.std.specs.Prelude.{◌≡◌, ◌≤◌, ◌+◌, ◌⊎◌, ◌↔◌, if◌then◌else◌, length, Ok, Err, OnOk, OnErr, IfOk, IfErr, true, false, max};
+ghost use Rattle.std.specs.Prelude.{◌≡◌, ◌≤◌, ◌+◌, ◌⊎◌, ◌↔◌, if◌then◌else◌, [], length, Ok, Err, OnOk, OnErr, IfOk, IfErr, true, false, max};
 ghost use Rattle.std.specs.FinMap as finite_map;
 ghost use Rattle.std.specs.FinSet as finite_set;
 ghost use Rattle.rga_ops.specs.Content.{element_at, join, single, known_count, IsSound};
 ghost use Rattle.rga_ops.specs.Answer.{answer, facts};
+ghost use Rattle.rga_ops.specs.Order.{waiting};
 ghost use Rattle.rga_ops.specs.Found.{facts_of};
 ghost use Rattle.rga_store.specs.Limit.{is_limit};
 
@@ -14,6 +15,7 @@ use crate::list_answer::answer_to_list;
 use crate::merging::{count_unknown, least_conflict};
 use crate::nodes::{Node, add_child, ensure_node, mark, set_element};
 use crate::operations::operations_of;
+use crate::preceding::last_visible;
 use crate::taker::Taker;
 use crate::text_store::{MAX_LIMIT, TextStore};
 use crate::walk::{walked, walked_text, walked_visible};
@@ -154,6 +156,17 @@ impl TreeStore {
         }
     }
 
+    /// Whether the root has a node and each other node its element. So each parent but the root is
+    /// inserted, and nothing waits.
+    fn is_rooted(&self) -> bool
+        ensures { result ≡ true → waiting self.now.content ≡ [] }
+    {
+        if self.nodes.len() != self.inserted + 1 {
+            return false;
+        }
+        self.nodes.contains_key(&Id::ROOT)
+    }
+
     fn count(&self) -> usize
         ensures known { result ≡ known_count self.now.content }
         ensures within { result ≤ self.now.limit }
@@ -263,7 +276,14 @@ impl TextStore for TreeStore {
         walked_visible(alloc, &self.nodes)
     }
 
+    fn last_visible(&self, id: Id) -> Id {
+        last_visible(&self.nodes, id)
+    }
+
     fn waiting_count(&self) -> Result<usize, Refusal> {
+        if self.is_rooted() {
+            return Ok(0);
+        }
         let order = walked(self.alloc, &self.nodes)?;
         Ok(self.inserted - order.as_slice().len())
     }

@@ -1,7 +1,7 @@
 //! The tree store answers and shows as the plain list does.
 use crate::list_store::ListStore;
 use crate::random::Random;
-use crate::words::same;
+use crate::words::{last_visible_ones, same};
 use rga_ops::{Op, Refusal};
 use rga_store::{Taker, TextStore, TreeStore};
 use std::alloc::Global;
@@ -38,6 +38,10 @@ impl Pair {
         same(self.tree.order(), self.list.order())
             && same(self.tree.text(self.alloc), self.list.text())
             && self.lists_alike()
+            && same(
+                last_visible_ones(self.alloc, &self.tree),
+                self.list.last_visible_ones(),
+            )
     }
 
     /// Whether the tree store lists those of the plain list's elements that are not deleted, and

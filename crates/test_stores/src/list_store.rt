@@ -80,6 +80,19 @@ impl ListStore {
         Ok(order)
     }
 
+    /// The last element up to each in the order that is not deleted, by a walk of all of them.
+    pub fn last_visible_ones(&self) -> Result<Vec<Id>, Refusal> {
+        let mut found = Vec::new(self.alloc);
+        let mut last = Id::ROOT;
+        for id in &self.order()? {
+            if !self.is_deleted(*id) {
+                last = *id;
+            }
+            found.push(last)?;
+        }
+        Ok(found)
+    }
+
     /// The characters of the complete elements that are not deleted.
     pub fn text(&self) -> Result<Vec<char>, Refusal> {
         let mut text = Vec::new(self.alloc);

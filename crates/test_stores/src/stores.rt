@@ -1,5 +1,5 @@
 //! The tree store on worked examples.
-use crate::words::{holds, prints, shows, store_of};
+use crate::words::{holds, last_visible_ones, prints, shows, store_of};
 use rga_answers::answer_at;
 use rga_ops::{Id, Refusal};
 use rga_store::{MAX_LIMIT, Taker, TextStore, TreeStore};
@@ -39,6 +39,62 @@ fn the_text_follows_the_root_paths(rt: HostRuntime) {
         ),
     ] {
         assert!(rt; tells(rt.alloc(), words, text, *waiting), "{name}");
+    }
+}
+
+/// Whether the last visible elements up to each element of the order, in turn, have these
+/// characters; the root has a dot.
+fn leads_back(alloc: Global, words: &str, text: &str) -> Result<bool, Refusal> {
+    let store = store_of(alloc, 100, words)?;
+    let found = last_visible_ones(alloc, &store)?;
+    Ok(
+        found
+            .as_slice()
+            .iter()
+            .map(|id| store.get(*id).map_or('.', |(_, ch)| ch))
+            .eq(text.chars()),
+    )
+}
+
+#[test]
+fn the_last_visible_element_is_found(rt: HostRuntime) {
+    for (name, words, text) in &[
+        ("nothing", "", ""),
+        ("visible itself", "a1.1<0.0 b2.1<1.1", "ab"),
+        ("behind its parent", "a1.1<0.0 b2.1<1.1 -2.1", "aa"),
+        ("all are deleted", "a1.1<0.0 b2.1<1.1 -1.1 -2.1", ".."),
+        (
+            "behind a newer sibling",
+            "a1.1<0.0 b2.1<1.1 c3.1<1.1 -2.1",
+            "acc",
+        ),
+        (
+            "behind all under a newer sibling",
+            "a1.1<0.0 b2.1<0.0 c3.1<2.1 d4.1<3.1 e5.1<2.1 -1.1",
+            "becdd",
+        ),
+        (
+            "a chain is deleted",
+            "a1.1<0.0 b2.1<1.1 c3.1<2.1 d4.1<3.1 -2.1 -3.1 -4.1",
+            "aaaa",
+        ),
+        (
+            "a chain under a newer sibling is deleted",
+            "a1.1<0.0 b2.1<1.1 c3.1<1.1 d4.1<3.1 e5.1<4.1 -2.1 -4.1 -5.1",
+            "acccc",
+        ),
+        (
+            "characters are restored behind deleted ones",
+            "a1.1<0.0 b2.1<1.1 c3.1<2.1 -2.1 -3.1 x4.1<3.1 y5.1<4.1",
+            "aaaxy",
+        ),
+        (
+            "what waits is not behind",
+            "a1.1<0.0 d4.1<1.1 c6.1<5.1 -1.1 -4.1",
+            "..",
+        ),
+    ] {
+        assert_eq!(rt; leads_back(rt.alloc(), words, text), Ok(true), "{name}");
     }
 }
 

@@ -1,5 +1,5 @@
 //! Stores that are made from words, and compared with words and with one another.
-use rga_ops::Refusal;
+use rga_ops::{Id, Refusal};
 use rga_store::{Taker, TextStore, TreeStore};
 use std::alloc::Global;
 use std::fmt::Debug;
@@ -26,6 +26,16 @@ pub fn shows(alloc: Global, store: &TreeStore, text: &str) -> bool {
 /// Whether these are the operations of the store, in their order.
 pub fn holds(alloc: Global, store: &TreeStore, words: &str) -> bool {
     same(store.ops(), ops_of(alloc, words))
+}
+
+/// The last visible element up to each element of the order, in turn.
+pub fn last_visible_ones(alloc: Global, store: &TreeStore) -> Result<Vec<Id>, Refusal> {
+    let order = store.order()?;
+    let mut found = Vec::new(alloc);
+    for id in &order {
+        found.push(store.last_visible(*id))?;
+    }
+    Ok(found)
 }
 
 /// Whether both stores hold the same operations, and have the same order.
