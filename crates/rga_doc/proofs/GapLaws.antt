@@ -1,12 +1,11 @@
 -- A list with a gap of unused places: what moves the gap, makes it wider or puts something into it.
-use Rattle.std.proofs.Common.{◌≡◌, ℕ, suc, ◌+◌, ◌-◌, ◌<◌, ◌≤◌, Bool, true, false, List, [], ◌∷◌, ◌++◌, take, drop, length, position, refl, sym, ap, ◌∙◌, arith, append_assoc, append-nil, length-append, length-drop, length-take-le, take-append-drop, take_at, drop_at, take-take, drop-drop}
-use Rattle.std.specs.Prelude.{Option, Some, None}
-use Rattle.std.specs.Option.{option_map}
+use Rattle.std.proofs.Common.{◌≡◌, ℕ, zero, suc, ◌+◌, ◌-◌, ◌<◌, ◌≤◌, List, [], ◌∷◌, ◌++◌, take, drop, length, slice_get, refl, sym, ap, ◌∙◌, arith, append_assoc, append-nil, length-append, length-drop, length-take-le, take-append-drop, take_at, drop_at, take-take, drop-drop}
+use Rattle.std.specs.Prelude.{Some}
+use Rattle.std.proofs.lemmas.Option.{none-some}
 use Rattle.std.specs.List.{copy_within}
 use Rattle.std.proofs.lemmas.List.{take-append-le, drop-append-le}
 use Rattle.rga_ops.specs.Identifier.{Identifier}
 use Rattle.rga_ops.specs.Splice.{spliced}
-use Rattle.rga_ops.proofs.VisibleLaws.{position_here, position_later}
 use Rattle.rga_doc.specs.Gap.{around}
 use Rattle.rga_doc.proofs.SplicedLists.{splice_on, part, same_begin}
 
@@ -117,28 +116,17 @@ put_more xs row x gap next within at =
     ap (λ ys. spliced ys next next row) (sym (append_assoc (take gap xs) (x ∷ []) (drop gap xs)))
     ∙ splice_on xs (x ∷ []) row gap gap next next 0 gap within at here end
 
--- ---- positions
+-- ---- indexes
 
--- the position in the first list, else in the second one
-abbrev pub first_in : Option ℕ → ℕ → Option ℕ → Option ℕ
-first_in (Some i) n o = Some i
-first_in None n o = option_map (λ k. n + k) o
+-- what stands in one of two parts stands in the whole
+pub stands_before : (xs ys : List Identifier) (i : ℕ) (x : Identifier) → slice_get xs i ≡ Some x → slice_get (xs ++ ys) i ≡ Some x
+stands_before [] ys i x h = absurd (none-some _ h)
+stands_before (y ∷ xs) ys zero x h = h
+stands_before (y ∷ xs) ys (suc i) x h = stands_before xs ys i x h
 
-later : (o q : Option ℕ) (n : ℕ) → option_map (λ k. suc k) (first_in o n q) ≡ first_in (option_map (λ k. suc k) o) (suc n) q
-later (Some i) q n = refl
-later None (Some k) n = let on : suc (n + k) ≡ suc n + k = omega arith in ap Some on
-later None None n = refl
-
-pub position-append : (p : Identifier → Bool) (xs ys : List Identifier) → position p (xs ++ ys) ≡ first_in (position p xs) (length xs) (position p ys)
-position-append p [] ys = by (position p ys)
-  where
-    by : (o : Option ℕ) → o ≡ option_map (λ k. 0 + k) o
-    by None = refl
-    by (Some k) = let same : k ≡ 0 + k = omega arith in ap Some same
-position-append p (x ∷ xs) ys = by (p x) refl (position-append p xs ys)
-  where
-    by : (b : Bool) → p x ≡ b → position p (xs ++ ys) ≡ first_in (position p xs) (length xs) (position p ys) → position p (x ∷ (xs ++ ys)) ≡ first_in (position p (x ∷ xs)) (suc (length xs)) (position p ys)
-    by true here more = position_here p x (xs ++ ys) here ∙ ap (λ o. first_in o (suc (length xs)) (position p ys)) (sym (position_here p x xs here))
-    by false other more =
-        position_later p x (xs ++ ys) other ∙ ap (option_map (λ k. suc k)) more ∙ later (position p xs) (position p ys) (length xs)
-        ∙ ap (λ o. first_in o (suc (length xs)) (position p ys)) (sym (position_later p x xs other))
+pub stands_behind : (xs ys : List Identifier) (i k : ℕ) (x : Identifier) → slice_get ys i ≡ Some x → k ≡ length xs + i → slice_get (xs ++ ys) k ≡ Some x
+stands_behind [] ys i k x h at =
+    let same : k ≡ i = omega (arith, at) in
+    ap (slice_get ys) same ∙ h
+stands_behind (y ∷ xs) ys i zero x h at = absurd (omega (arith, at))
+stands_behind (y ∷ xs) ys i (suc k) x h at = stands_behind xs ys i k x h (omega (arith, at))

@@ -3,11 +3,15 @@ pub mod EditSteps
 pub mod EditLaws
 pub mod EditAnswers
 pub mod RevertSets
+pub mod CompleteLaws
 pub mod RevertLaws
 pub mod PutBackLaws
 pub mod PlaceLaws
 pub mod UndoLists
 pub mod ApartLists
+pub mod RelistingLists
+pub mod RelistingLaws
+pub mod RelistedReverts
 pub mod RevertedLaws
 pub mod UndoLaws
 pub mod UndoApart

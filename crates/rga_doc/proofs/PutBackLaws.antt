@@ -92,27 +92,39 @@ in_still parent y xs q s = record {
   ];
 }
 
-each_behind : (back : List (Identifier × ℕ)) (replica last : ℕ) (xs : List Identifier) (i : ℕ) (b : Identifier × ℕ) → AllByRecursion (IsIn xs) (elements_of back) → AreApart back → slice_get back i ≡ Some b → StandsDirectlyBehind (put_back replica last back xs) b.0 (identifier (last + (i + 1)) replica)
-each_behind [] replica last xs zero b all apart at = absurd (none-some b at)
-each_behind [] replica last xs (suc i) b all apart at = absurd (none-some b at)
-each_behind (e ∷ back) replica last xs zero b all apart at =
+-- each restored element stands directly behind its own
+abbrev pub AreBehind : List Identifier → ℕ → ℕ → List (Identifier × ℕ) → Type 0
+AreBehind ys replica last [] = Unit {0}
+AreBehind ys replica last (b ∷ back) = StandsDirectlyBehind ys b.0 (identifier (last + 1) replica) × AreBehind ys replica (last + 1) back
+
+all_behind : (back : List (Identifier × ℕ)) (replica last : ℕ) (xs : List Identifier) → AllByRecursion (IsIn xs) (elements_of back) → AreApart back → AreBehind (put_back replica last back xs) replica last back
+all_behind [] replica last xs all apart = tt
+all_behind (b ∷ back) replica last xs all apart =
     let id : Identifier = identifier (last + 1) replica in
+    let still : AllByRecursion (IsIn (put_behind b.0 id xs)) (elements_of back) = all_map (IsIn xs) (IsIn (put_behind b.0 id xs)) (in_still b.0 id xs) (elements_of back) all.1 in (
+      stays_put_back back replica (last + 1) (put_behind b.0 id xs) b.0 id apart.0 (put_there xs b.0 id (all.0).member (all.0).element),
+      all_behind back replica (last + 1) (put_behind b.0 id xs) still apart.1,
+    )
+
+each_behind : (back : List (Identifier × ℕ)) (replica last : ℕ) (ys : List Identifier) (i : ℕ) (b : Identifier × ℕ) → AreBehind ys replica last back → slice_get back i ≡ Some b → StandsDirectlyBehind ys b.0 (identifier (last + (i + 1)) replica)
+each_behind [] replica last ys zero b all at = absurd (none-some b at)
+each_behind [] replica last ys (suc i) b all at = absurd (none-some b at)
+each_behind (e ∷ back) replica last ys zero b all at =
     let same : e ≡ b = cc in
-    subst (λ (x : Identifier × ℕ). StandsDirectlyBehind (put_back replica last (e ∷ back) xs) x.0 id) same
-    (stays_put_back back replica (last + 1) (put_behind e.0 id xs) e.0 id apart.0 (put_there xs e.0 id (all.0).member (all.0).element))
-each_behind (e ∷ back) replica last xs (suc i) b all apart at =
-    let id : Identifier = identifier (last + 1) replica in
-    let still : AllByRecursion (IsIn (put_behind e.0 id xs)) (elements_of back) = all_map (IsIn xs) (IsIn (put_behind e.0 id xs)) (in_still e.0 id xs) (elements_of back) all.1 in
+    subst (λ (x : Identifier × ℕ). StandsDirectlyBehind ys x.0 (identifier (last + 1) replica)) same all.0
+each_behind (e ∷ back) replica last ys (suc i) b all at =
     let counter : last + 1 + (i + 1) ≡ last + (suc i + 1) = omega arith in
-    subst (λ n. StandsDirectlyBehind (put_back replica last (e ∷ back) xs) b.0 (identifier n replica)) counter
-    (each_behind back replica (last + 1) (put_behind e.0 id xs) i b still apart.1 at)
+    subst (λ n. StandsDirectlyBehind ys b.0 (identifier n replica)) counter (each_behind back replica (last + 1) ys i b all.1 at)
 
 complete_in : (c : Content) (q : Identifier) → is_complete c q ≡ true → IsIn (order c) q
 complete_in c q h = record { element = not_complete_root ((is_complete-iff c q).0 h); member = (order_list c).elements q ∙ h }
 
-pub revert_behind : (limit replica : ℕ) (c : Content) (gone : List Identifier) (back : List (Identifier × ℕ)) (i : ℕ) (b : Identifier × ℕ) → revert_answer limit c back ≡ Ok tt → slice_get back i ≡ Some b → StandsDirectlyBehind (order (join c (content_of (revert_operations replica c gone back)))) b.0 (identifier (clock_of c + (i + 1)) replica)
-revert_behind limit replica c gone back i b h at =
+pub revert_all_behind : (limit replica : ℕ) (c : Content) (gone : List Identifier) (back : List (Identifier × ℕ)) → revert_answer limit c back ≡ Ok tt → AreBehind (order (join c (content_of (revert_operations replica c gone back)))) replica (clock_of c) back
+revert_all_behind limit replica c gone back h =
     let able = (allowed limit c (are_restorable c back) (length back) h).1 in
     let all : AllByRecursion (IsIn (order c)) (elements_of back) = all_map (λ q. is_complete c q ≡ true) (IsIn (order c)) (complete_in c) (elements_of back) (back_complete c back able) in
-    subst (λ xs. StandsDirectlyBehind xs b.0 (identifier (clock_of c + (i + 1)) replica)) (sym (revert_order limit replica c gone back h))
-    (each_behind back replica (clock_of c) (order c) i b all (apart_if_restorable c back able) at)
+    subst (λ xs. AreBehind xs replica (clock_of c) back) (sym (revert_order limit replica c gone back h))
+    (all_behind back replica (clock_of c) (order c) all (apart_if_restorable c back able))
+
+pub revert_behind : (limit replica : ℕ) (c : Content) (gone : List Identifier) (back : List (Identifier × ℕ)) (i : ℕ) (b : Identifier × ℕ) → revert_answer limit c back ≡ Ok tt → slice_get back i ≡ Some b → StandsDirectlyBehind (order (join c (content_of (revert_operations replica c gone back)))) b.0 (identifier (clock_of c + (i + 1)) replica)
+revert_behind limit replica c gone back i b h at = each_behind back replica (clock_of c) (order (join c (content_of (revert_operations replica c gone back)))) i b (revert_all_behind limit replica c gone back h) at

@@ -1,7 +1,9 @@
+pub mod Complete
 pub mod Document
 pub mod Following
 pub mod Gap
 pub mod Listing
 pub mod LocalEdit
+pub mod Relisting
 pub mod Revert
 pub mod UndoGroup

@@ -3,11 +3,46 @@ ghost use Rattle.std.specs.Prelude.{◌≡◌, ◌||◌, not, IfOk, IfErr, OnOk}
 ghost use Rattle.std.specs.List.{list_any};
 ghost use Rattle.indexmap.specs.IndexSet.{contains};
 ghost use Rattle.rga_ops.specs.Prelude.{Identifier, is_id};
+ghost use Rattle.rga_doc.specs.Complete.{has, AreTheComplete};
 ghost use Rattle.rga_doc.specs.Revert.{distinct_elements};
 
 use indexmap::IndexSet;
 use rga_ops::{Id, Refusal};
+use rga_store::TextStore;
 use std::alloc::Global;
+
+/// Which elements of a store are complete.
+#[derive(Drop)]
+pub(crate) enum Complete {
+    /// All that are inserted, since none waits.
+    Inserted,
+    /// Those of a set.
+    Among(IndexSet<Id>),
+}
+
+impl Complete {
+    /// Those of a store: listed in a set only where an element waits. `Memory` alone.
+    pub(crate) fn of<S: TextStore>(alloc: Global, store: &S) -> Result<Complete, Refusal>
+        ensures ok { IfOk result (λ complete. AreTheComplete complete (S.content store.now)) }
+        ensures memory { IfErr result (λ e. e ≡ Refusal.Memory) }
+    {
+        if store.waiting_count()? == 0 {
+            return Ok(Complete::Inserted);
+        }
+        let order = store.order()?;
+        Ok(Complete::Among(collect_set(alloc, &order)?))
+    }
+
+    /// Whether an element is one of them.
+    pub(crate) fn has<S: TextStore>(&self, store: &S, id: Id) -> bool
+        ensures { result ≡ has self.now (S.content store.now) id }
+    {
+        match self {
+            Complete::Inserted => store.get(id).is_some(),
+            Complete::Among(set) => set.contains(&id),
+        }
+    }
+}
 
 /// The set of the elements. `Memory` alone.
 pub(crate) fn collect_set(alloc: Global, ids: &[Id]) -> Result<IndexSet<Id>, Refusal>

@@ -1,7 +1,7 @@
 //! A list of elements with a gap where it was edited last: an edit there moves nothing.
-ghost use Rattle.std.specs.Prelude.{◌≡◌, ◌≤◌, ◌<◌, ◌+◌, ◌++◌, ◌∷◌, [], Some, length, take, drop, vec_len, vec_capacity, position, IfErr, IfSome, OnOk};
+ghost use Rattle.std.specs.Prelude.{◌≡◌, ◌≤◌, ◌<◌, ◌+◌, ◌++◌, ◌∷◌, [], Some, length, take, drop, vec_len, vec_capacity, IfErr, IfSome, OnOk};
 ghost use Rattle.std.specs.List.{slice_get};
-ghost use Rattle.rga_ops.specs.Identifier.{identifier, is_id};
+ghost use Rattle.rga_ops.specs.Identifier.{identifier};
 ghost use Rattle.rga_ops.specs.Splice.{spliced};
 ghost use Rattle.rga_doc.specs.Gap.{around};
 ghost use Rattle.rga_doc.specs.LocalEdit.{left_of, new_ids};
@@ -92,9 +92,35 @@ impl GapList {
         (&places[lo..self.gap], &places[self.gap + self.room..end])
     }
 
-    /// The index of an element, where it is there.
-    pub(crate) fn position(&self, element: Id) -> Option<usize>
-        ensures value { result ≡ position (λ x. is_id x element) self.now.items }
+    /// An index of an element, where it is there. It is looked for beside the gap first, where
+    /// edits in a row find theirs.
+    pub(crate) fn index_of(&self, element: Id) -> Option<usize>
+        ensures at { IfSome result (λ index. slice_get self.now.items index ≡ Some element) }
+        ensures within { IfSome result (λ index. index + 1 ≤ usize.MAX) }
+    {
+        match self.index_beside_gap(element) {
+            Some(index) => Some(index),
+            None => self.index_anywhere(element),
+        }
+    }
+
+    /// The index of an element that stands directly before or behind the gap.
+    fn index_beside_gap(&self, element: Id) -> Option<usize>
+        ensures at { IfSome result (λ index. slice_get self.now.items index ≡ Some element) }
+        ensures within { IfSome result (λ index. index + 1 ≤ usize.MAX) }
+    {
+        if self.gap > 0 && self.get(self.gap - 1) == element {
+            return Some(self.gap - 1);
+        }
+        if self.gap < self.len() && self.get(self.gap) == element {
+            return Some(self.gap);
+        }
+        None
+    }
+
+    /// An index of an element, where it is there.
+    fn index_anywhere(&self, element: Id) -> Option<usize>
+        ensures at { IfSome result (λ index. slice_get self.now.items index ≡ Some element) }
         ensures within { IfSome result (λ index. index + 1 ≤ usize.MAX) }
     {
         let (before, behind) = self.parts(0, self.len());
@@ -170,6 +196,27 @@ impl GapList {
         self.fill(put, replica, last);
     }
 
+    /// Takes out the element at an index.
+    pub(crate) fn remove(&mut self, index: usize)
+        requires { index < length self.old.items }
+        ensures items { self.new.items ≡ spliced self.old.items index (index + 1) [] }
+        ensures room { self.old.room ≤ self.new.room }
+    {
+        self.move_gap(index);
+        self.cut(1);
+    }
+
+    /// Puts an element at a place. The gap has room for it.
+    pub(crate) fn insert(&mut self, place: usize, element: Id)
+        requires place { place ≤ length self.old.items }
+        requires room { 0 < self.old.room }
+        ensures items { self.new.items ≡ spliced self.old.items place place (element ∷ []) }
+        ensures room { self.new.room + 1 ≡ self.old.room }
+    {
+        self.move_gap(place);
+        self.put(element);
+    }
+
     /// Moves the gap to a place.
     fn move_gap(&mut self, place: usize)
         requires { place ≤ length self.old.items }
@@ -204,31 +251,28 @@ impl GapList {
         let mut counter = last;
         for _ in put {
             counter += 1;
-            self.put(counter, replica);
+            self.put(id_of(counter, replica));
         }
     }
 
-    /// Puts the element of a counter where the gap begins. It has room for it.
-    fn put(&mut self, counter: u64, replica: u16)
-        requires numbered { 1 ≤ replica }
-        requires counters { (1 ≤ counter) × (counter ≤ Id.MAX_COUNTER) }
-        requires room { 0 < self.old.room }
+    /// Puts an element where the gap begins. It has room for it.
+    fn put(&mut self, element: Id)
+        requires { 0 < self.old.room }
         ensures items { self.new.items ≡ take self.old.gap self.old.items
-            ++ identifier counter replica ∷ drop self.old.gap self.old.items }
+            ++ element ∷ drop self.old.gap self.old.items }
         ensures gap { self.new.gap ≡ self.old.gap + 1 }
         ensures gap_within { self.old.gap ≤ length self.old.items }
         ensures room { self.new.room + 1 ≡ self.old.room }
     {
-        let id = id_of(counter, replica);
-        self.places[self.gap] = id;
+        self.places[self.gap] = element;
         self.gap += 1;
         self.room -= 1;
     }
 }
 
-/// The index of an element in a list, where it is there.
+/// An index of an element in a list, where it is there.
 fn index_in(elements: &[Id], element: Id) -> Option<usize>
-    ensures value { result ≡ position (λ x. is_id x element) elements.now }
+    ensures at { IfSome result (λ index. slice_get elements.now index ≡ Some element) }
     ensures within { IfSome result (λ index. index < length elements.now) }
 {
     elements.iter().position(|x| *x == element)

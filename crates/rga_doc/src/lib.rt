@@ -21,6 +21,7 @@ mod gap_list;
 pub mod laws;
 mod listing;
 mod listing_anew;
+mod relisting;
 mod revert;
 mod tail;
 mod taking;

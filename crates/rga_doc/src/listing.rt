@@ -1,9 +1,9 @@
 //! The visible elements and their characters, listed beside a store.
-ghost use Rattle.std.specs.Prelude.{◌≡◌, ◌≤◌, ◌<◌, ◌+◌, false, true, length, vec_capacity, position, IfErr, IfSome, OnOk, OnErr};
-ghost use Rattle.rga_ops.specs.Identifier.{is_id};
+ghost use Rattle.std.specs.Prelude.{◌≡◌, ◌≤◌, ◌<◌, ◌+◌, false, true, length, vec_capacity, IfErr, IfSome, OnOk, OnErr};
 ghost use Rattle.rga_ops.specs.Splice.{spliced, text_after, are_falling, new_characters};
 ghost use Rattle.rga_doc.specs.Listing.{IsListOf, IsListing, elements_after};
 ghost use Rattle.rga_doc.specs.LocalEdit.{left_of, new_ids};
+ghost use Rattle.rga_doc.specs.Relisting.{StandsLeft};
 
 use crate::gap_list::GapList;
 use crate::tail::move_tail;
@@ -77,12 +77,15 @@ impl Listing {
         self.elements.left_of(k)
     }
 
-    /// The index of an element in the text, where it is listed.
-    pub(crate) fn index_of(&self, element: Id) -> Option<usize>
-        ensures value { result ≡ position (λ x. is_id x element) self.now.elements.items }
-        ensures within { IfSome result (λ index. index + 1 ≤ usize.MAX) }
+    /// The place directly behind an element that is listed; behind the root it is the front.
+    pub(crate) fn place_behind(&self, element: Id) -> Option<usize>
+        ensures { IfSome result (λ place. StandsLeft self.now.elements.items place element) }
     {
-        self.elements.position(element)
+        if element == Id::ROOT {
+            return Some(0);
+        }
+        let index = self.elements.index_of(element)?;
+        Some(index + 1)
     }
 
     /// Makes room for so many more. `Memory` alone; what is listed stays.
@@ -201,7 +204,7 @@ fn reserve<T>(items: &mut Vec<T>, more: usize) -> Result<(), Refusal>
 }
 
 /// Replaces characters in place by others; what stands behind them is moved once. There is room.
-fn replace_characters(characters: &mut Vec<char>, lo: usize, hi: usize, put: &[char])
+pub(crate) fn replace_characters(characters: &mut Vec<char>, lo: usize, hi: usize, put: &[char])
     requires ordered { lo ≤ hi }
     requires in_list { hi ≤ length characters.old.items }
     requires room { length characters.old.items + length put.now ≤ vec_capacity characters.old }

@@ -1,17 +1,16 @@
 //! Edits that are reverted.
 ghost use Rattle.std.specs.Prelude.{◌≡◌, false, ◌+◌, ◌≤◌, ◌<◌, ◌++◌, filter, length, Ok, Err, IfOk, IfErr, OnOk, OnErr};
-ghost use Rattle.indexmap.specs.IndexSet.{contains};
-ghost use Rattle.rga_ops.specs.Prelude.{Identifier, is_id, clock_of, content_of, join, order, IsAnswer};
-ghost use Rattle.rga_ops.specs.RootPath.{is_complete};
+ghost use Rattle.rga_ops.specs.Prelude.{clock_of, content_of, join, order, IsAnswer};
 ghost use Rattle.rga_ops.specs.Places.{is_visible};
 ghost use Rattle.rga_ops.specs.declared.refusal.Refusal.TheVariants.{Memory};
+ghost use Rattle.rga_doc.specs.Complete.{AreTheComplete};
 ghost use Rattle.rga_doc.specs.LocalEdit.{room_answer, place_answer};
 ghost use Rattle.rga_doc.specs.Revert.{distinct_elements, restorations, revert_operations, are_restorable, revert_answer, put_back};
 
 use crate::doc::Doc;
 use crate::draft::Draft;
 use crate::edit::{check_counters, check_room};
-use crate::element_sets::{collect_set, drop_repeats, put_in};
+use crate::element_sets::{Complete, drop_repeats, put_in};
 use indexmap::IndexSet;
 use rga_ops::{Id, Op, Refusal};
 use rga_store::{Taker, TextStore};
@@ -33,7 +32,7 @@ impl<S: TextStore> Doc<S> {
             ≡ revert_operations self.old.replica self.old.content gone.now back.now) }
         ensures content { IfOk result (λ ops. self.new
             ≡ record self.old
-            { content = join self.old.content (content_of ops.items); listed = false }) }
+            { content = join self.old.content (content_of ops.items); listed = self.new.listed }) }
         // Each restored element stands directly behind the one that it restores.
         ensures place { OnOk result (order self.new.content
             ≡ put_back self.old.replica (clock_of self.old.content) back.now
@@ -45,9 +44,31 @@ impl<S: TextStore> Doc<S> {
             room_answer self.old.limit self.old.content (length back.now) ≡ Ok tt }
     {
         let ops = self.draft_revert(gone, back)?;
-        self.store.apply_all(&ops)?;
-        self.listing.listed = false;
+        self.take_revert(gone, back, &ops)?;
         Ok(ops)
+    }
+
+    /// Takes the operations of a revert that `draft_revert` gave for this document as it is. A
+    /// listed document may be listed then or not. `Memory` alone; then nothing changes.
+    pub fn take_revert(
+        &mut self,
+        gone: &[Id],
+        back: &[(Id, char)],
+        ops: &[Op],
+    ) -> Result<(), Refusal>
+        requires allowed { revert_answer self.old.limit self.old.content back.now ≡ Ok tt }
+        requires operations { ops.now
+            ≡ revert_operations self.old.replica self.old.content gone.now back.now }
+
+        ensures content { OnOk result (self.new ≡ record self.old
+            { content = join self.old.content (content_of ops.now); listed = self.new.listed }) }
+        ensures memory { IfErr result (λ e. e ≡ Refusal.Memory) }
+        ensures same { OnErr result (self.new ≡ self.old) }
+    {
+        let follows = self.listing.can_follow(gone.len(), back.len());
+        self.store.apply_all(ops)?;
+        self.listing.listed = follows && self.listing.follow(&self.store, ops);
+        Ok(())
     }
 
     /// The operations of `revert`, which are not taken. The refusals are those of `revert`.
@@ -62,8 +83,7 @@ impl<S: TextStore> Doc<S> {
             room_answer self.now.limit self.now.content (length back.now) ≡ Ok tt }
     {
         check_room(&self.store, back.len())?;
-        let order = self.store.order()?;
-        let complete = collect_set(self.alloc, &order)?;
+        let complete = Complete::of(self.alloc, &self.store)?;
         self.check_restorable(&complete, back)?;
         check_counters(&self.store, back.len())?;
         let visible = self.collect_visible(&complete, gone)?;
@@ -74,14 +94,13 @@ impl<S: TextStore> Doc<S> {
     }
 
     /// `Range` where an element is not complete or stands twice; `Memory`.
-    fn check_restorable(&self, complete: &IndexSet<Id>, back: &[(Id, char)]) -> Result<(), Refusal>
-        requires complete { (q : Identifier) →
-            contains is_id complete.now q ≡ is_complete self.now.content q }
+    fn check_restorable(&self, complete: &Complete, back: &[(Id, char)]) -> Result<(), Refusal>
+        requires complete { AreTheComplete complete.now self.now.content }
         ensures { IsAnswer result (place_answer (are_restorable self.now.content back.now)) }
     {
         let mut seen = IndexSet::new(self.alloc);
         for (element, _) in back {
-            if !complete.contains(element) {
+            if !complete.has(&self.store, *element) {
                 return Err(Refusal::Range);
             }
             let new = put_in(&mut seen, *element)?;
@@ -93,15 +112,14 @@ impl<S: TextStore> Doc<S> {
     }
 
     /// Those of the elements that are visible, each once. `Memory` alone.
-    fn collect_visible(&self, complete: &IndexSet<Id>, ids: &[Id]) -> Result<Vec<Id>, Refusal>
-        requires complete { (q : Identifier) →
-            contains is_id complete.now q ≡ is_complete self.now.content q }
+    fn collect_visible(&self, complete: &Complete, ids: &[Id]) -> Result<Vec<Id>, Refusal>
+        requires complete { AreTheComplete complete.now self.now.content }
         ensures ok { IfOk result (λ kept. kept.items
             ≡ distinct_elements (filter (is_visible self.now.content) ids.now)) }
         ensures memory { IfErr result (λ e. e ≡ Refusal.Memory) }
     {
         let mut visible = Vec::from_slice(self.alloc, ids)?;
-        visible.retain(|id| complete.contains(id) && !self.store.is_deleted(*id));
+        visible.retain(|id| complete.has(&self.store, *id) && !self.store.is_deleted(*id));
         drop_repeats(self.alloc, &visible)
     }
 }

@@ -35,6 +35,42 @@ fn insert_remotely(doc: &mut Document, place: usize) -> Result<(), Refusal> {
     Ok(())
 }
 
+/// The elements behind places of the text, each with its character.
+fn elements_between(
+    alloc: Global,
+    doc: &Document,
+    lo: usize,
+    hi: usize,
+) -> Result<Vec<(Id, char)>, Refusal> {
+    let mut pairs = Vec::new(alloc);
+    for place in lo..hi {
+        let element = doc.anchor_at(place.saturating_add(1))?.element;
+        if let Some((_, ch)) = doc.store().get(element) {
+            pairs.push((element, ch))?;
+        }
+    }
+    Ok(pairs)
+}
+
+/// What stands between two places deleted, and brought back behind another replica's insertion; and
+/// the same by a draft.
+fn delete_and_restore(
+    alloc: Global,
+    doc: &mut Document,
+    lo: usize,
+    hi: usize,
+) -> Result<(), Refusal> {
+    let back = elements_between(alloc, doc, lo, hi)?;
+    let _deleted = doc.splice(lo, hi, &[])?;
+    insert_remotely(doc, lo)?;
+    doc.list()?;
+    let _restored = doc.revert(&[], &back)?;
+    let back = elements_between(alloc, doc, lo, hi)?;
+    let _deleted = doc.splice(lo, hi, &[])?;
+    let ops = doc.draft_revert(&[], &back)?;
+    doc.take_revert(&[], &back, &ops)
+}
+
 /// An edit that the number chooses.
 fn edit(alloc: Global, doc: &mut Document, number: u64) -> Result<(), Refusal> {
     doc.list()?;
@@ -49,6 +85,7 @@ fn edit(alloc: Global, doc: &mut Document, number: u64) -> Result<(), Refusal> {
             Ok(())
         }
         3 => put_two(alloc, doc, lo, hi),
+        4 => delete_and_restore(alloc, doc, lo, hi),
         _ => {
             let _ops = doc.splice(lo, hi, &['x', 'y'])?;
             Ok(())

@@ -1,4 +1,4 @@
-use Rattle.std.proofs.Common.{◌+◌, ℕ, List, drop, sym, ap, ◌∙◌, arith}
+use Rattle.std.proofs.Common.{◌+◌, ◌++◌, ◌∷◌, ℕ, List, take, drop, sym, ap, ◌∙◌, arith}
 use Rattle.std.proofs.lemmas.List.{drop_more}
 use Rattle.rga_ops.specs.Identifier.{Identifier, identifier}
 use Rattle.rga_ops.specs.Splice.{spliced}
@@ -19,7 +19,7 @@ loop-preserved c =
     let row : List Identifier = new_ids replica (counter + 1) (drop (i + 1) put) in
     record {
       items =
-          ap (λ xs. spliced xs next next row) c.put.ensures.items
+          ap (λ xs. spliced xs next next row) (c.put.ensures.items ∙ ap (λ (x : Identifier). take gap items ++ x ∷ drop gap items) c.id_of.ensures)
           ∙ put_more items row (identifier (counter + 1) replica) gap next c.put.ensures.gap_within c.put.ensures.gap
           ∙ ap (λ xs. spliced items gap gap (new_ids replica counter xs)) (sym (drop_more put i c.loop-item.result c.loop-test.true))
           ∙ c.loop.invariant.items;
