@@ -9,6 +9,10 @@ pub enum Work {
     Motion,
     /// The rest of a line killed and yanked back, each with the view.
     KillLine,
+    /// The rest of a line killed and the kill undone, each with the view.
+    UndoLine,
+    /// A character put in and taken back by an undo, each with the view.
+    UndoInsert,
     /// All of the text marked and killed.
     KillAll,
     /// The same, and undone.
@@ -33,6 +37,8 @@ pub fn task_of(words: &[String]) -> Option<Task> {
         "insert" => Work::Insert,
         "motion" => Work::Motion,
         "kill-line" => Work::KillLine,
+        "undo-line" => Work::UndoLine,
+        "undo-insert" => Work::UndoInsert,
         "kill-all" => Work::KillAll,
         "undo-all" => Work::UndoAll,
         "take" => Work::Take,

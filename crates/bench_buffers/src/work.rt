@@ -55,6 +55,16 @@ fn do_once(work: Work, buffer: &mut Buffer<TreeStore>, memo: &mut Memo) -> Resul
             run(buffer, memo, &Command::Yank)?;
             run(buffer, memo, &Command::BeginningOfLine)?;
         }
+        Work::UndoLine => {
+            run(buffer, memo, &Command::KillLine)?;
+            undo(buffer, memo)?;
+            buffer.idle(memo);
+        }
+        Work::UndoInsert => {
+            run(buffer, memo, &Command::Insert('a'))?;
+            undo(buffer, memo)?;
+            buffer.idle(memo);
+        }
         Work::KillAll => kill_all(buffer, memo)?,
         Work::UndoAll => {
             kill_all(buffer, memo)?;
@@ -72,6 +82,14 @@ fn run(
     command: &Command,
 ) -> Result<(), BufferFault> {
     buffer.run(command, 1, memo, FILL)?;
+    buffer.list()?;
+    let _place = buffer.view(memo).point;
+    Ok(())
+}
+
+/// Undoes, and looks at the view.
+fn undo(buffer: &mut Buffer<TreeStore>, memo: &mut Memo) -> Result<(), BufferFault> {
+    buffer.undo(memo)?;
     buffer.list()?;
     let _place = buffer.view(memo).point;
     Ok(())

@@ -1,5 +1,5 @@
 -- Groups: which one an undo takes, that each can be reverted, and that point keeps a place over an undo.
-use Rattle.std.proofs.Common.{◌≡◌, ℕ, zero, suc, ◌-◌, ◌<◌, ◌≤◌, true, false, cond, ◌&&◌, is_some, List, [], ◌∷◌, filter, get_or, length, refl, sym, ap, ◌∙◌, arith}
+use Rattle.std.proofs.Common.{◌≡◌, ℕ, zero, suc, ◌-◌, ◌<◌, ◌≤◌, true, false, cond, ◌&&◌, is_some, List, [], ◌∷◌, map, filter, get_or, length, refl, sym, ap, ◌∙◌, arith}
 use Rattle.std.specs.Prelude.{Option, Some, None, Ok}
 use Rattle.std.specs.Option.{option_map, option_map_or}
 use Rattle.std.specs.List.{slice_get, list_all}
@@ -157,3 +157,17 @@ module _ (limit replica : ℕ) (c : Content) (gone : List Identifier) (back : Li
 pub mark_stands_still : (c x : Content) (mark : Option Spot) → option_map_or (stands c) mark true ≡ true → option_map_or (stands (join c x)) mark true ≡ true
 mark_stands_still c x None h = h
 mark_stands_still c x (Some s) h = stands_still c x s.element h
+
+-- ---- nothing in the place of anything
+
+pub all_themselves : (f : Identifier → Identifier) → ((q : Identifier) → f q ≡ q) → (groups : List Past) → all_substituted f groups ≡ groups
+all_themselves f same [] = refl
+all_themselves f same (g ∷ groups) = λ k. record { inserted = ids g.inserted k; deleted = pairs g.deleted k } ∷ all_themselves f same groups k
+  where
+    ids : (xs : List Identifier) → map f xs ≡ xs
+    ids [] = refl
+    ids (x ∷ xs) = λ k. same x k ∷ ids xs k
+
+    pairs : (xs : List (Identifier × ℕ)) → map (λ (b : Identifier × ℕ). (f b.0, b.1)) xs ≡ xs
+    pairs [] = refl
+    pairs (x ∷ xs) = λ k. (same x.0 k, x.1) ∷ pairs xs k

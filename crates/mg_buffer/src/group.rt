@@ -78,6 +78,10 @@ impl Group {
 pub(crate) fn substitute_all(groups: &mut Vec<Group>, stand_ins: &IndexMap<Id, Id>)
     ensures { groups.new.items ≡ all_substituted (stand_in_by stand_ins.now) groups.old.items }
 {
+    // Mostly nothing was restored, and there are many groups.
+    if stand_ins.is_empty() {
+        return;
+    }
     for group in groups.iter_mut() {
         group.substitute(stand_ins);
     }

@@ -18,7 +18,7 @@ use crate::spot::Spot;
 use crate::stand_ins::stand_ins_of;
 use mg_plain::{Kind, Notice};
 use rga_ops::Refusal;
-use rga_store::{Taker, TextStore};
+use rga_store::TextStore;
 
 impl<S: TextStore> Buffer<S> {
     /// Undoes the newest group, or in a run of undos the group before the one that was undone last:
@@ -73,7 +73,8 @@ impl<S: TextStore> Buffer<S> {
         let stand_ins = stand_ins_of(self.alloc, &ops)?;
         self.groups.reserve(1)?;
         self.unsaved.reserve(ops.len())?;
-        self.doc.apply_all(&ops)?;
+        let group = &self.groups[index];
+        self.doc.take_revert(&group.inserted, &group.deleted, &ops)?;
         self.point = Spot {
             element: done.point_after(self.point.element),
             place: 0,

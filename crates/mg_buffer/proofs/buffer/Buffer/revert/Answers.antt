@@ -1,22 +1,17 @@
-use Rattle.std.proofs.Common.{◌≡◌, ◌<◌, ℕ, ◌+◌, ◌++◌, List, true, is_some, length, inl, refl, sym, ap, ◌∙◌, subst, arith, true≢false}
+use Rattle.std.proofs.Common.{◌≡◌, ◌<◌, ℕ, ◌+◌, ◌++◌, List, true, is_some, length, refl, sym, ap, ◌∙◌, subst, arith, true≢false}
 use Rattle.std.specs.Prelude.{Some, Ok, Err}
 use Rattle.std.specs.Option.{option_map_or}
 use Rattle.std.specs.List.{slice_get}
 use Rattle.std.proofs.lemmas.Result.{err_from_is_err_and}
 use Rattle.rga_ops.specs.Identifier.{Identifier, identifier}
 use Rattle.rga_ops.specs.Content.{clock_of, join, content_of}
-use Rattle.rga_ops.specs.ListAnswer.{IsAnswer, list_answer}
+use Rattle.rga_ops.specs.ListAnswer.{IsAnswer}
 use Rattle.rga_ops.specs.Order.{order}
 use Rattle.rga_ops.specs.Places.{place}
 use Rattle.rga_ops.specs.declared.op.Op.{Op}
-use Rattle.rga_ops.specs.declared.refusal.Refusal.{Refusal}
-use Rattle.rga_ops.specs.declared.refusal.Refusal.TheVariants.{Memory}
 use Rattle.rga_doc.specs.Document.{Document}
-use Rattle.rga_doc.specs.Following.{Follows}
 use Rattle.rga_doc.specs.Revert.{revert_operations, revert_answer, StandsDirectlyBehind}
-use Rattle.rga_doc.proofs.EditAnswers.{memory_alone}
 use Rattle.rga_doc.proofs.PutBackLaws.{revert_behind}
-use Rattle.rga_doc.proofs.RevertLaws.{revert_taken}
 use Rattle.mg_buffer.specs.Faults.{growth_answer}
 use Rattle.mg_buffer.specs.Groups.{Past, past_of, with_group, are_revertible, stand_in, all_substituted, point_after}
 use Rattle.mg_buffer.specs.Kept.{stands}
@@ -39,16 +34,6 @@ returns-in_err-ops-clause-exact g c = λ taken at.
     let p = err_from_is_err_and c.from_residual.result c.from_residual.ensures.1 in
     rw (p.1, p.2) (subst (λ v. IsAnswer {A = List Op} (Err c.in_err-ops.field-0.0) v) answered c.in_err-ops.ensures.exact)
 
-pub returns-in_err-apply_all-clause-exact : goal.returns-in_err-apply_all-clause-exact
-returns-in_err-apply_all-clause-exact g c = λ taken at.
-    let doc : Document = c.self.inside.doc in
-    let done : list_answer doc.limit doc.content c.deref-5.result.now ≡ Ok tt =
-    ap (list_answer doc.limit doc.content) (c.deref-5.ensures.value ∙ c.in_ok-ops.ensures.operations) ∙ revert_taken doc.limit doc.replica doc.content c.deref.result.now c.deref-2.result.now c.in_ok-ops.ensures.exact in
-    let p = err_from_is_err_and c.from_residual-in_err-apply_all.result c.from_residual-in_err-apply_all.ensures.1 in
-    let e : Refusal = c.in_err-apply_all.field-0.0 in
-    let memory : e ≡ Memory = memory_alone e (λ other. let clash : Err e ≡ Ok tt = c.in_err-apply_all.ensures.exact other ∙ done in cc) in
-    rw (p.1, p.2) (inl memory)
-
 pub returns-clause-exact : goal.returns-clause-exact
 returns-clause-exact g c = λ taken at.
     let doc : Document = c.self.inside.doc in
@@ -69,12 +54,12 @@ invariant_of-self-2 g c =
     let back : List (Identifier × ℕ) = c.deref-2.result.now in
     let ops : List Op = revert_operations doc.replica doc.content gone back in
     let made : c.in_ok-ops.ops.items ≡ ops = c.in_ok-ops.ensures.operations in
-    let whole : c.apply_all.new.self.content ≡ join doc.content (content_of ops) =
-    c.in_ok-apply_all.ensures.whole refl ∙ ap (λ xs. join doc.content (content_of xs)) (c.deref-5.ensures.value ∙ made) in
+    let whole : c.take_revert.new.self.content ≡ join doc.content (content_of ops) =
+    ap (λ (d : Document). d.content) c.in_ok-take_revert.ensures.content ∙ ap (λ xs. join doc.content (content_of xs)) (c.deref-7.ensures.value ∙ made) in
     let done : c.in_ok-done.done ≡ past_of doc.content ops =
     c.in_ok-done.ensures.ok ∙ (λ k. past_of (c.store.ensures.content k) ((c.deref-3.ensures.value ∙ made) k)) in
     let added : c.add_group.new.groups.items ≡ with_group c.self.inside.groups.items (past_of doc.content ops) ops =
-    c.add_group.ensures ∙ (λ k. with_group (c.reserve.ensures.items k) (done k) ((c.deref-6.ensures.value ∙ made) k)) in
+    c.add_group.ensures ∙ (λ k. with_group (c.reserve.ensures.items k) (done k) ((c.deref-8.ensures.value ∙ made) k)) in
     let groups : c.substitute_all.new.groups.items ≡ all_substituted (stand_in ops) (with_group c.self.inside.groups.items (past_of doc.content ops) ops) =
     c.substitute_all.ensures
     ∙ (λ k. all_substituted (λ q. (c.in_ok-stand_ins.ensures.ok q ∙ ap (λ xs. stand_in xs q) (c.deref-4.ensures.value ∙ made)) k) (added k)) in
@@ -99,13 +84,12 @@ returns-clause-reverted g c = λ taken at.
     sym (λ k. revert_answer (c.self.view_is k).limit (c.self.view_is k).content (back k)) ∙ c.in_ok-ops.ensures.exact in
     let ops : List Op = undo_operations before taken in
     let made : c.in_ok-ops.ops.items ≡ ops = c.in_ok-ops.ensures.operations ∙ (λ k. revert_operations (c.self.view_is k).replica (c.self.view_is k).content (gone k) (back k)) in
-    let whole : c.apply_all.new.self.content ≡ join before.content (content_of ops) =
-    c.in_ok-apply_all.ensures.whole refl ∙ (λ k. join (c.self.view_is k).content (content_of ((c.deref-5.ensures.value ∙ made) k))) in
+    let whole : c.take_revert.new.self.content ≡ join before.content (content_of ops) =
+    ap (λ (d : Document). d.content) c.in_ok-take_revert.ensures.content ∙ (λ k. join (c.self.view_is k).content (content_of ((c.deref-7.ensures.value ∙ made) k))) in
     let done : c.in_ok-done.done ≡ past_of before.content ops =
     c.in_ok-done.ensures.ok ∙ (λ k. past_of ((c.store.ensures.content ∙ ap (λ (b : State). b.content) c.self.view_is) k) ((c.deref-3.ensures.value ∙ made) k)) in
     let added : c.add_group.new.groups.items ≡ with_group before.groups (past_of before.content ops) ops =
-    c.add_group.ensures ∙ (λ k. with_group ((c.reserve.ensures.items ∙ all) k) (done k) ((c.deref-6.ensures.value ∙ made) k)) in
-    let follows : Follows c.self.inside.doc c.deref-5.result.now c.apply_all.new.self = c.in_ok-apply_all.ensures.follows in
+    c.add_group.ensures ∙ (λ k. with_group ((c.reserve.ensures.items ∙ all) k) (done k) ((c.deref-8.ensures.value ∙ made) k)) in
     record {
       content = whole;
       behind = λ i x here. subst (λ d. StandsDirectlyBehind (order d) x.0 (identifier (clock_of before.content + (i + 1)) before.replica)) (sym whole)
@@ -113,10 +97,10 @@ returns-clause-reverted g c = λ taken at.
       groups = c.substitute_all.ensures
           ∙ (λ k. all_substituted (λ q. (c.in_ok-stand_ins.ensures.ok q ∙ ap (λ xs. stand_in xs q) (c.deref-4.ensures.value ∙ made)) k) (added k));
       undone = refl;
-      unsaved = c.add_all.ensures ∙ (λ k. (c.reserve-2.ensures.items ∙ ap (λ (b : State). b.unsaved) c.self.view_is) k ++ (c.deref-7.ensures.value ∙ made) k);
+      unsaved = c.add_all.ensures ∙ (λ k. (c.reserve-2.ensures.items ∙ ap (λ (b : State). b.unsaved) c.self.view_is) k ++ (c.deref-9.ensures.value ∙ made) k);
       point = c.point_after.ensures ∙ (λ k. point_after (c.self.view_is k).point (done k));
       mark = ap (λ (b : State). b.mark) c.self.view_is;
       name = ap (λ (b : State). b.name) c.self.view_is;
-      limit = c.in_ok-apply_all.ensures.limit ∙ ap (λ (b : State). b.limit) c.self.view_is;
-      replica = follows.replica ∙ ap (λ (b : State). b.replica) c.self.view_is;
+      limit = ap (λ (d : Document). d.limit) c.in_ok-take_revert.ensures.content ∙ ap (λ (b : State). b.limit) c.self.view_is;
+      replica = ap (λ (d : Document). d.replica) c.in_ok-take_revert.ensures.content ∙ ap (λ (b : State). b.replica) c.self.view_is;
     }
