@@ -179,6 +179,21 @@ impl GapList {
         Ok(())
     }
 
+    /// Gives up what is unused, but for an eighth of the elements, where it is above a fifth of them.
+    pub(crate) fn give_back(&mut self)
+        ensures { self.new.items ≡ self.old.items }
+    {
+        let count = self.len();
+        if self.room <= count / 5 {
+            return;
+        }
+        let behind = self.gap + self.room;
+        let kept = count / 8;
+        move_tail(&mut self.places, behind, self.gap + kept, Id::ROOT);
+        self.room = kept;
+        self.places.shrink_to_fit();
+    }
+
     /// Replaces the elements `lo` to `hi - 1` by new ones, with counters that go on from the last
     /// one. The gap has room for them.
     pub(crate) fn splice(&mut self, lo: usize, hi: usize, put: &[char], replica: u16, last: u64)

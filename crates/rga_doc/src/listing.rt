@@ -137,6 +137,7 @@ impl Listing {
     {
         if self.listed {
             self.replace(lo, hi, put, replica, last);
+            self.give_back();
         }
     }
 
@@ -185,6 +186,21 @@ impl Listing {
             let put = splice.put.as_slice();
             self.replace(splice.lo, splice.hi, put, replica, counter);
             counter += put.len() as u64;
+        }
+        self.give_back();
+    }
+
+    /// Gives up most of what is unused where it is much, so that what is listed costs at most 24 bytes
+    /// a character.
+    pub(crate) fn give_back(&mut self)
+        ensures elements { self.new.elements.items ≡ self.old.elements.items }
+        ensures characters { self.new.characters.items ≡ self.old.characters.items }
+        ensures listed { self.new.listed ≡ self.old.listed }
+    {
+        self.elements.give_back();
+        let count = self.characters.as_slice().len();
+        if self.characters.capacity() - count > count / 5 {
+            self.characters.shrink_to_fit();
         }
     }
 }

@@ -46,6 +46,7 @@ impl Listing {
                 return false;
             }
         }
+        self.give_back();
         true
     }
 

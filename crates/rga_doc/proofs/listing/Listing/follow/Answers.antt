@@ -65,5 +65,9 @@ loop-op-preserved g c =
     }
 
 pub returns : goal.returns
-returns g c = λ _. listed_at_last (g.S.Taker.content c.args.store.now) c.loop-op.self.elements.items c.loop-op.self.characters.items
-    (subst (λ xs. IsListedYet (g.S.Taker.content c.args.store.now) xs c.loop-op.self.elements.items c.loop-op.self.characters.items) (drop_all c.loop-op.op-index c.args.ops.now c.loop-op-test.false) c.loop-op.invariant.lists)
+returns g c = λ _.
+    let content : Content = g.S.Taker.content c.args.store.now in
+    let none : drop c.loop-op.op-index c.args.ops.now ≡ [] = drop_all c.loop-op.op-index c.args.ops.now c.loop-op-test.false in
+    rw (c.give_back.ensures.elements, c.give_back.ensures.characters)
+    (listed_at_last content c.loop-op.self.elements.items c.loop-op.self.characters.items
+    (subst (λ xs. IsListedYet content xs c.loop-op.self.elements.items c.loop-op.self.characters.items) none c.loop-op.invariant.lists))
