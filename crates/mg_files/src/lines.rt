@@ -40,11 +40,5 @@ pub(crate) fn text_of<S: TextStore>(alloc: Global, store: &S) -> Result<String, 
     ensures ok { IfOk result (λ text. string_bytes text ≡ text_bytes (S.content store.now)) }
     ensures memory { IfErr result (λ e. e ≡ Memory) }
 {
-    let Ok(chars) = rga_walk::text(alloc, store) else {
-        return Err(PortFault::Memory);
-    };
-    chars
-        .into_iter()
-        .collect(alloc)
-        .map_err(|_| PortFault::Memory)
+    store.text_string(alloc).map_err(|_| PortFault::Memory)
 }

@@ -1,5 +1,5 @@
 //! What keeps a text.
-ghost use Rattle.std.specs.Prelude.{◌≡◌, ◌≢◌, ◌≤◌, ◌↔◌, ℕ, length, true, false, Ok, Err, IfOk, IfErr, MatchResult};
+ghost use Rattle.std.specs.Prelude.{◌≡◌, ◌≢◌, ◌≤◌, ◌↔◌, ℕ, length, true, false, Ok, Err, IfOk, IfErr, MatchResult, string_bytes, encode_utf8_all};
 ghost use Rattle.std.specs.FinMap as finite_map;
 ghost use Rattle.std.specs.FinSet as finite_set;
 ghost use Rattle.rga_ops.specs.Prelude.{Identifier, IsSound, clock_of, is_root, join, known_count, merge_answer, nothing, operations, order, place, text};
@@ -65,6 +65,12 @@ pub trait TextStore: Taker + Sized + Drop {
     /// The characters of the visible elements, in order. `Memory` alone.
     fn text(&self, alloc: Global) -> Result<Vec<char>, Refusal>
         ensures ok { IfOk result (λ chars. chars.items ≡ text (Self.content self.now)) }
+        ensures memory { IfErr result (λ e. e ≡ Refusal.Memory) };
+
+    /// The same in UTF-8. `Memory` alone.
+    fn text_string(&self, alloc: Global) -> Result<String, Refusal>
+        ensures ok { IfOk result (λ string.
+            string_bytes string ≡ encode_utf8_all (text (Self.content self.now))) }
         ensures memory { IfErr result (λ e. e ≡ Refusal.Memory) };
 
     /// The visible elements, in order, and their characters. `Memory` alone.

@@ -269,7 +269,13 @@ impl TextStore for TreeStore {
     }
 
     fn text(&self, alloc: Global) -> Result<Vec<char>, Refusal> {
-        walked_text(alloc, &self.nodes)
+        let room = Vec::with_capacity(alloc, self.nodes.len())?;
+        walked_text(alloc, room, &self.nodes)
+    }
+
+    fn text_string(&self, alloc: Global) -> Result<String, Refusal> {
+        let room = String::with_capacity(alloc, self.nodes.len())?;
+        walked_text(alloc, room, &self.nodes)
     }
 
     fn visible(&self, alloc: Global) -> Result<(Vec<Id>, Vec<char>), Refusal> {

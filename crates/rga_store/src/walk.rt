@@ -1,7 +1,7 @@
 //! The elements in order, and their characters, by a walk over the child lists. What is on a walk's
 //! stack is still to come, its top next: an element that comes leaves its children there, the
 //! newest on top. So each list of children is looked at once.
-ghost use Rattle.std.specs.Prelude.{◌≡◌, ◌++◌, ◌∷◌, [], if◌then◌else◌, is_some, IfOk, IfErr, OnOk};
+ghost use Rattle.std.specs.Prelude.{◌≡◌, ◌++◌, ◌∷◌, [], ℕ, List, if◌then◌else◌, is_some, IfOk, IfErr, OnOk};
 ghost use Rattle.std.specs.List.{cons_option};
 ghost use Rattle.std.specs.Option.{option_copied};
 ghost use Rattle.rga_ops.specs.Content.{IsSound};
@@ -14,6 +14,40 @@ use crate::nodes::{Node, push_children};
 use indexmap::IndexMap;
 use rga_ops::{Id, Refusal};
 use std::alloc::Global;
+
+/// What characters are put into, one behind the other.
+pub(crate) trait Sink: Drop {
+    /// These characters are in it.
+    ghost Holds: { Self → List ℕ → Type 0 };
+
+    /// Puts a character behind the others. `Memory` alone.
+    fn put(&mut self, ch: char) -> Result<(), Refusal>
+        ensures ok { OnOk result ((chars : List ℕ) →
+            Holds self.old chars → Holds self.new (chars ++ ch ∷ [])) }
+        ensures memory { IfErr result (λ e. e ≡ Refusal.Memory) };
+}
+
+impl Sink for Vec<char> {
+    ghost use Rattle.std.specs.Prelude.{◌≡◌};
+
+    ghost Holds = { λ list chars. list.items ≡ chars };
+
+    fn put(&mut self, ch: char) -> Result<(), Refusal> {
+        self.push(ch)?;
+        Ok(())
+    }
+}
+
+impl Sink for String {
+    ghost use Rattle.std.specs.Prelude.{◌≡◌, string_bytes, encode_utf8_all};
+
+    ghost Holds = { λ text chars. string_bytes text ≡ encode_utf8_all chars };
+
+    fn put(&mut self, ch: char) -> Result<(), Refusal> {
+        self.push(ch)?;
+        Ok(())
+    }
+}
 
 /// The complete elements in order.
 pub(crate) fn walked(alloc: Global, nodes: &IndexMap<Id, Node>) -> Result<Vec<Id>, Refusal>
@@ -33,23 +67,28 @@ pub(crate) fn walked(alloc: Global, nodes: &IndexMap<Id, Node>) -> Result<Vec<Id
     Ok(order)
 }
 
-/// The characters of the visible elements, in order.
-pub(crate) fn walked_text(alloc: Global, nodes: &IndexMap<Id, Node>) -> Result<Vec<char>, Refusal>
+/// The characters of the visible elements, in order, put into a sink that is empty.
+pub(crate) fn walked_text<T: Sink>(
+    alloc: Global,
+    sink: T,
+    nodes: &IndexMap<Id, Node>,
+) -> Result<T, Refusal>
+    requires empty { T.Holds sink [] }
     requires apart { AreApart nodes.now.entries }
     requires family { HasFamilies nodes.now.entries }
     requires sound { IsSound (content_of_nodes nodes.now.entries) }
-    ensures ok { IfOk result (λ chars. chars.items ≡ text (content_of_nodes nodes.now.entries)) }
+    ensures ok { IfOk result (λ full. T.Holds full (text (content_of_nodes nodes.now.entries))) }
     ensures memory { IfErr result (λ e. e ≡ Refusal.Memory) }
 {
-    let mut chars = Vec::with_capacity(alloc, nodes.len())?;
+    let mut sink = sink;
     let mut stack = Vec::new(alloc);
     let mut next = 0;
     push_children(&mut stack, nodes, &mut next, Id::ROOT)?;
     while let Some(id) = stack.pop() {
         let node = push_children(&mut stack, nodes, &mut next, id)?;
-        push_char(&mut chars, node)?;
+        put_char(&mut sink, node)?;
     }
-    Ok(chars)
+    Ok(sink)
 }
 
 /// The visible elements in order, and their characters.
@@ -98,14 +137,14 @@ fn push_visible(
     Ok(())
 }
 
-/// The character of a node that is inserted and not deleted goes to the end of the text.
-fn push_char(chars: &mut Vec<char>, node: Option<&Node>) -> Result<(), Refusal>
-    ensures ok { OnOk result
-        (chars.new.items ≡ chars.old.items ++ cons_option (char_at (option_copied node.entry)) []) }
+/// The character of a node that is inserted and not deleted goes into a sink.
+fn put_char<T: Sink>(sink: &mut T, node: Option<&Node>) -> Result<(), Refusal>
+    ensures ok { OnOk result ((chars : List ℕ) → T.Holds sink.old chars
+        → T.Holds sink.new (chars ++ cons_option (char_at (option_copied node.entry)) [])) }
     ensures memory { IfErr result (λ e. e ≡ Refusal.Memory) }
 {
     if let Some(ch) = char_of(node) {
-        chars.push(ch)?;
+        sink.put(ch)?;
     }
     Ok(())
 }

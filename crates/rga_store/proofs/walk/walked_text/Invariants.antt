@@ -1,4 +1,4 @@
-use Rattle.std.proofs.Common.{◌≡◌, List}
+use Rattle.std.proofs.Common.{List}
 use Rattle.std.specs.List.{filter_map}
 use Rattle.rga_ops.specs.Identifier.{Identifier}
 use Rattle.rga_ops.specs.Order.{shown}
@@ -8,11 +8,11 @@ use Rattle.rga_store.proofs.walk.walked_text.Given as goal
 
 -- the characters are those of what is done
 abbrev pub invariant-loop-id : goal.invariant-loop-id
-invariant-loop-id l = record {
+invariant-loop-id g l = record {
   done : List Identifier;
   walk : IsWalk (content_of_nodes l.nodes.entries) done l.stack.items;
-  shows : l.chars.items ≡ filter_map (shown (content_of_nodes l.nodes.entries)) done;
+  shows : g.T.Sink.Holds l.sink (filter_map (shown (content_of_nodes l.nodes.entries)) done);
 }
 
 abbrev pub decreases-loop-id : goal.decreases-loop-id
-decreases-loop-id l = left (content_of_nodes l.nodes.entries) l.stack.items
+decreases-loop-id g l = left (content_of_nodes l.nodes.entries) l.stack.items

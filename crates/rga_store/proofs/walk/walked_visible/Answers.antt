@@ -1,15 +1,11 @@
-use Rattle.std.proofs.Common.{◌≡◌, ◌-◌, take, filter, List, [], ◌∷◌, ◌++◌, Option, refl, sym, ap, ◌∙◌, subst}
-use Rattle.std.specs.List.{filter_map, cons_option}
-use Rattle.std.specs.Map.{lookup}
+use Rattle.std.proofs.Common.{◌≡◌, ◌-◌, take, filter, List, [], ◌∷◌, ◌++◌, refl, ap, ◌∙◌, subst}
+use Rattle.std.specs.List.{filter_map}
 use Rattle.std.specs.Option.{option_copied}
-use Rattle.std.proofs.lemmas.List.Elements.{filter_map-append}
-use Rattle.rga_ops.specs.Identifier.{Identifier, is_id, root}
+use Rattle.rga_ops.specs.Identifier.{Identifier, root}
 use Rattle.rga_ops.specs.Content.{Content, IsSound}
 use Rattle.rga_ops.specs.Order.{order, shown}
-use Rattle.rga_store.specs.declared.nodes.Node.{Node}
 use Rattle.rga_store.specs.Tree.{HasFamilies}
-use Rattle.rga_store.specs.Nodes.{Nodes, content_of_nodes, children_of, char_at, AreApart}
-use Rattle.rga_store.proofs.NodeLaws.{shown_at}
+use Rattle.rga_store.specs.Nodes.{Nodes, content_of_nodes, children_of, char_at}
 use Rattle.rga_store.proofs.ShownLaws.{is_shown, shows_more, element_more, shown_visible}
 use Rattle.rga_store.proofs.WalkLaws.{IsWalk, walk_start, walk_step, walk_smaller, walk_order}
 use Rattle.rga_store.proofs.walk.walked_visible.Goals as goal
