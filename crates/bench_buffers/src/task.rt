@@ -9,6 +9,10 @@ pub enum Work {
     Motion,
     /// The rest of a line killed and yanked back, each with the view.
     KillLine,
+    /// A new buffer, and sixty of its lines killed, each with the view.
+    Kill,
+    /// A new buffer.
+    Make,
     /// The rest of a line killed and the kill undone, each with the view.
     UndoLine,
     /// A character put in and taken back by an undo, each with the view.
@@ -37,6 +41,8 @@ pub fn task_of(words: &[String]) -> Option<Task> {
         "insert" => Work::Insert,
         "motion" => Work::Motion,
         "kill-line" => Work::KillLine,
+        "kill" => Work::Kill,
+        "make" => Work::Make,
         "undo-line" => Work::UndoLine,
         "undo-insert" => Work::UndoInsert,
         "kill-all" => Work::KillAll,

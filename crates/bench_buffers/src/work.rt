@@ -10,8 +10,37 @@ use std::alloc::Global;
 /// The column to which nothing is filled here.
 const FILL: u16 = 70;
 
+/// So many lines are killed in each buffer.
+const KILLS: usize = 60;
+
 /// Does the task, and answers how many identifiers are known in the end.
 pub fn done(alloc: Global, task: &Task) -> Result<usize, BufferFault> {
+    match task.work {
+        Work::Kill => made_again(alloc, task, KILLS),
+        Work::Make => made_again(alloc, task, 0),
+        _ => done_again(alloc, task),
+    }
+}
+
+/// Makes a buffer so many times, and kills so many lines in each.
+fn made_again(alloc: Global, task: &Task, kills: usize) -> Result<usize, BufferFault> {
+    let mut known = 0;
+    for _ in 0..task.times {
+        let doc = document(alloc, task.size)?;
+        let mut buffer = Buffer::new(alloc, doc, String::new(alloc), Vec::new(alloc));
+        let mut memo = Memo::new(alloc);
+        buffer.list()?;
+        for _ in 0..kills {
+            run(&mut buffer, &mut memo, &Command::KillLine)?;
+            run(&mut buffer, &mut memo, &Command::NextLine)?;
+        }
+        known = buffer.store().known();
+    }
+    Ok(known)
+}
+
+/// Makes a buffer, and does the work in it again and again.
+fn done_again(alloc: Global, task: &Task) -> Result<usize, BufferFault> {
     let doc = document(alloc, task.size)?;
     if let Work::Store = task.work {
         let mut store = doc.store().copy()?;
@@ -70,7 +99,7 @@ fn do_once(work: Work, buffer: &mut Buffer<TreeStore>, memo: &mut Memo) -> Resul
             kill_all(buffer, memo)?;
             buffer.undo(memo)?;
         }
-        Work::Take | Work::Store => {}
+        Work::Take | Work::Store | Work::Kill | Work::Make => {}
     }
     Ok(())
 }
