@@ -29,14 +29,23 @@ fn made_again(alloc: Global, task: &Task, kills: usize) -> Result<usize, BufferF
         let doc = document(alloc, task.size)?;
         let mut buffer = Buffer::new(alloc, doc, String::new(alloc), Vec::new(alloc));
         let mut memo = Memo::new(alloc);
-        buffer.list()?;
-        for _ in 0..kills {
-            run(&mut buffer, &mut memo, &Command::KillLine)?;
-            run(&mut buffer, &mut memo, &Command::NextLine)?;
-        }
+        kill_lines(&mut buffer, &mut memo, kills)?;
         known = buffer.store().known();
     }
     Ok(known)
+}
+
+fn kill_lines(
+    buffer: &mut Buffer<TreeStore>,
+    memo: &mut Memo,
+    kills: usize,
+) -> Result<(), BufferFault> {
+    buffer.list()?;
+    for _ in 0..kills {
+        run(buffer, memo, &Command::KillLine)?;
+        run(buffer, memo, &Command::NextLine)?;
+    }
+    Ok(())
 }
 
 /// Makes a buffer, and does the work in it again and again.
