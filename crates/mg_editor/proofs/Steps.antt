@@ -1,8 +1,8 @@
 -- What steps leave of the editor, put together.
 use Rattle.std.proofs.Common.{inl, inr, ◌≡◌, ◌≢◌, ℕ, List, Some, Err, refl, sym, ap, subst, ◌∙◌}
 use Rattle.mg_files.specs.OpenState.{OpenState}
-use Rattle.mg_editor.specs.Buffers.{Buffers}
-use Rattle.mg_editor.specs.Deeds.{all_unlisted}
+use Rattle.mg_workspace.specs.Buffers.{Buffers}
+use Rattle.mg_workspace.specs.Deeds.{all_unlisted}
 use Rattle.mg_editor.specs.Dialogues.{Dialogue, Fed, Forgot}
 use Rattle.mg_editor.specs.Editors.{Editor}
 use Rattle.mg_keys.specs.declared.step.Step.{Step}
@@ -11,9 +11,9 @@ use Rattle.mg_prompts.specs.declared.prompt.Prompt.{Prompt}
 use Rattle.mg_editor.specs.Presses.{Answer, IsRefused, IsAsBefore, RanOut, Listed, Follows, LeftBy, LeftPlainly, Prompted, PromptedHere, Stepped, StepTaken}
 use Rattle.mg_keys.specs.declared.step.Step.TheVariants.{Pending, Leave}
 use Rattle.mg_prompts.specs.declared.prompt.Search.{Search}
-use Rattle.mg_editor.specs.Workspaces.{Workspace, IsListed, HasList, scene_of}
+use Rattle.mg_workspace.specs.Workspaces.{Workspace, IsListed, HasList, scene_of}
 use Rattle.mg_editor.specs.declared.fault.Fault.TheVariants.{Memory}
-use Rattle.mg_editor.proofs.Keeping.{get-set, listed_keeps}
+use Rattle.mg_workspace.proofs.Keeping.{get-set, listed_keeps}
 use Rattle.std.specs.List.{slice_get}
 
 -- a workspace whose current buffer was listed has one that is

@@ -8,15 +8,15 @@ use Rattle.mg_screen.specs.Cursor.{cursor, echo_cursor}
 use Rattle.mg_screen.specs.Frame.{frame_rows}
 use Rattle.mg_screen.specs.Screen.{Screen}
 use Rattle.mg_screen.specs.Written.{SpellRows}
-use Rattle.mg_editor.specs.Deeds.{Keeps}
+use Rattle.mg_workspace.specs.Deeds.{Keeps}
 use Rattle.mg_editor.specs.Echo.{echo_text, has_cursor}
 use Rattle.mg_editor.specs.Editors.{Editor}
-use Rattle.mg_editor.specs.Showing.{panes_of, placed_work, PlacesWindows}
-use Rattle.mg_editor.specs.Workspaces.{Workspace, IsCurrent, IsListed}
+use Rattle.mg_workspace.specs.Showing.{placed_work, work_panes}
+use Rattle.mg_workspace.specs.Workspaces.{IsCurrent, all_listed}
 
--- the screen of an editor in which that buffer is current: its windows all show it
+-- the screen of an editor in which that buffer is current: its windows, each over its buffer, and the echo line
 abbrev pub screen_of : Editor → OpenState → Screen
-screen_of e b = record { panes = panes_of b e.work.windows; echo = echo_text e.talk b.buffer.name }
+screen_of e b = record { panes = work_panes e.work; echo = echo_text e.talk b.buffer.name }
 
 -- the cursor: in the echo line behind an answer that is typed there, else in the current window at point
 abbrev pub cursor_in : Editor → Screen → Option Position
@@ -30,25 +30,22 @@ pub record Shows (e : Editor) (b : OpenState) (strings : List (String Global)) (
   pub cursor : cursor_in e (screen_of e b) ≡ Some at
 
 -- the editor, once its windows are placed
-abbrev pub placed_editor : OpenState → Editor → Editor
-placed_editor b e = record e { work = placed_work b e.work }
+abbrev pub placed_editor : Editor → Editor
+placed_editor e = record e { work = placed_work e.work }
 
 -- ---- as the calls say it
 
 -- the screen is the one that there is once the windows are placed
 abbrev pub IsScreen : Editor → Screen → Type 0
-IsScreen e screen = (b : OpenState) × IsCurrent e.work b × (screen ≡ screen_of (placed_editor b e) b)
+IsScreen e screen = (b : OpenState) × IsCurrent e.work b × (screen ≡ screen_of (placed_editor e) b)
 
 -- so are rows and cursor
 abbrev pub ShowsPlaced : Editor → List (String Global) → Position → Type 0
-ShowsPlaced e rows at = (b : OpenState) × IsCurrent e.work b × Shows (placed_editor b e) b rows at
+ShowsPlaced e rows at = (b : OpenState) × IsCurrent e.work b × Shows (placed_editor e) b rows at
 
--- the current buffer was listed, then the windows were placed, and nothing else changed
-pub record IsPlaced (old new : Editor) : Type 0 where
-  pub listed : Workspace
-  pub buffer : IsListed old.work listed
-  pub windows : PlacesWindows listed new.work
-  pub talk : new.talk ≡ old.talk
+-- all buffers were listed, then the windows were placed, and nothing else changed
+abbrev pub IsPlaced : Editor → Editor → Type 0
+IsPlaced old new = new ≡ record old { work = placed_work (all_listed old.work) }
 
 -- the rows are those of the editor
 abbrev pub ShowsRows : Editor → List (String Global) → Type 0

@@ -1,11 +1,9 @@
-pub mod Buffers
-pub mod Workspaces
-pub mod Deeds
 pub mod Dialogues
 pub mod Editors
 pub mod Presses
 pub mod Opening
+pub mod Telling
+pub mod Finding
 pub mod Carrying
 pub mod Echo
-pub mod Showing
 pub mod Frames

@@ -1,9 +1,8 @@
 -- The editor that opens, and its text.
-use Rattle.std.specs.Prelude.{◌≡◌, ℕ, ◌-◌, List, [], ◌∷◌, None, Result, Ok, Err}
+use Rattle.std.specs.Prelude.{◌≡◌, ℕ, List, [], None, Result, Ok, Err}
 use Rattle.rga_ops.specs.Order.{text}
 use Rattle.rga_exchange.specs.declared.log.LogEnd.{LogEnd}
 use Rattle.rga_exchange.specs.declared.log.LogEnd.TheVariants.{Whole, Bare, Torn}
-use Rattle.mg_plain.specs.declared.view.Kind.TheVariants.{Plain}
 use Rattle.mg_keys.specs.declared.step.Mode.TheVariants as modes
 use Rattle.mg_files.specs.Files.{Files}
 use Rattle.mg_files.specs.Loading.{load_outcome}
@@ -11,27 +10,17 @@ use Rattle.mg_files.specs.OpenState.{OpenState}
 use Rattle.mg_files.specs.declared.fault.LoadFault.{LoadFault}
 use Rattle.mg_prompts.specs.declared.message.Message.{Message}
 use Rattle.mg_prompts.specs.declared.message.Message.TheVariants.{Nothing, TornLog}
-use Rattle.mg_screen.specs.Layout.{layout, window}
 use Rattle.mg_editor.specs.Dialogues.{Dialogue, IsFresh}
 use Rattle.mg_editor.specs.Editors.{Editor}
 use Rattle.mg_settings.specs.Settings.{Values}
-use Rattle.mg_editor.specs.Workspaces.{Workspace, IsCurrent}
-
--- one buffer in one window, from its first line on
-abbrev pub workspace : Values → OpenState → Workspace
-workspace v b = record {
-  buffers = record { all = b ∷ []; current = 0 };
-  notes = record { kill = []; kind = Plain; goal = 0 };
-  windows = layout (window (v.rows - 2) 0 ∷ []) 0;
-  fill = v.fill;
-  columns = v.columns;
-}
+use Rattle.mg_workspace.specs.Opening.{workspace}
+use Rattle.mg_workspace.specs.Workspaces.{IsCurrent}
 
 -- a log that was torn is told
-abbrev pub message_of : LogEnd → Message
-message_of Whole = Nothing
-message_of Bare = Nothing
-message_of (Torn bytes) = TornLog bytes
+abbrev pub message_of_end : LogEnd → Message
+message_of_end Whole = Nothing
+message_of_end Bare = Nothing
+message_of_end (Torn bytes) = TornLog bytes
 
 -- no prompt is open, and this is said
 pub record Begins (said : Message) (d : Dialogue) : Type 0 where
@@ -41,7 +30,7 @@ pub record Begins (said : Message) (d : Dialogue) : Type 0 where
 -- the editor with that buffer, whose log ended so
 pub record IsEditorOf (v : Values) (b : OpenState) (end : LogEnd) (e : Editor) : Type 0 where
   pub work : e.work ≡ workspace v b
-  pub talk : Begins (message_of end) e.talk
+  pub talk : Begins (message_of_end end) e.talk
 
 -- as what was found is loaded, or its fault
 abbrev pub OpensBy : Values → Result (OpenState × LogEnd) LoadFault → Result Editor LoadFault → Type 0

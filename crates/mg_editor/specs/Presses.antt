@@ -20,12 +20,12 @@ use Rattle.mg_prompts.specs.PlainStep.{plain_step}
 use Rattle.mg_prompts.specs.PromptStep.{prompt_step}
 use Rattle.mg_prompts.specs.ReplacementStep.{next_match, sum}
 use Rattle.mg_prompts.specs.SearchStep.{or_last}
-use Rattle.mg_editor.specs.Deeds.{DeedVerdict, Done, Keeps, Ran}
+use Rattle.mg_workspace.specs.Deeds.{DeedVerdict, Done, Keeps, Ran}
 use Rattle.mg_editor.specs.Dialogues.{Dialogue, IsFresh, mode_of, Fed, Shown, Forgot, search_of, AcceptedSearch, Closes, Reopened}
 use Rattle.mg_editor.specs.Editors.{Editor}
-use Rattle.mg_editor.specs.Workspaces.{Workspace, IsCurrent, IsListed, scene_of}
-use Rattle.mg_editor.specs.declared.fault.DeedFault.{DeedFault}
-use Rattle.mg_editor.specs.declared.fault.DeedFault.TheVariants as deed_fault
+use Rattle.mg_workspace.specs.Workspaces.{Workspace, IsCurrent, IsListed, scene_of}
+use Rattle.mg_workspace.specs.declared.fault.DeedFault.{DeedFault}
+use Rattle.mg_workspace.specs.declared.fault.DeedFault.TheVariants as deed_fault
 use Rattle.mg_editor.specs.declared.fault.Fault.{Fault}
 use Rattle.mg_editor.specs.declared.fault.Fault.TheVariants.{Memory}
 

@@ -1,29 +1,91 @@
 //! Requests, carried to the files.
-ghost use Rattle.std.specs.Prelude.{◌≡◌};
-ghost use Rattle.mg_files.specs.Calls.{failures_after};
+ghost use Rattle.std.specs.Prelude.{◌≡◌, ◌<◌, length, IfOk, string_bytes, encode_utf8_all};
+ghost use Rattle.mg_workspace.specs.declared.workspace.TheConstants.{MAX_BUFFERS};
 ghost use Rattle.mg_editor.specs.Carrying as spec;
+ghost use Rattle.mg_editor.specs.Finding as finding;
+ghost use Rattle.mg_editor.specs.Telling as telling;
 
+use crate::echo::push_characters;
 use crate::editor::Editor;
-use mg_files::{Port, PortFault};
+use crate::fault::CarryFault;
+use crate::opening::message_of_end;
+use mg_files::{LoadFault, Port, PortFault};
 use mg_plain::Notice;
 use mg_prompts::{Message, Request};
+use rga_exchange::{LogEnd, ReceiveFault};
 use rga_store::TextStore;
+use std::alloc::{AllocError, Global};
+
+/// What is said of a fault of the port.
+fn message_of_port(fault: PortFault) -> Message
+    ensures { result ≡ telling.message_of_port fault }
+{
+    match fault {
+        PortFault::File => Message::FileFault,
+        PortFault::Memory => Message::Refused(Notice::Memory),
+    }
+}
 
 /// What is said of a save.
-fn message_of(answer: &Result<bool, PortFault>) -> Message
-    ensures { result ≡ spec.message_of answer.now }
+fn message_of_save(answer: Result<bool, PortFault>) -> Message
+    ensures { result ≡ spec.message_of_save answer }
 {
     match answer {
         Ok(true) => Message::Wrote,
         Ok(false) => Message::NoChanges,
-        Err(PortFault::File) => Message::FileFault,
-        Err(PortFault::Memory) => Message::Refused(Notice::Memory),
+        Err(fault) => message_of_port(fault),
+    }
+}
+
+/// What is said of a log that is not read. Only a line, or what it says, can be at fault.
+fn message_of_log(fault: ReceiveFault) -> Message
+    ensures { result ≡ finding.message_of_log fault }
+{
+    match fault {
+        ReceiveFault::Line(line, fault) => Message::BadLine(line, fault),
+        ReceiveFault::Refused(line, refusal) => Message::RefusedLine(line, refusal),
+        ReceiveFault::Cut | ReceiveFault::Count | ReceiveFault::Read | ReceiveFault::Memory => {
+            Message::FileFault
+        }
+    }
+}
+
+/// What is said of a buffer that is not loaded. Replica and limit of an editor are within theirs, so
+/// of a text only `Full` is refused.
+fn message_of_load(fault: LoadFault) -> Message
+    ensures { result ≡ finding.message_of_load fault }
+{
+    match fault {
+        LoadFault::Log(fault) => message_of_log(fault),
+        LoadFault::NotText => Message::NotText,
+        LoadFault::Store(_) => Message::BufferFull,
+        LoadFault::Memory => Message::Refused(Notice::Memory),
+    }
+}
+
+/// What is said of a buffer that was to be opened.
+fn message_of_opening(answer: &Result<LogEnd, CarryFault>) -> Message
+    ensures { result ≡ finding.message_of_opening answer.now }
+{
+    match answer {
+        Ok(end) => message_of_end(*end),
+        Err(CarryFault::Port(fault)) => message_of_port(*fault),
+        Err(CarryFault::Load(fault)) => message_of_load(*fault),
     }
 }
 
 /// Whether a save was done, be there something to save or not.
-fn done(answer: Result<bool, PortFault>) -> Result<(), PortFault>
-    ensures { result ≡ spec.done answer }
+fn save_done(answer: Result<bool, PortFault>) -> Result<(), CarryFault>
+    ensures { result ≡ spec.save_done answer }
+{
+    match answer {
+        Ok(_) => Ok(()),
+        Err(fault) => Err(CarryFault::Port(fault)),
+    }
+}
+
+fn opening_done(answer: Result<LogEnd, CarryFault>) -> Result<(), CarryFault>
+    ensures { result ≡ finding.opening_done answer }
 {
     match answer {
         Ok(_) => Ok(()),
@@ -31,32 +93,87 @@ fn done(answer: Result<bool, PortFault>) -> Result<(), PortFault>
     }
 }
 
+/// A name, spelled as the files have it.
+fn spelled(alloc: Global, name: &[char]) -> Result<String, AllocError>
+    ensures { IfOk result (λ text. string_bytes text ≡ encode_utf8_all name.now) }
+{
+    let mut text = String::new(alloc);
+    push_characters(&mut text, name)?;
+    Ok(text)
+}
+
 impl<S: TextStore> Editor<S> {
     /// Carries a request to a port. `Save` saves the current buffer, as `Opened::save` does, and
-    /// says what came of it: that it was written, that there were no changes, or the fault. The
-    /// other requests ask nothing of a port.
+    /// says what came of it: that it was written, that there were no changes, or the fault. `Find`
+    /// goes to the buffer of that name, which asks nothing of a port where it is open; else, unless
+    /// as many buffers are open as may be, which is said, it is opened by what the port finds under
+    /// its name, and is current then, and a log that was torn is told. The other requests ask nothing
+    /// of a port.
     ///
-    /// Faults: those of `Opened::save`, which are said already. They leave text, point, mark,
-    /// groups and all other buffers as they were.
-    pub fn carry<P: Port>(&mut self, request: Request, port: &mut P) -> Result<(), PortFault>
+    /// Faults: `Port` with those of the port, and `Load` with those of `Opened::load`, which are said
+    /// already. They leave text, point, mark, groups and all other buffers as they were, and open
+    /// none.
+    pub fn carry<P: Port>(&mut self, request: Request, port: &mut P) -> Result<(), CarryFault>
         ensures carried { spec.Carried request
             (P.calls port.old) (P.calls port.new) self.old self.new result }
-        ensures device { P.failures port.new ≡ failures_after result (P.failures port.old) }
+        ensures device { P.failures port.new ≡ telling.failures_behind result (P.failures port.old) }
     {
         match request {
             Request::Idle | Request::Quit => Ok(()),
             Request::Save => self.save(port),
+            Request::Find(name) => self.find(name.as_slice(), port),
         }
     }
 
     /// The current buffer is saved, which is said.
-    fn save<P: Port>(&mut self, port: &mut P) -> Result<(), PortFault>
+    fn save<P: Port>(&mut self, port: &mut P) -> Result<(), CarryFault>
         ensures saved { spec.Saved
             (P.calls port.old) (P.calls port.new) self.old self.new result }
-        ensures device { P.failures port.new ≡ failures_after result (P.failures port.old) }
+        ensures device { P.failures port.new ≡ telling.failures_behind result (P.failures port.old) }
     {
-        let answer = self.work.buffers.save(port);
-        self.talk.tell(message_of(&answer));
-        done(answer)
+        let answer = self.work.save(port);
+        self.talk.tell(message_of_save(answer));
+        save_done(answer)
+    }
+
+    /// The buffer of a name is current, opened if need be.
+    fn find<P: Port>(&mut self, name: &[char], port: &mut P) -> Result<(), CarryFault>
+        ensures found { finding.Found name.now
+            (P.calls port.old) (P.calls port.new) self.old self.new result }
+        ensures device { P.failures port.new ≡ telling.failures_behind result (P.failures port.old) }
+    {
+        if self.work.visit(name) {
+            return Ok(());
+        }
+        if self.work.is_full() {
+            self.talk.tell(Message::TooManyBuffers);
+            return Ok(());
+        }
+        self.open(name, port)
+    }
+
+    /// The buffer of a name is opened, or not, which is said.
+    fn open<P: Port>(&mut self, name: &[char], port: &mut P) -> Result<(), CarryFault>
+        requires { length self.old.work.buffers.all < MAX_BUFFERS }
+        ensures opened { finding.Opened name.now
+            (P.calls port.old) (P.calls port.new) self.old self.new result }
+        ensures device { P.failures port.new ≡ telling.failures_behind result (P.failures port.old) }
+    {
+        let answer = self.load(name, port);
+        self.talk.tell(message_of_opening(&answer));
+        opening_done(answer)
+    }
+
+    /// Opens the buffer of a name by what the port finds under it, and answers how its log ends.
+    fn load<P: Port>(&mut self, name: &[char], port: &mut P) -> Result<LogEnd, CarryFault>
+        requires { length self.old.work.buffers.all < MAX_BUFFERS }
+        ensures loads { finding.Loads name.now self.old.work self.new.work result }
+        ensures talk { self.new.talk ≡ self.old.talk }
+        ensures no_call { P.calls port.new ≡ P.calls port.old }
+        ensures device { P.failures port.new ≡ telling.failures_behind result (P.failures port.old) }
+    {
+        let text = spelled(self.alloc, name)?;
+        let found = port.load(text.as_str())?;
+        Ok(self.work.open(text, found)?)
     }
 }

@@ -60,7 +60,7 @@ fn asked_text(alloc: Global, prompt: &Prompt) -> Result<String, AllocError>
     Ok(text)
 }
 
-fn push_characters(text: &mut String, characters: &[char]) -> Result<(), AllocError>
+pub(crate) fn push_characters(text: &mut String, characters: &[char]) -> Result<(), AllocError>
     ensures { OnOk result
         (string_bytes text.new ≡ string_bytes text.old ++ encode_utf8_all characters.now) }
 {

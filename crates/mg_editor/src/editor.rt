@@ -3,8 +3,8 @@ ghost use Rattle.std.specs.Prelude.{◌≡◌, ◌↔◌, [], false};
 ghost use Rattle.mg_keys.specs.Begun.{HasBegun};
 
 use crate::dialogue::Dialogue;
-use crate::workspace::Workspace;
 use mg_prompts::Message;
+use mg_workspace::Workspace;
 use rga_store::TextStore;
 use std::alloc::Global;
 use std::marker::Model;

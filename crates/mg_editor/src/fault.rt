@@ -1,51 +1,53 @@
-//! Why a press was not done.
-ghost use Rattle.std.specs.Prelude.{◌≡◌};
-ghost use Rattle.mg_editor.specs.Deeds as spec;
+//! Why the editor did not do what it was asked.
+use mg_files::{LoadFault, PortFault};
+use std::alloc::AllocError;
 
-use mg_buffer::BufferFault;
-use mg_prompts::Message;
-use mg_screen::WindowFault;
-use rga_ops::Refusal;
-
-/// Why the editor did not do what it was asked.
+/// Why a byte was not pressed, or a frame not made.
 #[derive(Clone, Copy, Debug, PartialEq, Eq)]
 pub enum Fault {
     /// A growth of memory was refused.
     Memory,
 }
 
-/// Why a deed was not done.
+/// Why a request was not carried out.
 #[derive(Clone, Copy, Debug, PartialEq, Eq)]
-pub(crate) enum DeedFault {
-    /// It was refused, for the reason that the message gives.
-    Refused(Message),
-    /// A growth of memory was refused.
-    Memory,
+pub enum CarryFault {
+    /// The port did not do what it was asked.
+    Port(PortFault),
+    /// What was found is not loaded.
+    Load(LoadFault),
 }
 
-/// What a buffer answered, as what came of a deed.
-pub(crate) fn of_buffer(answer: Result<(), BufferFault>) -> Result<(), DeedFault>
-    ensures { result ≡ spec.of_buffer answer }
-{
-    match answer {
-        Ok(()) => Ok(()),
-        Err(BufferFault::Notice(notice)) => Err(DeedFault::Refused(Message::Refused(notice))),
-        Err(BufferFault::Store(Refusal::Full)) => Err(DeedFault::Refused(Message::BufferFull)),
-        Err(BufferFault::Store(Refusal::Clock)) => {
-            Err(DeedFault::Refused(Message::IdentifiersUsedUp))
-        }
-        Err(BufferFault::Store(_)) => Err(DeedFault::Memory),
+impl From<PortFault> for CarryFault {
+    ghost use Rattle.std.specs.Prelude.{◌≡◌};
+    ghost use Rattle.mg_editor.specs.declared.fault.CarryFault.TheVariants.{Port};
+
+    ghost from_gives = { λ e fault. fault ≡ Port e };
+
+    fn from(e: PortFault) -> CarryFault {
+        CarryFault::Port(e)
     }
 }
 
-/// What the windows answered, as what came of a deed.
-pub(crate) fn of_windows(answer: Result<(), WindowFault>) -> Result<(), DeedFault>
-    ensures { result ≡ spec.of_windows answer }
-{
-    match answer {
-        Ok(()) => Ok(()),
-        Err(WindowFault::TooSmall) => Err(DeedFault::Refused(Message::WindowTooSmall)),
-        Err(WindowFault::OnlyOne) => Err(DeedFault::Refused(Message::OnlyOneWindow)),
-        Err(WindowFault::Memory) => Err(DeedFault::Memory),
+impl From<LoadFault> for CarryFault {
+    ghost use Rattle.std.specs.Prelude.{◌≡◌};
+    ghost use Rattle.mg_editor.specs.declared.fault.CarryFault.TheVariants.{Load};
+
+    ghost from_gives = { λ e fault. fault ≡ Load e };
+
+    fn from(e: LoadFault) -> CarryFault {
+        CarryFault::Load(e)
+    }
+}
+
+impl From<AllocError> for CarryFault {
+    ghost use Rattle.std.specs.Prelude.{◌≡◌};
+    ghost use Rattle.mg_files.specs.declared.fault.LoadFault.TheVariants.{Memory};
+    ghost use Rattle.mg_editor.specs.declared.fault.CarryFault.TheVariants.{Load};
+
+    ghost from_gives = { λ _ fault. fault ≡ Load Memory };
+
+    fn from(_: AllocError) -> CarryFault {
+        CarryFault::Load(LoadFault::Memory)
     }
 }

@@ -4,8 +4,8 @@ ghost use Rattle.mg_screen.specs.Cursor as cursors;
 ghost use Rattle.mg_screen.specs.Frame.{rows_of};
 ghost use Rattle.mg_screen.specs.declared.size.TheConstants.{MAX_ROWS, MIN_COLUMNS};
 ghost use Rattle.mg_editor.specs.Frames as spec;
-ghost use Rattle.mg_editor.specs.Showing.{IsOnScreen};
-ghost use Rattle.mg_editor.specs.Workspaces.{HasList};
+ghost use Rattle.mg_workspace.specs.Showing.{IsOnScreen};
+ghost use Rattle.mg_workspace.specs.Workspaces.{HasLists};
 
 use crate::editor::Editor;
 use crate::fault::Fault;
@@ -35,7 +35,7 @@ fn window_cursor(columns: usize, screen: &Screen<'_>, index: usize) -> Position
 impl<S: TextStore> Editor<S> {
     /// The screen, once the windows are placed.
     fn screen<'a>(&'a self) -> Result<Screen<'a>, FrameFault>
-        requires listed { HasList self.now.work }
+        requires listed { HasLists self.now.work }
         requires on_screen { IsOnScreen self.now.work.windows }
         ensures { IfOk result (λ screen. spec.IsScreen self.now screen) }
     {
@@ -57,12 +57,12 @@ impl<S: TextStore> Editor<S> {
         if self.talk.has_cursor() {
             return echo_cursor(columns, screen);
         }
-        window_cursor(columns, screen, self.work.windows.current())
+        window_cursor(columns, screen, self.work.window())
     }
 
     /// The frame, once the windows are placed.
     fn placed_frame(&self) -> Result<Frame, FrameFault>
-        requires { HasList self.now.work }
+        requires { HasLists self.now.work }
         ensures { IfOk result (λ frame. spec.ShowsPlaced self.now frame.rows.items frame.cursor) }
     {
         let columns = self.work.columns();
@@ -87,7 +87,7 @@ impl<S: TextStore> Editor<S> {
         ensures cursor { IfOk result (λ frame. spec.ShowsCursor self.new frame.cursor) }
         ensures refused { OnErr result (spec.IsUnframed self.old self.new) }
     {
-        let Ok(()) = self.work.list() else {
+        let Ok(()) = self.work.list_all() else {
             return Err(Fault::Memory);
         };
         let Ok(frame) = self.placed_frame() else {

@@ -5,23 +5,20 @@ ghost use Rattle.mg_files.specs.Loading.{load_outcome};
 ghost use Rattle.mg_files.specs.declared.fault.LoadFault.TheVariants.{Memory};
 ghost use Rattle.mg_editor.specs.Opening as spec;
 
-use crate::buffers::Buffers;
 use crate::dialogue::Dialogue;
 use crate::editor::Editor;
-use crate::workspace::Workspace;
-use mg_buffer::Memo;
 use mg_files::{Found, LoadFault, Opened};
 use mg_prompts::Message;
-use mg_screen::Windows;
 use mg_settings::{Settings, Values};
+use mg_workspace::Workspace;
 use rga_exchange::LogEnd;
 use rga_ops::Refusal;
 use rga_store::TextStore;
 use std::alloc::Global;
 
 /// What is said of a log that was loaded.
-fn message_of(end: LogEnd) -> Message
-    ensures { result ≡ spec.message_of end }
+pub(crate) fn message_of_end(end: LogEnd) -> Message
+    ensures { result ≡ spec.message_of_end end }
 {
     match end {
         LogEnd::Torn(bytes) => Message::TornLog(bytes),
@@ -42,27 +39,6 @@ fn load<S: TextStore>(
     Opened::load(alloc, name, values.replica, values.limit, found)
 }
 
-impl<S: TextStore> Workspace<S> {
-    /// One buffer in one window, from its first line on.
-    fn new(alloc: Global, settings: &Settings, opened: Opened<S>) -> Result<Workspace<S>, LoadFault>
-        ensures exact { IfOk result (λ w. w ≡ spec.workspace settings.now opened) }
-        ensures memory { IfErr result (λ e. e ≡ Memory) }
-    {
-        let buffers = Buffers::new(alloc, opened)?;
-        let Ok(windows) = Windows::new(alloc, settings.rows(), 0) else {
-            return Err(LoadFault::Memory);
-        };
-        Ok(Workspace {
-            alloc,
-            buffers,
-            memo: Memo::new(alloc),
-            windows,
-            fill: settings.values().fill,
-            columns: settings.columns(),
-        })
-    }
-}
-
 impl<S: TextStore> Editor<S> {
     /// An editor with the buffer that the settings name, by what was found under its name: the
     /// operations of its log, nothing unsaved, or else the characters of its text, all unsaved, or
@@ -76,7 +52,7 @@ impl<S: TextStore> Editor<S> {
         Ok(Editor {
             alloc,
             work: Workspace::new(alloc, settings, opened)?,
-            talk: Dialogue::new(alloc, message_of(end)),
+            talk: Dialogue::new(alloc, message_of_end(end)),
         })
     }
 
@@ -85,6 +61,6 @@ impl<S: TextStore> Editor<S> {
         ensures text { IfOk result (λ chars. spec.IsText self.now chars.items) }
         ensures memory { IfErr result (λ e. e ≡ Refusal.Memory) }
     {
-        rga_walk::text(self.alloc, self.work.buffers.current().buffer.store())
+        rga_walk::text(self.alloc, self.work.current().buffer.store())
     }
 }

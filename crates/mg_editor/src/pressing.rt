@@ -1,16 +1,17 @@
 //! The editor, pressed byte by byte.
 ghost use Rattle.std.specs.Prelude.{◌≡◌, Some, Ok, Err, IfOk, OnOk, OnErr};
 ghost use Rattle.mg_prompts.specs.declared.prompt.Prompt.{Prompt};
-ghost use Rattle.mg_editor.specs.Deeds.{Keeps};
+ghost use Rattle.mg_workspace.specs.Deeds.{Keeps};
 ghost use Rattle.mg_editor.specs.Presses as spec;
-ghost use Rattle.mg_editor.specs.Workspaces.{HasList};
+ghost use Rattle.mg_workspace.specs.Workspaces.{HasList};
 ghost use Rattle.mg_editor.specs.declared.fault.Fault.TheVariants.{Memory};
 
 use crate::editor::Editor;
-use crate::fault::{DeedFault, Fault};
+use crate::fault::Fault;
 use mg_keys::Step;
 use mg_plain::{Chars, Command, Notice};
 use mg_prompts::{Ending, Message, Next, Reaction, Request, Search, next_match, plain_step};
+use mg_workspace::DeedFault;
 use rga_store::TextStore;
 use std::alloc::{AllocError, Global};
 

@@ -1,23 +1,25 @@
 -- What a step leads to while a line of text is asked for, or whether to quit.
-use Rattle.std.specs.Prelude.{ℕ, List, [], Some, None, nat_eq, if◌then◌else◌}
+use Rattle.std.specs.Prelude.{ℕ, List, [], length, Some, None, nat_eq, if◌then◌else◌}
 use Rattle.mg_keys.specs.Commands.{step_of}
 use Rattle.mg_keys.specs.Names.{named}
 use Rattle.mg_keys.specs.declared.names.NamedCommand.{NamedCommand}
 use Rattle.mg_keys.specs.declared.names.NamedCommand.TheVariants.{Key, ReplicaExchange, ReplicaServe}
 use Rattle.mg_keys.specs.declared.step.Step.{Step}
 use Rattle.mg_keys.specs.declared.step.Step.TheVariants.{Text, Rub, Accept, Cancel, Unbound}
+use Rattle.mg_prompts.specs.declared.ending.Deed.{Deed}
 use Rattle.mg_prompts.specs.declared.ending.Deed.TheVariants as deed
 use Rattle.mg_prompts.specs.declared.ending.Ending.{Ending}
 use Rattle.mg_prompts.specs.declared.ending.Next.TheVariants.{Closed, Open}
 use Rattle.mg_prompts.specs.declared.ending.Reaction.{Reaction}
 use Rattle.mg_prompts.specs.declared.ending.Reaction.TheVariants.{Ends}
+use Rattle.mg_prompts.specs.declared.ending.Request.{Request}
 use Rattle.mg_prompts.specs.declared.ending.Request.TheVariants as request
 use Rattle.mg_prompts.specs.declared.message.Message.TheVariants as message
 use Rattle.mg_prompts.specs.declared.prompt.Asked.{Asked}
-use Rattle.mg_prompts.specs.declared.prompt.Asked.TheVariants.{Command, Pattern}
+use Rattle.mg_prompts.specs.declared.prompt.Asked.TheVariants.{Command, Pattern, Find, Switch, Kill}
 use Rattle.mg_prompts.specs.declared.prompt.Prompt.TheVariants.{Line, Replacement}
 use Rattle.mg_prompts.specs.Endings.{ending_of, requesting, shows, idles, unbound, closing}
-use Rattle.mg_prompts.specs.PlainStep.{plain_step, undefined}
+use Rattle.mg_prompts.specs.PlainStep.{plain_step, does, undefined}
 use Rattle.mg_prompts.specs.Scenes.{Scene}
 use Rattle.mg_prompts.specs.Typing.{typed, rubbed}
 
@@ -39,9 +41,24 @@ extended answer scene = elim (named answer) [
 abbrev pub asks_replacement : List ℕ → Reaction
 asks_replacement pattern = shows (Open (Replacement pattern [])) message.Nothing
 
+-- the prompt closes, and that is requested
+abbrev pub requests : Request → Reaction
+requests request = Ends (requesting request (ending_of deed.Rests Closed message.Nothing))
+
+-- the buffer of that name is asked for; without a name there is none
+abbrev pub finds : List ℕ → Reaction
+finds name = if nat_eq (length name) 0 then shows Closed message.Nothing else requests (request.Find name)
+
+-- the prompt closes, whatever comes of the deed
+abbrev pub closes : Deed → Reaction
+closes deed = Ends (closing (does deed))
+
 abbrev pub accepted : Asked → List ℕ → Scene → Reaction
 accepted Command answer scene = extended answer scene
 accepted Pattern answer scene = asks_replacement answer
+accepted Find answer scene = finds answer
+accepted Switch answer scene = closes (deed.Switches answer)
+accepted Kill answer scene = closes (deed.Kills answer)
 
 abbrev pub line_step : Asked → List ℕ → Step → Scene → Reaction
 line_step asked answer (Text c) scene = asks_on asked (typed answer c)
@@ -50,13 +67,9 @@ line_step asked answer Accept scene = accepted asked answer scene
 line_step asked answer Cancel scene = idles Closed message.Quit
 line_step asked answer _ scene = unbound
 
--- the prompt closes, and the session is to end
-abbrev pub quits : Reaction
-quits = Ends (requesting request.Quit (ending_of deed.Rests Closed message.Nothing))
-
 -- `y` quits, and any other step ends the question
 abbrev pub quit_step : Step → Reaction
-quit_step (Text c) = if nat_eq c 121 then quits else shows Closed message.Nothing
+quit_step (Text c) = if nat_eq c 121 then requests request.Quit else shows Closed message.Nothing
 quit_step Cancel = idles Closed message.Quit
 quit_step Unbound = idles Closed message.UndefinedKey
 quit_step _ = shows Closed message.Nothing

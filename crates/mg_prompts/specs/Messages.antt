@@ -1,9 +1,15 @@
 -- The texts of messages, as UTF-8.
 use Rattle.std.specs.Prelude.{ℕ, List, [], ◌++◌, codes}
 use Rattle.std.specs.Fmt.{decimal}
+use Rattle.rga_ops.specs.RefusalName.{refusal_name}
+use Rattle.rga_lines.specs.FaultName.{fault_name}
 use Rattle.mg_plain.specs.NoticeMessage.{notice_message}
 use Rattle.mg_prompts.specs.declared.message.Message.{Message}
-use Rattle.mg_prompts.specs.declared.message.Message.TheVariants.{Nothing, Quit, UndefinedKey, Refused, BufferFull, IdentifiersUsedUp, Replaced, NoSuchCommand, WindowTooSmall, OnlyOneWindow, Wrote, NoChanges, TornLog, FileFault}
+use Rattle.mg_prompts.specs.declared.message.Message.TheVariants.{Nothing, Quit, UndefinedKey, Refused, BufferFull, IdentifiersUsedUp, Replaced, NoSuchCommand, WindowTooSmall, OnlyOneWindow, Wrote, NoChanges, TornLog, FileFault, NoSuchBuffer, BufferIsChanged, OnlyOneBuffer, TooManyBuffers, NotText, BadLine, RefusedLine}
+
+-- what is wrong with a line of a log
+abbrev pub line_text : ℕ → List ℕ → List ℕ
+line_text line name = codes "line " ++ (decimal line ++ (codes ": " ++ name))
 
 -- of a buffer with that name
 abbrev pub message_text : Message → List ℕ → List ℕ
@@ -21,3 +27,10 @@ message_text Wrote name = codes "Wrote " ++ name
 message_text NoChanges name = codes "No changes"
 message_text (TornLog bytes) name = codes "Torn log: " ++ (decimal bytes ++ codes " bytes left out")
 message_text FileFault name = codes "File fault"
+message_text NoSuchBuffer name = codes "No such buffer"
+message_text BufferIsChanged name = codes "Buffer is changed"
+message_text OnlyOneBuffer name = codes "Only one buffer"
+message_text TooManyBuffers name = codes "Too many buffers"
+message_text NotText name = codes "text: not UTF-8"
+message_text (BadLine line fault) name = line_text line (fault_name fault)
+message_text (RefusedLine line refusal) name = line_text line (refusal_name refusal)

@@ -14,7 +14,7 @@ use Rattle.mg_prompts.specs.declared.ending.Ending.{Ending}
 use Rattle.mg_prompts.specs.declared.ending.Next.TheVariants.{Same, Open}
 use Rattle.mg_prompts.specs.declared.ending.Request.TheVariants as request
 use Rattle.mg_prompts.specs.declared.message.Message.TheVariants as message
-use Rattle.mg_prompts.specs.declared.prompt.Asked.TheVariants.{Command, Pattern}
+use Rattle.mg_prompts.specs.declared.prompt.Asked.TheVariants.{Command, Pattern, Find, Switch, Kill}
 use Rattle.mg_prompts.specs.declared.prompt.Prompt.{Prompt}
 use Rattle.mg_prompts.specs.declared.prompt.Prompt.TheVariants.{Line, Searching, Quitting}
 use Rattle.mg_prompts.specs.Endings.{ending_of, requesting}
@@ -41,6 +41,9 @@ quits changed = if changed then opens deed.Idles Quitting else requesting reques
 
 abbrev pub plain_step : Step → Scene → Ending
 plain_step (Run command n) scene = does (deed.Runs command n)
+plain_step (Ask question.Find) scene = opens deed.Idles (Line Find [])
+plain_step (Ask question.Switch) scene = opens deed.Idles (Line Switch [])
+plain_step (Ask question.Kill) scene = opens deed.Idles (Line Kill [])
 plain_step (Ask question.Extended) scene = opens deed.Rests (Line Command [])
 plain_step (Ask question.Replace) scene = opens deed.Rests (Line Pattern [])
 plain_step (Ask question.Forward) scene = opens deed.Rests (begun scene.point Forward)

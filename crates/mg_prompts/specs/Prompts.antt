@@ -4,7 +4,7 @@ use Rattle.mg_plain.specs.declared.steps.Direction.{Direction}
 use Rattle.mg_plain.specs.declared.steps.Direction.TheVariants.{Forward, Backward}
 use Rattle.mg_keys.specs.declared.step.Mode.{Mode}
 use Rattle.mg_keys.specs.declared.step.Mode.TheVariants as modes
-use Rattle.mg_prompts.specs.declared.prompt.Asked.TheVariants.{Command, Pattern}
+use Rattle.mg_prompts.specs.declared.prompt.Asked.TheVariants.{Command, Pattern, Find, Switch, Kill}
 use Rattle.mg_prompts.specs.declared.prompt.Prompt.{Prompt}
 use Rattle.mg_prompts.specs.declared.prompt.Prompt.TheVariants.{Line, Replacement, Searching, Replacing, Quitting}
 
@@ -24,6 +24,9 @@ search_label Backward = codes "I-search backward: "
 abbrev pub label : Prompt → List ℕ
 label (Line Command answer) = codes "M-x "
 label (Line Pattern answer) = codes "Query replace: "
+label (Line Find answer) = codes "Find file: "
+label (Line Switch answer) = codes "Switch to buffer: "
+label (Line Kill answer) = codes "Kill buffer: "
 label (Replacement pattern answer) = codes "Query replace with: "
 label (Searching search) = search_label search.direction
 label (Replacing pattern put count) = codes "Query replacing (y n ! q): "

@@ -29,6 +29,10 @@ pub enum Deed {
     Undoes,
     /// The windows change, and a run of commands ends.
     Arranges(Arrangement),
+    /// The buffer of that name is current; where none is named, the next one.
+    Switches(Chars),
+    /// The buffer of that name is removed; where none is named, the current one.
+    Kills(Chars),
 }
 
 /// The prompt behind a step.
@@ -41,12 +45,14 @@ pub enum Next {
 }
 
 /// What is asked of the files.
-#[derive(Clone, Copy, Debug, PartialEq, Eq)]
+#[derive(Debug, PartialEq, Eq, Drop)]
 pub enum Request {
     /// Nothing.
     Idle,
     /// That the current buffer be saved.
     Save,
+    /// The buffer of that name, which is not empty: that it be opened, unless it is open.
+    Find(Chars),
     /// That the session end.
     Quit,
 }

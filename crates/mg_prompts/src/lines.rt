@@ -8,7 +8,7 @@ use crate::ending::{
     Deed, Ending, Next, Reaction, Request, closing, ending_of, idles, shows, unbound,
 };
 use crate::message::Message;
-use crate::plain::plain_step;
+use crate::plain::{does, plain_step};
 use crate::prompt::{Asked, Prompt};
 use crate::scene::Scene;
 use mg_keys::{NamedCommand, Step, named};
@@ -53,6 +53,23 @@ fn asks_replacement(alloc: Global, pattern: &[char]) -> Result<Reaction, AllocEr
     Ok(shows(Next::Open(replacement), Message::Nothing))
 }
 
+/// The prompt closes, and the buffer of that name is asked for; without a name there is none.
+fn finds(alloc: Global, name: &[char]) -> Result<Reaction, AllocError>
+    ensures { IfOk result (λ reaction. reaction ≡ spec.finds name.now) }
+{
+    if name.is_empty() {
+        return Ok(shows(Next::Closed, Message::Nothing));
+    }
+    Ok(requests(Request::Find(Chars::from_slice(alloc, name)?)))
+}
+
+/// The prompt closes, whatever comes of the deed.
+fn closes(deed: Deed) -> Reaction
+    ensures { result ≡ spec.closes deed }
+{
+    Reaction::Ends(closing(does(deed)))
+}
+
 fn accepted(
     alloc: Global,
     asked: Asked,
@@ -64,6 +81,9 @@ fn accepted(
     match asked {
         Asked::Command => Ok(extended(alloc, answer, scene)),
         Asked::Pattern => asks_replacement(alloc, answer),
+        Asked::Find => finds(alloc, answer),
+        Asked::Switch => Ok(closes(Deed::Switches(Chars::from_slice(alloc, answer)?))),
+        Asked::Kill => Ok(closes(Deed::Kills(Chars::from_slice(alloc, answer)?))),
     }
 }
 
@@ -87,15 +107,15 @@ pub(crate) fn line_step(
     }
 }
 
-/// The prompt closes, and the session is to end.
-fn quits() -> Reaction
-    ensures { result ≡ spec.quits }
+/// The prompt closes, and that is requested.
+fn requests(request: Request) -> Reaction
+    ensures { result ≡ spec.requests request }
 {
     Reaction::Ends(Ending {
         deed: Deed::Rests,
         next: Next::Closed,
         message: Message::Nothing,
-        request: Request::Quit,
+        request,
         refused: Next::Same,
     })
 }
@@ -106,7 +126,7 @@ pub(crate) fn quit_step(step: &Step) -> Reaction
     ensures { result ≡ spec.quit_step step.now }
 {
     match step {
-        Step::Text('y') => quits(),
+        Step::Text('y') => requests(Request::Quit),
         Step::Cancel => idles(Next::Closed, Message::Quit),
         Step::Unbound => idles(Next::Closed, Message::UndefinedKey),
         _ => shows(Next::Closed, Message::Nothing),

@@ -1,8 +1,10 @@
 //! Messages of the echo line.
 ghost use Rattle.std.specs.Prelude.{◌≡◌, IfOk, string_bytes};
-ghost use Rattle.mg_prompts.specs.Messages.{message_text};
+ghost use Rattle.mg_prompts.specs.Messages as spec;
 
 use mg_plain::Notice;
+use rga_lines::LineFault;
+use rga_ops::Refusal;
 use std::alloc::{AllocError, Global};
 
 /// What the echo line says. A message stands until the next step that is not pending.
@@ -30,12 +32,24 @@ pub enum Message {
     /// The last line of the log was cut off, and so many bytes were left out.
     TornLog(u64),
     FileFault,
+    NoSuchBuffer,
+    /// The buffer was not removed, since it is changed.
+    BufferIsChanged,
+    OnlyOneBuffer,
+    /// No buffer was opened, since as many are open as may be.
+    TooManyBuffers,
+    /// The text that was to be opened is not UTF-8.
+    NotText,
+    /// That line of the log that was to be opened is no operation.
+    BadLine(u64, LineFault),
+    /// The operation in that line of the log was not taken.
+    RefusedLine(u64, Refusal),
 }
 
 impl Message {
     /// The message as the echo line shows it, of a buffer with that name.
     pub fn text(self, alloc: Global, name: &str) -> Result<String, AllocError>
-        ensures { IfOk result (λ text. string_bytes text ≡ message_text self name.now) }
+        ensures { IfOk result (λ text. string_bytes text ≡ spec.message_text self name.now) }
     {
         match self {
             Message::Nothing => Ok(String::new(alloc)),
@@ -52,6 +66,20 @@ impl Message {
             Message::NoChanges => String::from_str(alloc, "No changes"),
             Message::TornLog(bytes) => format!(in alloc; "Torn log: {bytes} bytes left out"),
             Message::FileFault => String::from_str(alloc, "File fault"),
+            Message::NoSuchBuffer => String::from_str(alloc, "No such buffer"),
+            Message::BufferIsChanged => String::from_str(alloc, "Buffer is changed"),
+            Message::OnlyOneBuffer => String::from_str(alloc, "Only one buffer"),
+            Message::TooManyBuffers => String::from_str(alloc, "Too many buffers"),
+            Message::NotText => String::from_str(alloc, "text: not UTF-8"),
+            Message::BadLine(line, fault) => line_text(alloc, line, fault.name()),
+            Message::RefusedLine(line, refusal) => line_text(alloc, line, refusal.name()),
         }
     }
+}
+
+/// What is wrong with a line of a log.
+fn line_text(alloc: Global, line: u64, name: &str) -> Result<String, AllocError>
+    ensures { IfOk result (λ text. string_bytes text ≡ spec.line_text line name.now) }
+{
+    format!(in alloc; "line {line}: {name}")
 }

@@ -13,7 +13,7 @@ use mg_plain::{Chars, Command, Direction};
 use std::alloc::Global;
 
 /// A deed, with the prompt as it is and no message.
-fn does(deed: Deed) -> Ending
+pub(crate) fn does(deed: Deed) -> Ending
     ensures { result ≡ spec.does deed }
 {
     ending_of(deed, Next::Same, Message::Nothing)
@@ -86,7 +86,9 @@ fn question_step(alloc: Global, question: Question, scene: &Scene<'_>) -> Ending
         Question::Save => requests(Request::Save),
         Question::Undo => does(Deed::Undoes),
         Question::Quit => quits(scene.changed),
-        Question::Find | Question::Switch | Question::Kill => undefined(),
+        Question::Find => opens(Deed::Idles, line(alloc, Asked::Find)),
+        Question::Switch => opens(Deed::Idles, line(alloc, Asked::Switch)),
+        Question::Kill => opens(Deed::Idles, line(alloc, Asked::Kill)),
     }
 }
 
@@ -106,8 +108,7 @@ fn window_step(command: WindowCommand, scene: &Scene<'_>) -> Ending
 }
 
 /// What a step leads to where no prompt is open: a command is run, a scroll runs with the text rows
-/// of the current window, a question opens its prompt. The questions that several buffers need are
-/// no keys yet. Takes no memory.
+/// of the current window, a question opens its prompt. Takes no memory.
 pub fn plain_step(alloc: Global, step: Step, scene: &Scene<'_>) -> Ending
     ensures { result ≡ spec.plain_step step scene.now }
 {

@@ -12,6 +12,12 @@ pub enum Asked {
     Command,
     /// What is to be replaced.
     Pattern,
+    /// The name of the buffer to open, or to go to where it is open.
+    Find,
+    /// The name of the buffer to go to.
+    Switch,
+    /// The name of the buffer to remove.
+    Kill,
 }
 
 /// A search while its pattern is typed.
@@ -70,6 +76,9 @@ impl Prompt {
             Prompt::Line { asked, .. } => match asked {
                 Asked::Command => "M-x ",
                 Asked::Pattern => "Query replace: ",
+                Asked::Find => "Find file: ",
+                Asked::Switch => "Switch to buffer: ",
+                Asked::Kill => "Kill buffer: ",
             },
             Prompt::Replacement { .. } => "Query replace with: ",
             Prompt::Searching(search) => match search.direction {

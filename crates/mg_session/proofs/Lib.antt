@@ -1,2 +1,3 @@
 pub mod FrameLaws
 pub mod TakenLaws
+pub mod FaultLaws

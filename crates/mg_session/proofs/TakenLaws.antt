@@ -5,12 +5,10 @@ use Rattle.std.proofs.KnownBytes.{Appends-nil, Appends-trans, Consumes-nil, Cons
 use Rattle.std.specs.Io.KnownBytes.{Consumes, Keeps}
 use Rattle.rga_lines.specs.Counting.{Calls, Writes, IsReadToEnd}
 use Rattle.mg_keys.specs.Begun.{HasBegun}
-use Rattle.mg_prompts.specs.declared.ending.Request.{Request}
-use Rattle.mg_prompts.specs.declared.ending.Request.TheVariants.{Idle, Save, Quit}
 use Rattle.mg_settings.specs.Settings.{Values}
 use Rattle.mg_editor.specs.Editors.{Editor}
 use Rattle.mg_session.specs.Display.{ShowsIf}
-use Rattle.mg_session.specs.Keys.{quits, TakesKey}
+use Rattle.mg_session.specs.Keys.{TakesKey}
 use Rattle.mg_session.specs.Running.{Told, Takes, TakesAll, TakesOnto, TakesRead, IsOpened, Began, Ran, BrokeOff, RanFrom, BrokeOffFrom}
 
 -- what is written by bytes that none of quits, and then by further ones
@@ -21,35 +19,31 @@ more_taken trace has_cursor [] ys calls told more old mid new quits text further
     let from : TakesAll trace has_cursor ys calls more mid new quits further = subst (λ c. TakesAll trace has_cursor ys c more mid new quits further) same next in
     let here : TakesAll trace has_cursor ys calls more old new quits further = subst (λ e. TakesAll trace has_cursor ys calls more e new quits further) is from in
     subst (TakesAll trace has_cursor ys calls more old new quits) (ap (λ t. t ++ further) (sym none)) here
-more_taken trace has_cursor (x ∷ xs) ys calls told more old mid new quits text further (seen, e, Quit, shown, takes, (same, is, quit, all)) next = absurd (true≢false (sym quit))
-more_taken trace has_cursor (x ∷ xs) ys calls told more old mid new quits text further (seen, e, Idle, shown, takes, (rest, on, all)) next =
-    (seen, e, Idle, shown, takes, (rest ++ further, more_taken trace has_cursor xs ys seen told more e mid new quits rest further on next, ap (λ t. t ++ further) all ∙ append_assoc shown rest further))
-more_taken trace has_cursor (x ∷ xs) ys calls told more old mid new quits text further (seen, e, Save, shown, takes, (rest, on, all)) next =
-    (seen, e, Save, shown, takes, (rest ++ further, more_taken trace has_cursor xs ys seen told more e mid new quits rest further on next, ap (λ t. t ++ further) all ∙ append_assoc shown rest further))
+more_taken trace has_cursor (x ∷ xs) ys calls told more old mid new quits text further (seen, e, true, shown, takes, (same, is, quit, all)) next = absurd (true≢false (sym quit))
+more_taken trace has_cursor (x ∷ xs) ys calls told more old mid new quits text further (seen, e, false, shown, takes, (rest, on, all)) next =
+    (seen, e, false, shown, takes, (rest ++ further, more_taken trace has_cursor xs ys seen told more e mid new quits rest further on next, ap (λ t. t ++ further) all ∙ append_assoc shown rest further))
 
 -- one byte
-one_taken : (trace has_cursor : Bool) (x : ℕ) (calls more : Told) (old new : Editor) (request : Request) (text : List ℕ)
-    → Takes trace has_cursor x calls more old new request text → quits request ≡ false → TakesAll trace has_cursor (x ∷ []) calls more old new false text
-one_taken trace has_cursor x calls more old new Quit text takes other = absurd (true≢false other)
-one_taken trace has_cursor x calls more old new Idle text takes other = (more, new, Idle, text, takes, ([], (refl, refl, refl, refl), sym (append-nil text)))
-one_taken trace has_cursor x calls more old new Save text takes other = (more, new, Save, text, takes, ([], (refl, refl, refl, refl), sym (append-nil text)))
+one_taken : (trace has_cursor : Bool) (x : ℕ) (calls more : Told) (old new : Editor) (ends : Bool) (text : List ℕ)
+    → Takes trace has_cursor x calls more old new ends text → ends ≡ false → TakesAll trace has_cursor (x ∷ []) calls more old new false text
+one_taken trace has_cursor x calls more old new true text takes other = absurd (true≢false other)
+one_taken trace has_cursor x calls more old new false text takes other = (more, new, false, text, takes, ([], (refl, refl, refl, refl), sym (append-nil text)))
 
 -- one that quits, whatever stands behind it
-last_taken : (trace has_cursor : Bool) (x : ℕ) (xs : List ℕ) (calls more : Told) (old new : Editor) (request : Request) (text : List ℕ)
-    → Takes trace has_cursor x calls more old new request text → quits request ≡ true → TakesAll trace has_cursor (x ∷ xs) calls more old new true text
-last_taken trace has_cursor x xs calls more old new Quit text takes is = (more, new, Quit, text, takes, (refl, refl, refl, refl))
-last_taken trace has_cursor x xs calls more old new Idle text takes is = absurd (true≢false (sym is))
-last_taken trace has_cursor x xs calls more old new Save text takes is = absurd (true≢false (sym is))
+last_taken : (trace has_cursor : Bool) (x : ℕ) (xs : List ℕ) (calls more : Told) (old new : Editor) (ends : Bool) (text : List ℕ)
+    → Takes trace has_cursor x calls more old new ends text → ends ≡ true → TakesAll trace has_cursor (x ∷ xs) calls more old new true text
+last_taken trace has_cursor x xs calls more old new true text takes is = (more, new, true, text, takes, (refl, refl, refl, refl))
+last_taken trace has_cursor x xs calls more old new false text takes is = absurd (true≢false (sym is))
 
 -- ---- with what stands on a screen
 
 -- a byte, by what was done of it
-pub takes_by : {W : Type 0} (contents : W → Option (List ℕ)) (trace has_cursor : Bool) (byte : ℕ) (calls more : Told) (old between new : Editor) (request : Request) (traced : Bool) (screen shown : Calls W)
-    → TakesKey byte calls more old between request
+pub takes_by : {W : Type 0} (contents : W → Option (List ℕ)) (trace has_cursor : Bool) (byte : ℕ) (calls more : Told) (old between new : Editor) (ends : Bool) (traced : Bool) (screen shown : Calls W)
+    → TakesKey byte calls more old between ends
     → (amid : Bool) × ((amid ≡ false) ↔ HasBegun between.talk.keys []) × (traced ≡ (trace && not amid))
     → (text : List ℕ) × ShowsIf traced has_cursor between new text × Writes contents screen shown text
-    → (text : List ℕ) × Takes trace has_cursor byte calls more old new request text × Writes contents screen shown text
-takes_by contents trace has_cursor byte calls more old between new request traced screen shown taken (amid, is_amid, is) (text, shows, written) = (
+    → (text : List ℕ) × Takes trace has_cursor byte calls more old new ends text × Writes contents screen shown text
+takes_by contents trace has_cursor byte calls more old between new ends traced screen shown taken (amid, is_amid, is) (text, shows, written) = (
   text,
   record {
     between = between;
@@ -75,34 +69,34 @@ module _ {W : Type 0} {contents : W → Option (List ℕ)} {trace has_cursor : B
   }
 
   -- a key of a list, where those before it were taken and it does not quit
-  pub next_onto : (traced shown_at : Bool) → traced ≡ trace → shown_at ≡ has_cursor → (keys : List ℕ) (i d : ℕ) (calls told more : Told) (old mid new : Editor) (request : Request) (screen seen shown : Calls W)
-      → i < length keys → quits request ≡ false
+  pub next_onto : (traced shown_at : Bool) → traced ≡ trace → shown_at ≡ has_cursor → (keys : List ℕ) (i d : ℕ) (calls told more : Told) (old mid new : Editor) (ends : Bool) (screen seen shown : Calls W)
+      → i < length keys → ends ≡ false
       → TakesOnto contents trace has_cursor (take i keys) calls told old mid false screen seen
-      → (text : List ℕ) × Takes traced shown_at (get_or keys i d) told more mid new request text × Writes contents seen shown text
+      → (text : List ℕ) × Takes traced shown_at (get_or keys i d) told more mid new ends text × Writes contents seen shown text
       → TakesOnto contents trace has_cursor (take (i + 1) keys) calls more old new false screen shown
-  next_onto traced shown_at same_trace same_cursor keys i d calls told more old mid new request screen seen shown inside other before (text, taken, written) =
+  next_onto traced shown_at same_trace same_cursor keys i d calls told more old mid new ends screen seen shown inside other before (text, taken, written) =
       let x = get_or keys i d in
-      let takes : Takes trace has_cursor x told more mid new request text =
-      subst (λ t. Takes t has_cursor x told more mid new request text) same_trace (subst (λ h. Takes traced h x told more mid new request text) same_cursor taken) in
+      let takes : Takes trace has_cursor x told more mid new ends text =
+      subst (λ t. Takes t has_cursor x told more mid new ends text) same_trace (subst (λ h. Takes traced h x told more mid new ends text) same_cursor taken) in
       let one : TakesOnto contents trace has_cursor (x ∷ []) told more mid new false seen shown =
-      record { text = text; taken = one_taken trace has_cursor x told more mid new request text takes other; written = written } in
+      record { text = text; taken = one_taken trace has_cursor x told more mid new ends text takes other; written = written } in
       let step : take i keys ++ x ∷ [] ≡ take (i + 1) keys = sym (take_more keys i d inside) in
       subst (λ xs. TakesOnto contents trace has_cursor xs calls more old new false screen shown) step
       (more_onto (take i keys) (x ∷ []) calls told more old mid new false screen seen shown before one)
 
   -- the same of one that quits: nothing behind it is taken
-  pub last_onto : (traced shown_at : Bool) → traced ≡ trace → shown_at ≡ has_cursor → (keys : List ℕ) (i d : ℕ) (calls told more : Told) (old mid new : Editor) (request : Request) (screen seen shown : Calls W)
-      → i < length keys → quits request ≡ true
+  pub last_onto : (traced shown_at : Bool) → traced ≡ trace → shown_at ≡ has_cursor → (keys : List ℕ) (i d : ℕ) (calls told more : Told) (old mid new : Editor) (ends : Bool) (screen seen shown : Calls W)
+      → i < length keys → ends ≡ true
       → TakesOnto contents trace has_cursor (take i keys) calls told old mid false screen seen
-      → (text : List ℕ) × Takes traced shown_at (get_or keys i d) told more mid new request text × Writes contents seen shown text
+      → (text : List ℕ) × Takes traced shown_at (get_or keys i d) told more mid new ends text × Writes contents seen shown text
       → TakesOnto contents trace has_cursor keys calls more old new true screen shown
-  last_onto traced shown_at same_trace same_cursor keys i d calls told more old mid new request screen seen shown inside end before (text, taken, written) =
+  last_onto traced shown_at same_trace same_cursor keys i d calls told more old mid new ends screen seen shown inside end before (text, taken, written) =
       let x = get_or keys i d in
-      let takes : Takes trace has_cursor x told more mid new request text =
-      subst (λ t. Takes t has_cursor x told more mid new request text) same_trace (subst (λ h. Takes traced h x told more mid new request text) same_cursor taken) in
+      let takes : Takes trace has_cursor x told more mid new ends text =
+      subst (λ t. Takes t has_cursor x told more mid new ends text) same_trace (subst (λ h. Takes traced h x told more mid new ends text) same_cursor taken) in
       let behind = drop (i + 1) keys in
       let one : TakesOnto contents trace has_cursor (x ∷ behind) told more mid new true seen shown =
-      record { text = text; taken = last_taken trace has_cursor x behind told more mid new request text takes end; written = written } in
+      record { text = text; taken = last_taken trace has_cursor x behind told more mid new ends text takes end; written = written } in
       let all : take i keys ++ (x ∷ behind) ≡ keys =
       sym (append_assoc (take i keys) (x ∷ []) behind)
       ∙ ap (λ front. front ++ behind) (sym (take_more keys i d inside))

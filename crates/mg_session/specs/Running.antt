@@ -5,8 +5,6 @@ use Rattle.rga_lines.specs.Counting.{Calls, Writes, IsReadToEnd}
 use Rattle.mg_files.specs.Calls.{Call}
 use Rattle.mg_files.specs.Files.{Files}
 use Rattle.mg_keys.specs.Begun.{HasBegun}
-use Rattle.mg_prompts.specs.declared.ending.Request.{Request}
-use Rattle.mg_prompts.specs.declared.ending.Request.TheVariants.{Idle, Save, Quit}
 use Rattle.mg_settings.specs.Settings.{Values}
 use Rattle.mg_editor.specs.Editors.{Editor}
 use Rattle.mg_editor.specs.Opening.{Opens}
@@ -19,26 +17,25 @@ Told = Option (List Call)
 
 -- A byte was taken, and what is written behind it: where steps are traced, a frame behind each byte with which no key
 -- sequence is left begun.
-pub record Takes (trace has_cursor : Bool) (byte : ℕ) (calls more : Told) (old new : Editor) (request : Request) (text : List ℕ) : Type 0 where
+pub record Takes (trace has_cursor : Bool) (byte : ℕ) (calls more : Told) (old new : Editor) (ends : Bool) (text : List ℕ) : Type 0 where
   pub between : Editor
-  pub taken : TakesKey byte calls more old between request
+  pub taken : TakesKey byte calls more old between ends
   pub amid : Bool
   pub is_amid : (amid ≡ false) ↔ HasBegun between.talk.keys []
   pub shown : ShowsIf (trace && not amid) has_cursor between new text
 
--- what follows a byte whose request this was: nothing behind one to quit, and else the bytes behind it are taken so
-abbrev pub GoesOn : (Told → Told → Editor → Editor → Bool → List ℕ → Type 0) → Request → Told → Told → Editor → Editor → Bool → List ℕ → List ℕ → Type 0
-GoesOn TakesRest Quit told more mid new quits shown text = (more ≡ told) × (new ≡ mid) × (quits ≡ true) × (text ≡ shown)
-GoesOn TakesRest Idle told more mid new quits shown text = (further : List ℕ) × TakesRest told more mid new quits further × (text ≡ shown ++ further)
-GoesOn TakesRest Save told more mid new quits shown text = (further : List ℕ) × TakesRest told more mid new quits further × (text ≡ shown ++ further)
+-- what follows a byte: nothing where the session ends behind it, and else the bytes behind it are taken so
+abbrev pub GoesOn : (Told → Told → Editor → Editor → Bool → List ℕ → Type 0) → Bool → Told → Told → Editor → Editor → Bool → List ℕ → List ℕ → Type 0
+GoesOn TakesRest true told more mid new quits shown text = (more ≡ told) × (new ≡ mid) × (quits ≡ true) × (text ≡ shown)
+GoesOn TakesRest false told more mid new quits shown text = (further : List ℕ) × TakesRest told more mid new quits further × (text ≡ shown ++ further)
 
 -- The bytes were taken in turn, up to one that quits, if any does, and this was written behind them.
 abbrev pub TakesAll : Bool → Bool → List ℕ → Told → Told → Editor → Editor → Bool → List ℕ → Type 0
 TakesAll trace has_cursor [] calls more old new quits text = (more ≡ calls) × (new ≡ old) × (quits ≡ false) × (text ≡ [])
 TakesAll trace has_cursor (byte ∷ rest) calls more old new quits text =
-    (told : Told) × (mid : Editor) × (request : Request) × (shown : List ℕ)
-    × Takes trace has_cursor byte calls told old mid request shown
-    × GoesOn (TakesAll trace has_cursor rest) request told more mid new quits shown text
+    (told : Told) × (mid : Editor) × (ends : Bool) × (shown : List ℕ)
+    × Takes trace has_cursor byte calls told old mid ends shown
+    × GoesOn (TakesAll trace has_cursor rest) ends told more mid new quits shown text
 
 -- the same, and what was written stands behind the known bytes of a screen
 pub record TakesOnto {W : Type 0} (contents : W → Option (List ℕ)) (trace has_cursor : Bool) (bytes : List ℕ) (calls more : Told) (old new : Editor) (quits : Bool) (screen shown : Calls W) : Type 0 where

@@ -21,26 +21,28 @@ fn press<S: TextStore>(editor: &mut Editor<S>, byte: u8) -> Request
     }
 }
 
-/// Presses a byte, and carries what it requests. What fails is said.
+/// Presses a byte, carries what it requests, and answers whether the session ends. What fails is
+/// said.
 pub(crate) fn take_key<S: TextStore, P: Port>(
     editor: &mut Editor<S>,
     byte: u8,
     port: &mut P,
-) -> Request
+) -> bool
     ensures { spec.TakesKey byte
         (P.calls port.old) (P.calls port.new) editor.old editor.new result }
 {
     let request = press(editor, byte);
+    let ends = quits(&request);
     let _ = editor.carry(request, port);
-    request
+    ends
 }
 
 /// Whether a session ends behind a request.
-pub(crate) fn quits(request: Request) -> bool
-    ensures { result ≡ spec.quits request }
+fn quits(request: &Request) -> bool
+    ensures { result ≡ spec.quits request.now }
 {
     match request {
-        Request::Idle | Request::Save => false,
+        Request::Idle | Request::Save | Request::Find(_) => false,
         Request::Quit => true,
     }
 }

@@ -10,10 +10,9 @@ ghost use Rattle.mg_session.specs.declared.fault.SessionFault.TheVariants.{Load,
 
 use crate::display::show;
 use crate::fault::SessionFault;
-use crate::keys::{quits, take_key};
+use crate::keys::take_key;
 use mg_editor::Editor;
 use mg_files::Port;
-use mg_prompts::Request;
 use mg_settings::Settings;
 use rga_lines::Counted;
 use rga_store::TextStore;
@@ -146,24 +145,24 @@ impl<S: TextStore> Session<S> {
         self.trace && !is_amid
     }
 
-    /// Takes a key, and answers its request.
+    /// Takes a key, and answers whether the session ends.
     fn take<W: Write, P: Port>(
         &mut self,
         key: u8,
         screen: &mut Counted<W>,
         port: &mut P,
-    ) -> Result<Request, SessionFault>
-        ensures taken { IfOk result (λ request. (text : List ℕ)
+    ) -> Result<bool, SessionFault>
+        ensures taken { IfOk result (λ ends. (text : List ℕ)
             × running.Takes self.old.trace self.old.cursor key (P.calls port.old)
-            (P.calls port.new) self.old.editor self.new.editor request text
+            (P.calls port.new) self.old.editor self.new.editor ends text
             × Writes W.contents screen.old screen.new text) }
         ensures kept { (self.new.trace ≡ self.old.trace) × (self.new.cursor ≡ self.old.cursor) }
         ensures fault { IfErr result (λ e. (e ≡ Screen) ⊎ (e ≡ Memory)) }
         ensures device { CountsAs Screen result screen.old screen.new }
     {
-        let request = take_key(&mut self.editor, key, port);
+        let ends = take_key(&mut self.editor, key, port);
         self.show_if(self.is_traced(), screen)?;
-        Ok(request)
+        Ok(ends)
     }
 
     /// Takes the keys, block by block, up to one that quits.
@@ -213,8 +212,8 @@ impl<S: TextStore> Session<S> {
         ensures device { CountsAs Screen result screen.old screen.new }
     {
         for key in keys {
-            let request = self.take(*key, screen, port)?;
-            if quits(request) {
+            let ends = self.take(*key, screen, port)?;
+            if ends {
                 return Ok(true);
             }
         }

@@ -64,6 +64,7 @@ fn shown(alloc: Global, editor: &Editor<TreeStore>, request: Request) -> Option<
     line.push_str(match request {
         Request::Idle => "",
         Request::Save => " / Save",
+        Request::Find(_) => " / Find",
         Request::Quit => " / Quit",
     })
     .ok()?;

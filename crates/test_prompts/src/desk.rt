@@ -1,7 +1,7 @@
 //! A text under keys, with the prompt that is open: motions and single replacements are done, every
 //! other deed is told.
 use mg_keys::{Keys, Mode, Step};
-use mg_plain::{Command, Direction, find};
+use mg_plain::{Chars, Command, Direction, find};
 use mg_prompts::{
     Deed, Ending, Message, Next, Prompt, Reaction, Request, Scene, next_match, plain_step,
     prompt_step,
@@ -58,10 +58,26 @@ fn sought(desk: &Desk, command: &Command) -> usize {
     }
 }
 
+/// A word, and a name behind it in brackets.
+fn with_name(alloc: Global, word: &str, name: &Chars) -> Result<String, AllocError> {
+    let mut text = String::from_str(alloc, word)?;
+    text.push('[')?;
+    for c in name.as_slice() {
+        text.push(*c)?;
+    }
+    text.push(']')?;
+    Ok(text)
+}
+
 /// What is done, in words. Searches show at point.
-fn told(alloc: Global, deed: &Deed, request: Request) -> Result<String, AllocError> {
+fn told(alloc: Global, deed: &Deed, request: &Request) -> Result<String, AllocError> {
+    if let Request::Find(name) = request {
+        return with_name(alloc, " find ", name);
+    }
     match deed {
-        Deed::Rests if request == Request::Idle => Ok(String::new(alloc)),
+        Deed::Switches(name) => with_name(alloc, " to ", name),
+        Deed::Kills(name) => with_name(alloc, " without ", name),
+        Deed::Rests if *request == Request::Idle => Ok(String::new(alloc)),
         Deed::Runs(Command::SearchForward { .. } | Command::SearchBackward { .. }, 1) => {
             Ok(String::new(alloc))
         }
@@ -88,7 +104,7 @@ fn behind(next: Next, open: Option<Prompt>) -> Option<Prompt> {
 }
 
 fn ended(alloc: Global, desk: Desk, ending: Ending) -> Result<Desk, AllocError> {
-    let told = told(alloc, &ending.deed, ending.request)?;
+    let told = told(alloc, &ending.deed, &ending.request)?;
     let point = point_after(&desk, &ending.deed);
     Ok(Desk {
         text: desk.text,

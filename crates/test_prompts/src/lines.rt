@@ -30,7 +30,9 @@ fn commands_are_named(rt: HostRuntime) {
         ("und", "|ab / No such command"),
         ("", "|ab / No such command"),
         ("keyboard-quit", "|ab / No such command"),
-        ("find-file", "|ab / Undefined key / Idles Idle"),
+        ("find-file", "|ab / Find file:  / Idles Idle"),
+        ("switch-to-buffer", "|ab / Switch to buffer:  / Idles Idle"),
+        ("kill-buffer", "|ab / Kill buffer:  / Idles Idle"),
         ("replica-serve", "|ab / Undefined key / Idles Idle"),
     ] {
         assert!(rt; names(rt.alloc(), name, line), "{name}");
@@ -42,6 +44,27 @@ fn names(alloc: Global, name: &str, line: &str) -> bool {
     match format!(in alloc; "\x1bx{name}\r") {
         Ok(keys) => shows(alloc, "ab", 0, &keys, line),
         Err(_) => false,
+    }
+}
+
+#[test]
+fn buffers_are_named(rt: HostRuntime) {
+    for (keys, line) in &[
+        ("\x18\x06m.txt", "|ab / Find file: m.txt"),
+        ("\x18\x06m.txt\r", "|ab / find [m.txt]"),
+        ("\x18\x06é\r", "|ab / find [é]"),
+        ("\x18\x06\r", "|ab"),
+        ("\x18\x06m\x07", "|ab / Quit / Idles Idle"),
+        ("\x18bm\r", "|ab / to [m]"),
+        ("\x18b\r", "|ab / to []"),
+        (
+            "\x18bm\x06",
+            "|ab / Switch to buffer: m / Undefined key / Idles Idle",
+        ),
+        ("\x18km\r", "|ab / without [m]"),
+        ("\x18k\r", "|ab / without []"),
+    ] {
+        assert!(rt; shows(rt.alloc(), "ab", 0, keys, line), "{keys:?}");
     }
 }
 

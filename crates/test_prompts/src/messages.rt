@@ -1,6 +1,8 @@
 //! The texts of messages.
 use mg_plain::Notice;
 use mg_prompts::Message;
+use rga_lines::LineFault;
+use rga_ops::{Id, Refusal};
 use std::alloc::Global;
 
 fn reads(alloc: Global, message: Message, expected: &str) -> bool {
@@ -35,6 +37,16 @@ fn messages_are_read(rt: HostRuntime) {
         (Message::NoChanges, "No changes"),
         (Message::TornLog(19), "Torn log: 19 bytes left out"),
         (Message::FileFault, "File fault"),
+        (Message::NoSuchBuffer, "No such buffer"),
+        (Message::BufferIsChanged, "Buffer is changed"),
+        (Message::OnlyOneBuffer, "Only one buffer"),
+        (Message::TooManyBuffers, "Too many buffers"),
+        (Message::NotText, "text: not UTF-8"),
+        (Message::BadLine(1, LineFault::Json), "line 1: Json"),
+        (
+            Message::RefusedLine(2, Refusal::Conflict(Id::ROOT)),
+            "line 2: Conflict",
+        ),
     ] {
         assert!(rt; reads(rt.alloc(), *message, text), "{text}");
     }

@@ -17,9 +17,9 @@ fn keys_without_a_prompt(rt: HostRuntime) {
         ("\x1f", "a|b / Undoes Idle"),
         ("\x18\x13", "a|b / Idles Save"),
         ("\x07", "a|b / Quit / Idles Idle"),
-        ("\x18\x06", "a|b / Undefined key / Idles Idle"),
-        ("\x18b", "a|b / Undefined key / Idles Idle"),
-        ("\x18k", "a|b / Undefined key / Idles Idle"),
+        ("\x18\x06", "a|b / Find file:  / Idles Idle"),
+        ("\x18b", "a|b / Switch to buffer:  / Idles Idle"),
+        ("\x18k", "a|b / Kill buffer:  / Idles Idle"),
         ("\x03", "a|b / Undefined key / Idles Idle"),
     ] {
         assert!(rt; shows(rt.alloc(), "ab", 1, keys, line), "{keys:?}");

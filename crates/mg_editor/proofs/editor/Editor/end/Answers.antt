@@ -1,5 +1,5 @@
 use Rattle.std.proofs.Common.{rules, ◌≡◌, subst}
-use Rattle.mg_editor.specs.Workspaces.{HasList}
+use Rattle.mg_workspace.specs.Workspaces.{HasList}
 use Rattle.mg_editor.proofs.editor.Editor.end.Goals as goal
 
 pub do_deed-requires : goal.do_deed-requires

@@ -1,7 +1,8 @@
 use Rattle.std.proofs.Common.{rules, ◌≡◌, Ok, refl, sym, subst}
 use Rattle.mg_files.specs.Loading.{load_outcome}
 use Rattle.mg_editor.specs.Editors.{Editor}
-use Rattle.mg_editor.specs.Opening.{OpensBy, workspace}
+use Rattle.mg_editor.specs.Opening.{OpensBy}
+use Rattle.mg_workspace.specs.Opening.{workspace}
 use Rattle.mg_editor.proofs.editor.Editor.new.Goals as goal
 
 pub returns : goal.returns

@@ -3,15 +3,15 @@ use Rattle.mg_screen.specs.Screen.{Screen}
 use Rattle.mg_editor.specs.Echo.{echo_text}
 use Rattle.mg_editor.specs.Editors.{Editor}
 use Rattle.mg_editor.specs.Frames.{IsScreen}
-use Rattle.mg_editor.specs.Showing.{IsName}
-use Rattle.mg_editor.specs.Workspaces.{HasList}
+use Rattle.mg_workspace.specs.Showing.{IsName}
+use Rattle.mg_workspace.specs.Workspaces.{HasLists}
 use Rattle.mg_editor.proofs.FrameLaws.{screen_by}
 use Rattle.mg_editor.proofs.editor.Editor.screen.Goals as goal
 
 pub panes-requires-clause-listed : goal.panes-requires-clause-listed
 panes-requires-clause-listed g c =
     let is : c.args.self.now.work ≡ c.self.inside.work = search rules in
-    subst HasList is c.requires.listed
+    subst HasLists is c.requires.listed
 
 pub returns : goal.returns
 returns g c =

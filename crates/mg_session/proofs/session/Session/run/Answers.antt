@@ -1,6 +1,6 @@
 use Rattle.std.proofs.Common.{◌∙◌, Err, ap, sym}
 use Rattle.std.proofs.lemmas.Result.{err_from_is_err_and}
-use Rattle.mg_editor.proofs.Results.{on_ok_map}
+use Rattle.mg_workspace.proofs.Results.{on_ok_map}
 use Rattle.mg_session.proofs.TakenLaws.{began_by, ran_by}
 use Rattle.mg_session.proofs.session.Session.run.Goals as goal
 

@@ -1,9 +1,0 @@
-use Rattle.std.proofs.Common.{rules}
-use Rattle.mg_editor.specs.Workspaces as spec
-use Rattle.mg_editor.proofs.workspace.Workspace.recenter.Goals as goal
-
-pub returns : goal.returns
-returns g c =
-    let b = c.current.result.now in
-    let here : spec.IsCurrent c.args.self.now b = search rules in
-    (b, here, search rules)

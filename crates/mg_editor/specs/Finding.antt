@@ -1,0 +1,94 @@
+-- What it leads to that a buffer is asked for by its name.
+use Rattle.std.specs.Prelude.{◌≡◌, ◌⊎◌, ℕ, List, Option, Some, None, Result, Ok, Err, encode_utf8_all}
+use Rattle.std.specs.Bool.{MatchBool}
+use Rattle.rga_exchange.specs.declared.fault.ReceiveFault.{ReceiveFault}
+use Rattle.rga_exchange.specs.declared.fault.ReceiveFault.TheVariants as receive
+use Rattle.rga_exchange.specs.declared.log.LogEnd.{LogEnd}
+use Rattle.mg_plain.specs.declared.outcome.Notice.TheVariants as notice
+use Rattle.mg_files.specs.Calls.{Call}
+use Rattle.mg_files.specs.Files.{Files}
+use Rattle.mg_files.specs.Loading.{load_outcome}
+use Rattle.mg_files.specs.declared.fault.LoadFault.{LoadFault}
+use Rattle.mg_files.specs.declared.fault.LoadFault.TheVariants.{Log, NotText, Store, Memory}
+use Rattle.mg_files.specs.declared.port.PortFault.{PortFault}
+use Rattle.mg_prompts.specs.declared.message.Message.{Message}
+use Rattle.mg_prompts.specs.declared.message.Message.TheVariants as message
+use Rattle.mg_workspace.specs.Deeds.{gone_to}
+use Rattle.mg_workspace.specs.Names.{named}
+use Rattle.mg_workspace.specs.Opening.{is_full, OpensBy}
+use Rattle.mg_workspace.specs.Workspaces.{Workspace}
+use Rattle.mg_editor.specs.Editors.{Editor}
+use Rattle.mg_editor.specs.Opening.{message_of_end}
+use Rattle.mg_editor.specs.Telling.{Answer, message_of_port, told}
+use Rattle.mg_editor.specs.declared.fault.CarryFault.{CarryFault}
+use Rattle.mg_editor.specs.declared.fault.CarryFault.TheVariants.{Port, Load}
+
+-- ---- what is said
+
+-- of a log; only a line, or what it says, can be at fault
+abbrev pub message_of_log : ReceiveFault → Message
+message_of_log (receive.Line line fault) = message.BadLine line fault
+message_of_log (receive.Refused line refusal) = message.RefusedLine line refusal
+message_of_log _ = message.FileFault
+
+-- of a buffer that is not loaded; of a text only that it is too long can be refused
+abbrev pub message_of_load : LoadFault → Message
+message_of_load (Log fault) = message_of_log fault
+message_of_load NotText = message.NotText
+message_of_load (Store refusal) = message.BufferFull
+message_of_load Memory = message.Refused notice.Memory
+
+-- how the log ends of a buffer that was opened, or why none was
+abbrev pub Opening : Type 0
+Opening = Result LogEnd CarryFault
+
+abbrev pub message_of_opening : Opening → Message
+message_of_opening (Ok end) = message_of_end end
+message_of_opening (Err (Port fault)) = message_of_port fault
+message_of_opening (Err (Load fault)) = message_of_load fault
+
+abbrev pub opening_done : Opening → Answer
+opening_done (Ok end) = Ok tt
+opening_done (Err fault) = Err fault
+
+-- ---- what is done
+
+abbrev pub of_load : Result LogEnd LoadFault → Opening
+of_load (Ok end) = Ok end
+of_load (Err fault) = Err (Load fault)
+
+-- memory was wanting, or the port answered a fault
+abbrev pub IsUnasked : Opening → Type 0
+IsUnasked r = (r ≡ Err (Load Memory)) ⊎ ((fault : PortFault) × (r ≡ Err (Port fault)))
+
+-- as what was found is loaded, with the replica and the limit of the workspace
+abbrev pub LoadsFound : List ℕ → Files → Workspace → Workspace → Opening → Type 0
+LoadsFound name found w v r =
+    (answer : Result LogEnd LoadFault) × OpensBy (load_outcome (encode_utf8_all name) w.replica w.limit found) w v answer × (r ≡ of_load answer)
+
+-- a buffer of that name was opened by what was found under it, or nothing changed
+abbrev pub Loads : List ℕ → Workspace → Workspace → Opening → Type 0
+Loads name w v r = ((v ≡ w) × IsUnasked r) ⊎ ((found : Files) × LoadsFound name found w v r)
+
+-- it was opened or not, and that is said; no call of the port that writes was made
+pub record Opened (name : List ℕ) (calls more : Option (List Call)) (old new : Editor) (r : Answer) : Type 0 where
+  pub answer : Opening
+  pub loads : Loads name old.work new.work answer
+  pub no_call : more ≡ calls
+  pub rest : new ≡ told new.work (message_of_opening answer) old
+  pub done : r ≡ opening_done answer
+
+-- without a call of the port the editor became this one
+pub record Becomes (now : Editor) (calls more : Option (List Call)) (new : Editor) (r : Answer) : Type 0 where
+  pub no_call : more ≡ calls
+  pub is : new ≡ now
+  pub done : r ≡ Ok tt
+
+-- the buffer at that index is gone to; where there is none it is opened, unless as many are open as may be
+abbrev pub FoundAt : Option ℕ → List ℕ → Option (List Call) → Option (List Call) → Editor → Editor → Answer → Type 0
+FoundAt (Some i) name calls more old new r = Becomes (record old { work = gone_to i old.work }) calls more new r
+FoundAt None name calls more old new r =
+    MatchBool (is_full old.work) (Becomes (told old.work message.TooManyBuffers old) calls more new r) (Opened name calls more old new r)
+
+abbrev pub Found : List ℕ → Option (List Call) → Option (List Call) → Editor → Editor → Answer → Type 0
+Found name calls more old new r = FoundAt (named name old.work.buffers.all) name calls more old new r

@@ -1,0 +1,10 @@
+pub mod Results
+pub mod MappedLaws
+pub mod ExcerptLaws
+pub mod NameLaws
+pub mod Removals
+pub mod Arrangements
+pub mod Current
+pub mod Keeping
+pub mod Saves
+pub mod ShownWindows

@@ -1,0 +1,19 @@
+use Rattle.std.proofs.Common.{rules, ◌≡◌, get_or}
+use Rattle.mg_files.specs.OpenState.{OpenState}
+use Rattle.mg_workspace.specs.Buffers as spec
+use Rattle.mg_workspace.proofs.Current.{at_current}
+use Rattle.mg_workspace.proofs.Results.{match_result, both_on_err}
+use Rattle.mg_workspace.proofs.buffers.Buffers.undo.Goals as goal
+
+pub returns : goal.returns
+returns g c =
+    let xs = c.self.inside.all.items in
+    let i = c.self.inside.current in
+    let b = c.behind-self.inside in
+    let x : OpenState = record { buffer = b.buffer; whole = b.whole; text_waits = b.text_waits } in
+    let value : x ≡ get_or xs i x = search rules in
+    let is : c.args.self.now ≡ record { all = xs; current = i } = search rules in
+    let r = c.undo.result in
+    let came = match_result r _ _ c.undo.ensures.undid (both_on_err r _ _ c.undo.ensures.same c.undo.ensures.memo) in
+    at_current (λ b d. spec.UndoesTo b c.args.memo.now d c.undo.new.memo r) c.args.self.now xs i x c.undo.new.self is c.self.invariant value
+    (record { exact = c.undo.ensures.exact; came = came })

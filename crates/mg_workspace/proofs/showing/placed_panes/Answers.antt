@@ -1,0 +1,5 @@
+use Rattle.mg_workspace.proofs.ShownWindows.{pane_on}
+use Rattle.mg_workspace.proofs.showing.placed_panes.Goals as goal
+
+pub loop-index-preserved : goal.loop-index-preserved
+loop-index-preserved g c = pane_on _ _ _ _ c.in_ok-pane.pane c.in_ok-pane.ensures c.loop-index.invariant c.in_ok-push_pane.ensures

@@ -1,0 +1,10 @@
+use Rattle.std.proofs.Common.{sym, subst}
+use Rattle.mg_workspace.specs.Excerpts.{AreShown}
+use Rattle.mg_workspace.proofs.ShownWindows.{placed_shown}
+use Rattle.mg_workspace.proofs.workspace.Workspace.place_windows.Goals as goal
+
+pub invariant_of-self : goal.invariant_of-self
+invariant_of-self g c =
+    let s = c.self.inside in
+    let shown = placed_shown s.buffers s.windows c.self.invariant.2 in
+    (c.self.invariant.0, c.self.invariant.1, subst (AreShown s.buffers) (sym c.place_windows.ensures) shown)

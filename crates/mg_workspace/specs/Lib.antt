@@ -1,0 +1,9 @@
+pub mod Mapped
+pub mod Names
+pub mod Buffers
+pub mod Excerpts
+pub mod Workspaces
+pub mod Deeds
+pub mod Saving
+pub mod Opening
+pub mod Showing

@@ -1,0 +1,37 @@
+-- The workspace of one buffer, and buffers that are opened in it.
+use Rattle.std.specs.Prelude.{◌≡◌, ◌-◌, Bool, [], ◌∷◌, length, nat_le, Result, Ok, Err}
+use Rattle.rga_exchange.specs.declared.log.LogEnd.{LogEnd}
+use Rattle.mg_plain.specs.declared.view.Kind.TheVariants.{Plain}
+use Rattle.mg_files.specs.OpenState.{OpenState}
+use Rattle.mg_files.specs.declared.fault.LoadFault.{LoadFault}
+use Rattle.mg_screen.specs.Layout.{layout, window}
+use Rattle.mg_settings.specs.Settings.{Values}
+use Rattle.mg_workspace.specs.declared.workspace.TheConstants.{MAX_BUFFERS}
+use Rattle.mg_workspace.specs.Buffers.{with_buffer}
+use Rattle.mg_workspace.specs.Excerpts.{excerpt, turned}
+use Rattle.mg_workspace.specs.Workspaces.{Workspace}
+
+-- one buffer in one window, from its first line on
+abbrev pub workspace : Values → OpenState → Workspace
+workspace v b = record {
+  buffers = record { all = b ∷ []; current = 0 };
+  notes = record { kill = []; kind = Plain; goal = 0 };
+  windows = layout (window (v.rows - 2) (excerpt 0 0) ∷ []) 0;
+  fill = v.fill;
+  columns = v.columns;
+  replica = v.replica;
+  limit = v.limit;
+}
+
+-- as many buffers are open as may be
+abbrev pub is_full : Workspace → Bool
+is_full w = nat_le MAX_BUFFERS (length w.buffers.all)
+
+-- one more buffer, which is current, and which the current window shows
+abbrev pub with_opened : OpenState → Workspace → Workspace
+with_opened b w = record w { buffers = with_buffer b w.buffers; windows = turned (length w.buffers.all) w.windows }
+
+-- as what was found is loaded, or its fault
+abbrev pub OpensBy : Result (OpenState × LogEnd) LoadFault → Workspace → Workspace → Result LogEnd LoadFault → Type 0
+OpensBy (Ok l) w v r = (v ≡ with_opened l.0 w) × (r ≡ Ok l.1)
+OpensBy (Err fault) w v r = (v ≡ w) × (r ≡ Err fault)

@@ -1,0 +1,72 @@
+-- What windows show of the buffers.
+use Rattle.std.specs.Prelude.{◌≡◌, ℕ, ◌≤◌, false, List, [], length, map, Option, Some, None, slice_get}
+use Rattle.rga_ops.specs.Order.{text, waiting}
+use Rattle.mg_buffer.specs.Sight.{place_of}
+use Rattle.mg_files.specs.OpenState.{OpenState}
+use Rattle.mg_files.specs.Saving.{is_changed}
+use Rattle.mg_screen.specs.declared.size.TheConstants.{MAX_ROWS}
+use Rattle.mg_screen.specs.Layout.{Window, window, Layout, layout, FillsRows}
+use Rattle.mg_screen.specs.Lines.{first_line}
+use Rattle.mg_screen.specs.Screen.{Pane}
+use Rattle.mg_workspace.specs.declared.excerpt.Excerpt.{Excerpt}
+use Rattle.mg_workspace.specs.Excerpts.{excerpt}
+use Rattle.mg_workspace.specs.Workspaces.{Workspace, IsCurrent}
+
+-- the buffer that a window shows
+abbrev pub buffer_of : List OpenState → Window Excerpt → Option OpenState
+buffer_of bs w = slice_get bs w.shown.buffer
+
+-- the first line of a window over a buffer, so that it shows the line of point; over none, as over an empty text
+abbrev pub first_over : Option OpenState → Window Excerpt → ℕ
+first_over (Some b) w = first_line (text b.buffer.content) (place_of b.buffer.content b.buffer.point) w.shown.first w.height
+first_over None w = first_line [] 0 w.shown.first w.height
+
+-- a window from there on
+abbrev pub placed_window : List OpenState → Window Excerpt → Window Excerpt
+placed_window bs w = window w.height (excerpt w.shown.buffer (first_over (buffer_of bs w) w))
+
+-- all windows
+abbrev pub placed : List OpenState → Layout Excerpt → Layout Excerpt
+placed bs l = layout (map (placed_window bs) l.windows) l.current
+
+-- what the window at an index shows once it is placed
+abbrev pub IsPlacedExcerpt : List OpenState → List (Window Excerpt) → ℕ → Excerpt → Type 0
+IsPlacedExcerpt bs ws i x = (w : Window Excerpt) × (slice_get ws i ≡ Some w) × (x ≡ (placed_window bs w).shown)
+
+-- the layout fills the rows of a screen
+abbrev pub IsOnScreen : Layout Excerpt → Type 0
+IsOnScreen l = (rows : ℕ) × FillsRows rows l × (rows ≤ MAX_ROWS)
+
+-- a window over a buffer, as a frame shows it; over none, as over an empty text
+abbrev pub pane_over : Option OpenState → Window Excerpt → Pane
+pane_over (Some b) w = record {
+  text = text b.buffer.content;
+  point = place_of b.buffer.content b.buffer.point;
+  first = w.shown.first;
+  height = w.height;
+  name = b.buffer.name;
+  changed = is_changed b;
+  waiting = length (waiting b.buffer.content);
+}
+pane_over None w = record { text = []; point = 0; first = w.shown.first; height = w.height; name = []; changed = false; waiting = 0 }
+
+abbrev pub pane_of : List OpenState → Window Excerpt → Pane
+pane_of bs w = pane_over (buffer_of bs w) w
+
+-- all windows, each over its buffer
+abbrev pub panes_of : List OpenState → Layout Excerpt → List Pane
+panes_of bs l = map (pane_of bs) l.windows
+
+-- ---- of a workspace
+
+-- the name of its current buffer
+abbrev pub IsName : Workspace → List ℕ → Type 0
+IsName w name = (b : OpenState) × IsCurrent w b × (name ≡ b.buffer.name)
+
+-- each window shows the line of point
+abbrev pub placed_work : Workspace → Workspace
+placed_work w = record w { windows = placed w.buffers.all w.windows }
+
+-- the windows as they are shown
+abbrev pub work_panes : Workspace → List Pane
+work_panes w = panes_of w.buffers.all w.windows

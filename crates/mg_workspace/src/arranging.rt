@@ -1,0 +1,114 @@
+//! Windows that change.
+ghost use Rattle.std.specs.Prelude.{◌≡◌, ℕ, ◌<◌, true, Some, Err, length, slice_get, OnOk, OnErr};
+ghost use Rattle.mg_screen.specs.Layout.{all_shown, heights};
+ghost use Rattle.mg_workspace.specs.declared.fault.DeedFault.TheVariants.{Memory};
+ghost use Rattle.mg_workspace.specs.Deeds as spec;
+ghost use Rattle.mg_workspace.specs.Excerpts.{current_excerpt, ShowThese};
+ghost use Rattle.mg_workspace.specs.Workspaces.{HasList};
+
+use crate::excerpt::Excerpt;
+use crate::fault::{DeedFault, of_windows};
+use crate::workspace::Workspace;
+use mg_buffer::Memo;
+use mg_files::Opened;
+use mg_prompts::Arrangement;
+use mg_screen::{WindowFault, Windows, centred_line};
+use rga_store::TextStore;
+
+/// What the window at an index shows.
+pub(crate) fn excerpt_at(windows: &Windows<Excerpt>, index: usize) -> Excerpt
+    requires { index < length windows.now.windows }
+    ensures { slice_get (all_shown windows.now.windows) index ≡ Some result }
+{
+    windows.shown()[index]
+}
+
+/// The text rows of the window at an index.
+pub(crate) fn height_at(windows: &Windows<Excerpt>, index: usize) -> usize
+    requires { index < length windows.now.windows }
+    ensures { slice_get (heights windows.now.windows) index ≡ Some result }
+{
+    windows.heights()[index]
+}
+
+/// What the current window shows.
+pub(crate) fn current_excerpt(windows: &Windows<Excerpt>) -> Excerpt
+    ensures exact { result ≡ current_excerpt windows.now }
+    ensures within { (n : ℕ) → ShowThese n windows.now.windows → result.buffer < n }
+{
+    excerpt_at(windows, windows.current())
+}
+
+/// The current window shows its buffer, which is this, with point's line in its middle.
+fn recenter<S: TextStore>(windows: &mut Windows<Excerpt>, opened: &Opened<S>, memo: &Memo)
+    requires { opened.now.buffer.listed ≡ true }
+    ensures exact { windows.new ≡ spec.arranged Arrangement.Recenter opened.now windows.old }
+    ensures shown { (n : ℕ) → ShowThese n windows.old.windows → ShowThese n windows.new.windows }
+{
+    let index = windows.current();
+    let height = windows.heights()[index];
+    let buffer = current_excerpt(windows).buffer;
+    let view = opened.buffer.view(memo);
+    let first = centred_line(view.text, view.point, height);
+    windows.show(index, Excerpt { buffer, first });
+}
+
+fn change_windows<S: TextStore>(
+    windows: &mut Windows<Excerpt>,
+    arrangement: Arrangement,
+    opened: &Opened<S>,
+    memo: &Memo,
+) -> Result<(), WindowFault>
+    requires { opened.now.buffer.listed ≡ true }
+    ensures exact { spec.IsWindowAnswer result (spec.window_answer arrangement windows.old) }
+    ensures windows { OnOk result
+        (windows.new ≡ spec.arranged arrangement opened.now windows.old) }
+    ensures same { OnErr result (windows.new ≡ windows.old) }
+    ensures shown { (n : ℕ) → ShowThese n windows.old.windows → ShowThese n windows.new.windows }
+{
+    match arrangement {
+        Arrangement::Split => windows.split(),
+        Arrangement::Remove => windows.remove(),
+        Arrangement::Only => {
+            windows.only();
+            Ok(())
+        }
+        Arrangement::Other => {
+            windows.other();
+            Ok(())
+        }
+        Arrangement::Recenter => {
+            recenter(windows, opened, memo);
+            Ok(())
+        }
+    }
+}
+
+fn lacks_memory(answer: Result<(), WindowFault>) -> bool
+    ensures { result ≡ spec.lacks_memory answer }
+{
+    match answer {
+        Err(WindowFault::Memory) => true,
+        Ok(()) | Err(WindowFault::TooSmall) | Err(WindowFault::OnlyOne) => false,
+    }
+}
+
+impl<S: TextStore> Workspace<S> {
+    /// The windows change, and a run of commands ends, refused or not. Then the buffer of the
+    /// current window is current.
+    pub(crate) fn arrange(&mut self, arrangement: Arrangement) -> Result<(), DeedFault>
+        requires { HasList self.old }
+        ensures arranged { spec.Arranged arrangement self.old self.new result }
+        ensures kept { result ≡ Err Memory → spec.Keeps self.old self.new }
+    {
+        let opened = self.buffers.current();
+        let answer = change_windows(&mut self.windows, arrangement, opened, &self.memo);
+        if lacks_memory(answer) {
+            return Err(DeedFault::Memory);
+        }
+        self.buffers.idle(&mut self.memo);
+        let shown = current_excerpt(&self.windows);
+        self.buffers.go_to(shown.buffer);
+        of_windows(answer)
+    }
+}

@@ -1,0 +1,256 @@
+//! The open buffers, of which one is current.
+ghost use Rattle.std.specs.Prelude.{[], ◌∷◌, IfOk, ◌≡◌, ◌<◌, Some, length, slice_get, chars, nat_eq, OnOk, OnErr, IfErr, IfSome};
+ghost use Rattle.std.specs.Cmp.Lexicographic.{pointwise};
+ghost use Rattle.mg_workspace.specs.Buffers as spec;
+ghost use Rattle.mg_workspace.specs.Saving.{CurrentBecomes, SavesTo};
+ghost use Rattle.mg_files.specs.Calls.{failures_after};
+ghost use Rattle.mg_workspace.specs.Mapped.{mapped_at};
+ghost use Rattle.mg_workspace.specs.Names as names;
+
+use mg_buffer::{BufferFault, Memo};
+use mg_files::{Opened, Port, PortFault};
+use mg_plain::Command;
+use rga_ops::Refusal;
+use rga_store::TextStore;
+use std::alloc::{AllocError, Global};
+use std::marker::Model;
+
+/// Buffers in the order in which they were opened.
+#[derive(Drop)]
+pub struct Buffers<S: TextStore> {
+    all: Vec<Opened<S>>,
+    current: usize,
+}
+
+impl<S: TextStore> Model for Buffers<S> {
+    ghost use Rattle.std.specs.Prelude.{◌<◌, length};
+    ghost use Rattle.mg_workspace.specs.Buffers as spec;
+    ghost use Rattle.std.specs.Coded.{codes};
+    ghost use Rattle.mg_files.specs.OpenState.{open_state_code};
+
+    ghost Value = { spec.Buffers };
+
+    ghost coded = { Prim.hlevel (codes, open_state_code) };
+
+    ghost view = { λ b. record { all = b.all.items; current = b.current } };
+
+    ghost invariant = { λ b. b.current < length b.all.items };
+}
+
+impl<S: TextStore> Buffers<S> {
+    /// One buffer, which is current. `AllocError` alone.
+    pub fn new(alloc: Global, opened: Opened<S>) -> Result<Buffers<S>, AllocError>
+        ensures { IfOk result (λ b. b ≡ record { all = opened ∷ []; current = 0 }) }
+    {
+        let mut all = Vec::new(alloc);
+        all.push(opened)?;
+        Ok(Buffers { all, current: 0 })
+    }
+
+    /// The current buffer.
+    pub fn current(&self) -> &Opened<S>
+        ensures { slice_get self.now.all self.now.current ≡ Some result.now }
+    {
+        &self.all[self.current]
+    }
+
+    /// Its index.
+    pub fn current_index(&self) -> usize
+        ensures exact { result ≡ self.now.current }
+        ensures within { result < length self.now.all }
+    {
+        self.current
+    }
+
+    /// How many there are.
+    pub fn count(&self) -> usize
+        ensures { result ≡ length self.now.all }
+    {
+        self.all.as_slice().len()
+    }
+
+    /// The buffer at an index.
+    pub fn at(&self, index: usize) -> &Opened<S>
+        requires { index < length self.now.all }
+        ensures { slice_get self.now.all index ≡ Some result.now }
+    {
+        &self.all[index]
+    }
+
+    /// The index of the buffer of a name.
+    pub fn named(&self, name: &[char]) -> Option<usize>
+        ensures exact { result ≡ names.named name.now self.now.all }
+        ensures within { IfSome result (λ i. i < length self.now.all) }
+    {
+        self.all.iter().position(|b| is_named(b, name))
+    }
+
+    /// The index of the buffer that an answer asks for. Without a name that is another one.
+    pub fn asked(&self, name: &[char], otherwise: usize) -> Option<usize>
+        requires { otherwise < length self.now.all }
+        ensures exact { result ≡ names.asked name.now otherwise self.now.all }
+        ensures within { IfSome result (λ i. i < length self.now.all) }
+    {
+        if name.is_empty() {
+            return Some(otherwise);
+        }
+        self.named(name)
+    }
+
+    /// The index behind the current one, round.
+    pub fn next(&self) -> usize
+        ensures exact { result ≡ names.next_round (length self.now.all) self.now.current }
+        ensures within { result < length self.now.all }
+    {
+        if self.current + 1 < self.all.as_slice().len() {
+            self.current + 1
+        } else {
+            0
+        }
+    }
+
+    /// The buffer at an index is current.
+    pub fn go_to(&mut self, index: usize)
+        requires { index < length self.old.all }
+        ensures { self.new ≡ record self.old { current = index } }
+    {
+        self.current = index;
+    }
+
+    /// One more buffer, which is current. `AllocError` alone, and nothing changes then.
+    pub fn open(&mut self, opened: Opened<S>) -> Result<(), AllocError>
+        ensures opened { OnOk result (self.new ≡ spec.with_buffer opened self.old) }
+        ensures same { OnErr result (self.new ≡ self.old) }
+    {
+        let index = self.all.as_slice().len();
+        self.all.push(opened)?;
+        self.current = index;
+        Ok(())
+    }
+
+    /// The buffer at an index is no more. Where it was current, the first of those left is.
+    pub fn remove(&mut self, index: usize)
+        requires within { index < length self.old.all }
+        requires others { 1 < length self.old.all }
+        ensures { self.new ≡ spec.without_buffer index self.old }
+    {
+        let current = moved(index, self.current);
+        let _removed = self.all.remove(index);
+        self.current = current;
+    }
+
+    /// The buffer at an index is listed.
+    fn list_at(&mut self, index: usize) -> Result<(), Refusal>
+        requires { index < length self.old.all }
+        ensures listed { let all = mapped_at spec.listed index self.old.all in
+            OnOk result (self.new ≡ record self.old { all = all }) }
+        ensures same { OnErr result (self.new ≡ self.old) }
+        ensures memory { IfErr result (λ e. e ≡ Refusal.Memory) }
+    {
+        self.all[index].buffer.list()
+    }
+
+    /// All buffers are listed. Where that finds no memory, some of them may be.
+    pub fn list_all(&mut self) -> Result<(), Refusal>
+        ensures listed { OnOk result (self.new ≡ spec.all_listed self.old) }
+        ensures kept { OnErr result (spec.all_unlisted self.new ≡ spec.all_unlisted self.old) }
+        ensures memory { IfErr result (λ e. e ≡ Refusal.Memory) }
+    {
+        for index in 0..self.all.as_slice().len() {
+            self.list_at(index)?;
+        }
+        Ok(())
+    }
+
+    /// Whether any buffer is changed.
+    pub fn are_changed(&self) -> bool
+        ensures { result ≡ spec.are_changed self.now }
+    {
+        self.all.iter().any(|b| b.is_changed())
+    }
+
+    /// The current buffer is listed.
+    pub fn list(&mut self) -> Result<(), Refusal>
+        ensures listed { OnOk result (spec.AtCurrent spec.IsListed self.old self.new) }
+        ensures same { OnErr result (self.new ≡ self.old) }
+        ensures memory { IfErr result (λ e. e ≡ Refusal.Memory) }
+    {
+        self.all[self.current].buffer.list()
+    }
+
+    /// The current buffer runs a command.
+    pub fn run(
+        &mut self,
+        command: &Command,
+        argument: u16,
+        memo: &mut Memo,
+        fill: u16,
+    ) -> Result<(), BufferFault>
+        ensures { spec.AtCurrent
+            (λ b d. spec.RunsTo command.now argument fill b memo.old d memo.new result) self.old self.new }
+    {
+        let index = self.current;
+        self.all[index].buffer.run(command, argument, memo, fill)
+    }
+
+    /// The current buffer undoes.
+    pub fn undo(&mut self, memo: &mut Memo) -> Result<(), BufferFault>
+        ensures { spec.AtCurrent
+            (λ b d. spec.UndoesTo b memo.old d memo.new result) self.old self.new }
+    {
+        self.all[self.current].buffer.undo(memo)
+    }
+
+    /// A run of commands ends.
+    pub fn idle(&mut self, memo: &mut Memo)
+        ensures { spec.AtCurrent (λ b d. spec.IdlesTo b memo.old d memo.new) self.old self.new }
+    {
+        self.all[self.current].buffer.idle(memo);
+    }
+
+    /// The current buffer is saved.
+    pub fn save<P: Port>(&mut self, port: &mut P) -> Result<bool, PortFault>
+        ensures saves { CurrentBecomes
+            (SavesTo result (P.calls port.old) (P.calls port.new)) self.old self.new }
+        ensures device { P.failures port.new ≡ failures_after result (P.failures port.old) }
+    {
+        self.all[self.current].save(port)
+    }
+}
+
+/// Whether the characters are a buffer's name.
+fn is_named<S: TextStore>(opened: &Opened<S>, name: &[char]) -> bool
+    ensures { result ≡ names.is_named name.now opened.now }
+{
+    is_spelled(opened.buffer.name(), name)
+}
+
+/// Whether a text has these characters.
+fn is_spelled(text: &str, characters: &[char]) -> bool
+    ensures { result ≡ pointwise nat_eq (chars text.now) characters.now }
+{
+    let mut count = 0;
+    for c in text.chars() {
+        if count >= characters.len() {
+            return false;
+        }
+        if characters[count] != c {
+            return false;
+        }
+        count += 1;
+    }
+    count == characters.len()
+}
+
+/// Where a buffer stands once the one at an index is removed. What was that one is the first.
+pub(crate) fn moved(gone: usize, index: usize) -> usize
+    ensures { result ≡ names.moved gone index }
+{
+    if index == gone {
+        0
+    } else if gone < index {
+        index - 1
+    } else {
+        index
+    }
+}

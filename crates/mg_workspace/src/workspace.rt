@@ -1,0 +1,167 @@
+//! What is worked on: the buffers, what commands leave for the next one, and the windows.
+ghost use Rattle.std.specs.Prelude.{◌≡◌, ◌<◌, ◌≤◌, IfOk, OnOk, OnErr, IfErr};
+ghost use Rattle.mg_files.specs.Calls.{failures_after};
+ghost use Rattle.mg_files.specs.declared.fault.LoadFault.TheVariants.{Memory};
+ghost use Rattle.mg_screen.specs.declared.size.TheConstants.{MIN_COLUMNS, MAX_COLUMNS};
+ghost use Rattle.mg_workspace.specs.Deeds.{Keeps};
+ghost use Rattle.mg_workspace.specs.Opening.{workspace};
+ghost use Rattle.mg_workspace.specs.Saving.{Saves};
+ghost use Rattle.mg_workspace.specs.Workspaces as spec;
+
+use crate::buffers::Buffers;
+use crate::excerpt::Excerpt;
+use mg_buffer::Memo;
+use mg_files::{LoadFault, Opened, Port, PortFault};
+use mg_prompts::Scene;
+use mg_screen::Windows;
+use mg_settings::Settings;
+use rga_ops::Refusal;
+use rga_store::TextStore;
+use std::alloc::Global;
+use std::marker::Model;
+
+/// How many buffers are open at most.
+pub const MAX_BUFFERS: usize = 64;
+
+/// The buffers with what commands leave for the next one, and the windows, each of which shows a
+/// buffer from a line on. The current window shows the current buffer.
+#[derive(Drop)]
+pub struct Workspace<S: TextStore> {
+    pub(crate) alloc: Global,
+    pub(crate) buffers: Buffers<S>,
+    pub(crate) memo: Memo,
+    pub(crate) windows: Windows<Excerpt>,
+    /// The fill column.
+    pub(crate) fill: u16,
+    /// The columns of the screen.
+    pub(crate) columns: usize,
+    /// The replica and the limit of buffers that are opened.
+    pub(crate) replica: u16,
+    pub(crate) limit: usize,
+}
+
+/// The first buffer, from its first line on.
+const BEGINNING: Excerpt = Excerpt {
+    buffer: 0,
+    first: 0,
+};
+
+impl<S: TextStore> Model for Workspace<S> {
+    ghost use Rattle.std.specs.Prelude.{◌≤◌};
+    ghost use Rattle.mg_screen.specs.declared.size.TheConstants.{MIN_COLUMNS, MAX_COLUMNS};
+    ghost use Rattle.mg_workspace.specs.Workspaces as spec;
+    ghost use Rattle.std.specs.Coded.{codes};
+    ghost use Rattle.mg_files.specs.OpenState.{open_state_code};
+    ghost use Rattle.mg_screen.specs.Layout.{layout_code};
+    ghost use Rattle.mg_workspace.specs.Excerpts.{AreShown, excerpt_code};
+
+    ghost Value = { spec.Workspace };
+
+    ghost coded = { Prim.hlevel (codes, open_state_code, layout_code excerpt_code) };
+
+    ghost view = { λ w. record {
+      buffers = w.buffers;
+      notes = w.memo;
+      windows = w.windows;
+      fill = w.fill;
+      columns = w.columns;
+      replica = w.replica;
+      limit = w.limit;
+    } };
+
+    ghost invariant = { λ w.
+        (MIN_COLUMNS ≤ w.columns) × (w.columns ≤ MAX_COLUMNS) × AreShown w.buffers w.windows };
+}
+
+impl<S: TextStore> Workspace<S> {
+    /// One buffer in one window, from its first line on. `Memory` alone.
+    pub fn new(
+        alloc: Global,
+        settings: &Settings,
+        opened: Opened<S>,
+    ) -> Result<Workspace<S>, LoadFault>
+        ensures exact { IfOk result (λ w. w ≡ workspace settings.now opened) }
+        ensures memory { IfErr result (λ e. e ≡ Memory) }
+    {
+        let buffers = Buffers::new(alloc, opened)?;
+        let Ok(windows) = Windows::new(alloc, settings.rows(), BEGINNING) else {
+            return Err(LoadFault::Memory);
+        };
+        Ok(Workspace {
+            alloc,
+            buffers,
+            memo: Memo::new(alloc),
+            windows,
+            fill: settings.values().fill,
+            columns: settings.columns(),
+            replica: settings.values().replica,
+            limit: settings.values().limit,
+        })
+    }
+
+    /// The current buffer. Takes no memory.
+    pub fn current(&self) -> &Opened<S>
+        ensures { spec.IsCurrent self.now result.now }
+    {
+        self.buffers.current()
+    }
+
+    /// The index of the current window from the top, from 0. Takes no memory.
+    pub fn window(&self) -> usize
+        ensures { result ≡ self.now.windows.current }
+    {
+        self.windows.current()
+    }
+
+    /// Saves the current buffer, as `Opened::save` does, and answers whether there was something to
+    /// save. Faults: those of `Opened::save`.
+    pub fn save<P: Port>(&mut self, port: &mut P) -> Result<bool, PortFault>
+        ensures saves { Saves result (P.calls port.old) (P.calls port.new) self.old self.new }
+        ensures device { P.failures port.new ≡ failures_after result (P.failures port.old) }
+    {
+        self.buffers.save(port)
+    }
+
+    /// Lists the current buffer: its text and the places of point and mark are then at hand.
+    /// `Memory` alone, and nothing changed then.
+    pub fn list(&mut self) -> Result<(), Refusal>
+        ensures listed { OnOk result (spec.IsListed self.old self.new) }
+        ensures same { OnErr result (self.new ≡ self.old) }
+        ensures memory { IfErr result (λ e. e ≡ Refusal.Memory) }
+    {
+        self.buffers.list()
+    }
+
+    /// Lists all buffers. `Memory` alone: nothing changed then, but that some may be listed.
+    pub fn list_all(&mut self) -> Result<(), Refusal>
+        ensures listed { OnOk result (self.new ≡ spec.all_listed self.old) }
+        ensures kept { OnErr result (Keeps self.old self.new) }
+        ensures memory { IfErr result (λ e. e ≡ Refusal.Memory) }
+    {
+        self.buffers.list_all()
+    }
+
+    /// The columns of the screen.
+    pub fn columns(&self) -> usize
+        ensures exact { result ≡ self.now.columns }
+        ensures from { MIN_COLUMNS ≤ result }
+        ensures to { result ≤ MAX_COLUMNS }
+    {
+        self.columns
+    }
+
+    /// What a step is decided from. Takes no memory.
+    pub fn scene<'a>(&'a self) -> Scene<'a>
+        requires { spec.HasList self.now }
+        ensures { spec.Shows self.now result }
+    {
+        let current = self.buffers.current();
+        let view = current.buffer.view(&self.memo);
+        Scene {
+            text: view.text,
+            point: view.point,
+            rows: self.windows.heights()[self.windows.current()],
+            changed: self.buffers.are_changed(),
+        }
+    }
+}
