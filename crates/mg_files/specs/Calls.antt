@@ -1,11 +1,13 @@
--- The calls of a port that write, and what a port tells of them.
+-- The calls of a port that write a file, those for a link, and what a port tells of them.
 use Rattle.std.specs.Prelude.{◌≡◌, ℕ, List, [], ◌∷◌, ◌++◌, Bool, true, false, Option, Some, Result, Ok, Err, IfSome}
 use Rattle.rga_lines.specs.Counting.{one_more}
 use Rattle.mg_files.specs.declared.port.CallKind.{CallKind}
 use Rattle.mg_files.specs.declared.port.PortFault.{PortFault}
 use Rattle.mg_files.specs.declared.port.PortFault.TheVariants.{File, Memory}
+use Rattle.mg_files.specs.declared.port.LinkFault.{LinkFault}
+use Rattle.mg_files.specs.declared.port.LinkFault.TheVariants as link
 
--- a call under a name with these bytes, and whether it was answered `Ok`
+-- A call under a name with these bytes, and whether it was answered `Ok`. A call for a link has neither.
 pub record Call : Type 0 where
   pub kind : CallKind
   pub name : List ℕ
@@ -15,6 +17,9 @@ pub record Call : Type 0 where
 -- one that was
 abbrev pub call : CallKind → List ℕ → List ℕ → Call
 call kind name bytes = record { kind = kind; name = name; bytes = bytes; answered = true }
+
+abbrev pub link_call : CallKind → Call
+link_call kind = call kind [] []
 
 abbrev pub refused : Call → Call
 refused c = record c { answered = false }
@@ -29,6 +34,16 @@ abbrev pub told : {A : Type 0} → Result A PortFault → Call → List Call
 told (Ok a) c = c ∷ []
 told (Err fault) c = refusals fault c
 
+-- the same of a call for a link
+abbrev pub link_refusals : LinkFault → Call → List Call
+link_refusals link.Socket c = refused c ∷ []
+link_refusals link.NoPort c = refused c ∷ []
+link_refusals link.Memory c = []
+
+abbrev pub link_told : {A : Type 0} → Result A LinkFault → Call → List Call
+link_told (Ok a) c = c ∷ []
+link_told (Err fault) c = link_refusals fault c
+
 -- a port that tells its calls tells these more
 abbrev pub Adds : Option (List Call) → Option (List Call) → List Call → Type 0
 Adds old new more = IfSome old (λ calls. new ≡ Some (calls ++ more))
@@ -38,3 +53,10 @@ abbrev pub failures_after : {A : Type 0} → Result A PortFault → ℕ → ℕ
 failures_after (Ok a) n = n
 failures_after (Err File) n = one_more n
 failures_after (Err Memory) n = n
+
+-- the same of a call for a link
+abbrev pub failures_after_link : {A : Type 0} → Result A LinkFault → ℕ → ℕ
+failures_after_link (Ok a) n = n
+failures_after_link (Err link.Socket) n = one_more n
+failures_after_link (Err link.NoPort) n = n
+failures_after_link (Err link.Memory) n = n

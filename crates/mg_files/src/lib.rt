@@ -1,6 +1,6 @@
 //! Buffers and their files: what a buffer is loaded from, and how it is saved.
 //!
-//! A `Port` is where files are. A buffer has two of them under its name: a log with its operations,
+//! A `Port` is where files are, and where peers are met. A buffer has two of them under its name: a log with its operations,
 //! and its text in UTF-8. `Opened` is a buffer with what is still to be written of it. The crate
 //! stands on mg_buffer for the buffers, on rga_exchange and rga_lines for logs, on rga_store and
 //! rga_doc for texts, and is generic over any `TextStore` and any port. The layer above may rest
@@ -18,4 +18,4 @@ mod saving;
 
 pub use fault::LoadFault;
 pub use opened::Opened;
-pub use port::{CallKind, Found, Port, PortFault};
+pub use port::{CallKind, Found, LinkFault, Port, PortFault};

@@ -1,11 +1,12 @@
-//! Where the files of buffers are.
+//! Where the files of buffers are, and peers.
 ghost use Rattle.std.specs.Prelude.{◌≡◌, ℕ, List, Option};
-ghost use Rattle.mg_files.specs.Calls.{Call, call, Adds, told, failures_after};
+ghost use Rattle.mg_files.specs.Calls.{Call, call, link_call, Adds, told, link_told, failures_after, failures_after_link};
 
 use std::alloc::AllocError;
+use std::io::{Read, Write};
 use std::marker::Model;
 
-/// Why a port did not do what it was asked.
+/// Why a port did not do what it was asked of its files.
 #[derive(Clone, Copy, Debug, PartialEq, Eq)]
 pub enum PortFault {
     /// A file could not be read or written.
@@ -25,12 +26,37 @@ impl From<AllocError> for PortFault {
     }
 }
 
-/// Which of a port's calls that write.
+/// Why a port did not do what it was asked of a link.
+#[derive(Clone, Copy, Debug, PartialEq, Eq)]
+pub enum LinkFault {
+    /// A link could not be opened, or sending on it could not be ended.
+    Socket,
+    /// There is nowhere to meet a peer.
+    NoPort,
+    /// A growth of memory was refused.
+    Memory,
+}
+
+impl From<AllocError> for LinkFault {
+    ghost use Rattle.std.specs.Prelude.{◌≡◌};
+    ghost use Rattle.mg_files.specs.declared.port.LinkFault.TheVariants.{Memory};
+
+    ghost from_gives = { λ _ fault. fault ≡ Memory };
+
+    fn from(_: AllocError) -> LinkFault {
+        LinkFault::Memory
+    }
+}
+
+/// Which of the calls that a port tells: those that write a file, and those for a link.
 #[derive(Clone, Copy, Debug, PartialEq, Eq)]
 pub enum CallKind {
     Append,
     Replace,
     PutText,
+    Connect,
+    Accept,
+    Finish,
 }
 
 /// What is there under a name: the log, and the text.
@@ -52,13 +78,18 @@ impl Model for Found {
     } };
 }
 
-/// A place for the files of buffers, which has a log and a text under a name.
+/// A place for the files of buffers, which has a log and a text under a name, and where peers are
+/// met, one at a time.
 ///
-/// A port may tell its calls that write, in their order: one in memory does, one of real files need
-/// not. A call that the port refuses with `File` is told too, as refused. With `Memory` no call is
-/// told: memory was wanting before anything was done.
+/// A port may tell its calls that write a file, and those for a link, in their order: one in memory
+/// does, one of real files need not. A call that the port refuses with `File`, `Socket` or `NoPort`
+/// is told too, as refused. With `Memory` no call is told: memory was wanting before anything was
+/// done. What passes over a link is no call of the port: the link may tell its bytes.
 pub trait Port {
-    /// The calls so far that write, where the port tells them.
+    /// What is read from a peer and written to it.
+    type Link: Read + Write + Drop;
+
+    /// The calls so far that write a file, and those for a link, where the port tells them.
     ghost calls: { Self → Option (List Call) };
 
     /// How many calls failed.
@@ -89,7 +120,26 @@ pub trait Port {
             (told result (call CallKind.PutText name.now bytes.now)) }
         ensures device { failures self.new ≡ failures_after result (failures self.old) };
 
-    /// How many calls failed: `File` adds one, up to the greatest `u64`, and nothing else does.
+    /// Opens a link to a peer that waits for one.
+    fn connect(&mut self) -> Result<Self::Link, LinkFault>
+        ensures tells { Adds (calls self.old) (calls self.new)
+            (link_told result (link_call CallKind.Connect)) }
+        ensures device { failures self.new ≡ failures_after_link result (failures self.old) };
+
+    /// Waits for a peer, and opens the link that it asks for.
+    fn accept(&mut self) -> Result<Self::Link, LinkFault>
+        ensures tells { Adds (calls self.old) (calls self.new)
+            (link_told result (link_call CallKind.Accept)) }
+        ensures device { failures self.new ≡ failures_after_link result (failures self.old) };
+
+    /// Ends the sending on a link: the peer finds the end there. What it sends can still be read.
+    fn finish(&mut self, link: &mut Self::Link) -> Result<(), LinkFault>
+        ensures tells { Adds (calls self.old) (calls self.new)
+            (link_told result (link_call CallKind.Finish)) }
+        ensures device { failures self.new ≡ failures_after_link result (failures self.old) };
+
+    /// How many calls failed: `File` and `Socket` add one, up to the greatest `u64`, and nothing
+    /// else does.
     fn failures(&self) -> u64
         ensures { result ≡ failures self.now };
 }

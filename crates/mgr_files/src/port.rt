@@ -1,32 +1,42 @@
-//! A port of files.
-ghost use Rattle.std.specs.Prelude.{◌≡◌, IfErr};
-ghost use Rattle.mg_files.specs.Calls.{failures_after};
-ghost use Rattle.mg_files.specs.declared.port.PortFault.TheVariants.{Memory};
+//! A port of files and sockets.
+ghost use Rattle.std.specs.Prelude.{◌≡◌, Bool, Err, IfErr};
+ghost use Rattle.mg_files.specs.Calls.{failures_after, failures_after_link};
+ghost use Rattle.mg_files.specs.declared.port.PortFault.TheVariants.{File, Memory};
 
 use crate::files::{append, read_if_there, replace, replace_kept};
-use mg_files::{Found, Port, PortFault};
+use crate::sockets::{accept_at, connect_to};
+use mg_files::{Found, LinkFault, Port, PortFault};
 use std::io;
 use std::io::ErrorKind;
+use std::net::{Net, OpenStream, Shutdown};
 use std::rt::Files;
 
 /// Files by their paths: the text of a buffer under its name, its log under that name with `.ops`
 /// behind it. It makes two further files, with `.ops.new` and `.ops.text` behind the name, which
-/// then take the names of the log and of the text.
+/// then take the names of the log and of the text. Peers are met on 127.0.0.1, at a port number
+/// that may be left out.
 #[derive(Drop)]
-pub struct FilePort<R: Files + AllocGlobal + Drop> {
+pub struct FilePort<R: Files + Net + AllocGlobal + Drop> {
     rt: R,
+    number: Option<u16>,
     failures: u64,
 }
 
-impl<R: Files + AllocGlobal + Drop> FilePort<R> {
-    /// A port of which no call has failed. Takes no memory.
-    pub fn new(rt: R) -> FilePort<R>
-        ensures { result.failures ≡ 0 }
+impl<R: Files + Net + AllocGlobal + Drop> FilePort<R> {
+    /// A port of which no call has failed, and which meets peers at this number. Without one it
+    /// answers `NoPort` where it is asked for a link. Takes no memory and opens nothing.
+    pub fn new(rt: R, number: Option<u16>) -> FilePort<R>
+        ensures failures { result.failures ≡ 0 }
+        ensures number { result.number ≡ number }
     {
-        FilePort { rt, failures: 0 }
+        FilePort {
+            rt,
+            number,
+            failures: 0,
+        }
     }
 
-    /// What a call answered, in a port's words; a failure of the device is counted.
+    /// What a call for a file answered, in a port's words; a failure of the device is counted.
     fn told<T: Drop>(&mut self, answer: io::Result<T>) -> Result<T, PortFault>
         ensures { self.new.failures ≡ failures_after result self.old.failures }
     {
@@ -34,10 +44,31 @@ impl<R: Files + AllocGlobal + Drop> FilePort<R> {
             Ok(value) => Ok(value),
             Err(error) if error.kind() == ErrorKind::OutOfMemory => Err(PortFault::Memory),
             Err(_) => {
-                self.failures = self.failures.saturating_add(1);
+                self.count_failure();
                 Err(PortFault::File)
             }
         }
+    }
+
+    /// The same of a call for a link.
+    fn link_told<T: Drop>(&mut self, answer: io::Result<T>) -> Result<T, LinkFault>
+        ensures { self.new.failures ≡ failures_after_link result self.old.failures }
+    {
+        match answer {
+            Ok(value) => Ok(value),
+            Err(error) if error.kind() == ErrorKind::OutOfMemory => Err(LinkFault::Memory),
+            Err(_) => {
+                self.count_failure();
+                Err(LinkFault::Socket)
+            }
+        }
+    }
+
+    /// Counts a failure.
+    fn count_failure(&mut self)
+        ensures { self.new.failures ≡ failures_after {A = Bool} (Err File) self.old.failures }
+    {
+        self.failures = self.failures.saturating_add(1);
     }
 
     /// The name with more behind it.
@@ -65,8 +96,10 @@ impl<R: Files + AllocGlobal + Drop> FilePort<R> {
     }
 }
 
-impl<R: Files + AllocGlobal + Drop> Port for FilePort<R> {
+impl<R: Files + Net + AllocGlobal + Drop> Port for FilePort<R> {
     ghost use Rattle.std.specs.Prelude.{None};
+
+    type Link = R::Stream;
 
     ghost calls = { λ _. None };
 
@@ -101,6 +134,29 @@ impl<R: Files + AllocGlobal + Drop> Port for FilePort<R> {
         let beside = self.name_with(name, ".ops.text")?;
         let answer = replace_kept(&self.rt, name, beside.as_str(), bytes);
         self.told(answer)
+    }
+
+    /// To the peer that listens at the number.
+    fn connect(&mut self) -> Result<R::Stream, LinkFault> {
+        let Some(number) = self.number else {
+            return Err(LinkFault::NoPort);
+        };
+        let answer = connect_to(&self.rt, number);
+        self.link_told(answer)
+    }
+
+    /// Listens at the number until one peer has connected, and no longer.
+    fn accept(&mut self) -> Result<R::Stream, LinkFault> {
+        let Some(number) = self.number else {
+            return Err(LinkFault::NoPort);
+        };
+        let answer = accept_at(&self.rt, number);
+        self.link_told(answer)
+    }
+
+    fn finish(&mut self, link: &mut R::Stream) -> Result<(), LinkFault> {
+        let answer = link.shutdown(Shutdown::Write);
+        self.link_told(answer)
     }
 
     fn failures(&self) -> u64 {

@@ -1,2 +1,3 @@
+pub mod Peers
 pub mod Report
 pub mod Status

@@ -1,6 +1,7 @@
 //! The job of the command line, done, and what the shell is told of it.
 ghost use Rattle.std.specs.Prelude.{◌≡◌, ◌≤◌, MatchResult};
 ghost use Rattle.mgr_shell.specs.Status.{IsStatusOf, IsStatusOfJob, IsStatusOfEdit, IsStatusOfPrint, IsStatusOfShow};
+ghost use Rattle.mgr_shell.specs.Peers as spec;
 
 use crate::report::Report;
 use mg_files::Port;
@@ -15,18 +16,29 @@ use std::alloc::Global;
 use std::fmt::Display;
 use std::io;
 use std::io::{Read, Write};
+use std::net::Net;
 use std::rt::{Env, Files};
 
-/// Does the job that the command line asks for, by standard input and output and by files, and
-/// answers the exit status that `do_job` does.
-pub fn run<R: Env + Files + AllocGlobal + Input + Print + Eprint>(rt: &R) -> u8
+/// Does the job that the command line asks for, by standard input and output, by files and by
+/// sockets of this machine, and answers the exit status that `do_job` does.
+pub fn run<R: Env + Files + Net + AllocGlobal + Input + Print + Eprint>(rt: &R) -> u8
     ensures { result ≤ 4 }
 {
     let job = words(rt).and_then(|words| job_of(rt.alloc(), &words));
     let mut reader = Counted::new(rt.reader());
     let mut writer = Counted::new(io::writer(rt));
-    let mut port = FilePort::new(rt);
+    let mut port = FilePort::new(rt, port_number(&job));
     do_job(rt, &job, &mut reader, &mut writer, &mut port)
+}
+
+/// The number of the port at which a job meets peers, where the command line gives one.
+fn port_number(job: &Result<Job, JobFault>) -> Option<u16>
+    ensures { result ≡ spec.port_number job.now }
+{
+    match job {
+        Ok(Job::Edit(settings)) => settings.values().port,
+        _ => None,
+    }
 }
 
 /// Does a job, or tells why there is none, and answers the exit status: 0 done, 1 the input is

@@ -12,6 +12,9 @@ fn push_call(line: &mut String, alloc: Global, call: &MadeCall) -> Result<(), Al
         CallKind::Append => "append",
         CallKind::Replace => "replace",
         CallKind::PutText => "text",
+        CallKind::Connect => "connect",
+        CallKind::Accept => "accept",
+        CallKind::Finish => "finish",
     };
     let refused = if call.answered { "" } else { "!" };
     let length = call.bytes.len();

@@ -2,7 +2,7 @@
 use mg_files::CallKind;
 use std::marker::Model;
 
-/// A call that writes, as it was made, and whether it was answered `Ok`.
+/// A call that is told, as it was made, and whether it was answered `Ok`.
 #[derive(Debug, Drop)]
 pub struct MadeCall {
     pub kind: CallKind,

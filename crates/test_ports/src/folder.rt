@@ -72,7 +72,7 @@ impl Folder {
     ) -> Result<Vec<u8>, AllocError> {
         let old = match kind {
             CallKind::Append => self.log(name).unwrap_or(&[]),
-            CallKind::Replace | CallKind::PutText => &[],
+            _ => &[],
         };
         let mut file = Vec::from_slice(self.alloc, old)?;
         file.extend_from_slice(bytes)?;
@@ -95,6 +95,7 @@ impl Entry {
         match kind {
             CallKind::Append | CallKind::Replace => self.log = Some(file),
             CallKind::PutText => self.text = Some(file),
+            CallKind::Connect | CallKind::Accept | CallKind::Finish => {}
         }
     }
 }

@@ -1,14 +1,14 @@
 //! A port in memory.
 ghost use Rattle.std.specs.Prelude.{◌≡◌, [], ◌∷◌, ◌++◌, Some, IfErr, OnOk, OnErr};
-ghost use Rattle.mg_files.specs.Calls.{call, told, failures_after};
-ghost use Rattle.mg_files.specs.declared.port.PortFault.TheVariants.{Memory};
+ghost use Rattle.mg_files.specs.Calls.{call, link_call, told, link_told, failures_after, failures_after_link};
 
 use crate::call::MadeCall;
 use crate::folder::{Folder, copy_of};
-use mg_files::{CallKind, Found, Port, PortFault};
+use crate::peer::{MemoryLink, Peer};
+use mg_files::{CallKind, Found, LinkFault, Port, PortFault};
 use std::alloc::{AllocError, Global};
 
-/// Holds files by name, and tells the calls that write.
+/// Holds files by name and a peer, and tells its calls.
 #[derive(Drop)]
 pub struct MemoryPort {
     alloc: Global,
@@ -22,10 +22,12 @@ pub struct MemoryPort {
     pub begun: usize,
     /// Whether a load is refused from now on.
     pub is_away: bool,
+    /// Who is met. Without a peer there is no port to meet one at.
+    pub peer: Option<Peer>,
 }
 
 impl MemoryPort {
-    /// A port with no files, which refuses nothing.
+    /// A port with no files and no peer, which refuses nothing else.
     pub fn new(alloc: Global) -> MemoryPort {
         MemoryPort {
             alloc,
@@ -35,6 +37,7 @@ impl MemoryPort {
             refused: None,
             begun: 0,
             is_away: false,
+            peer: None,
         }
     }
 
@@ -91,20 +94,49 @@ impl MemoryPort {
         Err(PortFault::File)
     }
 
-    /// Notes a call.
+    /// Opens a link, or refuses it.
+    fn open(&mut self, kind: CallKind) -> Result<MemoryLink, LinkFault>
+        ensures tells { self.new.calls.items
+            ≡ self.old.calls.items ++ link_told result (link_call kind) }
+        ensures device { self.new.failures ≡ failures_after_link result self.old.failures }
+    {
+        let Some(peer) = &self.peer else {
+            self.note(kind, "", &[], false)?;
+            return Err(LinkFault::NoPort);
+        };
+        let link = peer.link()?;
+        self.ask(kind)?;
+        Ok(link)
+    }
+
+    /// Makes a call for a link, or refuses it.
+    fn ask(&mut self, kind: CallKind) -> Result<(), LinkFault>
+        ensures tells { self.new.calls.items
+            ≡ self.old.calls.items ++ link_told result (link_call kind) }
+        ensures device { self.new.failures ≡ failures_after_link result self.old.failures }
+    {
+        let answered = self.refused != Some(kind);
+        self.note(kind, "", &[], answered)?;
+        if !answered {
+            self.failures = self.failures.saturating_add(1);
+            return Err(LinkFault::Socket);
+        }
+        Ok(())
+    }
+
+    /// Notes a call. `AllocError` alone.
     fn note(
         &mut self,
         kind: CallKind,
         name: &str,
         bytes: &[u8],
         answered: bool,
-    ) -> Result<(), PortFault>
+    ) -> Result<(), AllocError>
         ensures noted { OnOk result (self.new ≡ record self.old { calls = self.new.calls }) }
         ensures made { OnOk result (self.new.calls.items ≡ self.old.calls.items
             ++ record (call kind name.now bytes.now) { answered = answered } ∷ []) }
         ensures same { OnErr result ((self.new.calls.items ≡ self.old.calls.items)
             × (self.new.failures ≡ self.old.failures)) }
-        ensures memory { IfErr result (λ e. e ≡ Memory) }
     {
         let made = MadeCall {
             kind,
@@ -112,14 +144,17 @@ impl MemoryPort {
             bytes: Vec::from_slice(self.alloc, bytes)?,
             answered,
         };
-        if self.calls.push(made).is_err() {
-            return Err(PortFault::Memory);
+        self.calls.push(made)?;
+        if let Some(peer) = &self.peer {
+            peer.count_call();
         }
         Ok(())
     }
 }
 
 impl Port for MemoryPort {
+    type Link = MemoryLink;
+
     ghost calls = { λ p. Some p.calls.items };
 
     ghost failures = { λ p. p.failures };
@@ -145,6 +180,18 @@ impl Port for MemoryPort {
 
     fn put_text(&mut self, name: &str, bytes: &[u8]) -> Result<(), PortFault> {
         self.call(CallKind::PutText, name, bytes)
+    }
+
+    fn connect(&mut self) -> Result<MemoryLink, LinkFault> {
+        self.open(CallKind::Connect)
+    }
+
+    fn accept(&mut self) -> Result<MemoryLink, LinkFault> {
+        self.open(CallKind::Accept)
+    }
+
+    fn finish(&mut self, _link: &mut MemoryLink) -> Result<(), LinkFault> {
+        self.ask(CallKind::Finish)
     }
 
     fn failures(&self) -> u64 {

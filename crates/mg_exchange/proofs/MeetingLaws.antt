@@ -1,0 +1,131 @@
+-- What is known of the steps of an exchange, put together.
+use Rattle.std.proofs.Common.{◌≡◌, inl, inr, ℕ, Bool, true, false, List, ◌++◌, Option, Some, None, Result, Ok, Err, IfOk, IfErr, OnOk, if◌then◌else◌, refl, sym, ap, ◌∙◌, subst, append_assoc}
+use Rattle.rga_ops.specs.Content.{IsWithin, content_of}
+use Rattle.rga_ops.proofs.ContentLaws.{within_itself, within_chain, within_join}
+use Rattle.rga_lines.specs.Log.{operations_of}
+use Rattle.rga_exchange.specs.declared.fault.ReceiveFault.{ReceiveFault}
+use Rattle.rga_exchange.specs.declared.fault.SendFault.{SendFault}
+use Rattle.mg_buffer.specs.State.{State}
+use Rattle.mg_files.specs.declared.port.PortFault.{PortFault}
+use Rattle.mg_files.specs.Calls.{Call, Adds}
+use Rattle.mg_files.specs.OpenState.{OpenState}
+use Rattle.mg_files.specs.Saving.{has_unsaved, is_changed, save_calls, saved, logged, written, unlogged, SaveFailed}
+use Rattle.mg_exchange.specs.declared.fault.ExchangeFault.{ExchangeFault}
+use Rattle.mg_exchange.specs.declared.fault.ExchangeFault.TheVariants.{Save, Link, Send, Receive}
+use Rattle.mg_exchange.specs.Talking.{Sends, Hears, Gains}
+use Rattle.mg_exchange.specs.Meeting.{SavesTo, Takes, TakesTo, Meets, Turns, ExchangesTo, ServesTo, accepting}
+
+-- ---- calls
+
+-- calls that are added behind others
+pub adds_then : (old mid new : Option (List Call)) (xs ys : List Call) → Adds old mid xs → Adds mid new ys → Adds old new (xs ++ ys)
+adds_then None mid new xs ys h k = tt
+adds_then (Some calls) mid new xs ys h k =
+    let k' : Adds (Some (calls ++ xs)) new ys = subst (λ m. Adds m new ys) h k in
+    k' ∙ ap Some (append_assoc calls xs ys)
+
+-- ---- a save
+
+pub saves_to : (r : Result Bool PortFault) (old new : Option (List Call)) (b d : OpenState)
+    → IfOk r (λ changed. changed ≡ is_changed b) → OnOk r (Adds old new (save_calls b)) → OnOk r (d ≡ saved b)
+    → IfErr r (λ fault. SaveFailed fault old new b d) → SavesTo r old new b d
+saves_to (Ok changed) old new b d told calls left failed = record { told = told; calls = calls; left = left }
+saves_to (Err fault) old new b d told calls left failed = failed
+
+-- ---- what is gained
+
+pub gains_nothing : (b : OpenState) → Gains b b
+gains_nothing b = record { within = within_itself b.buffer.content; rest = refl }
+
+pub gains_on : (b d e : OpenState) → Gains b d → Gains d e → Gains b e
+gains_on b d e f g = record {
+  within = within_chain b.buffer.content d.buffer.content e.buffer.content f.within g.within;
+  rest = g.rest ∙ ap (λ (s : State). record s { content = e.buffer.content; unsaved = e.buffer.unsaved; listed = e.buffer.listed }) f.rest;
+}
+
+gains_if : (x : Bool) (b : OpenState) → Gains b (if x then written b else b)
+gains_if true b = record { within = within_itself b.buffer.content; rest = refl }
+gains_if false b = gains_nothing b
+
+gains_logged : (b : OpenState) → Gains b (logged b)
+gains_logged b = gains_if (has_unsaved b) b
+
+pub gains_saved : (b : OpenState) → Gains b (saved b)
+gains_saved b = let g = gains_logged b in record { within = g.within; rest = g.rest }
+
+gains_unlogged : (b : OpenState) → Gains b (unlogged b)
+gains_unlogged b = record { within = within_itself b.buffer.content; rest = refl }
+
+pub gains_failed : (fault : PortFault) (old new : Option (List Call)) (b d : OpenState) → SaveFailed fault old new b d → Gains b d
+gains_failed fault old new b d (inl f) = subst (λ e. Gains b e) (sym f.left) (gains_unlogged b)
+gains_failed fault old new b d (inr f) = subst (λ e. Gains b e) (sym f.left) (gains_logged b)
+
+pub gains_by_save : (r : Result Bool PortFault) (old new : Option (List Call)) (b d : OpenState) → SavesTo r old new b d → Gains b d
+gains_by_save (Ok changed) old new b d s = subst (λ e. Gains b e) (sym s.left) (gains_saved b)
+gains_by_save (Err fault) old new b d s = gains_failed fault old new b d s
+
+pub gains_heard : {L : Type 0} (remaining : L → Option (List ℕ)) (r : Result ℕ ReceiveFault) (b d : OpenState) → Hears remaining r b d → Gains b d
+gains_heard remaining r b d h =
+    let f = h.lines.beside in
+    let ops = operations_of h.lines.lines in
+    record {
+      within = subst (λ c. IsWithin b.buffer.content c) (sym f.content) (within_join b.buffer.content (content_of ops));
+      rest = f.rest;
+    }
+
+pub gains_taken : {L : Type 0} (remaining : L → Option (List ℕ)) (old new : Option (List Call)) (b d : OpenState) (heard : Result ℕ ReceiveFault) (kept : Result Bool PortFault)
+    → Takes remaining old new b d heard kept → Gains b d
+gains_taken remaining old new b d heard kept t =
+    gains_on b t.met d (gains_heard remaining heard b t.met t.hears) (gains_by_save kept old new t.met d t.saves)
+
+pub gains_by : {L : Type 0} (remaining : L → Option (List ℕ)) (old new : Option (List Call)) (b d : OpenState) (r : Result ℕ ExchangeFault)
+    → TakesTo remaining old new b d r → Gains b d
+gains_by remaining old new b d (Ok n) t = gains_taken remaining old new b d (Ok n) (Ok t.0) t.1
+gains_by remaining old new b d (Err (Save fault)) t = gains_taken remaining old new b d (Ok t.0) (Err fault) t.1
+gains_by remaining old new b d (Err (Receive fault)) t = gains_taken remaining old new b d (Err fault) t.0 t.1
+gains_by remaining old new b d (Err (Link fault)) t = elim t [ ]
+gains_by remaining old new b d (Err (Send fault)) t = elim t [ ]
+
+-- what is held stays over a save
+pub saved_content : (b : OpenState) → (saved b).buffer.content ≡ b.buffer.content
+saved_content b = if_content (has_unsaved b) b
+  where
+    if_content : (x : Bool) (b : OpenState) → (if x then written b else b).buffer.content ≡ b.buffer.content
+    if_content true b = refl
+    if_content false b = refl
+
+-- what is sent of a buffer that was saved
+pub sends_saved : {L : Type 0} (contents : L → Option (List ℕ)) (r : Result ℕ SendFault) (b d : OpenState) → d ≡ saved b → Sends contents r d.buffer.content → Sends contents r b.buffer.content
+sends_saved contents r b d left s = subst (λ c. Sends contents r c) (ap (λ (o : OpenState). o.buffer.content) left ∙ saved_content b) s
+
+-- ---- all of it
+
+-- what is gained by a save and what follows
+pub gains_behind : {L : Type 0} (remaining : L → Option (List ℕ)) (mid new : Option (List Call)) (b s d : OpenState) (r : Result ℕ ExchangeFault)
+    → s ≡ saved b → TakesTo remaining mid new s d r → Gains b d
+gains_behind remaining mid new b s d r left t =
+    gains_on b s d (subst (λ x. Gains b x) (sym left) (gains_saved b)) (gains_by remaining mid new s d r t)
+
+-- a peer that is met behind a save and these calls
+pub meets : {L : Type 0} (remaining contents : L → Option (List ℕ)) (old first mid new : Option (List Call)) (b s d : OpenState) (made : List Call) (r : Result ℕ ExchangeFault)
+    → s ≡ saved b → Adds old first (save_calls b) → Adds first mid made → TakesTo remaining mid new s d r → Meets old new b d remaining contents made r
+meets remaining contents old first mid new b s d made r left h k t = record {
+  mid = mid;
+  calls = adds_then old first mid (save_calls b) made h k;
+  takes = subst (λ x. TakesTo remaining mid new x d r) left t;
+}
+
+module _ {L : Type 0} (remaining contents : L → Option (List ℕ)) (old new : Option (List Call)) (b d : OpenState) where
+  -- a replica that connected, and fails once it has sent all
+  pub turn_fails : (e : ExchangeFault) (sent : ℕ) → Turns old new b d remaining contents sent (Err e) → ExchangesTo old new b d remaining contents (Err e)
+  turn_fails (Save fault) sent t = inr (sent, t)
+  turn_fails (Receive fault) sent t = (sent, t)
+  turn_fails (Link fault) sent t = elim t.meets.takes [ ]
+  turn_fails (Send fault) sent t = elim t.meets.takes [ ]
+
+  -- a replica that waited, and fails before it replies
+  pub wait_fails : (e : ExchangeFault) → Meets old new b d remaining contents accepting (Err e) → ServesTo old new b d remaining contents (Err e)
+  wait_fails (Save fault) m = inr m
+  wait_fails (Receive fault) m = m
+  wait_fails (Link fault) m = elim m.takes [ ]
+  wait_fails (Send fault) m = elim m.takes [ ]

@@ -1,0 +1,19 @@
+//! Buffers that meet peers: what is exchanged over a link of a port, and what is saved around it.
+//!
+//! `exchange` is for the replica that connects, `serve` for the one that waits; both save the
+//! buffer first, and save it again once they have heard the peer. The crate stands on mg_files for
+//! buffers, ports and saves, and on rga_exchange and rga_lines for what passes over a link. It is
+//! generic over any `TextStore` and any port. The layer above may rest on one record of facts for
+//! each (`Exchanges`, `Serves`): which calls are made of the port, in which order and up to which
+//! fault; what passed over the link; and what was gained and what stayed, whatever was answered.
+#![tactic(auto)]
+
+mod client;
+mod fault;
+mod server;
+mod talking;
+
+pub use client::exchange;
+pub use fault::ExchangeFault;
+pub use server::serve;
+pub use talking::Exchanged;
