@@ -14,7 +14,7 @@ SOURCES := crates.txt HANDLES \
 NEED_RT = command -v rt >/dev/null || { \
 	echo "rt, the Rattle toolchain, is not installed: put KIT/bin on PATH" >&2; exit 1; }
 
-.PHONY: build try try-live crash test bench install clean help
+.PHONY: build try try-live try-exchange crash test bench install clean help
 
 build: build/mgr
 	@echo "build/mgr is up to date"
@@ -34,6 +34,10 @@ try:
 # The front, in a terminal of tmux.
 try-live: build/mgr
 	@scripts/try_live.py build/mgr
+
+# Two that exchange over a socket of this machine, and a third that gets the log.
+try-exchange: build/mgr
+	@scripts/try_exchange.py build/mgr
 
 # Saves that are killed at each call of the system, by strace.
 crash: build/mgr
@@ -59,6 +63,8 @@ help:
 	@echo "make           proves and builds mgr, and leaves it at build/mgr"
 	@echo "make try       a first edit, and one note from two people's logs; it waits for no proof"
 	@echo "make try-live  runs mgr-live in a terminal of tmux, and looks at what it shows (needs python3 and tmux)"
+	@echo "make try-exchange"
+	@echo "               exchanges a note between two mgr on this machine (needs python3)"
 	@echo "make test      runs every proof and test from nothing; the last line counts them"
 	@echo "make crash     kills saves at each call of the system, and loads again (needs python3 and strace)"
 	@echo "make bench     measures mgr beside a native program (needs python3 and rustc)"
