@@ -14,7 +14,7 @@ SOURCES := crates.txt HANDLES \
 NEED_RT = command -v rt >/dev/null || { \
 	echo "rt, the Rattle toolchain, is not installed: put KIT/bin on PATH" >&2; exit 1; }
 
-.PHONY: build try try-live try-exchange crash test bench install clean help
+.PHONY: build try try-live try-exchange crash hostile test bench install clean help
 
 build: build/mgr
 	@echo "build/mgr is up to date"
@@ -43,6 +43,10 @@ try-exchange: build/mgr
 crash: build/mgr
 	@scripts/crash.py build/mgr
 
+# Exchanges with peers that break off, lie, flood or are deaf.
+hostile: build/mgr
+	@scripts/hostile_peers.py build/mgr
+
 # The gate's last line is the verdict, so nothing may follow it.
 test:
 	@$(NEED_RT); exec rt ci
@@ -67,6 +71,7 @@ help:
 	@echo "               exchanges a note between two mgr on this machine (needs python3)"
 	@echo "make test      runs every proof and test from nothing; the last line counts them"
 	@echo "make crash     kills saves at each call of the system, and loads again (needs python3 and strace)"
+	@echo "make hostile   exchanges with peers that break off, lie, flood or are deaf (needs python3)"
 	@echo "make bench     measures mgr beside a native program (needs python3 and rustc)"
 	@echo "make install   copies mgr and mgr-live to BINDIR, and the manual to MANDIR/man1"
 	@echo "               (BINDIR=$(BINDIR) and MANDIR=$(MANDIR), by PREFIX=$(PREFIX); DESTDIR is put before them)"
