@@ -4,7 +4,8 @@
 # the cost of an operation grows (`bench/measure.py`); then what an edit of a document costs
 # (`bench/edits.py`), a command of the editor by itself (`bench/commands.py`) and on a buffer
 # (`bench/buffers.py`) and a frame of it (`bench/frames.py`), what a key of `mgr edit` costs
-# (`bench/keys.py`), and what it costs to read and to write logs and exchanges (`bench/logs.py`).
+# (`bench/keys.py`), an exchange between two of them (`bench/exchange.py`), and what it costs to read
+# and to write logs and exchanges (`bench/logs.py`).
 # `make bench` calls it. A call by hand may say `--largest N`, to have `mgr show` measured on no log
 # of more than N operations, and `--shape SHAPE`.
 #
@@ -45,5 +46,7 @@ echo
 python3 bench/frames.py
 echo
 python3 bench/keys.py
+echo
+python3 bench/exchange.py
 echo
 exec python3 bench/logs.py

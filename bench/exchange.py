@@ -1,0 +1,125 @@
+#!/usr/bin/env python3
+"""Measures an exchange between two `mgr edit` on this machine, both saves of each side included.
+
+Prints a row a case: who made the operations that are exchanged; the seconds by the clock, from the
+command of the one that waits to the message of the one that connects; the seconds of user time and
+of the system's of both together; how many operations a second that is by the clock; and what is
+wanted of both times. Both hold the text as a file without a log, so nothing of it is saved when they
+begin. Each sends all that it holds, also where the other knows it: the last row is an exchange behind
+another one, with nothing new. From the time of both processes that of the same ones without it is
+taken off, and the least of the measurements counts. That both end with one text is tested. A call by
+hand may name another mgr, and fewer operations.
+"""
+
+import argparse
+import os
+import pathlib
+import resource
+import shutil
+import sys
+import time
+
+from measure import BUILD
+
+sys.path.append(str(pathlib.Path(__file__).resolve().parent.parent / "scripts"))
+from session import EXCHANGE, SERVE, Session, await_listener, free_port
+
+FOLDER = BUILD / "bench" / "exchange"
+MEASUREMENTS = 3
+WANTED = 1.0
+LINE = "written by one\n"
+
+# Who made the operations: what part of them the one that waits has, and the one that connects.
+CASES = {
+    "the one that connects": (0, 1),
+    "the one that waits": (1, 0),
+    "each a half": (0.5, 0.5),
+}
+
+
+def processor_time():
+    usage = resource.getrusage(resource.RUSAGE_CHILDREN)
+    return usage.ru_utime + usage.ru_stime
+
+
+class Pair:
+    """Two that hold so many operations, in folders of their own."""
+
+    def __init__(self, mgr, sizes):
+        self.port, self.total = free_port(), sum(sizes)
+        shutil.rmtree(FOLDER, ignore_errors=True)
+        self.sides = []
+        for replica, size in enumerate(sizes, start=1):
+            folder = FOLDER / str(replica)
+            folder.mkdir(parents=True)
+            if size:
+                (folder / "note").write_text((LINE * size)[:size])
+            self.sides.append(Session(mgr, folder, replica, "--port", str(self.port)))
+        for side in self.sides:
+            side.settle()
+
+    def exchange(self):
+        """Returns the seconds by the clock."""
+        server, client = self.sides
+        begin = time.monotonic()
+        server.send(SERVE)
+        await_listener(self.port)
+        client.send(EXCHANGE)
+        said = [side.settle() for side in (client, server)]
+        seconds = time.monotonic() - begin
+        if not all(message.startswith("Sent ") for message in said):
+            sys.exit(f"no exchange: {said}")
+        return seconds
+
+    def end(self):
+        for side in self.sides:
+            side.end()
+
+    def compare(self):
+        """Ends the measuring where the two did not end with the same."""
+        texts = [(FOLDER / str(replica) / "note").read_bytes() for replica in (1, 2)]
+        counts = [(FOLDER / str(replica) / "note.ops").read_bytes().count(b"\n") for replica in (1, 2)]
+        if texts[0] != texts[1] or counts != [self.total] * 2:
+            sys.exit("the two did not end with one text")
+
+
+def run(mgr, sizes, rounds):
+    """Returns the seconds by the clock of the last of so many exchanges, and of all those of both processes."""
+    before = processor_time()
+    pair = Pair(mgr, sizes)
+    seconds = 0.0
+    for _ in range(rounds):
+        seconds = pair.exchange()
+    pair.end()
+    if rounds:
+        pair.compare()
+    return seconds, processor_time() - before
+
+
+def least(mgr, sizes, rounds):
+    return [min(figures) for figures in zip(*(run(mgr, sizes, rounds) for _ in range(MEASUREMENTS)))]
+
+
+def print_row(who, seconds, used, count):
+    told = "well" if max(seconds, used) <= WANTED else "MORE"
+    print(f"{who:<24} {seconds:>13.2f} {used:>15.2f} {count / seconds:>14,.0f} {WANTED:>9.2f}  {told}", flush=True)
+
+
+def main():
+    parser = argparse.ArgumentParser(description=__doc__)
+    parser.add_argument("--mgr", metavar="PATH", default=BUILD / "mgr", help="another mgr")
+    parser.add_argument("--part", metavar="N", type=int, default=1, help="an Nth of all operations")
+    given = parser.parse_args()
+    mgr, count = os.path.abspath(given.mgr), 100_000 // given.part
+    print(f"An exchange of {count:,} operations, made by:")
+    print(f"{'':<24} {'by clock, s':>13} {'both sides, s':>15} {'operations/s':>14} {'wanted, s':>9}")
+    for who, parts in CASES.items():
+        sizes = [int(count * part) for part in parts]
+        none, once = least(mgr, sizes, 0), least(mgr, sizes, 1)
+        print_row(who, once[0], once[1] - none[1], count)
+    again = least(mgr, sizes, 2)
+    print_row("each a half, once more", again[0], again[1] - once[1], count)
+
+
+if __name__ == "__main__":
+    main()
