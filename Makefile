@@ -65,7 +65,8 @@ clean:
 
 help:
 	@echo "make           proves and builds mgr, and leaves it at build/mgr"
-	@echo "make try       a first edit, and one note from two people's logs; it waits for no proof"
+	@echo "make try       a first edit, and one note from two people's logs; it waits for no proof."
+	@echo "               Where mgr is built, two of them exchange a note"
 	@echo "make try-live  runs mgr-live in a terminal of tmux, and looks at what it shows (needs python3 and tmux)"
 	@echo "make try-exchange"
 	@echo "               exchanges a note between two mgr on this machine (needs python3)"

@@ -2,8 +2,9 @@
 # A first edit: types a sentence through `mgr edit`, and shows the frame and the files. Then shows
 # the text of two logs of one note, in either order, and fails where the texts differ: Alice wrote
 # the note, Bob got her operations, and then both went on without the other's.
-# The argument is a built mgr. With none, `rt try` compiles mgr and runs it, and proves nothing; it
-# keeps no files, so they are not shown then.
+# The argument is a built mgr, of which two then exchange a note over a socket. With none, `rt try`
+# compiles mgr and runs it, and proves nothing; it keeps no files and has no second mgr to meet, so
+# neither is shown then.
 set -eu
 cd "$(dirname "$0")/.."
 
@@ -28,6 +29,29 @@ run_unproved() {
         awk -v name="$name" '/^== / { on = $0 == "== " name; next } on' build/try/texts \
             >"build/try/$name"
     done
+}
+
+# Alice writes and waits for a peer, at a port of this machine. Bob writes and saves, and then asks for
+# the exchange until she waits. Each frame is the last one of its mgr.
+exchange() {
+    note="edit note --rows 5 --cols 50 --port $port"
+    mkdir build/try/alice build/try/bob
+    printf 'Buy oat milk\033xreplica-serve\r' >build/try/alice/keys
+    printf 'Call the baker\r\030\023' >build/try/bob/keys
+    printf '\033xreplica-exchange\r' >build/try/bob/keys-to-connect
+    # shellcheck disable=SC2086
+    (cd build/try/alice && exec "$mgr" $note --replica 1 <keys >frame) &
+    alice=$!
+    # shellcheck disable=SC2086
+    (cd build/try/bob && "$mgr" $note --replica 2 <keys >frame)
+    tries=0
+    # shellcheck disable=SC2086
+    until (cd build/try/bob && "$mgr" $note --replica 2 <keys-to-connect >frame && grep -q '^Sent' frame); do
+        tries=$((tries + 1))
+        [ "$tries" -lt 100 ] || { kill "$alice" 2>/dev/null; return 1; }
+        sleep 0.1
+    done
+    wait "$alice"
 }
 
 if [ $# -eq 1 ]; then
@@ -58,6 +82,22 @@ echo "Bob's first:"
 cat build/try/bob-first
 cmp build/try/alice-first build/try/bob-first
 echo "Both are the same."
+if [ $# -eq 1 ]; then
+    port=$((20000 + $$ % 10000))
+    echo
+    echo "Two mgr exchange a note, at port $port: Alice's waits, and Bob's connects."
+    if exchange; then
+        echo "Alice's frame:"
+        cat build/try/alice/frame
+        echo "Bob's:"
+        cat build/try/bob/frame
+        cmp build/try/alice/note build/try/bob/note
+        echo "Both texts are the same."
+    else
+        echo "There was no exchange, as where no socket is allowed. Bob's frame:"
+        cat build/try/bob/frame
+    fi
+fi
 if [ $# -eq 0 ]; then
     echo "This mgr was run without its proof: \`make\` proves and builds it."
 fi
