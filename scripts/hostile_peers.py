@@ -14,7 +14,6 @@ import collections
 import os
 import pathlib
 import re
-import resource
 import select
 import shutil
 import socket
@@ -51,8 +50,8 @@ def padded(line, length):
     return b"{" + b" " * (length + 1 - len(line)) + line[1:]
 
 
-# What mgr's user typed; what a peer says, which stands in front of it in the text; and what it may not
-# say.
+# What mgr's user typed; what a peer says, which stands in front of that in the text; and what
+# contradicts what was typed.
 A = inserted(1, 1, "a")
 X = inserted(1, 2, "x")
 Y = inserted(2, 2, "y", (1, 2))
@@ -96,9 +95,9 @@ def silence():
     yield b""
 
 
-# A peer: what it says; the message of mgr, which without one counts the operations; the lines that
-# mgr takes, and how many of them it counts; how many bytes the peer reads of what it is told; whether
-# it resets its link at the end; whether mgr's user has a large text; and who meets it.
+# A peer: what it says; mgr's message, where that does not count operations; the lines that mgr takes,
+# and how many it counts; how many bytes the peer reads of what it is told; whether it resets its link
+# at the end; whether mgr's user has a large text; and who meets it.
 Peer = collections.namedtuple(
     "Peer", "name says message taken count reads resets large roles", defaults=(b"", 0, ALL, False, False, ROLES)
 )
@@ -253,6 +252,9 @@ def act(link, editor, peer, role):
 
 # ---- what mgr has to do
 
+# The most memory of each mgr, in MiB.
+peaks = []
+
 
 class Case:
     """An mgr that meets a peer, on files of its own, and what has to be there behind it."""
@@ -279,6 +281,7 @@ class Case:
         self.expect_text(editor)
         self.expect_heard(heard)
         self.go_on(editor)
+        peaks.append(editor.peak())
         editor.end()
 
     def message(self):
@@ -328,10 +331,10 @@ def log():
     return (FOLDER / "note.ops").read_bytes()
 
 
-def fault_of(mgr, peer, role):
-    """Has mgr meet the peer; returns what was wrong."""
+def fault_of(case):
+    """Has mgr meet the peer; returns what was wrong, or None."""
     try:
-        Case(mgr, peer, role).run()
+        case.run()
     except (Unexpected, OSError) as what:
         return str(what)
     finally:
@@ -347,8 +350,9 @@ def meet(mgr, peer):
     """Has mgr meet the peer in each role; returns how many were not as they have to be."""
     bad = 0
     for role in peer.roles:
-        fault = fault_of(mgr, peer, role)
-        print_row(peer.name, role, Case(mgr, peer, role).message(), fault)
+        case = Case(mgr, peer, role)
+        fault = fault_of(case)
+        print_row(peer.name, role, case.message(), fault)
         bad += fault is not None
     return bad
 
@@ -357,7 +361,7 @@ def meet_all(mgr, name, peers):
     """Has mgr meet peers that close at each byte; returns how many were not as they have to be."""
     bad = 0
     for role in peers[0].roles:
-        faults = [f"{peer.name}: {fault}" for peer in peers if (fault := fault_of(mgr, peer, role))]
+        faults = [f"{peer.name}: {fault}" for peer in peers if (fault := fault_of(Case(mgr, peer, role)))]
         print_row(name, role, f"{len(peers)} times", "; ".join(faults))
         bad += len(faults)
     return bad
@@ -370,8 +374,7 @@ def main():
     print(f"{'the peer':<44} {'mgr':<9} {'says':<21}")
     bad = sum(meet(mgr, peer) for peer in PEERS)
     bad += sum(meet_all(mgr, name, peers) for name, peers in CLOSING.items())
-    peak = resource.getrusage(resource.RUSAGE_CHILDREN).ru_maxrss / 1024
-    print(f"\nNo mgr took more than {peak:.0f} MiB.")
+    print(f"\nNo mgr took more than {max(peaks, default=0):.0f} MiB.")
     if bad:
         sys.exit(f"{bad} are not as they have to be")
     print("Each ended with its message, kept what it took, and the editor went on.")

@@ -7,6 +7,7 @@ says of it can be looked at while the session goes on.
 import os
 import pathlib
 import random
+import re
 import select
 import socket
 import subprocess
@@ -83,6 +84,11 @@ class Session:
     def text(self):
         """Returns the rows of the text, as the window shows them, without empty ones at the end."""
         return "\n".join(self.frame[:-2]).rstrip("\n")
+
+    def peak(self):
+        """Returns the most memory that mgr took so far, in MiB."""
+        status = pathlib.Path(f"/proc/{self.process.pid}/status").read_text()
+        return int(re.search(r"VmHWM:\s+(\d+)", status)[1]) / 1024
 
     def end(self):
         """Ends the keys, which saves nothing, and waits for the end of mgr."""
