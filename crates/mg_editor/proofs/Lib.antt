@@ -1,3 +1,4 @@
 pub mod Steps
 pub mod EchoLine
 pub mod FrameLaws
+mod Meetings

@@ -3,12 +3,13 @@ use Rattle.std.specs.Prelude.{◌≡◌, Bool, true, false, List, Option, Result
 use Rattle.mg_files.specs.Calls.{Call}
 use Rattle.mg_files.specs.declared.port.PortFault.{PortFault}
 use Rattle.mg_prompts.specs.declared.ending.Request.{Request}
-use Rattle.mg_prompts.specs.declared.ending.Request.TheVariants.{Idle, Save, Find, Quit}
+use Rattle.mg_prompts.specs.declared.ending.Request.TheVariants.{Idle, Save, Find, Exchange, Serve, Quit}
 use Rattle.mg_prompts.specs.declared.message.Message.{Message}
 use Rattle.mg_prompts.specs.declared.message.Message.TheVariants.{Wrote, NoChanges}
 use Rattle.mg_workspace.specs.Saving.{Saves}
 use Rattle.mg_editor.specs.Editors.{Editor}
 use Rattle.mg_editor.specs.Finding.{Found}
+use Rattle.mg_editor.specs.Meeting.{Exchanged, Served}
 use Rattle.mg_editor.specs.Telling.{Answer, IsNothing, message_of_port, told}
 use Rattle.mg_editor.specs.declared.fault.CarryFault.TheVariants.{Port}
 
@@ -37,4 +38,6 @@ abbrev pub Carried : Request → Option (List Call) → Option (List Call) → E
 Carried Idle calls more old new r = IsNothing calls more old new r
 Carried Save calls more old new r = Saved calls more old new r
 Carried (Find name) calls more old new r = Found name calls more old new r
+Carried Exchange calls more old new r = Exchanged calls more old new r
+Carried Serve calls more old new r = Served calls more old new r
 Carried Quit calls more old new r = IsNothing calls more old new r

@@ -1,15 +1,12 @@
 -- What it leads to that a buffer is asked for by its name.
 use Rattle.std.specs.Prelude.{◌≡◌, ◌⊎◌, ℕ, List, Option, Some, None, Result, Ok, Err, encode_utf8_all}
 use Rattle.std.specs.Bool.{MatchBool}
-use Rattle.rga_exchange.specs.declared.fault.ReceiveFault.{ReceiveFault}
-use Rattle.rga_exchange.specs.declared.fault.ReceiveFault.TheVariants as receive
 use Rattle.rga_exchange.specs.declared.log.LogEnd.{LogEnd}
-use Rattle.mg_plain.specs.declared.outcome.Notice.TheVariants as notice
 use Rattle.mg_files.specs.Calls.{Call}
 use Rattle.mg_files.specs.Files.{Files}
 use Rattle.mg_files.specs.Loading.{load_outcome}
 use Rattle.mg_files.specs.declared.fault.LoadFault.{LoadFault}
-use Rattle.mg_files.specs.declared.fault.LoadFault.TheVariants.{Log, NotText, Store, Memory}
+use Rattle.mg_files.specs.declared.fault.LoadFault.TheVariants.{Memory}
 use Rattle.mg_files.specs.declared.port.PortFault.{PortFault}
 use Rattle.mg_prompts.specs.declared.message.Message.{Message}
 use Rattle.mg_prompts.specs.declared.message.Message.TheVariants as message
@@ -19,24 +16,11 @@ use Rattle.mg_workspace.specs.Opening.{is_full, OpensBy}
 use Rattle.mg_workspace.specs.Workspaces.{Workspace}
 use Rattle.mg_editor.specs.Editors.{Editor}
 use Rattle.mg_editor.specs.Opening.{message_of_end}
-use Rattle.mg_editor.specs.Telling.{Answer, message_of_port, told}
+use Rattle.mg_editor.specs.Telling.{Answer, message_of_fault, told}
 use Rattle.mg_editor.specs.declared.fault.CarryFault.{CarryFault}
 use Rattle.mg_editor.specs.declared.fault.CarryFault.TheVariants.{Port, Load}
 
 -- ---- what is said
-
--- of a log; only a line, or what it says, can be at fault
-abbrev pub message_of_log : ReceiveFault → Message
-message_of_log (receive.Line line fault) = message.BadLine line fault
-message_of_log (receive.Refused line refusal) = message.RefusedLine line refusal
-message_of_log _ = message.FileFault
-
--- of a buffer that is not loaded; of a text only that it is too long can be refused
-abbrev pub message_of_load : LoadFault → Message
-message_of_load (Log fault) = message_of_log fault
-message_of_load NotText = message.NotText
-message_of_load (Store refusal) = message.BufferFull
-message_of_load Memory = message.Refused notice.Memory
 
 -- how the log ends of a buffer that was opened, or why none was
 abbrev pub Opening : Type 0
@@ -44,8 +28,7 @@ Opening = Result LogEnd CarryFault
 
 abbrev pub message_of_opening : Opening → Message
 message_of_opening (Ok end) = message_of_end end
-message_of_opening (Err (Port fault)) = message_of_port fault
-message_of_opening (Err (Load fault)) = message_of_load fault
+message_of_opening (Err fault) = message_of_fault fault
 
 abbrev pub opening_done : Opening → Answer
 opening_done (Ok end) = Ok tt

@@ -4,6 +4,7 @@ pub mod Presses
 pub mod Opening
 pub mod Telling
 pub mod Finding
+pub mod Meeting
 pub mod Carrying
 pub mod Echo
 pub mod Frames

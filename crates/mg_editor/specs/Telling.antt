@@ -1,29 +1,89 @@
 -- What is told of a request, and what is answered to it.
 use Rattle.std.specs.Prelude.{◌≡◌, ℕ, List, Option, Result, Ok, Err}
+use Rattle.rga_exchange.specs.declared.fault.ReceiveFault.{ReceiveFault}
+use Rattle.rga_exchange.specs.declared.fault.ReceiveFault.TheVariants as receive
+use Rattle.rga_exchange.specs.declared.fault.SendFault.{SendFault}
+use Rattle.rga_exchange.specs.declared.fault.SendFault.TheVariants as send
 use Rattle.mg_plain.specs.declared.outcome.Notice.TheVariants as notice
 use Rattle.mg_files.specs.Calls.{Call, failures_after}
+use Rattle.mg_files.specs.declared.fault.LoadFault.{LoadFault}
+use Rattle.mg_files.specs.declared.fault.LoadFault.TheVariants as load
+use Rattle.mg_files.specs.declared.port.LinkFault.{LinkFault}
+use Rattle.mg_files.specs.declared.port.LinkFault.TheVariants as link
 use Rattle.mg_files.specs.declared.port.PortFault.{PortFault}
-use Rattle.mg_files.specs.declared.port.PortFault.TheVariants.{File, Memory}
+use Rattle.mg_files.specs.declared.port.PortFault.TheVariants as port
+use Rattle.mg_exchange.specs.Meeting.{CountsFaults}
+use Rattle.mg_exchange.specs.declared.fault.ExchangeFault.{ExchangeFault}
+use Rattle.mg_exchange.specs.declared.fault.ExchangeFault.TheVariants as exchange
 use Rattle.mg_prompts.specs.declared.message.Message.{Message}
-use Rattle.mg_prompts.specs.declared.message.Message.TheVariants.{Refused, FileFault}
+use Rattle.mg_prompts.specs.declared.message.Message.TheVariants as message
 use Rattle.mg_workspace.specs.Workspaces.{Workspace}
 use Rattle.mg_editor.specs.Editors.{Editor}
 use Rattle.mg_editor.specs.declared.fault.CarryFault.{CarryFault}
-use Rattle.mg_editor.specs.declared.fault.CarryFault.TheVariants.{Port, Load}
+use Rattle.mg_editor.specs.declared.fault.CarryFault.TheVariants.{Port, Load, Exchange}
 
 abbrev pub Answer : Type 0
 Answer = Result (Unit {0}) CarryFault
 
--- how many calls of the port failed, after one request that is answered so
-abbrev pub failures_behind : {A : Type 0} → Result A CarryFault → ℕ → ℕ
-failures_behind (Ok a) n = n
-failures_behind {A} (Err (Port fault)) n = failures_after {A = A} (Err fault) n
-failures_behind (Err (Load fault)) n = n
+-- how many calls of the port failed, before and after one request that is answered so
+abbrev pub CountsBehind : {A : Type 0} → Result A CarryFault → ℕ → ℕ → Type 0
+CountsBehind (Ok a) old new = new ≡ old
+CountsBehind {A} (Err (Port fault)) old new = new ≡ failures_after {A = A} (Err fault) old
+CountsBehind (Err (Load fault)) old new = new ≡ old
+CountsBehind {A} (Err (Exchange fault)) old new = CountsFaults {A = A} (Err fault) old new
 
--- of a fault of the port
+-- ---- what is said of faults
+
+-- of a port that is asked for files
 abbrev pub message_of_port : PortFault → Message
-message_of_port File = FileFault
-message_of_port Memory = Refused notice.Memory
+message_of_port port.File = message.FileFault
+message_of_port port.Memory = message.Refused notice.Memory
+
+-- of a log; only a line, or what it says, can be at fault
+abbrev pub message_of_log : ReceiveFault → Message
+message_of_log (receive.Line line fault) = message.BadLine line fault
+message_of_log (receive.Refused line refusal) = message.RefusedLine line refusal
+message_of_log _ = message.FileFault
+
+-- of a buffer that is not loaded; of a text only that it is too long can be refused
+abbrev pub message_of_load : LoadFault → Message
+message_of_load (load.Log fault) = message_of_log fault
+message_of_load load.NotText = message.NotText
+message_of_load (load.Store refusal) = message.BufferFull
+message_of_load load.Memory = message.Refused notice.Memory
+
+-- of a port that is asked for a link
+abbrev pub message_of_link : LinkFault → Message
+message_of_link link.Socket = message.SocketFault
+message_of_link link.NoPort = message.NoPort
+message_of_link link.Memory = message.Refused notice.Memory
+
+-- of a link on which not all was sent
+abbrev pub message_of_sending : SendFault → Message
+message_of_sending send.Write = message.SocketFault
+message_of_sending send.Memory = message.Refused notice.Memory
+
+-- of a peer that was not heard to its end
+abbrev pub message_of_peer : ReceiveFault → Message
+message_of_peer (receive.Line line fault) = message.BadLine line fault
+message_of_peer (receive.Refused line refusal) = message.RefusedLine line refusal
+message_of_peer receive.Cut = message.Cut
+message_of_peer receive.Count = message.WrongCount
+message_of_peer receive.Read = message.SocketFault
+message_of_peer receive.Memory = message.Refused notice.Memory
+
+abbrev pub message_of_exchange : ExchangeFault → Message
+message_of_exchange (exchange.Save fault) = message_of_port fault
+message_of_exchange (exchange.Link fault) = message_of_link fault
+message_of_exchange (exchange.Send fault) = message_of_sending fault
+message_of_exchange (exchange.Receive fault) = message_of_peer fault
+
+abbrev pub message_of_fault : CarryFault → Message
+message_of_fault (Port fault) = message_of_port fault
+message_of_fault (Load fault) = message_of_load fault
+message_of_fault (Exchange fault) = message_of_exchange fault
+
+-- ---- what is told
 
 -- the editor that says something, and has this workspace
 abbrev pub told : Workspace → Message → Editor → Editor

@@ -3,28 +3,19 @@ ghost use Rattle.std.specs.Prelude.{◌≡◌, ◌<◌, length, IfOk, string_byt
 ghost use Rattle.mg_workspace.specs.declared.workspace.TheConstants.{MAX_BUFFERS};
 ghost use Rattle.mg_editor.specs.Carrying as spec;
 ghost use Rattle.mg_editor.specs.Finding as finding;
+ghost use Rattle.mg_editor.specs.Meeting as meeting;
 ghost use Rattle.mg_editor.specs.Telling as telling;
 
 use crate::echo::push_characters;
 use crate::editor::Editor;
 use crate::fault::CarryFault;
 use crate::opening::message_of_end;
-use mg_files::{LoadFault, Port, PortFault};
-use mg_plain::Notice;
+use crate::telling::{message_of_fault, message_of_port};
+use mg_files::{Port, PortFault};
 use mg_prompts::{Message, Request};
-use rga_exchange::{LogEnd, ReceiveFault};
+use rga_exchange::LogEnd;
 use rga_store::TextStore;
 use std::alloc::{AllocError, Global};
-
-/// What is said of a fault of the port.
-fn message_of_port(fault: PortFault) -> Message
-    ensures { result ≡ telling.message_of_port fault }
-{
-    match fault {
-        PortFault::File => Message::FileFault,
-        PortFault::Memory => Message::Refused(Notice::Memory),
-    }
-}
 
 /// What is said of a save.
 fn message_of_save(answer: Result<bool, PortFault>) -> Message
@@ -37,40 +28,13 @@ fn message_of_save(answer: Result<bool, PortFault>) -> Message
     }
 }
 
-/// What is said of a log that is not read. Only a line, or what it says, can be at fault.
-fn message_of_log(fault: ReceiveFault) -> Message
-    ensures { result ≡ finding.message_of_log fault }
-{
-    match fault {
-        ReceiveFault::Line(line, fault) => Message::BadLine(line, fault),
-        ReceiveFault::Refused(line, refusal) => Message::RefusedLine(line, refusal),
-        ReceiveFault::Cut | ReceiveFault::Count | ReceiveFault::Read | ReceiveFault::Memory => {
-            Message::FileFault
-        }
-    }
-}
-
-/// What is said of a buffer that is not loaded. Replica and limit of an editor are within theirs, so
-/// of a text only `Full` is refused.
-fn message_of_load(fault: LoadFault) -> Message
-    ensures { result ≡ finding.message_of_load fault }
-{
-    match fault {
-        LoadFault::Log(fault) => message_of_log(fault),
-        LoadFault::NotText => Message::NotText,
-        LoadFault::Store(_) => Message::BufferFull,
-        LoadFault::Memory => Message::Refused(Notice::Memory),
-    }
-}
-
 /// What is said of a buffer that was to be opened.
 fn message_of_opening(answer: &Result<LogEnd, CarryFault>) -> Message
     ensures { result ≡ finding.message_of_opening answer.now }
 {
     match answer {
         Ok(end) => message_of_end(*end),
-        Err(CarryFault::Port(fault)) => message_of_port(*fault),
-        Err(CarryFault::Load(fault)) => message_of_load(*fault),
+        Err(fault) => message_of_fault(*fault),
     }
 }
 
@@ -107,21 +71,27 @@ impl<S: TextStore> Editor<S> {
     /// says what came of it: that it was written, that there were no changes, or the fault. `Find`
     /// goes to the buffer of that name, which asks nothing of a port where it is open; else, unless
     /// as many buffers are open as may be, which is said, it is opened by what the port finds under
-    /// its name, and is current then, and a log that was torn is told. The other requests ask nothing
-    /// of a port.
+    /// its name, and is current then, and a log that was torn is told. `Exchange` and `Serve` exchange
+    /// the current buffer with a peer, as `mg_exchange::exchange` and `serve` do, and say how many
+    /// operations were sent and received, or the fault. The other requests ask nothing of a port.
     ///
-    /// Faults: `Port` with those of the port, and `Load` with those of `Opened::load`, which are said
-    /// already. They leave text, point, mark, groups and all other buffers as they were, and open
-    /// none.
+    /// Faults, which are said already: of `Save` and `Find` `Port` with those of the port, and of
+    /// `Find` `Load` with those of `Opened::load`, which leave text, point, mark, groups and all other
+    /// buffers as they were, and open none; of `Exchange` and `Serve` `Exchange` with theirs, which
+    /// leave what was taken before, and all other buffers as they were.
     pub fn carry<P: Port>(&mut self, request: Request, port: &mut P) -> Result<(), CarryFault>
         ensures carried { spec.Carried request
             (P.calls port.old) (P.calls port.new) self.old self.new result }
-        ensures device { P.failures port.new ≡ telling.failures_behind result (P.failures port.old) }
+        ensures met { meeting.MetOver P.Link.remaining P.Link.contents
+            (P.calls port.old) (P.calls port.new) self.old self.new result request }
+        ensures device { telling.CountsBehind result (P.failures port.old) (P.failures port.new) }
     {
         match request {
             Request::Idle | Request::Quit => Ok(()),
             Request::Save => self.save(port),
             Request::Find(name) => self.find(name.as_slice(), port),
+            Request::Exchange => self.exchange(port),
+            Request::Serve => self.serve(port),
         }
     }
 
@@ -129,7 +99,7 @@ impl<S: TextStore> Editor<S> {
     fn save<P: Port>(&mut self, port: &mut P) -> Result<(), CarryFault>
         ensures saved { spec.Saved
             (P.calls port.old) (P.calls port.new) self.old self.new result }
-        ensures device { P.failures port.new ≡ telling.failures_behind result (P.failures port.old) }
+        ensures device { telling.CountsBehind result (P.failures port.old) (P.failures port.new) }
     {
         let answer = self.work.save(port);
         self.talk.tell(message_of_save(answer));
@@ -140,7 +110,7 @@ impl<S: TextStore> Editor<S> {
     fn find<P: Port>(&mut self, name: &[char], port: &mut P) -> Result<(), CarryFault>
         ensures found { finding.Found name.now
             (P.calls port.old) (P.calls port.new) self.old self.new result }
-        ensures device { P.failures port.new ≡ telling.failures_behind result (P.failures port.old) }
+        ensures device { telling.CountsBehind result (P.failures port.old) (P.failures port.new) }
     {
         if self.work.visit(name) {
             return Ok(());
@@ -157,7 +127,7 @@ impl<S: TextStore> Editor<S> {
         requires { length self.old.work.buffers.all < MAX_BUFFERS }
         ensures opened { finding.Opened name.now
             (P.calls port.old) (P.calls port.new) self.old self.new result }
-        ensures device { P.failures port.new ≡ telling.failures_behind result (P.failures port.old) }
+        ensures device { telling.CountsBehind result (P.failures port.old) (P.failures port.new) }
     {
         let answer = self.load(name, port);
         self.talk.tell(message_of_opening(&answer));
@@ -170,7 +140,7 @@ impl<S: TextStore> Editor<S> {
         ensures loads { finding.Loads name.now self.old.work self.new.work result }
         ensures talk { self.new.talk ≡ self.old.talk }
         ensures no_call { P.calls port.new ≡ P.calls port.old }
-        ensures device { P.failures port.new ≡ telling.failures_behind result (P.failures port.old) }
+        ensures device { telling.CountsBehind result (P.failures port.old) (P.failures port.new) }
     {
         let text = spelled(self.alloc, name)?;
         let found = port.load(text.as_str())?;

@@ -1,4 +1,5 @@
 //! Why the editor did not do what it was asked.
+use mg_exchange::ExchangeFault;
 use mg_files::{LoadFault, PortFault};
 use std::alloc::AllocError;
 
@@ -16,6 +17,8 @@ pub enum CarryFault {
     Port(PortFault),
     /// What was found is not loaded.
     Load(LoadFault),
+    /// The current buffer and a peer did not exchange all that they hold.
+    Exchange(ExchangeFault),
 }
 
 impl From<PortFault> for CarryFault {

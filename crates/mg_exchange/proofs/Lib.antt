@@ -1,1 +1,2 @@
 mod MeetingLaws
+pub mod LessSaid

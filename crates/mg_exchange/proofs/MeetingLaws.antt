@@ -1,5 +1,5 @@
 -- What is known of the steps of an exchange, put together.
-use Rattle.std.proofs.Common.{◌≡◌, inl, inr, ℕ, Bool, true, false, List, ◌++◌, Option, Some, None, Result, Ok, Err, IfOk, IfErr, OnOk, if◌then◌else◌, refl, sym, ap, ◌∙◌, subst, append_assoc}
+use Rattle.std.proofs.Common.{◌≡◌, inl, inr, ℕ, Bool, true, false, List, ◌++◌, Option, Some, None, Result, Ok, Err, if◌then◌else◌, refl, sym, ap, ◌∙◌, subst, append_assoc}
 use Rattle.rga_ops.specs.Content.{IsWithin, content_of}
 use Rattle.rga_ops.proofs.ContentLaws.{within_itself, within_chain, within_join}
 use Rattle.rga_lines.specs.Log.{operations_of}
@@ -9,11 +9,11 @@ use Rattle.mg_buffer.specs.State.{State}
 use Rattle.mg_files.specs.declared.port.PortFault.{PortFault}
 use Rattle.mg_files.specs.Calls.{Call, Adds}
 use Rattle.mg_files.specs.OpenState.{OpenState}
-use Rattle.mg_files.specs.Saving.{has_unsaved, is_changed, save_calls, saved, logged, written, unlogged, SaveFailed}
+use Rattle.mg_files.specs.Saving.{has_unsaved, save_calls, saved, logged, written, unlogged, SaveFailed, SavesTo}
 use Rattle.mg_exchange.specs.declared.fault.ExchangeFault.{ExchangeFault}
 use Rattle.mg_exchange.specs.declared.fault.ExchangeFault.TheVariants.{Save, Link, Send, Receive}
 use Rattle.mg_exchange.specs.Talking.{Sends, Hears, Gains}
-use Rattle.mg_exchange.specs.Meeting.{SavesTo, Takes, TakesTo, Meets, Turns, ExchangesTo, ServesTo, accepting}
+use Rattle.mg_exchange.specs.Meeting.{Takes, TakesTo, Meets, Turns, ExchangesTo, ServesTo, accepting}
 
 -- ---- calls
 
@@ -23,14 +23,6 @@ adds_then None mid new xs ys h k = tt
 adds_then (Some calls) mid new xs ys h k =
     let k' : Adds (Some (calls ++ xs)) new ys = subst (λ m. Adds m new ys) h k in
     k' ∙ ap Some (append_assoc calls xs ys)
-
--- ---- a save
-
-pub saves_to : (r : Result Bool PortFault) (old new : Option (List Call)) (b d : OpenState)
-    → IfOk r (λ changed. changed ≡ is_changed b) → OnOk r (Adds old new (save_calls b)) → OnOk r (d ≡ saved b)
-    → IfErr r (λ fault. SaveFailed fault old new b d) → SavesTo r old new b d
-saves_to (Ok changed) old new b d told calls left failed = record { told = told; calls = calls; left = left }
-saves_to (Err fault) old new b d told calls left failed = failed
 
 -- ---- what is gained
 
@@ -74,12 +66,12 @@ gains_heard remaining r b d h =
     }
 
 pub gains_taken : {L : Type 0} (remaining : L → Option (List ℕ)) (old new : Option (List Call)) (b d : OpenState) (heard : Result ℕ ReceiveFault) (kept : Result Bool PortFault)
-    → Takes remaining old new b d heard kept → Gains b d
+    → Takes (Hears remaining) old new b d heard kept → Gains b d
 gains_taken remaining old new b d heard kept t =
     gains_on b t.met d (gains_heard remaining heard b t.met t.hears) (gains_by_save kept old new t.met d t.saves)
 
 pub gains_by : {L : Type 0} (remaining : L → Option (List ℕ)) (old new : Option (List Call)) (b d : OpenState) (r : Result ℕ ExchangeFault)
-    → TakesTo remaining old new b d r → Gains b d
+    → TakesTo (Hears remaining) old new b d r → Gains b d
 gains_by remaining old new b d (Ok n) t = gains_taken remaining old new b d (Ok n) (Ok t.0) t.1
 gains_by remaining old new b d (Err (Save fault)) t = gains_taken remaining old new b d (Ok t.0) (Err fault) t.1
 gains_by remaining old new b d (Err (Receive fault)) t = gains_taken remaining old new b d (Err fault) t.0 t.1
@@ -102,29 +94,29 @@ sends_saved contents r b d left s = subst (λ c. Sends contents r c) (ap (λ (o 
 
 -- what is gained by a save and what follows
 pub gains_behind : {L : Type 0} (remaining : L → Option (List ℕ)) (mid new : Option (List Call)) (b s d : OpenState) (r : Result ℕ ExchangeFault)
-    → s ≡ saved b → TakesTo remaining mid new s d r → Gains b d
+    → s ≡ saved b → TakesTo (Hears remaining) mid new s d r → Gains b d
 gains_behind remaining mid new b s d r left t =
     gains_on b s d (subst (λ x. Gains b x) (sym left) (gains_saved b)) (gains_by remaining mid new s d r t)
 
 -- a peer that is met behind a save and these calls
 pub meets : {L : Type 0} (remaining contents : L → Option (List ℕ)) (old first mid new : Option (List Call)) (b s d : OpenState) (made : List Call) (r : Result ℕ ExchangeFault)
-    → s ≡ saved b → Adds old first (save_calls b) → Adds first mid made → TakesTo remaining mid new s d r → Meets old new b d remaining contents made r
+    → s ≡ saved b → Adds old first (save_calls b) → Adds first mid made → TakesTo (Hears remaining) mid new s d r → Meets (Hears remaining) (Sends contents) old new b d made r
 meets remaining contents old first mid new b s d made r left h k t = record {
   mid = mid;
   calls = adds_then old first mid (save_calls b) made h k;
-  takes = subst (λ x. TakesTo remaining mid new x d r) left t;
+  takes = subst (λ x. TakesTo (Hears remaining) mid new x d r) left t;
 }
 
 module _ {L : Type 0} (remaining contents : L → Option (List ℕ)) (old new : Option (List Call)) (b d : OpenState) where
   -- a replica that connected, and fails once it has sent all
-  pub turn_fails : (e : ExchangeFault) (sent : ℕ) → Turns old new b d remaining contents sent (Err e) → ExchangesTo old new b d remaining contents (Err e)
+  pub turn_fails : (e : ExchangeFault) (sent : ℕ) → Turns (Hears remaining) (Sends contents) old new b d sent (Err e) → ExchangesTo (Hears remaining) (Sends contents) old new b d (Err e)
   turn_fails (Save fault) sent t = inr (sent, t)
   turn_fails (Receive fault) sent t = (sent, t)
   turn_fails (Link fault) sent t = elim t.meets.takes [ ]
   turn_fails (Send fault) sent t = elim t.meets.takes [ ]
 
   -- a replica that waited, and fails before it replies
-  pub wait_fails : (e : ExchangeFault) → Meets old new b d remaining contents accepting (Err e) → ServesTo old new b d remaining contents (Err e)
+  pub wait_fails : (e : ExchangeFault) → Meets (Hears remaining) (Sends contents) old new b d accepting (Err e) → ServesTo (Hears remaining) (Sends contents) old new b d (Err e)
   wait_fails (Save fault) m = inr m
   wait_fails (Receive fault) m = m
   wait_fails (Link fault) m = elim m.takes [ ]

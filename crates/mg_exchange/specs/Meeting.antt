@@ -1,36 +1,39 @@
 -- What an exchange asks of a port, and what it leaves of a buffer.
 use Rattle.std.specs.Prelude.{◌≡◌, ◌⊎◌, ℕ, Bool, List, [], ◌∷◌, ◌++◌, Option, Result, Ok, Err}
 use Rattle.rga_lines.specs.Counting.{one_more}
+use Rattle.rga_ops.specs.Content.{Content}
 use Rattle.rga_exchange.specs.declared.fault.ReceiveFault.{ReceiveFault}
+use Rattle.rga_exchange.specs.declared.fault.SendFault.{SendFault}
 use Rattle.mg_files.specs.declared.port.CallKind.TheVariants.{Connect, Accept, Finish}
 use Rattle.mg_files.specs.declared.port.PortFault.{PortFault}
 use Rattle.mg_files.specs.Calls.{Call, link_call, link_refusals, Adds, failures_after, failures_after_link}
 use Rattle.mg_files.specs.OpenState.{OpenState}
-use Rattle.mg_files.specs.Saving.{is_changed, save_calls, saved, SaveFailed}
+use Rattle.mg_files.specs.Saving.{save_calls, saved, SaveFailed, SavesTo}
 use Rattle.mg_exchange.specs.declared.fault.ExchangeFault.{ExchangeFault}
 use Rattle.mg_exchange.specs.declared.fault.ExchangeFault.TheVariants.{Save, Link, Send, Receive}
 use Rattle.mg_exchange.specs.declared.talking.Exchanged.{Exchanged}
-use Rattle.mg_exchange.specs.Talking.{Sends, Hears, Gains}
+use Rattle.mg_exchange.specs.Talking.{Gains}
 
--- ---- a save, by the calls that a port tells before and after it
+-- the calls of a replica that connects, before it hears the peer, and of one that waits
+abbrev pub connecting : List Call
+connecting = link_call Connect ∷ link_call Finish ∷ []
 
--- it was done, and there was something to save or not
-pub record IsSaved (changed : Bool) (old new : Option (List Call)) (b d : OpenState) : Type 0 where
-  pub told : changed ≡ is_changed b
-  pub calls : Adds old new (save_calls b)
+abbrev pub accepting : List Call
+accepting = link_call Accept ∷ []
+
+-- The buffer was saved, and behind the save no more was done than these calls.
+pub record EndsBehind (old new : Option (List Call)) (b d : OpenState) (made : List Call) : Type 0 where
+  pub calls : Adds old new (save_calls b ++ made)
   pub left : d ≡ saved b
-
-abbrev pub SavesTo : Result Bool PortFault → Option (List Call) → Option (List Call) → OpenState → OpenState → Type 0
-SavesTo (Ok changed) old new b d = IsSaved changed old new b d
-SavesTo (Err fault) old new b d = SaveFailed fault old new b d
 
 -- ---- a peer that is heard, and the save behind it
 
-module _ {L : Type 0} (remaining : L → Option (List ℕ)) (old new : Option (List Call)) (b d : OpenState) where
+-- what is said of a peer that is heard, by what came of it and the buffer before and after
+module _ (Hears : Result ℕ ReceiveFault → OpenState → OpenState → Type 0) (old new : Option (List Call)) (b d : OpenState) where
   -- The peer was heard, to its end or not, and then what was held was saved or not.
   pub record Takes (heard : Result ℕ ReceiveFault) (kept : Result Bool PortFault) : Type 0 where
     pub met : OpenState
-    pub hears : Hears remaining heard b met
+    pub hears : Hears heard b met
     pub saves : SavesTo kept old new met d
 
   -- A fault of the peer is answered whatever came of the save.
@@ -43,57 +46,45 @@ module _ {L : Type 0} (remaining : L → Option (List ℕ)) (old new : Option (L
 
 -- ---- all of it
 
--- the calls of a replica that connects, before it hears the peer, and of one that waits
-abbrev pub connecting : List Call
-connecting = link_call Connect ∷ link_call Finish ∷ []
+-- and what is said of what is sent, by what came of it and what was held
+module _ (Hears : Result ℕ ReceiveFault → OpenState → OpenState → Type 0) (Sends : Result ℕ SendFault → Content → Type 0) (old new : Option (List Call)) (b d : OpenState) where
+  -- The buffer was saved, and behind the save and these calls the peer was heard, and what was held then was saved.
+  pub record Meets (made : List Call) (answer : Result ℕ ExchangeFault) : Type 0 where
+    pub mid : Option (List Call)
+    pub calls : Adds old mid (save_calls b ++ made)
+    pub takes : TakesTo Hears mid new (saved b) d answer
 
-abbrev pub accepting : List Call
-accepting = link_call Accept ∷ []
+  -- All that was held was sent before the peer was heard.
+  pub record Turns (sent : ℕ) (answer : Result ℕ ExchangeFault) : Type 0 where
+    pub sends : Sends (Ok sent) b.buffer.content
+    pub meets : Meets connecting answer
 
-module _ (old new : Option (List Call)) (b d : OpenState) where
-  -- The buffer was saved, and behind the save no more was done than these calls.
-  pub record EndsBehind (made : List Call) : Type 0 where
-    pub calls : Adds old new (save_calls b ++ made)
-    pub left : d ≡ saved b
+  -- A replica that connects: it may fail at the first save, when the link is opened, at what is sent, when the sending is
+  -- ended, and behind that.
+  abbrev pub ExchangesTo : Result Exchanged ExchangeFault → Type 0
+  ExchangesTo (Ok e) = Turns e.sent (Ok e.received)
+  ExchangesTo (Err (Save fault)) = SaveFailed fault old new b d ⊎ ((sent : ℕ) × Turns sent (Err (Save fault)))
+  ExchangesTo (Err (Link fault)) = EndsBehind old new b d (link_refusals fault (link_call Connect)) ⊎ EndsBehind old new b d (link_call Connect ∷ link_refusals fault (link_call Finish))
+  ExchangesTo (Err (Send fault)) = Sends (Err fault) b.buffer.content × EndsBehind old new b d (link_call Connect ∷ [])
+  ExchangesTo (Err (Receive fault)) = (sent : ℕ) × Turns sent (Err (Receive fault))
 
-  module _ {L : Type 0} (remaining contents : L → Option (List ℕ)) where
-    -- The buffer was saved, and behind the save and these calls the peer was heard, and what was held then was saved.
-    pub record Meets (made : List Call) (answer : Result ℕ ExchangeFault) : Type 0 where
-      pub mid : Option (List Call)
-      pub calls : Adds old mid (save_calls b ++ made)
-      pub takes : TakesTo remaining mid new (saved b) d answer
+  -- A replica that waits: it may fail at the first save, when the link is opened, behind that, and at what is sent in
+  -- reply, once all is saved.
+  abbrev pub ServesTo : Result Exchanged ExchangeFault → Type 0
+  ServesTo (Ok e) = Meets accepting (Ok e.received) × Sends (Ok e.sent) d.buffer.content
+  ServesTo (Err (Save fault)) = SaveFailed fault old new b d ⊎ Meets accepting (Err (Save fault))
+  ServesTo (Err (Link fault)) = EndsBehind old new b d (link_refusals fault (link_call Accept))
+  ServesTo (Err (Send fault)) = ((received : ℕ) × Meets accepting (Ok received)) × Sends (Err fault) d.buffer.content
+  ServesTo (Err (Receive fault)) = Meets accepting (Err (Receive fault))
 
-    -- All that was held was sent before the peer was heard.
-    pub record Turns (sent : ℕ) (answer : Result ℕ ExchangeFault) : Type 0 where
-      pub sends : Sends contents (Ok sent) b.buffer.content
-      pub meets : Meets connecting answer
+  -- Each whole: what came of it, and that nothing was lost, whatever was answered.
+  pub record Exchanges (answer : Result Exchanged ExchangeFault) : Type 0 where
+    pub came : ExchangesTo answer
+    pub gains : Gains b d
 
-    -- A replica that connects: it may fail at the first save, when the link is opened, at what is sent, when the sending
-    -- is ended, and behind that.
-    abbrev pub ExchangesTo : Result Exchanged ExchangeFault → Type 0
-    ExchangesTo (Ok e) = Turns e.sent (Ok e.received)
-    ExchangesTo (Err (Save fault)) = SaveFailed fault old new b d ⊎ ((sent : ℕ) × Turns sent (Err (Save fault)))
-    ExchangesTo (Err (Link fault)) = EndsBehind (link_refusals fault (link_call Connect)) ⊎ EndsBehind (link_call Connect ∷ link_refusals fault (link_call Finish))
-    ExchangesTo (Err (Send fault)) = Sends contents (Err fault) b.buffer.content × EndsBehind (link_call Connect ∷ [])
-    ExchangesTo (Err (Receive fault)) = (sent : ℕ) × Turns sent (Err (Receive fault))
-
-    -- A replica that waits: it may fail at the first save, when the link is opened, behind that, and at what is sent in
-    -- reply, once all is saved.
-    abbrev pub ServesTo : Result Exchanged ExchangeFault → Type 0
-    ServesTo (Ok e) = Meets accepting (Ok e.received) × Sends contents (Ok e.sent) d.buffer.content
-    ServesTo (Err (Save fault)) = SaveFailed fault old new b d ⊎ Meets accepting (Err (Save fault))
-    ServesTo (Err (Link fault)) = EndsBehind (link_refusals fault (link_call Accept))
-    ServesTo (Err (Send fault)) = ((received : ℕ) × Meets accepting (Ok received)) × Sends contents (Err fault) d.buffer.content
-    ServesTo (Err (Receive fault)) = Meets accepting (Err (Receive fault))
-
-    -- Each whole: what came of it, and that nothing was lost, whatever was answered.
-    pub record Exchanges (answer : Result Exchanged ExchangeFault) : Type 0 where
-      pub came : ExchangesTo answer
-      pub gains : Gains b d
-
-    pub record Serves (answer : Result Exchanged ExchangeFault) : Type 0 where
-      pub came : ServesTo answer
-      pub gains : Gains b d
+  pub record Serves (answer : Result Exchanged ExchangeFault) : Type 0 where
+    pub came : ServesTo answer
+    pub gains : Gains b d
 
 -- How many calls of a port failed. A save that fails behind a peer that was not heard to its end is not answered.
 abbrev pub CountsFaults : {A : Type 0} → Result A ExchangeFault → ℕ → ℕ → Type 0

@@ -1,7 +1,8 @@
 -- What passes over a link, and what it leaves of a buffer.
-use Rattle.std.specs.Prelude.{◌≡◌, ◌≢◌, ℕ, List, length, Option, Result, Err, OnOk, IfOk}
+use Rattle.std.specs.Prelude.{◌≡◌, ◌≢◌, ⊤, ℕ, List, length, Option, Result, Err, OnOk, IfOk}
 use Rattle.rga_ops.specs.Content.{Content, IsWithin}
 use Rattle.rga_ops.specs.Operations.{operations}
+use Rattle.rga_ops.specs.declared.op.Op.{Op}
 use Rattle.rga_lines.specs.Counting.{Calls, CountsAs, OnBytes, Writes, WritesFront}
 use Rattle.rga_exchange.specs.Receiving.{exchange_outcome}
 use Rattle.rga_exchange.specs.Sending.{stream_text}
@@ -39,3 +40,14 @@ pub record Hears {L : Type 0} (remaining : L → Option (List ℕ)) (answer : Re
 pub record Gains (b d : OpenState) : Type 0 where
   pub within : IsWithin b.buffer.content d.buffer.content
   pub rest : d.buffer ≡ record b.buffer { content = d.buffer.content; unsaved = d.buffer.unsaved; listed = d.buffer.listed }
+
+-- ---- where nothing is said of the link
+
+-- operations were taken into the buffer, and nothing else changed
+pub record TakesSome (answer : Result ℕ ReceiveFault) (b d : OpenState) : Type 0 where
+  pub ops : List Op
+  pub follows : Follows b.buffer ops d.buffer
+  pub rest : d ≡ record b { buffer = d.buffer }
+
+abbrev pub SendsSome : Result ℕ SendFault → Content → Type 0
+SendsSome answer c = ⊤

@@ -1,5 +1,6 @@
 //! The replica that connects.
 ghost use Rattle.mg_exchange.specs.Meeting as spec;
+ghost use Rattle.mg_exchange.specs.Talking.{Sends, Hears};
 
 use crate::fault::ExchangeFault;
 use crate::talking::{Exchanged, hear_and_save, tell};
@@ -22,8 +23,8 @@ pub fn exchange<S: TextStore, P: Port>(
     opened: &mut Opened<S>,
     port: &mut P,
 ) -> Result<Exchanged, ExchangeFault>
-    ensures exchanges { spec.Exchanges (P.calls port.old) (P.calls port.new)
-        opened.old opened.new P.Link.remaining P.Link.contents result }
+    ensures exchanges { spec.Exchanges (Hears P.Link.remaining) (Sends P.Link.contents)
+        (P.calls port.old) (P.calls port.new) opened.old opened.new result }
     ensures device { spec.CountsFaults result (P.failures port.old) (P.failures port.new) }
 {
     opened.save(port)?;

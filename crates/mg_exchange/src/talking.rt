@@ -36,7 +36,7 @@ pub(crate) fn hear_and_save<S: TextStore, L: Read, P: Port>(
     reader: &mut Counted<L>,
     port: &mut P,
 ) -> Result<u64, ExchangeFault>
-    ensures takes { spec.TakesTo L.remaining
+    ensures takes { spec.TakesTo (Hears L.remaining)
         (P.calls port.old) (P.calls port.new) opened.old opened.new result }
     ensures device { spec.CountsFaults result (P.failures port.old) (P.failures port.new) }
 {

@@ -1,1 +1,2 @@
 pub mod LoadedLaws
+pub mod SaveLaws

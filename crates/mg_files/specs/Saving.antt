@@ -1,5 +1,5 @@
 -- What a save does and what it leaves.
-use Rattle.std.specs.Prelude.{◌≡◌, ◌⊎◌, ◌||◌, Bool, true, false, List, [], ◌∷◌, ◌++◌, Option, if◌then◌else◌}
+use Rattle.std.specs.Prelude.{◌≡◌, ◌⊎◌, ◌||◌, Bool, true, false, List, [], ◌∷◌, ◌++◌, Option, Result, Ok, Err, if◌then◌else◌}
 use Rattle.rga_ops.specs.Operations.{operations}
 use Rattle.rga_ops.specs.declared.op.Op.{Op}
 use Rattle.rga_exchange.specs.Sending.{log_text}
@@ -73,3 +73,15 @@ pub record FailsAtText (fault : PortFault) (old new : Option (List Call)) (b d :
 
 abbrev pub SaveFailed : PortFault → Option (List Call) → Option (List Call) → OpenState → OpenState → Type 0
 SaveFailed fault old new b d = FailsAtLog fault old new b d ⊎ FailsAtText fault old new b d
+
+-- ---- a save, whatever it answers
+
+-- it was done, and there was something to save or not
+pub record IsSaved (changed : Bool) (old new : Option (List Call)) (b d : OpenState) : Type 0 where
+  pub told : changed ≡ is_changed b
+  pub calls : Adds old new (save_calls b)
+  pub left : d ≡ saved b
+
+abbrev pub SavesTo : Result Bool PortFault → Option (List Call) → Option (List Call) → OpenState → OpenState → Type 0
+SavesTo (Ok changed) old new b d = IsSaved changed old new b d
+SavesTo (Err fault) old new b d = SaveFailed fault old new b d

@@ -19,18 +19,18 @@ use Rattle.mg_prompts.specs.declared.prompt.Asked.{Asked}
 use Rattle.mg_prompts.specs.declared.prompt.Asked.TheVariants.{Command, Pattern, Find, Switch, Kill}
 use Rattle.mg_prompts.specs.declared.prompt.Prompt.TheVariants.{Line, Replacement}
 use Rattle.mg_prompts.specs.Endings.{ending_of, requesting, shows, idles, unbound, closing}
-use Rattle.mg_prompts.specs.PlainStep.{plain_step, does, undefined}
+use Rattle.mg_prompts.specs.PlainStep.{plain_step, does, asks_for}
 use Rattle.mg_prompts.specs.Scenes.{Scene}
 use Rattle.mg_prompts.specs.Typing.{typed, rubbed}
 
 abbrev pub asks_on : Asked → List ℕ → Reaction
 asks_on asked answer = shows (Open (Line asked answer)) message.Nothing
 
--- a command that was named does what its key does with the argument 1; those of replicas are none yet
+-- a command that was named does what its key does with the argument 1; no key is bound to those of replicas
 abbrev pub named_step : NamedCommand → Scene → Ending
 named_step (Key command) scene = plain_step (step_of command 1) scene
-named_step ReplicaExchange scene = undefined
-named_step ReplicaServe scene = undefined
+named_step ReplicaExchange scene = asks_for request.Exchange
+named_step ReplicaServe scene = asks_for request.Serve
 
 abbrev pub extended : List ℕ → Scene → Reaction
 extended answer scene = elim (named answer) [

@@ -5,9 +5,9 @@ use Rattle.rga_ops.specs.RefusalName.{refusal_name}
 use Rattle.rga_lines.specs.FaultName.{fault_name}
 use Rattle.mg_plain.specs.NoticeMessage.{notice_message}
 use Rattle.mg_prompts.specs.declared.message.Message.{Message}
-use Rattle.mg_prompts.specs.declared.message.Message.TheVariants.{Nothing, Quit, UndefinedKey, Refused, BufferFull, IdentifiersUsedUp, Replaced, NoSuchCommand, WindowTooSmall, OnlyOneWindow, Wrote, NoChanges, TornLog, FileFault, NoSuchBuffer, BufferIsChanged, OnlyOneBuffer, TooManyBuffers, NotText, BadLine, RefusedLine}
+use Rattle.mg_prompts.specs.declared.message.Message.TheVariants.{Nothing, Quit, UndefinedKey, Refused, BufferFull, IdentifiersUsedUp, Replaced, NoSuchCommand, WindowTooSmall, OnlyOneWindow, Wrote, NoChanges, TornLog, FileFault, NoSuchBuffer, BufferIsChanged, OnlyOneBuffer, TooManyBuffers, NotText, BadLine, RefusedLine, Exchanged, SocketFault, NoPort, Cut, WrongCount}
 
--- what is wrong with a line of a log
+-- what is wrong with a line
 abbrev pub line_text : ℕ → List ℕ → List ℕ
 line_text line name = codes "line " ++ (decimal line ++ (codes ": " ++ name))
 
@@ -34,3 +34,8 @@ message_text TooManyBuffers name = codes "Too many buffers"
 message_text NotText name = codes "text: not UTF-8"
 message_text (BadLine line fault) name = line_text line (fault_name fault)
 message_text (RefusedLine line refusal) name = line_text line (refusal_name refusal)
+message_text (Exchanged sent received) name = codes "Sent " ++ (decimal sent ++ (codes ", received " ++ decimal received))
+message_text SocketFault name = codes "Socket fault"
+message_text NoPort name = codes "No port"
+message_text Cut name = codes "Cut"
+message_text WrongCount name = codes "Wrong count"

@@ -12,6 +12,7 @@ use Rattle.mg_prompts.specs.declared.ending.Deed.{Deed}
 use Rattle.mg_prompts.specs.declared.ending.Deed.TheVariants as deed
 use Rattle.mg_prompts.specs.declared.ending.Ending.{Ending}
 use Rattle.mg_prompts.specs.declared.ending.Next.TheVariants.{Same, Open}
+use Rattle.mg_prompts.specs.declared.ending.Request.{Request}
 use Rattle.mg_prompts.specs.declared.ending.Request.TheVariants as request
 use Rattle.mg_prompts.specs.declared.message.Message.TheVariants as message
 use Rattle.mg_prompts.specs.declared.prompt.Asked.TheVariants.{Command, Pattern, Find, Switch, Kill}
@@ -28,6 +29,10 @@ does deed = ending_of deed Same message.Nothing
 abbrev pub opens : Deed → Prompt → Ending
 opens deed prompt = ending_of deed (Open prompt) message.Nothing
 
+-- a request, behind the end of a run of commands
+abbrev pub asks_for : Request → Ending
+asks_for request = requesting request (does deed.Idles)
+
 abbrev pub undefined : Ending
 undefined = ending_of deed.Idles Same message.UndefinedKey
 
@@ -37,7 +42,7 @@ begun origin direction = Searching (record { origin = origin; direction = direct
 
 -- quitting is asked for first where a buffer is changed
 abbrev pub quits : Bool → Ending
-quits changed = if changed then opens deed.Idles Quitting else requesting request.Quit (does deed.Idles)
+quits changed = if changed then opens deed.Idles Quitting else asks_for request.Quit
 
 abbrev pub plain_step : Step → Scene → Ending
 plain_step (Run command n) scene = does (deed.Runs command n)
@@ -48,7 +53,7 @@ plain_step (Ask question.Extended) scene = opens deed.Rests (Line Command [])
 plain_step (Ask question.Replace) scene = opens deed.Rests (Line Pattern [])
 plain_step (Ask question.Forward) scene = opens deed.Rests (begun scene.point Forward)
 plain_step (Ask question.Backward) scene = opens deed.Rests (begun scene.point Backward)
-plain_step (Ask question.Save) scene = requesting request.Save (does deed.Idles)
+plain_step (Ask question.Save) scene = asks_for request.Save
 plain_step (Ask question.Undo) scene = does deed.Undoes
 plain_step (Ask question.Quit) scene = quits scene.changed
 plain_step (Edge window.ScrollUp) scene = does (deed.Runs (ScrollUp scene.rows) 1)

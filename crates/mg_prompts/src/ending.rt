@@ -44,7 +44,7 @@ pub enum Next {
     Open(Prompt),
 }
 
-/// What is asked of the files.
+/// What is asked of the files and of peers.
 #[derive(Debug, PartialEq, Eq, Drop)]
 pub enum Request {
     /// Nothing.
@@ -53,6 +53,10 @@ pub enum Request {
     Save,
     /// The buffer of that name, which is not empty: that it be opened, unless it is open.
     Find(Chars),
+    /// That the current buffer and the peer that waits exchange what they hold.
+    Exchange,
+    /// That the current buffer wait for a peer to exchange with.
+    Serve,
     /// That the session end.
     Quit,
 }

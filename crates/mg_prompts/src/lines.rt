@@ -4,11 +4,9 @@ ghost use Rattle.mg_prompts.specs.Endings as endings;
 ghost use Rattle.mg_prompts.specs.LineStep as spec;
 
 use crate::answers::{rubbed, typed};
-use crate::ending::{
-    Deed, Ending, Next, Reaction, Request, closing, ending_of, idles, shows, unbound,
-};
+use crate::ending::{Deed, Ending, Next, Reaction, Request, closing, idles, shows, unbound};
 use crate::message::Message;
-use crate::plain::{does, plain_step};
+use crate::plain::{asks_for, does, plain_step};
 use crate::prompt::{Asked, Prompt};
 use crate::scene::Scene;
 use mg_keys::{NamedCommand, Step, named};
@@ -21,16 +19,15 @@ fn asks_on(asked: Asked, answer: Chars) -> Reaction
     shows(Next::Open(Prompt::Line { asked, answer }), Message::Nothing)
 }
 
-/// A command that was named: what its keys lead to with the argument 1. Those of replicas are none
-/// yet.
+/// A command that was named: what its keys lead to with the argument 1. No key is bound to those of
+/// replicas, each of which ends a run of commands and is requested.
 fn named_step(alloc: Global, command: NamedCommand, scene: &Scene<'_>) -> Ending
     ensures { result ≡ spec.named_step command scene.now }
 {
     match command {
         NamedCommand::Key(key) => plain_step(alloc, key.step(1), scene),
-        NamedCommand::ReplicaExchange | NamedCommand::ReplicaServe => {
-            ending_of(Deed::Idles, Next::Same, Message::UndefinedKey)
-        }
+        NamedCommand::ReplicaExchange => asks_for(Request::Exchange),
+        NamedCommand::ReplicaServe => asks_for(Request::Serve),
     }
 }
 

@@ -40,10 +40,20 @@ pub enum Message {
     TooManyBuffers,
     /// The text that was to be opened is not UTF-8.
     NotText,
-    /// That line of the log that was to be opened is no operation.
+    /// That line of a log, or of what a peer said, is no operation.
     BadLine(u64, LineFault),
-    /// The operation in that line of the log was not taken.
+    /// The operation in that line was not taken.
     RefusedLine(u64, Refusal),
+    /// So many operations were sent to a peer, and so many were received.
+    Exchanged(u64, u64),
+    /// A link to a peer was not opened, or failed.
+    SocketFault,
+    /// There is nowhere to meet a peer.
+    NoPort,
+    /// A peer ended before it had said all.
+    Cut,
+    /// A peer named another number of operations than it sent.
+    WrongCount,
 }
 
 impl Message {
@@ -73,11 +83,18 @@ impl Message {
             Message::NotText => String::from_str(alloc, "text: not UTF-8"),
             Message::BadLine(line, fault) => line_text(alloc, line, fault.name()),
             Message::RefusedLine(line, refusal) => line_text(alloc, line, refusal.name()),
+            Message::Exchanged(sent, received) => {
+                format!(in alloc; "Sent {sent}, received {received}")
+            }
+            Message::SocketFault => String::from_str(alloc, "Socket fault"),
+            Message::NoPort => String::from_str(alloc, "No port"),
+            Message::Cut => String::from_str(alloc, "Cut"),
+            Message::WrongCount => String::from_str(alloc, "Wrong count"),
         }
     }
 }
 
-/// What is wrong with a line of a log.
+/// What is wrong with a line.
 fn line_text(alloc: Global, line: u64, name: &str) -> Result<String, AllocError>
     ensures { IfOk result (λ text. string_bytes text ≡ spec.line_text line name.now) }
 {

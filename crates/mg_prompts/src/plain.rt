@@ -1,7 +1,6 @@
 //! Steps where no prompt is open.
 ghost use Rattle.std.specs.Prelude.{◌≡◌, []};
 ghost use Rattle.mg_keys.specs.declared.step.Step.TheVariants.{Ask, Edge};
-ghost use Rattle.mg_prompts.specs.Endings as endings;
 ghost use Rattle.mg_prompts.specs.PlainStep as spec;
 
 use crate::ending::{Arrangement, Deed, Ending, Next, Request, ending_of};
@@ -27,8 +26,8 @@ fn opens(deed: Deed, prompt: Prompt) -> Ending
 }
 
 /// A request, behind the end of a run of commands.
-fn requests(request: Request) -> Ending
-    ensures { result ≡ endings.requesting request (spec.does Deed.Idles) }
+pub(crate) fn asks_for(request: Request) -> Ending
+    ensures { result ≡ spec.asks_for request }
 {
     Ending {
         deed: Deed::Idles,
@@ -71,7 +70,7 @@ fn quits(changed: bool) -> Ending
     if changed {
         opens(Deed::Idles, Prompt::Quitting)
     } else {
-        requests(Request::Quit)
+        asks_for(Request::Quit)
     }
 }
 
@@ -83,7 +82,7 @@ fn question_step(alloc: Global, question: Question, scene: &Scene<'_>) -> Ending
         Question::Replace => opens(Deed::Rests, line(alloc, Asked::Pattern)),
         Question::Forward => opens(Deed::Rests, search(alloc, scene.point, Direction::Forward)),
         Question::Backward => opens(Deed::Rests, search(alloc, scene.point, Direction::Backward)),
-        Question::Save => requests(Request::Save),
+        Question::Save => asks_for(Request::Save),
         Question::Undo => does(Deed::Undoes),
         Question::Quit => quits(scene.changed),
         Question::Find => opens(Deed::Idles, line(alloc, Asked::Find)),

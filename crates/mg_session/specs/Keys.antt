@@ -3,7 +3,7 @@ use Rattle.std.specs.Prelude.{◌≡◌, ℕ, Bool, true, false, List, Option, O
 use Rattle.mg_plain.specs.declared.outcome.Notice.TheVariants as notice
 use Rattle.mg_files.specs.Calls.{Call}
 use Rattle.mg_prompts.specs.declared.ending.Request.{Request}
-use Rattle.mg_prompts.specs.declared.ending.Request.TheVariants.{Idle, Save, Find, Quit}
+use Rattle.mg_prompts.specs.declared.ending.Request.TheVariants.{Idle, Save, Find, Exchange, Serve, Quit}
 use Rattle.mg_prompts.specs.declared.message.Message.TheVariants.{Refused}
 use Rattle.mg_editor.specs.Carrying as carrying
 use Rattle.mg_editor.specs.Editors.{Editor}
@@ -33,6 +33,8 @@ abbrev pub quits : Request → Bool
 quits Idle = false
 quits Save = false
 quits (Find name) = false
+quits Exchange = false
+quits Serve = false
 quits Quit = true
 
 -- and what it requests was carried; it is told whether the session ends

@@ -42,7 +42,8 @@ fn quits(request: &Request) -> bool
     ensures { result ≡ spec.quits request.now }
 {
     match request {
-        Request::Idle | Request::Save | Request::Find(_) => false,
+        Request::Idle | Request::Save | Request::Find(_) | Request::Exchange | Request::Serve =>
+            false,
         Request::Quit => true,
     }
 }

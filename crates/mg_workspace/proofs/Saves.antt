@@ -1,18 +1,9 @@
--- What is known of a save, put together.
-use Rattle.std.proofs.Common.{◌≡◌, ℕ, ◌<◌, Bool, List, Option, Some, Result, Ok, Err, IfOk, IfErr, OnOk, length, get_or, slice_set, refl, sym, subst, ap, ◌∙◌}
+-- What is known of the current buffer, with what is to be written of it.
+use Rattle.std.proofs.Common.{◌≡◌, ℕ, ◌<◌, List, Some, length, get_or, slice_set, refl, sym, subst, ap, ◌∙◌}
 use Rattle.std.proofs.lemmas.Option.{slice_get-get_or}
-use Rattle.mg_files.specs.Calls.{Call, Adds}
 use Rattle.mg_files.specs.OpenState.{OpenState}
-use Rattle.mg_files.specs.Saving.{is_changed, save_calls, saved, SaveFailed}
-use Rattle.mg_files.specs.declared.port.PortFault.{PortFault}
 use Rattle.mg_workspace.specs.Buffers.{Buffers}
-use Rattle.mg_workspace.specs.Saving.{CurrentBecomes, SavesTo}
-
-pub saves_to : (r : Result Bool PortFault) (calls more : Option (List Call)) (b d : OpenState)
-    → IfOk r (λ changed. changed ≡ is_changed b) → OnOk r (Adds calls more (save_calls b)) → OnOk r (d ≡ saved b)
-    → IfErr r (λ fault. SaveFailed fault calls more b d) → SavesTo r calls more b d
-saves_to (Ok changed) calls more b d tells adds left failed = record { told = tells; adds = adds; left = left }
-saves_to (Err fault) calls more b d tells adds left failed = failed
+use Rattle.mg_workspace.specs.Saving.{CurrentBecomes}
 
 -- the current buffer, set
 pub current_becomes : (R : OpenState → OpenState → Type 0) (old : Buffers) (xs : List OpenState) (i : ℕ) (x y : OpenState)

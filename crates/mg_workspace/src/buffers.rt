@@ -2,12 +2,16 @@
 ghost use Rattle.std.specs.Prelude.{[], ◌∷◌, IfOk, ◌≡◌, ◌<◌, Some, length, slice_get, chars, nat_eq, OnOk, OnErr, IfErr, IfSome};
 ghost use Rattle.std.specs.Cmp.Lexicographic.{pointwise};
 ghost use Rattle.mg_workspace.specs.Buffers as spec;
-ghost use Rattle.mg_workspace.specs.Saving.{CurrentBecomes, SavesTo};
+ghost use Rattle.mg_workspace.specs.Saving.{CurrentBecomes};
+ghost use Rattle.mg_files.specs.Saving.{SavesTo};
 ghost use Rattle.mg_files.specs.Calls.{failures_after};
+ghost use Rattle.mg_exchange.specs.Meeting.{Exchanges, Serves, CountsFaults};
+ghost use Rattle.mg_exchange.specs.Talking.{Sends, Hears};
 ghost use Rattle.mg_workspace.specs.Mapped.{mapped_at};
 ghost use Rattle.mg_workspace.specs.Names as names;
 
 use mg_buffer::{BufferFault, Memo};
+use mg_exchange::{ExchangeFault, Exchanged};
 use mg_files::{Opened, Port, PortFault};
 use mg_plain::Command;
 use rga_ops::Refusal;
@@ -215,6 +219,34 @@ impl<S: TextStore> Buffers<S> {
         ensures device { P.failures port.new ≡ failures_after result (P.failures port.old) }
     {
         self.all[self.current].save(port)
+    }
+
+    /// The current buffer is exchanged with a peer that waits.
+    pub fn exchange<P: Port>(
+        &mut self,
+        alloc: Global,
+        port: &mut P,
+    ) -> Result<Exchanged, ExchangeFault>
+        ensures exchanges { CurrentBecomes (λ b d. Exchanges (Hears P.Link.remaining)
+            (Sends P.Link.contents) (P.calls port.old) (P.calls port.new) b d result)
+            self.old self.new }
+        ensures device { CountsFaults result (P.failures port.old) (P.failures port.new) }
+    {
+        mg_exchange::exchange(alloc, &mut self.all[self.current], port)
+    }
+
+    /// The current buffer is exchanged with a peer that is waited for.
+    pub fn serve<P: Port>(
+        &mut self,
+        alloc: Global,
+        port: &mut P,
+    ) -> Result<Exchanged, ExchangeFault>
+        ensures serves { CurrentBecomes (λ b d. Serves (Hears P.Link.remaining)
+            (Sends P.Link.contents) (P.calls port.old) (P.calls port.new) b d result)
+            self.old self.new }
+        ensures device { CountsFaults result (P.failures port.old) (P.failures port.new) }
+    {
+        mg_exchange::serve(alloc, &mut self.all[self.current], port)
     }
 }
 

@@ -5,12 +5,15 @@ ghost use Rattle.mg_files.specs.declared.fault.LoadFault.TheVariants.{Memory};
 ghost use Rattle.mg_screen.specs.declared.size.TheConstants.{MIN_COLUMNS, MAX_COLUMNS};
 ghost use Rattle.mg_workspace.specs.Deeds.{Keeps};
 ghost use Rattle.mg_workspace.specs.Opening.{workspace};
-ghost use Rattle.mg_workspace.specs.Saving.{Saves};
+ghost use Rattle.mg_exchange.specs.Meeting.{Exchanges, Serves, CountsFaults};
+ghost use Rattle.mg_exchange.specs.Talking.{Sends, Hears};
+ghost use Rattle.mg_workspace.specs.Saving.{Saves, Changes};
 ghost use Rattle.mg_workspace.specs.Workspaces as spec;
 
 use crate::buffers::Buffers;
 use crate::excerpt::Excerpt;
 use mg_buffer::Memo;
+use mg_exchange::{ExchangeFault, Exchanged};
 use mg_files::{LoadFault, Opened, Port, PortFault};
 use mg_prompts::Scene;
 use mg_screen::Windows;
@@ -120,6 +123,30 @@ impl<S: TextStore> Workspace<S> {
         ensures device { P.failures port.new ≡ failures_after result (P.failures port.old) }
     {
         self.buffers.save(port)
+    }
+
+    /// Exchanges the current buffer with the peer that the port connects to, as
+    /// `mg_exchange::exchange` does, and answers how many operations were sent and how many
+    /// received. Faults: those of that call.
+    pub fn exchange<P: Port>(&mut self, port: &mut P) -> Result<Exchanged, ExchangeFault>
+        ensures exchanges { Changes (λ b d. Exchanges (Hears P.Link.remaining)
+            (Sends P.Link.contents) (P.calls port.old) (P.calls port.new) b d result)
+            self.old self.new }
+        ensures device { CountsFaults result (P.failures port.old) (P.failures port.new) }
+    {
+        self.buffers.exchange(self.alloc, port)
+    }
+
+    /// Exchanges the current buffer with the first peer that the port accepts, as
+    /// `mg_exchange::serve` does, and answers how many operations were sent and how many received.
+    /// Faults: those of that call.
+    pub fn serve<P: Port>(&mut self, port: &mut P) -> Result<Exchanged, ExchangeFault>
+        ensures serves { Changes (λ b d. Serves (Hears P.Link.remaining)
+            (Sends P.Link.contents) (P.calls port.old) (P.calls port.new) b d result)
+            self.old self.new }
+        ensures device { CountsFaults result (P.failures port.old) (P.failures port.new) }
+    {
+        self.buffers.serve(self.alloc, port)
     }
 
     /// Lists the current buffer: its text and the places of point and mark are then at hand.

@@ -64,7 +64,7 @@ fn names_and_questions(rt: HostRuntime) {
         ("abc", "\x1bxnonsense\r", "abc / No such command"),
         ("abc", "\x1bx\r", "abc / No such command"),
         ("abc", "\x1bxfind-file\rm\r", "abc /  / Find"),
-        ("abc", "\x1bxreplica-serve\r", "abc / Undefined key"),
+        ("abc", "\x1bxreplica-serve\r", "abc /  / Serve"),
         ("abc", "\x1bxbackward-char\r!", "!abc / "),
         ("abc", "\x1bxbackward-char\r", "abc / Beginning of buffer"),
         ("abc", "\x1bxab\x07!", "!abc / "),

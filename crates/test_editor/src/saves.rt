@@ -3,32 +3,14 @@ use crate::sessions::on_log;
 use mg_editor::Editor;
 use mg_files::CallKind;
 use rga_store::TreeStore;
-use std::alloc::{AllocError, Global};
-use test_ports::{MadeCall, MemoryPort};
-
-/// A call as a word, with how many bytes it has; `!` where it was refused.
-fn push_call(line: &mut String, alloc: Global, call: &MadeCall) -> Result<(), AllocError> {
-    let kind = match call.kind {
-        CallKind::Append => "append",
-        CallKind::Replace => "replace",
-        CallKind::PutText => "text",
-        CallKind::Connect => "connect",
-        CallKind::Accept => "accept",
-        CallKind::Finish => "finish",
-    };
-    let refused = if call.answered { "" } else { "!" };
-    let length = call.bytes.len();
-    let word = format!(in alloc; " {kind} {length}{refused}").map_err(|_| AllocError)?;
-    line.push_str(word.as_str())
-}
+use std::alloc::Global;
+use test_ports::MemoryPort;
 
 /// The message, and the calls of the port.
 fn told(alloc: Global, editor: &Editor<TreeStore>, port: &MemoryPort) -> Option<String> {
     let mut line = editor.message().text(alloc, "notes").ok()?;
     line.push_str(" /").ok()?;
-    for call in &port.calls {
-        push_call(&mut line, alloc, call).ok()?;
-    }
+    port.push_calls(&mut line).ok()?;
     Some(line)
 }
 

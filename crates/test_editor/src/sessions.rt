@@ -65,6 +65,8 @@ fn shown(alloc: Global, editor: &Editor<TreeStore>, request: Request) -> Option<
         Request::Idle => "",
         Request::Save => " / Save",
         Request::Find(_) => " / Find",
+        Request::Exchange => " / Exchange",
+        Request::Serve => " / Serve",
         Request::Quit => " / Quit",
     })
     .ok()?;

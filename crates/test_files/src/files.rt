@@ -3,9 +3,8 @@ use mg_buffer::Memo;
 use mg_files::{CallKind, LoadFault, Opened, Port};
 use mg_plain::Command;
 use rga_exchange::LogEnd;
-use rga_ops::{Op, Refusal, Taken};
-use rga_store::{Taker, TreeStore};
-use std::alloc::{AllocError, Global};
+use rga_store::TreeStore;
+use std::alloc::Global;
 use test_ports::MemoryPort;
 
 /// The name of each buffer.
@@ -17,14 +16,6 @@ const FILL: u16 = 70;
 /// What a load answers.
 pub type Answer = Result<(Opened<TreeStore>, LogEnd), LoadFault>;
 
-/// A buffer that is open, and its port.
-#[derive(Drop)]
-pub struct Desk {
-    pub alloc: Global,
-    pub port: MemoryPort,
-    pub opened: Opened<TreeStore>,
-}
-
 /// Loads what is there under the name, for replica 1 and so many identifiers.
 pub fn load(alloc: Global, port: &mut MemoryPort, limit: usize) -> Answer {
     let Ok(found) = port.load(NAME) else {
@@ -34,18 +25,17 @@ pub fn load(alloc: Global, port: &mut MemoryPort, limit: usize) -> Answer {
     Opened::load(alloc, name, 1, limit, found)
 }
 
-/// The buffer of such a log, or of none.
-pub fn open(alloc: Global, log: Option<&str>) -> Result<Desk, LoadFault> {
+/// The buffer of such a log, or of none, and its port.
+pub fn open(
+    alloc: Global,
+    log: Option<&str>,
+) -> Result<(Opened<TreeStore>, MemoryPort), LoadFault> {
     let mut port = MemoryPort::new(alloc);
     if let Some(log) = log {
         port.put(NAME, Some(log.as_bytes()), None)?;
     }
     let (opened, _) = load(alloc, &mut port, 100)?;
-    Ok(Desk {
-        alloc,
-        port,
-        opened,
-    })
+    Ok((opened, port))
 }
 
 /// Whether the buffer has this text, and so many unsaved operations.
@@ -58,37 +48,25 @@ pub fn is_at(opened: &Opened<TreeStore>, alloc: Global, text: &str, unsaved: usi
     }
 }
 
-impl Desk {
-    /// Inserts characters at point, and says whether it did.
-    pub fn types(&mut self, text: &str) -> bool {
-        let mut memo = Memo::new(self.alloc);
-        for ch in text.chars() {
-            let command = Command::Insert(ch);
-            if self
-                .opened
-                .buffer
-                .run(&command, 1, &mut memo, FILL)
-                .is_err()
-            {
-                return false;
-            }
+/// Inserts characters at point, and says whether it did.
+pub fn types(alloc: Global, opened: &mut Opened<TreeStore>, text: &str) -> bool {
+    let mut memo = Memo::new(alloc);
+    for ch in text.chars() {
+        let command = Command::Insert(ch);
+        if opened.buffer.run(&command, 1, &mut memo, FILL).is_err() {
+            return false;
         }
-        true
     }
+    true
+}
 
-    /// Takes an operation of another replica.
-    pub fn takes(&mut self, op: Op) -> Result<Taken, Refusal> {
-        self.opened.buffer.apply(op)
-    }
-
-    /// Whether the port's calls were these, under the name: kind, bytes, and whether answered.
-    pub fn made(&self, calls: &[(CallKind, &str, bool)]) -> bool {
-        self.port.calls.len() == calls.len()
-            && self.port.calls.iter().zip(calls.iter()).all(|(made, call)| {
-                made.kind == call.0
-                    && made.name.as_str() == NAME
-                    && made.bytes.as_slice() == call.1.as_bytes()
-                    && made.answered == call.2
-            })
-    }
+/// Whether the port's calls were these, under the name: kind, bytes, and whether answered.
+pub fn made(port: &MemoryPort, calls: &[(CallKind, &str, bool)]) -> bool {
+    port.calls.len() == calls.len()
+        && port.calls.iter().zip(calls.iter()).all(|(made, call)| {
+            made.kind == call.0
+                && made.name.as_str() == NAME
+                && made.bytes.as_slice() == call.1.as_bytes()
+                && made.answered == call.2
+        })
 }

@@ -136,7 +136,7 @@ fn client_saves_what_it_took_of_a_peer_that_broke_off(rt: HostRuntime) {
         (
             saying(CONFLICT),
             None,
-            "Receive(Refused(2, Conflict(1-1))) / append 50 text 1 connect finish append 50 text 2 / xa",
+            "Receive(Refused(2, Conflict(Id { counter: 1, replica: 1 }))) / append 50 text 1 connect finish append 50 text 2 / xa",
         ),
         (
             saying(""),

@@ -4,8 +4,8 @@ use mg_exchange::{ExchangeFault, Exchanged, exchange, serve};
 use mg_files::{CallKind, Found, Opened};
 use mg_plain::Command;
 use rga_store::TreeStore;
-use std::alloc::{AllocError, Global};
-use test_ports::{MadeCall, MemoryPort, Peer, Script};
+use std::alloc::Global;
+use test_ports::{MemoryPort, Peer, Script};
 
 /// Who meets a peer, and how that is disturbed.
 #[derive(Clone, Copy)]
@@ -84,9 +84,7 @@ impl Desk {
     fn line(&self, alloc: Global) -> Option<String> {
         let mut line = told(alloc, &self.answer)?;
         line.push_str(" /").ok()?;
-        for call in &self.port.calls {
-            push_call(&mut line, alloc, call).ok()?;
-        }
+        self.port.push_calls(&mut line).ok()?;
         line.push_str(" / ").ok()?;
         let chars = rga_walk::text(alloc, self.opened.buffer.store()).ok()?;
         for ch in &chars {
@@ -134,19 +132,4 @@ pub fn comes(
         }
         None => false,
     }
-}
-
-/// A call as a word; with how many bytes it has, where it writes a file; `!` where it was refused.
-fn push_call(line: &mut String, alloc: Global, call: &MadeCall) -> Result<(), AllocError> {
-    let length = call.bytes.len();
-    let word = match call.kind {
-        CallKind::Append => format!(in alloc; " append {length}"),
-        CallKind::Replace => format!(in alloc; " replace {length}"),
-        CallKind::PutText => format!(in alloc; " text {length}"),
-        CallKind::Connect => format!(in alloc; " connect"),
-        CallKind::Accept => format!(in alloc; " accept"),
-        CallKind::Finish => format!(in alloc; " finish"),
-    };
-    line.push_str(word.map_err(|_| AllocError)?.as_str())?;
-    line.push_str(if call.answered { "" } else { "!" })
 }

@@ -2,7 +2,7 @@
 ghost use Rattle.std.specs.Prelude.{◌≡◌, [], ◌∷◌, ◌++◌, Some, IfErr, OnOk, OnErr};
 ghost use Rattle.mg_files.specs.Calls.{call, link_call, told, link_told, failures_after, failures_after_link};
 
-use crate::call::MadeCall;
+use crate::call::{MadeCall, push_calls};
 use crate::folder::{Folder, copy_of};
 use crate::peer::{MemoryLink, Peer};
 use mg_files::{CallKind, Found, LinkFault, Port, PortFault};
@@ -49,6 +49,12 @@ impl MemoryPort {
     /// The text of a name.
     pub fn text(&self, name: &str) -> Option<&[u8]> {
         self.folder.text(name)
+    }
+
+    /// Adds the calls so far to a line, in words: what each asks for, and how many bytes it has, where
+    /// it writes a file; `!` where it was refused.
+    pub fn push_calls(&self, line: &mut String) -> Result<(), AllocError> {
+        push_calls(line, self.alloc, &self.calls)
     }
 
     /// Puts files under a new name. This is no call of the port.

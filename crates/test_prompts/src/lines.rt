@@ -33,7 +33,8 @@ fn commands_are_named(rt: HostRuntime) {
         ("find-file", "|ab / Find file:  / Idles Idle"),
         ("switch-to-buffer", "|ab / Switch to buffer:  / Idles Idle"),
         ("kill-buffer", "|ab / Kill buffer:  / Idles Idle"),
-        ("replica-serve", "|ab / Undefined key / Idles Idle"),
+        ("replica-exchange", "|ab / Idles Exchange"),
+        ("replica-serve", "|ab / Idles Serve"),
     ] {
         assert!(rt; names(rt.alloc(), name, line), "{name}");
     }

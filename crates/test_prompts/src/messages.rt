@@ -47,6 +47,11 @@ fn messages_are_read(rt: HostRuntime) {
             Message::RefusedLine(2, Refusal::Conflict(Id::ROOT)),
             "line 2: Conflict",
         ),
+        (Message::Exchanged(2, 3), "Sent 2, received 3"),
+        (Message::SocketFault, "Socket fault"),
+        (Message::NoPort, "No port"),
+        (Message::Cut, "Cut"),
+        (Message::WrongCount, "Wrong count"),
     ] {
         assert!(rt; reads(rt.alloc(), *message, text), "{text}");
     }

@@ -50,7 +50,17 @@ pub fn shown(alloc: Global, port: &mut MemoryPort, values: Values, keys: &str) -
 
 /// The first two rows and the echo line of the frame that a session ends with.
 pub fn glance(alloc: Global, port: &mut MemoryPort, keys: &str) -> Option<String> {
-    let bytes = shown(alloc, port, values(alloc).ok()?, keys)?;
+    glance_of(alloc, port, values(alloc).ok()?, keys)
+}
+
+/// The same of a session of these values.
+pub fn glance_of(
+    alloc: Global,
+    port: &mut MemoryPort,
+    values: Values,
+    keys: &str,
+) -> Option<String> {
+    let bytes = shown(alloc, port, values, keys)?;
     let frame = str::from_utf8(&bytes).ok()?;
     let mut rows = frame.lines();
     let first = rows.next()?;

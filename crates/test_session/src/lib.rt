@@ -13,3 +13,5 @@ mod faults;
 mod files;
 #[cfg(test)]
 mod frames;
+#[cfg(test)]
+mod peers;

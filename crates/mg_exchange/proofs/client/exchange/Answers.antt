@@ -4,7 +4,7 @@ use Rattle.mg_files.specs.Calls.{link_call, Adds}
 use Rattle.mg_files.specs.Saving.{save_calls, saved}
 use Rattle.mg_exchange.specs.declared.fault.ExchangeFault.{ExchangeFault}
 use Rattle.mg_exchange.specs.declared.talking.Exchanged.{Exchanged}
-use Rattle.mg_exchange.specs.Talking.{Sends}
+use Rattle.mg_exchange.specs.Talking.{Sends, Hears}
 use Rattle.mg_exchange.specs.Meeting.{TakesTo, Turns, Exchanges, connecting}
 use Rattle.mg_exchange.proofs.MeetingLaws.{adds_then, sends_saved, gains_behind, meets, turn_fails}
 use Rattle.mg_exchange.proofs.client.exchange.Goals as goal
@@ -29,17 +29,17 @@ returns-in_err-received-clause-exchanges g c =
     let opens : Adds first opened (link_call Connect ∷ []) = c.in_ok-connect.ensures.tells in
     let ends : Adds opened mid (link_call Finish ∷ []) = c.in_ok-finish.ensures.tells in
     let sends : Sends contents (Ok sent) s.buffer.content = c.in_ok-sent.ensures in
-    let takes : TakesTo remaining mid new s d (Err e) = c.in_err-received.ensures.takes in
-    let turns : Turns old new b d remaining contents sent (Err e) = record {
+    let takes : TakesTo (Hears remaining) mid new s d (Err e) = c.in_err-received.ensures.takes in
+    let turns : Turns (Hears remaining) (Sends contents) old new b d sent (Err e) = record {
       sends = sends_saved contents (Ok sent) b s left sends;
       meets = meets remaining contents old first mid new b s d connecting (Err e) left saves (adds_then first opened mid (link_call Connect ∷ []) (link_call Finish ∷ []) opens ends) takes;
     } in
-    let came : Exchanges old new b d remaining contents (Err e) = record {
+    let came : Exchanges (Hears remaining) (Sends contents) old new b d (Err e) = record {
       came = turn_fails remaining contents old new b d e sent turns;
       gains = gains_behind remaining mid new b s d (Err e) left takes;
     } in
     let is : c.from_residual-in_err-received.result ≡ Err e = search rules in
-    subst (λ (r : Result Exchanged ExchangeFault). Exchanges old new b d remaining contents r) (sym is) came
+    subst (λ (r : Result Exchanged ExchangeFault). Exchanges (Hears remaining) (Sends contents) old new b d r) (sym is) came
 
 pub returns-clause-exchanges : goal.returns-clause-exchanges
 returns-clause-exchanges g c =
@@ -61,8 +61,8 @@ returns-clause-exchanges g c =
     let opens : Adds first opened (link_call Connect ∷ []) = c.in_ok-connect.ensures.tells in
     let ends : Adds opened mid (link_call Finish ∷ []) = c.in_ok-finish.ensures.tells in
     let sends : Sends contents (Ok sent) s.buffer.content = c.in_ok-sent.ensures in
-    let takes : TakesTo remaining mid new s d (Ok n) = c.in_ok-received.ensures.takes in
-    let turns : Turns old new b d remaining contents sent (Ok n) = record {
+    let takes : TakesTo (Hears remaining) mid new s d (Ok n) = c.in_ok-received.ensures.takes in
+    let turns : Turns (Hears remaining) (Sends contents) old new b d sent (Ok n) = record {
       sends = sends_saved contents (Ok sent) b s left sends;
       meets = meets remaining contents old first mid new b s d connecting (Ok n) left saves (adds_then first opened mid (link_call Connect ∷ []) (link_call Finish ∷ []) opens ends) takes;
     } in

@@ -2,8 +2,9 @@ use Rattle.std.proofs.Common.{rules, ◌≡◌, ℕ, Result, Ok, Err, sym, subst
 use Rattle.mg_exchange.specs.declared.fault.ExchangeFault.{ExchangeFault}
 use Rattle.mg_exchange.specs.declared.fault.ExchangeFault.TheVariants.{Save, Receive}
 use Rattle.mg_exchange.specs.Talking.{Hears}
-use Rattle.mg_exchange.specs.Meeting.{SavesTo, TakesTo}
-use Rattle.mg_exchange.proofs.MeetingLaws.{saves_to}
+use Rattle.mg_files.specs.Saving.{SavesTo}
+use Rattle.mg_files.proofs.SaveLaws.{saves_to}
+use Rattle.mg_exchange.specs.Meeting.{TakesTo}
 use Rattle.mg_exchange.proofs.talking.hear_and_save.Goals as goal
 
 pub returns-in_err-received-clause-takes : goal.returns-in_err-received-clause-takes
@@ -19,9 +20,9 @@ returns-in_err-received-clause-takes g c =
     let kept = c.save-saved.result in
     let heard : Hears remaining (Err e) b met = c.in_err-received.ensures in
     let saves : SavesTo kept old new met d = saves_to kept old new met d s.changed s.calls s.saved s.failed in
-    let took : TakesTo remaining old new b d (Err (Receive e)) = (kept, record { met = met; hears = heard; saves = saves }) in
+    let took : TakesTo (Hears remaining) old new b d (Err (Receive e)) = (kept, record { met = met; hears = heard; saves = saves }) in
     let is : c.from_residual.result ≡ Err (Receive e) = search rules in
-    subst (λ (r : Result ℕ ExchangeFault). TakesTo remaining old new b d r) (sym is) took
+    subst (λ (r : Result ℕ ExchangeFault). TakesTo (Hears remaining) old new b d r) (sym is) took
 
 pub returns-in_err-saved-clause-takes : goal.returns-in_err-saved-clause-takes
 returns-in_err-saved-clause-takes g c =
@@ -36,9 +37,9 @@ returns-in_err-saved-clause-takes g c =
     let n = c.in_ok-received.received in
     let heard : Hears remaining (Ok n) b met = c.in_ok-received.ensures in
     let saves : SavesTo (Err e) old new met d = s.failed in
-    let took : TakesTo remaining old new b d (Err (Save e)) = (n, record { met = met; hears = heard; saves = saves }) in
+    let took : TakesTo (Hears remaining) old new b d (Err (Save e)) = (n, record { met = met; hears = heard; saves = saves }) in
     let is : c.from_residual-in_err-saved.result ≡ Err (Save e) = search rules in
-    subst (λ (r : Result ℕ ExchangeFault). TakesTo remaining old new b d r) (sym is) took
+    subst (λ (r : Result ℕ ExchangeFault). TakesTo (Hears remaining) old new b d r) (sym is) took
 
 pub returns-clause-takes : goal.returns-clause-takes
 returns-clause-takes g c =

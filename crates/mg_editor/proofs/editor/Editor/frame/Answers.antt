@@ -3,7 +3,6 @@ use Rattle.mg_editor.specs.Editors.{Editor}
 use Rattle.mg_editor.specs.Frames.{IsPlaced, IsUnframed}
 use Rattle.mg_editor.proofs.FrameLaws.{shown_by}
 use Rattle.mg_workspace.specs.Showing.{placed_work}
-use Rattle.mg_workspace.specs.Workspaces.{all_listed}
 use Rattle.mg_workspace.proofs.Keeping.{all_listed_keeps, has_lists}
 use Rattle.mg_editor.proofs.editor.Editor.frame.Goals as goal
 

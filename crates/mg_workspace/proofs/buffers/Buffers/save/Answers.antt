@@ -1,6 +1,7 @@
 use Rattle.std.proofs.Common.{rules, ◌≡◌, get_or}
-use Rattle.mg_workspace.specs.Saving.{SavesTo}
-use Rattle.mg_workspace.proofs.Saves.{saves_to, current_becomes}
+use Rattle.mg_files.specs.Saving.{SavesTo}
+use Rattle.mg_files.proofs.SaveLaws.{saves_to}
+use Rattle.mg_workspace.proofs.Saves.{current_becomes}
 use Rattle.mg_workspace.proofs.buffers.Buffers.save.Goals as goal
 
 pub returns-clause-saves : goal.returns-clause-saves

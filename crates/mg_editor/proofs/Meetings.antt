@@ -1,0 +1,40 @@
+-- Meetings of which nothing is said of the link.
+use Rattle.std.proofs.Common.{ℕ, List, Option}
+use Rattle.mg_exchange.proofs.LessSaid.{exchanges_some, serves_some}
+use Rattle.mg_files.specs.Calls.{Call}
+use Rattle.mg_files.specs.OpenState.{OpenState}
+use Rattle.mg_workspace.specs.Saving.{Changes}
+use Rattle.mg_workspace.specs.Workspaces.{Workspace}
+use Rattle.mg_editor.specs.Editors.{Editor}
+use Rattle.mg_editor.specs.Telling.{Answer}
+use Rattle.mg_editor.specs.Meeting.{Exchanged, Served, ExchangedOver, ServedOver}
+
+-- what the current buffer becomes, of which less is said
+changes : {R T : OpenState → OpenState → Type 0} → ((b d : OpenState) → R b d → T b d) → (w v : Workspace) → Changes R w v → Changes T w v
+changes f w v c = record {
+  buffers = record {
+    before = c.buffers.before;
+    after = c.buffers.after;
+    was = c.buffers.was;
+    became = f c.buffers.before c.buffers.after c.buffers.became;
+    is = c.buffers.is;
+  };
+  rest = c.rest;
+}
+
+module _ {L : Type 0} (remaining contents : L → Option (List ℕ)) {calls more : Option (List Call)} {old new : Editor} {r : Answer} where
+  pub exchanged_some : ExchangedOver remaining contents calls more old new r → Exchanged calls more old new r
+  exchanged_some m = record {
+    answer = m.answer;
+    work = changes (λ b d. exchanges_some remaining contents calls more b d m.answer) old.work new.work m.work;
+    rest = m.rest;
+    done = m.done;
+  }
+
+  pub served_some : ServedOver remaining contents calls more old new r → Served calls more old new r
+  served_some m = record {
+    answer = m.answer;
+    work = changes (λ b d. serves_some remaining contents calls more b d m.answer) old.work new.work m.work;
+    rest = m.rest;
+    done = m.done;
+  }

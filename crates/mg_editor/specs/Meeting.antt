@@ -1,0 +1,56 @@
+-- What it leads to that the current buffer meets a peer.
+use Rattle.std.specs.Prelude.{◌≡◌, ℕ, ⊤, List, Option, Result, Ok, Err}
+use Rattle.mg_files.specs.Calls.{Call}
+use Rattle.mg_files.specs.OpenState.{OpenState}
+use Rattle.mg_exchange.specs.Meeting.{Exchanges, Serves}
+use Rattle.mg_exchange.specs.Talking.{Sends, Hears, TakesSome, SendsSome}
+use Rattle.mg_exchange.specs.declared.fault.ExchangeFault.{ExchangeFault}
+use Rattle.mg_exchange.specs.declared.talking.Exchanged as talking
+use Rattle.mg_prompts.specs.declared.ending.Request.{Request}
+use Rattle.mg_prompts.specs.declared.ending.Request.TheVariants as request
+use Rattle.mg_prompts.specs.declared.message.Message.{Message}
+use Rattle.mg_prompts.specs.declared.message.Message.TheVariants as message
+use Rattle.mg_workspace.specs.Saving.{Changes}
+use Rattle.mg_editor.specs.Editors.{Editor}
+use Rattle.mg_editor.specs.Telling.{Answer, message_of_exchange, told}
+use Rattle.mg_editor.specs.declared.fault.CarryFault.TheVariants.{Exchange}
+
+-- ---- what is said of it
+
+abbrev pub message_of_meeting : Result talking.Exchanged ExchangeFault → Message
+message_of_meeting (Ok e) = message.Exchanged e.sent e.received
+message_of_meeting (Err fault) = message_of_exchange fault
+
+abbrev pub meeting_done : Result talking.Exchanged ExchangeFault → Answer
+meeting_done (Ok e) = Ok tt
+meeting_done (Err fault) = Err (Exchange fault)
+
+-- ---- what is done
+
+-- The current buffer became another in a way that what came of the meeting says, and that is told. Nothing else changed.
+pub record Met (R : OpenState → OpenState → Result talking.Exchanged ExchangeFault → Type 0) (old new : Editor) (r : Answer) : Type 0 where
+  pub answer : Result talking.Exchanged ExchangeFault
+  pub work : Changes (λ b d. R b d answer) old.work new.work
+  pub rest : new ≡ told new.work (message_of_meeting answer) old
+  pub done : r ≡ meeting_done answer
+
+-- by the calls that a port tells
+abbrev pub Exchanged : Option (List Call) → Option (List Call) → Editor → Editor → Answer → Type 0
+Exchanged calls more old new r = Met (Exchanges TakesSome SendsSome calls more) old new r
+
+abbrev pub Served : Option (List Call) → Option (List Call) → Editor → Editor → Answer → Type 0
+Served calls more old new r = Met (Serves TakesSome SendsSome calls more) old new r
+
+-- and by the bytes that the link tells
+module _ {L : Type 0} (remaining contents : L → Option (List ℕ)) (calls more : Option (List Call)) (old new : Editor) (r : Answer) where
+  abbrev pub ExchangedOver : Type 0
+  ExchangedOver = Met (Exchanges (Hears remaining) (Sends contents) calls more) old new r
+
+  abbrev pub ServedOver : Type 0
+  ServedOver = Met (Serves (Hears remaining) (Sends contents) calls more) old new r
+
+  -- of any request: the others have no link
+  abbrev pub MetOver : Request → Type 0
+  MetOver request.Exchange = ExchangedOver
+  MetOver request.Serve = ServedOver
+  MetOver _ = ⊤

@@ -1,0 +1,58 @@
+//! Meetings of the current buffer with peers.
+ghost use Rattle.std.specs.Prelude.{◌≡◌};
+ghost use Rattle.mg_editor.specs.Meeting as spec;
+ghost use Rattle.mg_editor.specs.Telling as telling;
+
+use crate::editor::Editor;
+use crate::fault::CarryFault;
+use crate::telling::message_of_exchange;
+use mg_exchange::{ExchangeFault, Exchanged};
+use mg_files::Port;
+use mg_prompts::Message;
+use rga_store::TextStore;
+
+/// What is said of a meeting.
+fn message_of_meeting(answer: &Result<Exchanged, ExchangeFault>) -> Message
+    ensures { result ≡ spec.message_of_meeting answer.now }
+{
+    match answer {
+        Ok(exchanged) => Message::Exchanged(exchanged.sent, exchanged.received),
+        Err(fault) => message_of_exchange(*fault),
+    }
+}
+
+fn meeting_done(answer: Result<Exchanged, ExchangeFault>) -> Result<(), CarryFault>
+    ensures { result ≡ spec.meeting_done answer }
+{
+    match answer {
+        Ok(_) => Ok(()),
+        Err(fault) => Err(CarryFault::Exchange(fault)),
+    }
+}
+
+impl<S: TextStore> Editor<S> {
+    /// The current buffer is exchanged with a peer that waits, which is said.
+    pub(crate) fn exchange<P: Port>(&mut self, port: &mut P) -> Result<(), CarryFault>
+        ensures told { spec.Exchanged
+            (P.calls port.old) (P.calls port.new) self.old self.new result }
+        ensures over { spec.ExchangedOver P.Link.remaining P.Link.contents
+            (P.calls port.old) (P.calls port.new) self.old self.new result }
+        ensures device { telling.CountsBehind result (P.failures port.old) (P.failures port.new) }
+    {
+        let answer = self.work.exchange(port);
+        self.talk.tell(message_of_meeting(&answer));
+        meeting_done(answer)
+    }
+
+    /// The current buffer is exchanged with a peer that is waited for, which is said.
+    pub(crate) fn serve<P: Port>(&mut self, port: &mut P) -> Result<(), CarryFault>
+        ensures told { spec.Served (P.calls port.old) (P.calls port.new) self.old self.new result }
+        ensures over { spec.ServedOver P.Link.remaining P.Link.contents
+            (P.calls port.old) (P.calls port.new) self.old self.new result }
+        ensures device { telling.CountsBehind result (P.failures port.old) (P.failures port.new) }
+    {
+        let answer = self.work.serve(port);
+        self.talk.tell(message_of_meeting(&answer));
+        meeting_done(answer)
+    }
+}

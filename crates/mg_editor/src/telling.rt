@@ -1,0 +1,104 @@
+//! What is said of faults.
+ghost use Rattle.std.specs.Prelude.{◌≡◌};
+ghost use Rattle.mg_editor.specs.Telling as spec;
+
+use crate::fault::CarryFault;
+use mg_exchange::ExchangeFault;
+use mg_files::{LinkFault, LoadFault, PortFault};
+use mg_plain::Notice;
+use mg_prompts::Message;
+use rga_exchange::{ReceiveFault, SendFault};
+
+/// What is said of a port that is asked for files.
+pub(crate) fn message_of_port(fault: PortFault) -> Message
+    ensures { result ≡ spec.message_of_port fault }
+{
+    match fault {
+        PortFault::File => Message::FileFault,
+        PortFault::Memory => Message::Refused(Notice::Memory),
+    }
+}
+
+/// What is said of a log that is not read. Only a line, or what it says, can be at fault.
+fn message_of_log(fault: ReceiveFault) -> Message
+    ensures { result ≡ spec.message_of_log fault }
+{
+    match fault {
+        ReceiveFault::Line(line, fault) => Message::BadLine(line, fault),
+        ReceiveFault::Refused(line, refusal) => Message::RefusedLine(line, refusal),
+        ReceiveFault::Cut | ReceiveFault::Count | ReceiveFault::Read | ReceiveFault::Memory => {
+            Message::FileFault
+        }
+    }
+}
+
+/// What is said of a buffer that is not loaded. Replica and limit of an editor are within theirs, so
+/// of a text only `Full` is refused.
+fn message_of_load(fault: LoadFault) -> Message
+    ensures { result ≡ spec.message_of_load fault }
+{
+    match fault {
+        LoadFault::Log(fault) => message_of_log(fault),
+        LoadFault::NotText => Message::NotText,
+        LoadFault::Store(_) => Message::BufferFull,
+        LoadFault::Memory => Message::Refused(Notice::Memory),
+    }
+}
+
+/// What is said of a port that is asked for a link.
+fn message_of_link(fault: LinkFault) -> Message
+    ensures { result ≡ spec.message_of_link fault }
+{
+    match fault {
+        LinkFault::Socket => Message::SocketFault,
+        LinkFault::NoPort => Message::NoPort,
+        LinkFault::Memory => Message::Refused(Notice::Memory),
+    }
+}
+
+/// What is said of a link on which not all was sent.
+fn message_of_sending(fault: SendFault) -> Message
+    ensures { result ≡ spec.message_of_sending fault }
+{
+    match fault {
+        SendFault::Write => Message::SocketFault,
+        SendFault::Memory => Message::Refused(Notice::Memory),
+    }
+}
+
+/// What is said of a peer that was not heard to its end.
+fn message_of_peer(fault: ReceiveFault) -> Message
+    ensures { result ≡ spec.message_of_peer fault }
+{
+    match fault {
+        ReceiveFault::Line(line, fault) => Message::BadLine(line, fault),
+        ReceiveFault::Refused(line, refusal) => Message::RefusedLine(line, refusal),
+        ReceiveFault::Cut => Message::Cut,
+        ReceiveFault::Count => Message::WrongCount,
+        ReceiveFault::Read => Message::SocketFault,
+        ReceiveFault::Memory => Message::Refused(Notice::Memory),
+    }
+}
+
+/// What is said of a meeting with a peer.
+pub(crate) fn message_of_exchange(fault: ExchangeFault) -> Message
+    ensures { result ≡ spec.message_of_exchange fault }
+{
+    match fault {
+        ExchangeFault::Save(fault) => message_of_port(fault),
+        ExchangeFault::Link(fault) => message_of_link(fault),
+        ExchangeFault::Send(fault) => message_of_sending(fault),
+        ExchangeFault::Receive(fault) => message_of_peer(fault),
+    }
+}
+
+/// What is said of a request that was not carried out.
+pub(crate) fn message_of_fault(fault: CarryFault) -> Message
+    ensures { result ≡ spec.message_of_fault fault }
+{
+    match fault {
+        CarryFault::Port(fault) => message_of_port(fault),
+        CarryFault::Load(fault) => message_of_load(fault),
+        CarryFault::Exchange(fault) => message_of_exchange(fault),
+    }
+}

@@ -1,0 +1,66 @@
+-- An exchange of which less is said: what follows from what passed over the link is said in its place.
+use Rattle.std.proofs.Common.{inl, inr, ℕ, List, Option, Result, Ok, Err}
+use Rattle.rga_lines.specs.Log.{operations_of}
+use Rattle.rga_ops.specs.Content.{Content}
+use Rattle.rga_exchange.specs.declared.fault.ReceiveFault.{ReceiveFault}
+use Rattle.rga_exchange.specs.declared.fault.SendFault.{SendFault}
+use Rattle.mg_files.specs.Calls.{Call}
+use Rattle.mg_files.specs.OpenState.{OpenState}
+use Rattle.mg_exchange.specs.declared.fault.ExchangeFault.{ExchangeFault}
+use Rattle.mg_exchange.specs.declared.fault.ExchangeFault.TheVariants.{Save, Link, Send, Receive}
+use Rattle.mg_exchange.specs.declared.talking.Exchanged.{Exchanged}
+use Rattle.mg_exchange.specs.Talking.{Sends, SendsSome, Hears, TakesSome}
+use Rattle.mg_exchange.specs.Meeting.{Takes, TakesTo, Meets, Turns, ExchangesTo, ServesTo, Exchanges, Serves}
+
+-- ---- what is said of the peer
+
+module _ {H K : Result ℕ ReceiveFault → OpenState → OpenState → Type 0} (f : (r : Result ℕ ReceiveFault) (b d : OpenState) → H r b d → K r b d) where
+  takes : (old new : Option (List Call)) (b d : OpenState) (heard : _) (kept : _) → Takes H old new b d heard kept → Takes K old new b d heard kept
+  takes old new b d heard kept t = record { met = t.met; hears = f heard b t.met t.hears; saves = t.saves }
+
+  takes_to : (old new : Option (List Call)) (b d : OpenState) (r : Result ℕ ExchangeFault) → TakesTo H old new b d r → TakesTo K old new b d r
+  takes_to old new b d (Ok n) t = (t.0, takes old new b d (Ok n) (Ok t.0) t.1)
+  takes_to old new b d (Err (Save fault)) t = (t.0, takes old new b d (Ok t.0) (Err fault) t.1)
+  takes_to old new b d (Err (Receive fault)) t = (t.0, takes old new b d (Err fault) t.0 t.1)
+  takes_to old new b d (Err (Link fault)) t = elim t [ ]
+  takes_to old new b d (Err (Send fault)) t = elim t [ ]
+
+  -- ---- and of what is sent
+
+  module _ {S T : Result ℕ SendFault → Content → Type 0} (g : (r : Result ℕ SendFault) (c : Content) → S r c → T r c) (old new : Option (List Call)) (b d : OpenState) where
+    meets : (made : List Call) (r : Result ℕ ExchangeFault) → Meets H S old new b d made r → Meets K T old new b d made r
+    meets made r m = record { mid = m.mid; calls = m.calls; takes = takes_to m.mid new _ d r m.takes }
+
+    turns : (sent : ℕ) (r : Result ℕ ExchangeFault) → Turns H S old new b d sent r → Turns K T old new b d sent r
+    turns sent r t = record { sends = g (Ok sent) b.buffer.content t.sends; meets = meets _ r t.meets }
+
+    exchanges_to : (r : Result Exchanged ExchangeFault) → ExchangesTo H S old new b d r → ExchangesTo K T old new b d r
+    exchanges_to (Ok e) t = turns e.sent (Ok e.received) t
+    exchanges_to (Err (Save fault)) (inl s) = inl s
+    exchanges_to (Err (Save fault)) (inr t) = inr (t.0, turns t.0 (Err (Save fault)) t.1)
+    exchanges_to (Err (Link fault)) t = t
+    exchanges_to (Err (Send fault)) t = (g (Err fault) b.buffer.content t.0, t.1)
+    exchanges_to (Err (Receive fault)) t = (t.0, turns t.0 (Err (Receive fault)) t.1)
+
+    serves_to : (r : Result Exchanged ExchangeFault) → ServesTo H S old new b d r → ServesTo K T old new b d r
+    serves_to (Ok e) t = (meets _ (Ok e.received) t.0, g (Ok e.sent) d.buffer.content t.1)
+    serves_to (Err (Save fault)) (inl s) = inl s
+    serves_to (Err (Save fault)) (inr m) = inr (meets _ (Err (Save fault)) m)
+    serves_to (Err (Link fault)) t = t
+    serves_to (Err (Send fault)) t = ((t.0.0, meets _ (Ok t.0.0) t.0.1), g (Err fault) d.buffer.content t.1)
+    serves_to (Err (Receive fault)) m = meets _ (Err (Receive fault)) m
+
+-- ---- nothing is said of the link
+
+takes_some : {L : Type 0} (remaining : L → Option (List ℕ)) (r : Result ℕ ReceiveFault) (b d : OpenState) → Hears remaining r b d → TakesSome r b d
+takes_some remaining r b d h = record { ops = operations_of h.lines.lines; follows = h.lines.beside; rest = h.rest }
+
+sends_some : {L : Type 0} (contents : L → Option (List ℕ)) (r : Result ℕ SendFault) (c : Content) → Sends contents r c → SendsSome r c
+sends_some contents r c s = tt
+
+module _ {L : Type 0} (remaining contents : L → Option (List ℕ)) (old new : Option (List Call)) (b d : OpenState) (r : Result Exchanged ExchangeFault) where
+  pub exchanges_some : Exchanges (Hears remaining) (Sends contents) old new b d r → Exchanges TakesSome SendsSome old new b d r
+  exchanges_some e = record { came = exchanges_to (takes_some remaining) (sends_some contents) old new b d r e.came; gains = e.gains }
+
+  pub serves_some : Serves (Hears remaining) (Sends contents) old new b d r → Serves TakesSome SendsSome old new b d r
+  serves_some e = record { came = serves_to (takes_some remaining) (sends_some contents) old new b d r e.came; gains = e.gains }
