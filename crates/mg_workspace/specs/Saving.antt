@@ -1,4 +1,4 @@
--- What a save leaves of the current buffer.
+-- What a save or an exchange leaves of the current buffer.
 use Rattle.std.specs.Prelude.{◌≡◌, Bool, List, Option, Some, Result, slice_get, slice_set}
 use Rattle.mg_files.specs.Calls.{Call}
 use Rattle.mg_files.specs.OpenState.{OpenState}
