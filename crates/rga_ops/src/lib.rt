@@ -21,6 +21,3 @@ pub use id::Id;
 pub use op::Op;
 pub use refusal::{Refusal, Taken};
 pub use splice::Splice;
-
-#[cfg(test)]
-mod tests;

@@ -6,16 +6,29 @@ use rga_store::{TextStore, TreeStore};
 use std::alloc::Global;
 use test_ops::{id, spells};
 
-/// Alice writes a note, and Bob gets a copy; both edit it, and take each other's changes.
+/// Alice writes a note; Bob edits a copy of it apart, and each takes the other's changes.
 fn two_people(alloc: Global) -> Result<Vec<char>, Refusal> {
-    let mut alice = Doc::new(alloc, TreeStore::new(alloc, 1000)?, 1)?;
-    drop(alice.splice(0, 0, &['o', 'a', 't', 's'])?);
-    let mut bob = Doc::new(alloc, alice.store().copy()?, 2)?;
-    edit_apart(&mut alice, &mut bob)?;
+    let mut alice = note(alloc)?;
+    edit_apart(alloc, &mut alice)?;
     alice.text()
 }
 
-fn edit_apart(alice: &mut Document, bob: &mut Document) -> Result<(), Refusal> {
+fn note(alloc: Global) -> Result<Document, Refusal> {
+    let mut alice = Doc::new(alloc, TreeStore::new(alloc, 1000)?, 1)?;
+    drop(alice.splice(0, 0, &['o', 'a', 't', 's'])?);
+    Ok(alice)
+}
+
+fn edit_apart(alloc: Global, alice: &mut Document) -> Result<(), Refusal> {
+    let mut bob = copy_for(alloc, alice, 2)?;
+    edit_both(alice, &mut bob)
+}
+
+fn copy_for(alloc: Global, doc: &Document, replica: u16) -> Result<Document, Refusal> {
+    Doc::new(alloc, doc.store().copy()?, replica)
+}
+
+fn edit_both(alice: &mut Document, bob: &mut Document) -> Result<(), Refusal> {
     drop(alice.splice(0, 1, &['O'])?);
     drop(bob.splice(4, 4, &['!'])?);
     alice.merge(bob)?;
@@ -28,26 +41,35 @@ fn what_two_people_wrote_apart(rt: HostRuntime) {
     assert!(rt; text.is_ok_and(|chars| spells(&chars, "Oats!")));
 }
 
-/// Whether a copy of one document takes another, shows this text then, and has its limit and its
-/// replica still.
-fn merges(own: &Document, other: &Document, text: &str) -> bool {
-    match own.copy() {
-        Ok(mut doc) => {
-            doc.merge(other) == Ok(())
-                && shows(&doc, text)
-                && doc.store().limit() == own.store().limit()
-                && doc.replica() == own.replica()
-        }
+/// A replica with a limit, and the operations that it took.
+type Held = (u16, usize, &'static str);
+
+/// The copy of a document that holds this.
+fn copied(alloc: Global, (replica, limit, words): Held) -> Result<Document, Refusal> {
+    document(alloc, replica, limit, words)?.copy()
+}
+
+/// What a document is behind the merge of one that holds this.
+fn merged(alloc: Global, own: Held, (replica, limit, words): Held) -> Result<Document, Refusal> {
+    let mut doc = copied(alloc, own)?;
+    doc.merge(&document(alloc, replica, limit, words)?)?;
+    Ok(doc)
+}
+
+/// Whether a document takes another, shows this text then, and has its limit and its replica still.
+fn merges(alloc: Global, own: Held, other: Held, text: &str) -> bool {
+    match merged(alloc, own, other) {
+        Ok(doc) => shows(&doc, text) && (doc.replica(), doc.store().limit()) == (own.0, own.1),
         Err(_) => false,
     }
 }
 
 #[test]
 fn documents_merged_both_ways(rt: HostRuntime) {
-    let first = document(rt.alloc(), 1, 100, AB).expect(&rt, "a document");
-    let second = document(rt.alloc(), 2, 3, "x1.2<0.0 -2.1").expect(&rt, "a document");
-    assert!(rt; merges(&first, &second, "xa"));
-    assert!(rt; merges(&second, &first, "xa"));
+    let first = (1, 100, AB);
+    let second = (2, 3, "x1.2<0.0 -2.1");
+    assert!(rt; merges(rt.alloc(), first, second, "xa"));
+    assert!(rt; merges(rt.alloc(), second, first, "xa"));
 }
 
 /// Whether the document refuses so to take another, which took the operations of the words.

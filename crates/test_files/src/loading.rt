@@ -56,52 +56,51 @@ fn files_are_loaded(rt: HostRuntime) {
     }
 }
 
+/// Whether a log is not loaded for this fault.
+fn refuses_log(alloc: Global, log: &str, limit: usize, fault: ReceiveFault) -> bool {
+    answer(alloc, Some(log), None, limit).err() == Some(LoadFault::Log(fault))
+}
+
 #[test]
-fn faulty_files_are_not_loaded(rt: HostRuntime) -> Result<(), Refusal> {
-    let conflict = Refusal::Conflict(Id::new(1, 1)?);
-    assert!(rt; conflict.name() == "Conflict");
-    let line = ReceiveFault::Line(2, LineFault::Kind);
-    for (log, text, limit, fault) in [
+fn faulty_logs_are_not_loaded(rt: HostRuntime) {
+    let conflict = Id::new(1, 1).expect(&rt, "an identifier");
+    for (log, limit, fault) in [
         (
-            Some(WITH_A_CONFLICT),
-            None,
+            WITH_A_CONFLICT,
             100,
-            LoadFault::Log(ReceiveFault::Refused(2, conflict)),
-        ),
-        (Some(WITH_ANOTHER_LINE), None, 100, LoadFault::Log(line)),
-        (
-            Some(AB),
-            None,
-            1,
-            LoadFault::Log(ReceiveFault::Refused(2, Refusal::Full)),
+            ReceiveFault::Refused(2, Refusal::Conflict(conflict)),
         ),
         (
-            None,
-            Some("h\u{fc}".as_bytes().split_at(2).0),
+            WITH_ANOTHER_LINE,
             100,
-            LoadFault::NotText,
+            ReceiveFault::Line(2, LineFault::Kind),
         ),
-        (
-            None,
-            Some("abc".as_bytes()),
-            2,
-            LoadFault::Store(Refusal::Full),
-        ),
-        (
-            None,
-            Some("abc".as_bytes()),
-            0,
-            LoadFault::Store(Refusal::Range),
-        ),
-        (None, None, MAX_LIMIT + 1, LoadFault::Store(Refusal::Range)),
+        (AB, 1, ReceiveFault::Refused(2, Refusal::Full)),
+    ] {
+        assert!(rt; refuses_log(rt.alloc(), log, limit, fault), "{fault:?}");
+    }
+}
+
+/// Whether a text is not loaded for this fault.
+fn refuses_text(alloc: Global, text: &[u8], limit: usize, fault: LoadFault) -> bool {
+    answer(alloc, None, Some(text), limit).err() == Some(fault)
+}
+
+#[test]
+fn faulty_texts_are_not_loaded(rt: HostRuntime) {
+    let cut = "h\u{fc}".as_bytes().split_at(2).0;
+    assert!(rt; refuses_text(rt.alloc(), cut, 100, LoadFault::NotText));
+    for (limit, refusal) in [
+        (2, Refusal::Full),
+        (0, Refusal::Range),
+        (MAX_LIMIT + 1, Refusal::Range),
     ] {
         assert!(rt;
-            answer(rt.alloc(), log, text, limit).err() == Some(fault),
-            "{log:?} {fault:?}"
+            refuses_text(rt.alloc(), b"abc", limit, LoadFault::Store(refusal)),
+            "{limit}"
         );
     }
-    assert!(rt; answer(rt.alloc(), None, Some("abc".as_bytes()), 3).is_ok());
-    Ok(())
+    assert!(rt; answer(rt.alloc(), None, Some(b"abc"), 3).is_ok());
 }
 
 #[test]

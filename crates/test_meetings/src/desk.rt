@@ -61,22 +61,37 @@ impl Meeting {
     }
 }
 
-/// A new buffer of a replica in which this was typed.
-fn typed(alloc: Global, replica: u16, text: &str) -> Option<Opened<TreeStore>> {
+/// A new buffer of a replica.
+fn opened(alloc: Global, replica: u16) -> Option<Opened<TreeStore>> {
     let found = Found {
         log: None,
         text: None,
     };
     let name = String::from_str(alloc, "notes").ok()?;
-    let (mut opened, _) = Opened::load(alloc, name, replica, 100, found).ok()?;
+    let (opened, _) = Opened::load(alloc, name, replica, 100, found).ok()?;
+    Some(opened)
+}
+
+/// Types a text, and says whether that was done.
+fn types(alloc: Global, opened: &mut Opened<TreeStore>, text: &str) -> bool {
     let mut memo = Memo::new(alloc);
     for ch in text.chars() {
-        opened
-            .buffer
-            .run(&Command::Insert(ch), 1, &mut memo, 70)
-            .ok()?;
+        let command = Command::Insert(ch);
+        if opened.buffer.run(&command, 1, &mut memo, 70).is_err() {
+            return false;
+        }
     }
-    Some(opened)
+    true
+}
+
+/// A new buffer of a replica in which this was typed.
+fn typed(alloc: Global, replica: u16, text: &str) -> Option<Opened<TreeStore>> {
+    let mut opened = opened(alloc, replica)?;
+    if types(alloc, &mut opened, text) {
+        Some(opened)
+    } else {
+        None
+    }
 }
 
 impl Desk {

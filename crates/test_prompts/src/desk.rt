@@ -103,71 +103,77 @@ fn behind(next: Next, open: Option<Prompt>) -> Option<Prompt> {
     }
 }
 
-fn ended(alloc: Global, desk: Desk, ending: Ending) -> Result<Desk, AllocError> {
-    let told = told(alloc, &ending.deed, &ending.request)?;
-    let point = point_after(&desk, &ending.deed);
-    Ok(Desk {
-        text: desk.text,
-        point,
-        prompt: behind(ending.next, desk.prompt),
-        last: desk.last,
-        message: ending.message,
-        told,
-    })
+/// Notes what is done, but for the prompt.
+fn note(alloc: Global, desk: &mut Desk, ending: &Ending) -> Result<(), AllocError> {
+    desk.told = told(alloc, &ending.deed, &ending.request)?;
+    desk.point = point_after(desk, &ending.deed);
+    desk.message = ending.message;
+    Ok(())
+}
+
+fn ended(alloc: Global, desk: &mut Desk, ending: Ending) -> Result<(), AllocError> {
+    note(alloc, desk, &ending)?;
+    desk.prompt = behind(ending.next, desk.prompt.take());
+    Ok(())
+}
+
+/// The text before a match, the replacement in its place, and what stands behind both.
+fn replaced(
+    alloc: Global,
+    text: &[char],
+    (begin, end): (usize, usize),
+    put: &[char],
+) -> Result<Vec<char>, AllocError> {
+    let mut new = Vec::from_slice(alloc, &text[..begin.min(text.len())])?;
+    new.extend_from_slice(put)?;
+    new.extend_from_slice(&text[end.min(text.len())..])?;
+    Ok(new)
 }
 
 /// The match at point is replaced, and the next one is looked for.
-fn replaced(
+fn replace(
     alloc: Global,
-    desk: Desk,
+    desk: &mut Desk,
     pattern: &[char],
     put: &[char],
     count: usize,
-) -> Result<Desk, AllocError> {
-    let end = desk.point.min(desk.text.len());
-    let begin = end.saturating_sub(pattern.len());
-    let mut text = Vec::from_slice(alloc, &desk.text[..begin])?;
-    text.extend_from_slice(put)?;
-    let point = text.len();
-    text.extend_from_slice(&desk.text[end..])?;
-    let desk = Desk {
-        text,
-        point,
-        ..desk
-    };
+) -> Result<(), AllocError> {
+    let begin = desk.point.saturating_sub(pattern.len());
+    desk.text = replaced(alloc, &desk.text, (begin, desk.point), put)?;
+    desk.point = begin.saturating_add(put.len());
     let count = count.saturating_add(1);
-    let ending = next_match(alloc, pattern, put, count, &scene(&desk))?;
+    let ending = next_match(alloc, pattern, put, count, &scene(desk))?;
     ended(alloc, desk, ending)
 }
 
 /// The search closes, and its pattern is kept.
-fn accepted(alloc: Global, desk: Desk) -> Result<Desk, AllocError> {
-    let last = match &desk.prompt {
+fn accepted(alloc: Global, desk: &mut Desk) -> Result<(), AllocError> {
+    desk.last = match &desk.prompt {
         Some(prompt) => Vec::from_slice(alloc, prompt.answer())?,
         None => Vec::new(alloc),
     };
-    Ok(Desk {
-        text: desk.text,
-        point: desk.point,
-        prompt: None,
-        last,
-        message: Message::Nothing,
-        told: String::new(alloc),
-    })
+    desk.prompt = None;
+    desk.message = Message::Nothing;
+    desk.told = String::new(alloc);
+    Ok(())
 }
 
-fn stepped(alloc: Global, desk: Desk, step: Step) -> Result<Desk, AllocError> {
-    let reaction = match &desk.prompt {
-        None => Reaction::Ends(plain_step(alloc, step, &scene(&desk))),
-        Some(prompt) => prompt_step(alloc, prompt, &step, &scene(&desk), &desk.last)?,
-    };
-    match reaction {
+/// What a step leads to.
+fn reaction(alloc: Global, desk: &Desk, step: Step) -> Result<Reaction, AllocError> {
+    match &desk.prompt {
+        None => Ok(Reaction::Ends(plain_step(alloc, step, &scene(desk)))),
+        Some(prompt) => prompt_step(alloc, prompt, &step, &scene(desk), &desk.last),
+    }
+}
+
+fn stepped(alloc: Global, desk: &mut Desk, step: Step) -> Result<(), AllocError> {
+    match reaction(alloc, desk, step)? {
         Reaction::Ends(ending) => ended(alloc, desk, ending),
         Reaction::Replaces {
             pattern,
             put,
             count,
-        } => replaced(alloc, desk, pattern.as_slice(), put.as_slice(), count),
+        } => replace(alloc, desk, pattern.as_slice(), put.as_slice(), count),
         Reaction::Accepts => accepted(alloc, desk),
     }
 }
@@ -179,17 +185,16 @@ fn mode(desk: &Desk) -> Mode {
     }
 }
 
-fn typed(alloc: Global, desk: Desk, keys: &[u8]) -> Result<Desk, AllocError> {
-    let mut desk = desk;
+fn typed(alloc: Global, desk: &mut Desk, keys: &[u8]) -> Result<(), AllocError> {
     let mut reader = Keys::new();
     for byte in keys {
         let step = reader.feed(*byte);
         if step != Step::Pending {
-            desk = stepped(alloc, desk, step)?;
-            reader.enter(mode(&desk));
+            stepped(alloc, desk, step)?;
+            reader.enter(mode(desk));
         }
     }
-    Ok(desk)
+    Ok(())
 }
 
 /// The desk in one line: point in the text, the prompt with its answer, the message, what was told.
@@ -222,7 +227,7 @@ fn shown(alloc: Global, desk: &Desk) -> Result<String, AllocError> {
 }
 
 fn line_after(alloc: Global, text: &str, point: usize, keys: &str) -> Result<String, AllocError> {
-    let desk = Desk {
+    let mut desk = Desk {
         text: chars_of(alloc, text)?,
         point,
         prompt: None,
@@ -230,7 +235,7 @@ fn line_after(alloc: Global, text: &str, point: usize, keys: &str) -> Result<Str
         message: Message::Nothing,
         told: String::new(alloc),
     };
-    let desk = typed(alloc, desk, keys.as_bytes())?;
+    typed(alloc, &mut desk, keys.as_bytes())?;
     shown(alloc, &desk)
 }
 

@@ -1,9 +1,10 @@
-//! Tests of stores.
+//! Tests of operations and of stores.
 //!
-//! The worked examples of `TreeStore`, and of what is asked of it before it takes anything; and
-//! the tree beside a plain list: seeded random operations go into both, the list being searched
-//! from the front and comparing whole root paths, and after each both must answer and show the
-//! same. Nothing stands on this crate, so nothing waits for its proof.
+//! Identifiers and operations at the edges of their ranges; the worked examples of `TreeStore`, and
+//! of what is asked of it before it takes anything; and the tree beside a plain list: seeded random
+//! operations go into both, the list being searched from the front and comparing whole root paths,
+//! and after each both must answer and show the same. Nothing stands on this crate, so nothing
+//! waits for its proof.
 #![tactic(auto)]
 
 #[cfg(test)]
@@ -14,6 +15,8 @@ mod list_store;
 mod merging;
 #[cfg(test)]
 mod new_operations;
+#[cfg(test)]
+mod operations;
 #[cfg(test)]
 mod random;
 #[cfg(test)]

@@ -1,5 +1,5 @@
 //! Identifiers and operations at the edges of their ranges.
-use crate::{Id, Op, Refusal};
+use rga_ops::{Id, Op, Refusal};
 use std::test::Fail;
 
 #[test]
