@@ -70,7 +70,7 @@ help:
 	@echo "make try-live  runs mgr-live in a terminal of tmux, and looks at what it shows (needs python3 and tmux)"
 	@echo "make try-exchange"
 	@echo "               exchanges a note between two mgr on this machine (needs python3)"
-	@echo "make test      runs every proof and test from nothing; the last line counts them"
+	@echo "make test      proves what this machine has not proved yet, and runs every test; the last line counts all"
 	@echo "make crash     kills saves at each call of the system, and loads again (needs python3 and strace)"
 	@echo "make hostile   exchanges with peers that break off, lie, flood or are deaf (needs python3)"
 	@echo "make bench     measures mgr beside a native program (needs python3 and rustc)"

@@ -66,12 +66,27 @@ fn seen(alloc: Global, editor: &mut Editor<TreeStore>, quits: bool) -> Option<St
     Some(line)
 }
 
+/// What is seen once keys are pressed.
+fn seen_behind(
+    alloc: Global,
+    editor: &mut Editor<TreeStore>,
+    port: &mut MemoryPort,
+    keys: &str,
+) -> Option<String> {
+    let quits = take(editor, port, keys)?;
+    seen(alloc, editor, quits)
+}
+
+/// The same of a new editor over a port.
+fn seen_over(alloc: Global, port: &mut MemoryPort, keys: &str) -> Option<String> {
+    let mut editor = on_log(alloc, "").ok()?;
+    seen_behind(alloc, &mut editor, port, keys)
+}
+
 fn shown(alloc: Global, keys: &str, is_away: bool) -> Option<String> {
     let mut port = port(alloc).ok()?;
     port.is_away = is_away;
-    let mut editor = on_log(alloc, "").ok()?;
-    let quits = take(&mut editor, &mut port, keys)?;
-    seen(alloc, &mut editor, quits)
+    seen_over(alloc, &mut port, keys)
 }
 
 fn shows(alloc: Global, keys: &str, is_away: bool, line: &str) -> bool {
@@ -190,12 +205,16 @@ fn open_all(alloc: Global, editor: &mut Editor<TreeStore>, port: &mut MemoryPort
     Some(())
 }
 
+/// What is seen once keys are pressed behind these.
+fn seen_behind_all(alloc: Global, port: &mut MemoryPort, keys: &str) -> Option<String> {
+    let mut editor = on_log(alloc, "").ok()?;
+    open_all(alloc, &mut editor, port)?;
+    seen_behind(alloc, &mut editor, port, keys)
+}
+
 fn behind_all(alloc: Global, keys: &str) -> Option<String> {
     let mut port = port(alloc).ok()?;
-    let mut editor = on_log(alloc, "").ok()?;
-    open_all(alloc, &mut editor, &mut port)?;
-    let quits = take(&mut editor, &mut port, keys)?;
-    seen(alloc, &mut editor, quits)
+    seen_behind_all(alloc, &mut port, keys)
 }
 
 fn shows_behind_all(alloc: Global, keys: &str, line: &str) -> bool {

@@ -14,16 +14,30 @@ fn told(alloc: Global, editor: &Editor<TreeStore>, port: &MemoryPort) -> Option<
     Some(line)
 }
 
-/// What is told once keys are pressed on a log, and each request is carried.
+/// What is told once keys are pressed, and each request is carried.
+fn told_behind(
+    alloc: Global,
+    editor: &mut Editor<TreeStore>,
+    port: &mut MemoryPort,
+    keys: &str,
+) -> Option<String> {
+    for byte in keys.as_bytes() {
+        let request = editor.press(*byte).ok()?;
+        let _ = editor.carry(request, port);
+    }
+    told(alloc, editor, port)
+}
+
+/// The same of an editor on a log.
+fn told_on(alloc: Global, port: &mut MemoryPort, log: &str, keys: &str) -> Option<String> {
+    let mut editor = on_log(alloc, log).ok()?;
+    told_behind(alloc, &mut editor, port, keys)
+}
+
 fn carried(alloc: Global, log: &str, keys: &str, refused: Option<CallKind>) -> Option<String> {
     let mut port = MemoryPort::new(alloc);
     port.refused = refused;
-    let mut editor = on_log(alloc, log).ok()?;
-    for byte in keys.as_bytes() {
-        let request = editor.press(*byte).ok()?;
-        let _ = editor.carry(request, &mut port);
-    }
-    told(alloc, &editor, &port)
+    told_on(alloc, &mut port, log, keys)
 }
 
 fn is_told(alloc: Global, log: &str, keys: &str, refused: Option<CallKind>, wanted: &str) -> bool {
