@@ -1,8 +1,9 @@
 //! Keys and what a buffer shows then.
-use crate::sessions::open_session;
+use crate::sessions::{Session, open_session};
 use mg_buffer::BufferFault;
 use mg_plain::Notice;
 use rga_ops::Refusal;
+use rga_store::TextStore;
 
 #[test]
 fn keys_lead_to_scenes(rt: HostRuntime) {
@@ -91,29 +92,42 @@ fn refused_keys_change_nothing(rt: HostRuntime) {
     }
 }
 
+/// Whether keys lead to a scene and to these operations, which are saved then.
+fn notes(s: &mut Session, keys: &str, scene: &str, words: &str) -> bool {
+    let has_noted = s.keys(keys).is_ok() && s.shows(scene) && s.noted(words);
+    s.buffer.mark_saved();
+    has_noted && s.noted("")
+}
+
 #[test]
 fn double_yank_makes_a_chain_each(rt: HostRuntime) {
     let mut s = open_session(rt.alloc(), 1, 100).expect(&rt, "a session");
-    assert!(rt; s.keys("hello C-a C-k").is_ok());
-    assert!(rt; s.noted("h1.1<0.0 e2.1<1.1 l3.1<2.1 l4.1<3.1 o5.1<4.1 -1.1 -2.1 -3.1 -4.1 -5.1"));
-    s.buffer.mark_saved();
-    assert!(rt; s.noted(""));
-    assert!(rt; s.keys("C-y C-y").is_ok());
-    assert!(rt; s.shows("hello^hello|"));
-    assert!(rt;
-        s.noted(
+    for (keys, scene, words) in [
+        (
+            "hello C-a C-k",
+            "|",
+            "h1.1<0.0 e2.1<1.1 l3.1<2.1 l4.1<3.1 o5.1<4.1 -1.1 -2.1 -3.1 -4.1 -5.1",
+        ),
+        (
+            "C-y C-y",
+            "hello^hello|",
             "h6.1<0.0 e7.1<6.1 l8.1<7.1 l9.1<8.1 o10.1<9.1 \
-             h11.1<10.1 e12.1<11.1 l13.1<12.1 l14.1<13.1 o15.1<14.1"
-        )
-    );
+             h11.1<10.1 e12.1<11.1 l13.1<12.1 l14.1<13.1 o15.1<14.1",
+        ),
+    ] {
+        assert!(rt; notes(&mut s, keys, scene, words), "{keys}");
+    }
+}
+
+/// Whether the buffer is `notes`, over a store of that limit that knows so many identifiers.
+fn is_notes(s: &Session, limit: usize, known: usize) -> bool {
+    let store = s.buffer.store();
+    s.buffer.name() == "notes" && store.limit() == limit && store.known() == known
 }
 
 #[test]
 fn buffer_has_its_name_and_its_store(rt: HostRuntime) {
     let mut s = open_session(rt.alloc(), 1, 7).expect(&rt, "a session");
     assert!(rt; s.keys("ab").is_ok());
-    assert!(rt; s.buffer.name() == "notes");
-    let store = s.buffer.store();
-    assert!(rt; rga_store::TextStore::limit(store) == 7);
-    assert!(rt; rga_store::TextStore::known(store) == 2);
+    assert!(rt; is_notes(&s, 7, 2));
 }

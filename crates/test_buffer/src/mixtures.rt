@@ -173,27 +173,71 @@ fn goes_back(s: &mut Session) -> Result<bool, BufferFault> {
     Ok(false)
 }
 
-/// Whether so many steps go well, with an exchange now and then or none, and all can be undone.
-fn mixes(alloc: Global, seed: u64, apart: bool) -> Result<bool, BufferFault> {
+/// A step, and an exchange behind it now and then, or none; tells whether it went well.
+fn mixes_step(
+    s: &mut Session,
+    other: &mut Session,
+    dice: &mut Dice,
+    apart: bool,
+) -> Result<bool, BufferFault> {
+    let answer = steps(s, dice);
+    if answer != Ok(true) || apart || dice.roll(4) > 0 {
+        return answer;
+    }
+    match exchanges(s, other, dice) {
+        Ok(()) => Ok(true),
+        Err(fault) => Err(fault),
+    }
+}
+
+/// Many steps, up to one that does not go well.
+fn mixes_steps(
+    s: &mut Session,
+    other: &mut Session,
+    seed: u64,
+    apart: bool,
+) -> Result<bool, BufferFault> {
     let mut dice = Dice { state: seed };
-    let mut s = open_session(alloc, 1, 20000)?;
-    let mut other = open_session(alloc, 2, 20000)?;
     for _ in 0..100u32 {
-        if !steps(&mut s, &mut dice)? {
-            return Ok(false);
-        }
-        if !apart && dice.roll(4) == 0 {
-            exchanges(&mut s, &mut other, &mut dice)?;
+        let answer = mixes_step(s, other, &mut dice, apart);
+        if answer != Ok(true) {
+            return answer;
         }
     }
-    if !goes_back(&mut s)? {
+    Ok(true)
+}
+
+/// Whether two sessions that meet show the same.
+fn meets(s: &mut Session, other: &mut Session, seed: u64) -> Result<bool, BufferFault> {
+    exchanges(s, other, &mut Dice { state: seed })?;
+    let text = shown(s)?.text;
+    Ok(shown(other)?.text.as_slice() == text.as_slice())
+}
+
+/// Whether steps go well and all can be undone, and the same is shown where others took part.
+fn mixes_both(
+    s: &mut Session,
+    other: &mut Session,
+    seed: u64,
+    apart: bool,
+) -> Result<bool, BufferFault> {
+    if !mixes_steps(s, other, seed, apart)? || !goes_back(s)? {
         return Ok(false);
     }
     if apart {
-        return Ok(shown(&mut s)?.text.is_empty());
+        return Ok(shown(s)?.text.is_empty());
     }
-    exchanges(&mut s, &mut other, &mut dice)?;
-    Ok(shown(&mut s)?.text.as_slice() == shown(&mut other)?.text.as_slice())
+    meets(s, other, seed)
+}
+
+fn mixes_with(alloc: Global, s: &mut Session, seed: u64, apart: bool) -> Result<bool, BufferFault> {
+    let mut other = open_session(alloc, 2, 20000)?;
+    mixes_both(s, &mut other, seed, apart)
+}
+
+fn mixes(alloc: Global, seed: u64, apart: bool) -> Result<bool, BufferFault> {
+    let mut s = open_session(alloc, 1, 20000)?;
+    mixes_with(alloc, &mut s, seed, apart)
 }
 
 #[test]

@@ -1,6 +1,7 @@
 //! Operations of others.
-use crate::sessions::open_session;
+use crate::sessions::{Session, open_session};
 use rga_ops::Refusal;
+use std::alloc::Global;
 
 #[test]
 fn point_and_mark_follow_their_elements(rt: HostRuntime) {
@@ -37,29 +38,46 @@ fn new_operations_are_unsaved(rt: HostRuntime) {
     }
 }
 
+/// Passes on what one session has not saved, and tells whether all of it was taken.
+fn passes(from: &Session, to: &mut Session) -> bool {
+    for op in from.buffer.unsaved() {
+        if !to.takes_one(*op) {
+            return false;
+        }
+    }
+    true
+}
+
+/// A step of two sessions under its name, which is what is answered where it fails.
+fn step(is_done: bool, name: &'static str) -> Result<(), &'static str> {
+    if is_done { Ok(()) } else { Err(name) }
+}
+
+/// Two replicas type, kill, yank and undo, and pass on what they did.
+fn edit_together(a: &mut Session, b: &mut Session) -> Result<(), &'static str> {
+    step(a.keys("one RET two").is_ok() && passes(a, b), "typing")?;
+    a.buffer.mark_saved();
+    b.buffer.mark_saved();
+    step(a.keys("M-< C-k").is_ok(), "a kill")?;
+    step(b.keys("M-< C-n C-k C-p C-y").is_ok(), "a kill and a yank")?;
+    step(passes(a, b) && b.shows("^two|/"), "the other's kill")?;
+    // What came from the other replica is not undone, and is unsaved here too.
+    step(b.keys("C-_ C-_").is_ok() && b.shows("^/two|"), "two undos")?;
+    step(passes(b, a) && a.shows("|/two"), "the other's undos")?;
+    step(a.keys("C-_").is_ok() && a.shows("one|/two"), "an undo")
+}
+
+/// The same of one session, with another that begins empty.
+fn edits_with_another(alloc: Global, a: &mut Session) -> Result<(), &'static str> {
+    match open_session(alloc, 2, 100) {
+        Ok(mut b) => edit_together(a, &mut b),
+        Err(_) => Err("another session"),
+    }
+}
+
 #[test]
 fn kills_of_two_replicas_and_a_yank(rt: HostRuntime) {
     let mut a = open_session(rt.alloc(), 1, 100).expect(&rt, "a session");
-    let mut b = open_session(rt.alloc(), 2, 100).expect(&rt, "a session");
-    assert!(rt; a.keys("one RET two").is_ok());
-    for op in a.buffer.unsaved() {
-        assert!(rt; b.takes_one(*op));
-    }
-    a.buffer.mark_saved();
-    b.buffer.mark_saved();
-    assert!(rt; a.keys("M-< C-k").is_ok());
-    assert!(rt; b.keys("M-< C-n C-k C-p C-y").is_ok());
-    for op in a.buffer.unsaved() {
-        assert!(rt; b.takes_one(*op));
-    }
-    assert!(rt; b.shows("^two|/"));
-    // What came from the other replica is not undone, and is unsaved here too.
-    assert!(rt; b.keys("C-_ C-_").is_ok());
-    assert!(rt; b.shows("^/two|"));
-    for op in b.buffer.unsaved() {
-        assert!(rt; a.takes_one(*op));
-    }
-    assert!(rt; a.shows("|/two"));
-    assert!(rt; a.keys("C-_").is_ok());
-    assert!(rt; a.shows("one|/two"));
+    let failed = edits_with_another(rt.alloc(), &mut a).err();
+    assert!(rt; failed == None, "{failed:?}");
 }

@@ -107,23 +107,37 @@ impl Session {
         self.buffer.run(command, 1, &mut self.memo, FILL)
     }
 
-    /// Presses what a word says: `C-_` undoes, `C-g` does nothing, a command's keys run it, and any
-    /// other word is typed.
-    fn press(&mut self, word: &str) -> Result<(), BufferFault> {
-        if word == "C-_" {
-            return self.buffer.undo(&mut self.memo);
-        }
-        if word == "C-g" {
-            self.buffer.idle(&mut self.memo);
-            return Ok(());
-        }
-        if let Some(command) = command_of(self.alloc, word).map_err(|_| Refusal::Memory)? {
-            return self.run(&command);
-        }
-        for ch in word.chars() {
-            self.run(&Command::Insert(ch))?;
+    /// Types a text.
+    fn types(&mut self, text: &str) -> Result<(), BufferFault> {
+        for ch in text.chars() {
+            let answer = self.run(&Command::Insert(ch));
+            if answer.is_err() {
+                return answer;
+            }
         }
         Ok(())
+    }
+
+    /// Runs the command whose keys a word says; any other word is typed.
+    fn does(&mut self, word: &str) -> Result<(), BufferFault> {
+        match command_of(self.alloc, word) {
+            Ok(Some(command)) => self.run(&command),
+            Ok(None) => self.types(word),
+            Err(_) => Err(BufferFault::Store(Refusal::Memory)),
+        }
+    }
+
+    /// Presses what a word says: `C-_` undoes, `C-g` ends what was begun, and all else is a command
+    /// or a text.
+    fn press(&mut self, word: &str) -> Result<(), BufferFault> {
+        match word {
+            "C-_" => self.buffer.undo(&mut self.memo),
+            "C-g" => {
+                self.buffer.idle(&mut self.memo);
+                Ok(())
+            }
+            _ => self.does(word),
+        }
     }
 
     /// Presses each word, up to the first that is refused.
