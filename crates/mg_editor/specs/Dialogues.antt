@@ -35,10 +35,11 @@ pub record IsFresh (keys : KeyState) (m : Mode) : Type 0 where
   pub mode : keys.mode ≡ m
   pub begun : HasBegun keys []
 
--- the byte led to the step, behind those since the last whole sequence
+-- The byte led to the step, behind those since the last whole sequence. Bytes are read as before.
 pub record Fed (byte : ℕ) (step : Step) (old new : Dialogue) : Type 0 where
   pub answers : (bytes : List ℕ) → HasBegun old.keys bytes →
       Answers (meaning old.keys.mode (bytes ++ byte ∷ [])) (bytes ++ byte ∷ []) step new.keys
+  pub mode : new.keys.mode ≡ old.keys.mode
   pub rest : new ≡ record old { keys = new.keys }
 
 -- the prompt behind a step

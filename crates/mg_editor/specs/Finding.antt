@@ -1,8 +1,8 @@
 -- What it leads to that a buffer is asked for by its name.
-use Rattle.std.specs.Prelude.{◌≡◌, ◌⊎◌, ℕ, List, Option, Some, None, Result, Ok, Err, encode_utf8_all}
+use Rattle.std.specs.Prelude.{◌≡◌, ◌⊎◌, ℕ, List, [], ◌∷◌, Option, Some, None, Result, Ok, Err, encode_utf8_all}
 use Rattle.std.specs.Bool.{MatchBool}
 use Rattle.rga_exchange.specs.declared.log.LogEnd.{LogEnd}
-use Rattle.mg_files.specs.Calls.{Call}
+use Rattle.mg_files.specs.Calls.{Call, load_call, found_call, refusals, Adds}
 use Rattle.mg_files.specs.Files.{Files}
 use Rattle.mg_files.specs.Loading.{load_outcome}
 use Rattle.mg_files.specs.declared.fault.LoadFault.{LoadFault}
@@ -40,24 +40,38 @@ abbrev pub of_load : Result LogEnd LoadFault → Opening
 of_load (Ok end) = Ok end
 of_load (Err fault) = Err (Load fault)
 
--- memory was wanting, or the port answered a fault
-abbrev pub IsUnasked : Opening → Type 0
-IsUnasked r = (r ≡ Err (Load Memory)) ⊎ ((fault : PortFault) × (r ≡ Err (Port fault)))
+-- memory was wanting before the port was asked
+pub record AsksNothing (calls more : Option (List Call)) (w v : Workspace) (r : Opening) : Type 0 where
+  pub no_call : Adds calls more []
+  pub same : v ≡ w
+  pub done : r ≡ Err (Load Memory)
 
--- as what was found is loaded, with the replica and the limit of the workspace
-abbrev pub LoadsFound : List ℕ → Files → Workspace → Workspace → Opening → Type 0
-LoadsFound name found w v r =
-    (answer : Result LogEnd LoadFault) × OpensBy (load_outcome (encode_utf8_all name) w.replica w.limit found) w v answer × (r ≡ of_load answer)
+-- the port answered a fault to the load of that name
+pub record IsRefused (name : List ℕ) (calls more : Option (List Call)) (w v : Workspace) (r : Opening) : Type 0 where
+  pub fault : PortFault
+  pub call : Adds calls more (refusals fault (load_call name))
+  pub same : v ≡ w
+  pub done : r ≡ Err (Port fault)
 
--- a buffer of that name was opened by what was found under it, or nothing changed
-abbrev pub Loads : List ℕ → Workspace → Workspace → Opening → Type 0
-Loads name w v r = ((v ≡ w) × IsUnasked r) ⊎ ((found : Files) × LoadsFound name found w v r)
+-- as these files are loaded, with the replica and the limit of the workspace
+abbrev pub OpensFound : List ℕ → Files → Workspace → Workspace → Opening → Type 0
+OpensFound name found w v r =
+    (answer : Result LogEnd LoadFault) × OpensBy (load_outcome name w.replica w.limit found) w v answer × (r ≡ of_load answer)
 
--- it was opened or not, and that is said; no call of the port that writes was made
+-- the port answered these files to the load of that name, and they were loaded, unless memory was wanting
+pub record IsAnswered (name : List ℕ) (calls more : Option (List Call)) (w v : Workspace) (r : Opening) : Type 0 where
+  pub found : Files
+  pub call : Adds calls more (found_call name found ∷ [])
+  pub loaded : ((v ≡ w) × (r ≡ Err (Load Memory))) ⊎ OpensFound name found w v r
+
+-- the files of that name were asked for, and a buffer was opened by them, or nothing changed
+abbrev pub Loads : List ℕ → Option (List Call) → Option (List Call) → Workspace → Workspace → Opening → Type 0
+Loads name calls more w v r = AsksNothing calls more w v r ⊎ IsRefused name calls more w v r ⊎ IsAnswered name calls more w v r
+
+-- it was opened or not, and that is said
 pub record Opened (name : List ℕ) (calls more : Option (List Call)) (old new : Editor) (r : Answer) : Type 0 where
   pub answer : Opening
-  pub loads : Loads name old.work new.work answer
-  pub no_call : more ≡ calls
+  pub loads : Loads (encode_utf8_all name) calls more old.work new.work answer
   pub rest : new ≡ told new.work (message_of_opening answer) old
   pub done : r ≡ opening_done answer
 

@@ -70,10 +70,11 @@ impl<S: TextStore> Editor<S> {
     /// Carries a request to a port. `Save` saves the current buffer, as `Opened::save` does, and
     /// says what came of it: that it was written, that there were no changes, or the fault. `Find`
     /// goes to the buffer of that name, which asks nothing of a port where it is open; else, unless
-    /// as many buffers are open as may be, which is said, it is opened by what the port finds under
-    /// its name, and is current then, and a log that was torn is told. `Exchange` and `Serve` exchange
-    /// the current buffer with a peer, as `mg_exchange::exchange` and `serve` do, and say how many
-    /// operations were sent and received, or the fault. The other requests ask nothing of a port.
+    /// as many buffers are open as may be, which is said, it is opened by what the port answers to
+    /// the load of its name, and is current then, and a log that was torn is told. `Exchange` and
+    /// `Serve` exchange the current buffer with a peer, as `mg_exchange::exchange` and `serve` do,
+    /// and say how many operations were sent and received, or the fault. The other requests ask
+    /// nothing of a port.
     ///
     /// Faults, which are said already: of `Save` and `Find` `Port` with those of the port, and of
     /// `Find` `Load` with those of `Opened::load`, which leave text, point, mark, groups and all other
@@ -137,9 +138,9 @@ impl<S: TextStore> Editor<S> {
     /// Opens the buffer of a name by what the port finds under it, and answers how its log ends.
     fn load<P: Port>(&mut self, name: &[char], port: &mut P) -> Result<LogEnd, CarryFault>
         requires { length self.old.work.buffers.all < MAX_BUFFERS }
-        ensures loads { finding.Loads name.now self.old.work self.new.work result }
+        ensures loads { finding.Loads (encode_utf8_all name.now)
+            (P.calls port.old) (P.calls port.new) self.old.work self.new.work result }
         ensures talk { self.new.talk ≡ self.old.talk }
-        ensures no_call { P.calls port.new ≡ P.calls port.old }
         ensures device { telling.CountsBehind result (P.failures port.old) (P.failures port.new) }
     {
         let text = spelled(self.alloc, name)?;

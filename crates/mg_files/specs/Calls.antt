@@ -1,28 +1,39 @@
--- The calls of a port that write a file, those for a link, and what a port tells of them.
-use Rattle.std.specs.Prelude.{◌≡◌, ℕ, List, [], ◌∷◌, ◌++◌, Bool, true, false, Option, Some, Result, Ok, Err, IfSome}
+-- The calls of a port, and what it tells of them.
+use Rattle.std.specs.Prelude.{◌≡◌, ℕ, List, [], ◌∷◌, ◌++◌, Bool, true, false, Option, Some, None, Result, Ok, Err, IfSome}
 use Rattle.rga_lines.specs.Counting.{one_more}
+use Rattle.mg_files.specs.Files.{Files}
 use Rattle.mg_files.specs.declared.port.CallKind.{CallKind}
+use Rattle.mg_files.specs.declared.port.CallKind.TheVariants.{Load}
 use Rattle.mg_files.specs.declared.port.PortFault.{PortFault}
 use Rattle.mg_files.specs.declared.port.PortFault.TheVariants.{File, Memory}
 use Rattle.mg_files.specs.declared.port.LinkFault.{LinkFault}
 use Rattle.mg_files.specs.declared.port.LinkFault.TheVariants as link
 
--- A call under a name with these bytes, and whether it was answered `Ok`. A call for a link has neither.
+-- A call under a name with these bytes, whether it was answered `Ok`, and the files that a load then answered. A call for
+-- a link has neither name nor bytes.
 pub record Call : Type 0 where
   pub kind : CallKind
   pub name : List ℕ
   pub bytes : List ℕ
   pub answered : Bool
+  pub found : Option Files
 
 -- one that was
 abbrev pub call : CallKind → List ℕ → List ℕ → Call
-call kind name bytes = record { kind = kind; name = name; bytes = bytes; answered = true }
+call kind name bytes = record { kind = kind; name = name; bytes = bytes; answered = true; found = None }
 
 abbrev pub link_call : CallKind → Call
 link_call kind = call kind [] []
 
 abbrev pub refused : Call → Call
 refused c = record c { answered = false }
+
+-- the load of a name, and one that answered these files
+abbrev pub load_call : List ℕ → Call
+load_call name = call Load name []
+
+abbrev pub found_call : List ℕ → Files → Call
+found_call name files = record (load_call name) { found = Some files }
 
 -- what is told of a call with this fault: memory was wanting before the call was made
 abbrev pub refusals : PortFault → Call → List Call
@@ -33,6 +44,11 @@ refusals Memory c = []
 abbrev pub told : {A : Type 0} → Result A PortFault → Call → List Call
 told (Ok a) c = c ∷ []
 told (Err fault) c = refusals fault c
+
+-- the same of a load, which tells the files that it answers
+abbrev pub load_told : Result Files PortFault → List ℕ → List Call
+load_told (Ok files) name = found_call name files ∷ []
+load_told (Err fault) name = refusals fault (load_call name)
 
 -- the same of a call for a link
 abbrev pub link_refusals : LinkFault → Call → List Call

@@ -1,6 +1,6 @@
 //! Where the files of buffers are, and peers.
 ghost use Rattle.std.specs.Prelude.{◌≡◌, ℕ, List, Option};
-ghost use Rattle.mg_files.specs.Calls.{Call, call, link_call, Adds, told, link_told, failures_after, failures_after_link};
+ghost use Rattle.mg_files.specs.Calls.{Call, call, link_call, Adds, told, load_told, link_told, failures_after, failures_after_link};
 
 use std::alloc::AllocError;
 use std::io::{Read, Write};
@@ -48,9 +48,11 @@ impl From<AllocError> for LinkFault {
     }
 }
 
-/// Which of the calls that a port tells: those that write a file, and those for a link.
+/// Which of the calls that a port tells: the load of files, those that write one, and those for a
+/// link.
 #[derive(Clone, Copy, Debug, PartialEq, Eq)]
 pub enum CallKind {
+    Load,
     Append,
     Replace,
     PutText,
@@ -81,40 +83,43 @@ impl Model for Found {
 /// A place for the files of buffers, which has a log and a text under a name, and where peers are
 /// met, one at a time.
 ///
-/// A port may tell its calls that write a file, and those for a link, in their order: one in memory
-/// does, one of real files need not. A call that the port refuses with `File`, `Socket` or `NoPort`
-/// is told too, as refused. With `Memory` no call is told: memory was wanting before anything was
-/// done. What passes over a link is no call of the port: the link may tell its bytes.
+/// A port may tell its calls, in their order: one in memory does, one of real files need not. A call
+/// that the port refuses with `File`, `Socket` or `NoPort` is told too, as refused. With `Memory` no
+/// call is told: memory was wanting before anything was done. What passes over a link is no call of
+/// the port: the link may tell its bytes.
 pub trait Port {
     /// What is read from a peer and written to it.
     type Link: Read + Write + Drop;
 
-    /// The calls so far that write a file, and those for a link, where the port tells them.
+    /// The calls so far, where the port tells them.
     ghost calls: { Self → Option (List Call) };
 
     /// How many calls failed.
     ghost failures: { Self → ℕ };
 
-    /// What is there under a name. Where there is a log, the text may be left out. Tells no call,
-    /// since it writes nothing.
+    /// What is there under a name. Where there is a log, the text may be left out. `File` too where
+    /// something else has the files open to write them.
     fn load(&mut self, name: &str) -> Result<Found, PortFault>
-        ensures tells { calls self.new ≡ calls self.old }
+        ensures tells { Adds (calls self.old) (calls self.new) (load_told result name.now) }
         ensures device { failures self.new ≡ failures_after result (failures self.old) };
 
     /// Adds bytes at the end of the log, which is made where there is none. Where it answers `File`
-    /// any beginning of the bytes may have been added.
+    /// any beginning of the bytes may have been added to a log that was there; one that was not is
+    /// made with all of them or not at all. The text stays.
     fn append(&mut self, name: &str, bytes: &[u8]) -> Result<(), PortFault>
         ensures tells { Adds (calls self.old) (calls self.new)
             (told result (call CallKind.Append name.now bytes.now)) }
         ensures device { failures self.new ≡ failures_after result (failures self.old) };
 
     /// Makes these bytes the whole log. Where it answers `File` the log is the old one or this one.
+    /// The text stays.
     fn replace(&mut self, name: &str, bytes: &[u8]) -> Result<(), PortFault>
         ensures tells { Adds (calls self.old) (calls self.new)
             (told result (call CallKind.Replace name.now bytes.now)) }
         ensures device { failures self.new ≡ failures_after result (failures self.old) };
 
-    /// Makes these bytes the whole text.
+    /// Makes these bytes the whole text. Where it answers `File` the text may be cut short, or gone.
+    /// The log stays.
     fn put_text(&mut self, name: &str, bytes: &[u8]) -> Result<(), PortFault>
         ensures tells { Adds (calls self.old) (calls self.new)
             (told result (call CallKind.PutText name.now bytes.now)) }

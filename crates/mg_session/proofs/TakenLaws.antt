@@ -191,27 +191,29 @@ module _ {R W : Type 0} {remaining : R → Option (List ℕ)} {contents : W → 
       }
 
   pub ran_from : (v : Values) (keys rest : Calls R) (calls told more : Told) (first : Editor) (screen shown : Calls W)
-      → IsOpened v trace has_cursor first → told ≡ calls
+      → IsOpened v calls told trace has_cursor first
       → Ran remaining contents trace has_cursor keys rest told more first screen shown
       → RanFrom remaining contents v keys rest calls more screen shown
-  ran_from v keys rest calls told more first screen shown opened same ran = record {
+  ran_from v keys rest calls told more first screen shown opened ran = record {
     found = opened.found;
+    told = told;
     first = first;
+    load = opened.load;
     opens = opened.opens;
-    ran = subst (λ t. Ran remaining contents t v.cursor keys rest calls more first screen shown) opened.traced
-        (subst (λ h. Ran remaining contents trace h keys rest calls more first screen shown) opened.shown
-        (subst (λ c. Ran remaining contents trace has_cursor keys rest c more first screen shown) same ran));
+    ran = subst (λ t. Ran remaining contents t v.cursor keys rest told more first screen shown) opened.traced
+        (subst (λ h. Ran remaining contents trace h keys rest told more first screen shown) opened.shown ran);
   }
 
   pub broke_from : (v : Values) (keys rest : Calls R) (calls told more : Told) (first : Editor) (screen shown : Calls W)
-      → IsOpened v trace has_cursor first → told ≡ calls
+      → IsOpened v calls told trace has_cursor first
       → BrokeOff remaining contents trace has_cursor keys rest told more first screen shown
       → BrokeOffFrom remaining contents v keys rest calls more screen shown
-  broke_from v keys rest calls told more first screen shown opened same broke = record {
+  broke_from v keys rest calls told more first screen shown opened broke = record {
     found = opened.found;
+    told = told;
     first = first;
+    load = opened.load;
     opens = opened.opens;
-    broke = subst (λ t. BrokeOff remaining contents t v.cursor keys rest calls more first screen shown) opened.traced
-        (subst (λ h. BrokeOff remaining contents trace h keys rest calls more first screen shown) opened.shown
-        (subst (λ c. BrokeOff remaining contents trace has_cursor keys rest c more first screen shown) same broke));
+    broke = subst (λ t. BrokeOff remaining contents t v.cursor keys rest told more first screen shown) opened.traced
+        (subst (λ h. BrokeOff remaining contents trace h keys rest told more first screen shown) opened.shown broke);
   }

@@ -1,15 +1,18 @@
 -- What a session does with its keys.
-use Rattle.std.specs.Prelude.{◌≡◌, ◌↔◌, ℕ, Bool, true, false, not, ◌&&◌, List, [], ◌∷◌, ◌++◌, Option, Ok}
+use Rattle.std.specs.Prelude.{◌≡◌, ◌↔◌, ⊤, ℕ, Bool, true, false, not, ◌&&◌, List, [], ◌∷◌, ◌++◌, Option, Ok, Err}
 use Rattle.std.specs.Io.KnownBytes.{Consumes}
 use Rattle.rga_lines.specs.Counting.{Calls, Writes, IsReadToEnd}
-use Rattle.mg_files.specs.Calls.{Call}
+use Rattle.mg_files.specs.Calls.{Call, Adds, load_call, found_call, refused}
 use Rattle.mg_files.specs.Files.{Files}
+use Rattle.mg_files.specs.Loading.{load_outcome}
 use Rattle.mg_keys.specs.Begun.{HasBegun}
 use Rattle.mg_settings.specs.Settings.{Values}
 use Rattle.mg_editor.specs.Editors.{Editor}
 use Rattle.mg_editor.specs.Opening.{Opens}
 use Rattle.mg_session.specs.Display.{ShowsIf}
 use Rattle.mg_session.specs.Keys.{TakesKey}
+use Rattle.mg_session.specs.declared.fault.SessionFault.{SessionFault}
+use Rattle.mg_session.specs.declared.fault.SessionFault.TheVariants.{Load, File}
 
 -- the calls that a port tells
 abbrev pub Told : Type 0
@@ -55,12 +58,25 @@ pub record TakesKeys {R W : Type 0} (remaining : R → Option (List ℕ)) (conte
   pub taken : TakesRead remaining contents trace has_cursor keys rest calls more old new quits screen shown
   pub whole : quits ≡ false → IsReadToEnd remaining rest
 
--- an editor that opens by what was found, and what is shown of it
-pub record IsOpened (v : Values) (trace has_cursor : Bool) (first : Editor) : Type 0 where
+-- ---- the load of the settings' name
+
+-- It was the first call, and it answered these files.
+abbrev pub IsFound : Values → Files → Told → Told → Type 0
+IsFound v found calls told = Adds calls told (found_call v.name found ∷ [])
+
+-- an editor that opens by what it answered, and what is shown of it
+pub record IsOpened (v : Values) (calls told : Told) (trace has_cursor : Bool) (first : Editor) : Type 0 where
   pub found : Files
+  pub load : IsFound v found calls told
   pub opens : Opens v found (Ok first)
   pub traced : trace ≡ v.trace
   pub shown : has_cursor ≡ v.cursor
+
+-- It was refused, or no buffer is loaded from what it answered, for this fault.
+abbrev pub FailsToOpen : Values → Told → Told → SessionFault → Type 0
+FailsToOpen v calls told (Load e) = (found : Files) × IsFound v found calls told × (load_outcome v.name v.replica v.limit found ≡ Err e)
+FailsToOpen v calls told File = Adds calls told (refused (load_call v.name) ∷ [])
+FailsToOpen v calls told _ = ⊤
 
 -- ---- a session, once its buffer is loaded
 
@@ -107,15 +123,19 @@ module _ {R W : Type 0} (remaining : R → Option (List ℕ)) (contents : W → 
     pub session : IsWhole trace has_cursor bytes calls more first quits text
     pub written : Writes contents screen shown text
 
-  -- the same from the load on: the editor is one that opens by what was found
+  -- the same from the load on: the editor is one that opens by what it answered
   pub record RanFrom (v : Values) (keys rest : Calls R) (calls more : Told) (screen shown : Calls W) : Type 0 where
     pub found : Files
+    pub told : Told
     pub first : Editor
+    pub load : IsFound v found calls told
     pub opens : Opens v found (Ok first)
-    pub ran : Ran v.trace v.cursor keys rest calls more first screen shown
+    pub ran : Ran v.trace v.cursor keys rest told more first screen shown
 
   pub record BrokeOffFrom (v : Values) (keys rest : Calls R) (calls more : Told) (screen shown : Calls W) : Type 0 where
     pub found : Files
+    pub told : Told
     pub first : Editor
+    pub load : IsFound v found calls told
     pub opens : Opens v found (Ok first)
-    pub broke : BrokeOff v.trace v.cursor keys rest calls more first screen shown
+    pub broke : BrokeOff v.trace v.cursor keys rest told more first screen shown

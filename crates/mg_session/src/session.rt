@@ -33,8 +33,9 @@ struct Session<S: TextStore> {
     cursor: bool,
 }
 
-/// Runs a session: loads what is there under the name of the settings, presses each byte of the keys
-/// and carries each request, up to one to quit or to the end of the keys.
+/// Runs a session: loads what is there under the name of the settings, which is its first call of the
+/// port, presses each byte of the keys and carries each request, up to one to quit or to the end of
+/// the keys.
 ///
 /// Where steps are traced a frame is written at the start and behind each byte whose step is not
 /// pending; else one at the end. Each row of a frame has a newline behind it. What is written is
@@ -62,27 +63,30 @@ pub fn run_keys<S: TextStore, R: Read, W: Write, P: Port>(
     ensures screen { CountsAs Screen result screen.old screen.new }
     ensures file { result ≡ Err File → P.failures port.new ≡ one_more (P.failures port.old) }
 
-    // Where nothing was loaded, no key was read and nothing was written.
+    // Nothing is loaded where the first load was refused, or by what it answered: no key was read
+    // then, and nothing was written.
+    ensures load { IfErr result
+        (running.FailsToOpen settings.now (P.calls port.old) (P.calls port.new)) }
     ensures unread { IfErr result (λ e. spec.IsOfLoad e → keys.new ≡ keys.old) }
-    ensures unwritten { IfErr result (λ e. spec.IsOfLoad e →
-        (screen.new ≡ screen.old) × (P.calls port.new ≡ P.calls port.old)) }
+    ensures unwritten { IfErr result (λ e. spec.IsOfLoad e → screen.new ≡ screen.old) }
     ensures folded { result ≢ Err (Load NoMemory) }
 {
     let mut session: Session<S> = open(alloc, port, settings)?;
     session.run(keys, screen, port)
 }
 
-/// Loads what is there under the name of the settings.
+/// Loads what is there under the name of the settings. That is the one call of the port.
 fn open<S: TextStore, P: Port>(
     alloc: Global,
     port: &mut P,
     settings: &Settings,
 ) -> Result<Session<S>, SessionFault>
-    ensures opened { IfOk result (λ session. running.IsOpened settings.now
-        session.trace session.cursor session.editor) }
+    ensures opened { IfOk result (λ session. running.IsOpened settings.now (P.calls port.old)
+        (P.calls port.new) session.trace session.cursor session.editor) }
+    ensures failed { IfErr result
+        (running.FailsToOpen settings.now (P.calls port.old) (P.calls port.new)) }
     ensures fault { IfErr result (λ e. (e ≢ Keys) × (e ≢ Screen) × (e ≢ Load NoMemory)) }
     ensures file { result ≡ Err File → P.failures port.new ≡ one_more (P.failures port.old) }
-    ensures unwritten { P.calls port.new ≡ P.calls port.old }
 {
     let values = settings.values();
     let found = port.load(values.name.as_str())?;

@@ -9,7 +9,7 @@ use Rattle.mgr_shell.specs.Report.{edited_status, shown_status}
 use Rattle.mg_session.specs.declared.fault.SessionFault.{SessionFault}
 use Rattle.mg_session.specs.declared.fault.SessionFault.TheVariants as session
 use Rattle.mg_files.specs.Calls.{Call}
-use Rattle.mg_session.specs.Running.{RanFrom}
+use Rattle.mg_session.specs.Running.{RanFrom, FailsToOpen}
 use Rattle.mg_settings.specs.Settings.{Values}
 use Rattle.mgr_command.specs.declared.job.Job.{Job}
 use Rattle.mgr_command.specs.declared.job.Job.TheVariants.{Show, Edit}
@@ -34,6 +34,7 @@ module _ {R W P : Type 0} (remaining : R → Option (List ℕ)) (contents : W �
     pub answer : Result (Unit {0}) SessionFault
     pub exact : status ≡ edited_status answer
     pub ran : OnOk answer (RanFrom remaining contents settings r s (calls before) (calls after) old new)
+    pub load : IfErr answer (FailsToOpen settings (calls before) (calls after))
     pub keys : CountsAs session.Keys answer r s
     pub screen : CountsAs session.Screen answer old new
     pub file : answer ≡ Err session.File → failures after ≡ one_more (failures before)

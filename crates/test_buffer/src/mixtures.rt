@@ -173,8 +173,9 @@ fn goes_back(s: &mut Session) -> Result<bool, BufferFault> {
     Ok(false)
 }
 
-/// A step, and an exchange behind it now and then, or none; tells whether it went well.
-fn mixes_step(
+/// A turn: a step, and now and then an exchange behind it, unless the sessions stay apart. Tells
+/// whether it went well.
+fn turn(
     s: &mut Session,
     other: &mut Session,
     dice: &mut Dice,
@@ -190,8 +191,8 @@ fn mixes_step(
     }
 }
 
-/// Many steps, up to one that does not go well.
-fn mixes_steps(
+/// Many turns, up to one that does not go well.
+fn turns(
     s: &mut Session,
     other: &mut Session,
     seed: u64,
@@ -199,7 +200,7 @@ fn mixes_steps(
 ) -> Result<bool, BufferFault> {
     let mut dice = Dice { state: seed };
     for _ in 0..100u32 {
-        let answer = mixes_step(s, other, &mut dice, apart);
+        let answer = turn(s, other, &mut dice, apart);
         if answer != Ok(true) {
             return answer;
         }
@@ -207,37 +208,44 @@ fn mixes_steps(
     Ok(true)
 }
 
-/// Whether two sessions that meet show the same.
-fn meets(s: &mut Session, other: &mut Session, seed: u64) -> Result<bool, BufferFault> {
+/// Whether two sessions show the same once they exchanged what they have.
+fn show_the_same(s: &mut Session, other: &mut Session, seed: u64) -> Result<bool, BufferFault> {
     exchanges(s, other, &mut Dice { state: seed })?;
     let text = shown(s)?.text;
     Ok(shown(other)?.text.as_slice() == text.as_slice())
 }
 
-/// Whether steps go well and all can be undone, and the same is shown where others took part.
-fn mixes_both(
+/// Whether the turns go well and all can be undone, which leaves nothing, or what both show.
+fn mixes_together(
     s: &mut Session,
     other: &mut Session,
     seed: u64,
     apart: bool,
 ) -> Result<bool, BufferFault> {
-    if !mixes_steps(s, other, seed, apart)? || !goes_back(s)? {
+    if !turns(s, other, seed, apart)? || !goes_back(s)? {
         return Ok(false);
     }
     if apart {
         return Ok(shown(s)?.text.is_empty());
     }
-    meets(s, other, seed)
+    show_the_same(s, other, seed)
 }
 
-fn mixes_with(alloc: Global, s: &mut Session, seed: u64, apart: bool) -> Result<bool, BufferFault> {
+/// The same beside a new session of another replica.
+fn mixes_beside(
+    alloc: Global,
+    s: &mut Session,
+    seed: u64,
+    apart: bool,
+) -> Result<bool, BufferFault> {
     let mut other = open_session(alloc, 2, 20000)?;
-    mixes_both(s, &mut other, seed, apart)
+    mixes_together(s, &mut other, seed, apart)
 }
 
+/// The same of a new session. Each function owns one session at most, which is proved far sooner.
 fn mixes(alloc: Global, seed: u64, apart: bool) -> Result<bool, BufferFault> {
     let mut s = open_session(alloc, 1, 20000)?;
-    mixes_with(alloc, &mut s, seed, apart)
+    mixes_beside(alloc, &mut s, seed, apart)
 }
 
 #[test]

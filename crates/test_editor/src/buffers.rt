@@ -2,6 +2,7 @@
 //! window is over.
 use crate::sessions::on_log;
 use mg_editor::Editor;
+use mg_files::CallKind;
 use mg_prompts::Request;
 use rga_store::TreeStore;
 use std::alloc::{AllocError, Global};
@@ -85,7 +86,9 @@ fn seen_over(alloc: Global, port: &mut MemoryPort, keys: &str) -> Option<String>
 
 fn shown(alloc: Global, keys: &str, is_away: bool) -> Option<String> {
     let mut port = port(alloc).ok()?;
-    port.is_away = is_away;
+    if is_away {
+        port.refused = Some(CallKind::Load);
+    }
     seen_over(alloc, &mut port, keys)
 }
 

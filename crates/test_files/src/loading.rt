@@ -1,7 +1,7 @@
 //! What is loaded of the files under a name, and why nothing is.
 use crate::files::{Answer, NAME, is_at, load};
 use crate::logs::{A, A_AND_A_BYTE, AB, BARE_A, CUT, WITH_A_CONFLICT, WITH_ANOTHER_LINE};
-use mg_files::{Found, LoadFault, Opened, Port, PortFault};
+use mg_files::{CallKind, Found, LoadFault, Opened, Port, PortFault};
 use rga_exchange::{LogEnd, ReceiveFault};
 use rga_lines::LineFault;
 use rga_ops::{Id, Refusal};
@@ -64,6 +64,7 @@ fn refuses_log(alloc: Global, log: &str, limit: usize, fault: ReceiveFault) -> b
 #[test]
 fn faulty_logs_are_not_loaded(rt: HostRuntime) {
     let conflict = Id::new(1, 1).expect(&rt, "an identifier");
+    assert!(rt; Refusal::Conflict(conflict).name() == "Conflict");
     for (log, limit, fault) in [
         (
             WITH_A_CONFLICT,
@@ -81,23 +82,27 @@ fn faulty_logs_are_not_loaded(rt: HostRuntime) {
     }
 }
 
-/// Whether a text is not loaded for this fault.
-fn refuses_text(alloc: Global, text: &[u8], limit: usize, fault: LoadFault) -> bool {
-    answer(alloc, None, Some(text), limit).err() == Some(fault)
+/// Whether a text, or no file, is not loaded for this fault.
+fn refuses_text(alloc: Global, text: Option<&[u8]>, limit: usize, fault: LoadFault) -> bool {
+    answer(alloc, None, text, limit).err() == Some(fault)
 }
 
 #[test]
 fn faulty_texts_are_not_loaded(rt: HostRuntime) {
     let cut = "h\u{fc}".as_bytes().split_at(2).0;
-    assert!(rt; refuses_text(rt.alloc(), cut, 100, LoadFault::NotText));
-    for (limit, refusal) in [
-        (2, Refusal::Full),
-        (0, Refusal::Range),
-        (MAX_LIMIT + 1, Refusal::Range),
+    assert!(rt; refuses_text(rt.alloc(), Some(cut), 100, LoadFault::NotText));
+    for (text, limit, refusal) in [
+        (Some("abc"), 2, Refusal::Full),
+        (Some("abc"), 0, Refusal::Range),
+        (None, MAX_LIMIT + 1, Refusal::Range),
     ] {
+        let bytes = match text {
+            Some(text) => Some(text.as_bytes()),
+            None => None,
+        };
         assert!(rt;
-            refuses_text(rt.alloc(), b"abc", limit, LoadFault::Store(refusal)),
-            "{limit}"
+            refuses_text(rt.alloc(), bytes, limit, LoadFault::Store(refusal)),
+            "{text:?} {limit}"
         );
     }
     assert!(rt; answer(rt.alloc(), None, Some(b"abc"), 3).is_ok());
@@ -117,8 +122,8 @@ fn replica_0_opens_nothing(rt: HostRuntime) {
 #[test]
 fn refused_loads_are_counted(rt: HostRuntime) {
     let mut port = MemoryPort::new(rt.alloc());
-    assert!(rt; port.load(NAME).is_ok());
-    port.is_away = true;
+    assert!(rt; port.load(NAME).is_ok() && port.failures() == 0);
+    port.refused = Some(CallKind::Load);
     assert!(rt; port.load(NAME).err() == Some(PortFault::File));
-    assert!(rt; port.failures() == 1 && port.calls.is_empty());
+    assert!(rt; port.failures() == 1 && port.calls.len() == 2);
 }

@@ -16,19 +16,20 @@ fn save_appends_the_log_and_puts_the_text(rt: HostRuntime) {
     assert!(rt; HI.len() == 100 && opened.save(&mut port) == Ok(true));
     assert!(rt; made(&port, &[(Append, HI, true), (PutText, "hi", true)]));
     assert!(rt; is_at(&opened, rt.alloc(), "hi", 0) && !opened.is_changed());
-    assert!(rt; opened.save(&mut port) == Ok(false) && port.calls.len() == 2);
+    assert!(rt; opened.save(&mut port) == Ok(false) && port.calls.len() == 3);
     let (again, _) = load(rt.alloc(), &mut port, 100).expect(&rt, "the saved buffer");
     assert!(rt; is_at(&again, rt.alloc(), "hi", 0));
 }
 
 #[test]
 fn failed_append_is_followed_by_a_whole_log(rt: HostRuntime) {
-    let (mut opened, mut port) = open(rt.alloc(), None).expect(&rt, "a buffer");
+    let (mut opened, mut port) = open(rt.alloc(), Some("")).expect(&rt, "a buffer");
     port.refused = Some(Append);
     port.begun = 30;
     assert!(rt; types(rt.alloc(), &mut opened, "a"));
     assert!(rt; opened.save(&mut port) == Err(PortFault::File));
     assert!(rt; made(&port, &[(Append, A, false)]) && port.failures() == 1);
+    assert!(rt; port.log(NAME).is_some_and(|log| log.len() == 30));
     assert!(rt; is_at(&opened, rt.alloc(), "a", 1) && opened.is_changed());
     port.refused = Some(Replace);
     assert!(rt; opened.save(&mut port) == Err(PortFault::File));
@@ -72,7 +73,7 @@ fn text_that_was_not_put_waits(rt: HostRuntime) {
     );
     assert!(rt; types(rt.alloc(), &mut opened, "b") && opened.save(&mut port) == Ok(true));
     assert!(rt; port.log(NAME) == Some(AB.as_bytes()) && port.failures() == 2);
-    assert!(rt; port.calls.len() == 6);
+    assert!(rt; port.calls.len() == 7);
 }
 
 #[test]
@@ -101,8 +102,8 @@ fn whole_log_is_appended_to(rt: HostRuntime) -> Result<(), Refusal> {
     assert!(rt; opened.is_changed() && opened.save(&mut port) == Ok(true));
     assert!(rt; made(&port, &[(Append, B, true), (PutText, "ab", true)]));
     opened.buffer.apply(insertion((1, 2), (0, 1), 'x')?)?;
-    assert!(rt; opened.save(&mut port) == Ok(true) && port.calls.len() == 4);
-    assert!(rt; port.calls[2].bytes.as_slice() == X.as_bytes());
+    assert!(rt; opened.save(&mut port) == Ok(true) && port.calls.len() == 5);
+    assert!(rt; port.calls[3].bytes.as_slice() == X.as_bytes());
     assert!(rt; port.text(NAME) == Some("xab".as_bytes()));
     Ok(())
 }

@@ -1,15 +1,17 @@
 //! Calls that were made.
-use mg_files::CallKind;
+use mg_files::{CallKind, Found};
 use std::alloc::{AllocError, Global};
 use std::marker::Model;
 
-/// A call that is told, as it was made, and whether it was answered `Ok`.
+/// A call that is told, as it was made, whether it was answered `Ok`, and the files that a load then
+/// answered.
 #[derive(Debug, Drop)]
 pub struct MadeCall {
     pub kind: CallKind,
     pub name: String,
     pub bytes: Vec<u8>,
     pub answered: bool,
+    pub found: Option<Found>,
 }
 
 impl Model for MadeCall {
@@ -23,6 +25,7 @@ impl Model for MadeCall {
       name = string_bytes made.name;
       bytes = made.bytes.items;
       answered = made.answered;
+      found = made.found;
     } };
 }
 
@@ -32,6 +35,7 @@ impl MadeCall {
     fn push_to(&self, line: &mut String, alloc: Global) -> Result<(), AllocError> {
         let length = self.bytes.len();
         let word = match self.kind {
+            CallKind::Load => format!(in alloc; " load"),
             CallKind::Append => format!(in alloc; " append {length}"),
             CallKind::Replace => format!(in alloc; " replace {length}"),
             CallKind::PutText => format!(in alloc; " text {length}"),

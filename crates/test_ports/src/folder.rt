@@ -1,5 +1,8 @@
 //! Files in memory.
-use mg_files::CallKind;
+ghost use Rattle.std.specs.Prelude.{◌≡◌, IfOk};
+ghost use Rattle.std.specs.Option.{option_map};
+
+use mg_files::{CallKind, Found};
 use std::alloc::{AllocError, Global};
 
 /// The log and the text of a name, where they are there.
@@ -31,6 +34,14 @@ impl Folder {
 
     pub(crate) fn text(&self, name: &str) -> Option<&[u8]> {
         self.entry(name)?.text.as_deref()
+    }
+
+    /// A copy of what is there under a name.
+    pub(crate) fn found(&self, name: &str) -> Result<Found, AllocError> {
+        Ok(Found {
+            log: copy_of(self.alloc, self.log(name))?,
+            text: copy_of(self.alloc, self.text(name))?,
+        })
     }
 
     fn entry(&self, name: &str) -> Option<&Entry> {
@@ -95,13 +106,33 @@ impl Entry {
         match kind {
             CallKind::Append | CallKind::Replace => self.log = Some(file),
             CallKind::PutText => self.text = Some(file),
-            CallKind::Connect | CallKind::Accept | CallKind::Finish => {}
+            CallKind::Load | CallKind::Connect | CallKind::Accept | CallKind::Finish => {}
         }
     }
 }
 
-pub(crate) fn copy_of(alloc: Global, bytes: Option<&[u8]>) -> Result<Option<Vec<u8>>, AllocError> {
+fn copy_of(alloc: Global, bytes: Option<&[u8]>) -> Result<Option<Vec<u8>>, AllocError> {
     match bytes {
+        Some(bytes) => Ok(Some(Vec::from_slice(alloc, bytes)?)),
+        None => Ok(None),
+    }
+}
+
+/// The same files again.
+pub(crate) fn twin(alloc: Global, found: &Found) -> Result<Found, AllocError>
+    ensures { IfOk result (λ copy. copy ≡ found.now) }
+{
+    Ok(Found {
+        log: twin_file(alloc, &found.log)?,
+        text: twin_file(alloc, &found.text)?,
+    })
+}
+
+fn twin_file(alloc: Global, file: &Option<Vec<u8>>) -> Result<Option<Vec<u8>>, AllocError>
+    ensures { IfOk result (λ copy.
+        option_map (λ bytes. bytes.items) copy ≡ option_map (λ bytes. bytes.items) file.now) }
+{
+    match file {
         Some(bytes) => Ok(Some(Vec::from_slice(alloc, bytes)?)),
         None => Ok(None),
     }

@@ -1,9 +1,9 @@
 //! A port in memory.
 ghost use Rattle.std.specs.Prelude.{◌≡◌, [], ◌∷◌, ◌++◌, Some, IfErr, OnOk, OnErr};
-ghost use Rattle.mg_files.specs.Calls.{call, link_call, told, link_told, failures_after, failures_after_link};
+ghost use Rattle.mg_files.specs.Calls.{call, load_call, found_call, link_call, refused, told, link_told, failures_after, failures_after_link};
 
 use crate::call::{MadeCall, push_calls};
-use crate::folder::{Folder, copy_of};
+use crate::folder::{Folder, twin};
 use crate::peer::{MemoryLink, Peer};
 use mg_files::{CallKind, Found, LinkFault, Port, PortFault};
 use std::alloc::{AllocError, Global};
@@ -18,10 +18,8 @@ pub struct MemoryPort {
     failures: u64,
     /// The kind of call that is refused from now on.
     pub refused: Option<CallKind>,
-    /// How many bytes a refused append adds to the log all the same.
+    /// How many bytes a refused append adds all the same to a log that is there.
     pub begun: usize,
-    /// Whether a load is refused from now on.
-    pub is_away: bool,
     /// Who is met. Without a peer there is no port to meet one at.
     pub peer: Option<Peer>,
 }
@@ -36,7 +34,6 @@ impl MemoryPort {
             failures: 0,
             refused: None,
             begun: 0,
-            is_away: false,
             peer: None,
         }
     }
@@ -93,7 +90,7 @@ impl MemoryPort {
         let file = self.folder.file_after(kind, name, front)?;
         self.folder.make_entry(name)?;
         self.note(kind, name, bytes, false)?;
-        if kind == CallKind::Append {
+        if kind == CallKind::Append && self.folder.log(name).is_some() {
             self.folder.keep(kind, name, file);
         }
         self.failures = self.failures.saturating_add(1);
@@ -130,7 +127,7 @@ impl MemoryPort {
         Ok(())
     }
 
-    /// Notes a call. `AllocError` alone.
+    /// Notes a call that answers no files. `AllocError` alone.
     fn note(
         &mut self,
         kind: CallKind,
@@ -149,7 +146,36 @@ impl MemoryPort {
             name: String::from_str(self.alloc, name)?,
             bytes: Vec::from_slice(self.alloc, bytes)?,
             answered,
+            found: None,
         };
+        self.push(made)
+    }
+
+    /// Notes a load that answers these files. `AllocError` alone.
+    fn note_found(&mut self, name: &str, found: Found) -> Result<(), AllocError>
+        ensures noted { OnOk result (self.new ≡ record self.old { calls = self.new.calls }) }
+        ensures made { OnOk result (self.new.calls.items ≡ self.old.calls.items
+            ++ found_call name.now found ∷ []) }
+        ensures same { OnErr result ((self.new.calls.items ≡ self.old.calls.items)
+            × (self.new.failures ≡ self.old.failures)) }
+    {
+        let made = MadeCall {
+            kind: CallKind::Load,
+            name: String::from_str(self.alloc, name)?,
+            bytes: Vec::new(self.alloc),
+            answered: true,
+            found: Some(found),
+        };
+        self.push(made)
+    }
+
+    /// Adds a call to those that are told. `AllocError` alone.
+    fn push(&mut self, made: MadeCall) -> Result<(), AllocError>
+        ensures pushed { OnOk result (self.new ≡ record self.old { calls = self.new.calls }) }
+        ensures made { OnOk result (self.new.calls.items ≡ self.old.calls.items ++ made ∷ []) }
+        ensures same { OnErr result ((self.new.calls.items ≡ self.old.calls.items)
+            × (self.new.failures ≡ self.old.failures)) }
+    {
         self.calls.push(made)?;
         if let Some(peer) = &self.peer {
             peer.count_call();
@@ -166,14 +192,14 @@ impl Port for MemoryPort {
     ghost failures = { λ p. p.failures };
 
     fn load(&mut self, name: &str) -> Result<Found, PortFault> {
-        if self.is_away {
+        if self.refused == Some(CallKind::Load) {
+            self.note(CallKind::Load, name, &[], false)?;
             self.failures = self.failures.saturating_add(1);
             return Err(PortFault::File);
         }
-        Ok(Found {
-            log: copy_of(self.alloc, self.log(name))?,
-            text: copy_of(self.alloc, self.text(name))?,
-        })
+        let found = self.folder.found(name)?;
+        self.note_found(name, twin(self.alloc, &found)?)?;
+        Ok(found)
     }
 
     fn append(&mut self, name: &str, bytes: &[u8]) -> Result<(), PortFault> {

@@ -1,6 +1,6 @@
 //! Sessions that end early.
 use crate::desk::{answer, values};
-use mg_files::LoadFault;
+use mg_files::{CallKind, LoadFault};
 use mg_session::SessionFault;
 use rga_exchange::ReceiveFault;
 use rga_lines::{Counted, LineFault};
@@ -165,6 +165,6 @@ fn loads_that_fail(rt: HostRuntime) {
     }
     assert!(rt; load_ends(rt.alloc(), 2, Some(HI), None) == (Ok(()), 46));
     let mut port = MemoryPort::new(rt.alloc());
-    port.is_away = true;
+    port.refused = Some(CallKind::Load);
     assert!(rt; ends(rt.alloc(), &mut port, true, 4, 1000) == (Err(SessionFault::File), 0));
 }

@@ -1,20 +1,23 @@
 use Rattle.mg_workspace.proofs.Results.{on_ok_map}
-use Rattle.mg_session.proofs.FaultLaws.{never_of_load}
+use Rattle.mg_session.proofs.FaultLaws.{never_of_load, opened_before}
 use Rattle.mg_session.proofs.TakenLaws.{ran_from, broke_from}
 use Rattle.mg_session.proofs.session.run_keys.Goals as goal
 
 pub returns-clause-ran : goal.returns-clause-ran
 returns-clause-ran g c =
     let opened = c.in_ok-session.ensures.opened in
-    on_ok_map c.run.result _ _ (ran_from c.args.settings.now _ _ _ _ _ _ _ _ opened c.in_ok-session.ensures.unwritten) c.run.ensures.ran
+    on_ok_map c.run.result _ _ (ran_from c.args.settings.now _ _ _ _ _ _ _ _ opened) c.run.ensures.ran
 
 pub returns-clause-broken : goal.returns-clause-broken
 returns-clause-broken g c = λ keys.
     let opened = c.in_ok-session.ensures.opened in
-    broke_from c.args.settings.now _ _ _ _ _ _ _ _ opened c.in_ok-session.ensures.unwritten (c.run.ensures.broken keys)
+    broke_from c.args.settings.now _ _ _ _ _ _ _ _ opened (c.run.ensures.broken keys)
 
 pub returns-clause-unread : goal.returns-clause-unread
 returns-clause-unread g c = never_of_load c.run.result _ c.run.ensures.fault
 
 pub returns-clause-unwritten : goal.returns-clause-unwritten
 returns-clause-unwritten g c = never_of_load c.run.result _ c.run.ensures.fault
+
+pub returns-clause-load : goal.returns-clause-load
+returns-clause-load g c = opened_before c.args.settings.now _ _ c.run.result c.run.ensures.fault
