@@ -1,0 +1,77 @@
+-- A buffer and what is held, through saves and changes.
+use Rattle.std.specs.Prelude.{◌≡◌, ℕ, Bool, true, List, [], ◌∷◌, ◌++◌, Some, Result, Ok}
+use Rattle.rga_ops.specs.Content.{Content, IsWithin}
+use Rattle.rga_ops.specs.ListAnswer.{list_answer}
+use Rattle.rga_ops.specs.declared.op.Op.{Op}
+use Rattle.mg_plain.specs.declared.command.Command.{Command}
+use Rattle.mg_buffer.specs.Faults.{undo_answer}
+use Rattle.mg_buffer.specs.Following.{Follows}
+use Rattle.mg_buffer.specs.Groups.{are_revertible}
+use Rattle.mg_buffer.specs.Ran.{Ran}
+use Rattle.mg_buffer.specs.Sight.{Notes}
+use Rattle.mg_buffer.specs.State.{State}
+use Rattle.mg_buffer.specs.Undid.{Undid}
+use Rattle.mg_files.specs.Calls.{Call}
+use Rattle.mg_files.specs.OpenState.{OpenState}
+use Rattle.mg_files.specs.Saving.{SavesTo}
+use Rattle.mg_files.specs.declared.port.PortFault.{PortFault}
+use Rattle.mg_held.specs.Held.{Held, MayLead}
+use Rattle.mg_held.specs.Kept.{IsWritableWhole, IsLogged}
+
+-- A save, by what it answered; a command with its argument and the fill column, and an undo, each with what it found of
+-- the notes and left of them; operations of others that were taken; or anything else that leaves the operations, as the
+-- save of another buffer.
+pub data Step : Type 0 where
+  Saves : Result Bool PortFault → Step
+  Runs : Command → ℕ → ℕ → Notes → Notes → Step
+  Undoes : Notes → Notes → Step
+  Takes : List Op → Step
+  Rests : Step
+
+-- the buffer alone changed, and its files stayed, whatever became of others
+pub record ChangesAlone (b d : OpenState) (s t : Held) : Type 0 where
+  pub rest : d ≡ record b { buffer = d.buffer }
+  pub writable : IsWritableWhole d.buffer.content
+  pub held : t b.buffer.name ≡ s b.buffer.name
+
+-- the same name, operations and limit
+pub record KeepsOperations (b d : State) : Type 0 where
+  pub name : d.name ≡ b.name
+  pub content : d.content ≡ b.content
+  pub unsaved : d.unsaved ≡ b.unsaved
+  pub limit : d.limit ≡ b.limit
+
+-- An undo that was not refused. Each group can be reverted, as the type of buffers keeps.
+pub record UndoesOne (b : State) (old : Notes) (d : State) (new : Notes) : Type 0 where
+  pub revertible : are_revertible b.content b.groups ≡ true
+  pub allowed : undo_answer b ≡ Ok tt
+  pub undid : Undid b old d new
+
+-- operations none of which was refused
+pub record TakesAll (b : State) (ops : List Op) (d : State) : Type 0 where
+  pub allowed : list_answer b.limit b.content ops ≡ Ok tt
+  pub follows : Follows b ops d
+
+-- a save told these calls, which lead to what is held behind it
+pub record SavesOnce (answer : Result Bool PortFault) (b d : OpenState) (s t : Held) : Type 0 where
+  pub before : List Call
+  pub made : List Call
+  pub saves : SavesTo answer (Some before) (Some (before ++ made)) b d
+  pub leads : MayLead made s t
+
+abbrev pub MayStep : Step → OpenState → Held → OpenState → Held → Type 0
+MayStep (Saves answer) b s d t = SavesOnce answer b d s t
+MayStep (Runs command n column old new) b s d t = ChangesAlone b d s t × Ran command n column b.buffer old d.buffer new
+MayStep (Undoes old new) b s d t = ChangesAlone b d s t × UndoesOne b.buffer old d.buffer new
+MayStep (Takes ops) b s d t = ChangesAlone b d s t × TakesAll b.buffer ops d.buffer
+MayStep Rests b s d t = ChangesAlone b d s t × KeepsOperations b.buffer d.buffer
+
+abbrev pub MayGo : List Step → OpenState → Held → OpenState → Held → Type 0
+MayGo [] b s d t = (d ≡ b) × (t b.buffer.name ≡ s b.buffer.name)
+MayGo (step ∷ steps) b s d t = (c : OpenState) × (u : Held) × MayStep step b s c u × MayGo steps c u d t
+
+-- the log stands for all of what was held before, and more, if anything
+pub record HoldsMore (held : Content) (d : OpenState) (t : Held) : Type 0 where
+  pub now : Content
+  pub logged : IsLogged now d (t d.buffer.name).log
+  pub grown : IsWithin held now

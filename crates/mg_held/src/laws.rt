@@ -1,0 +1,85 @@
+//! Theorems about what is held. Each function does nothing: its contract is the theorem.
+ghost use Rattle.std.specs.Prelude.{◌≡◌, ◌⊎◌, ◌≤◌, ℕ, true, Bool, List, [], ◌++◌, Option, Some, None, Result, Ok};
+ghost use Rattle.rga_ops.specs.Content.{Content, IsSound, known_count};
+ghost use Rattle.rga_exchange.specs.declared.log.LogEnd.{LogEnd};
+ghost use Rattle.mg_files.specs.Calls.{refusals, found_call};
+ghost use Rattle.mg_files.specs.Files.{Files, text_bytes};
+ghost use Rattle.mg_files.specs.Loading.{load_outcome, opening_answer};
+ghost use Rattle.mg_files.specs.OpenState.{OpenState};
+ghost use Rattle.mg_files.specs.Saving.{is_changed, written, saved, save_calls, log_call};
+ghost use Rattle.mg_files.specs.declared.port.PortFault.{PortFault};
+ghost use Rattle.mg_held.specs.Held.{Held, Answers, MayLeave, MayLead};
+ghost use Rattle.mg_held.specs.Kept.{IsThere, IsBuffer, IsLogged, IsLoggedBy, OpensSaved};
+ghost use Rattle.mg_held.specs.Run.{Step, SavesOnce, MayStep, MayGo, HoldsMore};
+
+use mg_files::Opened;
+use rga_store::TextStore;
+
+/// Of each buffer that there is the operations are well-formed, and no more than it may know. Takes no
+/// memory.
+pub fn every_buffer_is_sound<S: TextStore>(opened: &Opened<S>)
+    ensures sound { IsSound opened.now.buffer.content }
+    ensures fits { known_count opened.now.buffer.content ≤ opened.now.buffer.limit }
+{
+    let _known = opened.buffer.store().known();
+}
+
+/// What is opened by what a load answered is kept beside the log that was found.
+pub fn what_is_opened_is_logged()
+    ensures { (name : List ℕ) (replica limit : ℕ) (found : Files) (b : OpenState) (end : LogEnd)
+        → load_outcome name replica limit found ≡ Ok (b, end)
+        → IsBuffer b → IsLoggedBy b found.log }
+{}
+
+/// What a log that is there stands for is loaded, and nothing of it is unsaved.
+pub fn what_is_logged_is_loaded()
+    ensures { (held : Content) (b : OpenState) (f found : Files) → IsLogged held b f.log
+        → IsThere f.log → Answers f found → opening_answer b.buffer.replica b.buffer.limit ≡ Ok tt
+        → OpensSaved b.buffer.name b.buffer.replica b.buffer.limit found held }
+{}
+
+/// What was saved is loaded. After a save that answered `Ok` the log stands for the buffer's content;
+/// where a log is there, a load opens that content, nothing of it unsaved; and where anything was
+/// changed the text file has the text.
+pub fn what_was_saved_is_loaded()
+    ensures logged { (held : Content) (b : OpenState) (s t : Held)
+        → IsLogged held b (s b.buffer.name).log → MayLead (save_calls b) s t
+        → IsLogged b.buffer.content (saved b) (t b.buffer.name).log }
+    ensures loaded { (held : Content) (b : OpenState) (s t u : Held) (found : Files)
+        → IsLogged held b (s b.buffer.name).log → MayLead (save_calls b) s t
+        → IsThere (t b.buffer.name).log → MayLeave (found_call b.buffer.name found) t u
+        → opening_answer b.buffer.replica b.buffer.limit ≡ Ok tt
+        → OpensSaved b.buffer.name b.buffer.replica b.buffer.limit found b.buffer.content }
+    ensures text { (b : OpenState) (s t : Held) → is_changed b ≡ true → MayLead (save_calls b) s t
+        → (t b.buffer.name).text ≡ Some (text_bytes b.buffer.content) }
+{}
+
+/// After a save, whatever it answered, the log stands for all of what was held before, and for
+/// nothing that the buffer has not.
+pub fn a_save_loses_nothing()
+    ensures { (answer : Result Bool PortFault) (held : Content) (b d : OpenState) (s t : Held)
+        → IsLogged held b (s b.buffer.name).log → SavesOnce answer b d s t → HoldsMore held d t }
+{}
+
+/// So it does after any step: a save, a command, an undo, operations of others, or what leaves the
+/// operations.
+pub fn what_is_held_stays_held()
+    ensures { (step : Step) (held : Content) (b d : OpenState) (s t : Held)
+        → IsLogged held b (s b.buffer.name).log → MayStep step b s d t → HoldsMore held d t }
+{}
+
+/// Through any list of steps, what was held once is held ever after.
+pub fn what_was_held_once_is_held()
+    ensures { (steps : List Step) (held : Content) (b d : OpenState) (s t : Held)
+        → IsLogged held b (s b.buffer.name).log → MayGo steps b s d t → HoldsMore held d t }
+{}
+
+/// Where a buffer has a text and no log yet, and writing the log failed, the files are as they
+/// were, or the log has all of the buffer.
+pub fn a_text_is_not_hidden()
+    ensures { (fault : PortFault) (held : Content) (b : OpenState) (s t : Held)
+        → IsLogged held b (s b.buffer.name).log → (s b.buffer.name).log ≡ None
+        → MayLead (refusals fault (log_call b)) s t
+        → (t b.buffer.name ≡ s b.buffer.name)
+        ⊎ IsLogged b.buffer.content (written b) (t b.buffer.name).log }
+{}
