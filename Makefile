@@ -14,7 +14,7 @@ SOURCES := crates.txt HANDLES \
 NEED_RT = command -v rt >/dev/null || { \
 	echo "rt, the Rattle toolchain, is not installed: put KIT/bin on PATH" >&2; exit 1; }
 
-.PHONY: build try try-live try-exchange crash hostile test bench install clean help
+.PHONY: build try try-live try-exchange crash hostile files test wrong-bodies bench install clean help
 
 build: build/mgr
 	@echo "build/mgr is up to date"
@@ -47,9 +47,18 @@ crash: build/mgr
 hostile: build/mgr
 	@scripts/hostile_peers.py build/mgr
 
+# The files of notes that other programs change, and a second session, while they are edited.
+files: build/mgr
+	@scripts/files.py build/mgr
+
 # The gate's last line is the verdict, so nothing may follow it.
 test:
 	@$(NEED_RT); exec rt ci
+
+# The wrong bodies that the gate leaves out.
+wrong-bodies:
+	@$(NEED_RT)
+	@scripts/wrong_bodies.py
 
 bench:
 	@bench/run.sh
@@ -71,8 +80,12 @@ help:
 	@echo "make try-exchange"
 	@echo "               exchanges a note between two mgr on this machine (needs python3)"
 	@echo "make test      proves what this machine has not proved yet, and runs every test; the last line counts all"
+	@echo "make wrong-bodies"
+	@echo "               tries the wrong bodies that make test leaves out: each must be refused (needs python3)"
 	@echo "make crash     kills saves at each call of the system, and loads again (needs python3 and strace)"
 	@echo "make hostile   exchanges with peers that break off, lie, flood or are deaf (needs python3)"
+	@echo "make files     does to a note's files what other programs do while it is edited, and looks for each word"
+	@echo "               (needs python3)"
 	@echo "make bench     measures mgr beside a native program (needs python3 and rustc)"
 	@echo "make install   copies mgr and mgr-live to BINDIR, and the manual to MANDIR/man1"
 	@echo "               (BINDIR=$(BINDIR) and MANDIR=$(MANDIR), by PREFIX=$(PREFIX); DESTDIR is put before them)"

@@ -1,80 +1,181 @@
-//! Files that are whole whenever the machine stops.
-use std::fs::{OpenFile, OpenOptions};
+//! Files that are whole whenever the machine stops, and of which nothing is destroyed.
+use crate::stamp::Stamp;
+use std::fs::{File, Metadata, OpenOptions, Permissions, TryLockError};
 use std::io::{ErrorKind, Write};
+use std::os::unix::fs::{MetadataExt, OpenOptionsExt, PermissionsExt, fchown};
 use std::rt::Files;
 use std::{fs, io};
 
-/// The bytes of a file; none where it is not there, or its folder is not.
-pub(crate) fn read_if_there<R: Files + AllocGlobal>(
-    rt: &R,
-    name: &str,
-) -> io::Result<Option<Vec<u8>>> {
-    match fs::read(rt, name) {
-        Ok(bytes) => Ok(Some(bytes)),
+/// A file that only its owner may read and write.
+pub(crate) const OWN: u32 = 0o600;
+
+/// How many files may be kept beside one, so that a search for a free name ends.
+const MAX_KEPT: u32 = 10000;
+
+/// What a file is; none where it is not there, or its folder is not.
+pub(crate) fn metadata_if_there<R: Files>(rt: &R, path: &str) -> io::Result<Option<Metadata>> {
+    match fs::metadata(rt, path) {
+        Ok(metadata) => Ok(Some(metadata)),
         Err(error) if error.kind() == ErrorKind::NotFound => Ok(None),
         Err(error) => Err(error),
     }
 }
 
-/// Adds bytes at the end of a file in one write, and waits until they are on the device. Where the
-/// file is not there it is made whole, beside first: whenever the machine stops it is there with
-/// all of the bytes, or not at all.
-pub(crate) fn append<R: Files>(rt: &R, name: &str, beside: &str, bytes: &[u8]) -> io::Result<()> {
-    if !fs::exists(rt, name)? {
-        return replace(rt, name, beside, bytes);
+/// Whether the path stands for the file that is open.
+pub(crate) fn stands_for<R: Files>(rt: &R, path: &str, file: &File) -> io::Result<bool> {
+    let Some(there) = metadata_if_there(rt, path)? else {
+        return Ok(false);
+    };
+    let open = Stamp::of(&file.metadata()?);
+    Ok(Stamp::of(&there).is_of_the_file(&open))
+}
+
+/// Locks a file for as long as it is open. `WouldBlock` where something else has it locked; a file
+/// system that has no locks is no reason to stop.
+pub(crate) fn lock(file: &File) -> io::Result<()> {
+    match file.try_lock() {
+        Ok(()) | Err(TryLockError::Error(_)) => Ok(()),
+        Err(TryLockError::WouldBlock) => Err(io::Error::from(ErrorKind::WouldBlock)),
     }
-    let mut file = OpenOptions::new().append(true).open(rt, name)?;
-    file.write_all(bytes)?;
-    file.sync_all()
 }
 
-/// Writes bytes beside a file, under a name that then becomes the file's: whenever the machine
-/// stops, the file is the old one or the new one, whole.
-pub(crate) fn replace<R: Files>(rt: &R, name: &str, beside: &str, bytes: &[u8]) -> io::Result<()> {
-    let mut file = fs::create(rt, beside)?;
-    file.write_all(bytes)?;
-    file.sync_all()?;
-    fs::rename(rt, beside, name)?;
-    sync_folder(rt, name)
+/// Opens a file to read it and to add to it; to read it alone where it may not be written.
+pub(crate) fn open_to_add<R: Files<File = File>>(rt: &R, path: &str) -> io::Result<File> {
+    match OpenOptions::new().read(true).append(true).open(rt, path) {
+        Ok(file) => Ok(file),
+        Err(error) if error.kind() == ErrorKind::NotFound => Err(error),
+        Err(_) => fs::open(rt, path),
+    }
 }
 
-/// The same, and the file keeps its permissions. What is no plain file, as a link, is written in
-/// place, and so is a file in a folder that takes no new one.
-pub(crate) fn replace_kept<R: Files>(
+/// Opens a file that is still to get its name, and makes it where it is not there. Only its owner may
+/// read it. What is written goes to its end.
+pub(crate) fn open_beside<R: Files<File = File>>(rt: &R, path: &str) -> io::Result<File> {
+    let mut options = OpenOptions::new();
+    options.read(true).append(true).create(true).mode(OWN);
+    options.open(rt, path)
+}
+
+/// Makes a file beside another, new and empty.
+pub(crate) fn make_beside<R: Files<File = File>>(
     rt: &R,
-    name: &str,
-    beside: &str,
-    bytes: &[u8],
-) -> io::Result<()> {
-    let Ok(old) = fs::symlink_metadata(rt, name) else {
-        return replace(rt, name, beside, bytes);
-    };
-    if !old.is_file() {
-        return overwrite(rt, name, bytes);
-    }
-    let Ok(mut file) = fs::create(rt, beside) else {
-        return overwrite(rt, name, bytes);
-    };
-    file.set_permissions(old.permissions())?;
-    file.write_all(bytes)?;
-    file.sync_all()?;
-    fs::rename(rt, beside, name)?;
-    sync_folder(rt, name)
+    path: &str,
+    mode: u32,
+) -> io::Result<File> {
+    let _ = fs::remove_file(rt, path);
+    let mut options = OpenOptions::new();
+    options.read(true).write(true).create_new(true).mode(mode);
+    options.open(rt, path)
 }
 
-/// Writes a file in place.
-fn overwrite<R: Files>(rt: &R, name: &str, bytes: &[u8]) -> io::Result<()> {
-    let mut file = fs::create(rt, name)?;
+/// Whether a file may be written. Nothing of it changes.
+pub(crate) fn check_writable<R: Files<File = File>>(rt: &R, path: &str) -> io::Result<()> {
+    let _file = OpenOptions::new().write(true).open(rt, path)?;
+    Ok(())
+}
+
+/// Gives a file these permissions, without those of its kind.
+pub(crate) fn set_mode(file: &File, mode: u32) -> io::Result<()> {
+    file.set_permissions(Permissions::from_mode(mode & 0o7777))
+}
+
+/// Gives a new log the owner and the group of another file, where that is allowed, and its mode, but
+/// that nobody runs it and its owner can add to it.
+pub(crate) fn take_mode(log: &File, standing: &Metadata) -> io::Result<()> {
+    // Another group is not let in.
+    let allowed = if take_owner(log, standing)? {
+        0o666
+    } else {
+        0o606
+    };
+    set_mode(log, (standing.mode() & allowed) | OWN)
+}
+
+/// Gives a new file the owner and the group of another, and tells whether it has them.
+pub(crate) fn take_owner(file: &File, standing: &Metadata) -> io::Result<bool> {
+    let made = file.metadata()?;
+    if made.uid() == standing.uid() && made.gid() == standing.gid() {
+        return Ok(true);
+    }
+    Ok(fchown(file, Some(standing.uid()), Some(standing.gid())).is_ok())
+}
+
+/// Writes bytes at the end of a file, and waits until it is on the device.
+pub(crate) fn fill(file: &mut File, bytes: &[u8]) -> io::Result<()> {
     file.write_all(bytes)?;
     file.sync_all()
 }
 
 /// Waits until the names in a file's folder are on the device.
-fn sync_folder<R: Files>(rt: &R, name: &str) -> io::Result<()> {
-    let folder = match name.rsplit_once('/') {
+pub(crate) fn sync_folder<R: Files<File = File>>(rt: &R, path: &str) -> io::Result<()> {
+    let folder = match path.rsplit_once('/') {
         Some(("", _)) => "/",
         Some((folder, _)) => folder,
         None => ".",
     };
     fs::open(rt, folder)?.sync_all()
+}
+
+/// How what stands under a path is kept.
+#[derive(Clone, Copy, Debug, PartialEq, Eq)]
+pub(crate) enum Keeping {
+    /// By a second name, where the first is then given to another file.
+    ByName,
+    /// By a copy, where the file is then written in place.
+    ByCopy,
+}
+
+/// Keeps what stands under a path beside it, under the path with `~` behind it; where that is taken
+/// with `.~1~`, `.~2~` and so on. Nothing is overwritten.
+pub(crate) fn keep<R: Files<File = File> + AllocGlobal>(
+    rt: &R,
+    path: &str,
+    keeping: Keeping,
+) -> io::Result<()> {
+    for number in 0..MAX_KEPT {
+        let kept = kept_path(rt, path, number)?;
+        match keep_as(rt, path, kept.as_str(), keeping) {
+            Ok(()) => return Ok(()),
+            Err(error) if error.kind() == ErrorKind::AlreadyExists => {}
+            Err(error) => return Err(error),
+        }
+    }
+    Err(io::Error::from(ErrorKind::AlreadyExists))
+}
+
+fn kept_path<R: AllocGlobal>(rt: &R, path: &str, number: u32) -> io::Result<String> {
+    let kept = if number == 0 {
+        format!(in rt.alloc(); "{path}~")
+    } else {
+        format!(in rt.alloc(); "{path}.~{number}~")
+    };
+    match kept {
+        Ok(kept) => Ok(kept),
+        Err(_) => Err(io::Error::from(ErrorKind::OutOfMemory)),
+    }
+}
+
+/// The same under a path; `AlreadyExists` where that is taken.
+fn keep_as<R: Files<File = File> + AllocGlobal>(
+    rt: &R,
+    path: &str,
+    kept: &str,
+    keeping: Keeping,
+) -> io::Result<()> {
+    if keeping == Keeping::ByName {
+        match fs::hard_link(rt, path, kept) {
+            Ok(()) => return Ok(()),
+            Err(error) if error.kind() == ErrorKind::AlreadyExists => return Err(error),
+            Err(_) => {}
+        }
+    }
+    copy_as(rt, path, kept)
+}
+
+fn copy_as<R: Files<File = File> + AllocGlobal>(rt: &R, path: &str, kept: &str) -> io::Result<()> {
+    let bytes = fs::read(rt, path)?;
+    let mut options = OpenOptions::new();
+    options.write(true).create_new(true).mode(OWN);
+    let mut copy = options.open(rt, kept)?;
+    fill(&mut copy, bytes.as_slice())
 }

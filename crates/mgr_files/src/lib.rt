@@ -2,12 +2,18 @@
 //!
 //! A buffer `NAME` has its text in the file `NAME` and its log in `NAME.ops`. The crate stands on
 //! mg_files for what a port is. The layer above may rest on the contract of `Port`, where this one
-//! tells no calls: what files give and keep, and what a peer says, no clause can name. So that the
-//! files are whole whenever the machine stops is said beside each function, and tried by hand.
+//! tells no calls: what files give and keep, and what a peer says, no clause can name. So that a note
+//! has one writer, that its files are whole whenever the machine stops, and that nothing that the
+//! note has not is destroyed, is said beside each function, and tried with the built program.
 #![tactic(auto)]
 
 mod files;
+mod log;
+mod names;
+mod note;
 mod port;
 mod sockets;
+mod stamp;
+mod text;
 
 pub use port::FilePort;

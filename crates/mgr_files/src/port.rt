@@ -1,11 +1,13 @@
 //! A port of files and sockets.
-ghost use Rattle.std.specs.Prelude.{◌≡◌, Bool, Err, IfErr};
+ghost use Rattle.std.specs.Prelude.{◌≡◌, ◌<◌, Bool, Err, IfOk, IfErr, length};
 ghost use Rattle.mg_files.specs.Calls.{failures_after, failures_after_link};
-ghost use Rattle.mg_files.specs.declared.port.PortFault.TheVariants.{File, Memory};
+ghost use Rattle.mg_files.specs.declared.port.PortFault.TheVariants.{Memory};
 
-use crate::files::{append, read_if_there, replace, replace_kept};
+use crate::names::Paths;
+use crate::note::Note;
 use crate::sockets::{accept_at, connect_to};
 use mg_files::{Found, LinkFault, Port, PortFault};
+use std::fs::File;
 use std::io;
 use std::io::ErrorKind;
 use std::net::{Net, OpenStream, Shutdown};
@@ -15,24 +17,42 @@ use std::rt::Files;
 /// behind it. It makes two further files, with `.ops.new` and `.ops.text` behind the name, which
 /// then take the names of the log and of the text. Peers are met on 127.0.0.1, at a port number
 /// that may be left out.
-#[derive(Drop)]
-pub struct FilePort<R: Files + Net + AllocGlobal + Drop> {
+///
+/// A note that was loaded stays locked for as long as the port is there, under whatever path it is
+/// asked for. What stands under a name when another file takes it, and is nothing that the port read
+/// or wrote, is kept beside it, with `~` behind the name, or `.~1~` and so on.
+pub struct FilePort<R: Files<File = File> + Net + AllocGlobal + Drop> {
     rt: R,
     number: Option<u16>,
     failures: u64,
+    notes: Vec<Note>,
 }
 
-impl<R: Files + Net + AllocGlobal + Drop> FilePort<R> {
+impl<R: Files<File = File> + Net + AllocGlobal + Drop> Drop for FilePort<R> {
+    fn drop(self) {
+        self.leave();
+        let FilePort {
+            rt: _,
+            number: _,
+            failures: _,
+            notes: _,
+        } = self;
+    }
+}
+
+impl<R: Files<File = File> + Net + AllocGlobal + Drop> FilePort<R> {
     /// A port of which no call has failed, and which meets peers at this number. Without one it
     /// answers `NoPort` where it is asked for a link. Takes no memory and opens nothing.
     pub fn new(rt: R, number: Option<u16>) -> FilePort<R>
         ensures failures { result.failures ≡ 0 }
         ensures number { result.number ≡ number }
     {
+        let notes = Vec::new(rt.alloc());
         FilePort {
             rt,
             number,
             failures: 0,
+            notes,
         }
     }
 
@@ -66,37 +86,48 @@ impl<R: Files + Net + AllocGlobal + Drop> FilePort<R> {
 
     /// Counts a failure.
     fn count_failure(&mut self)
-        ensures { self.new.failures ≡ failures_after {A = Bool} (Err File) self.old.failures }
+        ensures { let refused = Err PortFault.File in
+            self.new.failures ≡ failures_after {A = Bool} refused self.old.failures }
     {
         self.failures = self.failures.saturating_add(1);
     }
 
-    /// The name with more behind it.
-    fn name_with(&self, name: &str, end: &str) -> Result<String, PortFault>
+    /// The index of a note, which need not be loaded.
+    fn note(&mut self, name: &str) -> Result<usize, PortFault>
+        ensures found { IfOk result (λ i. i < length self.new.notes.items) }
+        ensures memory { IfErr result (λ e. e ≡ Memory) }
+        ensures failures { self.new.failures ≡ self.old.failures }
+    {
+        let known = self.notes.iter().position(|note| note.is_of(name));
+        if let Some(index) = known {
+            return Ok(index);
+        }
+        let note = self.new_note(name)?;
+        let index = self.notes.as_slice().len();
+        if self.notes.push(note).is_err() {
+            return Err(PortFault::Memory);
+        }
+        Ok(index)
+    }
+
+    fn new_note(&self, name: &str) -> Result<Note, PortFault>
         ensures { IfErr result (λ e. e ≡ Memory) }
     {
-        match format!(in self.rt.alloc(); "{name}{end}") {
-            Ok(name) => Ok(name),
+        match Paths::new(self.rt.alloc(), name) {
+            Ok(paths) => Ok(Note::new(paths)),
             Err(_) => Err(PortFault::Memory),
         }
     }
 
-    /// The log; where there is none the text.
-    fn find(&self, name: &str, log: &str) -> io::Result<Found> {
-        if let Some(log) = read_if_there(&self.rt, log)? {
-            return Ok(Found {
-                log: Some(log),
-                text: None,
-            });
+    /// Removes what stands in the place of logs that were never made.
+    fn leave(&self) {
+        for note in &self.notes {
+            note.leave(&self.rt);
         }
-        Ok(Found {
-            log: None,
-            text: read_if_there(&self.rt, name)?,
-        })
     }
 }
 
-impl<R: Files + Net + AllocGlobal + Drop> Port for FilePort<R> {
+impl<R: Files<File = File> + Net + AllocGlobal + Drop> Port for FilePort<R> {
     ghost use Rattle.std.specs.Prelude.{None};
 
     type Link = R::Stream;
@@ -105,34 +136,37 @@ impl<R: Files + Net + AllocGlobal + Drop> Port for FilePort<R> {
 
     ghost failures = { λ p. p.failures };
 
-    /// Where there is a log, the text is not read.
+    /// Where there is a log, the text is not read. A note that something else has open is refused,
+    /// be it under another path.
     fn load(&mut self, name: &str) -> Result<Found, PortFault> {
-        let log = self.name_with(name, ".ops")?;
-        let found = self.find(name, log.as_str());
+        let index = self.note(name)?;
+        let note = self.new_note(name)?;
+        self.notes[index] = note;
+        let found = self.notes[index].load(&self.rt);
         self.told(found)
     }
 
-    /// The bytes are on the device once it answers `Ok`.
+    /// The bytes are on the device once it answers `Ok`. Nothing is written where the log is gone,
+    /// is another file, or is not as it was left, but for lines that were put behind it.
     fn append(&mut self, name: &str, bytes: &[u8]) -> Result<(), PortFault> {
-        let log = self.name_with(name, ".ops")?;
-        let beside = self.name_with(name, ".ops.new")?;
-        let answer = append(&self.rt, log.as_str(), beside.as_str(), bytes);
+        let index = self.note(name)?;
+        let answer = self.notes[index].append(&self.rt, bytes);
         self.told(answer)
     }
 
-    /// Whenever the machine stops, the log is the old one or the new one, whole.
+    /// Whenever the machine stops, the log is the old one or the new one, whole. The old one is
+    /// kept.
     fn replace(&mut self, name: &str, bytes: &[u8]) -> Result<(), PortFault> {
-        let log = self.name_with(name, ".ops")?;
-        let beside = self.name_with(name, ".ops.new")?;
-        let answer = replace(&self.rt, log.as_str(), beside.as_str(), bytes);
+        let index = self.note(name)?;
+        let answer = self.notes[index].replace(&self.rt, bytes);
         self.told(answer)
     }
 
-    /// So is the text, where it is a plain file in a folder that takes new ones; its permissions
-    /// stay.
+    /// So is the text, where it is a plain file in a folder that takes new ones. Its permissions
+    /// stay; where they do not let it be written, it is refused.
     fn put_text(&mut self, name: &str, bytes: &[u8]) -> Result<(), PortFault> {
-        let beside = self.name_with(name, ".ops.text")?;
-        let answer = replace_kept(&self.rt, name, beside.as_str(), bytes);
+        let index = self.note(name)?;
+        let answer = self.notes[index].put_text(&self.rt, bytes);
         self.told(answer)
     }
 

@@ -14,6 +14,7 @@ use rga_lines::Counted;
 use rga_store::TreeStore;
 use std::alloc::Global;
 use std::fmt::Display;
+use std::fs::File;
 use std::io;
 use std::io::{Read, Write};
 use std::net::Net;
@@ -21,7 +22,7 @@ use std::rt::{Env, Files};
 
 /// Does the job that the command line asks for, by standard input and output, by files and by
 /// sockets of this machine, and answers the exit status that `do_job` does.
-pub fn run<R: Env + Files + Net + AllocGlobal + Input + Print + Eprint>(rt: &R) -> u8
+pub fn run<R: Env + Files<File = File> + Net + AllocGlobal + Input + Print + Eprint>(rt: &R) -> u8
     ensures { result ≤ 4 }
 {
     let job = words(rt).and_then(|words| job_of(rt.alloc(), &words));

@@ -1,0 +1,124 @@
+//! A log that this port has open.
+use crate::files::{fill, lock, metadata_if_there, open_to_add, stands_for};
+use crate::stamp::Stamp;
+use std::fs::File;
+use std::io;
+use std::io::{ErrorKind, Read};
+use std::os::unix::fs::FileExt;
+use std::rt::Files;
+use std::time::SystemTime;
+
+/// How many bytes of a log's end are remembered.
+const END: usize = 256;
+
+/// A log as this port read or wrote it last. It is locked for as long as it is open.
+#[derive(Drop)]
+pub(crate) struct Log {
+    file: File,
+    stamp: Stamp,
+    end: End,
+}
+
+/// The last bytes of a log.
+#[derive(Clone, Copy)]
+struct End {
+    bytes: [u8; END],
+    length: usize,
+}
+
+impl Log {
+    /// A log that was read or written up to its length.
+    pub(crate) fn new(file: File) -> io::Result<Log> {
+        let stamp = Stamp::of(&file.metadata()?);
+        let end = End::of(&file, stamp.length)?;
+        Ok(Log { file, stamp, end })
+    }
+
+    /// Opens and locks the log of a path; none where it is not there. `Interrupted` where the path
+    /// stood for another file meanwhile, and `WouldBlock` where something else has it locked.
+    pub(crate) fn open<R: Files<File = File>>(rt: &R, path: &str) -> io::Result<Option<File>> {
+        let file = match open_to_add(rt, path) {
+            Ok(file) => file,
+            Err(error) if error.kind() == ErrorKind::NotFound => return Ok(None),
+            Err(error) => return Err(error),
+        };
+        lock(&file)?;
+        if !stands_for(rt, path, &file)? {
+            return Err(io::Error::from(ErrorKind::Interrupted));
+        }
+        Ok(Some(file))
+    }
+
+    pub(crate) fn stamp(&self) -> Stamp {
+        self.stamp
+    }
+
+    /// When it was changed last.
+    pub(crate) fn changed(&self) -> io::Result<SystemTime> {
+        self.file.metadata()?.modified()
+    }
+
+    /// The bytes of the log, from its begin.
+    pub(crate) fn read<R: AllocGlobal>(rt: &R, file: &mut File) -> io::Result<Vec<u8>> {
+        let mut bytes = Vec::new(rt.alloc());
+        file.read_to_end(&mut bytes)?;
+        Ok(bytes)
+    }
+
+    /// Adds bytes at the end, and waits until they are on the device. Nothing is written where the
+    /// path stands for another file, or the log is not as it was left and at most something whole
+    /// behind it.
+    pub(crate) fn append<R: Files>(&mut self, rt: &R, path: &str, bytes: &[u8]) -> io::Result<()> {
+        if !self.only_grew(rt, path)? {
+            return Err(io::Error::from(ErrorKind::NotFound));
+        }
+        fill(&mut self.file, bytes)?;
+        self.stamp = Stamp::of(&self.file.metadata()?);
+        self.end = End::of(&self.file, self.stamp.length)?;
+        Ok(())
+    }
+
+    /// Whether the path stands for the log, which has what it had, and at most lines behind it.
+    fn only_grew<R: Files>(&self, rt: &R, path: &str) -> io::Result<bool> {
+        let Some(there) = metadata_if_there(rt, path)? else {
+            return Ok(false);
+        };
+        let now = Stamp::of(&there);
+        if !now.is_of_the_file(&self.stamp) || now.length < self.stamp.length {
+            return Ok(false);
+        }
+        if !self.end.is_at(&self.file, self.stamp.length)? {
+            return Ok(false);
+        }
+        if now.length == self.stamp.length {
+            return Ok(true);
+        }
+        ends_in_a_newline(&self.file, now.length)
+    }
+}
+
+impl End {
+    /// The end of a file of such a length.
+    fn of(file: &File, length: u64) -> io::Result<End> {
+        let mut bytes = [0u8; END];
+        let count = length.min(END as u64) as usize;
+        let from = length.saturating_sub(END as u64);
+        file.read_exact_at(&mut bytes[..count], from)?;
+        Ok(End {
+            bytes,
+            length: count,
+        })
+    }
+
+    /// Whether it stands in a file where such a length ends.
+    fn is_at(&self, file: &File, length: u64) -> io::Result<bool> {
+        let there = End::of(file, length)?;
+        Ok(there.length == self.length && there.bytes == self.bytes)
+    }
+}
+
+fn ends_in_a_newline(file: &File, length: u64) -> io::Result<bool> {
+    let mut last = [0u8; 1];
+    file.read_exact_at(&mut last, length.saturating_sub(1))?;
+    Ok(last[0] == b'\n')
+}

@@ -1,0 +1,240 @@
+//! A text, as this port found and left it.
+use crate::files::{
+    Keeping, check_writable, keep, lock, make_beside, metadata_if_there, set_mode, stands_for,
+    sync_folder, take_owner,
+};
+use crate::log::Log;
+use crate::stamp::Stamp;
+use std::fs::{File, Metadata};
+use std::io::{ErrorKind, Write};
+use std::os::unix::fs::MetadataExt;
+use std::rt::Files;
+use std::{fs, io};
+
+/// How often the file is looked at anew where its name changes meanwhile.
+const TRIES: u32 = 16;
+
+/// A text that is made gets the permissions that the user's mask leaves of these.
+const ALL: u32 = 0o666;
+
+/// The paths of a text, and of the file that is to take its name.
+#[derive(Clone, Copy)]
+pub(crate) struct TextPaths<'a> {
+    pub(crate) text: &'a str,
+    pub(crate) next: &'a str,
+}
+
+/// A text. It is locked for as long as it is open.
+#[derive(Drop)]
+pub(crate) struct Text {
+    /// The file, where it is there.
+    file: Option<File>,
+    /// What it was when this port read it or put it.
+    own: Option<Stamp>,
+}
+
+impl Text {
+    /// A text of which nothing was read and nothing is locked.
+    pub(crate) fn new() -> Text {
+        Text {
+            file: None,
+            own: None,
+        }
+    }
+
+    /// Locks the text of a path, where it is a plain file. `WouldBlock` where something else has it
+    /// locked.
+    fn take<R: Files<File = File>>(&mut self, rt: &R, path: &str) -> io::Result<()> {
+        for _ in 0..TRIES {
+            let Some(there) = metadata_if_there(rt, path)? else {
+                return Ok(());
+            };
+            if !there.is_file() {
+                return Ok(());
+            }
+            let file = fs::open(rt, path)?;
+            lock(&file)?;
+            if stands_for(rt, path, &file)? {
+                self.file = Some(file);
+                return Ok(());
+            }
+        }
+        Err(io::Error::from(ErrorKind::WouldBlock))
+    }
+
+    /// The same beside a log that was read: the text need not be readable then. It is this port's
+    /// own where it was put beside this log.
+    pub(crate) fn take_beside<R: Files<File = File>>(
+        &mut self,
+        rt: &R,
+        path: &str,
+        log: &Log,
+    ) -> io::Result<()> {
+        match self.take(rt, path) {
+            Ok(()) => {}
+            Err(error) if error.kind() == ErrorKind::WouldBlock => return Err(error),
+            Err(_) => return Ok(()),
+        }
+        if let Some(file) = &self.file {
+            let stamp = Stamp::of(&file.metadata()?);
+            if stamp.is_as_old_as(&log.stamp()) {
+                self.own = Some(stamp);
+            }
+        }
+        Ok(())
+    }
+
+    /// Locks and reads the text, which is this port's own then.
+    pub(crate) fn load<R: Files<File = File> + AllocGlobal>(
+        &mut self,
+        rt: &R,
+        path: &str,
+    ) -> io::Result<Option<Vec<u8>>> {
+        self.take(rt, path)?;
+        let bytes = match fs::read(rt, path) {
+            Ok(bytes) => bytes,
+            Err(error) if error.kind() == ErrorKind::NotFound => return Ok(None),
+            Err(error) => return Err(error),
+        };
+        if let Some(file) = &self.file {
+            let mut stamp = Stamp::of(&file.metadata()?);
+            stamp.length = bytes.len() as u64;
+            self.own = Some(stamp);
+        }
+        Ok(Some(bytes))
+    }
+
+    /// Makes these bytes the text, beside a log. What stands there is kept, unless this port read it
+    /// or put it, or it is the same.
+    pub(crate) fn put<R: Files<File = File> + AllocGlobal>(
+        &mut self,
+        rt: &R,
+        paths: TextPaths<'_>,
+        bytes: &[u8],
+        log: &Option<Log>,
+    ) -> io::Result<()> {
+        let there = metadata_if_there(rt, paths.text)?;
+        if let Some(there) = &there {
+            if there.is_file() {
+                check_writable(rt, paths.text)?;
+            }
+        }
+        let is_safe = self.is_safe(rt, paths.text, &there, bytes)?;
+        match make_next(rt, paths, &there)? {
+            Some(next) => self.put_beside(rt, paths, next, bytes, log, is_safe),
+            None => self.put_in_place(rt, paths.text, bytes, log, is_safe),
+        }
+    }
+
+    /// Whether nothing is lost where the text is written anew.
+    fn is_safe<R: Files<File = File> + AllocGlobal>(
+        &self,
+        rt: &R,
+        path: &str,
+        there: &Option<Metadata>,
+        bytes: &[u8],
+    ) -> io::Result<bool> {
+        let Some(there) = there else {
+            return Ok(true);
+        };
+        if !there.is_file() || self.own == Some(Stamp::of(there)) {
+            return Ok(true);
+        }
+        if there.len() != bytes.len() as u64 {
+            return Ok(false);
+        }
+        Ok(fs::read(rt, path)?.as_slice() == bytes)
+    }
+
+    /// Writes a new file, and gives it the text's name. It is locked before, and what stands there is
+    /// kept unless it is safe.
+    fn put_beside<R: Files<File = File> + AllocGlobal>(
+        &mut self,
+        rt: &R,
+        paths: TextPaths<'_>,
+        mut next: File,
+        bytes: &[u8],
+        log: &Option<Log>,
+        is_safe: bool,
+    ) -> io::Result<()> {
+        lock(&next)?;
+        fill_dated(&mut next, bytes, log)?;
+        if !is_safe {
+            keep(rt, paths.text, Keeping::ByName)?;
+        }
+        fs::rename(rt, paths.next, paths.text)?;
+        self.own = Some(Stamp::of(&next.metadata()?));
+        self.file = Some(next);
+        sync_folder(rt, paths.text)
+    }
+
+    /// Writes the text where it stands, once that is kept unless it is safe.
+    fn put_in_place<R: Files<File = File> + AllocGlobal>(
+        &mut self,
+        rt: &R,
+        path: &str,
+        bytes: &[u8],
+        log: &Option<Log>,
+        is_safe: bool,
+    ) -> io::Result<()> {
+        if !is_safe {
+            keep(rt, path, Keeping::ByCopy)?;
+        }
+        let mut file = fs::create(rt, path)?;
+        fill_dated(&mut file, bytes, log)?;
+        self.own = Some(Stamp::of(&file.metadata()?));
+        Ok(())
+    }
+}
+
+/// A new file for a text, with its mode, owner and group; none where the text has to be written in
+/// place: what is no plain file, a file whose owner can't be kept, and one in a folder that takes no
+/// new file.
+fn make_next<R: Files<File = File>>(
+    rt: &R,
+    paths: TextPaths<'_>,
+    there: &Option<Metadata>,
+) -> io::Result<Option<File>> {
+    let standing = match fs::symlink_metadata(rt, paths.text) {
+        Ok(standing) => standing,
+        Err(error) if error.kind() == ErrorKind::NotFound => {
+            return Ok(Some(make_beside(rt, paths.next, ALL)?));
+        }
+        Err(error) => return Err(error),
+    };
+    if there.is_none() || !standing.is_file() {
+        return Ok(None);
+    }
+    let Ok(next) = make_beside(rt, paths.next, 0) else {
+        return only_name(&standing);
+    };
+    if !take_owner(&next, &standing)? {
+        drop(next);
+        fs::remove_file(rt, paths.next)?;
+        return only_name(&standing);
+    }
+    set_mode(&next, standing.mode())?;
+    Ok(Some(next))
+}
+
+/// No new file; an error where the text is kept under another name too, which writing in place would
+/// change as well.
+fn only_name(standing: &Metadata) -> io::Result<Option<File>> {
+    if standing.nlink() > 1 {
+        return Err(io::Error::from(ErrorKind::PermissionDenied));
+    }
+    Ok(None)
+}
+
+/// Writes all of a text that is empty, gives it the time of change of its log, and waits until it is
+/// on the device. So a later session knows that it was put beside this very log. A file system that
+/// keeps no such times is no reason to stop.
+fn fill_dated(text: &mut File, bytes: &[u8], log: &Option<Log>) -> io::Result<()> {
+    text.write_all(bytes)?;
+    if let Some(log) = log {
+        if let Ok(time) = log.changed() {
+            let _ = text.set_modified(time);
+        }
+    }
+    text.sync_all()
+}
