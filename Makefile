@@ -14,7 +14,7 @@ SOURCES := crates.txt HANDLES \
 NEED_RT = command -v rt >/dev/null || { \
 	echo "rt, the Rattle toolchain, is not installed: put KIT/bin on PATH" >&2; exit 1; }
 
-.PHONY: build try try-live try-exchange crash hostile files test wrong-bodies bench install clean help
+.PHONY: build try try-live try-exchange crash hostile files test wrong-bodies contracts bench install clean help
 
 build: build/mgr
 	@echo "build/mgr is up to date"
@@ -60,6 +60,10 @@ wrong-bodies:
 	@$(NEED_RT)
 	@scripts/wrong_bodies.py
 
+# What each public call promises, from the sources.
+contracts:
+	@scripts/contracts.py
+
 bench:
 	@bench/run.sh
 
@@ -82,6 +86,8 @@ help:
 	@echo "make test      proves what this machine has not proved yet, and runs every test; the last line counts all"
 	@echo "make wrong-bodies"
 	@echo "               tries the wrong bodies that make test leaves out: each must be refused (needs python3)"
+	@echo "make contracts prints each public call with its clauses, from the sources; of one call, with the definitions that"
+	@echo "               they reach: scripts/contracts.py NAME (needs python3)"
 	@echo "make crash     kills saves at each call of the system, and loads again (needs python3 and strace)"
 	@echo "make hostile   exchanges with peers that break off, lie, flood or are deaf (needs python3)"
 	@echo "make files     does to a note's files what other programs do while it is edited, and looks for each word"

@@ -1,0 +1,144 @@
+#!/usr/bin/env python3
+"""Prints the contracts of the public calls as they stand in the sources.
+
+Without an argument: every call of the library crates, in the order of crates.txt, tests and benches
+left out, below its file. With names (`run_keys`, `Opened::save`): these calls alone, and below each
+the definitions of specs/ that its clauses reach, and those that these reach, by file, and how many
+they are. They are found by name, so that a variable with the name of a definition counts as the
+definition. What the sources declare, types and how these are seen, is not followed.
+"""
+
+import pathlib
+import re
+import sys
+import textwrap
+
+CRATES = pathlib.Path(__file__).resolve().parent.parent / "crates"
+CALL = re.compile(r"^( *)(pub )?(?:const )?fn (\w+)", re.M)
+OWNER = re.compile(r"^(?:pub (?:trait (?P<trait>\w+))|trait |impl\b(?P<impl>[^{]*))", re.M)
+CLAUSE = re.compile(r"\b(?:requires|ensures)(?:\s+[\w-]+)?\s*$")
+DEFINITION = re.compile(r"(?:  )?(?:(?:abbrev|unfoldable)(?: pub)?|pub (?:record|data)) (\w+)|pub (\w+) :")
+USE = re.compile(r"^ *(?:pub )?(?:ghost )?use Rattle\.(\w+)\.specs\.(\w+)(?:\.\{([^}]*)\}| as (\w+))", re.M)
+WORD = re.compile(r"(?<![\w.])[^\W\d]\w*(?:\.[^\W\d]\w*)*(?! *=\s)")
+
+
+def without_comments(text, mark):
+    return re.sub(mark + r"[^\n]*", lambda found: " " * len(found[0]), text)
+
+
+def type_of(heading):
+    """Returns the type, or the trait, that the functions below a heading are of."""
+    header = (heading["impl"] or "").replace("->", "")
+    while "<" in header:
+        header = re.sub(r"<[^<>]*>", "", header)
+    return heading["trait"] or (re.findall(r"\w+", header) or [None])[-1]
+
+
+def head_and_clauses(text, start):
+    """Returns where the head of a function ends, at its body or a semicolon, and its clauses."""
+    depth, clauses = 0, []
+    for place in range(start, len(text)):
+        sign = text[place]
+        if depth == 0 and (sign == ";" or sign == "{" and not CLAUSE.search(text, start, place)):
+            break
+        if depth == 0 and sign == "{":
+            clauses.append(place)
+        depth += (sign in "([{") - (sign in ")]}")
+    return place, text[clauses[0]:place] if clauses else ""
+
+
+def calls_of(crate):
+    """Yields of each public call the file, the name, the head as it stands and the clauses."""
+    root = crate / "src" / "lib.rt"
+    exported = re.findall(r"\w+", " ".join(re.findall(r"^pub use [^;]*", root.read_text(), re.M))) if root.is_file() else []
+    for path in sorted((crate / "src").rglob("*.rt")) if exported or root.is_file() else ():
+        whole = path.read_text()
+        text = without_comments(whole, "//")
+        for call in CALL.finditer(text):
+            headings = [heading for heading in OWNER.finditer(text, 0, call.start())] if call[1] else []
+            owner = type_of(headings[-1]) if headings else None
+            end, clauses = head_and_clauses(text, call.start())
+            meets = headings and (headings[-1]["trait"] or " for " in (headings[-1]["impl"] or "") and clauses)
+            if (call[2] or meets) and (owner in exported or not headings):
+                yield path, f"{owner}::{call[3]}" if owner else call[3], whole[call.start():end].rstrip(), clauses
+
+
+def scope_of(text):
+    """Returns what the names of a file are: (crate, file, name), without a name for a whole file."""
+    scope = {}
+    for crate, stem, names, alias in USE.findall(text):
+        if alias:
+            scope[alias] = (crate, stem, None)
+        for name, other in re.findall(r"([^\s,]+)(?: as (\w+))?", names):
+            scope[other or name] = (crate, stem, name)
+    return scope
+
+
+def read_specs(crate, stem, files):
+    """Returns the text of each definition of a file of specs/, and what its names are."""
+    path = CRATES / crate / "specs" / f"{stem}.antt"
+    if path not in files:
+        text = without_comments(path.read_text(), "--") if path.is_file() else ""
+        found, scope, module, current = {}, scope_of(text), "", None
+        for line in text.splitlines():
+            if re.match(r"\S", line):
+                module, current = (line, None) if line.startswith("module") else ("", current)
+            if head := DEFINITION.match(line):
+                current = head[1] or head[2]
+                found[current] = module + "\n"
+                scope[current] = (crate, stem, current)
+            elif current and (maker := re.match(r" +(\w+) :", line)):
+                scope.setdefault(maker[1], (crate, stem, current))
+            if current and not USE.match(line):
+                found[current] += re.sub(r"^ +pub \w+ :", "", line) + "\n"
+        files[path] = (found, scope)
+    return files[path]
+
+
+def reached_by(text, scope):
+    """Returns the definitions that a text reaches, as (crate, file, name)."""
+    reached, texts, files = set(), [(text, scope)], {}
+    while texts:
+        text, scope = texts.pop()
+        for word in WORD.findall(text):
+            first, second = (word + ".").split(".")[:2]
+            place = scope.get(first)
+            while place:
+                crate, stem, name = place[0], place[1], place[2] or second
+                found, inner = read_specs(crate, stem, files)
+                if name in found and (crate, stem, name) not in reached:
+                    reached.add((crate, stem, name))
+                    texts.append((found[name], inner))
+                place = None if name in found else inner.get(name)
+    return reached
+
+
+def print_reached(path, clauses):
+    reached, files = reached_by(clauses, scope_of(path.read_text())), {}
+    for crate, stem, name in sorted(reached):
+        files.setdefault(f"crates/{crate}/specs/{stem}.antt", []).append(name)
+    print()
+    for file, names in files.items():
+        print(f"  {file}: {', '.join(names)}")
+    print(f"  {len(reached)} definitions in {len(files)} files")
+
+
+def main():
+    asked, printed, last = set(sys.argv[1:]), set(), None
+    listed = re.findall(r"^(\w+):", (CRATES.parent / "crates.txt").read_text(), re.M)
+    for crate in listed:
+        for path, name, head, clauses in () if crate.startswith(("test_", "bench_")) else calls_of(CRATES / crate):
+            if asked and not {name, name.split("::")[-1]} & asked:
+                continue
+            if path != last:
+                print(f"\n{path.relative_to(CRATES.parent)}")
+            print(f"\n  {name}\n{textwrap.indent(textwrap.dedent(head), '    ')}")
+            last, printed = path, printed | {name, name.split("::")[-1]}
+            if asked:
+                print_reached(path, clauses)
+    if asked - printed:
+        sys.exit(f"no public call: {', '.join(sorted(asked - printed))}")
+
+
+if __name__ == "__main__":
+    main()
