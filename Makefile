@@ -53,7 +53,9 @@ files: build/mgr
 
 # The gate's last line is the verdict, so nothing may follow it.
 test:
-	@$(NEED_RT); exec rt ci
+	@$(NEED_RT); command -v python3 >/dev/null || { \
+		echo "python3 is not installed: the names in the documents are not looked up" >&2; exec rt ci; }; \
+		scripts/documents.py && exec rt ci
 
 # The wrong bodies that the gate leaves out.
 wrong-bodies:
@@ -83,11 +85,13 @@ help:
 	@echo "make try-live  runs mgr-live in a terminal of tmux, and looks at what it shows (needs python3 and tmux)"
 	@echo "make try-exchange"
 	@echo "               exchanges a note between two mgr on this machine (needs python3)"
-	@echo "make test      proves what this machine has not proved yet, and runs every test; the last line counts all"
+	@echo "make test      looks up each name in the documents, proves what this machine has not proved yet, and runs"
+	@echo "               every test; the last line counts all"
 	@echo "make wrong-bodies"
 	@echo "               tries the wrong bodies that make test leaves out: each must be refused (needs python3)"
 	@echo "make contracts prints each public call with its clauses, from the sources; of one call, with the definitions that"
-	@echo "               they reach: scripts/contracts.py NAME (needs python3)"
+	@echo "               they reach: scripts/contracts.py NAME; what is to be read of the claim: --claim"
+	@echo "               (needs python3)"
 	@echo "make crash     kills saves at each call of the system, and loads again (needs python3 and strace)"
 	@echo "make hostile   exchanges with peers that break off, lie, flood or are deaf (needs python3)"
 	@echo "make files     does to a note's files what other programs do while it is edited, and looks for each word"

@@ -4,9 +4,9 @@
 Prints a row a size: the microseconds of user time of a character put in, of a motion, of a line
 killed, in front, of the rest of a line killed and yanked back (both together), of a character put in
 and a line killed that are undone (both together), point being in the middle of the text; the
-milliseconds of the undo of a kill of all of it; and the microseconds of an operation of another replica, taken by the buffer and by a
-store alone. The time of the same run with nothing of it done, which makes the buffer, is taken
-off; from an undo also the kill. Of several measurements the least counts.
+milliseconds of the undo of a kill of all of it; and the microseconds of an operation of another
+replica, taken by the buffer and by a store alone. The time of the same run with nothing of it done,
+which makes the buffer, is taken off; from an undo also the kill. Of several measurements the least counts.
 """
 
 import timing
@@ -24,7 +24,7 @@ TIMES = {
 
 def seconds(work, size, times):
     """Returns the least user time of such a run."""
-    return timing.seconds("bench_buffers", work, size, times)
+    return timing.seconds("buffers", work, size, times)
 
 
 def cost(work, size, times, without=None):

@@ -8,9 +8,7 @@ stands in the middle. The search finds nothing, the paragraph is filled to 70 co
 taken off. Of several measurements the least counts.
 """
 
-import pathlib
-import resource
-import subprocess
+import timing
 
 SIZE = 100_000
 # How often a command is repeated in a run.
@@ -25,20 +23,11 @@ TIMES = {
     "fill-paragraph": 1_000,
     "replace-all": 1_000,
 }
-MEASUREMENTS = 5
-
-PROGRAM = pathlib.Path(__file__).parent.parent / "build" / "bench_commands"
 
 
 def seconds(command, times):
     """Returns the least user time of such a run."""
-    least = float("inf")
-    for _ in range(MEASUREMENTS):
-        before = resource.getrusage(resource.RUSAGE_CHILDREN).ru_utime
-        words = [PROGRAM, command, str(SIZE), str(times)]
-        subprocess.run(words, stdout=subprocess.DEVNULL, check=True)
-        least = min(least, resource.getrusage(resource.RUSAGE_CHILDREN).ru_utime - before)
-    return least
+    return timing.seconds("commands", command, SIZE, times)
 
 
 def main():

@@ -22,7 +22,7 @@ WORKS = ("order", "type", "remote", "change", "revert")
 
 def seconds(work, size, times):
     """Returns the least user time of such a run."""
-    return timing.seconds("bench_edits", work, size, times)
+    return timing.seconds("edits", work, size, times)
 
 
 def main():

@@ -8,9 +8,7 @@ know no text. The time of the same run with no frame in it, which makes the text
 several measurements the least counts.
 """
 
-import pathlib
-import resource
-import subprocess
+import timing
 
 # Letters of a line, characters of the text, and how often a work is repeated in a run.
 TEXTS = [
@@ -21,20 +19,11 @@ TEXTS = [
 ]
 WORKS = ["first-line", "frame", "cursor", "all"]
 SPLITS = 10_000_000
-MEASUREMENTS = 5
-
-PROGRAM = pathlib.Path(__file__).parent.parent / "build" / "bench_frames"
 
 
 def seconds(work, line, size, times):
     """Returns the least user time of such a run."""
-    least = float("inf")
-    for _ in range(MEASUREMENTS):
-        before = resource.getrusage(resource.RUSAGE_CHILDREN).ru_utime
-        words = [PROGRAM, work, str(line), str(size), str(times)]
-        subprocess.run(words, stdout=subprocess.DEVNULL, check=True)
-        least = min(least, resource.getrusage(resource.RUSAGE_CHILDREN).ru_utime - before)
-    return least
+    return timing.seconds("frames", work, line, size, times)
 
 
 def main():

@@ -17,7 +17,7 @@ import sys
 
 from measure import BUILD, LOGS, PROGRAMS, REPEATS, generated, least, measured
 
-PROGRAM = BUILD / "bench_logs"
+PROGRAM = [BUILD / "bench_tasks", "logs"]
 
 # How often a log is written in one run. It is read so often in a row as measure.py has it.
 TIMES = {10_000: 200, 100_000: 20, 1_000_000: 4}
@@ -55,18 +55,18 @@ def least_costs(runs):
 
 def costs_of(log, count):
     """Returns for each work what it costs: seconds of user time and of the system's."""
-    compare(log, output_of([PROGRAM, "write", "1"], log, "written.ops"))
-    exchange = output_of([PROGRAM, "send", "1"], log, "sent.ops")
+    compare(log, output_of([*PROGRAM, "write", "1"], log, "written.ops"))
+    exchange = output_of([*PROGRAM, "send", "1"], log, "sent.ops")
     repeats, times = REPEATS[count], TIMES[count]
     runs = {
-        "bytes": ([PROGRAM, "bytes"], log, repeats),
-        "read_log": ([PROGRAM, "read"], log, repeats),
-        "receive": ([PROGRAM, "receive"], exchange, repeats),
+        "bytes": ([*PROGRAM, "bytes"], log, repeats),
+        "read_log": ([*PROGRAM, "read"], log, repeats),
+        "receive": ([*PROGRAM, "receive"], exchange, repeats),
         "native": (PROGRAMS["native"], log, repeats),
     }
     for name, word in WRITES.items():
-        runs[name] = ([PROGRAM, word, str(times)], log, 1)
-        runs["no " + name] = ([PROGRAM, word, "0"], log, 1)
+        runs[name] = ([*PROGRAM, word, str(times)], log, 1)
+        runs["no " + name] = ([*PROGRAM, word, "0"], log, 1)
     costs = {name: (cost.seconds, cost.system) for name, cost in least_costs(runs).items()}
     for name in WRITES:
         pairs = zip(costs[name], costs.pop("no " + name))

@@ -24,16 +24,8 @@ make build
 for program in generate native; do
     rustc --edition 2021 -O -o "build/$program" "bench/$program.rs"
 done
-(cd crates/bench_edits && rt run -- order 1 1 </dev/null >/dev/null)
-cp crates/bench_edits/out/bench_edits build/bench_edits
-(cd crates/bench_commands && rt run -- forward-char 1 1 </dev/null >/dev/null)
-cp crates/bench_commands/out/bench_commands build/bench_commands
-(cd crates/bench_buffers && rt run -- insert 1 1 </dev/null >/dev/null)
-cp crates/bench_buffers/out/bench_buffers build/bench_buffers
-(cd crates/bench_frames && rt run -- all 60 1 1 </dev/null >/dev/null)
-cp crates/bench_frames/out/bench_frames build/bench_frames
-(cd crates/bench_logs && rt run -- bytes </dev/null >/dev/null)
-cp crates/bench_logs/out/bench_logs build/bench_logs
+(cd crates/bench_tasks && rt run -- edits order 1 1 </dev/null >/dev/null)
+cp crates/bench_tasks/out/bench_tasks build/bench_tasks
 
 python3 bench/measure.py "$@"
 echo

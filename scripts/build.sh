@@ -1,47 +1,34 @@
 #!/bin/sh
-# Proves the crates that mgr rests on, lowest first, then mgr, and leaves the program at build/mgr.
-# What the prover says goes to build/prove.log, and its end is shown where a crate fails.
+# Proves the crates that mgr rests on, then mgr, and leaves the program at build/mgr. A crate is
+# proved once those that it rests on are; those that do not wait for one another are proved side by
+# side. What the prover says of each goes to build/prove/NAME.log, and its end is shown where one
+# fails.
 set -eu
 cd "$(dirname "$0")/.."
-log=build/prove.log
 
-# The names of the crates below mgr and of mgr, in the order of crates.txt, which is lowest first.
-crates() {
+# For make: mgr and each crate below it, behind those that it rests on.
+rules() {
     sed 's/#.*//' crates.txt | awk -F: '
-        NF == 2 { split($1, words, " "); name[++n] = words[1]; below[n] = $2 }
+        NF == 2 { split($1, words, " "); name[++n] = words[1]; below[words[1]] = $2 }
         END {
             needed["mgr"] = 1
             for (i = n; i > 0; i--) {
                 if (!(name[i] in needed)) continue
-                split(below[i], deps, " ")
-                for (k in deps) needed[deps[k]] = 1
-                list = name[i] " " list
+                count = split(below[name[i]], deps, " ")
+                list = ""
+                for (k = 1; k <= count; k++)
+                    if (deps[k] in below) { needed[deps[k]] = 1; list = list " " deps[k] }
+                print name[i] ":" list "\n\t@scripts/prove.sh " name[i] "\n.PHONY: " name[i]
             }
-            print list
         }'
 }
 
-prove() {
-    cd "crates/$1"
-    if [ "$1" = mgr ]; then rt run -- --version; else rt lib; fi
-}
-
-mkdir -p build
+mkdir -p build/prove
 # The copy is dated from before the build, so that an edit made meanwhile is built the next time.
 touch build/begun
-echo "the prover's own words go to $log"
-: >"$log"
-total=$(crates | wc -w)
-n=0
-for crate in $(crates); do
-    n=$((n + 1))
-    echo "proving $crate, $n of $total"
-    if ! (prove "$crate") >>"$log" 2>&1 </dev/null; then
-        tail -n 30 "$log" >&2
-        echo "$crate is not proved: these are the last lines of $log" >&2
-        exit 1
-    fi
-done
+rules >build/crates.mk
+echo "the prover's own words go to build/prove"
+make -s -f build/crates.mk -j "$(nproc)" mgr
 
 # Moved into place, so that a mgr that runs goes on.
 cp crates/mgr/out/mgr build/mgr.new

@@ -6,6 +6,8 @@ left out, below its file. With names (`run_keys`, `Opened::save`): these calls a
 the definitions of specs/ that its clauses reach, and those that these reach, by file, and how many
 they are. They are found by name, so that a variable with the name of a definition counts as the
 definition. What the sources declare, types and how these are seen, is not followed.
+With --claim: what is to be read to audit the claim of README.md, which are the definitions that the
+contracts of its table reach, by file; and behind them, by file, those that no such contract reaches.
 """
 
 import pathlib
@@ -113,21 +115,48 @@ def reached_by(text, scope):
     return reached
 
 
-def print_reached(path, clauses):
-    reached, files = reached_by(clauses, scope_of(path.read_text())), {}
-    for crate, stem, name in sorted(reached):
+def print_files(definitions):
+    files = {}
+    for crate, stem, name in sorted(definitions):
         files.setdefault(f"crates/{crate}/specs/{stem}.antt", []).append(name)
-    print()
     for file, names in files.items():
         print(f"  {file}: {', '.join(names)}")
-    print(f"  {len(reached)} definitions in {len(files)} files")
+    print(f"  {len(definitions)} definitions in {len(files)} files")
+
+
+def listed_crates():
+    names = re.findall(r"^(\w+):", (CRATES.parent / "crates.txt").read_text(), re.M)
+    return [name for name in names if not name.startswith(("test_", "bench_"))]
+
+
+def claimed():
+    """Returns the contracts that the table of README.md names, as (crate, name)."""
+    rows = re.findall(r"^\|[^|]*\|([^|]*)\|([^|]*)\|$", (CRATES.parent / "README.md").read_text(), re.M)
+    ticked = re.compile(r"`([\w:]+)`")
+    return {(crate, name) for names, crates in rows for crate in ticked.findall(crates) for name in ticked.findall(names)}
+
+
+def print_claim():
+    named, reached, every = claimed(), set(), set()
+    for crate in listed_crates():
+        for path, name, _, clauses in calls_of(CRATES / crate):
+            if {(crate, name), (crate, name.split("::")[-1])} & named:
+                reached |= reached_by(clauses, scope_of(path.read_text()))
+        for path in (CRATES / crate / "specs").glob("*.antt"):
+            every |= {(crate, path.stem, name) for name in read_specs(crate, path.stem, {})[0]}
+    reached &= every
+    print("reached by the contracts of the claim:")
+    print_files(reached)
+    print("\nreached by none of them:")
+    print_files(every - reached)
 
 
 def main():
     asked, printed, last = set(sys.argv[1:]), set(), None
-    listed = re.findall(r"^(\w+):", (CRATES.parent / "crates.txt").read_text(), re.M)
-    for crate in listed:
-        for path, name, head, clauses in () if crate.startswith(("test_", "bench_")) else calls_of(CRATES / crate):
+    if asked == {"--claim"}:
+        return print_claim()
+    for crate in listed_crates():
+        for path, name, head, clauses in calls_of(CRATES / crate):
             if asked and not {name, name.split("::")[-1]} & asked:
                 continue
             if path != last:
@@ -135,7 +164,8 @@ def main():
             print(f"\n  {name}\n{textwrap.indent(textwrap.dedent(head), '    ')}")
             last, printed = path, printed | {name, name.split("::")[-1]}
             if asked:
-                print_reached(path, clauses)
+                print()
+                print_files(reached_by(clauses, scope_of(path.read_text())))
     if asked - printed:
         sys.exit(f"no public call: {', '.join(sorted(asked - printed))}")
 

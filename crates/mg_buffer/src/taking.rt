@@ -3,9 +3,8 @@ ghost use Rattle.std.specs.Prelude.{◌≡◌, [], true};
 
 use crate::buffer::Buffer;
 use crate::room::add_all;
-use rga_answers::{answer_at, early_answer_at, new_operations_at};
 use rga_ops::{Op, Refusal, Taken};
-use rga_store::{Taker, TextStore};
+use rga_store::{Taker, TextStore, answer_at, early_answer_at, new_operations_at};
 
 impl<S: TextStore> Taker for Buffer<S> {
     ghost use Rattle.mg_buffer.specs.Following.{Follows, follows_nothing, follows_on};

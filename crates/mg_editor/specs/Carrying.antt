@@ -34,6 +34,7 @@ pub record Saved (calls more : Option (List Call)) (old new : Editor) (r : Answe
 
 -- ---- any request
 
+-- what the request leads to
 abbrev pub Carried : Request → Option (List Call) → Option (List Call) → Editor → Editor → Answer → Type 0
 Carried Idle calls more old new r = IsNothing calls more old new r
 Carried Save calls more old new r = Saved calls more old new r

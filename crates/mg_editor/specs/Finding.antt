@@ -87,5 +87,6 @@ FoundAt (Some i) name calls more old new r = Becomes (record old { work = gone_t
 FoundAt None name calls more old new r =
     MatchBool (is_full old.work) (Becomes (told old.work message.TooManyBuffers old) calls more new r) (Opened name calls more old new r)
 
+-- the buffer of that name is gone to, or opened
 abbrev pub Found : List ℕ → Option (List Call) → Option (List Call) → Editor → Editor → Answer → Type 0
 Found name calls more old new r = FoundAt (named name old.work.buffers.all) name calls more old new r

@@ -90,6 +90,7 @@ Plainly step old new r =
 abbrev pub FoundHere : List ℕ → List ℕ → ℕ → Editor → Editor → Answer → Type 0
 FoundHere pattern put count seen new r = (b : OpenState) × IsCurrent seen.work b × Ended (next_match pattern put count (scene_of seen.work b)) seen new r
 
+-- the buffer is listed, and what is seen then leads on
 abbrev pub Found : List ℕ → List ℕ → ℕ → Editor → Editor → Answer → Type 0
 Found pattern put count old new r =
     (seen : Editor) × (b : OpenState) × Listed old seen b × Ended (next_match pattern put count (scene_of seen.work b)) seen new r

@@ -71,6 +71,7 @@ pub record FailsAtText (fault : PortFault) (old new : Option (List Call)) (b d :
   pub calls : Adds old new (log_calls b ++ refusals fault (text_call b))
   pub left : d ≡ logged b
 
+-- a call of the save failed: one at the log, or the one at the text
 abbrev pub SaveFailed : PortFault → Option (List Call) → Option (List Call) → OpenState → OpenState → Type 0
 SaveFailed fault old new b d = FailsAtLog fault old new b d ⊎ FailsAtText fault old new b d
 
@@ -82,6 +83,7 @@ pub record IsSaved (changed : Bool) (old new : Option (List Call)) (b d : OpenSt
   pub calls : Adds old new (save_calls b)
   pub left : d ≡ saved b
 
+-- what a save leaves, by what it answers
 abbrev pub SavesTo : Result Bool PortFault → Option (List Call) → Option (List Call) → OpenState → OpenState → Type 0
 SavesTo (Ok changed) old new b d = IsSaved changed old new b d
 SavesTo (Err fault) old new b d = SaveFailed fault old new b d

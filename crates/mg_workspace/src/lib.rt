@@ -2,11 +2,11 @@
 //!
 //! A `Workspace` does the deeds that steps lead to: the current buffer runs a command or undoes, or
 //! the windows change; it saves the current buffer or exchanges it with a peer, tells what a step
-//! is decided from, and places and shows the windows for a frame. There is no key, no prompt and no
-//! message here. The crate stands on mg_files and mg_buffer for buffers, on mg_exchange for peers,
-//! on mg_prompts for deeds, on mg_screen for windows, and is generic over any `TextStore`. The
-//! layer above may rest on `Done`: what each deed leaves of the buffers and the windows, and why it
-//! is refused; want of memory changes nothing.
+//! is decided from, and places and shows the windows for a frame. Why a deed is refused it says as
+//! a message; keys and prompts are above. The crate stands on mg_files and mg_buffer for buffers,
+//! on mg_exchange for peers, on mg_prompts for deeds and messages, on mg_screen for windows, and is
+//! generic over any `TextStore`. The layer above may rest on `Done`: what each deed leaves of the
+//! buffers and the windows, and why it is refused; want of memory changes nothing.
 #![tactic(auto)]
 
 mod arranging;

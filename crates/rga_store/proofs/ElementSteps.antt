@@ -1,5 +1,5 @@
 -- An element as a store tells it, its parent and its character, and one that is looked up in two places.
-use Rattle.std.proofs.Common.{◌≡◌, ℕ, Bool, true, false, cond, refl, sym, ap}
+use Rattle.std.proofs.Common.{◌≡◌, ℕ, Bool, true, false, cond, refl, sym, ap, ◌∙◌}
 use Rattle.std.specs.Prelude.{Option, Some, None}
 use Rattle.std.specs.Option.{option_map, option_or}
 use Rattle.std.proofs.lemmas.Option.{same_Some, none-some}
@@ -16,6 +16,10 @@ found_element (Some x) e h = ap (λ (p : Identifier × ℕ). Some (element p.0 p
 pub found_none : (o : Option Element) → pair_of o ≡ None → o ≡ None
 found_none None h = refl
 found_none (Some x) h = absurd (none-some _ (sym h))
+
+-- what is looked up in two places is looked up where the first told what it has
+pub looked_up : {a b : Option (Identifier × ℕ)} (added : Option (Identifier × ℕ)) {o : Option (Identifier × ℕ)} → a ≡ b → o ≡ option_or a added → option_or b added ≡ o
+looked_up added told is = ap (λ x. option_or x added) (sym told) ∙ sym is
 
 -- an element that neither has is added
 pub added_element : (t : Bool) (a b : Option (Identifier × ℕ)) (o : Option Element) (parent : Identifier) (ch : ℕ) → (t ≡ true → a ≡ None) → option_or a b ≡ pair_of o → option_or a (cond t (Some (parent, ch)) b) ≡ pair_of (cond t (Some (element parent ch)) o)

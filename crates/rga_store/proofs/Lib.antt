@@ -12,3 +12,4 @@ pub mod MergingLaws
 pub mod BackLaws
 pub mod PrecedingLaws
 pub mod ElementSteps
+pub mod EarlySteps

@@ -6,3 +6,4 @@ pub mod Nodes
 pub mod Tree
 pub mod Back
 pub mod Preceding
+pub mod Reached

@@ -3,7 +3,7 @@ ghost use Rattle.std.specs.Prelude.{◌≡◌, ◌≢◌, ◌+◌, None, Ok, Err
 ghost use Rattle.std.specs.Option.{option_or};
 ghost use Rattle.std.specs.FinSet as finite_set;
 ghost use Rattle.indexmap.specs.IndexMap.{get as get_added};
-ghost use Rattle.rga_ops.specs.Prelude.{all_checked, content_of, element_at, is_id, join, known_count, known_ids, list_answer};
+ghost use Rattle.rga_ops.specs.Prelude.{all_checked, content_of, is_id, join, known_count, known_ids, list_answer};
 ghost use Rattle.rga_ops.specs.ListAnswer.{early_conflict, first_conflict};
 
 use crate::text_store::TextStore;
@@ -33,7 +33,7 @@ pub(crate) fn answer_to_list(alloc: Global, store: &TreeStore, ops: &[Op]) -> Re
 }
 
 /// What the first ill-formed operation is refused for.
-fn check_each(ops: &[Op]) -> Result<(), Refusal>
+pub(crate) fn check_each(ops: &[Op]) -> Result<(), Refusal>
     ensures { result ≡ all_checked ops.now }
 {
     for op in ops {
@@ -52,7 +52,7 @@ fn first_conflict(alloc: Global, store: &TreeStore, ops: &[Op]) -> Result<Option
     let mut added = IndexMap::new(alloc);
     for op in ops {
         if let Op::Insert { id, parent, ch } = op {
-            match element_in(store, &added, *id) {
+            match stored_or_added(store.get(*id), &added, *id) {
                 Some(element) if element == (*parent, *ch) => {}
                 Some(_) => return Ok(Some(*id)),
                 None => {
@@ -64,11 +64,16 @@ fn first_conflict(alloc: Global, store: &TreeStore, ops: &[Op]) -> Result<Option
     Ok(None)
 }
 
-/// The parent and the character of an element of the store, or else of one that is added.
-fn element_in(store: &TreeStore, added: &IndexMap<Id, (Id, char)>, id: Id) -> Option<(Id, char)>
-    ensures { result ≡ option_or (element_at store.now.content id) (get_added is_id added.now id) }
+/// The parent and the character of an element: those that the store has, or else those that were
+/// added.
+pub(crate) fn stored_or_added(
+    stored: Option<(Id, char)>,
+    added: &IndexMap<Id, (Id, char)>,
+    id: Id,
+) -> Option<(Id, char)>
+    ensures { result ≡ option_or stored (get_added is_id added.now id) }
 {
-    store.get(id).or_else(|| added.get(&id).copied())
+    stored.or_else(|| added.get(&id).copied())
 }
 
 /// How many identifiers the list makes known to the store. `Memory` alone.

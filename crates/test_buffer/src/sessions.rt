@@ -5,7 +5,7 @@ use rga_doc::Doc;
 use rga_ops::{Op, Refusal};
 use rga_store::{Taker, TextStore, TreeStore};
 use std::alloc::{AllocError, Global};
-use test_ops::{ops_of, spells};
+use test_fixtures::{ops_of, spells};
 
 /// The fill column of each session.
 pub const FILL: u16 = 10;

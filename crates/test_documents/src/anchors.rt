@@ -3,7 +3,7 @@ use crate::documents::{AB, ABC, Document, document, shows, takes};
 use rga_doc::Anchor;
 use rga_ops::{Id, Refusal};
 use std::alloc::Global;
-use test_ops::id;
+use test_fixtures::id;
 
 /// Whether the anchor of the place is this element.
 fn is_anchored(doc: &Document, place: usize, answer: Result<Id, Refusal>) -> bool {

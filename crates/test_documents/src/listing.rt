@@ -5,7 +5,7 @@ use rga_doc::Anchor;
 use rga_ops::{Id, Op, Refusal};
 use rga_store::{Taker, TextStore};
 use std::alloc::Global;
-use test_ops::{id, spells};
+use test_fixtures::{id, spells};
 
 /// Whether the characters that a document lists are the store's own text.
 fn lists_its_text(alloc: Global, doc: &mut Document) -> Result<bool, Refusal> {

@@ -4,7 +4,7 @@ use rga_doc::Doc;
 use rga_ops::Refusal;
 use rga_store::{TextStore, TreeStore};
 use std::alloc::Global;
-use test_ops::{id, spells};
+use test_fixtures::{id, spells};
 
 /// Alice writes a note; Bob edits a copy of it apart, and each takes the other's changes.
 fn two_people(alloc: Global) -> Result<Vec<char>, Refusal> {

@@ -2,7 +2,7 @@
 use crate::documents::{ABC, Document, are, document, shows, splice, takes};
 use rga_ops::{Id, Op, Refusal};
 use std::alloc::Global;
-use test_ops::ops_of;
+use test_fixtures::ops_of;
 
 /// The elements that the operations insert.
 fn elements_of(alloc: Global, words: &str) -> Result<Vec<Id>, Refusal> {

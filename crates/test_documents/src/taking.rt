@@ -2,7 +2,7 @@
 use crate::documents::{AB, ABC, Document, document, shows, takes};
 use rga_ops::{Refusal, Taken};
 use rga_store::Taker;
-use test_ops::{deletion, id};
+use test_fixtures::{deletion, id};
 
 #[test]
 fn list_is_taken_whole_or_not_at_all(rt: HostRuntime) {

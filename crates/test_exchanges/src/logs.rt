@@ -8,7 +8,7 @@ use rga_lines::{Counted, LineFault};
 use rga_ops::{Id, Refusal};
 use rga_store::{TextStore, TreeStore};
 use std::alloc::{AllocError, Global};
-use test_devices::Pieces;
+use test_fixtures::Pieces;
 
 /// What is answered for a log: what stands behind its lines, or a fault.
 type Answer = Result<LogEnd, ReceiveFault>;

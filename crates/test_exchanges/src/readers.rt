@@ -2,7 +2,7 @@
 use rga_lines::Counted;
 use rga_store::{TextStore, TreeStore};
 use std::alloc::Global;
-use test_devices::Pieces;
+use test_fixtures::Pieces;
 
 /// Gives the bytes in reads of at most so many, and does not fail.
 pub fn sound_reader(bytes: &[u8], most: usize) -> Counted<Pieces<'_>> {

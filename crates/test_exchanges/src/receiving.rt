@@ -6,7 +6,7 @@ use rga_lines::{Counted, LineFault};
 use rga_ops::{Id, Refusal};
 use rga_store::{TextStore, TreeStore};
 use std::alloc::{AllocError, Global};
-use test_devices::Pieces;
+use test_fixtures::Pieces;
 
 /// What is answered for an exchange: the number of its operations, or a fault.
 type Answer = Result<u64, ReceiveFault>;

@@ -6,7 +6,7 @@ use rga_ops::{Id, Op, Refusal};
 use rga_store::{Taker, TextStore, TreeStore};
 use std::alloc::Global;
 use std::test::Fail;
-use test_devices::Narrow;
+use test_fixtures::Narrow;
 
 /// An insertion and a deletion, and the end line of the two.
 const OTHER_EXCHANGE: &str = r#"{"char":"\n","id":[3,2],"op":"ins","parent":[2,1]}

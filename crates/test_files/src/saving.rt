@@ -5,7 +5,7 @@ use mg_files::CallKind::{Append, PutText, Replace};
 use mg_files::{Port, PortFault};
 use rga_ops::Refusal;
 use rga_store::Taker;
-use test_ops::insertion;
+use test_fixtures::insertion;
 use test_ports::MemoryPort;
 
 #[test]

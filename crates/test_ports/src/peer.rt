@@ -4,7 +4,7 @@ use std::cell::RefCell;
 use std::io;
 use std::io::{Read, Write};
 use std::rc::Rc;
-use test_devices::{Narrow, Pieces};
+use test_fixtures::{Narrow, Pieces};
 
 /// What a peer does on each link to it.
 #[derive(Clone, Copy, Debug)]

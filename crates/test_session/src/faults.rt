@@ -6,7 +6,7 @@ use rga_exchange::ReceiveFault;
 use rga_lines::{Counted, LineFault};
 use rga_ops::Refusal;
 use std::alloc::Global;
-use test_devices::{Narrow, Pieces};
+use test_fixtures::{Narrow, Pieces};
 use test_ports::MemoryPort;
 
 /// What a session answers over keys that fail after so many reads of one byte, and a screen with

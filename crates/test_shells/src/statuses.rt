@@ -6,7 +6,7 @@ use std::alloc::{AllocError, Global};
 use std::cell::Cell;
 use std::fmt::Display;
 use std::io;
-use test_devices::{Narrow, Pieces};
+use test_fixtures::{Narrow, Pieces};
 use test_ports::MemoryPort;
 
 /// A standard error that is to be told this, in one go: a line, or the beginning of a text.

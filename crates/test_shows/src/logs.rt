@@ -3,7 +3,7 @@ use mgr_show::{ShowFault, show_ops};
 use rga_lines::{Counted, LineFault};
 use rga_ops::{Id, Refusal};
 use std::alloc::{AllocError, Global};
-use test_devices::{Narrow, Pieces};
+use test_fixtures::{Narrow, Pieces};
 
 /// The line that a letter stands for; any other character stands for itself.
 fn line_of(letter: char) -> Option<&'static str> {

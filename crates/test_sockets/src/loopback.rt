@@ -5,7 +5,7 @@ use rga_store::{Taker, TextStore, TreeStore};
 use rga_walk::text;
 use std::alloc::Global;
 use std::net::{Ipv4Addr, Net, OpenListener, OpenStream, Shutdown, TcpListener, TcpStream};
-use test_ops::{ops_of, spells};
+use test_fixtures::{ops_of, spells};
 
 /// A store that holds the operations of these words.
 fn store_of(alloc: Global, words: &str) -> Option<TreeStore> {

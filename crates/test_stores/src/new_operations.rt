@@ -1,8 +1,8 @@
 //! Lists of operations, and those of them that are new to a store.
 use crate::words::{same, store_of};
-use rga_answers::new_operations_at;
+use rga_store::new_operations_at;
 use std::alloc::Global;
-use test_ops::ops_of;
+use test_fixtures::ops_of;
 
 /// Whether these operations of the list are new to a store that took the operations before.
 fn has_new(alloc: Global, before: &str, list: &str, new: &str) -> bool {

@@ -1,6 +1,6 @@
 //! Operations that look random and are the same at each run.
 use rga_ops::{Op, Refusal};
-use test_ops::{deletion, insertion};
+use test_fixtures::{deletion, insertion};
 
 /// A generator of operations, others for each seed.
 #[derive(Drop)]

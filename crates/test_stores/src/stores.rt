@@ -1,11 +1,10 @@
 //! The tree store on worked examples.
 use crate::words::{holds, last_visible_ones, prints, shows, store_of};
-use rga_answers::answer_at;
 use rga_ops::{Id, Refusal};
-use rga_store::{MAX_LIMIT, Taker, TextStore, TreeStore};
+use rga_store::{MAX_LIMIT, Taker, TextStore, TreeStore, answer_at};
 use std::alloc::Global;
 use std::test::Fail;
-use test_ops::{id, insertion, ops_of};
+use test_fixtures::{id, insertion, ops_of};
 
 /// Whether a store that took these operations shows the text, and so many elements wait.
 fn tells(alloc: Global, words: &str, text: &str, waiting: usize) -> bool {

@@ -2,7 +2,7 @@
 use crate::words::{holds, prints, store_of};
 use rga_store::{Taker, TreeStore};
 use std::alloc::Global;
-use test_ops::ops_of;
+use test_fixtures::ops_of;
 
 /// The answer to another insertion of (1, 1).
 const CONFLICT: &str = "Err(Conflict(Id { counter: 1, replica: 1 }))";

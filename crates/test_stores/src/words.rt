@@ -3,7 +3,7 @@ use rga_ops::{Id, Refusal};
 use rga_store::{Taker, TextStore, TreeStore};
 use std::alloc::Global;
 use std::fmt::Debug;
-use test_ops::ops_of;
+use test_fixtures::ops_of;
 
 /// A store that took the operations of these words one by one.
 pub fn store_of(alloc: Global, limit: usize, words: &str) -> Result<TreeStore, Refusal> {

@@ -3,7 +3,7 @@ use rga_ops::{Id, Refusal};
 use rga_store::{Taker, TextStore, TreeStore};
 use rga_walk::{element_at, place_of, position_of, text, visible_elements, visible_len};
 use std::alloc::Global;
-use test_ops::{id, ops_of, spells};
+use test_fixtures::{id, ops_of, spells};
 
 /// What both wrote, of which no one has deleted anything yet.
 const WRITTEN: &str = "a1.1<0.0 c3.1<1.1 d4.1<3.1 b2.2<1.1";

@@ -20,7 +20,8 @@ use Rattle.rga_ops.proofs.TakenLaws.{held_adds_nothing}
 use Rattle.rga_ops.proofs.ListSteps.{join_more, get-insertion, get-deletion, free_more}
 use Rattle.rga_ops.specs.declared.op.Op.{Op}
 use Rattle.rga_ops.specs.declared.op.Op.TheVariants.{Insert}
-use Rattle.rga_store.proofs.ElementSteps.{pair_of, found_element, found_none, added_element}
+use Rattle.rga_store.proofs.EarlySteps as early
+use Rattle.rga_store.proofs.ElementSteps.{pair_of, found_element, found_none, looked_up, added_element}
 use Rattle.rga_store.proofs.list_answer.first_conflict.Goals.{in-Insert+in-Some, in-Insert+in-None+in_ok-_none-in-None, in_default}
 use Rattle.rga_store.proofs.list_answer.first_conflict.Goals as goal
 
@@ -30,10 +31,6 @@ on_err (Ok x) p = tt
 on_err (Err e) p = p
 
 -- ---- one operation more
-
-stepped : (s : Content) (ops : List Op) (i : ℕ) (op : Op) → i < length ops → op ≡ get_or ops i op → join s (content_of (take (i + 1) ops)) ≡ join (join s (content_of (take i ops))) (single op)
-stepped s ops i op within at =
-    ap (λ xs. join s (content_of xs)) (take_more ops i op within ∙ ap (λ x. take i ops ++ x ∷ []) (sym at)) ∙ join_more s (take i ops) op
 
 split_at : (ops : List Op) (i : ℕ) (op : Op) → i < length ops → op ≡ get_or ops i op → ops ≡ take i ops ++ op ∷ drop (i + 1) ops
 split_at ops i op within at =
@@ -59,7 +56,7 @@ returns-in-Some-2-clause-ok c =
     let s : Content = c.args.store.now.content in
     let d : Content = join s (content_of (take c.loop-op.op-index c.args.ops.now)) in
     let there : finite_map.get d.inserted c.in-Insert.id ≡ Some (element c.in-Some.element.0 c.in-Some.element.1) =
-    found_element (finite_map.get d.inserted c.in-Insert.id) c.in-Some.element (sym (c.loop-op.invariant.elements c.in-Insert.id) ∙ sym c.element_in.ensures ∙ c.in-Some.is) in
+    found_element (finite_map.get d.inserted c.in-Insert.id) c.in-Some.element (sym (c.loop-op.invariant.elements c.in-Insert.id) ∙ looked_up (get is_id c.loop-op.added c.in-Insert.id) c.get.ensures c.stored_or_added.ensures ∙ c.in-Some.is) in
     let conflicts : has_another d c.op-item.result ≡ true =
     ap (has_another d) c.in-Insert.is ∙ ap (λ o. option_map_or (λ x. not (is_element x c.in-Insert.parent c.in-Insert.ch)) o false) there ∙ ap not (sym c.eq.ensures ∙ c.if-eq.false) in
     sym (ap (first_conflict s) (split_at c.args.ops.now c.loop-op.op-index c.op-item.result c.loop-op-test.true c.op-item.is)
@@ -71,7 +68,7 @@ returns-in_err-_none-in-None-clause-early c =
     let s : Content = c.args.store.now.content in
     let d : Content = join s (content_of (take c.loop-op.op-index c.args.ops.now)) in
     let absent : finite_map.get d.inserted c.in-Insert.id ≡ None =
-    found_none (finite_map.get d.inserted c.in-Insert.id) (sym (c.loop-op.invariant.elements c.in-Insert.id) ∙ sym c.element_in.ensures ∙ c.in-None.is) in
+    found_none (finite_map.get d.inserted c.in-Insert.id) (sym (c.loop-op.invariant.elements c.in-Insert.id) ∙ looked_up (get is_id c.loop-op.added c.in-Insert.id) c.get.ensures c.stored_or_added.ensures ∙ c.in-None.is) in
     on_err c.from_residual.result
     (ap (early_conflict s) (split_at c.args.ops.now c.loop-op.op-index c.op-item.result c.loop-op-test.true c.op-item.is
     ∙ ap (λ op. take c.loop-op.op-index c.args.ops.now ++ op ∷ drop (c.loop-op.op-index + 1) c.args.ops.now) c.in-Insert.is)
@@ -82,13 +79,13 @@ loop-op-preserved c =
     let s : Content = c.args.store.now.content in
     let d : Content = join s (content_of (take c.loop-op.op-index c.args.ops.now)) in
     let next : Content = join s (content_of (take (c.loop-op.op-index + 1) c.args.ops.now)) in
-    let joined : next ≡ join d (single c.op-item.result) = stepped s c.args.ops.now c.loop-op.op-index c.op-item.result c.loop-op-test.true c.op-item.is in
+    let joined : next ≡ join d (single c.op-item.result) = early.joined s c.args.ops.now c.loop-op.op-index c.op-item.result c.loop-op-test.true c.op-item.is in
     let goes_on : has_another d c.op-item.result ≡ false → first_conflict s (take (c.loop-op.op-index + 1) c.args.ops.now) ≡ None = λ other.
     passed_by s c.args.ops.now c.loop-op.op-index c.op-item.result c.loop-op-test.true c.op-item.is c.loop-op.invariant.free other in
     elim c.match-op.branch [
       | in-Insert+in-Some w ↦
           let there : finite_map.get d.inserted w.in-Insert.id ≡ Some (element w.in-Some.element.0 w.in-Some.element.1) =
-          found_element (finite_map.get d.inserted w.in-Insert.id) w.in-Some.element (sym (c.loop-op.invariant.elements w.in-Insert.id) ∙ sym w.element_in.ensures ∙ w.in-Some.is) in
+          found_element (finite_map.get d.inserted w.in-Insert.id) w.in-Some.element (sym (c.loop-op.invariant.elements w.in-Insert.id) ∙ looked_up (get is_id c.loop-op.added w.in-Insert.id) w.get.ensures w.stored_or_added.ensures ∙ w.in-Some.is) in
           let same : is_element (element w.in-Some.element.0 w.in-Some.element.1) w.in-Insert.parent w.in-Insert.ch ≡ true = sym w.eq.ensures ∙ w.if-eq.true in
           let stays : next ≡ d =
           joined ∙ ap (λ o. join d (single o)) w.in-Insert.is
@@ -100,7 +97,7 @@ loop-op-preserved c =
             free = goes_on (ap (has_another d) w.in-Insert.is ∙ ap (λ o. option_map_or (λ x. not (is_element x w.in-Insert.parent w.in-Insert.ch)) o false) there ∙ ap not same);
           }
       | in-Insert+in-None+in_ok-_none-in-None w ↦
-          let neither : option_or (pair_of (finite_map.get s.inserted w.in-Insert.id)) (get is_id c.loop-op.added w.in-Insert.id) ≡ None = sym w.element_in.ensures ∙ w.in-None.is in
+          let neither : option_or (pair_of (finite_map.get s.inserted w.in-Insert.id)) (get is_id c.loop-op.added w.in-Insert.id) ≡ None = looked_up (get is_id c.loop-op.added w.in-Insert.id) w.get.ensures w.stored_or_added.ensures ∙ w.in-None.is in
           let absent : finite_map.get d.inserted w.in-Insert.id ≡ None =
           found_none (finite_map.get d.inserted w.in-Insert.id) (sym (c.loop-op.invariant.elements w.in-Insert.id) ∙ neither) in
           record {

@@ -1,0 +1,220 @@
+//! Commands on a buffer: `buffers WORK SIZE TIMES`.
+//!
+//! A buffer of SIZE characters with point in the middle is made, and the work is done so many
+//! times: `insert` a character; `motion` by one and back; `kill-line`, and yank it back;
+//! `undo-insert` and `undo-line`, a character put in or a line killed and that undone; each command
+//! with the view behind it. `kill` makes the buffer so many times, with point in front, and kills
+//! sixty lines in each; `make` only makes it. `kill-all` marks the whole text and kills it,
+//! `undo-all` undoes that too; `take` has the buffer take an operation of another replica, and
+//! `store` its store alone. The number is how many identifiers are known in the end.
+use crate::fault::Fault;
+use crate::text::{number_at, paragraph};
+use mg_buffer::{Buffer, BufferFault, Memo};
+use mg_plain::{Chars, Command};
+use rga_doc::Doc;
+use rga_ops::{Id, Op, Refusal};
+use rga_store::{MAX_LIMIT, Taker, TextStore, TreeStore};
+use std::alloc::Global;
+
+/// The column to which nothing is filled here.
+const FILL: u16 = 70;
+
+/// So many lines are killed in each buffer.
+const KILLS: usize = 60;
+
+/// What is done again and again.
+#[derive(Clone, Copy)]
+enum Work {
+    Insert,
+    Motion,
+    KillLine,
+    Kill,
+    Make,
+    UndoLine,
+    UndoInsert,
+    KillAll,
+    UndoAll,
+    Take,
+    Store,
+}
+
+struct Task {
+    work: Work,
+    /// How many characters the text has.
+    size: usize,
+    times: usize,
+}
+
+fn work_of(words: &[String]) -> Option<Work> {
+    match words.get(2)?.as_str() {
+        "insert" => Some(Work::Insert),
+        "motion" => Some(Work::Motion),
+        "kill-line" => Some(Work::KillLine),
+        "kill" => Some(Work::Kill),
+        "make" => Some(Work::Make),
+        "undo-line" => Some(Work::UndoLine),
+        "undo-insert" => Some(Work::UndoInsert),
+        "kill-all" => Some(Work::KillAll),
+        "undo-all" => Some(Work::UndoAll),
+        "take" => Some(Work::Take),
+        "store" => Some(Work::Store),
+        _ => None,
+    }
+}
+
+pub fn outcome(alloc: Global, words: &[String]) -> Result<usize, Fault> {
+    let Some(work) = work_of(words) else {
+        return Err(Fault::Words);
+    };
+    let task = Task {
+        work,
+        size: number_at(words, 3)?,
+        times: number_at(words, 4)?,
+    };
+    let known = match task.work {
+        Work::Kill => made_again(alloc, &task, KILLS)?,
+        Work::Make => made_again(alloc, &task, 0)?,
+        _ => done_again(alloc, &task)?,
+    };
+    Ok(known)
+}
+
+fn document(alloc: Global, size: usize) -> Result<Doc<TreeStore>, Refusal> {
+    let text = paragraph(alloc, size)?;
+    let mut doc = Doc::new(alloc, TreeStore::new(alloc, MAX_LIMIT)?, 1)?;
+    let _ops = doc.splice(0, 0, &text)?;
+    Ok(doc)
+}
+
+/// Makes a buffer so many times, and kills so many lines in each.
+fn made_again(alloc: Global, task: &Task, kills: usize) -> Result<usize, BufferFault> {
+    let mut known = 0;
+    for _ in 0..task.times {
+        let doc = document(alloc, task.size)?;
+        let mut buffer = Buffer::new(alloc, doc, String::new(alloc), Vec::new(alloc));
+        let mut memo = Memo::new(alloc);
+        kill_lines(&mut buffer, &mut memo, kills)?;
+        known = buffer.store().known();
+    }
+    Ok(known)
+}
+
+fn kill_lines(
+    buffer: &mut Buffer<TreeStore>,
+    memo: &mut Memo,
+    kills: usize,
+) -> Result<(), BufferFault> {
+    buffer.list()?;
+    for _ in 0..kills {
+        run(buffer, memo, &Command::KillLine)?;
+        run(buffer, memo, &Command::NextLine)?;
+    }
+    Ok(())
+}
+
+/// Makes a buffer, and does the work in it again and again.
+fn done_again(alloc: Global, task: &Task) -> Result<usize, BufferFault> {
+    let doc = document(alloc, task.size)?;
+    if let Work::Store = task.work {
+        let mut store = doc.store().copy()?;
+        take(&mut store, task.times)?;
+        return Ok(store.known());
+    }
+    let mut buffer = Buffer::new(alloc, doc, String::new(alloc), Vec::new(alloc));
+    let mut memo = Memo::new(alloc);
+    go_to(alloc, &mut buffer, &mut memo, task.size / 2)?;
+    if let Work::Take = task.work {
+        take(&mut buffer, task.times)?;
+    } else {
+        for _ in 0..task.times {
+            do_once(task.work, &mut buffer, &mut memo)?;
+        }
+    }
+    Ok(buffer.store().known())
+}
+
+/// Point goes to a place: there an empty pattern is found.
+fn go_to(
+    alloc: Global,
+    buffer: &mut Buffer<TreeStore>,
+    memo: &mut Memo,
+    start: usize,
+) -> Result<(), BufferFault> {
+    let pattern = Chars::new(alloc);
+    buffer.run(&Command::SearchForward { pattern, start }, 1, memo, FILL)
+}
+
+fn do_once(work: Work, buffer: &mut Buffer<TreeStore>, memo: &mut Memo) -> Result<(), BufferFault> {
+    buffer.list()?;
+    match work {
+        Work::Insert => run(buffer, memo, &Command::Insert('a'))?,
+        Work::Motion => {
+            run(buffer, memo, &Command::ForwardChar)?;
+            run(buffer, memo, &Command::BackwardChar)?;
+        }
+        Work::KillLine => {
+            run(buffer, memo, &Command::KillLine)?;
+            run(buffer, memo, &Command::Yank)?;
+            run(buffer, memo, &Command::BeginningOfLine)?;
+        }
+        Work::UndoLine => {
+            run(buffer, memo, &Command::KillLine)?;
+            undo(buffer, memo)?;
+            buffer.idle(memo);
+        }
+        Work::UndoInsert => {
+            run(buffer, memo, &Command::Insert('a'))?;
+            undo(buffer, memo)?;
+            buffer.idle(memo);
+        }
+        Work::KillAll => kill_all(buffer, memo)?,
+        Work::UndoAll => {
+            kill_all(buffer, memo)?;
+            buffer.undo(memo)?;
+        }
+        Work::Take | Work::Store | Work::Kill | Work::Make => {}
+    }
+    Ok(())
+}
+
+/// Runs a command, and looks at the view.
+fn run(
+    buffer: &mut Buffer<TreeStore>,
+    memo: &mut Memo,
+    command: &Command,
+) -> Result<(), BufferFault> {
+    buffer.run(command, 1, memo, FILL)?;
+    buffer.list()?;
+    let _place = buffer.view(memo).point;
+    Ok(())
+}
+
+/// Undoes, and looks at the view.
+fn undo(buffer: &mut Buffer<TreeStore>, memo: &mut Memo) -> Result<(), BufferFault> {
+    buffer.undo(memo)?;
+    buffer.list()?;
+    let _place = buffer.view(memo).point;
+    Ok(())
+}
+
+fn kill_all(buffer: &mut Buffer<TreeStore>, memo: &mut Memo) -> Result<(), BufferFault> {
+    buffer.list()?;
+    buffer.run(&Command::MarkWholeBuffer, 1, memo, FILL)?;
+    buffer.run(&Command::KillRegion, 1, memo, FILL)?;
+    Ok(())
+}
+
+/// Has a taker take so many insertions of another replica, each behind the one before.
+fn take<T: Taker>(taker: &mut T, times: usize) -> Result<(), Refusal> {
+    let mut parent = Id::ROOT;
+    for k in 0..times {
+        let id = Id::new((k as u64).saturating_add(2_000_000), 2)?;
+        let _taken = taker.apply(Op::Insert {
+            id,
+            parent,
+            ch: 'c',
+        })?;
+        parent = id;
+    }
+    Ok(())
+}

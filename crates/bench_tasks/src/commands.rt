@@ -1,0 +1,84 @@
+//! Plans of commands on a text: `commands COMMAND SIZE TIMES`.
+//!
+//! A text of SIZE characters is made, and the command is planned on it so many times, with point in
+//! the middle; to replace all, at the end of the match there. The number is what the places add up
+//! to where point goes in these plans; a search that finds nothing adds nothing.
+use crate::fault::Fault;
+use crate::text::{number_at, paragraph};
+use mg_plain::{Chars, Command, Kind, Notice, View, plan};
+use std::alloc::{AllocError, Global};
+
+/// The column to which the paragraph is filled: less than the lines have, so that all break anew.
+const FILL: u16 = 70;
+
+pub fn outcome(alloc: Global, words: &[String]) -> Result<usize, Fault> {
+    let (size, times) = (number_at(words, 3)?, number_at(words, 4)?);
+    let Some(name) = words.get(2) else {
+        return Err(Fault::Words);
+    };
+    let Some(command) = command_of(alloc, name.as_str())? else {
+        return Err(Fault::Words);
+    };
+    let text = paragraph(alloc, size)?;
+    let view = View {
+        text: text.as_slice(),
+        point: point_of(&command, size).min(text.as_slice().len()),
+        mark: None,
+        kill: &[],
+        goal: 0,
+        last: Kind::Plain,
+    };
+    let sum = planned(alloc, &command, times, &view)?;
+    Ok(sum)
+}
+
+/// The command of that name. The search is for what the text does not hold, and what is replaced is
+/// the begin of each of its words.
+fn command_of(alloc: Global, name: &str) -> Result<Option<Command>, AllocError> {
+    let command = match name {
+        "forward-char" => Command::ForwardChar,
+        "insert" => Command::Insert('a'),
+        "forward-word" => Command::ForwardWord,
+        "next-line" => Command::NextLine,
+        "kill-line" => Command::KillLine,
+        "capitalize-word" => Command::CapitalizeWord,
+        "search-forward" => Command::SearchForward {
+            pattern: Chars::from_slice(alloc, &['z', 'z'])?,
+            start: 0,
+        },
+        "fill-paragraph" => Command::FillParagraph,
+        "replace-all" => Command::ReplaceAll {
+            pattern: Chars::from_slice(alloc, &['w', 'o'])?,
+            put: Chars::from_slice(alloc, &['W', 'O', 'O'])?,
+        },
+        _ => return Ok(None),
+    };
+    Ok(Some(command))
+}
+
+/// The middle; to replace all, the end of the match there.
+fn point_of(command: &Command, size: usize) -> usize {
+    match command {
+        Command::ReplaceAll { pattern, .. } => (size / 12)
+            .saturating_mul(6)
+            .saturating_add(pattern.as_slice().len()),
+        _ => size / 2,
+    }
+}
+
+fn planned(
+    alloc: Global,
+    command: &Command,
+    times: usize,
+    view: &View<'_>,
+) -> Result<usize, Notice> {
+    let mut sum: usize = 0;
+    for _ in 0..times {
+        match plan(alloc, command, 1, view, FILL) {
+            Ok(plan) => sum = sum.wrapping_add(plan.point),
+            Err(Notice::SearchFailed) => {}
+            Err(notice) => return Err(notice),
+        }
+    }
+    Ok(sum)
+}

@@ -1,0 +1,130 @@
+//! Edits of a document: `edits WORK SIZE TIMES`.
+//!
+//! A document of SIZE characters is made, and the work is done so many times: `order` asks the
+//! store for its order; `type` puts a character in the middle and asks for the anchor behind it and
+//! for the text; `remote` does so behind an insertion of another replica; `change` makes a thousand
+//! changes in one edit; `revert` deletes all of the text and reverts that. The number is how many
+//! elements there are in the end.
+use crate::fault::Fault;
+use crate::text::number_at;
+use rga_doc::{Doc, Splice};
+use rga_ops::{Id, Op, Refusal};
+use rga_store::{MAX_LIMIT, Taker, TextStore, TreeStore};
+use std::alloc::Global;
+
+type Document = Doc<TreeStore>;
+
+/// How many changes an edit of many makes.
+const CHANGES: usize = 1000;
+
+/// What is done again and again.
+#[derive(Clone, Copy)]
+enum Work {
+    Order,
+    Type,
+    Remote,
+    Change,
+    Revert,
+}
+
+fn work_of(words: &[String]) -> Option<Work> {
+    match words.get(2)?.as_str() {
+        "order" => Some(Work::Order),
+        "type" => Some(Work::Type),
+        "remote" => Some(Work::Remote),
+        "change" => Some(Work::Change),
+        "revert" => Some(Work::Revert),
+        _ => None,
+    }
+}
+
+pub fn outcome(alloc: Global, words: &[String]) -> Result<usize, Fault> {
+    let Some(work) = work_of(words) else {
+        return Err(Fault::Words);
+    };
+    let mut doc = document(alloc, number_at(words, 3)?)?;
+    for _ in 0..number_at(words, 4)? {
+        do_once(alloc, &mut doc, work)?;
+    }
+    Ok(doc.store().known())
+}
+
+fn do_once(alloc: Global, doc: &mut Document, work: Work) -> Result<(), Refusal> {
+    match work {
+        Work::Order => {
+            let _order = doc.store().order()?;
+            Ok(())
+        }
+        Work::Type => type_letter(doc),
+        Work::Remote => {
+            insert_remotely(doc)?;
+            type_letter(doc)
+        }
+        Work::Change => change(alloc, doc),
+        Work::Revert => revert(alloc, doc),
+    }
+}
+
+/// A document of so many characters, put in at once.
+fn document(alloc: Global, size: usize) -> Result<Document, Refusal> {
+    let mut chars = Vec::new(alloc);
+    chars.resize(size, 'a')?;
+    let mut doc = Doc::new(alloc, TreeStore::new(alloc, MAX_LIMIT)?, 1)?;
+    let _ops = doc.splice(0, 0, &chars)?;
+    doc.list()?;
+    Ok(doc)
+}
+
+/// Puts a letter in the middle, and asks for the anchor behind it and for the text.
+fn type_letter(doc: &mut Document) -> Result<(), Refusal> {
+    doc.list()?;
+    let middle = doc.characters().len() / 2;
+    let _ops = doc.splice(middle, middle, &['b'])?;
+    doc.list()?;
+    let place = doc.characters().len() / 2;
+    let _anchor = doc.listed_anchor(place);
+    Ok(())
+}
+
+/// Takes an insertion of another replica, at the front.
+fn insert_remotely(doc: &mut Document) -> Result<(), Refusal> {
+    let id = Id::new(doc.store().clock().saturating_add(1), 2)?;
+    let op = Op::Insert {
+        id,
+        parent: Id::ROOT,
+        ch: 'c',
+    };
+    let _taken = doc.apply(op)?;
+    Ok(())
+}
+
+/// Puts another letter in the place of one, at many places in one edit.
+fn change(alloc: Global, doc: &mut Document) -> Result<(), Refusal> {
+    doc.list()?;
+    let apart = doc.characters().len() / CHANGES;
+    let mut splices = Vec::with_capacity(alloc, CHANGES)?;
+    for k in (0..CHANGES).rev() {
+        let lo = k.saturating_mul(apart);
+        let mut put = Vec::new(alloc);
+        put.push('c')?;
+        splices.push(Splice {
+            lo,
+            hi: lo.saturating_add(1),
+            put,
+        })?;
+    }
+    let _ops = doc.splices(&splices)?;
+    doc.list()
+}
+
+/// Deletes all of the text, and reverts that.
+fn revert(alloc: Global, doc: &mut Document) -> Result<(), Refusal> {
+    let text = doc.text()?;
+    let deletions = doc.splice(0, text.as_slice().len(), &[])?;
+    let mut back = Vec::with_capacity(alloc, text.as_slice().len())?;
+    for (op, ch) in deletions.iter().zip(text.iter()) {
+        back.push((op.id(), *ch))?;
+    }
+    let _ops = doc.revert(&[], &back)?;
+    doc.list()
+}

@@ -1,0 +1,59 @@
+//! Work to be timed, by the scripts of `bench/`.
+//!
+//! The first word says of what: `edits` of a document, `commands` on a text, commands on `buffers`,
+//! `frames` of a screen, or `logs` and exchanges; the words behind it are said at the head of the
+//! module of that name. A number is printed that follows from the work. The program stands on the
+//! crates that it times, and nothing stands on it.
+#![tactic(auto)]
+
+mod buffers;
+mod commands;
+mod edits;
+mod fault;
+mod frames;
+mod logs;
+mod text;
+
+use fault::Fault;
+use std::alloc::Global;
+use std::io;
+use std::process::ExitCode;
+
+fn main(rt: HostRuntime) -> io::Result<ExitCode> {
+    let Ok(words) = std::env::args(&rt)?.collect::<Vec<String>>(rt.alloc()) else {
+        eprintln!(rt; "out of memory")?;
+        return Ok(ExitCode::FAILURE);
+    };
+    match outcome(&rt, &words) {
+        Ok(Some(count)) => println!(rt; "{count}")?,
+        Ok(None) => {}
+        Err(fault) => {
+            eprintln!(rt; "{fault}")?;
+            return Ok(ExitCode::FAILURE);
+        }
+    }
+    Ok(ExitCode::SUCCESS)
+}
+
+/// What comes of the task that the words say, of which the first is the program's name. Nothing
+/// where the task writes.
+fn outcome(rt: &HostRuntime, words: &[String]) -> Result<Option<u64>, Fault> {
+    let Some(part) = words.get(1) else {
+        return Err(Fault::Words);
+    };
+    if part.as_str() == "logs" {
+        return logs::outcome(rt, words);
+    }
+    let count = counted(rt.alloc(), part.as_str(), words)?;
+    Ok(Some(count as u64))
+}
+
+fn counted(alloc: Global, part: &str, words: &[String]) -> Result<usize, Fault> {
+    match part {
+        "edits" => edits::outcome(alloc, words),
+        "commands" => commands::outcome(alloc, words),
+        "buffers" => buffers::outcome(alloc, words),
+        "frames" => frames::outcome(alloc, words),
+        _ => Err(Fault::Words),
+    }
+}

@@ -1,0 +1,12 @@
+//! What the tests of the crates above share: operations written short, and devices in memory that
+//! fail.
+//!
+//! Only tests use this crate. It stands on rga_ops; the layer above may rest on the comments of
+//! what is here, and on no contract.
+#![tactic(auto)]
+
+mod devices;
+mod operations;
+
+pub use devices::{Narrow, Pieces};
+pub use operations::{deletion, id, insertion, ops_of, spells};

@@ -1,0 +1,122 @@
+#!/usr/bin/env python3
+"""Says which links and which names in backquotes of the documents lead nowhere.
+
+A link leads to a file, and to a heading where it names one. Of what stands in backquotes these are
+names: a path of this repository, or of one of its crates; a target of make; an option, which the
+sources have to know; a word, or words with `::` between them, which stand in the sources. In a
+table of contracts, as `Taker::apply`: `exact`, `same`, each name before a colon is a public call or
+a type of the sources, and each one behind it a clause, or a call, of these. Exits with 1 where one
+is not there.
+"""
+
+import pathlib
+import re
+import sys
+
+import contracts
+
+ROOT = pathlib.Path(__file__).resolve().parent.parent
+DOCUMENTS = [ROOT / "README.md", *sorted((ROOT / "docs").glob("*.md"))]
+SOURCES = ("*", "bench/*", "crates/**/*", "docs/mgr.1", "examples/**/*", "front/*", "scripts/*")
+ENDINGS = (".md", ".py", ".sh", ".rs", ".rt", ".antt", ".edit", ".txt")
+WORDS = re.compile(r"[A-Za-z_]\w*(?:::\w+)*")
+PATH = re.compile(r"\.?\w[\w.*-]*(?:/[\w.*-]+)*/?")
+PART = re.compile(r"((?:`[\w:]+`(?:, )?)+)(?:: ((?:`[\w:]+`(?:, )?)+))?")
+
+
+def source_words():
+    """Returns the words of the sources, of their file names, and of the examples in documents."""
+    paths = {path for pattern in SOURCES for path in ROOT.glob(pattern) if "out" not in path.parts and path not in DOCUMENTS}
+    texts = [path.read_text(errors="replace") for path in paths if path.is_file() and path.suffix != ".edit"]
+    texts += ["\n".join(re.findall(r"^    .*$", path.read_text(), re.M)) for path in DOCUMENTS]
+    return {word for text in texts + [path.name for path in paths] for word in re.findall(r"\w+", text)}
+
+
+def is_path(text):
+    places = (".", "docs", "crates", "crates/*", "crates/*/specs")
+    return bool(PATH.fullmatch(text)) and any(True for place in places for _ in ROOT.glob(f"{place}/{text}"))
+
+
+def fault_of_name(text, words):
+    """Returns what is wrong with a text in backquotes, if it is a name."""
+    first, *rest = text.split()
+    if is_path(first):
+        return None
+    if first == "make" and rest:
+        return None if re.search(rf"^{re.escape(rest[0])}:", (ROOT / "Makefile").read_text(), re.M) else "no target"
+    if first.startswith(("scripts/", "bench/", "crates/", "docs/", "front/", "examples/")) or first.endswith(ENDINGS):
+        return "no file"
+    if first.startswith("--") and len(first) > 2:
+        return None if set(re.split("[-=]", first[2:])) <= words else "no option"
+    if WORDS.fullmatch(text):
+        known = set(text.split("::")) <= words or text.endswith("_") and any(word.startswith(text) for word in words)
+        return None if known else "no name of the sources"
+    return None
+
+
+def link_fault(target, document):
+    if "://" in target:
+        return None
+    file, _, anchor = target.partition("#")
+    path = document.parent / file if file else document
+    if not path.exists():
+        return "no file"
+    titles = re.findall(r"^#+ (.*)$", path.read_text(), re.M) if anchor else ()
+    slugs = [re.sub(r"[^\w -]", "", title).lower().replace(" ", "-") for title in titles]
+    return None if not anchor or anchor in slugs else "no heading"
+
+
+def contract_names():
+    """Returns the heads of the calls by name, and the names of the calls by the type they are of."""
+    heads, members = {}, {}
+    for crate in contracts.listed_crates():
+        for _, name, head, _ in contracts.calls_of(contracts.CRATES / crate):
+            for each in {name, name.split("::")[-1]}:
+                heads.setdefault(each, []).append(head)
+            if "::" in name:
+                members.setdefault(name.split("::")[0], []).append((name.split("::")[1], head))
+    return heads, members
+
+
+def faults_of_contracts(cell, heads, members):
+    """Yields what is wrong in a cell of a table of contracts."""
+    for calls, clauses in PART.findall(cell):
+        texts, names = [], set()
+        for call in re.findall(r"`([\w:]+)`", calls):
+            texts += heads.get(call, []) + [head for _, head in members.get(call, [])]
+            names |= {name for name, _ in members.get(call, [])}
+            if clauses and call not in heads and call not in members:
+                yield call, "no public call"
+        for clause in re.findall(r"`([\w:]+)`", clauses):
+            if clause not in names and not any(re.search(rf"\bensures {clause}\b", text) for text in texts):
+                yield clause, f"no clause of {calls.strip(', ')}"
+
+
+def faults():
+    words, (heads, members) = source_words(), contract_names()
+    for document in DOCUMENTS:
+        is_of_contracts = False
+        for number, line in enumerate(re.sub(r"^(```|    ).*?$", "", document.read_text(), flags=re.M).splitlines(), 1):
+            for target in re.findall(r"\]\(([^)\s]+)\)", line):
+                if fault := link_fault(target, document):
+                    yield document, number, target, fault
+            for text in re.findall(r"`([^`]+)`", line):
+                if text.strip() and (fault := fault_of_name(text, words)):
+                    yield document, number, text, fault
+            is_of_contracts = line.startswith("|") and (is_of_contracts or bool(re.match(r"\|[^|]*\| *(Clauses?|Contracts?) *\|", line)))
+            if is_of_contracts and line.count("|") > 2:
+                for text, fault in faults_of_contracts(line.split("|")[2], heads, members):
+                    yield document, number, text, fault
+
+
+def main():
+    found = list(faults())
+    for document, number, text, fault in found:
+        print(f"{document.relative_to(ROOT)}:{number}: `{text}`: {fault}", file=sys.stderr)
+    if found:
+        sys.exit(1)
+    print("the documents: each link and each name in backquotes is there")
+
+
+if __name__ == "__main__":
+    main()
