@@ -38,6 +38,7 @@ enum Work {
     Store,
 }
 
+#[derive(Clone, Copy)]
 struct Task {
     work: Work,
     /// How many characters the text has.

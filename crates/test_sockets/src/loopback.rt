@@ -16,38 +16,52 @@ fn store_of(alloc: Global, words: &str) -> Option<TreeStore> {
     Some(store)
 }
 
-/// What two replicas came to: how many operations the near one sent, the far one received and sent,
-/// and the near one received.
-#[derive(Drop)]
-struct Meeting {
-    near: TreeStore,
-    far: TreeStore,
-    counts: (u64, u64, u64, u64),
+/// Sends the store over a connection: how many operations, and the connection.
+fn sends(alloc: Global, store: &TreeStore, stream: TcpStream) -> Option<(u64, TcpStream)> {
+    let mut writer = Counted::new(stream);
+    let count = send(alloc, store, &mut writer).ok()?;
+    Some((count, writer.into_inner()))
 }
 
-/// The near replica connects, sends and ends the sending; the far one accepts, receives and replies;
-/// the near one receives. A listener stands ready before.
-fn meet<R: Net + AllocGlobal>(rt: &R, near: &str, far: &str) -> Option<Meeting> {
-    let alloc = rt.alloc();
-    let mut near = store_of(alloc, near)?;
-    let mut far = store_of(alloc, far)?;
-    let listener = TcpListener::bind(rt, (Ipv4Addr::LOCALHOST, 0)).ok()?;
-    let mut writer = Counted::new(TcpStream::connect(rt, listener.local_addr().ok()?).ok()?);
-    let sent = send(alloc, &near, &mut writer).ok()?;
-    let stream = writer.into_inner();
-    stream.shutdown(Shutdown::Write).ok()?;
-    let (peer, _) = listener.accept().ok()?;
-    let mut reader = Counted::new(peer);
-    let received = receive(alloc, &mut far, &mut reader).ok()?;
-    let mut writer = Counted::new(reader.into_inner());
-    let replied = send(alloc, &far, &mut writer).ok()?;
+/// The store receives what comes over a connection: how many operations, and the connection.
+fn receives(alloc: Global, store: &mut TreeStore, stream: TcpStream) -> Option<(u64, TcpStream)> {
     let mut reader = Counted::new(stream);
-    let heard = receive(alloc, &mut near, &mut reader).ok()?;
-    Some(Meeting {
-        near,
-        far,
-        counts: (sent, received, replied, heard),
-    })
+    let count = receive(alloc, store, &mut reader).ok()?;
+    Some((count, reader.into_inner()))
+}
+
+/// The near replica connects, sends, and ends the sending.
+fn connects<R: Net + AllocGlobal>(
+    rt: &R,
+    near: &TreeStore,
+    listener: &TcpListener,
+) -> Option<(u64, TcpStream)> {
+    let stream = TcpStream::connect(rt, listener.local_addr().ok()?).ok()?;
+    let (sent, stream) = sends(rt.alloc(), near, stream)?;
+    stream.shutdown(Shutdown::Write).ok()?;
+    Some((sent, stream))
+}
+
+/// The far replica accepts, receives and replies: how many operations it received, and sent.
+fn replies(alloc: Global, far: &mut TreeStore, listener: &TcpListener) -> Option<(u64, u64)> {
+    let (stream, _) = listener.accept().ok()?;
+    let (received, stream) = receives(alloc, far, stream)?;
+    let (replied, _) = sends(alloc, far, stream)?;
+    Some((received, replied))
+}
+
+/// How many operations the near one sent, the far one received and sent, and the near one received.
+/// A listener stands ready before.
+fn meet<R: Net + AllocGlobal>(
+    rt: &R,
+    near: &mut TreeStore,
+    far: &mut TreeStore,
+) -> Option<(u64, u64, u64, u64)> {
+    let listener = TcpListener::bind(rt, (Ipv4Addr::LOCALHOST, 0)).ok()?;
+    let (sent, stream) = connects(rt, near, &listener)?;
+    let (received, replied) = replies(rt.alloc(), far, &listener)?;
+    let (heard, _) = receives(rt.alloc(), near, stream)?;
+    Some((sent, received, replied, heard))
 }
 
 /// Whether a store shows this text.
@@ -60,12 +74,10 @@ fn shows(alloc: Global, store: &TreeStore, expected: &str) -> bool {
 
 #[test]
 fn replicas_meet_over_a_socket(rt: HostRuntime) {
-    match meet(&rt, "a1.1<0.0 b2.1<1.1", "x1.2<0.0") {
-        Some(meeting) => {
-            assert!(rt; meeting.counts == (2, 2, 3, 3));
-            assert!(rt; shows(rt.alloc(), &meeting.near, "xab"));
-            assert!(rt; shows(rt.alloc(), &meeting.far, "xab"));
-        }
-        None => assert!(rt; false, "no socket"),
-    }
+    let mut near = store_of(rt.alloc(), "a1.1<0.0 b2.1<1.1").expect(&rt, "a store");
+    let mut far = store_of(rt.alloc(), "x1.2<0.0").expect(&rt, "a store");
+    let counts = meet(&rt, &mut near, &mut far);
+    assert!(rt; counts == Some((2, 2, 3, 3)), "{counts:?}");
+    assert!(rt; shows(rt.alloc(), &near, "xab"));
+    assert!(rt; shows(rt.alloc(), &far, "xab"));
 }
