@@ -4,6 +4,7 @@
 PREFIX = /usr/local
 BINDIR = $(PREFIX)/bin
 MANDIR = $(PREFIX)/share/man
+DATADIR = $(PREFIX)/share/mgr
 
 MAKEFLAGS += --no-print-directory
 
@@ -14,7 +15,7 @@ SOURCES := crates.txt HANDLES \
 NEED_RT = command -v rt >/dev/null || { \
 	echo "rt, the Rattle toolchain, is not installed: put KIT/bin on PATH" >&2; exit 1; }
 
-.PHONY: build try try-live try-exchange crash hostile files test wrong-bodies contracts bench install clean help
+.PHONY: build try test-front try-live try-exchange crash hostile files test wrong-bodies contracts bench install clean help
 
 build: build/mgr
 	@echo "build/mgr is up to date"
@@ -30,6 +31,10 @@ BUILT = $(shell $(MAKE) -q build/mgr && echo build/mgr)
 try:
 	@$(NEED_RT)
 	@examples/try.sh $(BUILT)
+
+# The parts of the front, each by itself: no built mgr is needed.
+test-front:
+	@python3 -m unittest discover -s front/tests
 
 # The front, in a terminal of tmux.
 try-live: build/mgr
@@ -68,9 +73,13 @@ bench:
 	@bench/run.sh
 
 install: build/mgr
-	mkdir -p "$(DESTDIR)$(BINDIR)" "$(DESTDIR)$(MANDIR)/man1"
+	mkdir -p "$(DESTDIR)$(BINDIR)" "$(DESTDIR)$(MANDIR)/man1" "$(DESTDIR)$(DATADIR)/mgr_front"
 	rm -f "$(DESTDIR)$(BINDIR)/mgr" "$(DESTDIR)$(BINDIR)/mgr-live"
-	cp build/mgr front/mgr-live "$(DESTDIR)$(BINDIR)"
+	cp build/mgr "$(DESTDIR)$(BINDIR)"
+	sed 's|^INSTALLED = .*|INSTALLED = "$(DATADIR)"|' front/mgr-live >"$(DESTDIR)$(BINDIR)/mgr-live"
+	chmod 755 "$(DESTDIR)$(BINDIR)/mgr-live"
+	rm -f "$(DESTDIR)$(DATADIR)/mgr_front"/*.py
+	cp front/mgr_front/*.py "$(DESTDIR)$(DATADIR)/mgr_front"
 	cp docs/mgr.1 "$(DESTDIR)$(MANDIR)/man1/mgr.1"
 
 clean:
@@ -80,6 +89,8 @@ help:
 	@echo "make           proves and builds mgr, and leaves it at build/mgr"
 	@echo "make try       a first edit, and one note from two people's logs; it waits for no proof."
 	@echo "               Where mgr is built, two of them exchange a note"
+	@echo "make test-front"
+	@echo "               tests the parts of the front, each by itself (needs python3)"
 	@echo "make try-live  runs mgr-live in a terminal of tmux, and looks at what it shows (needs python3 and tmux)"
 	@echo "make try-exchange"
 	@echo "               exchanges a note between two mgr on this machine (needs python3)"
@@ -93,6 +104,7 @@ help:
 	@echo "make files     does to a note's files what other programs do while it is edited, and looks for each word"
 	@echo "               (needs python3)"
 	@echo "make bench     measures mgr beside a native program (needs python3 and rustc)"
-	@echo "make install   copies mgr and mgr-live to BINDIR, and the manual to MANDIR/man1"
-	@echo "               (BINDIR=$(BINDIR) and MANDIR=$(MANDIR), by PREFIX=$(PREFIX); DESTDIR is put before them)"
+	@echo "make install   copies mgr and mgr-live to BINDIR, the parts of mgr-live to DATADIR, and the manual to MANDIR/man1"
+	@echo "               (BINDIR=$(BINDIR), DATADIR=$(DATADIR) and MANDIR=$(MANDIR), by PREFIX=$(PREFIX);"
+	@echo "               DESTDIR is put before them)"
 	@echo "make clean     removes what was built and proved"
