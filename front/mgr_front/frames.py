@@ -3,6 +3,7 @@
 import codecs
 from dataclasses import dataclass
 
+
 @dataclass(frozen=True)
 class Frame:
     """The rows of a screen from the top on, and the row and column of its cursor."""
@@ -10,6 +11,16 @@ class Frame:
     rows: tuple[str, ...]
     row: int
     column: int
+
+    @property
+    def echo(self) -> str:
+        """The echo line, which is the last row."""
+        return self.rows[-1]
+
+    @property
+    def asks(self) -> bool:
+        """Whether the cursor stands in the echo line, as where a line is asked for."""
+        return self.row == len(self.rows) - 1
 
 
 class Frames:

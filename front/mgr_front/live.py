@@ -1,10 +1,11 @@
 """Shows `mgr edit` on a terminal: mgr-live NAME --replica N [--fill F] [--port P]
 
 It puts the terminal into raw mode, hands each key to `mgr edit --trace --cursor` and draws the
-newest frame that comes back. The words behind its name are passed on; the rows and columns are
-those of the terminal, at most 200 and 500, and stay what they were at the start. Arrow keys, Home,
-End, Page Up, Page Down and Delete are passed on as the keys that do the same. The terminal is put
-back however mgr-live ends, a KILL aside.
+newest frame that comes back. The words behind its name are passed on; the rows are those of the
+terminal at the start, at most 200. A line that is longer than the terminal is wide is shifted
+sideways while point is in it. Arrow keys, Home, End, Page Up, Page Down and Delete are passed on as
+the keys that do the same. C-l draws all anew, and C-z suspends. The terminal is put back however
+mgr-live ends, a KILL aside.
 
 The program is the one that the environment variable MGR names, else the mgr that stands beside
 mgr-live, else the mgr on the PATH. The status is mgr's; 2 for a wrong command line, 3 where there
@@ -17,6 +18,7 @@ import shutil
 import subprocess
 import tempfile
 
+from mgr_front.editor import Editor
 from mgr_front.saying import say, stop, tell
 from mgr_front.screen import Screen
 from mgr_front.session import Session
@@ -25,7 +27,7 @@ from mgr_front.signals import Signals
 USAGE = "usage: mgr-live NAME --replica N [--fill F] [--port P]\n"
 
 LEAST_ROWS, LEAST_COLUMNS = 3, 20
-MOST_ROWS, MOST_COLUMNS = 200, 500
+MOST_ROWS = 200
 
 
 def program(folder: str) -> str:
@@ -38,15 +40,15 @@ def program(folder: str) -> str:
     return found
 
 
-def size() -> tuple[int, int]:
-    """Returns how many rows and columns mgr is to fill."""
+def terminal_rows() -> int:
+    """Returns how many rows mgr is to fill."""
     if not (os.isatty(0) and os.isatty(1)):
         stop("standard input and standard output have to be a terminal")
     columns, rows = os.get_terminal_size(1)
     if rows < LEAST_ROWS or columns < LEAST_COLUMNS:
         least = f"{LEAST_ROWS} rows and {LEAST_COLUMNS} columns are needed"
         stop(f"the terminal is too small: it has {rows} rows and {columns} columns, and {least}")
-    return min(rows, MOST_ROWS), min(columns, MOST_COLUMNS)
+    return min(rows, MOST_ROWS)
 
 
 def status_of(mgr: "subprocess.Popen[bytes]", signals: Signals) -> int:
@@ -68,21 +70,18 @@ def main(given: list[str], folder: str) -> int:
     if not given:
         say(USAGE.encode())
         return 2
-    rows, columns = size()
-    command = [program(folder), "edit", *given, "--trace", "--cursor", "--rows", str(rows), "--cols", str(columns)]
+    rows = terminal_rows()
+    mgr = program(folder)
     signals = Signals()
-    screen = Screen(columns)
+    screen = Screen()
     with tempfile.TemporaryFile() as said:
-        # In a session of its own, so that the end of the terminal reaches it as the end of the keys.
-        mgr = subprocess.Popen(
-            command, bufsize=0, stdin=subprocess.PIPE, stdout=subprocess.PIPE, stderr=said, start_new_session=True
-        )
-        session = Session(mgr, rows)
+        editor = Editor(mgr, given, rows, said)
+        session = Session(editor, screen, signals)
         try:
             with screen:
-                session.run(screen, signals)
+                session.run()
         finally:
             session.finish()
             said.seek(0)
             say(said.read())
-    return status_of(mgr, signals)
+    return status_of(editor.process, signals)

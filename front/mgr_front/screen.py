@@ -4,47 +4,93 @@ import os
 import termios
 import tty
 
-from mgr_front.frames import Frame
-from mgr_front.modelines import mode_rows
+from mgr_front.cells import Cell, total_width
+from mgr_front.view import Line, Picture
 
 # Another screen than the shell's, on which a full row does not go on below.
 OPEN = "\x1b[?1049h\x1b[?7l\x1b[2J"
 CLOSE = "\x1b[m\x1b[?7h\x1b[?25h\x1b[?1049l"
+BELL = "\x07"
+
+EMPTY = Line([])
 
 
 class Screen:
     """The terminal, in raw mode from `__enter__` to `__exit__`."""
 
-    def __init__(self, columns: int) -> None:
-        self.columns = columns
+    def __init__(self) -> None:
         self.saved = termios.tcgetattr(0)
-        self.drawn: list[str] | None = None
+        # What it shows; nothing, where all has to be drawn.
+        self.drawn: list[Line] = []
+        self.is_open = False
 
     def __enter__(self) -> "Screen":
-        tty.setraw(0, termios.TCSADRAIN)
+        self.open()
         return self
 
     def __exit__(self, *_: object) -> None:
         try:
-            if self.drawn is not None:
-                write_all(CLOSE.encode())
-            termios.tcsetattr(0, termios.TCSADRAIN, self.saved)
+            self.close()
         except (OSError, termios.error):
             pass  # The terminal is gone.
 
-    def draw(self, frame: Frame) -> None:
-        """Draws the rows that differ from those drawn before, and places the cursor."""
-        marked = mode_rows(frame.rows, self.columns)
-        lines = [f"\x1b[7m{line}\x1b[m" if i in marked else line for i, line in enumerate(frame.rows)]
+    def open(self) -> None:
+        """Puts the terminal into raw mode. What it shows then is drawn anew."""
+        tty.setraw(0, termios.TCSADRAIN)
+        self.forget()
+
+    def close(self) -> None:
+        """Puts the terminal back."""
+        if self.is_open:
+            write_all(CLOSE.encode())
+        self.is_open = False
+        termios.tcsetattr(0, termios.TCSADRAIN, self.saved)
+
+    def forget(self) -> None:
+        """Has the next picture be drawn as a whole."""
+        self.drawn = []
+
+    def draw(self, picture: Picture, rings: bool = False) -> None:
+        """Draws what differs from what was drawn before, places the cursor, and rings the bell."""
         out = ["\x1b[?25l"]
-        if self.drawn is None:
+        if not self.is_open:
             out.append(OPEN)
-            self.drawn = [""] * len(lines)
-        # The row is cleared first: behind a full one that would take its last sign.
-        out += [f"\x1b[{i + 1};1H\x1b[K{line}" for i, line in enumerate(lines) if line != self.drawn[i]]
-        out.append(f"\x1b[{frame.row + 1};{frame.column + 1}H\x1b[?25h")
-        self.drawn = lines
-        write_all("".join(out).encode())
+            self.is_open = True
+        elif len(self.drawn) != len(picture.lines):
+            out.append("\x1b[m\x1b[?7l\x1b[2J")
+        if len(self.drawn) != len(picture.lines):
+            self.drawn = [EMPTY] * len(picture.lines)
+        out += [change(i, old, new) for i, (old, new) in enumerate(zip(self.drawn, picture.lines))]
+        out.append(f"\x1b[{picture.row + 1};{picture.column + 1}H\x1b[?25h")
+        self.drawn = list(picture.lines)
+        write_all(("".join(out) + BELL * rings).encode())
+
+
+def change(row: int, old: Line, new: Line) -> str:
+    """Returns what makes the new line of the old one: the common beginning and end of both stay."""
+    if old == new:
+        return ""
+    front, behind = 0, 0
+    if old.is_reverse == new.is_reverse:
+        front = _common(old.cells, new.cells)
+        if total_width(old.cells) == total_width(new.cells):
+            behind = _common(old.cells[front:][::-1], new.cells[front:][::-1])
+    column = total_width(new.cells[:front])
+    text = "".join(sign for sign, _ in new.cells[front : len(new.cells) - behind])
+    if new.is_reverse and text:
+        text = f"\x1b[7m{text}\x1b[m"
+    # Where the line became shorter the rest is cleared. Behind a full line that would take its last
+    # sign, but a full line is no shorter than another.
+    is_shorter = total_width(new.cells) < total_width(old.cells)
+    return f"\x1b[{row + 1};{column + 1}H{text}" + "\x1b[K" * is_shorter
+
+
+def _common(one: list[Cell], other: list[Cell]) -> int:
+    """Returns how many cells two rows have in common from their beginning on."""
+    for i, (a, b) in enumerate(zip(one, other)):
+        if a != b:
+            return i
+    return min(len(one), len(other))
 
 
 def write_all(data: bytes, to: int = 1) -> None:

@@ -2,80 +2,129 @@
 
 import os
 import select
-import subprocess
+import signal
 
-from mgr_front.frames import Frames
+from mgr_front.bindings import plain_keys
+from mgr_front.dialogue import FAILED, UNDEFINED, Answer
+from mgr_front.dispatch import Dispatcher
+from mgr_front.echo import echo_line
+from mgr_front.editor import BLOCK, Editor
+from mgr_front.frames import Frame
 from mgr_front.keys import Keys
 from mgr_front.screen import Screen
 from mgr_front.signals import Signals
+from mgr_front.view import picture
 
 # Seconds until what may be the beginning of a longer key counts as keys of its own, as ESC does.
 PATIENCE = 0.05
 
-# How much may wait for mgr before no more keys are read; what is read at once; and the seconds that
-# mgr has for the last keys once the edit has to end.
+# How much may wait for mgr before no more keys are read, and the seconds that mgr has for the last
+# keys once the edit has to end.
 MOST_WAITING = 65536
-BLOCK = 65536
 LAST_SECONDS = 5
 
 
 class Session:
     """An edit by a mgr that runs."""
 
-    def __init__(self, mgr: "subprocess.Popen[bytes]", rows: int) -> None:
-        assert mgr.stdin is not None and mgr.stdout is not None
-        self.mgr = mgr
-        self.to_mgr, self.of_mgr = mgr.stdin.fileno(), mgr.stdout.fileno()
-        self.frames = Frames(rows)
+    def __init__(self, editor: Editor, screen: Screen, signals: Signals) -> None:
+        self.editor, self.screen, self.signals = editor, screen, signals
         self.keys = Keys()
-        self.waiting = b""
-        os.set_blocking(self.to_mgr, False)
+        self.dispatcher = Dispatcher(editor)
+        self.frame: Frame | None = None
+        self.is_stale = False
+        self.rings = False
 
-    def run(self, screen: Screen, signals: Signals) -> None:
-        """Goes on until mgr, the keys or the terminal end, or a signal comes.
-
-        A key may bring no frame, as the first of C-x C-s, and of many frames the newest is drawn:
-        so nothing here waits for an answer to a key.
-        """
+    def run(self) -> None:
+        """Goes on until mgr, the keys or the terminal end, or a signal comes."""
         try:
-            while signals.first is None and self._step(screen, signals.woken):
+            while self.signals.first is None and self._step():
                 pass
         except BrokenPipeError:
             pass  # mgr takes no more keys: its status says why.
         except OSError:
             pass  # The terminal is gone, which may be seen before the signal that says so.
-        self.waiting += self.keys.give_up()
+        self.dispatcher.take(self.keys.give_up())
 
-    def _step(self, screen: Screen, woken: int) -> bool:
+    def _step(self) -> bool:
         """Waits for what is ready and does that, and answers whether there is more to come."""
-        reading = [self.of_mgr, woken] + [0] * (len(self.waiting) < MOST_WAITING)
-        writing = [self.to_mgr] * bool(self.waiting)
-        ready, free, _ = select.select(reading, writing, [], PATIENCE if self.keys.begun else None)
-        if not ready and not free:
-            self.waiting += self.keys.give_up()
-        if self.of_mgr in ready and not self._show(screen):
+        editor = self.editor
+        reading = [editor.written, self.signals.woken] + [0] * (len(editor.waiting) < MOST_WAITING)
+        ready, free, _ = select.select(reading, [editor.keys] * bool(editor.waiting), [], self._patience())
+        if self.signals.woken in ready:
+            self._heed()
+        if editor.written in ready and not self._take_frames():
             return False
-        if 0 in ready:
-            sent = os.read(0, BLOCK)
-            if not sent:
-                return False
-            self.waiting += self.keys.take(sent)
+        if 0 in ready and not self._take_keys():
+            return False
+        if not ready and not free:
+            self.dispatcher.take(self.keys.give_up())
+        self.dispatcher.run(self)
         if free:
-            self.waiting = self.waiting[os.write(self.to_mgr, self.waiting) :]
+            editor.write()
+        self._draw()
         return True
 
-    def _show(self, screen: Screen) -> bool:
-        """Draws the newest frame of what mgr wrote, and answers whether it goes on."""
-        written = os.read(self.of_mgr, BLOCK)
-        for frame in self.frames.take(written)[-1:]:
-            screen.draw(frame)
-        return bool(written)
+    def _patience(self) -> float | None:
+        return PATIENCE if self.keys.begun else None
+
+    def _take_keys(self) -> bool:
+        sent = os.read(0, BLOCK)
+        self.dispatcher.take(self.keys.take(sent))
+        return bool(sent)
+
+    def _take_frames(self) -> bool:
+        frames = self.editor.read()
+        for answer, frame in frames or []:
+            self._take_frame(answer, frame)
+        return frames is not None
+
+    def _take_frame(self, answer: Answer, frame: Frame) -> None:
+        self.frame = frame
+        self.is_stale = True
+        self.rings = self.rings or bool(answer.key) and frame.echo in (UNDEFINED, FAILED)
+
+    def _draw(self) -> None:
+        """Draws the newest frame, where it was not drawn yet."""
+        if self.frame is None or not self.is_stale:
+            return
+        columns, rows = os.get_terminal_size(1)
+        echo = echo_line(self.frame, self.editor.dialogue.prompt)
+        self.screen.draw(picture(self.frame, echo, rows, columns), self.rings)
+        self.is_stale = self.rings = False
+
+    def _heed(self) -> None:
+        """Does what signals ask for that end nothing."""
+        came = self.signals.take()
+        if signal.SIGTSTP in came:
+            self.suspend()
+        if signal.SIGCONT in came:
+            self.screen.open()
+            self.is_stale = True
+        if signal.SIGWINCH in came:
+            self.resize()
+
+    def resize(self) -> None:
+        """The terminal has another size: the frame is cut for it."""
+        self.repaint()
+
+    def repaint(self) -> None:
+        """Has all of the screen be drawn anew."""
+        self.screen.forget()
+        self.is_stale = True
+
+    def suspend(self) -> None:
+        """Puts the terminal back and stops, until somebody continues this program."""
+        self.screen.close()
+        signal.signal(signal.SIGTSTP, signal.SIG_DFL)
+        os.kill(0, signal.SIGTSTP)
+        # Where nobody could continue it, it does not stop.
+        self.signals.listen(signal.SIGTSTP)
+        self.screen.open()
+        self.is_stale = True
 
     def finish(self) -> None:
         """Gives mgr the last keys and then the end of them, and waits for its end."""
-        os.set_blocking(self.to_mgr, True)
-        try:
-            self.mgr.communicate(self.waiting, timeout=LAST_SECONDS)
-        except subprocess.TimeoutExpired:
-            self.mgr.terminate()
-            self.mgr.communicate()
+        for stroke in self.dispatcher.strokes:
+            self.editor.hand_on(plain_keys(stroke))
+        self.editor.end(LAST_SECONDS)

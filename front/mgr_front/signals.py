@@ -4,19 +4,39 @@ import os
 import signal
 
 ENDING = (signal.SIGHUP, signal.SIGINT, signal.SIGQUIT, signal.SIGTERM)
+OTHERS = (signal.SIGTSTP, signal.SIGCONT, signal.SIGWINCH)
 
 
 class Signals:
-    """The first of the signals that end a program."""
+    """The first of the signals that end a program, and those of others that came since."""
 
     def __init__(self) -> None:
         self.first: int | None = None
-        self.woken, waker = os.pipe()
+        self.came: set[int] = set()
+        self.woken, self.waker = os.pipe()
         os.set_blocking(self.woken, False)
-        os.set_blocking(waker, False)
-        signal.set_wakeup_fd(waker, warn_on_full_buffer=False)
+        os.set_blocking(self.waker, False)
+        signal.set_wakeup_fd(self.waker, warn_on_full_buffer=False)
         for number in ENDING:
-            signal.signal(number, self._note)
+            signal.signal(number, self._note_end)
+        for number in OTHERS:
+            self.listen(number)
+
+    def listen(self, number: int) -> None:
+        """Takes note of that signal from now on."""
+        signal.signal(number, self._note)
+
+    def _note_end(self, number: int, _: object) -> None:
+        self.first = self.first or number
 
     def _note(self, number: int, _: object) -> None:
-        self.first = self.first or number
+        self.came.add(number)
+
+    def take(self) -> set[int]:
+        """Returns those that end nothing and came since the last call."""
+        try:
+            os.read(self.woken, 4096)
+        except BlockingIOError:
+            pass
+        came, self.came = self.came, set()
+        return came
