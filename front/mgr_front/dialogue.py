@@ -170,6 +170,11 @@ class Dialogue:
         return bytes(self.sent)
 
     @property
+    def is_quitting(self) -> bool:
+        """Whether it is asked whether to quit, where `y` throws changes away."""
+        return label_of(self.prompt) == QUITTING
+
+    @property
     def is_at_rest(self) -> bool:
         """Whether nothing is awaited, asked or begun."""
         return self.has_begun and not self.sent and not self.prompt

@@ -3,9 +3,9 @@
 It puts the terminal into raw mode, hands each key to `mgr edit --trace --cursor` and draws the
 newest frame that comes back. The words behind its name are passed on; the rows are those of the
 terminal at the start, at most 200. A line that is longer than the terminal is wide is shifted
-sideways while point is in it. Arrow keys, Home, End, Page Up, Page Down and Delete are passed on as
-the keys that do the same. C-l draws all anew, and C-z suspends. The terminal is put back however
-mgr-live ends, a KILL aside.
+sideways while point is in it. Keys of a terminal, as the arrows, are passed on as the keys that do
+the same, and pasted text as text. C-l draws all anew, C-z suspends, C-x g goes to a line by its
+number. The terminal is put back however mgr-live ends, a KILL aside.
 
 The program is the one that the environment variable MGR names, else the mgr that stands beside
 mgr-live, else the mgr on the PATH. The status is mgr's; 2 for a wrong command line, 3 where there

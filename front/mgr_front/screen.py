@@ -5,11 +5,12 @@ import termios
 import tty
 
 from mgr_front.cells import Cell, total_width
+from mgr_front.dialogue import DELETE
 from mgr_front.view import Line, Picture
 
-# Another screen than the shell's, on which a full row does not go on below.
-OPEN = "\x1b[?1049h\x1b[?7l\x1b[2J"
-CLOSE = "\x1b[m\x1b[?7h\x1b[?25h\x1b[?1049l"
+# Another screen than the shell's, on which a full row does not go on below; and pastes are marked.
+OPEN = "\x1b[?1049h\x1b[?7l\x1b[?2004h\x1b[2J"
+CLOSE = "\x1b[m\x1b[?2004l\x1b[?7h\x1b[?25h\x1b[?1049l"
 BELL = "\x07"
 
 EMPTY = Line([])
@@ -23,6 +24,12 @@ class Screen:
         # What it shows; nothing, where all has to be drawn.
         self.drawn: list[Line] = []
         self.is_open = False
+
+    @property
+    def erase(self) -> int:
+        """The byte that the terminal erases by."""
+        byte: bytes = self.saved[6][termios.VERASE]
+        return byte[0] or DELETE
 
     def __enter__(self) -> "Screen":
         self.open()

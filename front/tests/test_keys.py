@@ -4,9 +4,9 @@ import unittest
 
 import context  # noqa: F401
 
-from mgr_front.bindings import NAMED, named_keys, plain_keys
+from mgr_front.bindings import NAMED, answer_keys, argument_keys, named_keys, plain_keys
 from mgr_front.dialogue import Mode
-from mgr_front.keys import Keys, Meta, Named, Stroke, Typed
+from mgr_front.keys import Keys, Meta, Named, Pasted, Stroke, Typed
 
 SENT: list[tuple[str, bytes, bytes]] = [
     ("text", b"hello", b"hello"),
@@ -17,6 +17,11 @@ SENT: list[tuple[str, bytes, bytes]] = [
     ("Shift-Right", b"\x1b[1;2C", b"\x06"),
     ("Home and End, three ways", b"\x1b[H\x1b[1~\x1bOH\x1b[F\x1b[4~\x1bOF", b"\x01\x01\x01\x05\x05\x05"),
     ("Page Up, Page Down, Delete", b"\x1b[5~\x1b[6~\x1b[3~", b"\x1bv\x16\x04"),
+    ("Control with arrows, Home and End", b"\x1b[1;5C\x1b[1;5D\x1b[1;5H\x1b[1;6F", b"\x1bf\x1bb\x1b<\x1b>"),
+    ("Control with arrows, in letters", b"\x1bOc\x1bOd", b"\x1bf\x1bb"),
+    ("a paste", b"a\x1b[200~b\rc\td\x01\x1b[A\x1b[201~e", b"ab\rc\td\x11\x01\x11\x1b[Ae"),
+    ("ends of lines in a paste", b"\x1b[200~1\r\n2\n3\r\x1b[201~", b"1\r2\r3\r"),
+    ("wide characters in a paste", "\x1b[200~漢字😀\x1b[201~".encode(), "漢字😀".encode()),
     ("F5, F1 of the console", b"\x1b[15~\x1b[[A", b""),
     ("a meta key", b"\x1bf", b"\x1bf"),
     ("ESC and an arrow", b"\x1b\x1b[A", b"\x1b\x10"),
@@ -47,6 +52,21 @@ class TestKeys(unittest.TestCase):
         self.assertEqual(keys.give_up(), [Typed(b"\x1b")])
         self.assertEqual(keys.give_up(), [])
 
+    def test_no_character_of_a_paste_is_cut(self) -> None:
+        sent = "\x1b[200~é漢😀x\x1b[201~".encode()
+        for size in (1, 2, 3, 5):
+            keys = Keys()
+            for i in range(0, len(sent), size):
+                for piece in keys.take(sent[i : i + size]):
+                    assert isinstance(piece, Pasted)
+                    piece.data.decode()
+                self.assertFalse(keys.is_pasting and keys.is_in_doubt)
+
+    def test_a_paste_that_breaks_off_is_given_up(self) -> None:
+        keys = Keys()
+        self.assertEqual(keys.take(b"\x1b[200~ab\x1b[2"), [Pasted(b"ab", False)])
+        self.assertEqual(keys.give_up(), [Pasted(b"\x1b[2", False)])
+
     def test_meta_is_told_from_escape(self) -> None:
         self.assertEqual(Keys().take(b"\x1bfg\x1b[A"), [Meta(ord("f")), Typed(b"g"), Named("up")])
 
@@ -57,6 +77,14 @@ class TestBindings(unittest.TestCase):
             for mode in (Mode.PROMPT, Mode.QUERY):
                 with self.subTest(name=name, mode=mode):
                     self.assertEqual(len(named_keys(name, mode, False)), 1)
+
+    def test_a_paste_into_an_answer_is_one_line(self) -> None:
+        self.assertEqual(answer_keys(Pasted(b"a\r\nb\x01\tc", False)), b"a b\tc")
+        self.assertEqual(answer_keys(Pasted(b"a\rb\r\n", True)), b"a b")
+
+    def test_digits_with_meta_go_on_with_an_argument(self) -> None:
+        self.assertEqual(argument_keys(ord("1"), b""), b"\x151")
+        self.assertEqual(argument_keys(ord("2"), b"\x151"), b"2")
 
     def test_a_key_of_two_behind_a_begun_one_is_none(self) -> None:
         self.assertEqual(named_keys("page-up", Mode.PLAIN, True), b"\x07")
