@@ -6,7 +6,7 @@ from collections.abc import Iterable
 from typing import Protocol
 
 from mgr_front.bindings import LINE_MODES, answer_keys, argument_keys, named_keys, plain_keys, text_keys
-from mgr_front.dialogue import CANCEL, CONTROL_X, DELETE, ESCAPE, QUOTE, Mode
+from mgr_front.dialogue import CANCEL, CONTROL_X, DELETE, ESCAPE, QUOTE, RETURN, TAB, Mode
 from mgr_front.editor import Editor
 from mgr_front.errands import Errand, kill_word_backward
 from mgr_front.keys import Meta, Named, Pasted, Stroke, Typed
@@ -14,7 +14,7 @@ from mgr_front.minibuffer import Question, ask_for_line
 
 REPAINT, SUSPEND = 0x0C, 0x1A
 # Keys that the front looks at, besides the one that erases.
-SPECIAL = bytes([SUSPEND, ESCAPE, CONTROL_X])
+SPECIAL = bytes([SUSPEND, ESCAPE, CONTROL_X, TAB, RETURN])
 
 
 class Desk(Protocol):
@@ -37,6 +37,12 @@ class Desk(Protocol):
 
     def answer(self, byte: int) -> None:
         """Takes a key of the answer to what is asked."""
+
+    def complete(self) -> None:
+        """Completes the answer of the open prompt."""
+
+    def accept(self) -> None:
+        """Accepts the answer of the open prompt."""
 
 
 class Dispatcher:
@@ -124,10 +130,20 @@ class Dispatcher:
             self.editor.hand_on(bytes([DELETE]))
         elif data[0] == SUSPEND:
             desk.suspend()
-        elif self.editor.dialogue.mode in LINE_MODES:
-            self._hand_on(data, desk)
         else:
-            self.prefix = data
+            self._press(data, desk)
+
+    def _press(self, key: bytes, desk: Desk) -> None:
+        """Does a key that means something else while a line is asked for."""
+        mode = self.editor.dialogue.mode
+        if mode is Mode.PROMPT and key[0] == TAB:
+            desk.complete()
+        elif mode is Mode.PROMPT and key[0] == RETURN:
+            desk.accept()
+        elif mode in LINE_MODES or key[0] in (TAB, RETURN):
+            self._hand_on(key, desk)
+        else:
+            self.prefix = key
 
     def _complete(self, byte: int, desk: Desk) -> None:
         """Does the key that a byte makes with the one before it."""

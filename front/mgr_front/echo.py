@@ -34,6 +34,6 @@ def echo_line(frame: Frame, prompt: str, said: str | None = None, remarks: Seque
         column = frame.column
     elif label_of(prompt) in LINES:
         column = row_width(prompt)
-    for remark in (*further, *remarks):
+    for remark in further + [remark for remark in remarks if remark != message]:
         text = f"{text} [{remark}]" if text else remark
     return Echo(text, column)

@@ -53,6 +53,10 @@ class Editor:
             return None
         return [(self.dialogue.answer(frame.echo), frame) for frame in self.frames.take(written)]
 
+    @property
+    def has_ended(self) -> bool:
+        return self.process.poll() is not None
+
     def end(self, seconds: float) -> None:
         """Gives mgr all keys that wait and then the end of them, and waits for its end.
 

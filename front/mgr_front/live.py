@@ -1,43 +1,25 @@
-"""Shows `mgr edit` on a terminal: mgr-live NAME --replica N [--fill F] [--port P]
-
-It puts the terminal into raw mode, hands each key to `mgr edit --trace --cursor` and draws the
-newest frame that comes back. The words behind its name are passed on; the rows are those of the
-terminal at the start, at most 200. A line that is longer than the terminal is wide is shifted
-sideways while point is in it. Keys of a terminal, as the arrows, are passed on as the keys that do
-the same, and pasted text as text. C-l draws all anew, C-z suspends, C-x g goes to a line by its
-number. The terminal is put back however mgr-live ends, a KILL aside.
-
-The program is the one that the environment variable MGR names, else the mgr that stands beside
-mgr-live, else the mgr on the PATH. The status is mgr's; 2 for a wrong command line, 3 where there
-is no terminal or none that is large enough, or no mgr, and 128 and the signal's number where a
-signal ended mgr-live or mgr.
-"""
+"""The program mgr-live: an edit of a note on a terminal."""
 
 import os
-import shutil
-import subprocess
 import tempfile
+from collections.abc import Sequence
 
 from mgr_front.editor import Editor
-from mgr_front.saying import say, stop, tell
+from mgr_front.ending import finish
+from mgr_front.frames import Frame
+from mgr_front.notes import Note, Refused, keep, read
+from mgr_front.numbers import number_of
+from mgr_front.opening import Difference, difference
+from mgr_front.options import Options, read as read_options
+from mgr_front.program import find
+from mgr_front.saving import Autosave, current
+from mgr_front.saying import FAILED, REFUSED, say, stop, tell
 from mgr_front.screen import Screen
 from mgr_front.session import Session
 from mgr_front.signals import Signals
 
-USAGE = "usage: mgr-live NAME --replica N [--fill F] [--port P]\n"
-
 LEAST_ROWS, LEAST_COLUMNS = 3, 20
 MOST_ROWS = 200
-
-
-def program(folder: str) -> str:
-    """Returns the path of mgr; `folder` is where mgr-live stands."""
-    beside = os.path.join(folder, "mgr")
-    named = os.environ.get("MGR") or (beside if os.path.isfile(beside) else "mgr")
-    found = shutil.which(named)
-    if found is None:
-        stop(f"the program {named} is not there")
-    return found
 
 
 def terminal_rows() -> int:
@@ -51,37 +33,103 @@ def terminal_rows() -> int:
     return min(rows, MOST_ROWS)
 
 
-def status_of(mgr: "subprocess.Popen[bytes]", signals: Signals) -> int:
+def replica(options: Options, note: Note) -> int:
+    """Returns the number of this copy: the one that is given, else the one that is kept for it."""
+    if options.replica is not None:
+        return options.replica
+    try:
+        return number_of(note.name, read(note.log) if note.has_log else b"")
+    except (OSError, ValueError) as error:
+        stop(f"no number is kept for this copy, so --replica has to give one: {error}")
+
+
+def settle(mgr: str, note: Note, number: int, options: Options) -> None:
+    """Where the note's text and its log differ: goes on with the one that the person chooses."""
+    found = difference(mgr, note, number)
+    if found is None:
+        return
+    if options.takes_file or not options.keeps_file and asks_for_file(found):
+        found.take_file(mgr, number)
+    else:
+        found.keep_file()
+
+
+def asks_for_file(found: Difference) -> bool:
+    """Asks which to go on with, until it is said; ends the program where the answers end."""
+    print(found.question(), end="")
+    while True:
+        try:
+            answer = input("f or l? ").strip().lower()
+        except (EOFError, KeyboardInterrupt):
+            print()
+            stop("nothing was done", FAILED)
+        if answer in ("f", "l"):
+            return answer == "f"
+
+
+def words_for_mgr(options: Options, number: int) -> list[str]:
+    given = {"--replica": number, "--fill": options.fill, "--port": options.port}
+    words = [word for name, value in given.items() if value is not None for word in (name, str(value))]
+    return [*words, "--", options.name]
+
+
+def missing(note: Note, frame: Frame) -> str:
+    """Returns what is to be said where a part of the log is missing; the text is kept then.
+
+    mgr does not show what waits for that part, and the next save would put the text without it.
+    """
+    said = current(frame)
+    if said is None or not said.waiting:
+        return ""
+    kept = f"; {note.name} is kept as {keep(note.name)}" if os.path.isfile(note.name) else ""
+    return f"A part of {note.log} is missing, {said.waiting} wait for it{kept}"
+
+
+def status_of(editor: Editor, signals: Signals) -> int:
     """Tells of an end that is none of mgr's own, and returns the status for the shell."""
-    if mgr.returncode < 0:
-        tell(f"signal {-mgr.returncode} ended mgr")
-        return 128 - mgr.returncode
-    if mgr.returncode > 0:
-        tell(f"mgr ended with status {mgr.returncode}")
-        return mgr.returncode
+    status = editor.process.returncode
+    if status < 0:
+        tell(f"signal {-status} ended mgr")
+        return 128 - status
+    if status > 0:
+        tell(f"mgr ended with status {status}")
+        return status
     return 128 + signals.first if signals.first else 0
 
 
-def main(given: list[str], folder: str) -> int:
-    """Edits as the command line says, and returns the status; `folder` is where mgr-live stands."""
-    if "-h" in given or "--help" in given:
-        print((__doc__ or "").strip())
-        return 0
-    if not given:
-        say(USAGE.encode())
-        return 2
+def edit(mgr: str, note: Note, number: int, options: Options) -> int:
+    """Edits a note until the person leaves, or something ends it, and returns the status."""
     rows = terminal_rows()
-    mgr = program(folder)
     signals = Signals()
     screen = Screen()
     with tempfile.TemporaryFile() as said:
-        editor = Editor(mgr, given, rows, said)
-        session = Session(editor, screen, signals)
+        editor = Editor(mgr, words_for_mgr(options, number), rows, said)
+        session = Session(editor, screen, signals, options.port)
+        session.opened = lambda frame: missing(note, frame)
+        if options.saves:
+            session.watches = [Autosave(session.buffers, lambda name: Note(name).has_log)]
         try:
             with screen:
                 session.run()
         finally:
-            session.finish()
+            finish(session, note)
             said.seek(0)
             say(said.read())
-    return status_of(editor.process, signals)
+    return status_of(editor, signals)
+
+
+def main(words: Sequence[str], folder: str) -> int:
+    """Edits as the command line says, and returns the status; `folder` is where mgr-live stands."""
+    options = read_options(words)
+    note = Note(options.name)
+    mgr = find(folder)
+    if mgr is None:
+        stop(f"the program {os.environ.get('MGR') or 'mgr'} is not there")
+    terminal_rows()
+    try:
+        note.check()
+        number = replica(options, note)
+        settle(mgr, note, number, options)
+    except Refused as refused:
+        stop(str(refused), REFUSED)
+    return edit(mgr, note, number, options)

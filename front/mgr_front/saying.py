@@ -5,8 +5,8 @@ from typing import NoReturn
 
 from mgr_front.screen import write_all
 
-# The status where there is no terminal, or no mgr.
-NO_TERMINAL = 3
+# Statuses of the front's own: a text that is refused, a wrong command line, a failed device or none.
+REFUSED, WRONG, FAILED = 1, 2, 3
 
 
 def say(text: bytes) -> None:
@@ -16,10 +16,10 @@ def say(text: bytes) -> None:
         pass  # The terminal is gone, and with it whoever would read this.
 
 
-def tell(what: str) -> None:
-    say(f"mgr-live: {what}\n".encode())
+def tell(what: str, program: str = "mgr-live") -> None:
+    say(f"{program}: {what}\n".encode("utf-8", "surrogateescape"))
 
 
-def stop(what: str, status: int = NO_TERMINAL) -> NoReturn:
-    tell(what)
+def stop(what: str, status: int = FAILED, program: str = "mgr-live") -> NoReturn:
+    tell(what, program)
     sys.exit(status)

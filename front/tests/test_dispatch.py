@@ -43,6 +43,12 @@ class FakeDesk:
         self.errand = errand
         self.editor.hand_on(next(errand))
 
+    def complete(self) -> None:
+        self.done.append("complete")
+
+    def accept(self) -> None:
+        self.done.append("accept")
+
     def ask(self, question: Question) -> None:
         self.question = question
 
@@ -117,6 +123,14 @@ class TestDispatch(unittest.TestCase):
         self.assertEqual(self.desk.done, ["suspend", "suspend"])
         self.assertEqual(self.press(b"\x11\x1a"), b"\x11\x1a")
         self.assertEqual(self.desk.done, ["suspend", "suspend"])
+
+    def test_keys_of_an_answer(self) -> None:
+        self.assertEqual(self.press(b"\t"), b"\t")
+        self.assertEqual(self.answer("") + self.press(b"\r"), b"\r")
+        self.assertEqual(self.answer("") + self.press(b"\x18\x06"), b"\x18\x06")
+        self.answer("Find file: ")
+        self.assertEqual(self.press(b"\t\r"), b"")
+        self.assertEqual(self.desk.done, ["complete", "accept"])
 
     def test_all_is_drawn_anew(self) -> None:
         self.assertEqual(self.press(b"\x0c"), b"\x0c")
