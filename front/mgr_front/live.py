@@ -1,22 +1,26 @@
 """The program mgr-live: an edit of a note on a terminal."""
 
 import os
+import signal
 import tempfile
 from collections.abc import Sequence
 
 from mgr_front.editor import Editor
 from mgr_front.ending import finish
 from mgr_front.frames import Frame
+from mgr_front.live_exchange import LiveExchange
 from mgr_front.notes import Note, Refused, keep, read
 from mgr_front.numbers import number_of
 from mgr_front.opening import Difference, difference
 from mgr_front.options import Options, read as read_options
 from mgr_front.program import find
+from mgr_front.relay import Relay
 from mgr_front.saving import Autosave, current
 from mgr_front.saying import FAILED, REFUSED, say, stop, tell
 from mgr_front.screen import Screen
 from mgr_front.session import Session
 from mgr_front.signals import Signals
+from mgr_front.tunnel import Tunnel
 
 LEAST_ROWS, LEAST_COLUMNS = 3, 20
 MOST_ROWS = 200
@@ -67,8 +71,8 @@ def asks_for_file(found: Difference) -> bool:
             return answer == "f"
 
 
-def words_for_mgr(options: Options, number: int) -> list[str]:
-    given = {"--replica": number, "--fill": options.fill, "--port": options.port}
+def words_for_mgr(options: Options, number: int, port: int | None) -> list[str]:
+    given = {"--replica": number, "--fill": options.fill, "--port": port}
     words = [word for name, value in given.items() if value is not None for word in (name, str(value))]
     return [*words, "--", options.name]
 
@@ -97,17 +101,43 @@ def status_of(editor: Editor, signals: Signals) -> int:
     return 128 + signals.first if signals.first else 0
 
 
-def edit(mgr: str, note: Note, number: int, options: Options) -> int:
+def tunnel_to(options: Options) -> Tunnel | None:
+    """Returns a way to the hub, once it is ready, where that is on another machine."""
+    if not (options.hub and options.hub[0]):
+        return None
+    tunnel = Tunnel(*options.hub)
+    said = tunnel.wait()
+    if said is not None:
+        stop(f"ssh {options.hub[0]}: {said}")
+    return tunnel
+
+
+def relay_to(options: Options, tunnel: Tunnel | None) -> Relay | None:
+    """Returns what passes connections on to the hub, if there is one."""
+    if not options.hub:
+        return None
+    relay = Relay(tunnel.port if tunnel else options.hub[1])
+    relay.start()
+    return relay
+
+
+def edit(mgr: str, note: Note, number: int, options: Options, tunnel: Tunnel | None) -> int:
     """Edits a note until the person leaves, or something ends it, and returns the status."""
     rows = terminal_rows()
-    signals = Signals()
+    signals = Signals(signal.SIGTSTP, signal.SIGCONT, signal.SIGWINCH)
     screen = Screen()
+    relay = relay_to(options, tunnel)
+    port = relay.port if relay else options.port
     with tempfile.TemporaryFile() as said:
-        editor = Editor(mgr, words_for_mgr(options, number), rows, said)
-        session = Session(editor, screen, signals, options.port)
+        editor = Editor(mgr, words_for_mgr(options, number, port), rows, said)
+        session = Session(editor, screen, signals, relay or port)
         session.opened = lambda frame: missing(note, frame)
         if options.saves:
-            session.watches = [Autosave(session.buffers, lambda name: Note(name).has_log)]
+            session.watches.append(Autosave(session.buffers, lambda name: Note(name).has_log))
+        if relay:
+            live = LiveExchange(session.remarks, tunnel.mend if tunnel else lambda: None)
+            session.watches.append(live)
+            session.status = live.status
         try:
             with screen:
                 session.run()
@@ -132,4 +162,9 @@ def main(words: Sequence[str], folder: str) -> int:
         settle(mgr, note, number, options)
     except Refused as refused:
         stop(str(refused), REFUSED)
-    return edit(mgr, note, number, options)
+    tunnel = tunnel_to(options)
+    try:
+        return edit(mgr, note, number, options, tunnel)
+    finally:
+        if tunnel:
+            tunnel.end()

@@ -1,5 +1,7 @@
 """What the front says in the echo line for a while, beside what mgr shows there."""
 
+import math
+
 
 class Remarks:
     """Remarks, each with the moment until which it stands."""
@@ -10,8 +12,9 @@ class Remarks:
     def hold(self, text: str, until: float) -> None:
         self.held[text] = until
 
-    def drop(self, text: str) -> None:
-        self.held.pop(text, None)
+    def acknowledge(self) -> None:
+        """Forgets those that stand until somebody has taken note of them."""
+        self.held = {text: until for text, until in self.held.items() if until < math.inf}
 
     def at(self, now: float) -> list[str]:
         """Returns those that stand at a moment; the others are forgotten."""
@@ -20,4 +23,5 @@ class Remarks:
 
     def patience(self, now: float) -> float | None:
         """Returns the seconds until the next one ends."""
-        return max(0.0, min(self.held.values()) - now) if self.held else None
+        first = min(self.held.values(), default=math.inf)
+        return None if first == math.inf else max(0.0, first - now)

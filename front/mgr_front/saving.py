@@ -5,6 +5,7 @@ from collections.abc import Callable, Generator
 from mgr_front.errands import Errand
 from mgr_front.frames import Frame
 from mgr_front.modelines import ModeLine, current_mode_row, mode_line, mode_rows
+from mgr_front.watches import Moment
 
 CANCEL, SAVE, SWITCH, ACCEPT = b"\x07", b"\x18\x13", b"\x18b", b"\r"
 FILE_FAULT = "File fault"
@@ -87,14 +88,14 @@ class Autosave:
         # When the last key was typed before the last save.
         self.saved: float | None = None
 
-    def patience(self, now: float, typed: float) -> float | None:
-        """Returns after how many seconds it wants to be asked; None where no key was typed since."""
-        return None if self.saved == typed else max(0.0, typed + self.SECONDS - now)
+    def due(self, moment: Moment) -> float | None:
+        """Returns when buffers are saved, where a key was typed since they were."""
+        return None if self.saved == moment.typed else moment.typed + self.SECONDS
 
-    def errand(self, now: float, typed: float, frame: Frame) -> Errand | None:
-        """Returns what is to be done now, where nothing is asked or begun."""
-        if self.patience(now, typed) != 0:
-            return None
-        self.saved = typed
-        shown, names = current(frame), self.buffers.to_save(self.has_log)
-        return save_these(names, shown.name) if shown and names else None
+    def begin(self, moment: Moment) -> Errand:
+        """Saves them, where there are any."""
+        self.saved = moment.typed
+        shown, names = current(moment.frame), self.buffers.to_save(self.has_log)
+        if not shown or not names:
+            return moment.said
+        return (yield from save_these(names, shown.name))

@@ -5,7 +5,6 @@ import select
 import signal
 import time
 from collections.abc import Callable, Sequence
-from typing import Protocol
 
 from mgr_front.cells import row_width
 from mgr_front.completion import accept, begins_at_home, complete
@@ -14,46 +13,43 @@ from mgr_front.dispatch import Dispatcher
 from mgr_front.echo import Echo, echo_line
 from mgr_front.editor import BLOCK, Editor
 from mgr_front.errands import Errand
-from mgr_front.exchanges import COMMANDS, SERVE, knock
 from mgr_front.frames import Frame
 from mgr_front.keys import Keys
+from mgr_front.live_exchange import COMMANDS, EXCHANGE, SERVE
 from mgr_front.minibuffer import Question
+from mgr_front.relay import Relay, knock
 from mgr_front.remarks import Remarks
 from mgr_front.saving import Buffers
 from mgr_front.screen import Screen
 from mgr_front.signals import Signals
 from mgr_front.view import picture
+from mgr_front.watches import Moment, Watch
 
 # Seconds: until what may be the beginning of a longer key counts as keys of its own, as ESC does;
 # for which what is said of a note that is opened stays, and what an exchange said; between two tries to end a wait; until mgr, which shows
-# nothing, is not expected to answer a key any more; and until it is given up at the end.
-PATIENCE, OPENED, SAID, KNOCK, ANSWER, LAST = 0.05, 10.0, 2.0, 0.1, 5.0, 10.0
+# nothing, is not expected to answer a key any more; until it is given up at the end; and until the
+# status is looked at again.
+PATIENCE, OPENED, SAID, KNOCK, ANSWER, LAST, STATUS = 0.05, 10.0, 2.0, 0.1, 5.0, 10.0, 1.0
 
 # How much may wait for mgr before no more keys are read.
 MOST_WAITING = 65536
 
 
-class Watch(Protocol):
-    """Something that is done from time to time while nothing is typed."""
-
-    def patience(self, now: float, typed: float) -> float | None:
-        """Returns after how many seconds it wants to be asked."""
-
-    def errand(self, now: float, typed: float, frame: Frame) -> Errand | None:
-        """Returns what is to be done now, where nothing is asked or begun."""
-
-
 class Session:
     """An edit by a mgr that runs."""
 
-    def __init__(self, editor: Editor, screen: Screen, signals: Signals, port: int | None = None) -> None:
-        """`port` is where mgr meets peers."""
-        self.editor, self.screen, self.signals, self.port = editor, screen, signals, port
+    def __init__(self, editor: Editor, screen: Screen, signals: Signals, port: int | Relay | None = None) -> None:
+        """`port` is where mgr meets peers, or what passes its connections on."""
+        self.editor, self.screen, self.signals = editor, screen, signals
+        self.relay = port if isinstance(port, Relay) else None
+        self.port = port.port if isinstance(port, Relay) else port
         self.keys = Keys()
         self.dispatcher = Dispatcher(editor, screen.erase)
         self.buffers = Buffers()
         self.remarks = Remarks()
-        self.watches: Sequence[Watch] = ()
+        self.watches: list[Watch] = []
+        # What the mode line says of the front.
+        self.status: Callable[[float], str] = lambda now: ""
         # What is to be said of the first frame.
         self.opened: Callable[[Frame], str] = lambda frame: ""
         self.errand: Errand | None = None
@@ -61,12 +57,13 @@ class Session:
         # The newest frame, what the front says in place of its echo line, and whether both are drawn.
         self.frame: Frame | None = None
         self.said: str | None = None
-        self.drawn_remarks: list[str] = []
+        self.drawn: tuple[list[str], str] = [], ""
         self.is_stale = self.rings = self.is_ending = False
         # Whether a wait for a peer is to be ended.
         self.breaks_off = False
-        # When a key was typed, and when mgr was given or showed something.
+        # When a key was typed, the last one that was whole, and when mgr was given or showed something.
         self.typed = self.heard = time.monotonic()
+        self.key = b""
 
     def run(self) -> None:
         """Goes on until mgr, the keys or the terminal end, or a signal comes."""
@@ -106,14 +103,13 @@ class Session:
     def _patience(self) -> float | None:
         """Returns after how many seconds something is to be done, whatever happens."""
         now = time.monotonic()
-        seconds = [watch.patience(now, self.typed) for watch in self.watches if self.is_at_rest]
-        seconds += [
-            PATIENCE if self.keys.is_in_doubt else None,
-            KNOCK if self.breaks_off else None,
-            ANSWER if not self.editor.dialogue.is_settled else None,
-            self.remarks.patience(now),
-        ]
-        return min((each for each in seconds if each is not None), default=None)
+        moment = self._moment()
+        dues = [watch.due(moment) for watch in self.watches] if moment else []
+        seconds = [max(0.0, due - now) for due in dues if due is not None]
+        seconds += [PATIENCE] * self.keys.is_in_doubt + [KNOCK] * self.breaks_off
+        seconds += [ANSWER] * (not self.editor.dialogue.is_settled) + [STATUS] * bool(self.drawn[1])
+        remarks = self.remarks.patience(now)
+        return min(seconds + [remarks] * (remarks is not None), default=None)
 
     def work(self) -> None:
         """Does what strokes and watches ask for, and what nobody answers any more."""
@@ -127,31 +123,34 @@ class Session:
                 self._go_on(self.errand, self.frame)
         self.dispatcher.run(self)
         for watch in self.watches:
-            errand = watch.errand(now, self.typed, self.frame) if self.is_at_rest and self.frame else None
-            if errand:
-                self.start(errand)
+            moment = self._moment()
+            due = watch.due(moment) if moment else None
+            if moment and due is not None and due <= now:
+                self.start(watch.begin(moment))
 
-    @property
-    def is_at_rest(self) -> bool:
-        """Whether nothing is typed, asked, begun or done."""
-        is_busy = self.errand or self.question or self.keys.begun
-        return not is_busy and self.dispatcher.is_idle and self.editor.dialogue.is_at_rest
+    def _moment(self) -> Moment | None:
+        """Returns what there is now, where nothing is typed, asked, begun or done."""
+        is_busy = self.errand or self.question or self.keys.begun or not self.dispatcher.is_idle
+        if is_busy or self.frame is None or not self.editor.dialogue.is_at_rest:
+            return None
+        return Moment(self.typed, self.key, self.frame, self.frame.echo if self.said is None else self.said)
 
     def _take_keys(self) -> bool:
         sent = os.read(0, BLOCK)
         self.typed = time.monotonic()
-        if CANCEL in sent and self.is_waiting_for_peer:
-            self.breaks_off = True
-            sent = sent.replace(bytes([CANCEL]), b"", 1)
-            self.dispatcher.take(self.keys.take(sent))
-            return True
-        self.dispatcher.take(self.keys.take(sent))
+        is_left = CANCEL in sent and self._leave_peer()
+        self.dispatcher.take(self.keys.take(sent.replace(bytes([CANCEL]), b"", is_left)))
         return bool(sent)
 
-    @property
-    def is_waiting_for_peer(self) -> bool:
-        """Whether mgr takes no key until a peer connects."""
-        return self.port is not None and self.editor.dialogue.command == SERVE
+    def _leave_peer(self) -> bool:
+        """Ends a wait for a peer, where mgr takes no key before, and answers whether it does."""
+        command = self.editor.dialogue.command
+        if command == EXCHANGE and self.relay:
+            self.relay.break_off()
+            return True
+        self.breaks_off = command == SERVE and self.port is not None
+        return self.breaks_off
+
 
     def _take_frames(self) -> bool:
         self.heard = time.monotonic()
@@ -171,6 +170,9 @@ class Session:
             return
         if answer.command in COMMANDS:
             self._end_exchange(frame.echo)
+        if answer.key == bytes([CANCEL]):
+            self.remarks.acknowledge()
+        self.key = answer.key
         self.is_stale = True
         self.rings = self.rings or bool(answer.key) and frame.echo in (UNDEFINED, FAILED)
 
@@ -184,14 +186,16 @@ class Session:
 
     def _draw(self) -> None:
         """Draws the newest frame, where it was not drawn yet."""
-        remarks = self.remarks.at(time.monotonic())
-        is_drawn = not self.is_stale and remarks == self.drawn_remarks
+        now = time.monotonic()
+        remarks, status = self.remarks.at(now), self.status(now)
+        is_drawn = not self.is_stale and (remarks, status) == self.drawn
         if self.frame is None or is_drawn or self.errand:
             return
         columns, rows = os.get_terminal_size(1)
-        self.screen.draw(picture(self.frame, self._echo(self.frame, remarks), rows, columns), self.rings)
+        echo = self._echo(self.frame, remarks)
+        self.screen.draw(picture(self.frame, echo, rows, columns, status), self.rings)
         self.is_stale = self.rings = False
-        self.drawn_remarks = remarks
+        self.drawn = remarks, status
 
     def _echo(self, frame: Frame, remarks: Sequence[str]) -> Echo:
         if self.question:
@@ -244,13 +248,13 @@ class Session:
         Answers whether that is done, be it that mgr has ended: one that does nothing for some
         seconds is given up.
         """
-        self.is_ending, self.question, self.watches = True, None, ()
+        self.is_ending, self.question, self.watches = True, None, []
         self.dispatcher.take(self.keys.give_up())
         self.heard = time.monotonic()
         waiting: Errand | None = last
         try:
             while waiting or self.errand:
-                self.breaks_off = self.is_waiting_for_peer
+                self.breaks_off = self.port is not None and self.editor.dialogue.command == SERVE
                 self.work()
                 if waiting and not self.errand and not self.dispatcher.strokes and self.editor.dialogue.is_settled:
                     self.start(waiting)

@@ -4,13 +4,13 @@ import os
 import signal
 
 ENDING = (signal.SIGHUP, signal.SIGINT, signal.SIGQUIT, signal.SIGTERM)
-OTHERS = (signal.SIGTSTP, signal.SIGCONT, signal.SIGWINCH)
 
 
 class Signals:
     """The first of the signals that end a program, and those of others that came since."""
 
-    def __init__(self) -> None:
+    def __init__(self, *others: int) -> None:
+        """Takes note of those that end a program, and of these others."""
         self.first: int | None = None
         self.came: set[int] = set()
         self.woken, self.waker = os.pipe()
@@ -19,7 +19,7 @@ class Signals:
         signal.set_wakeup_fd(self.waker, warn_on_full_buffer=False)
         for number in ENDING:
             signal.signal(number, self._note_end)
-        for number in OTHERS:
+        for number in others:
             self.listen(number)
 
     def listen(self, number: int) -> None:

@@ -1,5 +1,6 @@
 """Errands that save, played beside buffers that are made up."""
 
+import math
 import unittest
 
 import context  # noqa: F401
@@ -8,6 +9,7 @@ from mgr_front.errands import Errand
 from mgr_front.frames import Frame
 from mgr_front.remarks import Remarks
 from mgr_front.saving import Autosave, Buffers, current, save_all, save_these
+from mgr_front.watches import Moment
 
 
 def mode_row(name: str, is_changed: bool) -> str:
@@ -83,12 +85,17 @@ class TestAutosave(unittest.TestCase):
         frame, buffers = FakeMgr(a=True).frame(), Buffers()
         buffers.note(frame)
         autosave = Autosave(buffers, lambda name: True)
-        self.assertEqual(autosave.patience(10, 0), 20)
-        self.assertIsNone(autosave.errand(29.9, 0, frame))
-        self.assertIsNotNone(autosave.errand(30, 0, frame))
-        self.assertIsNone(autosave.patience(31, 0))
-        self.assertIsNone(autosave.errand(31, 0, frame))
-        self.assertEqual(autosave.patience(41, 40), 29)
+        moment = Moment(10, b"x", frame, "")
+        self.assertEqual(autosave.due(moment), 40)
+        mgr = FakeMgr(a=True)
+        self.assertEqual(mgr.play(autosave.begin(moment)), "Wrote a")
+        self.assertIsNone(autosave.due(moment))
+        self.assertEqual(autosave.due(Moment(20, b"x", frame, "")), 50)
+
+    def test_where_nothing_is_changed_what_was_said_stands(self) -> None:
+        mgr, autosave = FakeMgr(a=False), Autosave(Buffers(), lambda name: True)
+        self.assertEqual(mgr.play(autosave.begin(Moment(10, b"x", mgr.frame(), "Quit"))), "Quit")
+        self.assertEqual(mgr.keys, [])
 
 
 class TestRemarks(unittest.TestCase):
@@ -99,8 +106,10 @@ class TestRemarks(unittest.TestCase):
         remarks.hold("b", 3)
         self.assertEqual((remarks.at(1), remarks.patience(1)), (["a", "b"], 1))
         self.assertEqual((remarks.at(2), remarks.patience(2)), (["b"], 1))
-        remarks.drop("b")
-        self.assertEqual((remarks.at(2), remarks.patience(2)), ([], None))
+        remarks.hold("c", math.inf)
+        self.assertEqual((remarks.at(3), remarks.patience(3)), (["c"], None))
+        remarks.acknowledge()
+        self.assertEqual(remarks.at(3), [])
 
 
 if __name__ == "__main__":
