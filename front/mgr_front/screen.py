@@ -1,8 +1,10 @@
 """The terminal: raw while an edit goes on, and put back behind it."""
 
+import errno
 import os
 import termios
 import tty
+from collections.abc import Callable
 
 from mgr_front.cells import Cell, total_width
 from mgr_front.dialogue import DELETE
@@ -43,7 +45,7 @@ class Screen:
 
     def open(self) -> None:
         """Puts the terminal into raw mode. What it shows then is drawn anew."""
-        tty.setraw(0, termios.TCSADRAIN)
+        until_done(lambda: tty.setraw(0, termios.TCSADRAIN))
         self.forget()
 
     def close(self) -> None:
@@ -51,7 +53,7 @@ class Screen:
         if self.is_open:
             write_all(CLOSE.encode())
         self.is_open = False
-        termios.tcsetattr(0, termios.TCSADRAIN, self.saved)
+        until_done(lambda: termios.tcsetattr(0, termios.TCSADRAIN, self.saved))
 
     def forget(self) -> None:
         """Has the next picture be drawn as a whole."""
@@ -98,6 +100,17 @@ def _common(one: list[Cell], other: list[Cell]) -> int:
         if a != b:
             return i
     return min(len(one), len(other))
+
+
+def until_done(set_mode: Callable[[], object]) -> None:
+    """Sets a mode of the terminal. In the background that stops this program until it is continued."""
+    while True:
+        try:
+            set_mode()
+            return
+        except termios.error as error:
+            if error.args[0] != errno.EINTR:
+                raise
 
 
 def write_all(data: bytes, to: int = 1) -> None:
