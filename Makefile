@@ -36,7 +36,7 @@ try:
 test-front:
 	@python3 -m unittest discover -s front/tests
 
-# The front, in a terminal of tmux.
+# The front, in a terminal of tmux. It takes some two minutes.
 try-live: build/mgr
 	@scripts/try_live.py build/mgr
 

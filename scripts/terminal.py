@@ -39,13 +39,18 @@ class Terminal:
 
     def __init__(self, server, name, folder, words, rows=ROWS, columns=COLUMNS):
         """`words` are the variables of its environment."""
-        self.server, self.name, self.folder = server, name, folder
+        self.server, self.name, self.folder, self.words = server, name, folder, words
         self.rows, self.columns = rows, columns
+        self.mgr, self.live = words["MGR"], LIVE
         given = [word for key, value in words.items() for word in ("-e", f"{key}={value}")]
         size = ["-x", str(columns), "-y", str(rows)]
         server.run("new-session", "-d", "-s", name, *size, "-c", str(folder), *given, "exec sh")
         self.shell("PS1='$ '; stty -g >terminal")
         self.expect("the shell", (folder / "terminal").exists, True)
+
+    def another(self, name):
+        """Returns a further terminal in the same folder."""
+        return Terminal(self.server, f"{self.name}-{name}", self.folder, self.words, self.rows, self.columns)
 
     def tmux(self, command, *words):
         return self.server.run(command, "-t", self.name, *words)

@@ -5,7 +5,7 @@ import subprocess
 from collections.abc import Sequence
 from typing import IO
 
-from mgr_front.dialogue import Answer, Dialogue
+from mgr_front.dialogue import Dialogue
 from mgr_front.frames import Frame, Frames
 from mgr_front.modelines import COLUMNS
 
@@ -46,12 +46,10 @@ class Editor:
         except BlockingIOError:
             pass
 
-    def read(self) -> list[tuple[Answer, Frame]] | None:
-        """Returns the frames that came, each with what it answers; None at their end."""
+    def read(self) -> list[Frame] | None:
+        """Returns the frames that came; None at their end. Each is to be given to the dialogue, in turn."""
         written = os.read(self.written, BLOCK)
-        if not written:
-            return None
-        return [(self.dialogue.answer(frame.echo), frame) for frame in self.frames.take(written)]
+        return self.frames.take(written) if written else None
 
     @property
     def has_ended(self) -> bool:

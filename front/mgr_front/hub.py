@@ -118,10 +118,10 @@ class Hub:
 
     def _read(self) -> str | None:
         """Returns what the end of an exchange says, if it is there; ends the program where mgr ended."""
-        answers = self.editor.read()
-        if answers is None:
+        frames = self.editor.read()
+        if frames is None:
             stop(f"mgr ended with status {self.editor.process.wait()}", FAILED, PROGRAM)
-        said = [frame.echo for answer, frame in answers if answer.command == SERVE]
+        said = [frame.echo for frame in frames if self.editor.dialogue.answer(frame.echo).command == SERVE]
         return said[-1] if said else None
 
     def _leave(self) -> None:

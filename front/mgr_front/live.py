@@ -9,18 +9,21 @@ from mgr_front.editor import Editor
 from mgr_front.ending import finish
 from mgr_front.frames import Frame
 from mgr_front.live_exchange import LiveExchange
-from mgr_front.notes import Note, Refused, keep, read
+from mgr_front.notes import Note, Refused, read
 from mgr_front.numbers import number_of
 from mgr_front.opening import Difference, difference
 from mgr_front.options import Options, read as read_options
 from mgr_front.program import find
 from mgr_front.relay import Relay
 from mgr_front.saving import Autosave, current
-from mgr_front.saying import FAILED, REFUSED, say, stop, tell
+from mgr_front.saying import FAILED, REFUSED, stop, tell
 from mgr_front.screen import Screen
 from mgr_front.session import Session
 from mgr_front.signals import Signals
 from mgr_front.tunnel import Tunnel
+
+# What mgr says where it opens nothing since a file is locked or cannot be read.
+DEVICE = "device fault"
 
 LEAST_ROWS, LEAST_COLUMNS = 3, 20
 MOST_ROWS = 200
@@ -47,15 +50,18 @@ def replica(options: Options, note: Note) -> int:
         stop(f"no number is kept for this copy, so --replica has to give one: {error}")
 
 
-def settle(mgr: str, note: Note, number: int, options: Options) -> None:
-    """Where the note's text and its log differ: goes on with the one that the person chooses."""
+def settle(mgr: str, note: Note, number: int, options: Options) -> str | None:
+    """Where the note's text and its log differ: goes on with the one that the person chooses.
+
+    Returns where the file is kept, if that is the log.
+    """
     found = difference(mgr, note, number)
     if found is None:
-        return
+        return None
     if options.takes_file or not options.keeps_file and asks_for_file(found):
         found.take_file(mgr, number)
-    else:
-        found.keep_file()
+        return None
+    return found.keep_file()
 
 
 def asks_for_file(found: Difference) -> bool:
@@ -77,26 +83,35 @@ def words_for_mgr(options: Options, number: int, port: int | None) -> list[str]:
     return [*words, "--", options.name]
 
 
-def missing(note: Note, frame: Frame) -> str:
-    """Returns what is to be said where a part of the log is missing; the text is kept then.
+def missing(note: Note, kept: str | None, frame: Frame) -> str:
+    """Returns what is to be said where a part of the log is missing: mgr does not show what waits for it.
 
-    mgr does not show what waits for that part, and the next save would put the text without it.
+    `kept` is where the file is that said something else than the log.
     """
     said = current(frame)
     if said is None or not said.waiting:
         return ""
-    kept = f"; {note.name} is kept as {keep(note.name)}" if os.path.isfile(note.name) else ""
-    return f"A part of {note.log} is missing, {said.waiting} wait for it{kept}"
+    return f"A part of {note.log} is missing" + (f"; see {kept}" if kept else "")
 
 
-def status_of(editor: Editor, signals: Signals) -> int:
+def explained(said: str, session: Session, note: Note) -> str:
+    """Returns what mgr said at its end, with the file that it said it of where it opened nothing."""
+    said = said.strip()
+    if session.frame is not None or not said:
+        return said
+    if said == DEVICE:
+        return f"{note.name}: another mgr has it open, or a file of it cannot be read"
+    return f"{note.log if note.has_log else note.name}: {said}"
+
+
+def status_of(editor: Editor, signals: Signals, said: str) -> int:
     """Tells of an end that is none of mgr's own, and returns the status for the shell."""
     status = editor.process.returncode
     if status < 0:
         tell(f"signal {-status} ended mgr")
         return 128 - status
     if status > 0:
-        tell(f"mgr ended with status {status}")
+        tell(said or f"mgr ended with status {status}")
         return status
     return 128 + signals.first if signals.first else 0
 
@@ -121,7 +136,7 @@ def relay_to(options: Options, tunnel: Tunnel | None) -> Relay | None:
     return relay
 
 
-def edit(mgr: str, note: Note, number: int, options: Options, tunnel: Tunnel | None) -> int:
+def edit(mgr: str, note: Note, number: int, options: Options, kept: str | None, tunnel: Tunnel | None) -> int:
     """Edits a note until the person leaves, or something ends it, and returns the status."""
     rows = terminal_rows()
     signals = Signals(signal.SIGTSTP, signal.SIGCONT, signal.SIGWINCH)
@@ -131,7 +146,7 @@ def edit(mgr: str, note: Note, number: int, options: Options, tunnel: Tunnel | N
     with tempfile.TemporaryFile() as said:
         editor = Editor(mgr, words_for_mgr(options, number, port), rows, said)
         session = Session(editor, screen, signals, relay or port)
-        session.opened = lambda frame: missing(note, frame)
+        session.opened = lambda frame: missing(note, kept, frame)
         if options.saves:
             session.watches.append(Autosave(session.buffers, lambda name: Note(name).has_log))
         if relay:
@@ -143,9 +158,8 @@ def edit(mgr: str, note: Note, number: int, options: Options, tunnel: Tunnel | N
                 session.run()
         finally:
             finish(session, note)
-            said.seek(0)
-            say(said.read())
-    return status_of(editor, signals)
+        said.seek(0)
+        return status_of(editor, signals, explained(said.read().decode(), session, note))
 
 
 def main(words: Sequence[str], folder: str) -> int:
@@ -159,12 +173,12 @@ def main(words: Sequence[str], folder: str) -> int:
     try:
         note.check()
         number = replica(options, note)
-        settle(mgr, note, number, options)
+        kept = settle(mgr, note, number, options)
     except Refused as refused:
         stop(str(refused), REFUSED)
     tunnel = tunnel_to(options)
     try:
-        return edit(mgr, note, number, options, tunnel)
+        return edit(mgr, note, number, options, kept, tunnel)
     finally:
         if tunnel:
             tunnel.end()

@@ -26,9 +26,9 @@ class Difference:
         name, log = self.note.name, self.note.log
         missing = f"A part of {log} is missing: {self.waiting} characters wait for it.\n" * bool(self.waiting)
         return (
-            f"{name} and its log {log} differ. Go on with which of them?\n{missing}"
-            f"  f  the file, changed {_date(name)}: its changes come into the log\n"
-            f"  l  the log, changed {_date(log)}: the file is kept as {name}~\n"
+            f"{name} and its log {log} differ. Go on with which?\n{missing}"
+            f"f  the file, of {_date(name)}: the log takes its changes\n"
+            f"l  the log, of {_date(log)}: the file is kept as {name}~\n"
         )
 
     def take_file(self, mgr: str, replica: int) -> None:
@@ -62,4 +62,4 @@ def difference(mgr: str, note: Note, replica: int) -> Difference | None:
 
 
 def _date(path: str) -> str:
-    return time.strftime("%Y-%m-%d %H:%M:%S", time.localtime(os.stat(path).st_mtime))
+    return time.strftime("%Y-%m-%d %H:%M", time.localtime(os.stat(path).st_mtime))

@@ -155,8 +155,8 @@ class Session:
     def _take_frames(self) -> bool:
         self.heard = time.monotonic()
         frames = self.editor.read()
-        for answer, frame in frames or []:
-            self._take_frame(answer, frame)
+        for frame in frames or []:
+            self._take_frame(self.editor.dialogue.answer(frame.echo), frame)
         return frames is not None
 
     def _take_frame(self, answer: Answer, frame: Frame) -> None:
