@@ -15,7 +15,7 @@ SOURCES := crates.txt HANDLES \
 NEED_RT = command -v rt >/dev/null || { \
 	echo "rt, the Rattle toolchain, is not installed: put KIT/bin on PATH" >&2; exit 1; }
 
-.PHONY: build try test-front try-live try-exchange crash hostile files test wrong-bodies contracts bench install clean help
+.PHONY: build try test-front try-live try-hub try-exchange crash hostile files test wrong-bodies contracts bench install clean help
 
 build: build/mgr
 	@echo "build/mgr is up to date"
@@ -39,6 +39,10 @@ test-front:
 # The front, in a terminal of tmux. It takes some two minutes.
 try-live: build/mgr
 	@scripts/try_live.py build/mgr
+
+# Three that write in one note at one hub. It takes some three minutes.
+try-hub: build/mgr
+	@scripts/try_hub.py build/mgr
 
 # Two that exchange over a socket of this machine, and a third that gets the log.
 try-exchange: build/mgr
@@ -74,10 +78,11 @@ bench:
 
 install: build/mgr
 	mkdir -p "$(DESTDIR)$(BINDIR)" "$(DESTDIR)$(MANDIR)/man1" "$(DESTDIR)$(DATADIR)/mgr_front"
-	rm -f "$(DESTDIR)$(BINDIR)/mgr" "$(DESTDIR)$(BINDIR)/mgr-live"
+	rm -f "$(DESTDIR)$(BINDIR)/mgr" "$(DESTDIR)$(BINDIR)/mgr-live" "$(DESTDIR)$(BINDIR)/mgr-hub"
 	cp build/mgr "$(DESTDIR)$(BINDIR)"
-	sed 's|^INSTALLED = .*|INSTALLED = "$(DATADIR)"|' front/mgr-live >"$(DESTDIR)$(BINDIR)/mgr-live"
-	chmod 755 "$(DESTDIR)$(BINDIR)/mgr-live"
+	for program in mgr-live mgr-hub; do \
+		sed 's|^INSTALLED = .*|INSTALLED = "$(DATADIR)"|' front/$$program >"$(DESTDIR)$(BINDIR)/$$program" && \
+		chmod 755 "$(DESTDIR)$(BINDIR)/$$program" || exit 1; done
 	rm -f "$(DESTDIR)$(DATADIR)/mgr_front"/*.py
 	cp front/mgr_front/*.py "$(DESTDIR)$(DATADIR)/mgr_front"
 	cp docs/mgr.1 "$(DESTDIR)$(MANDIR)/man1/mgr.1"
@@ -92,6 +97,7 @@ help:
 	@echo "make test-front"
 	@echo "               tests the parts of the front, each by itself (needs python3)"
 	@echo "make try-live  runs mgr-live in a terminal of tmux, and looks at what it shows (needs python3 and tmux)"
+	@echo "make try-hub   runs three mgr-live at one mgr-hub, and looks at what each sees of the others (needs python3 and tmux)"
 	@echo "make try-exchange"
 	@echo "               exchanges a note between two mgr on this machine (needs python3)"
 	@echo "make test      proves what this machine has not proved yet, and runs every test; the last line counts all"
@@ -104,7 +110,7 @@ help:
 	@echo "make files     does to a note's files what other programs do while it is edited, and looks for each word"
 	@echo "               (needs python3)"
 	@echo "make bench     measures mgr beside a native program (needs python3 and rustc)"
-	@echo "make install   copies mgr and mgr-live to BINDIR, the parts of mgr-live to DATADIR, and the manual to MANDIR/man1"
+	@echo "make install   copies mgr, mgr-live and mgr-hub to BINDIR, their parts to DATADIR, and the manual to MANDIR/man1"
 	@echo "               (BINDIR=$(BINDIR), DATADIR=$(DATADIR) and MANDIR=$(MANDIR), by PREFIX=$(PREFIX);"
 	@echo "               DESTDIR is put before them)"
 	@echo "make clean     removes what was built and proved"
