@@ -1,7 +1,10 @@
 """Ends of mgr-live, saves without a key for them, and exchanges with peers."""
 
 import os
+import random
+import shutil
 import signal
+import socket
 import subprocess
 import time
 
@@ -114,6 +117,63 @@ def waiting_for_a_peer(terminal):
             path.unlink()
 
 
+def a_silent_peer(terminal):
+    """a peer that says nothing, which mgr waits for, and TERM"""
+    with socket.create_server(("127.0.0.1", 0)) as peer:
+        port = peer.getsockname()[1]
+        terminal.begin(f"notes --replica 1 --port {port}")
+        terminal.see("start", {8: mode_line("--", "L1 C0")}, (0, 0))
+        terminal.write("saved before")
+        terminal.press("M-x")
+        terminal.write("replica-exchange")
+        terminal.press("Enter")
+        link, _ = peer.accept()
+        with link:
+            terminal.write(", typed")
+            terminal.press("Enter")
+            terminal.write("meanwhile")
+            time.sleep(0.5)
+            os.kill(terminal.programs()[0], signal.SIGTERM)
+            said = "mgr-live: mgr did not take the last keys: they are in notes."
+            terminal.expect("TERM", lambda: terminal.shown()[:2], [said, "keys"], seconds=30)
+    terminal.expect_file("notes", "saved before")
+    terminal.expect_file("notes.keys", ", typed\rmeanwhile")
+
+
+# Keys that mgr-live hands on as they are, some of which open prompts, begin others or end them.
+KEYS = [b"a", b"word ", b"c\r", b"\x7f", b"\x13", b"\x12", b"y", b"n", b"!", b"\x07", b"\x154", b"\x11"]
+KEYS += [b"\x18b\r", b"\x18b", b"\x18\x13", b"\x182", b"\x18o", b"\x180", b"\x181", b"\x0b", b"\x19", b"\x17"]
+KEYS += [b"\x00", b"\x1f", b"\x0c", b"\x01", b"\x05", b"\x02", b"\x06", "漢".encode(), "é".encode()]
+LEAVE, SAVE_AND_NEXT = b"\xff\x07", b"\x18\x13\x18b\r"
+
+
+def seeded_keys(terminal):
+    """keys by chance, in pieces, and TERM: the note is the one that mgr makes of them without mgr-live"""
+    for seed in range(12):
+        chance = random.Random(seed)
+        keys = b"".join(chance.choice(KEYS) for _ in range(chance.randrange(5, 150)))
+        for name in ("live", "edit"):
+            (terminal.folder / name).mkdir(exist_ok=True)
+            for path in (terminal.folder / name).iterdir():
+                path.unlink()
+        terminal.begin("live/n --replica 1")
+        terminal.expect("start", lambda: terminal.shown()[8], mode_line("--", "L1 C0", "live/n"))
+        rest = keys
+        while rest:
+            piece = rest[: chance.randrange(1, 30)]
+            terminal.tmux("send-keys", "-H", *[f"{byte:02x}" for byte in piece])
+            rest = rest[len(piece) :]
+        time.sleep(0.3)
+        os.kill(terminal.programs()[0], signal.SIGTERM)
+        terminal.expect("TERM", lambda: "same terminal" in terminal.shown(), True)
+        command = [terminal.mgr, "edit", "edit/n", "--replica", "1"]
+        subprocess.run(command, input=keys + LEAVE + SAVE_AND_NEXT * 8, cwd=terminal.folder, check=True, capture_output=True)
+        paths = [terminal.folder / name / "n" for name in ("live", "edit")]
+        live, edit = (path.read_text() if path.exists() else "" for path in paths)
+        terminal.expect(f"seed {seed}: {keys!r}", lambda: live, edit)
+        print(f"    {len(keys)} keys: {len(live)} characters")
+
+
 def exchanging(terminal):
     """an exchange, whose message stays for two seconds"""
     port = free_port()
@@ -162,7 +222,9 @@ PARTS = (
     mgr_is_killed,
     typed_ahead,
     a_fault_of_the_front,
+    seeded_keys,
     waiting_for_a_peer,
+    a_silent_peer,
     exchanging,
     saved_by_itself,
     hanging_up,

@@ -2,7 +2,7 @@
 
 import re
 
-from mgr_front.dialogue import ARGUMENT, CANCEL, ESCAPE, QUOTE, RETURN, Mode
+from mgr_front.dialogue import ARGUMENT, ESCAPE, NO_KEY, QUOTE, RETURN, Mode
 from mgr_front.keys import Meta, Named, Pasted, Stroke
 
 NAMED = {
@@ -32,14 +32,10 @@ def named_keys(name: str, mode: Mode, is_begun: bool) -> bytes:
     """Returns the keys that do what a key of that name does.
 
     While a line is asked for the second of two would be taken for a part of it, and where a key was
-    begun, as by C-q, for one more: so there only one is pressed, that does nothing.
+    begun, as by C-q, for one more: so there nothing is done.
     """
     keys = NAMED[name]
-    if len(keys) == 1:
-        return keys
-    if is_begun:
-        return bytes([CANCEL])
-    return bytes([ESCAPE]) if mode in LINE_MODES else keys
+    return keys if len(keys) == 1 or not is_begun and mode not in LINE_MODES else bytes([NO_KEY])
 
 
 def argument_keys(digit: int, begun: bytes) -> bytes:

@@ -1,5 +1,6 @@
 """Rows as cells: how many columns each character takes, and which part of a row shows."""
 
+import functools
 import unicodedata
 from collections.abc import Sequence
 
@@ -11,14 +12,26 @@ CUT: Cell = ("$", 1)
 BLANK: Cell = (" ", 1)
 
 
+# The vowels and last consonants of Hangul, which join the syllable before them.
+JOINING = range(0x1160, 0x1200), range(0xD7B0, 0xD800)
+# Where characters that Python's tables do not have yet are wide: pictures and ideographs.
+WIDE = range(0x1F000, 0x1FB00), range(0x20000, 0x3FFFE)
+SOFT_HYPHEN = "\u00ad"
+
+
+@functools.cache
 def width(sign: str) -> int:
     """Returns how many columns a character takes, as most terminals count them."""
-    if sign.isascii():
-        return 1
-    # The vowels and last consonants of Hangul join the syllable before them.
-    if unicodedata.category(sign) in ("Mn", "Me", "Cf") and sign != "\u00ad" or "\u1160" <= sign <= "\u11ff":
+    category = unicodedata.category(sign)
+    if category == "Cn":
+        return 2 if _is_in(sign, WIDE) else 1
+    if category in ("Mn", "Me", "Cf") and sign != SOFT_HYPHEN or _is_in(sign, JOINING):
         return 0
     return 2 if unicodedata.east_asian_width(sign) in "WF" else 1
+
+
+def _is_in(sign: str, ranges: Sequence[range]) -> bool:
+    return any(ord(sign) in each for each in ranges)
 
 
 def cells(row: str) -> list[Cell]:

@@ -18,6 +18,8 @@ ARGUMENT = 21
 CONTROL_X = 24
 ESCAPE = 27
 DELETE = 127
+# No key anywhere, and in no character: it ends whatever key was begun, C-q too, and does nothing.
+NO_KEY = 255
 
 UNDEFINED, FAILED, NO_MEMORY = "Undefined key", "Search failed", "Out of memory"
 

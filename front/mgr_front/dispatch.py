@@ -6,7 +6,7 @@ from collections.abc import Iterable
 from typing import Protocol
 
 from mgr_front.bindings import LINE_MODES, answer_keys, argument_keys, named_keys, plain_keys, text_keys
-from mgr_front.dialogue import CANCEL, CONTROL_X, DELETE, ESCAPE, QUOTE, RETURN, TAB, Mode
+from mgr_front.dialogue import CANCEL, CONTROL_X, DELETE, ESCAPE, NO_KEY, QUOTE, RETURN, TAB, Mode
 from mgr_front.editor import Editor
 from mgr_front.errands import Errand, kill_word_backward
 from mgr_front.keys import Meta, Named, Pasted, Stroke, Typed
@@ -161,13 +161,11 @@ class Dispatcher:
             self._hand_on(prefix + bytes([byte]), desk)
 
     def _press_meta(self, byte: int, desk: Desk) -> None:
-        if self.prefix:
+        if self.prefix or self._is_quoted():
             self._break_off()
-        elif self._is_quoted():
-            self._hand_on(bytes([ESCAPE, byte]), desk)
         elif self.editor.dialogue.mode in LINE_MODES:
             # The byte would be taken for a part of the answer.
-            self.editor.hand_on(bytes([ESCAPE]))
+            self.editor.hand_on(bytes([NO_KEY]))
         else:
             self.prefix = bytes([ESCAPE])
             self._complete(byte, desk)
@@ -180,9 +178,11 @@ class Dispatcher:
     def _paste(self, pasted: Pasted) -> None:
         """Puts a text in, or adds it to an answer. What was begun, and a question, are left first."""
         dialogue = self.editor.dialogue
-        if self.prefix or dialogue.begun or dialogue.mode is Mode.QUERY or dialogue.is_quitting:
+        if self.prefix or dialogue.begun:
             self._break_off()
-            # Its answer says what is asked then.
+            self.strokes.appendleft(pasted)
+        elif dialogue.mode is Mode.QUERY or dialogue.is_quitting:
+            self.editor.hand_on(bytes([CANCEL]))
             self.strokes.appendleft(pasted)
         elif dialogue.mode is Mode.PLAIN:
             self.editor.hand_on(text_keys(pasted.data))
@@ -190,7 +190,8 @@ class Dispatcher:
             self.editor.hand_on(answer_keys(pasted))
 
     def _break_off(self) -> None:
-        self.editor.hand_on(self.prefix + bytes([CANCEL]))
+        """Has what was begun of a key be none."""
+        self.editor.hand_on(self.prefix + bytes([NO_KEY]))
         self.prefix = b""
 
     def _is_quoted(self) -> bool:

@@ -1,12 +1,13 @@
 """The end of an edit, whatever brought it: what was typed is taken, and what is changed is saved."""
 
+from mgr_front.dialogue import NO_KEY
 from mgr_front.notes import Note, keep_keys
 from mgr_front.saving import CANCEL, SAVE, save_all
 from mgr_front.saying import tell
 from mgr_front.session import Session
 
-# The seconds that mgr has for its end once it has all keys.
-LAST_SECONDS = 10
+# The seconds that mgr has for its end once it has all keys, and where it does nothing any more.
+LAST_SECONDS, GIVEN_UP = 10, 1
 
 
 def finish(session: Session, note: Note) -> None:
@@ -16,15 +17,17 @@ def finish(session: Session, note: Note) -> None:
     """
     editor = session.editor
     failed: list[str] = []
+    seconds = LAST_SECONDS
     try:
         if not editor.has_ended and not session.conclude(save_all(failed)):
+            seconds = GIVEN_UP
             _keep_keys(session, note)
     except BaseException:
         # Whatever it was: mgr gets what it did not get yet, and saves what it shows.
-        editor.hand_on(session.dispatcher.give_up() + CANCEL + SAVE)
+        editor.hand_on(session.dispatcher.give_up() + bytes([NO_KEY]) + CANCEL + SAVE)
         raise
     finally:
-        editor.end(LAST_SECONDS)
+        editor.end(seconds)
     for name in failed:
         tell(f"{name} was not saved: File fault")
 

@@ -122,3 +122,11 @@ def _stroke(sent: re.Match[bytes]) -> Stroke | None:
     if name and int(sent["modifier"] or 1) - 1 & CONTROL:
         name = CONTROLLED.get(name, name)
     return Named(name) if name else None
+
+
+def without_first(byte: int, strokes: list[Stroke]) -> list[Stroke]:
+    """Returns strokes without the first that is typed of a byte."""
+    for i, stroke in enumerate(strokes):
+        if isinstance(stroke, Typed) and byte in stroke.data:
+            return [*strokes[:i], Typed(stroke.data.replace(bytes([byte]), b"", 1)), *strokes[i + 1 :]]
+    return strokes

@@ -2,6 +2,7 @@
 
 from collections.abc import Callable, Generator
 
+from mgr_front.dialogue import NO_KEY
 from mgr_front.errands import Errand
 from mgr_front.frames import Frame
 from mgr_front.modelines import ModeLine, current_mode_row, mode_line, mode_rows
@@ -40,7 +41,7 @@ class Buffers:
 
 def save_all(failed: list[str]) -> Errand:
     """Leaves what is asked, and saves each changed buffer; adds those that it cannot save to `failed`."""
-    frame = yield CANCEL
+    frame = yield bytes([NO_KEY]) + CANCEL
     seen: set[str] = set()
     for _ in range(MOST_BUFFERS):
         said = current(frame)

@@ -25,7 +25,8 @@ class Screen:
         self.saved = termios.tcgetattr(0)
         # What it shows; nothing, where all has to be drawn.
         self.drawn: list[Line] = []
-        self.is_open = False
+        # Whether it is this program's screen that it shows, and whether the shell's has to come back.
+        self.is_open = self.is_taken = False
 
     @property
     def erase(self) -> int:
@@ -44,15 +45,16 @@ class Screen:
             pass  # The terminal is gone.
 
     def open(self) -> None:
-        """Puts the terminal into raw mode. What it shows then is drawn anew."""
+        """Puts the terminal into raw mode. All is drawn anew, on a screen of this program's own."""
         until_done(lambda: tty.setraw(0, termios.TCSADRAIN))
+        self.is_open = False
         self.forget()
 
     def close(self) -> None:
         """Puts the terminal back."""
-        if self.is_open:
+        if self.is_taken:
             write_all(CLOSE.encode())
-        self.is_open = False
+        self.is_open = self.is_taken = False
         until_done(lambda: termios.tcsetattr(0, termios.TCSADRAIN, self.saved))
 
     def forget(self) -> None:
@@ -64,7 +66,7 @@ class Screen:
         out = ["\x1b[?25l"]
         if not self.is_open:
             out.append(OPEN)
-            self.is_open = True
+            self.is_open = self.is_taken = True
         elif len(self.drawn) != len(picture.lines):
             out.append("\x1b[m\x1b[?7l\x1b[2J")
         if len(self.drawn) != len(picture.lines):

@@ -14,7 +14,7 @@ from mgr_front.echo import Echo, echo_line
 from mgr_front.editor import BLOCK, Editor
 from mgr_front.errands import Errand
 from mgr_front.frames import Frame
-from mgr_front.keys import Keys
+from mgr_front.keys import Keys, without_first
 from mgr_front.live_exchange import COMMANDS, EXCHANGE, SERVE
 from mgr_front.minibuffer import Question
 from mgr_front.relay import Relay, knock
@@ -25,11 +25,15 @@ from mgr_front.signals import Signals
 from mgr_front.view import picture
 from mgr_front.watches import Moment, Watch
 
-# Seconds: until what may be the beginning of a longer key counts as keys of its own, as ESC does;
-# for which what is said of a note that is opened stays, and what an exchange said; between two tries to end a wait; until mgr, which shows
-# nothing, is not expected to answer a key any more; until it is given up at the end; and until the
-# status is looked at again.
-PATIENCE, OPENED, SAID, KNOCK, ANSWER, LAST, STATUS = 0.05, 10.0, 2.0, 0.1, 5.0, 10.0, 1.0
+# Seconds until what may be the beginning of a longer key counts as keys of its own, as ESC does.
+PATIENCE = 0.05
+# Seconds for which it is said what is wrong with a note that was opened, and what an exchange said.
+OPENED, SAID = 10.0, 2.0
+# Seconds between two tries to end a wait for a peer, and between two looks at the status.
+KNOCK, STATUS = 0.1, 1.0
+# Seconds in which a mgr that shows nothing is expected to answer a key, and to do anything at all at
+# the end.
+ANSWER, LAST = 5.0, 10.0
 
 # How much may wait for mgr before no more keys are read.
 MOST_WAITING = 65536
@@ -118,15 +122,20 @@ class Session:
         if self.breaks_off and self.port:
             knock(self.port)
         elif not dialogue.is_settled and now > self.heard + ANSWER and dialogue.command not in COMMANDS:
-            dialogue.assume_settled()
-            if self.errand and self.frame:
-                self._go_on(self.errand, self.frame)
+            self._assume_settled()
         self.dispatcher.run(self)
         for watch in self.watches:
             moment = self._moment()
             due = watch.due(moment) if moment else None
             if moment and due is not None and due <= now:
                 self.start(watch.begin(moment))
+
+    def _assume_settled(self) -> None:
+        """Goes on without an answer that is long overdue; there is none before the first frame."""
+        if self.frame:
+            self.editor.dialogue.assume_settled()
+            if self.errand:
+                self._go_on(self.errand, self.frame)
 
     def _moment(self) -> Moment | None:
         """Returns what there is now, where nothing is typed, asked, begun or done."""
@@ -138,8 +147,10 @@ class Session:
     def _take_keys(self) -> bool:
         sent = os.read(0, BLOCK)
         self.typed = time.monotonic()
-        is_left = CANCEL in sent and self._leave_peer()
-        self.dispatcher.take(self.keys.take(sent.replace(bytes([CANCEL]), b"", is_left)))
+        strokes = self.keys.take(sent)
+        if CANCEL in sent and self._leave_peer():
+            strokes = without_first(CANCEL, strokes)
+        self.dispatcher.take(strokes)
         return bool(sent)
 
     def _leave_peer(self) -> bool:
@@ -150,7 +161,6 @@ class Session:
             return True
         self.breaks_off = command == SERVE and self.port is not None
         return self.breaks_off
-
 
     def _take_frames(self) -> bool:
         self.heard = time.monotonic()

@@ -7,6 +7,9 @@ from mgr_front.echo import Echo
 from mgr_front.frames import Frame
 from mgr_front.modelines import current_mode_row, mode_rows
 
+# Of a terminal that has less than this a part is drawn beyond its edges.
+LEAST_ROWS, LEAST_COLUMNS = 2, 4
+
 
 @dataclass(frozen=True)
 class Line:
@@ -32,6 +35,7 @@ def picture(frame: Frame, echo: Echo, rows: int, columns: int, status: str = "")
     rows than the frame, the echo line and the rows round the cursor show. The status stands at the
     right end of the mode line of the current window.
     """
+    rows, columns = max(rows, LEAST_ROWS), max(columns, LEAST_COLUMNS)
     row, column = frame.row, frame.column
     if echo.column is not None:
         row, column = len(frame.rows) - 1, echo.column

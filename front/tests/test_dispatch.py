@@ -113,9 +113,9 @@ class TestDispatch(unittest.TestCase):
         self.answer("Find file: ")
         self.assertEqual(self.press(b"\x18g"), b"\x18g")
         self.answer("Undefined key", "Find file: g")
-        self.assertEqual(self.press(b"\x1b[1;5D"), b"\x1b")
+        self.assertEqual(self.press(b"\x1b[1;5D"), b"\xff")
         self.answer("Undefined key")
-        self.assertEqual(self.press(b"\x1bf"), b"\x1b")
+        self.assertEqual(self.press(b"\x1bf"), b"\xff")
 
     def test_suspending(self) -> None:
         self.press(b"\x1a")
@@ -147,8 +147,8 @@ class TestDispatch(unittest.TestCase):
         self.assertEqual(self.answer("") + self.press(b"\x18g\rb"), b"b")
 
     def test_a_paste_leaves_what_was_begun_and_no_question_is_answered_by_it(self) -> None:
-        self.assertEqual(self.press(b"\x154\x1b[200~y\r\x1b[201~"), b"\x154\x07")
-        self.assertEqual(self.answer("Quit"), b"y\r")
+        self.assertEqual(self.press(b"\x154\x1b[200~y\r\x1b[201~"), b"\x154\xff")
+        self.assertEqual(self.answer("Undefined key"), b"y\r")
         self.answer("", "")
         self.press(b"\x18\x03")
         self.answer("Changed buffers; quit (y or n): ")

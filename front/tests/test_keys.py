@@ -6,7 +6,7 @@ import context  # noqa: F401
 
 from mgr_front.bindings import NAMED, answer_keys, argument_keys, named_keys, plain_keys
 from mgr_front.dialogue import Mode
-from mgr_front.keys import Keys, Meta, Named, Pasted, Stroke, Typed
+from mgr_front.keys import Keys, Meta, Named, Pasted, Stroke, Typed, without_first
 
 SENT: list[tuple[str, bytes, bytes]] = [
     ("text", b"hello", b"hello"),
@@ -67,6 +67,11 @@ class TestKeys(unittest.TestCase):
         self.assertEqual(keys.take(b"\x1b[200~ab\x1b[2"), [Pasted(b"ab", False)])
         self.assertEqual(keys.give_up(), [Pasted(b"\x1b[2", False)])
 
+    def test_without_the_first(self) -> None:
+        strokes: list[Stroke] = [Named("up"), Typed(b"a\x07b\x07")]
+        self.assertEqual(without_first(7, strokes), [Named("up"), Typed(b"ab\x07")])
+        self.assertEqual(without_first(7, [Pasted(b"\x07", True)]), [Pasted(b"\x07", True)])
+
     def test_meta_is_told_from_escape(self) -> None:
         self.assertEqual(Keys().take(b"\x1bfg\x1b[A"), [Meta(ord("f")), Typed(b"g"), Named("up")])
 
@@ -87,7 +92,7 @@ class TestBindings(unittest.TestCase):
         self.assertEqual(argument_keys(ord("2"), b"\x151"), b"2")
 
     def test_a_key_of_two_behind_a_begun_one_is_none(self) -> None:
-        self.assertEqual(named_keys("page-up", Mode.PLAIN, True), b"\x07")
+        self.assertEqual(named_keys("page-up", Mode.PLAIN, True), b"\xff")
         self.assertEqual(named_keys("page-up", Mode.PLAIN, False), b"\x1bv")
 
 

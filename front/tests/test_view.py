@@ -39,6 +39,14 @@ class TestPictures(unittest.TestCase):
                 self.assertEqual(texts(shown), [*wanted, "said"])
                 self.assertEqual(shown.row, row)
 
+    def test_no_size_is_too_small(self) -> None:
+        frame = Frame(("x" * 500, "漢" * 250, MODE, "said"), 1, 498)
+        for rows in range(6):
+            for columns in range(30):
+                with self.subTest(rows=rows, columns=columns):
+                    shown = picture(frame, Echo("said"), rows, columns, "live")
+                    self.assertTrue(0 <= shown.row < len(shown.lines) and 0 <= shown.column < max(columns, 4))
+
     def test_mode_lines_are_in_reverse_and_the_current_one_has_the_status(self) -> None:
         shown = picture(Frame(("a", MODE, "b", MODE, ""), 0, 0), Echo(""), 5, 40, "live")
         self.assertEqual([line.is_reverse for line in shown.lines], [False, True, False, True, False])
