@@ -12,6 +12,7 @@ tried; without them all are. `make try-hub` calls it, and no test waits for it.
 import os
 import shutil
 import signal
+import socket
 import statistics
 import subprocess
 import sys
@@ -187,7 +188,7 @@ def large(server, mgr):
 
 
 def without_a_hub(server, mgr):
-    """a hub that ends and begins again, and a silent one"""
+    """a hub that ends and begins again"""
     hub = open_hub(mgr, "without_a_hub", "alice: \n")
     terminal = open_writer(server, mgr, "without_a_hub", "alice", hub.port, 1)
     status = lambda: terminal.shown()[-2].rstrip("-").rsplit("-", 1)[-1].strip()
@@ -202,6 +203,27 @@ def without_a_hub(server, mgr):
     print("it has begun again: live")
     time.sleep(2)
     print(f"the texts are one: {settle({'alice': terminal}, hub)!r}")
+
+
+def a_silent_hub(server, mgr):
+    """a hub that says nothing, which nobody waits for long"""
+    with socket.create_server(("127.0.0.1", 0)) as hub:
+        folder = folder_of("a_silent_hub", "alice")
+        terminal = Terminal(server, "a_silent_hub", folder, environment(mgr, folder), ROWS, COLUMNS)
+        terminal.begin(f"note --replica 1 --with {hub.getsockname()[1]}")
+        for what, key in (("C-g", "C-g"), ("a key after a while", "!"), ("nothing", None)):
+            link, _ = hub.accept()
+            with link:
+                terminal.write(f"typed, {what}. ")
+                time.sleep(2.5 if key == "!" else 0.5)
+                if key:
+                    terminal.press(key)
+                begun = time.monotonic()
+                terminal.expect(what, lambda: f"typed, {what}." in terminal.shown()[0], True, seconds=12)
+                print(f"{time.monotonic() - begun:.1f} seconds behind {what}: {terminal.shown()[0]}")
+        terminal.expect("the mode line", lambda: terminal.shown()[-2].rstrip().endswith("no hub"), True)
+        terminal.press("C-x", "C-s", "C-x", "C-c")
+        terminal.left("left", "status 0")
 
 
 def conflict(server, mgr):
@@ -237,7 +259,7 @@ def conflict(server, mgr):
     hub.end()
 
 
-PARTS = {"small": small, "large": large, "without_a_hub": without_a_hub, "conflict": conflict}
+PARTS = {"small": small, "large": large, "without_a_hub": without_a_hub, "a_silent_hub": a_silent_hub, "conflict": conflict}
 
 
 def main():

@@ -29,7 +29,6 @@ def attempt(server, mgr, name, part):
     folder.mkdir(parents=True)
     terminal = Terminal(server, name, folder, environment(mgr, folder))
     part(terminal)
-    server.run("kill-session", "-t", name) if name != "hanging_up" else None
 
 
 def main():

@@ -16,6 +16,8 @@ BLANK: Cell = (" ", 1)
 JOINING = range(0x1160, 0x1200), range(0xD7B0, 0xD800)
 # Where characters that Python's tables do not have yet are wide: pictures and ideographs.
 WIDE = range(0x1F000, 0x1FB00), range(0x20000, 0x3FFFE)
+# Signs that make one picture with those beside them on some terminals.
+JOINED = range(0xFE00, 0xFE10), range(0x1F1E6, 0x1F200), range(0x1F3FB, 0x1F400)
 SOFT_HYPHEN = "\u00ad"
 
 
@@ -28,6 +30,13 @@ def width(sign: str) -> int:
     if category in ("Mn", "Me", "Cf") and sign != SOFT_HYPHEN or _is_in(sign, JOINING):
         return 0
     return 2 if unicodedata.east_asian_width(sign) in "WF" else 1
+
+
+def is_certain(sign: str) -> bool:
+    """Whether terminals agree on the columns of a character, whatever stands beside it."""
+    if sign.isascii():
+        return True
+    return unicodedata.category(sign) not in ("Cf", "Cn", "Co") and not _is_in(sign, JOINED)
 
 
 def _is_in(sign: str, ranges: Sequence[range]) -> bool:

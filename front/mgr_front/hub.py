@@ -9,7 +9,7 @@ import time
 from collections.abc import Sequence
 
 from mgr_front.editor import Editor
-from mgr_front.live_exchange import CONFLICT, DONE, SERVE
+from mgr_front.live_exchange import CONFLICT, SERVE
 from mgr_front.notes import Note, Refused, read
 from mgr_front.numbers import number_of
 from mgr_front.opening import difference

@@ -37,9 +37,9 @@ class LiveExchange:
         """`lost` is called where the hub is not there."""
         self.remarks, self.lost = remarks, lost
         self.name: str | None = None
-        # When the last try began and how long it took, when the last one was done, and since when
-        # none is.
-        self.tried, self.took = -math.inf, 0.0
+        # When the last try began, how long it took and when it ended, when the last one was done, and
+        # since when none is.
+        self.tried, self.took, self.ended = -math.inf, 0.0, -math.inf
         self.done, self.failing = -math.inf, math.inf
         self.is_stopped = False
 
@@ -51,20 +51,21 @@ class LiveExchange:
             self.name = said.name
         if self.is_stopped or said is None or said.name != self.name:
             return None
-        if moment.typed > self.tried:
-            after = self.tried + AGAIN if self.failing < math.inf else -math.inf
-        else:
-            after = self.tried + self._pause()
+        after = self.ended + self._pause(moment.typed > self.tried)
         return max(after, moment.typed + (RUN if moment.key.endswith(RUNS) else IDLE))
 
-    def _pause(self) -> float:
-        return AGAIN if self.failing < math.inf else min(MOST, max(1.0, PART * self.took))
+    def _pause(self, is_changed: bool) -> float:
+        """Returns for how long nothing is exchanged behind the last try."""
+        if self.failing < math.inf:
+            return AGAIN
+        return 0.0 if is_changed else min(MOST, max(1.0, PART * self.took))
 
     def begin(self, moment: Moment) -> Errand:
         """Exchanges, and says what is wrong with that. Else what was said before stands."""
         self.tried = time.monotonic()
         frame = yield b"\x1bx" + EXCHANGE.encode() + b"\r"
-        self.took = time.monotonic() - self.tried
+        self.ended = time.monotonic()
+        self.took = self.ended - self.tried
         return self._told(frame.echo, moment.said)
 
     def _told(self, said: str, before: str) -> str:
@@ -76,7 +77,8 @@ class LiveExchange:
         if CONFLICT.match(said):
             self.is_stopped = True
             self.remarks.hold(STOPPED, math.inf)
-        elif said in NO_HUB:
+            return before
+        if said in NO_HUB:
             self.lost()
             return before
         return said

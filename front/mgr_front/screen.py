@@ -6,7 +6,7 @@ import termios
 import tty
 from collections.abc import Callable
 
-from mgr_front.cells import Cell, total_width
+from mgr_front.cells import Cell, is_certain, total_width
 from mgr_front.dialogue import DELETE
 from mgr_front.view import Line, Picture
 
@@ -14,6 +14,8 @@ from mgr_front.view import Line, Picture
 OPEN = "\x1b[?1049h\x1b[?7l\x1b[?2004h\x1b[2J"
 CLOSE = "\x1b[m\x1b[?2004l\x1b[?7h\x1b[?25h\x1b[?1049l"
 BELL = "\x07"
+# So many rows change for a key at most times.
+FEW = 3
 
 EMPTY = Line([])
 
@@ -63,7 +65,7 @@ class Screen:
 
     def draw(self, picture: Picture, rings: bool = False) -> None:
         """Draws what differs from what was drawn before, places the cursor, and rings the bell."""
-        out = ["\x1b[?25l"]
+        out: list[str] = []
         if not self.is_open:
             out.append(OPEN)
             self.is_open = self.is_taken = True
@@ -71,29 +73,43 @@ class Screen:
             out.append("\x1b[m\x1b[?7l\x1b[2J")
         if len(self.drawn) != len(picture.lines):
             self.drawn = [EMPTY] * len(picture.lines)
-        out += [change(i, old, new) for i, (old, new) in enumerate(zip(self.drawn, picture.lines))]
-        out.append(f"\x1b[{picture.row + 1};{picture.column + 1}H\x1b[?25h")
+        changes = [change(i, old, new) for i, (old, new) in enumerate(zip(self.drawn, picture.lines))]
+        # The cursor is not seen running over many rows.
+        hides = sum(map(bool, changes)) > FEW
+        out += ["\x1b[?25l" * hides, *changes, f"\x1b[{picture.row + 1};{picture.column + 1}H", "\x1b[?25h" * hides]
         self.drawn = list(picture.lines)
         write_all(("".join(out) + BELL * rings).encode())
 
 
 def change(row: int, old: Line, new: Line) -> str:
-    """Returns what makes the new line of the old one: the common beginning and end of both stay."""
+    """Returns what makes the new line of the old one: the common beginning and end of both stay.
+
+    Where it is not sure which columns the characters take, the whole line is written.
+    """
     if old == new:
         return ""
+    if not (_is_certain(old) and _is_certain(new)):
+        return f"\x1b[{row + 1};1H\x1b[K{_text(new.cells, new.is_reverse)}"
     front, behind = 0, 0
     if old.is_reverse == new.is_reverse:
         front = _common(old.cells, new.cells)
         if total_width(old.cells) == total_width(new.cells):
             behind = _common(old.cells[front:][::-1], new.cells[front:][::-1])
     column = total_width(new.cells[:front])
-    text = "".join(sign for sign, _ in new.cells[front : len(new.cells) - behind])
-    if new.is_reverse and text:
-        text = f"\x1b[7m{text}\x1b[m"
+    text = _text(new.cells[front : len(new.cells) - behind], new.is_reverse)
     # Where the line became shorter the rest is cleared. Behind a full line that would take its last
     # sign, but a full line is no shorter than another.
     is_shorter = total_width(new.cells) < total_width(old.cells)
     return f"\x1b[{row + 1};{column + 1}H{text}" + "\x1b[K" * is_shorter
+
+
+def _text(cells: list[Cell], is_reverse: bool) -> str:
+    text = "".join(signs for signs, _ in cells)
+    return f"\x1b[7m{text}\x1b[m" if text and is_reverse else text
+
+
+def _is_certain(line: Line) -> bool:
+    return all(is_certain(sign) for signs, _ in line.cells for sign in signs)
 
 
 def _common(one: list[Cell], other: list[Cell]) -> int:

@@ -29,6 +29,8 @@ from mgr_front.watches import Moment, Watch
 PATIENCE = 0.05
 # Seconds for which it is said what is wrong with a note that was opened, and what an exchange said.
 OPENED, SAID = 10.0, 2.0
+# Seconds for which somebody who types is held up by an exchange that goes on by itself.
+HELD_UP = 2.0
 # Seconds between two tries to end a wait for a peer, and between two looks at the status.
 KNOCK, STATUS = 0.1, 1.0
 # Seconds in which a mgr that shows nothing is expected to answer a key, and to do anything at all at
@@ -65,8 +67,9 @@ class Session:
         self.is_stale = self.rings = self.is_ending = False
         # Whether a wait for a peer is to be ended.
         self.breaks_off = False
-        # When a key was typed, the last one that was whole, and when mgr was given or showed something.
-        self.typed = self.heard = time.monotonic()
+        # When a key was typed, the last one that was whole, when mgr was given or showed something, and
+        # when an errand was begun.
+        self.typed = self.heard = self.begun = time.monotonic()
         self.key = b""
 
     def run(self) -> None:
@@ -148,6 +151,8 @@ class Session:
         sent = os.read(0, BLOCK)
         self.typed = time.monotonic()
         strokes = self.keys.take(sent)
+        if self.errand and self.typed > self.begun + HELD_UP:
+            self._leave_hub()
         if CANCEL in sent and self._leave_peer():
             strokes = without_first(CANCEL, strokes)
         self.dispatcher.take(strokes)
@@ -155,12 +160,15 @@ class Session:
 
     def _leave_peer(self) -> bool:
         """Ends a wait for a peer, where mgr takes no key before, and answers whether it does."""
-        command = self.editor.dialogue.command
-        if command == EXCHANGE and self.relay:
-            self.relay.break_off()
-            return True
-        self.breaks_off = command == SERVE and self.port is not None
-        return self.breaks_off
+        self.breaks_off = self.editor.dialogue.command == SERVE and self.port is not None
+        return self._leave_hub() or self.breaks_off
+
+    def _leave_hub(self) -> bool:
+        """Breaks off an exchange with a hub, if there is one now; nothing is lost by that."""
+        if not (self.relay and self.editor.dialogue.command == EXCHANGE):
+            return False
+        self.relay.break_off()
+        return True
 
     def _take_frames(self) -> bool:
         self.heard = time.monotonic()
@@ -196,6 +204,8 @@ class Session:
 
     def _draw(self) -> None:
         """Draws the newest frame, where it was not drawn yet."""
+        if self.is_ending:
+            return
         now = time.monotonic()
         remarks, status = self.remarks.at(now), self.status(now)
         is_drawn = not self.is_stale and (remarks, status) == self.drawn
@@ -214,7 +224,9 @@ class Session:
 
     def start(self, errand: Errand) -> None:
         """Begins an errand. Its first keys are pressed at once; all others wait for its end."""
-        self.errand = errand
+        # No frame is drawn meanwhile.
+        self._draw()
+        self.errand, self.begun = errand, time.monotonic()
         self._go_on(errand, None)
 
     def _go_on(self, errand: Errand, frame: Frame | None) -> None:

@@ -43,14 +43,14 @@ class TestLiveExchange(unittest.TestCase):
     def test_when_it_is_due(self) -> None:
         self.assertEqual(self.live.due(moment(99)), 100)
         self.exchange("Sent 1, received 1", took=0.01)
-        self.assertEqual(self.live.due(moment(99)), 101)
+        self.assertAlmostEqual(self.live.due(moment(99)) or 0, 101.01)
         self.assertEqual(self.live.due(moment(103)), 104)
 
     def test_long_ones_are_rare(self) -> None:
         self.exchange("Sent 1, received 1", took=0.1)
-        self.assertAlmostEqual(self.live.due(moment(99)) or 0, 102)
+        self.assertAlmostEqual(self.live.due(moment(99)) or 0, 100.1 + 2)
         self.exchange("Sent 1, received 1", took=2)
-        self.assertAlmostEqual(self.live.due(moment(99)) or 0, 100.1 + 5)
+        self.assertAlmostEqual(self.live.due(moment(99)) or 0, 102.1 + 5)
 
     def test_runs_of_kills_and_undos_are_left_whole(self) -> None:
         for key in (b"\x0b", b"\x154\x0b", b"\x1bd", b"\x1f", b"\x18u"):
@@ -80,7 +80,7 @@ class TestLiveExchange(unittest.TestCase):
         self.assertEqual(self.live.status(self.now + 1), "live")
 
     def test_a_conflict_ends_it(self) -> None:
-        self.assertEqual(self.exchange("line 1: Conflict"), "line 1: Conflict")
+        self.assertEqual(self.exchange("line 1: Conflict", said="Quit"), "Quit")
         self.assertIsNone(self.live.due(moment(99)))
         self.assertEqual(self.live.status(self.now), "conflict")
         self.assertEqual(self.remarks.patience(self.now), None)

@@ -108,6 +108,11 @@ class TestChanges(unittest.TestCase):
                 text = re.sub(r"\x1b\[[\d;]*[HK]", "", sent)
                 self.assertLessEqual(len(text), most)
 
+    def test_where_terminals_do_not_agree_the_whole_line_is_sent(self) -> None:
+        for old, new in [("a\u200db", "a\u200dc"), ("ab", "a❤\ufe0f"), ("🇩🇪x", "🇩🇪y")]:
+            with self.subTest(new=new):
+                self.assertEqual(change(0, Line(cells(old)), Line(cells(new))), f"\x1b[1;1H\x1b[K{new}")
+
     def test_another_kind_of_line_is_sent_as_a_whole(self) -> None:
         sent = change(0, Line(cells("abc")), Line(cells("abc"), True))
         self.assertEqual(sent, "\x1b[1;1H\x1b[7mabc\x1b[m")
