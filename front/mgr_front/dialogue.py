@@ -41,6 +41,8 @@ class Mode(Enum):
 
 def label_of(echo: str) -> str:
     """Returns the prompt that an echo line begins with, without the answer, or nothing."""
+    if not echo:
+        return ""
     for label in (*LINES, *SEARCHES, REPLACING, QUITTING):
         if echo.startswith(label):
             return label

@@ -11,7 +11,7 @@ from mgr_front.frames import Frame
 COLUMNS = 500
 
 MARKS = ("-**-Mg: ", "----Mg: ")
-SAID = re.compile(r"-(\*\*|--)-Mg: (.*) \(fundamental\) L(\d+) C(\d+) W(\d+)-*\Z", re.DOTALL)
+SAID = re.compile(r"-(\*\*|--)-Mg: (.*) \(fundamental\) L(\d+) C(\d+) W(\d+)\Z", re.DOTALL)
 
 
 @dataclass(frozen=True)
@@ -32,7 +32,9 @@ def mode_rows(rows: Sequence[str], columns: int = COLUMNS) -> set[int]:
     and takes all columns is drawn as one.
     """
     last = len(rows) - 2
-    return {i for i, row in enumerate(rows[:-1]) if i == last or _looks_like_one(row, columns)}
+    # Most rows are told by their first character.
+    alike = (i for i, row in enumerate(rows[:last]) if row[:1] == "-" and _looks_like_one(row, columns))
+    return {last, *alike}
 
 
 def _looks_like_one(row: str, columns: int) -> bool:
@@ -42,7 +44,7 @@ def _looks_like_one(row: str, columns: int) -> bool:
 
 def mode_line(row: str) -> ModeLine | None:
     """Returns what a mode line says; None where its name is too long for it to say all."""
-    said = SAID.match(row)
+    said = SAID.match(row.rstrip("-"))
     return said and ModeLine(said[1] == "**", said[2], int(said[3]), int(said[4]), int(said[5]))
 
 

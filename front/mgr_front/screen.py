@@ -86,7 +86,7 @@ def change(row: int, old: Line, new: Line) -> str:
 
     Where it is not sure which columns the characters take, the whole line is written.
     """
-    if old == new:
+    if old is new or old == new:
         return ""
     if not (_is_certain(old) and _is_certain(new)):
         return f"\x1b[{row + 1};1H\x1b[K{_text(new.cells, new.is_reverse)}"

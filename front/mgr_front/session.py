@@ -1,5 +1,6 @@
 """An edit: keys from the terminal to mgr, and frames from mgr to the terminal."""
 
+import math
 import os
 import select
 import signal
@@ -29,6 +30,8 @@ from mgr_front.watches import Moment, Watch
 PATIENCE = 0.05
 # Seconds for which it is said what is wrong with a note that was opened, and what an exchange said.
 OPENED, SAID = 10.0, 2.0
+# Seconds between two pictures while frames come one behind the other.
+PICTURE = 0.05
 # Seconds for which somebody who types is held up by an exchange that goes on by itself.
 HELD_UP = 2.0
 # Seconds between two tries to end a wait for a peer, and between two looks at the status.
@@ -64,6 +67,7 @@ class Session:
         self.frame: Frame | None = None
         self.said: str | None = None
         self.drawn: tuple[list[str], str] = [], ""
+        self.painted = -math.inf
         self.is_stale = self.rings = self.is_ending = False
         # Whether a wait for a peer is to be ended.
         self.breaks_off = False
@@ -113,7 +117,7 @@ class Session:
         moment = self._moment()
         dues = [watch.due(moment) for watch in self.watches] if moment else []
         seconds = [max(0.0, due - now) for due in dues if due is not None]
-        seconds += [PATIENCE] * self.keys.is_in_doubt + [KNOCK] * self.breaks_off
+        seconds += [PATIENCE] * self.keys.is_in_doubt + [KNOCK] * self.breaks_off + [PICTURE] * self.is_stale
         seconds += [ANSWER] * (not self.editor.dialogue.is_settled) + [STATUS] * bool(self.drawn[1])
         remarks = self.remarks.patience(now)
         return min(seconds + [remarks] * (remarks is not None), default=None)
@@ -209,13 +213,18 @@ class Session:
         now = time.monotonic()
         remarks, status = self.remarks.at(now), self.status(now)
         is_drawn = not self.is_stale and (remarks, status) == self.drawn
-        if self.frame is None or is_drawn or self.errand:
+        if self.frame is None or is_drawn or self.errand or self._draws_later(now):
             return
         columns, rows = os.get_terminal_size(1)
         echo = self._echo(self.frame, remarks)
         self.screen.draw(picture(self.frame, echo, rows, columns, status), self.rings)
         self.is_stale = self.rings = False
         self.drawn = remarks, status
+        self.painted = now
+
+    def _draws_later(self, now: float) -> bool:
+        """Whether further frames come soon, of which only some are drawn."""
+        return not self.editor.dialogue.is_settled and now < self.painted + PICTURE
 
     def _echo(self, frame: Frame, remarks: Sequence[str]) -> Echo:
         if self.question:

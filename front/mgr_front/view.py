@@ -1,5 +1,6 @@
 """What a terminal of some size shows of a frame."""
 
+import functools
 from dataclasses import dataclass
 
 from mgr_front.cells import Cell, beginning, cells, part, shift, total_width
@@ -7,6 +8,8 @@ from mgr_front.echo import Echo
 from mgr_front.frames import Frame
 from mgr_front.modelines import current_mode_row, mode_rows
 
+# So many lines are kept as they were made: most are the same in the next picture.
+MOST_LINES = 1024
 # Of a terminal that has less than this a part is drawn beyond its edges.
 LEAST_ROWS, LEAST_COLUMNS = 2, 4
 
@@ -50,6 +53,7 @@ def picture(frame: Frame, echo: Echo, rows: int, columns: int, status: str = "")
     return Picture(lines[top : top + rows - 1] + lines[-1:], row - top, column - left)
 
 
+@functools.lru_cache(maxsize=MOST_LINES)
 def _line(text: str, left: int, columns: int) -> Line:
     return Line(part(cells(text), left, columns))
 
