@@ -129,6 +129,8 @@ def completing(terminal):
     terminal.see("M-x un TAB RET", {9: "Nothing to undo"}, (0, 0))
     terminal.press("C-x", "C-f", "z", "Tab")
     terminal.see("nothing to complete", {9: "Find file: z [No match]"}, (9, 12))
+    terminal.press("C-g", "M-%", "x", "Tab", "y")
+    terminal.see("TAB where no name is asked for", {9: "Query replace: x        y"})
     terminal.press("C-g", "C-x", "C-c", "y")
     terminal.left("left", "status 0")
 

@@ -76,6 +76,11 @@ def accept(prompt: str) -> Errand:
     return None
 
 
+def asks_for_name(prompt: str) -> bool:
+    """Whether a prompt asks for a name, of a command, a file or a buffer."""
+    return label_of(prompt) in (COMMAND, FIND, SWITCH, KILL)
+
+
 def begins_at_home(prompt: str) -> bool:
     """Whether a prompt asks for a name, and its answer begins in the home folder."""
     label = label_of(prompt)

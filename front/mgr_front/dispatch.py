@@ -106,13 +106,13 @@ class Dispatcher:
         return goes_on or self.editor.dialogue.is_settled
 
     def _answer(self, stroke: Stroke, desk: Desk) -> None:
-        """Gives the front's own question a stroke. What stands behind its end is done anew."""
-        keys = plain_keys(stroke)
-        if isinstance(stroke, Typed) and len(keys) > 1:
+        """Gives the front's own question the first key of a stroke; the others wait, as it may end."""
+        keys = answer_keys(stroke) if isinstance(stroke, Pasted) else plain_keys(stroke)
+        if isinstance(stroke, Named | Meta) or not keys:
+            return
+        if keys[1:]:
             self.strokes.appendleft(Typed(keys[1:]))
-            keys = keys[:1]
-        if len(keys) == 1:
-            desk.answer(DELETE if keys[0] == self.erase else keys[0])
+        desk.answer(DELETE if keys[0] == self.erase else keys[0])
 
     def _hand_on(self, keys: bytes, desk: Desk) -> None:
         if REPAINT in keys:

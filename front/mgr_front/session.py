@@ -8,8 +8,8 @@ import time
 from collections.abc import Callable, Sequence
 
 from mgr_front.cells import row_width
-from mgr_front.completion import accept, begins_at_home, complete
-from mgr_front.dialogue import CANCEL, FAILED, RETURN, UNDEFINED, Answer
+from mgr_front.completion import accept, asks_for_name, begins_at_home, complete
+from mgr_front.dialogue import CANCEL, FAILED, RETURN, TAB, UNDEFINED, Answer
 from mgr_front.dispatch import Dispatcher
 from mgr_front.echo import Echo, echo_line
 from mgr_front.editor import BLOCK, Editor
@@ -77,9 +77,14 @@ class Session:
         self.key = b""
 
     def run(self) -> None:
-        """Goes on until mgr, the keys or the terminal end, or a signal comes."""
+        """Goes on until mgr, the keys or the terminal end, or a signal comes.
+
+        Where that is a signal, what was typed before it is still taken.
+        """
         try:
             while self.signals.first is None and self._step():
+                pass
+            while self.signals.first and select.select([0], [], [], 0)[0] and self._take_keys():
                 pass
         except BrokenPipeError:
             pass  # mgr takes no more keys: its status says why.
@@ -263,8 +268,11 @@ class Session:
         self.is_stale = True
 
     def complete(self) -> None:
-        """Completes the answer of the open prompt."""
-        self.start(complete(self.editor.dialogue.prompt, self.buffers.names()))
+        """Completes the answer of the open prompt; where it asks for no name, TAB is a part of it."""
+        if asks_for_name(self.editor.dialogue.prompt):
+            self.start(complete(self.editor.dialogue.prompt, self.buffers.names()))
+        else:
+            self.editor.hand_on(bytes([TAB]))
 
     def accept(self) -> None:
         """Accepts the answer of the open prompt."""

@@ -8,7 +8,7 @@ from unittest import mock
 
 import context
 
-from mgr_front.completion import accept, begins_at_home, candidates, complete
+from mgr_front.completion import accept, asks_for_name, begins_at_home, candidates, complete
 from mgr_front.errands import Errand
 from mgr_front.frames import Frame
 from mgr_front.names import COMMANDS
@@ -72,6 +72,11 @@ class TestCompletion(unittest.TestCase):
             home = os.getcwd().encode()
             self.assertEqual(play(complete("Find file: ~/not", [])), (b"\x7f" * 5 + home + b"/notes", None))
             self.assertEqual(play(accept("Find file: ~/notes")), (b"\x7f" * 7 + home + b"/notes\r", None))
+
+    def test_what_asks_for_a_name(self) -> None:
+        for prompt, wanted in [("Find file: a", True), ("M-x ", True), ("Query replace: ", False), ("", False)]:
+            with self.subTest(prompt=prompt):
+                self.assertEqual(asks_for_name(prompt), wanted)
 
     def test_what_begins_at_home(self) -> None:
         for prompt, wanted in [("Find file: ~/a", True), ("Find file: a~/", False), ("M-x ~/", False), ("", False)]:

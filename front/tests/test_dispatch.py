@@ -142,6 +142,11 @@ class TestDispatch(unittest.TestCase):
         self.assertIsNotNone(errand)
         self.assertEqual(self.press(b"a"), b"")
 
+    def test_a_line_that_is_pasted(self) -> None:
+        self.press(b"\x18g\x1b[200~12\r\x1b[201~\x1b[D\x1bf")
+        assert self.desk.question
+        self.assertEqual(self.desk.question.answer, "12")
+
     def test_a_line_that_is_not_asked_for_any_more(self) -> None:
         self.assertEqual(self.press(b"\x18g12\x07a"), b"a")
         self.assertEqual(self.answer("") + self.press(b"\x18g\rb"), b"b")
