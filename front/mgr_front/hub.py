@@ -14,16 +14,18 @@ from mgr_front.notes import Note, Refused, read
 from mgr_front.numbers import number_of
 from mgr_front.opening import difference
 from mgr_front.options import HubOptions, read_hub
-from mgr_front.program import find
+from mgr_front.program import explained, find
 from mgr_front.relay import HOST, SILENCE, free_port, knock, pump
 from mgr_front.saving import SAVE
-from mgr_front.saying import FAILED, REFUSED, say, stop, tell
+from mgr_front.saying import FAILED, REFUSED, stop, tell
 from mgr_front.signals import Signals
 
 PROGRAM = "mgr-hub"
 ROWS = 3
 # Seconds between two tries to reach a mgr that is about to wait, and that it has at its end.
 AGAIN, LAST_SECONDS = 0.005, 10
+# Seconds until mgr is asked once more where it did not come to wait.
+AFTER_FAULT = 1.0
 # How many connections may wait for their turn.
 BACKLOG = 64
 
@@ -56,18 +58,17 @@ class Hub:
         self.listener, self.signals = listener, signals
 
     def run(self) -> None:
-        """Serves peers until a signal comes or mgr ends."""
-        while not self.editor.has_ended:
+        """Serves peers until a signal comes, and saves; `EOFError` where mgr ends before."""
+        while self.signals.first is None:
             self.editor.hand_on(b"\x1bx" + SERVE.encode() + b"\r")
             peer = self._next_peer()
-            if peer is None:
-                break
-            with peer:
-                self._serve(peer)
+            if peer:
+                with peer:
+                    self._serve(peer)
         self._leave()
 
     def _next_peer(self) -> socket.socket | None:
-        """Waits for a peer; None where a signal comes, or mgr does not wait with it."""
+        """Waits for a peer; None where a signal comes, or mgr does not wait, as where it cannot save."""
         while self.signals.first is None:
             writing = [self.editor.keys] * bool(self.editor.waiting)
             reading = [self.listener, self.signals.woken, self.editor.written]
@@ -75,7 +76,9 @@ class Hub:
             if free:
                 self.editor.write()
             if self.editor.written in ready and (said := self._read()) is not None:
-                stop(f"{self.note.name}: {said}", FAILED, PROGRAM)
+                log(said)
+                time.sleep(AFTER_FAULT)
+                return None
             if self.listener in ready:
                 return self.listener.accept()[0]
         return None
@@ -90,7 +93,7 @@ class Hub:
         except OSError:
             pass  # mgr says what came of it.
         said = self._outcome()
-        print(time.strftime("%Y-%m-%d %H:%M:%S"), said[:1].lower() + said[1:], flush=True)
+        log(said)
         if CONFLICT.match(said):
             number = int(said.split()[1].rstrip(":"))
             _tell_peer(peer, conflicting(read(self.note.log), b"".join(heard), number))
@@ -117,10 +120,10 @@ class Hub:
                 knock(self.inner)
 
     def _read(self) -> str | None:
-        """Returns what the end of an exchange says, if it is there; ends the program where mgr ended."""
+        """Returns what the end of an exchange says, if it is there."""
         frames = self.editor.read()
         if frames is None:
-            stop(f"mgr ended with status {self.editor.process.wait()}", FAILED, PROGRAM)
+            raise EOFError
         said = [frame.echo for frame in frames if self.editor.dialogue.answer(frame.echo).command == SERVE]
         return said[-1] if said else None
 
@@ -131,6 +134,11 @@ class Hub:
             if select.select([self.editor.written], [], [], AGAIN * 10)[0]:
                 self._read()
         self.editor.hand_on(SAVE)
+
+
+def log(said: str) -> None:
+    """Prints what came of an exchange, and when."""
+    print(time.strftime("%Y-%m-%d %H:%M:%S"), said[:1].lower() + said[1:], flush=True)
 
 
 def _tell_peer(peer: socket.socket, line: bytes) -> None:
@@ -147,19 +155,24 @@ def serve(mgr: str, note: Note, number: int, options: HubOptions) -> int:
     try:
         listener = socket.create_server((HOST, options.port), backlog=BACKLOG)
     except OSError as error:
-        stop(f"port {options.port}: {error.strerror}", FAILED, PROGRAM)
+        stop(f"port {options.port}: {os.strerror(error.errno or 0)}", FAILED, PROGRAM)
     signals = Signals()
     inner = free_port()
     words = ["--replica", str(number), "--port", str(inner), "--", note.name]
     with listener, tempfile.TemporaryFile() as said:
         editor = Editor(mgr, words, ROWS, said)
+        hub = Hub(editor, note, listener, inner, signals)
         try:
-            Hub(editor, note, listener, inner, signals).run()
+            hub.run()
+        except EOFError:
+            pass  # Its status says why.
         finally:
             editor.end(LAST_SECONDS)
+        status = editor.process.returncode
+        if status:
             said.seek(0)
-            say(said.read())
-    return editor.process.returncode
+            tell(explained(status, said.read().decode(), note, editor.dialogue.has_begun), PROGRAM)
+    return status if status >= 0 else 128 - status
 
 
 def main(words: Sequence[str], folder: str) -> int:

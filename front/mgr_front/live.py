@@ -13,7 +13,7 @@ from mgr_front.notes import Note, Refused, read
 from mgr_front.numbers import number_of
 from mgr_front.opening import Difference, difference
 from mgr_front.options import Options, read as read_options
-from mgr_front.program import find
+from mgr_front.program import explained, find
 from mgr_front.relay import Relay
 from mgr_front.saving import Autosave, current
 from mgr_front.saying import FAILED, REFUSED, stop, tell
@@ -21,9 +21,6 @@ from mgr_front.screen import Screen
 from mgr_front.session import Session
 from mgr_front.signals import Signals
 from mgr_front.tunnel import Tunnel
-
-# What mgr says where it opens nothing since a file is locked or cannot be read.
-DEVICE = "device fault"
 
 LEAST_ROWS, LEAST_COLUMNS = 3, 20
 MOST_ROWS = 200
@@ -94,25 +91,10 @@ def missing(note: Note, kept: str | None, frame: Frame) -> str:
     return f"A part of {note.log} is missing" + (f"; see {kept}" if kept else "")
 
 
-def explained(said: str, session: Session, note: Note) -> str:
-    """Returns what mgr said at its end, with the file that it said it of where it opened nothing."""
-    said = said.strip()
-    if session.frame is not None or not said:
-        return said
-    if said == DEVICE:
-        return f"{note.name}: another mgr has it open, or a file of it cannot be read"
-    return f"{note.log if note.has_log else note.name}: {said}"
-
-
-def status_of(editor: Editor, signals: Signals, said: str) -> int:
-    """Tells of an end that is none of mgr's own, and returns the status for the shell."""
-    status = editor.process.returncode
-    if status < 0:
-        tell(f"signal {-status} ended mgr")
-        return 128 - status
-    if status > 0:
-        tell(said or f"mgr ended with status {status}")
-        return status
+def status_of(status: int, signals: Signals) -> int:
+    """Returns the status for the shell, where mgr ended with this one."""
+    if status:
+        return status if status > 0 else 128 - status
     return 128 + signals.first if signals.first else 0
 
 
@@ -158,8 +140,11 @@ def edit(mgr: str, note: Note, number: int, options: Options, kept: str | None, 
                 session.run()
         finally:
             finish(session, note)
-        said.seek(0)
-        return status_of(editor, signals, explained(said.read().decode(), session, note))
+        status = editor.process.returncode
+        if status:
+            said.seek(0)
+            tell(explained(status, said.read().decode(), note, editor.dialogue.has_begun))
+    return status_of(status, signals)
 
 
 def main(words: Sequence[str], folder: str) -> int:

@@ -7,8 +7,11 @@ from dataclasses import dataclass
 
 from mgr_front.frames import Frame
 from mgr_front.modelines import COLUMNS, ModeLine, mode_line
+from mgr_front.notes import Note
 
 ROWS = 3
+# What mgr says where it opens nothing since a file is locked or cannot be read.
+DEVICE = "device fault"
 
 
 def find(folder: str) -> str | None:
@@ -51,3 +54,15 @@ def edit(mgr: str, name: str, replica: int, keys: bytes = b"") -> Edited:
     rows = done.stdout.decode("utf-8", "replace").split("\n")[:ROWS]
     frame = Frame(tuple(rows), 0, 0) if len(rows) == ROWS else None
     return Edited(done.returncode, done.stderr.decode("utf-8", "replace").strip(), frame)
+
+
+def explained(status: int, said: str, note: Note, was_open: bool) -> str:
+    """Returns why mgr ended: what it said, with the file that it said it of where it opened nothing."""
+    said = said.strip()
+    if status < 0:
+        return f"signal {-status} ended mgr"
+    if was_open or not said:
+        return said or f"mgr ended with status {status}"
+    if said == DEVICE:
+        return f"{note.name}: another mgr has it open, or a file of it cannot be read"
+    return f"{note.log if note.has_log else note.name}: {said}"
