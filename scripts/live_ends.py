@@ -7,8 +7,14 @@ import socket
 import subprocess
 import time
 
-from session import await_listener, free_port
-from terminal import is_gone, mode_line, text_of
+from session import EXCHANGE, await_listener, free_port
+from terminal import BEHIND, is_gone, mode_line, text_of
+
+
+def edit(terminal, words, keys):
+    """Presses keys in a note of the terminal's folder, without a terminal."""
+    command = [terminal.mgr, "edit", *words]
+    subprocess.run(command, input=keys, cwd=terminal.folder, check=True, capture_output=True)
 
 
 def ended_by_a_signal(terminal):
@@ -63,7 +69,7 @@ def a_fault_of_the_front(terminal):
         "session.Session.repaint = fail\n"
         f"sys.exit(live.main(sys.argv[1:], {str(terminal.live.parent)!r}))\n"
     )
-    terminal.shell(f"python3 {broken} notes --replica 1 2>said; echo \"status $?\"; stty -g | cmp - terminal && echo same terminal")
+    terminal.shell(f"python3 {broken} notes --replica 1 2>said; {BEHIND}")
     terminal.see("start", {8: mode_line("--", "L1 C0")}, (0, 0))
     terminal.write("not lost")
     terminal.press("C-l")
@@ -165,12 +171,11 @@ def seeded_keys(terminal):
         time.sleep(0.3)
         os.kill(terminal.programs()[0], signal.SIGTERM)
         terminal.expect("TERM", lambda: "same terminal" in terminal.shown(), True)
-        command = [terminal.mgr, "edit", "edit/n", "--replica", "1"]
-        subprocess.run(command, input=keys + LEAVE + SAVE_AND_NEXT * 8, cwd=terminal.folder, check=True, capture_output=True)
+        edit(terminal, ["edit/n", "--replica", "1"], keys + LEAVE + SAVE_AND_NEXT * 8)
         paths = [terminal.folder / name / "n" for name in ("live", "edit")]
-        live, edit = (path.read_text() if path.exists() else "" for path in paths)
-        terminal.expect(f"seed {seed}: {keys!r}", lambda: live, edit)
-        print(f"    {len(keys)} keys: {len(live)} characters")
+        texts = [path.read_text() if path.exists() else "" for path in paths]
+        terminal.expect(f"seed {seed}: {keys!r}", lambda: texts[0], texts[1])
+        print(f"    {len(keys)} bytes of keys: {len(texts[0])} characters")
 
 
 def exchanging(terminal):
@@ -184,8 +189,7 @@ def exchanging(terminal):
     terminal.press("Enter")
     await_listener(port)
     terminal.write("!")
-    peer = ["edit", "peer", "--replica", "2", "--port", str(port)]
-    subprocess.run([terminal.mgr, *peer], input=b"\x1bxreplica-exchange\r", cwd=terminal.folder, check=True, capture_output=True)
+    edit(terminal, ["peer", "--replica", "2", "--port", str(port)], EXCHANGE)
     begun = time.monotonic()
     terminal.see("a key was typed ahead", {0: "ours!", 9: "Sent 4, received 0"}, (0, 5))
     terminal.press("C-x", "C-f")

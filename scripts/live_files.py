@@ -2,7 +2,7 @@
 
 import re
 
-from terminal import mode_line, text_of
+from terminal import BEHIND, mode_line, text_of
 
 
 def made(terminal, text, then=None, name="notes"):
@@ -28,6 +28,7 @@ def taking_the_file(terminal):
     terminal.picture()
     terminal.write("x")
     terminal.press("Enter")
+    terminal.expect("once more", lambda: terminal.shown().count("f or l?"), 1)
     terminal.write("f")
     terminal.press("Enter")
     terminal.see("f", {0: "one", 1: "2", 4: "five", 8: mode_line("--", "L1 C0")}, (0, 0))
@@ -36,7 +37,7 @@ def taking_the_file(terminal):
     print(f"    the log has {put} insertions and {deleted} deletions more")
     terminal.expect("as few as that", lambda: (put, deleted), (1 + len(" and a half\nfive"), 3))
     terminal.press("C-x", "C-c")
-    terminal.expect("left", lambda: "status 0" in terminal.shown(), True)
+    terminal.expect("left", lambda: any(row.endswith("status 0") for row in terminal.shown()), True)
     terminal.expect_file("notes", NEW)
     terminal.expect("the log", lambda: text_of(terminal.mgr, terminal.folder / "notes.ops"), NEW)
     terminal.expect("nothing is kept", lambda: sorted(path.name for path in terminal.folder.glob("notes*~")), [])
@@ -54,7 +55,7 @@ def keeping_the_file(terminal):
     terminal.expect_file("notes", OLD)
     terminal.write("!")
     terminal.press("C-x", "C-s", "C-x", "C-c")
-    terminal.expect("left", lambda: "status 0" in terminal.shown(), True)
+    terminal.expect("left", lambda: any(row.endswith("status 0") for row in terminal.shown()), True)
     terminal.expect_file("notes", "!" + OLD)
     terminal.expect("nothing else is kept", lambda: [path.name for path in terminal.folder.glob("notes*~")], ["notes~"])
 
@@ -110,7 +111,8 @@ def numbers(terminal):
     kept = (terminal.folder / "state" / "mgr" / "replicas").read_text()
     print(f"    {kept.strip()}")
     terminal.expect("one number", lambda: [len(drawn), all(f", {number}]" in kept for number in drawn)], [1, True])
-    terminal.expect("beside the note", lambda: sorted(path.name for path in terminal.folder.glob("notes*")), ["notes", "notes.ops"])
+    beside = sorted(path.name for path in terminal.folder.glob("notes*"))
+    terminal.expect("beside the note", lambda: beside, ["notes", "notes.ops"])
 
 
 def refusals(terminal):
@@ -128,16 +130,15 @@ def refusals(terminal):
     ]:
         said = said if status == 0 else f"mgr-live: {said}"
         terminal.begin(words)
-        rows = [said[i : i + terminal.columns].rstrip() for i in range(0, len(said), terminal.columns)]
-        terminal.left(f"mgr-live {words}", *rows, f"status {status}")
+        terminal.left(f"mgr-live {words}", *terminal.wrapped(said), f"status {status}")
     terminal.begin("")
     terminal.expect("mgr-live alone", lambda: "status 2" in terminal.shown(), True)
     terminal.expect("its usage", lambda: any(row.startswith("usage: mgr-live ") for row in terminal.shown()), True)
     terminal.begin("notes --replica 1", before="MGR=./nowhere")
     terminal.left("no mgr", "mgr-live: the program ./nowhere is not there", "status 3")
-    terminal.shell(f"stty columns 19; {terminal.live} notes --replica 1; stty columns {terminal.columns}; stty -g | cmp - terminal && echo same terminal")
-    small = f"mgr-live: the terminal is too small: it has {terminal.rows} rows and 19 columns, and 3 rows and 20 columns are needed"
-    terminal.left("19 columns", *[small[i : i + terminal.columns].rstrip() for i in range(0, len(small), terminal.columns)])
+    terminal.shell(f"stty columns 19; {terminal.live} notes; stty columns {terminal.columns}; {BEHIND}")
+    small = f"mgr-live: the terminal is too small: it has {terminal.rows} rows and 19 columns, and "
+    terminal.left("19 columns", *terminal.wrapped(small + "3 rows and 20 columns are needed"), "status 0")
 
 
 def open_twice(terminal):
@@ -147,7 +148,8 @@ def open_twice(terminal):
     other.begin("notes --replica 2")
     other.see("open elsewhere", {0: "one"}, (0, 0))
     terminal.begin("notes --replica 1")
-    terminal.left("open once more", "mgr-live: notes: another mgr has it open, or a file of it ca", "nnot be read", "status 3")
+    said = "mgr-live: notes: another mgr has it open, or a file of it cannot be read"
+    terminal.left("open once more", *terminal.wrapped(said), "status 3")
     other.press("C-x", "C-c")
     other.left("left", "status 0")
 

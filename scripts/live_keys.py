@@ -54,13 +54,13 @@ def lines(terminal):
     (terminal.folder / "notes").write_text("".join(f"line {i}\n" for i in range(1, 20001)))
     terminal.begin("notes --replica 1")
     terminal.see("start", {0: "line 1"}, (0, 0))
-    for number, name, place in [("12", "line 12", "L12 C0"), ("1", "line 1", "L1 C0"), ("19876", "line 19876", "L19876 C0")]:
+    for number in ("12", "1", "19876"):
         terminal.press("C-x", "g")
         terminal.write(number)
         terminal.see("C-x g", {9: f"Goto line: {number}"}, (9, 11 + len(number)))
         terminal.press("Enter")
-        terminal.see(f"line {number}", {8: mode_line("**", place)})
-        terminal.expect("the line", lambda: terminal.shown()[terminal.cursor()[0]], name)
+        terminal.see(f"line {number}", {8: mode_line("**", f"L{number} C0")})
+        terminal.expect("the line", lambda: terminal.shown()[terminal.cursor()[0]], f"line {number}")
     terminal.press("C-x", "g")
     terminal.write("99999")
     terminal.press("Enter")
@@ -90,7 +90,8 @@ def pasting(terminal):
     terminal.paste(long.encode())
     terminal.see("57,000 characters, in many reads", {8: mode_line("**", "L1001 C0")}, seconds=60)
     terminal.press("C-x", "C-s")
-    terminal.expect("the file", lambda: (terminal.folder / "notes").exists() and (terminal.folder / "notes").read_text(), long)
+    note = terminal.folder / "notes"
+    terminal.expect("the file", lambda: note.exists() and note.read_text(), long)
     terminal.press("C-x", "C-c")
     terminal.left("saved", "status 0")
 

@@ -6,6 +6,9 @@ import time
 
 from terminal import COLUMNS, mode_line, sent_to
 
+# For a key: a line of 9600 baud bears 24 times that in a second.
+MOST_BYTES = 40
+
 
 def typing(terminal):
     """text and the keys that move in it"""
@@ -171,11 +174,11 @@ def little_is_sent(terminal):
     terminal.write("The quick brown fox jumps over the lazy dog.")
     terminal.see("typed", {8: mode_line("**", "L1 C44")})
     time.sleep(0.2)
-    for what, keys, most in [("a letter at the end", "x", 40), ("a motion", "C-b", 40), ("a letter before it", "y", 40)]:
-        sent = sent_to(terminal, [keys])
+    for what, key in [("a letter at the end", "x"), ("a motion", "C-b"), ("a letter before it", "y")]:
+        sent = sent_to(terminal, [key])
         print(f"{what}: {len(sent)} bytes")
-        if not 0 < len(sent) <= most:
-            terminal.fail(what, f"at most {most} bytes", sent)
+        if not 0 < len(sent) <= MOST_BYTES:
+            terminal.fail(what, f"at most {MOST_BYTES} bytes", sent)
     terminal.quit("saved")
 
 

@@ -13,6 +13,7 @@ import time
 
 ROOT = pathlib.Path(__file__).resolve().parent.parent
 LIVE = ROOT / "front" / "mgr-live"
+BEHIND = 'echo "status $?"; stty -g | cmp - terminal && echo same terminal'
 ROWS, COLUMNS = 10, 60
 SECONDS = 10
 
@@ -103,8 +104,7 @@ class Terminal:
 
     def begin(self, words, before=""):
         """Starts mgr-live; behind it the shell tells its status and whether the terminal is as before."""
-        behind = 'echo "status $?"; stty -g | cmp - terminal && echo same terminal'
-        self.shell(f"{before} {LIVE} {words}; {behind}")
+        self.shell(f"{before} {LIVE} {words}; {BEHIND}")
 
     def programs(self):
         """Returns the process numbers of mgr-live and of its mgr."""
@@ -143,6 +143,10 @@ class Terminal:
         self.expect(what, lambda: [row for row in self.shown() if row and not row.startswith("$")], wanted)
         self.expect(what + ", the shell's screen", lambda: self.ask("#{alternate_on}"), "0")
         print(f"{what}: {'; '.join(wanted)}")
+
+    def wrapped(self, line):
+        """Returns the rows that a line takes on the shell's screen."""
+        return [line[i : i + self.columns].rstrip() for i in range(0, len(line), self.columns)]
 
     def quit(self, what):
         """Saves and leaves, which has to be well."""

@@ -165,7 +165,8 @@ def together(server, mgr, part):
     typed, seen = write(terminals)
     missing = sorted(typed.keys() - seen.keys())
     took = sorted(seen[word] - typed[word] for word in seen)
-    print(f"{len(typed)} words; all saw each within {took[-1]:.1f} seconds, half of them within {statistics.median(took):.1f}")
+    half = statistics.median(took)
+    print(f"{len(typed)} words; all saw each within {took[-1]:.1f} seconds, half of them within {half:.1f}")
     for terminal in terminals.values():
         print("\n".join("    | " + row[:100] for row in terminal.shown()[:3]))
         terminal.expect("its mode line", lambda: terminal.shown()[-2].rstrip().endswith(" live"), True)
@@ -247,7 +248,8 @@ def conflict(server, mgr):
     terminal.expect("the mode line", lambda: terminal.shown()[-2].rstrip().endswith("conflict"), True)
     print(f"a conflict: {terminal.shown()[-1]}")
     terminal.write(" and typed on")
-    terminal.expect("typed on", lambda: "Conflict with the hub" in terminal.shown()[-1] and "typed on" in terminal.shown()[0], True)
+    terminal.expect("typed on", lambda: "typed on" in terminal.shown()[0], True)
+    terminal.expect("it still says so", lambda: "Conflict with the hub" in terminal.shown()[-1], True)
     terminal.press("C-g")
     terminal.expect("C-g", lambda: terminal.shown()[-1], "Quit")
     terminal.press("C-x", "C-s")
@@ -259,7 +261,7 @@ def conflict(server, mgr):
     hub.end()
 
 
-PARTS = {"small": small, "large": large, "without_a_hub": without_a_hub, "a_silent_hub": a_silent_hub, "conflict": conflict}
+PARTS = {part.__name__: part for part in (small, large, without_a_hub, a_silent_hub, conflict)}
 
 
 def main():

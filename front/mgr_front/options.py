@@ -115,7 +115,10 @@ def hub_parser() -> argparse.ArgumentParser:
         help="the port of this machine at which peers are met",
     )
     made.add_argument(
-        "--replica", metavar="N", type=whole_number(1, 65535), help="the number of this copy; else it is drawn, and kept"
+        "--replica",
+        metavar="N",
+        type=whole_number(1, 65535),
+        help="the number of this copy; else it is drawn once, and kept",
     )
     made.add_argument("--version", action="version", version=f"%(prog)s {VERSION}")
     return made

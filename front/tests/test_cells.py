@@ -7,6 +7,7 @@ import context  # noqa: F401
 from mgr_front.cells import beginning, cells, part, row_width, shift, total_width, width
 
 
+SIGNS = [("a", 1), ("é", 1), ("漢", 2), ("ｱ", 1), ("Ａ", 2), ("\u0301", 0), ("\u200b", 0), ("😀", 2)]
 # Characters that some tables lack.
 NEWER = [("\u0378", 1), ("\U0001fae9", 2), ("\ud7c0", 0), ("\u00ad", 1)]
 
@@ -17,7 +18,7 @@ def text(row: list[tuple[str, int]]) -> str:
 
 class TestWidths(unittest.TestCase):
     def test_characters(self) -> None:
-        for sign, wanted in [("a", 1), ("é", 1), ("漢", 2), ("ｱ", 1), ("Ａ", 2), ("\u0301", 0), ("\u200b", 0), ("😀", 2), *NEWER]:
+        for sign, wanted in SIGNS + NEWER:
             with self.subTest(sign=sign):
                 self.assertEqual(width(sign), wanted)
 

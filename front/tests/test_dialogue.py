@@ -86,7 +86,8 @@ class TestDialogue(unittest.TestCase):
     def test_keys_ahead_of_a_prompt_are_read_as_it_wants_it(self) -> None:
         self.dialogue.answer("")
         self.dialogue.hand_on(b"\x18\x06\x18a\r")
-        for echo, key in [("Find file: ", b"\x18\x06"), ("Undefined key", b"\x18"), ("Find file: a", b"a"), ("", b"\r")]:
+        answers = [("Find file: ", b"\x18\x06"), ("Undefined key", b"\x18"), ("Find file: a", b"a"), ("", b"\r")]
+        for echo, key in answers:
             self.assertFalse(self.dialogue.is_settled)
             self.assertEqual(self.dialogue.answer(echo).key, key)
         self.assertTrue(self.dialogue.is_at_rest)

@@ -64,7 +64,8 @@ class TestDifferences(unittest.TestCase):
                 self.assertEqual(changes(old, new), wanted)
 
     def test_what_is_common(self) -> None:
-        for one, other, begin, end in [("", "", 0, 0), ("abc", "abd", 2, 0), ("abc", "xbc", 0, 2), ("abc", "abc", 3, 3)]:
+        rows = [("", "", 0, 0), ("abc", "abd", 2, 0), ("abc", "xbc", 0, 2), ("abc", "abc", 3, 3)]
+        for one, other, begin, end in rows:
             with self.subTest(one=one, other=other):
                 self.assertEqual(common_beginning(one, other), begin)
                 self.assertEqual(common_end(one, other, min(len(one), len(other))), end)

@@ -59,7 +59,7 @@ class TestEchoLines(unittest.TestCase):
         for what, echo, prompt, remarks, wanted in [
             ("nothing", "", "", [], Echo("")),
             ("a message", "Quit", "", [], Echo("Quit")),
-            ("a prompt behind a message", "Undefined key", "Find file: a", [], Echo("Find file: a [Undefined key]", 12)),
+            ("a prompt behind one", "Undefined key", "Find file: a", [], Echo("Find file: a [Undefined key]", 12)),
             ("a search behind one", "Search failed", "I-search: a", [], Echo("I-search: a [Search failed]")),
             ("a remark alone", "", "", ["Sent 1, received 2"], Echo("Sent 1, received 2")),
             ("a remark behind a message", "Quit", "", ["no hub"], Echo("Quit [no hub]")),
