@@ -115,9 +115,9 @@ class Dispatcher:
         desk.answer(DELETE if keys[0] == self.erase else keys[0])
 
     def _hand_on(self, keys: bytes, desk: Desk) -> None:
+        self.editor.hand_on(keys)
         if REPAINT in keys:
             desk.repaint()
-        self.editor.hand_on(keys)
 
     def _type(self, data: bytes, desk: Desk) -> None:
         if self.prefix:

@@ -128,11 +128,12 @@ def edit(mgr: str, note: Note, number: int, options: Options, kept: str | None, 
     with tempfile.TemporaryFile() as said:
         editor = Editor(mgr, words_for_mgr(options, number, port), rows, said)
         session = Session(editor, screen, signals, relay or port)
-        session.opened = lambda frame: missing(note, kept, frame)
+        session.opened.append(lambda frame: session.remark(missing(note, kept, frame)))
         if options.saves:
             session.watches.append(Autosave(session.buffers, lambda name: Note(name).has_log))
         if relay:
             live = LiveExchange(session.remarks, tunnel.mend if tunnel else lambda: None)
+            session.opened.append(live.open)
             session.watches.append(live)
             session.status = live.status
         try:

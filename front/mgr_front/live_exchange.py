@@ -6,6 +6,7 @@ import time
 from collections.abc import Callable
 
 from mgr_front.errands import Errand
+from mgr_front.frames import Frame
 from mgr_front.remarks import Remarks
 from mgr_front.saving import current
 from mgr_front.watches import Moment
@@ -36,6 +37,7 @@ class LiveExchange:
     def __init__(self, remarks: Remarks, lost: Callable[[], None]) -> None:
         """`lost` is called where the hub is not there."""
         self.remarks, self.lost = remarks, lost
+        # The buffer, as its mode line says it.
         self.name: str | None = None
         # When the last try began, how long it took and when it ended, when the last one was done, and
         # since when none is.
@@ -43,12 +45,14 @@ class LiveExchange:
         self.done, self.failing = -math.inf, math.inf
         self.is_stopped = False
 
+    def open(self, first: Frame) -> None:
+        """Takes note of the buffer, which the first frame shows. No other is ever exchanged."""
+        said = current(first)
+        self.name = said.name if said else None
+
     def due(self, moment: Moment) -> float | None:
         """Returns when the next exchange is due; none is in another buffer."""
         said = current(moment.frame)
-        if self.name is None and said:
-            # The first frame shows the note.
-            self.name = said.name
         if self.is_stopped or said is None or said.name != self.name:
             return None
         after = self.ended + self._pause(moment.typed > self.tried)

@@ -15,7 +15,7 @@ from mgr_front.echo import Echo, echo_line
 from mgr_front.editor import BLOCK, Editor
 from mgr_front.errands import Errand
 from mgr_front.frames import Frame
-from mgr_front.keys import Keys, without_first
+from mgr_front.keys import Keys, Typed, without_first
 from mgr_front.live_exchange import COMMANDS, EXCHANGE, SERVE
 from mgr_front.minibuffer import Question
 from mgr_front.relay import Relay, knock
@@ -59,8 +59,8 @@ class Session:
         self.watches: list[Watch] = []
         # What the mode line says of the front.
         self.status: Callable[[float], str] = lambda now: ""
-        # What is to be said of the first frame.
-        self.opened: Callable[[Frame], str] = lambda frame: ""
+        # What takes note of the first frame.
+        self.opened: list[Callable[[Frame], None]] = []
         self.errand: Errand | None = None
         self.question: Question | None = None
         # The newest frame, what the front says in place of its echo line, and whether both are drawn.
@@ -159,11 +159,16 @@ class Session:
     def _take_keys(self) -> bool:
         sent = os.read(0, BLOCK)
         self.typed = time.monotonic()
-        strokes = self.keys.take(sent)
-        if self.errand and self.typed > self.begun + HELD_UP:
-            self._leave_hub()
-        if CANCEL in sent and self._leave_peer():
-            strokes = without_first(CANCEL, strokes)
+        try:
+            strokes = self.keys.take(sent)
+            if self.errand and self.typed > self.begun + HELD_UP:
+                self._leave_hub()
+            if CANCEL in sent and self._leave_peer():
+                strokes = without_first(CANCEL, strokes)
+        except BaseException:
+            # Whatever it was, these are keys.
+            self.dispatcher.take([Typed(sent)])
+            raise
         self.dispatcher.take(strokes)
         return bool(sent)
 
@@ -187,8 +192,8 @@ class Session:
         return frames is not None
 
     def _take_frame(self, answer: Answer, frame: Frame) -> None:
-        if self.frame is None and (said := self.opened(frame)):
-            self.remarks.hold(said, time.monotonic() + OPENED)
+        for opened in self.opened if self.frame is None else ():
+            opened(frame)
         self.frame, self.said = frame, None
         self.buffers.note(frame)
         if self.errand:
@@ -235,6 +240,11 @@ class Session:
         if self.question:
             return Echo(self.question.text, row_width(self.question.text))
         return echo_line(frame, self.editor.dialogue.prompt, self.said, remarks)
+
+    def remark(self, said: str) -> None:
+        """Says something of a note that was opened, for a while."""
+        if said:
+            self.remarks.hold(said, time.monotonic() + OPENED)
 
     def start(self, errand: Errand) -> None:
         """Begins an errand. Its first keys are pressed at once; all others wait for its end."""

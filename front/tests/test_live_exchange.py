@@ -29,6 +29,7 @@ class TestLiveExchange(unittest.TestCase):
         self.addCleanup(clock.stop)
         self.remarks, self.lost = Remarks(), mock.Mock()
         self.live = LiveExchange(self.remarks, self.lost)
+        self.live.open(frame())
 
     def exchange(self, echo: str, took: float = 0.0, said: str = "") -> str | None:
         """Returns what the person is told behind an exchange that says this."""
@@ -58,8 +59,8 @@ class TestLiveExchange(unittest.TestCase):
                 self.assertEqual(self.live.due(moment(99, key)), 109)
 
     def test_only_the_note_is_exchanged(self) -> None:
-        self.live.due(moment(99))
         self.assertIsNone(self.live.due(moment(99, name="another")))
+        self.assertIsNotNone(self.live.due(moment(99)))
 
     def test_what_is_said(self) -> None:
         self.assertEqual(self.live.status(self.now), "no hub")
