@@ -5,6 +5,8 @@ save, unless it comes into the log first.
 """
 
 import os
+import shutil
+import tempfile
 import time
 
 from mgr_front.difference import changes, keys_of
@@ -32,13 +34,19 @@ class Difference:
         )
 
     def take_file(self, mgr: str, replica: int) -> None:
-        """Brings the changes of the file into the log, as edits of this replica."""
+        """Brings the changes of the file into the log, as edits of this replica.
+
+        They are tried on a copy first: where the log has no room for all, it has to stay as it is.
+        """
         new = read_text(self.note.name)
         keys = keys_of(changes(self.text, new)) + SAVE
-        done = edit(mgr, self.note.name, replica, keys)
-        if done.status or text_of_log(mgr, read(self.note.log)) != new:
-            said = done.said or (done.frame.echo if done.frame else "")
-            raise Refused(f"{self.note.log}: the changes of {self.note.name} did not come into it: {said}")
+        with tempfile.TemporaryDirectory() as folder:
+            copy = Note(os.path.join(folder, "copy"))
+            shutil.copyfile(self.note.log, copy.log)
+            if not _becomes(mgr, copy, replica, keys, new):
+                raise Refused(f"{self.note.log}: has no room for the changes of {self.note.name}: see --keep-file")
+        if not _becomes(mgr, self.note, replica, keys, new):
+            raise Refused(f"{self.note.log}: did not take the changes of {self.note.name}")
 
     def keep_file(self) -> str:
         """Keeps the file beside itself, and makes the log's text the note's; returns what is kept."""
@@ -59,6 +67,11 @@ def difference(mgr: str, note: Note, replica: int) -> Difference | None:
     if opened.status:
         return None
     return Difference(note, text, opened.mode_line.waiting if opened.mode_line else 0)
+
+
+def _becomes(mgr: str, note: Note, replica: int, keys: bytes, text: str) -> bool:
+    """Presses keys in a note, and answers whether its log makes this text then."""
+    return edit(mgr, note.name, replica, keys).status == 0 and text_of_log(mgr, read(note.log)) == text
 
 
 def _date(path: str) -> str:
