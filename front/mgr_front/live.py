@@ -4,6 +4,7 @@ import os
 import signal
 import tempfile
 from collections.abc import Sequence
+from dataclasses import dataclass
 
 from mgr_front.editor import Editor
 from mgr_front.ending import finish
@@ -98,12 +99,12 @@ def status_of(status: int, signals: Signals) -> int:
     return 128 + signals.first if signals.first else 0
 
 
-def tunnel_to(options: Options) -> Tunnel | None:
-    """Returns a way to the hub, once it is ready, where that is on another machine."""
+def tunnel_to(options: Options, signals: Signals) -> Tunnel | None:
+    """Returns a way to the hub, once it is ready or a signal comes, where that is on another machine."""
     if not (options.hub and options.hub[0]):
         return None
     tunnel = Tunnel(*options.hub)
-    said = tunnel.wait()
+    said = tunnel.wait(lambda: signals.first is not None)
     if said is not None:
         stop(f"ssh {options.hub[0]}: {said}")
     return tunnel
@@ -118,21 +119,29 @@ def relay_to(options: Options, tunnel: Tunnel | None) -> Relay | None:
     return relay
 
 
-def edit(mgr: str, note: Note, number: int, options: Options, kept: str | None, tunnel: Tunnel | None) -> int:
+@dataclass(frozen=True)
+class Opening:
+    """What was settled before an edit: the number, where the file is kept, and the way to the hub."""
+
+    number: int
+    kept: str | None
+    tunnel: Tunnel | None
+
+
+def edit(mgr: str, note: Note, options: Options, opening: Opening, signals: Signals) -> int:
     """Edits a note until the person leaves, or something ends it, and returns the status."""
     rows = terminal_rows()
-    signals = Signals(signal.SIGTSTP, signal.SIGCONT, signal.SIGWINCH)
     screen = Screen()
-    relay = relay_to(options, tunnel)
+    relay = relay_to(options, opening.tunnel)
     port = relay.port if relay else options.port
     with tempfile.TemporaryFile() as said:
-        editor = Editor(mgr, words_for_mgr(options, number, port), rows, said)
+        editor = Editor(mgr, words_for_mgr(options, opening.number, port), rows, said)
         session = Session(editor, screen, signals, relay or port)
-        session.opened.append(lambda frame: session.remark(missing(note, kept, frame)))
+        session.opened.append(lambda frame: session.remark(missing(note, opening.kept, frame)))
         if options.saves:
             session.watches.append(Autosave(session.buffers, lambda name: Note(name).has_log))
         if relay:
-            live = LiveExchange(session.remarks, tunnel.mend if tunnel else lambda: None)
+            live = LiveExchange(session.remarks, opening.tunnel.mend if opening.tunnel else lambda: None)
             session.opened.append(live.open)
             session.watches.append(live)
             session.status = live.status
@@ -162,9 +171,10 @@ def main(words: Sequence[str], folder: str) -> int:
         kept = settle(mgr, note, number, options)
     except Refused as refused:
         stop(str(refused), REFUSED)
-    tunnel = tunnel_to(options)
+    signals = Signals(signal.SIGTSTP, signal.SIGCONT, signal.SIGWINCH)
+    tunnel = tunnel_to(options, signals)
     try:
-        return edit(mgr, note, number, options, kept, tunnel)
+        return edit(mgr, note, options, Opening(number, kept, tunnel), signals)
     finally:
         if tunnel:
             tunnel.end()

@@ -4,6 +4,7 @@ import socket
 import subprocess
 import tempfile
 import time
+from collections.abc import Callable
 
 from mgr_front.relay import HOST, free_port
 
@@ -31,10 +32,10 @@ class Tunnel:
         command = ["ssh", "-N", *words, "-L", ports, "--", self.host]
         return subprocess.Popen(command, stdin=subprocess.DEVNULL, stdout=subprocess.DEVNULL, stderr=self.said)
 
-    def wait(self) -> str | None:
-        """Waits until it is ready, and returns None; or, where it ended before, what it said."""
+    def wait(self, is_over: Callable[[], bool]) -> str | None:
+        """Waits until it is ready, or all is over; returns what it said where it ended before."""
         while self.process.poll() is None:
-            if self._is_ready():
+            if self._is_ready() or is_over():
                 return None
             time.sleep(LOOK)
         self.said.seek(0)
