@@ -4,6 +4,7 @@
 PREFIX = /usr/local
 BINDIR = $(PREFIX)/bin
 MANDIR = $(PREFIX)/share/man
+DATADIR = $(PREFIX)/share/mgr
 
 MAKEFLAGS += --no-print-directory
 
@@ -14,7 +15,7 @@ SOURCES := crates.txt HANDLES \
 NEED_RT = command -v rt >/dev/null || { \
 	echo "rt, the Rattle toolchain, is not installed: put KIT/bin on PATH" >&2; exit 1; }
 
-.PHONY: build try try-live try-exchange crash hostile files test wrong-bodies contracts bench install clean help
+.PHONY: build try test-front try-live try-hub try-exchange crash hostile files test wrong-bodies contracts bench install clean help
 
 build: build/mgr
 	@echo "build/mgr is up to date"
@@ -31,9 +32,17 @@ try:
 	@$(NEED_RT)
 	@examples/try.sh $(BUILT)
 
-# The front, in a terminal of tmux.
+# The parts of the front, each by itself: no built mgr is needed.
+test-front:
+	@python3 -m unittest discover -s front/tests
+
+# The front, in a terminal of tmux. It takes some two minutes.
 try-live: build/mgr
 	@scripts/try_live.py build/mgr
+
+# Three that write in one note at one hub. It takes some three minutes.
+try-hub: build/mgr
+	@scripts/try_hub.py build/mgr
 
 # Two that exchange over a socket of this machine, and a third that gets the log.
 try-exchange: build/mgr
@@ -70,9 +79,14 @@ bench:
 	@bench/run.sh
 
 install: build/mgr
-	mkdir -p "$(DESTDIR)$(BINDIR)" "$(DESTDIR)$(MANDIR)/man1"
-	rm -f "$(DESTDIR)$(BINDIR)/mgr" "$(DESTDIR)$(BINDIR)/mgr-live"
-	cp build/mgr front/mgr-live "$(DESTDIR)$(BINDIR)"
+	mkdir -p "$(DESTDIR)$(BINDIR)" "$(DESTDIR)$(MANDIR)/man1" "$(DESTDIR)$(DATADIR)/mgr_front"
+	rm -f "$(DESTDIR)$(BINDIR)/mgr" "$(DESTDIR)$(BINDIR)/mgr-live" "$(DESTDIR)$(BINDIR)/mgr-hub"
+	cp build/mgr "$(DESTDIR)$(BINDIR)"
+	for program in mgr-live mgr-hub; do \
+		sed 's|^INSTALLED = .*|INSTALLED = "$(DATADIR)"|' front/$$program >"$(DESTDIR)$(BINDIR)/$$program" && \
+		chmod 755 "$(DESTDIR)$(BINDIR)/$$program" || exit 1; done
+	rm -f "$(DESTDIR)$(DATADIR)/mgr_front"/*.py
+	cp front/mgr_front/*.py "$(DESTDIR)$(DATADIR)/mgr_front"
 	cp docs/mgr.1 "$(DESTDIR)$(MANDIR)/man1/mgr.1"
 
 clean:
@@ -82,7 +96,10 @@ help:
 	@echo "make           proves and builds mgr, and leaves it at build/mgr"
 	@echo "make try       a first edit, and one note from two people's logs; it waits for no proof."
 	@echo "               Where mgr is built, two of them exchange a note"
+	@echo "make test-front"
+	@echo "               tests the parts of the front, each by itself (needs python3)"
 	@echo "make try-live  runs mgr-live in a terminal of tmux, and looks at what it shows (needs python3 and tmux)"
+	@echo "make try-hub   runs three mgr-live at one mgr-hub, and looks at what each sees of the others (needs python3 and tmux)"
 	@echo "make try-exchange"
 	@echo "               exchanges a note between two mgr on this machine (needs python3)"
 	@echo "make test      looks up each name in the documents, proves what this machine has not proved yet, and runs"
@@ -97,6 +114,7 @@ help:
 	@echo "make files     does to a note's files what other programs do while it is edited, and looks for each word"
 	@echo "               (needs python3)"
 	@echo "make bench     measures mgr beside a native program (needs python3 and rustc)"
-	@echo "make install   copies mgr and mgr-live to BINDIR, and the manual to MANDIR/man1"
-	@echo "               (BINDIR=$(BINDIR) and MANDIR=$(MANDIR), by PREFIX=$(PREFIX); DESTDIR is put before them)"
+	@echo "make install   copies mgr, mgr-live and mgr-hub to BINDIR, their parts to DATADIR, and the manual to MANDIR/man1"
+	@echo "               (BINDIR=$(BINDIR), DATADIR=$(DATADIR) and MANDIR=$(MANDIR), by PREFIX=$(PREFIX);"
+	@echo "               DESTDIR is put before them)"
 	@echo "make clean     removes what was built and proved"

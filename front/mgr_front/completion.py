@@ -1,0 +1,93 @@
+"""Answers to prompts that are completed, and names that begin in the home folder."""
+
+import os
+from collections.abc import Iterable
+
+from mgr_front.bindings import CONTROL_SIGN
+from mgr_front.cells import row_width
+from mgr_front.dialogue import COMMAND, DELETE, FIND, KILL, RETURN, SWITCH, label_of
+from mgr_front.errands import Errand
+from mgr_front.modelines import COLUMNS
+from mgr_front.names import COMMANDS
+
+HOME = "~/"
+# Files that stand beside a note and are none.
+BESIDE = ("~", ".ops.new", ".ops.text")
+LOG = ".ops"
+
+
+def expanded(name: str) -> str:
+    """Returns a name with the home folder in place of a leading `~/`."""
+    return os.path.expanduser(name) if name.startswith(HOME) else name
+
+
+def candidates(label: str, answer: str, buffers: Iterable[str]) -> list[str]:
+    """Returns what an answer to this prompt may become, in order."""
+    if label == COMMAND:
+        names: Iterable[str] = COMMANDS
+    elif label == FIND:
+        names = _notes(answer)
+    else:
+        names = buffers if label in (SWITCH, KILL) else ()
+    return sorted({name for name in names if name.startswith(answer) and _can_be_typed(name)})
+
+
+def _notes(answer: str) -> Iterable[str]:
+    """Returns the notes and folders of the folder that an answer names."""
+    folder, begin = os.path.split(answer)
+    try:
+        entries = list(os.scandir(folder or "."))
+    except OSError:
+        return []
+    names = [entry.name + "/" if entry.is_dir() else entry.name.removesuffix(LOG) for entry in entries]
+    shown = [name for name in names if not name.endswith(BESIDE) and (begin or not name.startswith("."))]
+    return [os.path.join(folder, name) for name in shown]
+
+
+def _can_be_typed(name: str) -> bool:
+    try:
+        return not CONTROL_SIGN.search(name.encode())
+    except UnicodeEncodeError:
+        return False
+
+
+def complete(prompt: str, buffers: Iterable[str]) -> Errand:
+    """Makes the answer of a prompt as long as all that it may become have in common.
+
+    Says what that is, where it is several.
+    """
+    label = label_of(prompt)
+    answer = prompt[len(label) :]
+    whole = expanded(answer)
+    found = candidates(label, whole, buffers)
+    common = os.path.commonprefix(found)
+    if not found or row_width(prompt) >= COLUMNS - 1:
+        return "No match"
+    if common != answer:
+        yield _retyped(answer, common)
+        return None
+    return "Sole completion" if len(found) == 1 else " ".join(os.path.basename(name) or name for name in found)
+
+
+def accept(prompt: str) -> Errand:
+    """Accepts the answer of a prompt, with the home folder in place of a leading `~/`."""
+    answer = prompt[len(label_of(prompt)) :]
+    yield _retyped(answer, expanded(answer)) + bytes([RETURN])
+    return None
+
+
+def asks_for_name(prompt: str) -> bool:
+    """Whether a prompt asks for a name, of a command, a file or a buffer."""
+    return label_of(prompt) in (COMMAND, FIND, SWITCH, KILL)
+
+
+def begins_at_home(prompt: str) -> bool:
+    """Whether a prompt asks for a name, and its answer begins in the home folder."""
+    label = label_of(prompt)
+    return label in (FIND, SWITCH, KILL) and prompt.startswith(HOME, len(label))
+
+
+def _retyped(answer: str, new: str) -> bytes:
+    """Returns the keys that make another answer of one."""
+    kept = os.path.commonprefix([answer, new])
+    return bytes([DELETE]) * (len(answer) - len(kept)) + new[len(kept) :].encode()

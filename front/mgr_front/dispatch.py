@@ -1,0 +1,200 @@
+"""Strokes and what they do: keys for mgr, and what the front does itself."""
+
+import re
+from collections import deque
+from collections.abc import Iterable
+from typing import Protocol
+
+from mgr_front.bindings import LINE_MODES, answer_keys, argument_keys, named_keys, plain_keys, text_keys
+from mgr_front.dialogue import CANCEL, CONTROL_X, DELETE, ESCAPE, NO_KEY, QUOTE, RETURN, TAB, Mode
+from mgr_front.editor import Editor
+from mgr_front.errands import Errand, kill_word_backward
+from mgr_front.keys import Meta, Named, Pasted, Stroke, Typed
+from mgr_front.minibuffer import Question, ask_for_line
+
+REPAINT, SUSPEND = 0x0C, 0x1A
+# Keys that the front looks at, besides the one that erases.
+SPECIAL = bytes([SUSPEND, ESCAPE, CONTROL_X, TAB, RETURN])
+
+
+class Desk(Protocol):
+    """What the front does itself."""
+
+    errand: Errand | None
+    question: Question | None
+
+    def suspend(self) -> None:
+        """Stops the program until it is continued."""
+
+    def repaint(self) -> None:
+        """Has all of the screen be drawn anew."""
+
+    def start(self, errand: Errand) -> None:
+        """Begins an errand."""
+
+    def ask(self, question: Question) -> None:
+        """Asks something in the echo line."""
+
+    def answer(self, byte: int) -> None:
+        """Takes a key of the answer to what is asked."""
+
+    def complete(self) -> None:
+        """Completes the answer of the open prompt."""
+
+    def accept(self) -> None:
+        """Accepts the answer of the open prompt."""
+
+
+class Dispatcher:
+    """The strokes that wait, in their order.
+
+    What a stroke does can depend on what mgr asks for. Such a one waits until mgr has answered all
+    keys before it; a text goes on at once. ESC and C-x are kept until the key behind them is there.
+    """
+
+    def __init__(self, editor: Editor, erase: int = DELETE) -> None:
+        """`erase` is the byte by which the terminal erases; it is DEL to mgr."""
+        self.editor = editor
+        self.erase = erase
+        self.special = SPECIAL + bytes([erase] * (erase != DELETE))
+        self.piece = re.compile(b"[^%b]+|." % re.escape(self.special), re.DOTALL)
+        self.strokes: deque[Stroke] = deque()
+        self.prefix = b""
+
+    def take(self, strokes: Iterable[Stroke]) -> None:
+        """Has further strokes wait."""
+        for stroke in strokes:
+            if isinstance(stroke, Typed):
+                self.strokes += map(Typed, self.piece.findall(stroke.data))
+            else:
+                self.strokes.append(stroke)
+
+    def run(self, desk: Desk) -> None:
+        """Does all strokes of which it is known what they do."""
+        while self.strokes and self._is_clear(self.strokes[0], desk):
+            stroke = self.strokes.popleft()
+            if desk.question:
+                self._answer(stroke, desk)
+            elif isinstance(stroke, Typed):
+                self._type(stroke.data, desk)
+            elif isinstance(stroke, Meta):
+                self._press_meta(stroke.byte, desk)
+            elif isinstance(stroke, Named):
+                self._press_named(stroke.name, desk)
+            else:
+                self._paste(stroke)
+
+    def give_up(self) -> bytes:
+        """Returns the keys of all strokes that wait, as where mgr asks for nothing."""
+        keys = self.prefix + b"".join(map(plain_keys, self.strokes))
+        self.strokes.clear()
+        self.prefix = b""
+        return keys
+
+    @property
+    def is_idle(self) -> bool:
+        """Whether no stroke waits and none is begun."""
+        return not self.strokes and not self.prefix
+
+    def _is_clear(self, stroke: Stroke, desk: Desk) -> bool:
+        """Whether it is known what a stroke does."""
+        if desk.question:
+            return True
+        if desk.errand:
+            return False
+        goes_on = isinstance(stroke, Typed) and not self.prefix and stroke.data[0] not in self.special
+        return goes_on or self.editor.dialogue.is_settled
+
+    def _answer(self, stroke: Stroke, desk: Desk) -> None:
+        """Gives the front's own question the first key of a stroke; the others wait, as it may end."""
+        keys = answer_keys(stroke) if isinstance(stroke, Pasted) else plain_keys(stroke)
+        if isinstance(stroke, Named | Meta) or not keys:
+            return
+        if keys[1:]:
+            self.strokes.appendleft(Typed(keys[1:]))
+        desk.answer(DELETE if keys[0] == self.erase else keys[0])
+
+    def _hand_on(self, keys: bytes, desk: Desk) -> None:
+        self.editor.hand_on(keys)
+        if REPAINT in keys:
+            desk.repaint()
+
+    def _type(self, data: bytes, desk: Desk) -> None:
+        if self.prefix:
+            if data[1:]:
+                self.strokes.appendleft(Typed(data[1:]))
+            self._complete(data[0], desk)
+        elif data[0] not in self.special or self._is_quoted():
+            self._hand_on(data, desk)
+        elif data[0] == self.erase:
+            self.editor.hand_on(bytes([DELETE]))
+        elif data[0] == SUSPEND:
+            desk.suspend()
+        else:
+            self._press(data, desk)
+
+    def _press(self, key: bytes, desk: Desk) -> None:
+        """Does a key that means something else while a line is asked for."""
+        mode = self.editor.dialogue.mode
+        if mode is Mode.PROMPT and key[0] == TAB:
+            desk.complete()
+        elif mode is Mode.PROMPT and key[0] == RETURN:
+            desk.accept()
+        elif mode in LINE_MODES or key[0] in (TAB, RETURN):
+            self._hand_on(key, desk)
+        else:
+            self.prefix = key
+
+    def _complete(self, byte: int, desk: Desk) -> None:
+        """Does the key that a byte makes with the one before it."""
+        prefix, self.prefix = self.prefix, b""
+        is_meta = prefix == bytes([ESCAPE])
+        if is_meta and chr(byte) in "0123456789":
+            self.editor.hand_on(argument_keys(byte, self.editor.dialogue.begun))
+        elif is_meta and byte in (DELETE, self.erase):
+            desk.start(kill_word_backward())
+        elif not is_meta and byte == ord("g"):
+            desk.ask(ask_for_line())
+        elif not is_meta and byte == SUSPEND:
+            desk.suspend()
+        else:
+            self._hand_on(prefix + bytes([byte]), desk)
+
+    def _press_meta(self, byte: int, desk: Desk) -> None:
+        if self.prefix or self._is_quoted():
+            self._break_off()
+        elif self.editor.dialogue.mode in LINE_MODES:
+            # The byte would be taken for a part of the answer.
+            self.editor.hand_on(bytes([NO_KEY]))
+        else:
+            self.prefix = bytes([ESCAPE])
+            self._complete(byte, desk)
+
+    def _press_named(self, name: str, desk: Desk) -> None:
+        keys = named_keys(name, self.editor.dialogue.mode, bool(self.prefix) or self._is_quoted())
+        self._hand_on(self.prefix + keys, desk)
+        self.prefix = b""
+
+    def _paste(self, pasted: Pasted) -> None:
+        """Puts a text in, or adds it to an answer. What was begun, and a question, are left first."""
+        dialogue = self.editor.dialogue
+        if self.prefix or dialogue.begun:
+            self._break_off()
+            self.strokes.appendleft(pasted)
+        elif dialogue.mode is Mode.QUERY or dialogue.is_quitting:
+            self.editor.hand_on(bytes([CANCEL]))
+            self.strokes.appendleft(pasted)
+        elif dialogue.mode is Mode.PLAIN:
+            self.editor.hand_on(text_keys(pasted.data))
+        else:
+            self.editor.hand_on(answer_keys(pasted))
+
+    def _break_off(self) -> None:
+        """Has what was begun of a key be none."""
+        self.editor.hand_on(self.prefix + bytes([NO_KEY]))
+        self.prefix = b""
+
+    def _is_quoted(self) -> bool:
+        """Whether the next key is taken as a character."""
+        dialogue = self.editor.dialogue
+        return dialogue.mode is Mode.PLAIN and dialogue.begun[-1:] == bytes([QUOTE])

@@ -1,0 +1,43 @@
+"""Errands: commands of the front that press several keys of mgr, one behind the answer to another.
+
+An errand yields keys and is sent the frame that answers the last of them. No frame is drawn before
+its end. What it returns stands in the echo line then; where that is None, mgr's own does.
+"""
+
+from collections.abc import Generator
+
+from mgr_front.frames import Frame
+
+Errand = Generator[bytes, Frame, str | None]
+
+SET_MARK, KILL_REGION, NEXT_LINE, ARGUMENT = b"\x00", b"\x17", b"\x0e", b"\x15"
+BACKWARD_WORD, BUFFER_BEGIN, BUFFER_END = b"\x1bb", b"\x1b<", b"\x1b>"
+MOST_ARGUMENT = 9999
+
+END_OF_BUFFER = "End of buffer"
+
+
+def kill_word_backward() -> Errand:
+    """Kills the word before point: sets the mark, goes back over the word, and kills the region.
+
+    So the mark is left at point, and the kill does not append to one before it. M-b M-d would leave
+    the mark, but kill all of a word that point stands within, and no blanks behind one.
+    """
+    yield SET_MARK
+    frame = yield BACKWARD_WORD
+    if not frame.echo:
+        yield KILL_REGION
+    return None
+
+
+def go_to_line(line: int) -> Errand:
+    """Goes to the begin of a line; the first is 1. Beyond the last one it goes to the end."""
+    frame = yield BUFFER_BEGIN
+    rest = line - 1
+    while rest > 0 and frame.echo != END_OF_BUFFER:
+        count = min(rest, MOST_ARGUMENT)
+        frame = yield ARGUMENT + str(count).encode() + NEXT_LINE
+        rest -= count
+    if frame.echo == END_OF_BUFFER:
+        yield BUFFER_END
+    return None

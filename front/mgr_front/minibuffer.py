@@ -1,0 +1,41 @@
+"""A line that the front itself asks for, in the echo line."""
+
+from collections.abc import Callable
+
+from mgr_front.dialogue import CANCEL, DELETE, RETURN
+from mgr_front.errands import Errand, go_to_line
+
+
+class Question:
+    """A question, and its answer so far."""
+
+    def __init__(self, label: str, allowed: str, accept: Callable[[str], Errand | None]) -> None:
+        """Asks for characters that are allowed; `accept` makes an errand of the answer."""
+        self.label, self.allowed, self.accept = label, allowed, accept
+        self.answer = ""
+        self.is_open = True
+
+    @property
+    def text(self) -> str:
+        """The question and its answer, as the echo line shows them."""
+        return self.label + self.answer
+
+    def press(self, byte: int) -> Errand | None:
+        """Takes a key, and returns the errand that it leads to; RET and C-g end the question."""
+        if byte == DELETE:
+            self.answer = self.answer[:-1]
+        elif byte in (RETURN, CANCEL):
+            self.is_open = False
+            return self.accept(self.answer) if byte == RETURN else None
+        elif chr(byte) in self.allowed:
+            self.answer += chr(byte)
+        return None
+
+
+def ask_for_line() -> Question:
+    """Asks for the number of a line to go to; where none is given, nothing is done."""
+
+    def accept(answer: str) -> Errand | None:
+        return go_to_line(int(answer)) if answer else None
+
+    return Question("Goto line: ", "0123456789", accept)

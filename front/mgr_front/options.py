@@ -1,0 +1,132 @@
+"""The command lines of mgr-live and mgr-hub."""
+
+import argparse
+from collections.abc import Callable, Sequence
+from dataclasses import dataclass
+
+from mgr_front import VERSION
+
+DESCRIPTION = "Edits a note on a terminal, by `mgr edit`, with the keys of mg(1)."
+EPILOG = (
+    "The text is in NAME, its operations in the log NAME.ops. C-x C-s saves, C-x C-c leaves. "
+    "mgr(1) has the keys, the files and the statuses. The environment variable MGR names the program mgr."
+)
+
+HUB = "Serves a note to whoever exchanges with it, one after another, and prints a line for each. TERM ends it."
+
+
+@dataclass(frozen=True)
+class Options:
+    """What a command line asks for."""
+
+    name: str
+    replica: int | None
+    fill: int | None
+    port: int | None
+    # The machine and the port of a hub; the machine is none for this one.
+    hub: tuple[str, int] | None
+    takes_file: bool
+    keeps_file: bool
+    saves: bool
+
+
+def whole_number(least: int, most: int) -> Callable[[str], int]:
+    """Returns a reader of whole numbers between these, both included."""
+
+    def read(word: str) -> int:
+        if not (word.isascii() and word.isdigit() and least <= int(word) <= most):
+            raise argparse.ArgumentTypeError(f"{word!r} is no number from {least} to {most}")
+        return int(word)
+
+    return read
+
+
+@dataclass(frozen=True)
+class HubOptions:
+    """What a command line of mgr-hub asks for."""
+
+    name: str
+    replica: int | None
+    port: int
+
+
+def hub_address(word: str) -> tuple[str, int]:
+    """Reads a port, with a machine and a colon before it where the hub is on another one."""
+    host, _, port = word.rpartition(":")
+    if host.startswith("-"):
+        raise argparse.ArgumentTypeError(f"{host!r} is no name of a machine")
+    return host, whole_number(1, 65535)(port)
+
+
+def parser() -> argparse.ArgumentParser:
+    made = argparse.ArgumentParser("mgr-live", description=DESCRIPTION, epilog=EPILOG, allow_abbrev=False)
+    made.add_argument("name", metavar="NAME", help="the note, and the file of its text")
+    made.add_argument(
+        "--replica",
+        metavar="N",
+        type=whole_number(1, 65535),
+        help="the number of this copy, which no other copy of the note has; else it is drawn once, and kept",
+    )
+    made.add_argument("--fill", metavar="F", type=whole_number(1, 9999), help="the fill column of M-q")
+    peers = made.add_mutually_exclusive_group()
+    peers.add_argument("--port", metavar="P", type=whole_number(1, 65535), help="the port at which peers are met")
+    peers.add_argument(
+        "--with",
+        dest="hub",
+        metavar="[HOST:]PORT",
+        type=hub_address,
+        help="exchange with the mgr-hub at that port all the time; ssh leads to one on another machine",
+    )
+    choice = made.add_mutually_exclusive_group()
+    choice.add_argument(
+        "--take-file", action="store_true", help="where text and log differ, bring the text's changes into the log"
+    )
+    choice.add_argument("--keep-file", action="store_true", help="go on with the log then, and keep the text as NAME~")
+    made.add_argument("--no-autosave", action="store_true", help="do not save after 30 seconds without a key")
+    made.add_argument("--version", action="version", version=f"%(prog)s {VERSION}")
+    return made
+
+
+def read(words: Sequence[str]) -> Options:
+    """Returns what these words ask for; ends the program where they are wrong, or ask for help."""
+    given = parser().parse_args(words)
+    if not given.name:
+        parser().error("NAME is empty")
+    return Options(
+        name=given.name,
+        replica=given.replica,
+        fill=given.fill,
+        port=given.port,
+        hub=given.hub,
+        takes_file=given.take_file,
+        keeps_file=given.keep_file,
+        saves=not given.no_autosave,
+    )
+
+
+def hub_parser() -> argparse.ArgumentParser:
+    made = argparse.ArgumentParser("mgr-hub", description=HUB, allow_abbrev=False)
+    made.add_argument("name", metavar="NAME", help="the note, and the file of its text")
+    made.add_argument(
+        "--port",
+        metavar="P",
+        type=whole_number(1, 65535),
+        required=True,
+        help="the port of this machine at which peers are met",
+    )
+    made.add_argument(
+        "--replica",
+        metavar="N",
+        type=whole_number(1, 65535),
+        help="the number of this copy; else it is drawn once, and kept",
+    )
+    made.add_argument("--version", action="version", version=f"%(prog)s {VERSION}")
+    return made
+
+
+def read_hub(words: Sequence[str]) -> HubOptions:
+    """Returns what these words ask mgr-hub for; ends the program as `read` does."""
+    given = hub_parser().parse_args(words)
+    if not given.name:
+        hub_parser().error("NAME is empty")
+    return HubOptions(given.name, given.replica, given.port)

@@ -1,0 +1,349 @@
+"""An edit: keys from the terminal to mgr, and frames from mgr to the terminal."""
+
+import math
+import os
+import select
+import signal
+import time
+from collections.abc import Callable, Sequence
+
+from mgr_front.cells import row_width
+from mgr_front.completion import accept, asks_for_name, begins_at_home, complete
+from mgr_front.dialogue import CANCEL, FAILED, RETURN, TAB, UNDEFINED, Answer
+from mgr_front.dispatch import Dispatcher
+from mgr_front.echo import Echo, echo_line
+from mgr_front.editor import BLOCK, Editor
+from mgr_front.errands import Errand
+from mgr_front.frames import Frame
+from mgr_front.keys import Keys, Typed, without_first
+from mgr_front.live_exchange import COMMANDS, EXCHANGE, SERVE
+from mgr_front.minibuffer import Question
+from mgr_front.relay import Relay, knock
+from mgr_front.remarks import Remarks
+from mgr_front.saving import Buffers
+from mgr_front.screen import Screen
+from mgr_front.signals import Signals
+from mgr_front.view import picture
+from mgr_front.watches import Moment, Watch
+
+# Seconds until what may be the beginning of a longer key counts as keys of its own, as ESC does.
+PATIENCE = 0.05
+# Seconds for which it is said what is wrong with a note that was opened, and what an exchange said.
+OPENED, SAID = 10.0, 2.0
+# Seconds between two pictures while frames come one behind the other.
+PICTURE = 0.05
+# Seconds for which somebody who types is held up by an exchange that goes on by itself.
+HELD_UP = 2.0
+# Seconds between two tries to end a wait for a peer, and between two looks at the status.
+KNOCK, STATUS = 0.1, 1.0
+# Seconds in which a mgr that shows nothing is expected to answer a key, and to do anything at all at
+# the end.
+ANSWER, LAST = 5.0, 10.0
+
+# How much may wait for mgr before no more keys are read.
+MOST_WAITING = 65536
+
+
+class Session:
+    """An edit by a mgr that runs."""
+
+    def __init__(self, editor: Editor, screen: Screen, signals: Signals, port: int | Relay | None = None) -> None:
+        """`port` is where mgr meets peers, or what passes its connections on."""
+        self.editor, self.screen, self.signals = editor, screen, signals
+        self.relay = port if isinstance(port, Relay) else None
+        self.port = port.port if isinstance(port, Relay) else port
+        self.keys = Keys()
+        self.dispatcher = Dispatcher(editor, screen.erase)
+        self.buffers = Buffers()
+        self.remarks = Remarks()
+        self.watches: list[Watch] = []
+        # What the mode line says of the front.
+        self.status: Callable[[float], str] = lambda now: ""
+        # What takes note of the first frame.
+        self.opened: list[Callable[[Frame], None]] = []
+        self.errand: Errand | None = None
+        self.question: Question | None = None
+        # The newest frame, what the front says in place of its echo line, and whether both are drawn.
+        self.frame: Frame | None = None
+        self.said: str | None = None
+        self.drawn: tuple[list[str], str] = [], ""
+        self.painted = -math.inf
+        self.is_stale = self.rings = self.is_ending = False
+        # Whether a wait for a peer is to be ended.
+        self.breaks_off = False
+        # When a key was typed, the last one that was whole, when mgr was given or showed something, and
+        # when an errand was begun.
+        self.typed = self.heard = self.begun = time.monotonic()
+        self.key = b""
+
+    def run(self) -> None:
+        """Goes on until mgr, the keys or the terminal end, or a signal comes.
+
+        Where that is a signal, what was typed before it is still taken.
+        """
+        try:
+            while self.signals.first is None and self._step():
+                pass
+            while self.signals.first and select.select([0], [], [], 0)[0] and self._take_keys():
+                pass
+        except BrokenPipeError:
+            pass  # mgr takes no more keys: its status says why.
+        except OSError:
+            pass  # The terminal is gone, which may be seen before the signal that says so.
+
+    def _step(self) -> bool:
+        """Waits for what is ready and does that, and answers whether there is more to come."""
+        reading = [self.signals.woken] + [0] * (len(self.editor.waiting) < MOST_WAITING)
+        ready = self._await(reading, self._patience())
+        if self.signals.woken in ready:
+            self._heed()
+        if self.editor.written in ready and not self._take_frames():
+            return False
+        if 0 in ready and not self._take_keys():
+            return False
+        if not ready and self.keys.is_in_doubt:
+            self.dispatcher.take(self.keys.give_up())
+        self.work()
+        self._draw()
+        return True
+
+    def _await(self, reading: list[int], seconds: float | None) -> list[int]:
+        """Waits until mgr or one of these has something to read; gives mgr what it takes meanwhile."""
+        writing = [self.editor.keys] * bool(self.editor.waiting)
+        ready, free, _ = select.select([self.editor.written, *reading], writing, [], seconds)
+        if free:
+            self.editor.write()
+            self.heard = time.monotonic()
+        return ready
+
+    def _patience(self) -> float | None:
+        """Returns after how many seconds something is to be done, whatever happens."""
+        now = time.monotonic()
+        moment = self._moment()
+        dues = [watch.due(moment) for watch in self.watches] if moment else []
+        seconds = [max(0.0, due - now) for due in dues if due is not None]
+        seconds += [PATIENCE] * self.keys.is_in_doubt + [KNOCK] * self.breaks_off + [PICTURE] * self.is_stale
+        seconds += [ANSWER] * (not self.editor.dialogue.is_settled) + [STATUS] * bool(self.drawn[1])
+        remarks = self.remarks.patience(now)
+        return min(seconds + [remarks] * (remarks is not None), default=None)
+
+    def work(self) -> None:
+        """Does what strokes and watches ask for, and what nobody answers any more."""
+        now = time.monotonic()
+        dialogue = self.editor.dialogue
+        if self.breaks_off and self.port:
+            knock(self.port)
+        elif not dialogue.is_settled and now > self.heard + ANSWER and dialogue.command not in COMMANDS:
+            self._assume_settled()
+        self.dispatcher.run(self)
+        for watch in self.watches:
+            moment = self._moment()
+            due = watch.due(moment) if moment else None
+            if moment and due is not None and due <= now:
+                self.start(watch.begin(moment))
+
+    def _assume_settled(self) -> None:
+        """Goes on without an answer that is long overdue; there is none before the first frame."""
+        if self.frame:
+            self.editor.dialogue.assume_settled()
+            if self.errand:
+                self._go_on(self.errand, self.frame)
+
+    def _moment(self) -> Moment | None:
+        """Returns what there is now, where nothing is typed, asked, begun or done."""
+        is_busy = self.errand or self.question or self.keys.begun or not self.dispatcher.is_idle
+        if is_busy or self.frame is None or not self.editor.dialogue.is_at_rest:
+            return None
+        return Moment(self.typed, self.key, self.frame, self.frame.echo if self.said is None else self.said)
+
+    def _take_keys(self) -> bool:
+        sent = os.read(0, BLOCK)
+        self.typed = time.monotonic()
+        try:
+            strokes = self.keys.take(sent)
+            if self.errand and self.typed > self.begun + HELD_UP:
+                self._leave_hub()
+            if CANCEL in sent and self._leave_peer():
+                strokes = without_first(CANCEL, strokes)
+        except BaseException:
+            # Whatever it was, these are keys.
+            self.dispatcher.take([Typed(sent)])
+            raise
+        self.dispatcher.take(strokes)
+        return bool(sent)
+
+    def _leave_peer(self) -> bool:
+        """Ends a wait for a peer, where mgr takes no key before, and answers whether it does."""
+        self.breaks_off = self.editor.dialogue.command == SERVE and self.port is not None
+        return self._leave_hub() or self.breaks_off
+
+    def _leave_hub(self) -> bool:
+        """Breaks off an exchange with a hub, if there is one now; nothing is lost by that."""
+        if not (self.relay and self.editor.dialogue.command == EXCHANGE):
+            return False
+        self.relay.break_off()
+        return True
+
+    def _take_frames(self) -> bool:
+        self.heard = time.monotonic()
+        frames = self.editor.read()
+        for frame in frames or []:
+            self._take_frame(self.editor.dialogue.answer(frame.echo), frame)
+        return frames is not None
+
+    def _take_frame(self, answer: Answer, frame: Frame) -> None:
+        for opened in self.opened if self.frame is None else ():
+            opened(frame)
+        self.frame, self.said = frame, None
+        self.buffers.note(frame)
+        if self.errand:
+            if self.editor.dialogue.is_settled:
+                self._go_on(self.errand, frame)
+            return
+        if answer.command in COMMANDS:
+            self._end_exchange(frame.echo)
+        if answer.key == bytes([CANCEL]):
+            self.remarks.acknowledge()
+        self.key = answer.key
+        self.is_stale = True
+        self.rings = self.rings or bool(answer.key) and frame.echo in (UNDEFINED, FAILED)
+
+    def _end_exchange(self, said: str) -> None:
+        """What an exchange said stays, whatever was typed meanwhile; one that was left says nothing."""
+        if self.breaks_off and said == "Cut":
+            self.said = "Quit"
+        else:
+            self.remarks.hold(said, time.monotonic() + SAID)
+        self.breaks_off = False
+
+    def _draw(self) -> None:
+        """Draws the newest frame, where it was not drawn yet."""
+        if self.is_ending:
+            return
+        now = time.monotonic()
+        remarks, status = self.remarks.at(now), self.status(now)
+        is_drawn = not self.is_stale and (remarks, status) == self.drawn
+        if self.frame is None or is_drawn or self.errand or self._draws_later(now):
+            return
+        columns, rows = os.get_terminal_size(1)
+        echo = self._echo(self.frame, remarks)
+        self.screen.draw(picture(self.frame, echo, rows, columns, status), self.rings)
+        self.is_stale = self.rings = False
+        self.drawn = remarks, status
+        self.painted = now
+
+    def _draws_later(self, now: float) -> bool:
+        """Whether further frames come soon, of which only some are drawn."""
+        return not self.editor.dialogue.is_settled and now < self.painted + PICTURE
+
+    def _echo(self, frame: Frame, remarks: Sequence[str]) -> Echo:
+        if self.question:
+            return Echo(self.question.text, row_width(self.question.text))
+        return echo_line(frame, self.editor.dialogue.prompt, self.said, remarks)
+
+    def remark(self, said: str) -> None:
+        """Says something of a note that was opened, for a while."""
+        if said:
+            self.remarks.hold(said, time.monotonic() + OPENED)
+
+    def start(self, errand: Errand) -> None:
+        """Begins an errand. Its first keys are pressed at once; all others wait for its end."""
+        # No frame is drawn meanwhile.
+        self._draw()
+        self.errand, self.begun = errand, time.monotonic()
+        self._go_on(errand, None)
+
+    def _go_on(self, errand: Errand, frame: Frame | None) -> None:
+        """Sends an errand the frame that it waits for, and presses the keys that it asks for then."""
+        try:
+            self.editor.hand_on(next(errand) if frame is None else errand.send(frame))
+        except StopIteration as end:
+            self.errand, self.said = None, end.value
+            self.is_stale = True
+
+    def ask(self, question: Question) -> None:
+        """Asks something in the echo line."""
+        self.question = question
+        self.is_stale = True
+
+    def answer(self, byte: int) -> None:
+        """Takes a key of the answer to what is asked."""
+        if not self.question:
+            return
+        errand = self.question.press(byte)
+        if not self.question.is_open:
+            self.question = None
+        if errand:
+            self.start(errand)
+        self.is_stale = True
+
+    def complete(self) -> None:
+        """Completes the answer of the open prompt; where it asks for no name, TAB is a part of it."""
+        if asks_for_name(self.editor.dialogue.prompt):
+            self.start(complete(self.editor.dialogue.prompt, self.buffers.names()))
+        else:
+            self.editor.hand_on(bytes([TAB]))
+
+    def accept(self) -> None:
+        """Accepts the answer of the open prompt."""
+        if begins_at_home(self.editor.dialogue.prompt):
+            self.start(accept(self.editor.dialogue.prompt))
+        else:
+            self.editor.hand_on(bytes([RETURN]))
+
+    def conclude(self, last: Errand) -> bool:
+        """Does all strokes that wait, and then a last errand, without the terminal.
+
+        Answers whether that is done, be it that mgr has ended: one that does nothing for some
+        seconds is given up.
+        """
+        self.is_ending, self.question, self.watches = True, None, []
+        self.dispatcher.take(self.keys.give_up())
+        self.heard = time.monotonic()
+        waiting: Errand | None = last
+        try:
+            while waiting or self.errand:
+                self.breaks_off = self.port is not None and self.editor.dialogue.command == SERVE
+                self.work()
+                if waiting and not self.errand and not self.dispatcher.strokes and self.editor.dialogue.is_settled:
+                    self.start(waiting)
+                    waiting = None
+                elif self.editor.written in self._await([], KNOCK) and not self._take_frames():
+                    return True
+                elif time.monotonic() > self.heard + LAST:
+                    return False
+        except BrokenPipeError:
+            pass  # mgr has ended.
+        return True
+
+    def _heed(self) -> None:
+        """Does what signals ask for that end nothing."""
+        came = self.signals.take()
+        if signal.SIGTSTP in came:
+            self.suspend()
+        if signal.SIGCONT in came:
+            self.screen.open()
+            self.is_stale = True
+        if signal.SIGWINCH in came:
+            self.resize()
+
+    def resize(self) -> None:
+        """The terminal has another size: the frame is cut for it."""
+        self.repaint()
+
+    def repaint(self) -> None:
+        """Has all of the screen be drawn anew."""
+        self.screen.forget()
+        self.is_stale = True
+
+    def suspend(self) -> None:
+        """Puts the terminal back and stops, until somebody continues this program."""
+        if self.is_ending:
+            return
+        self.screen.close()
+        signal.signal(signal.SIGTSTP, signal.SIG_DFL)
+        os.kill(0, signal.SIGTSTP)
+        # Where nobody could continue it, it does not stop.
+        self.signals.listen(signal.SIGTSTP)
+        self.screen.open()
+        self.is_stale = True

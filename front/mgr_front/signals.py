@@ -1,0 +1,42 @@
+"""Signals, which here only wake whoever waits."""
+
+import os
+import signal
+
+ENDING = (signal.SIGHUP, signal.SIGINT, signal.SIGQUIT, signal.SIGTERM)
+
+
+class Signals:
+    """The first of the signals that end a program, and those of others that came since."""
+
+    def __init__(self, *others: int) -> None:
+        """Takes note of those that end a program, and of these others."""
+        self.first: int | None = None
+        self.came: set[int] = set()
+        self.woken, self.waker = os.pipe()
+        os.set_blocking(self.woken, False)
+        os.set_blocking(self.waker, False)
+        signal.set_wakeup_fd(self.waker, warn_on_full_buffer=False)
+        for number in ENDING:
+            signal.signal(number, self._note_end)
+        for number in others:
+            self.listen(number)
+
+    def listen(self, number: int) -> None:
+        """Takes note of that signal from now on."""
+        signal.signal(number, self._note)
+
+    def _note_end(self, number: int, _: object) -> None:
+        self.first = self.first or number
+
+    def _note(self, number: int, _: object) -> None:
+        self.came.add(number)
+
+    def take(self) -> set[int]:
+        """Returns those that end nothing and came since the last call."""
+        try:
+            os.read(self.woken, 4096)
+        except BlockingIOError:
+            pass
+        came, self.came = self.came, set()
+        return came

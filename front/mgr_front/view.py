@@ -1,0 +1,64 @@
+"""What a terminal of some size shows of a frame."""
+
+import functools
+from dataclasses import dataclass
+
+from mgr_front.cells import Cell, beginning, cells, part, shift, total_width
+from mgr_front.echo import Echo
+from mgr_front.frames import Frame
+from mgr_front.modelines import current_mode_row, mode_rows
+
+# So many lines are kept as they were made: most are the same in the next picture.
+MOST_LINES = 1024
+# Of a terminal that has less than this a part is drawn beyond its edges.
+LEAST_ROWS, LEAST_COLUMNS = 2, 4
+
+
+@dataclass(frozen=True)
+class Line:
+    """A row of the terminal."""
+
+    cells: list[Cell]
+    is_reverse: bool = False
+
+
+@dataclass(frozen=True)
+class Picture:
+    """All rows of the terminal, and the row and column of its cursor."""
+
+    lines: list[Line]
+    row: int
+    column: int
+
+
+def picture(frame: Frame, echo: Echo, rows: int, columns: int, status: str = "") -> Picture:
+    """Returns what shows of a frame, with this echo line.
+
+    The row of the cursor is shifted sideways so that the cursor shows. Where the terminal has fewer
+    rows than the frame, the echo line and the rows round the cursor show. The status stands at the
+    right end of the mode line of the current window.
+    """
+    rows, columns = max(rows, LEAST_ROWS), max(columns, LEAST_COLUMNS)
+    row, column = frame.row, frame.column
+    if echo.column is not None:
+        row, column = len(frame.rows) - 1, echo.column
+    left = shift(column, columns)
+    lines = [_line(text, left if i == row else 0, columns) for i, text in enumerate((*frame.rows[:-1], echo.text))]
+    current = current_mode_row(frame)
+    for i in mode_rows(frame.rows):
+        lines[i] = _mode_line(frame.rows[i], columns, status if i == current else "")
+    if len(lines) <= rows:
+        return Picture(lines, row, column - left)
+    top = max(0, min(row - rows + 2, len(lines) - rows))
+    return Picture(lines[top : top + rows - 1] + lines[-1:], row - top, column - left)
+
+
+@functools.lru_cache(maxsize=MOST_LINES)
+def _line(text: str, left: int, columns: int) -> Line:
+    return Line(part(cells(text), left, columns))
+
+
+def _mode_line(text: str, columns: int, status: str) -> Line:
+    """A mode line, cut to the columns, with the status at its end."""
+    end = cells(f" {status} ") if status else []
+    return Line(beginning(cells(text), max(0, columns - total_width(end))) + end, True)

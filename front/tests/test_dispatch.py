@@ -1,0 +1,170 @@
+"""Strokes beside a mgr that answers by and by, and the keys that it is given."""
+
+import unittest
+
+import context  # noqa: F401
+
+from mgr_front.dialogue import Dialogue
+from mgr_front.dispatch import Dispatcher
+from mgr_front.errands import Errand
+from mgr_front.keys import Keys
+from mgr_front.minibuffer import Question
+
+
+class FakeEditor:
+    """Takes keys, and answers those that it is told to."""
+
+    def __init__(self) -> None:
+        self.dialogue = Dialogue()
+        self.dialogue.answer("")
+        self.keys = b""
+
+    def hand_on(self, keys: bytes) -> None:
+        self.keys += keys
+        self.dialogue.hand_on(keys)
+
+
+class FakeDesk:
+    """Notes what the front has to do itself."""
+
+    def __init__(self, editor: FakeEditor) -> None:
+        self.editor = editor
+        self.errand: Errand | None = None
+        self.question: Question | None = None
+        self.done: list[str] = []
+
+    def suspend(self) -> None:
+        self.done.append("suspend")
+
+    def repaint(self) -> None:
+        self.done.append("repaint")
+
+    def start(self, errand: Errand) -> None:
+        self.errand = errand
+        self.editor.hand_on(next(errand))
+
+    def complete(self) -> None:
+        self.done.append("complete")
+
+    def accept(self) -> None:
+        self.done.append("accept")
+
+    def ask(self, question: Question) -> None:
+        self.question = question
+
+    def answer(self, byte: int) -> None:
+        assert self.question
+        errand = self.question.press(byte)
+        if not self.question.is_open:
+            self.question = None
+        if errand:
+            self.start(errand)
+
+
+class TestDispatch(unittest.TestCase):
+    def setUp(self) -> None:
+        self.editor = FakeEditor()
+        self.desk = FakeDesk(self.editor)
+        self.dispatcher = Dispatcher(self.editor, erase=8)  # type: ignore[arg-type]
+        self.terminal = Keys()
+
+    def press(self, sent: bytes) -> bytes:
+        """Returns the keys that mgr is given for these, so far."""
+        self.editor.keys = b""
+        self.dispatcher.take(self.terminal.take(sent))
+        self.dispatcher.run(self.desk)
+        return self.editor.keys
+
+    def answer(self, *echoes: str) -> bytes:
+        """Has mgr answer so many keys, and returns those that it is given then."""
+        self.editor.keys = b""
+        for echo in echoes:
+            self.editor.dialogue.answer(echo)
+        self.dispatcher.run(self.desk)
+        return self.editor.keys
+
+    def test_text_goes_on_at_once(self) -> None:
+        self.assertEqual(self.press(b"ab"), b"ab")
+        self.assertEqual(self.press(b"c"), b"c")
+
+    def test_what_depends_on_the_answer_waits_for_it(self) -> None:
+        self.assertEqual(self.press(b"a\x18\x06b"), b"a")
+        self.assertEqual(self.answer(""), b"\x18\x06b")
+
+    def test_the_byte_that_erases(self) -> None:
+        self.assertEqual(self.press(b"\x08"), b"\x7f")
+        self.assertEqual(self.answer(""), b"")
+        self.assertEqual(self.press(b"\x11\x08"), b"\x11\x08")
+
+    def test_beginnings_of_keys_are_kept_back(self) -> None:
+        self.assertEqual(self.press(b"\x18"), b"")
+        self.assertFalse(self.dispatcher.is_idle)
+        self.assertEqual(self.press(b"\x13"), b"\x18\x13")
+        self.assertEqual(self.answer(""), b"")
+        self.assertEqual(self.press(b"\x18") + self.dispatcher.give_up(), b"\x18")
+
+    def test_arguments_by_the_meta_key(self) -> None:
+        self.assertEqual(self.press(b"\x1b1"), b"\x151")
+        self.assertEqual(self.press(b"\x1b2"), b"2")
+        self.assertEqual(self.press(b"\x06"), b"\x06")
+
+    def test_keys_of_the_front_mean_nothing_in_an_answer(self) -> None:
+        self.press(b"\x18\x06")
+        self.answer("Find file: ")
+        self.assertEqual(self.press(b"\x18g"), b"\x18g")
+        self.answer("Undefined key", "Find file: g")
+        self.assertEqual(self.press(b"\x1b[1;5D"), b"\xff")
+        self.answer("Undefined key")
+        self.assertEqual(self.press(b"\x1bf"), b"\xff")
+
+    def test_suspending(self) -> None:
+        self.press(b"\x1a")
+        self.press(b"\x18\x1a")
+        self.assertEqual(self.desk.done, ["suspend", "suspend"])
+        self.assertEqual(self.press(b"\x11\x1a"), b"\x11\x1a")
+        self.assertEqual(self.desk.done, ["suspend", "suspend"])
+
+    def test_keys_of_an_answer(self) -> None:
+        self.assertEqual(self.press(b"\t"), b"\t")
+        self.assertEqual(self.answer("") + self.press(b"\r"), b"\r")
+        self.assertEqual(self.answer("") + self.press(b"\x18\x06"), b"\x18\x06")
+        self.answer("Find file: ")
+        self.assertEqual(self.press(b"\t\r"), b"")
+        self.assertEqual(self.desk.done, ["complete", "accept"])
+
+    def test_all_is_drawn_anew(self) -> None:
+        self.assertEqual(self.press(b"\x0c"), b"\x0c")
+        self.assertEqual(self.desk.done, ["repaint"])
+
+    def test_going_to_a_line(self) -> None:
+        self.assertEqual(self.press(b"\x18g1x2\x083\r"), b"\x1b<")
+        errand = self.desk.errand
+        self.assertIsNotNone(errand)
+        self.assertEqual(self.press(b"a"), b"")
+
+    def test_a_line_that_is_pasted(self) -> None:
+        self.press(b"\x18g\x1b[200~12\r\x1b[201~\x1b[D\x1bf")
+        assert self.desk.question
+        self.assertEqual(self.desk.question.answer, "12")
+
+    def test_a_line_that_is_not_asked_for_any_more(self) -> None:
+        self.assertEqual(self.press(b"\x18g12\x07a"), b"a")
+        self.assertEqual(self.answer("") + self.press(b"\x18g\rb"), b"b")
+
+    def test_a_paste_leaves_what_was_begun_and_no_question_is_answered_by_it(self) -> None:
+        self.assertEqual(self.press(b"\x154\x1b[200~y\r\x1b[201~"), b"\x154\xff")
+        self.assertEqual(self.answer("Undefined key"), b"y\r")
+        self.answer("", "")
+        self.press(b"\x18\x03")
+        self.answer("Changed buffers; quit (y or n): ")
+        self.assertEqual(self.press(b"\x1b[200~y\x1b[201~"), b"\x07")
+        self.assertEqual(self.answer("Quit"), b"y")
+
+    def test_a_paste_into_an_answer(self) -> None:
+        self.press(b"\x18\x06")
+        self.answer("Find file: ")
+        self.assertEqual(self.press(b"\x1b[200~notes\r\x1b[201~"), b"notes")
+
+
+if __name__ == "__main__":
+    unittest.main()

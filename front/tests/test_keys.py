@@ -1,0 +1,100 @@
+"""What terminals send, and the strokes and keys that it becomes."""
+
+import unittest
+
+import context  # noqa: F401
+
+from mgr_front.bindings import NAMED, answer_keys, argument_keys, named_keys, plain_keys
+from mgr_front.dialogue import Mode
+from mgr_front.keys import Keys, Meta, Named, Pasted, Stroke, Typed, without_first
+
+SENT: list[tuple[str, bytes, bytes]] = [
+    ("text", b"hello", b"hello"),
+    ("control keys", b"\x18\x13", b"\x18\x13"),
+    ("characters of several bytes", "漢é".encode(), "漢é".encode()),
+    ("Up", b"\x1b[A", b"\x10"),
+    ("Up, as applications get it", b"\x1bOA", b"\x10"),
+    ("Shift-Right", b"\x1b[1;2C", b"\x06"),
+    ("Home and End, three ways", b"\x1b[H\x1b[1~\x1bOH\x1b[F\x1b[4~\x1bOF", b"\x01\x01\x01\x05\x05\x05"),
+    ("Page Up, Page Down, Delete", b"\x1b[5~\x1b[6~\x1b[3~", b"\x1bv\x16\x04"),
+    ("Control with arrows, Home and End", b"\x1b[1;5C\x1b[1;5D\x1b[1;5H\x1b[1;6F", b"\x1bf\x1bb\x1b<\x1b>"),
+    ("Control with arrows, in letters", b"\x1bOc\x1bOd", b"\x1bf\x1bb"),
+    ("a paste", b"a\x1b[200~b\rc\td\x01\x1b[A\x1b[201~e", b"ab\rc\td\x11\x01\x11\x1b[Ae"),
+    ("ends of lines in a paste", b"\x1b[200~1\r\n2\n3\r\x1b[201~", b"1\r2\r3\r"),
+    ("wide characters in a paste", "\x1b[200~漢字😀\x1b[201~".encode(), "漢字😀".encode()),
+    ("F5, F1 of the console", b"\x1b[15~\x1b[[A", b""),
+    ("a meta key", b"\x1bf", b"\x1bf"),
+    ("ESC and an arrow", b"\x1b\x1b[A", b"\x1b\x10"),
+    ("text round an arrow", b"a\x1b[Cb", b"a\x06b"),
+]
+
+
+def keys_of(strokes: list[Stroke]) -> bytes:
+    return b"".join(map(plain_keys, strokes))
+
+
+class TestKeys(unittest.TestCase):
+    def test_sent_at_once(self) -> None:
+        for what, sent, wanted in SENT:
+            with self.subTest(what):
+                self.assertEqual(keys_of(Keys().take(sent)), wanted)
+
+    def test_sent_byte_by_byte(self) -> None:
+        for what, sent, wanted in SENT:
+            with self.subTest(what):
+                keys = Keys()
+                taken = [stroke for i in range(len(sent)) for stroke in keys.take(sent[i : i + 1])]
+                self.assertEqual(keys_of(taken + keys.give_up()), wanted)
+
+    def test_escape_alone_is_given_up(self) -> None:
+        keys = Keys()
+        self.assertEqual(keys.take(b"a\x1b"), [Typed(b"a")])
+        self.assertEqual(keys.give_up(), [Typed(b"\x1b")])
+        self.assertEqual(keys.give_up(), [])
+
+    def test_no_character_of_a_paste_is_cut(self) -> None:
+        sent = "\x1b[200~é漢😀x\x1b[201~".encode()
+        for size in (1, 2, 3, 5):
+            keys = Keys()
+            for i in range(0, len(sent), size):
+                for piece in keys.take(sent[i : i + size]):
+                    assert isinstance(piece, Pasted)
+                    piece.data.decode()
+                self.assertFalse(keys.is_pasting and keys.is_in_doubt)
+
+    def test_a_paste_that_breaks_off_is_given_up(self) -> None:
+        keys = Keys()
+        self.assertEqual(keys.take(b"\x1b[200~ab\x1b[2"), [Pasted(b"ab", False)])
+        self.assertEqual(keys.give_up(), [Pasted(b"\x1b[2", False)])
+
+    def test_without_the_first(self) -> None:
+        strokes: list[Stroke] = [Named("up"), Typed(b"a\x07b\x07")]
+        self.assertEqual(without_first(7, strokes), [Named("up"), Typed(b"ab\x07")])
+        self.assertEqual(without_first(7, [Pasted(b"\x07", True)]), [Pasted(b"\x07", True)])
+
+    def test_meta_is_told_from_escape(self) -> None:
+        self.assertEqual(Keys().take(b"\x1bfg\x1b[A"), [Meta(ord("f")), Typed(b"g"), Named("up")])
+
+
+class TestBindings(unittest.TestCase):
+    def test_nothing_of_a_named_key_goes_into_an_answer(self) -> None:
+        for name in NAMED:
+            for mode in (Mode.PROMPT, Mode.QUERY):
+                with self.subTest(name=name, mode=mode):
+                    self.assertEqual(len(named_keys(name, mode, False)), 1)
+
+    def test_a_paste_into_an_answer_is_one_line(self) -> None:
+        self.assertEqual(answer_keys(Pasted(b"a\r\nb\x01\tc", False)), b"a b\tc")
+        self.assertEqual(answer_keys(Pasted(b"a\rb\r\n", True)), b"a b")
+
+    def test_digits_with_meta_go_on_with_an_argument(self) -> None:
+        self.assertEqual(argument_keys(ord("1"), b""), b"\x151")
+        self.assertEqual(argument_keys(ord("2"), b"\x151"), b"2")
+
+    def test_a_key_of_two_behind_a_begun_one_is_none(self) -> None:
+        self.assertEqual(named_keys("page-up", Mode.PLAIN, True), b"\xff")
+        self.assertEqual(named_keys("page-up", Mode.PLAIN, False), b"\x1bv")
+
+
+if __name__ == "__main__":
+    unittest.main()

@@ -1,0 +1,105 @@
+"""Files of notes, and the numbers that are kept for them."""
+
+import os
+import pathlib
+import stat
+import tempfile
+import unittest
+from unittest import mock
+
+import context  # noqa: F401
+
+from mgr_front import numbers
+from mgr_front.notes import Note, Refused, keep, keep_keys, put_text
+
+
+class InFolder(unittest.TestCase):
+    def setUp(self) -> None:
+        folder = tempfile.TemporaryDirectory()
+        self.addCleanup(folder.cleanup)
+        self.folder = pathlib.Path(folder.name)
+        self.note = Note(str(self.folder / "note"))
+
+
+class TestNotes(InFolder):
+    def refusal(self) -> str:
+        with self.assertRaises(Refused) as caught:
+            self.note.check()
+        return str(caught.exception).removeprefix(f"{self.folder}/")
+
+    def test_what_is_refused_is_named(self) -> None:
+        self.note.check()
+        (self.folder / "note").write_bytes(b"\xff")
+        self.assertEqual(self.refusal(), "note: not UTF-8")
+        (self.folder / "note").write_text("x" * 1_000_001)
+        self.assertEqual(self.refusal(), "note: has 1,000,001 characters, and a note has at most 1,000,000")
+        (self.folder / "note").unlink()
+        (self.folder / "note").mkdir()
+        self.assertEqual(self.refusal(), "note: is a folder")
+
+    def test_nothing_that_is_kept_is_overwritten(self) -> None:
+        path = self.folder / "note"
+        for text, kept in [("one", "note~"), ("two", "note.~1~"), ("two", "note.~1~"), ("one", "note~")]:
+            path.write_text(text)
+            self.assertEqual(keep(str(path)), str(self.folder / kept))
+            self.assertEqual((self.folder / kept).read_text(), text)
+
+    def test_a_text_is_put_with_its_mode_and_the_date_of_the_log(self) -> None:
+        for is_link in (False, True):
+            with self.subTest(is_link=is_link):
+                for name in ("note", "note.ops", "real"):
+                    (self.folder / name).unlink(missing_ok=True)
+                (self.folder / "real").write_text("old")
+                (self.folder / "real").chmod(0o640)
+                if is_link:
+                    (self.folder / "note").symlink_to("real")
+                else:
+                    (self.folder / "real").rename(self.folder / "note")
+                (self.folder / "note.ops").touch()
+                os.utime(self.note.log, ns=(1, 123456789))
+                put_text(self.note, "nëw\r\n")
+                self.assertEqual((self.folder / "note").read_bytes(), "nëw\r\n".encode())
+                found = os.stat(self.note.name)
+                self.assertEqual((stat.S_IMODE(found.st_mode), found.st_mtime_ns), (0o640, 123456789))
+                self.assertEqual(os.path.islink(self.note.name), is_link)
+                self.assertFalse(os.path.exists(self.note.next_text))
+
+    def test_keys_are_kept_beside_others(self) -> None:
+        self.assertEqual(keep_keys(self.note, b"a"), f"{self.note.name}.keys")
+        self.assertEqual(keep_keys(self.note, b"b"), f"{self.note.name}.keys.~1~")
+
+
+class TestNumbers(InFolder):
+    def setUp(self) -> None:
+        super().setUp()
+        patch = mock.patch.dict(os.environ, XDG_STATE_HOME=str(self.folder / "state"))
+        patch.start()
+        self.addCleanup(patch.stop)
+
+    def test_a_number_is_kept(self) -> None:
+        first = numbers.number_of(self.note.name, b"")
+        self.assertIn(first, range(1000, 65001))
+        self.assertEqual(numbers.number_of(self.note.name, b""), first)
+        self.assertEqual(os.listdir(self.folder), ["state"])
+        (self.folder / "link").symlink_to(self.folder)
+        self.assertEqual(numbers.number_of(str(self.folder / "link" / "note"), b""), first)
+
+    def test_another_machine_user_and_note_have_others(self) -> None:
+        with mock.patch.object(numbers, "draw", side_effect=[1001, 1002, 1003, 1004]):
+            self.assertEqual(numbers.number_of(self.note.name, b""), 1001)
+            with mock.patch.object(numbers, "machine", return_value="another"):
+                self.assertEqual(numbers.number_of(self.note.name, b""), 1002)
+            with mock.patch.object(numbers, "user", return_value="another"):
+                self.assertEqual(numbers.number_of(self.note.name, b""), 1003)
+            self.assertEqual(numbers.number_of(self.note.name + "2", b""), 1004)
+            self.assertEqual(numbers.number_of(self.note.name, b""), 1001)
+
+    def test_numbers_that_wrote_in_the_log_are_not_drawn(self) -> None:
+        log = b'{"char":"a","id":[1,2000],"op":"ins","parent":[0,0]}\n{"id":[1,2000],"op":"del"}\n'
+        self.assertEqual(numbers.used_in(log), {2000})
+        drawn = iter([2000, 3000])
+        self.assertEqual(numbers.draw({2000}, lambda least, most: next(drawn)), 3000)
+
+
+if __name__ == "__main__":
+    unittest.main()

@@ -1,0 +1,60 @@
+"""Connections that are passed on."""
+
+import socket
+import threading
+import unittest
+
+import context  # noqa: F401
+
+from mgr_front.relay import HOST, Relay
+
+
+def hear(side: socket.socket) -> bytes:
+    """Returns what a side says up to its end."""
+    return b"".join(iter(lambda: side.recv(4096), b""))
+
+
+class TestRelay(unittest.TestCase):
+    def setUp(self) -> None:
+        self.far = socket.create_server((HOST, 0))
+        self.addCleanup(self.far.close)
+        self.relay = Relay(self.far.getsockname()[1])
+        self.relay.start()
+        self.addCleanup(self.relay.end)
+
+    def reply(self, heard: list[bytes]) -> None:
+        side, _ = self.far.accept()
+        with side:
+            heard.append(hear(side))
+            side.sendall(b"reply")
+
+    def test_both_are_heard_to_their_ends(self) -> None:
+        for said in (b"", b"hello", b"x" * 3_000_000):
+            with self.subTest(length=len(said)):
+                heard: list[bytes] = []
+                peer = threading.Thread(target=self.reply, args=(heard,))
+                peer.start()
+                with socket.create_connection((HOST, self.relay.port)) as near:
+                    near.sendall(said)
+                    near.shutdown(socket.SHUT_WR)
+                    self.assertEqual(hear(near), b"reply")
+                peer.join()
+                self.assertEqual(heard, [said])
+
+    def test_one_that_says_nothing_is_left(self) -> None:
+        with socket.create_connection((HOST, self.relay.port)) as near:
+            far, _ = self.far.accept()
+            with far:
+                while not self.relay.sides:
+                    pass
+                self.relay.break_off()
+                self.assertEqual(hear(near), b"")
+
+    def test_where_nobody_is(self) -> None:
+        self.far.close()
+        with socket.create_connection((HOST, self.relay.port)) as near:
+            self.assertEqual(hear(near), b"")
+
+
+if __name__ == "__main__":
+    unittest.main()

@@ -1,0 +1,131 @@
+"""What a terminal shows of a frame, and what is sent to have it show that."""
+
+import re
+import unittest
+
+import context  # noqa: F401
+
+from mgr_front.cells import cells, total_width
+from mgr_front.echo import Echo, echo_line
+from mgr_front.frames import Frame
+from mgr_front.screen import change
+from mgr_front.view import Line, Picture, picture
+
+MODE = "----Mg: n (fundamental) L1 C0 W0".ljust(500, "-")
+
+
+def texts(shown: Picture) -> list[str]:
+    return ["".join(sign for sign, _ in line.cells) for line in shown.lines]
+
+
+class TestPictures(unittest.TestCase):
+    def test_the_row_of_point_is_shifted(self) -> None:
+        frame = Frame(("x" * 30, "abcdefghijklmnopqrstuvwxyz", MODE, ""), 1, 25)
+        shown = picture(frame, Echo(""), 4, 20)
+        self.assertEqual(texts(shown), ["x" * 19 + "$", "$lmnopqrstuvwxyz", MODE[:20], ""])
+        self.assertEqual((shown.row, shown.column), (1, 15))
+
+    def test_the_echo_line_is_shifted_while_it_has_the_cursor(self) -> None:
+        frame = Frame(("x", MODE, "Find file: " + "y" * 20), 2, 31)
+        shown = picture(frame, echo_line(frame, frame.echo), 3, 20)
+        self.assertEqual(texts(shown)[2], "$" + "y" * 10)
+        self.assertEqual((shown.row, shown.column), (2, 11))
+
+    def test_a_smaller_terminal_shows_point_and_the_echo_line(self) -> None:
+        rows = tuple("abcdefgh") + (MODE, "said")
+        for point, wanted, row in [(0, "ab", 0), (1, "ab", 1), (4, "de", 1), (7, "gh", 1)]:
+            with self.subTest(point=point):
+                shown = picture(Frame(rows, point, 0), Echo("said"), 3, 20)
+                self.assertEqual(texts(shown), [*wanted, "said"])
+                self.assertEqual(shown.row, row)
+
+    def test_no_size_is_too_small(self) -> None:
+        frame = Frame(("x" * 500, "漢" * 250, MODE, "said"), 1, 498)
+        for rows in range(6):
+            for columns in range(30):
+                with self.subTest(rows=rows, columns=columns):
+                    shown = picture(frame, Echo("said"), rows, columns, "live")
+                    self.assertTrue(0 <= shown.row < len(shown.lines) and 0 <= shown.column < max(columns, 4))
+
+    def test_mode_lines_are_in_reverse_and_the_current_one_has_the_status(self) -> None:
+        shown = picture(Frame(("a", MODE, "b", MODE, ""), 0, 0), Echo(""), 5, 40, "live")
+        self.assertEqual([line.is_reverse for line in shown.lines], [False, True, False, True, False])
+        self.assertEqual(texts(shown)[1], "----Mg: n (fundamental) L1 C0 W0-- live ")
+        self.assertEqual(texts(shown)[3], MODE[:40])
+
+
+class TestEchoLines(unittest.TestCase):
+    def test_echo_lines(self) -> None:
+        for what, echo, prompt, remarks, wanted in [
+            ("nothing", "", "", [], Echo("")),
+            ("a message", "Quit", "", [], Echo("Quit")),
+            ("a prompt behind one", "Undefined key", "Find file: a", [], Echo("Find file: a [Undefined key]", 12)),
+            ("a search behind one", "Search failed", "I-search: a", [], Echo("I-search: a [Search failed]")),
+            ("a remark alone", "", "", ["Sent 1, received 2"], Echo("Sent 1, received 2")),
+            ("a remark behind a message", "Quit", "", ["no hub"], Echo("Quit [no hub]")),
+        ]:
+            with self.subTest(what):
+                self.assertEqual(echo_line(Frame(("", MODE, echo), 0, 0), prompt, None, remarks), wanted)
+
+    def test_a_prompt_that_shows_has_the_cursor_where_mgr_put_it(self) -> None:
+        frame = Frame(("", MODE, "Find file: a"), 2, 12)
+        self.assertEqual(echo_line(frame, "Find file: a"), Echo("Find file: a", 12))
+
+
+class TestChanges(unittest.TestCase):
+    """A change is played on a row of cells, and that has to be the new line then."""
+
+    def play(self, old: str, sent: str) -> str:
+        row: list[str] = []
+        for sign, columns in cells(old):
+            row += [sign] + [""] * (columns - 1)
+        for column, text, cleared in re.findall(r"\x1b\[1;(\d+)H([^\x1b]*)(\x1b\[K)?", sent):
+            place = int(column) - 1
+            for sign, columns in cells(text):
+                row += [" "] * (place - len(row))
+                row[place : place + columns] = [sign] + [""] * (columns - 1)
+                place += columns
+            if cleared:
+                del row[place:]
+        return "".join(row)
+
+    def test_changes(self) -> None:
+        for old, new, most in [
+            ("", "hello", 5),
+            ("hello", "hello", 0),
+            ("hello", "hello!", 1),
+            ("hello!", "hello", 0),
+            ("L1 C5 W0", "L1 C6 W0", 1),
+            ("漢字x", "漢漢x", 2),
+            ("漢x漢", "ab漢x", 4),
+            ("cafe", "cafe\u0301", 2),
+            ("cafe\u0301s", "cafes", 2),
+            ("abc", "", 0),
+        ]:
+            with self.subTest(old=old, new=new):
+                sent = change(0, Line(cells(old)), Line(cells(new)))
+                self.assertEqual(self.play(old, sent), new)
+                text = re.sub(r"\x1b\[[\d;]*[HK]", "", sent)
+                self.assertLessEqual(len(text), most)
+
+    def test_where_terminals_do_not_agree_the_whole_line_is_sent(self) -> None:
+        for old, new in [("a\u200db", "a\u200dc"), ("ab", "a❤\ufe0f"), ("🇩🇪x", "🇩🇪y")]:
+            with self.subTest(new=new):
+                self.assertEqual(change(0, Line(cells(old)), Line(cells(new))), f"\x1b[1;1H\x1b[K{new}")
+
+    def test_another_kind_of_line_is_sent_as_a_whole(self) -> None:
+        sent = change(0, Line(cells("abc")), Line(cells("abc"), True))
+        self.assertEqual(sent, "\x1b[1;1H\x1b[7mabc\x1b[m")
+
+    def test_a_part_of_a_mode_line_is_in_reverse(self) -> None:
+        sent = change(8, Line(cells("C5 W0"), True), Line(cells("C6 W0"), True))
+        self.assertEqual(sent, "\x1b[9;2H\x1b[7m6\x1b[m")
+
+    def test_full_lines_are_never_cleared(self) -> None:
+        full = Line(cells("x" * 20))
+        self.assertEqual(total_width(full.cells), 20)
+        self.assertNotIn("\x1b[K", change(0, Line(cells("y" * 20)), full))
+
+
+if __name__ == "__main__":
+    unittest.main()

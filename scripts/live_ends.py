@@ -1,0 +1,234 @@
+"""Ends of mgr-live, saves without a key for them, and exchanges with peers."""
+
+import os
+import random
+import signal
+import socket
+import subprocess
+import time
+
+from session import EXCHANGE, await_listener, free_port
+from terminal import BEHIND, is_gone, mode_line, text_of
+
+
+def edit(terminal, words, keys):
+    """Presses keys in a note of the terminal's folder, without a terminal."""
+    command = [terminal.mgr, "edit", *words]
+    subprocess.run(command, input=keys, cwd=terminal.folder, check=True, capture_output=True)
+
+
+def ended_by_a_signal(terminal):
+    """TERM, where a prompt is open and two buffers are changed"""
+    terminal.begin("notes --replica 1")
+    terminal.see("start", {8: mode_line("--", "L1 C0")}, (0, 0))
+    terminal.write("first")
+    terminal.press("C-x", "C-f")
+    terminal.write("other")
+    terminal.press("Enter")
+    terminal.write("second")
+    terminal.press("C-x", "C-f", "n", "o")
+    terminal.see("a prompt", {0: "second", 8: mode_line("**", "L1 C6", "other"), 9: "Find file: no"}, (9, 13))
+    os.kill(terminal.programs()[0], signal.SIGTERM)
+    terminal.left("TERM", "status 143")
+    terminal.expect_file("notes", "first")
+    terminal.expect_file("other", "second")
+
+
+def mgr_is_killed(terminal):
+    """a KILL of mgr, which loses what was not saved"""
+    terminal.begin("notes --replica 1")
+    terminal.see("start", {8: mode_line("--", "L1 C0")}, (0, 0))
+    os.kill(terminal.programs()[1], signal.SIGKILL)
+    terminal.left("mgr is killed", "mgr-live: signal 9 ended mgr", "status 137")
+
+
+def typed_ahead(terminal):
+    """TERM right behind much that is typed"""
+    terminal.begin("notes --replica 1")
+    terminal.see("start", {8: mode_line("--", "L1 C0")}, (0, 0))
+    text = "".join(f"{i:5} a line that was typed before the end\n" for i in range(2000))
+    live = terminal.programs()[0]
+    terminal.paste(text.encode())
+    time.sleep(0.3)
+    os.kill(live, signal.SIGTERM)
+    terminal.left("TERM", "status 143")
+    saved = (terminal.folder / "notes").read_text()
+    print(f"    {len(saved)} of {len(text)} characters had been read from the terminal, and are saved")
+    terminal.expect("what was read is a beginning", lambda: text.startswith(saved) and len(saved) > 1000, True)
+
+
+def a_fault_of_the_front(terminal):
+    """an exception in mgr-live itself"""
+    broken = terminal.folder / "broken.py"
+    broken.write_text(
+        "import sys\n"
+        f"sys.path.insert(0, {str(terminal.live.parent)!r})\n"
+        "from mgr_front import live, session\n"
+        "def fail(*_):\n"
+        "    raise RuntimeError('made for this trial')\n"
+        "session.Session.repaint = fail\n"
+        f"sys.exit(live.main(sys.argv[1:], {str(terminal.live.parent)!r}))\n"
+    )
+    terminal.shell(f"python3 {broken} notes --replica 1 2>said; {BEHIND}")
+    terminal.see("start", {8: mode_line("--", "L1 C0")}, (0, 0))
+    terminal.write("not lost")
+    terminal.press("C-l")
+    terminal.left("an exception", "status 1")
+    terminal.expect("it is told", lambda: "made for this trial" in (terminal.folder / "said").read_text(), True)
+    terminal.expect_file("notes", "not lost")
+
+
+def saved_by_itself(terminal):
+    """30 seconds without a key"""
+    (terminal.folder / "new").write_text("")
+    terminal.begin("notes --replica 1")
+    terminal.see("start", {8: mode_line("--", "L1 C0")}, (0, 0))
+    terminal.write("a")
+    terminal.press("C-x", "C-s", "C-x", "C-f")
+    terminal.write("unsaved")
+    terminal.press("Enter", "b", "C-x", "b", "Enter")
+    terminal.write("c")
+    terminal.see("a buffer with a log, and one without", {0: "ac", 8: mode_line("**", "L1 C2")}, (0, 2))
+    begun = time.monotonic()
+    terminal.see("later", {8: mode_line("--", "L1 C2"), 9: "Wrote notes"}, (0, 2), seconds=40)
+    print(f"    saved after {time.monotonic() - begun:.0f} seconds")
+    terminal.expect_file("notes", "ac")
+    terminal.expect("the other one", (terminal.folder / "unsaved").exists, False)
+    terminal.press("C-x", "C-c", "y")
+    terminal.left("left", "status 0")
+
+
+def waiting_for_a_peer(terminal):
+    """a wait for a peer that C-g ends, and TERM"""
+    port = free_port()
+    for end in ("C-g", "TERM"):
+        terminal.begin(f"notes --replica 1 --port {port}")
+        terminal.see("start", {8: mode_line("--", "L1 C0")})
+        terminal.write("hello ")
+        terminal.press("M-x")
+        terminal.write("replica-serve")
+        terminal.press("Enter")
+        await_listener(port)
+        terminal.write("typed ahead")
+        if end == "C-g":
+            terminal.press("C-g")
+            terminal.expect("C-g", lambda: terminal.shown()[0], "hello typed ahead")
+            terminal.quit("saved")
+        else:
+            os.kill(terminal.programs()[0], signal.SIGTERM)
+            terminal.left("TERM", "status 143")
+        terminal.expect_file("notes", "hello typed ahead")
+        for path in terminal.folder.glob("notes*"):
+            path.unlink()
+
+
+def a_silent_peer(terminal):
+    """a peer that says nothing, which mgr waits for, and TERM"""
+    with socket.create_server(("127.0.0.1", 0)) as peer:
+        port = peer.getsockname()[1]
+        terminal.begin(f"notes --replica 1 --port {port}")
+        terminal.see("start", {8: mode_line("--", "L1 C0")}, (0, 0))
+        terminal.write("saved before")
+        terminal.press("M-x")
+        terminal.write("replica-exchange")
+        terminal.press("Enter")
+        link, _ = peer.accept()
+        with link:
+            terminal.write(", typed")
+            terminal.press("Enter")
+            terminal.write("meanwhile")
+            time.sleep(0.5)
+            os.kill(terminal.programs()[0], signal.SIGTERM)
+            said = "mgr-live: mgr did not take the last keys: they are in notes."
+            terminal.expect("TERM", lambda: terminal.shown()[:2], [said, "keys"], seconds=30)
+    terminal.expect_file("notes", "saved before")
+    terminal.expect_file("notes.keys", ", typed\rmeanwhile")
+
+
+# Keys that mgr-live hands on as they are, some of which open prompts, begin others or end them.
+KEYS = [b"a", b"word ", b"c\r", b"\x7f", b"\x13", b"\x12", b"y", b"n", b"!", b"\x07", b"\x154", b"\x11"]
+KEYS += [b"\x18b\r", b"\x18b", b"\x18\x13", b"\x182", b"\x18o", b"\x180", b"\x181", b"\x0b", b"\x19", b"\x17"]
+KEYS += [b"\x00", b"\x1f", b"\x0c", b"\x01", b"\x05", b"\x02", b"\x06", "漢".encode(), "é".encode()]
+LEAVE, SAVE_AND_NEXT = b"\xff\x07", b"\x18\x13\x18b\r"
+
+
+def seeded_keys(terminal):
+    """keys by chance, in pieces, and TERM: the note is the one that mgr makes of them without mgr-live"""
+    for seed in range(12):
+        chance = random.Random(seed)
+        keys = b"".join(chance.choice(KEYS) for _ in range(chance.randrange(5, 150)))
+        for name in ("live", "edit"):
+            (terminal.folder / name).mkdir(exist_ok=True)
+            for path in (terminal.folder / name).iterdir():
+                path.unlink()
+        terminal.begin("live/n --replica 1")
+        terminal.expect("start", lambda: terminal.shown()[8], mode_line("--", "L1 C0", "live/n"))
+        rest = keys
+        while rest:
+            piece = rest[: chance.randrange(1, 30)]
+            terminal.tmux("send-keys", "-H", *[f"{byte:02x}" for byte in piece])
+            rest = rest[len(piece) :]
+        time.sleep(0.3)
+        os.kill(terminal.programs()[0], signal.SIGTERM)
+        terminal.expect("TERM", lambda: "same terminal" in terminal.shown(), True)
+        edit(terminal, ["edit/n", "--replica", "1"], keys + LEAVE + SAVE_AND_NEXT * 8)
+        paths = [terminal.folder / name / "n" for name in ("live", "edit")]
+        texts = [path.read_text() if path.exists() else "" for path in paths]
+        terminal.expect(f"seed {seed}: {keys!r}", lambda: texts[0], texts[1])
+        print(f"    {len(keys)} bytes of keys: {len(texts[0])} characters")
+
+
+def exchanging(terminal):
+    """an exchange, whose message stays for two seconds"""
+    port = free_port()
+    terminal.begin(f"notes --replica 1 --port {port}")
+    terminal.see("start", {8: mode_line("--", "L1 C0")}, (0, 0))
+    terminal.write("ours")
+    terminal.press("M-x")
+    terminal.write("replica-serve")
+    terminal.press("Enter")
+    await_listener(port)
+    terminal.write("!")
+    edit(terminal, ["peer", "--replica", "2", "--port", str(port)], EXCHANGE)
+    begun = time.monotonic()
+    terminal.see("a key was typed ahead", {0: "ours!", 9: "Sent 4, received 0"}, (0, 5))
+    terminal.press("C-x", "C-f")
+    terminal.see("a prompt", {9: "Find file:  [Sent 4, received 0]"}, (9, 11))
+    terminal.see("later", {9: "Find file:"}, (9, 11))
+    took = time.monotonic() - begun
+    terminal.expect(f"it stood for {took:.1f} seconds", lambda: took >= 1.8, True)
+    print(f"    it stood for {took:.1f} seconds")
+    terminal.press("C-g")
+    terminal.quit("saved")
+
+
+def hanging_up(terminal):
+    """the terminal is closed"""
+    terminal.begin("notes --replica 1")
+    terminal.see("start", {8: mode_line("--", "L1 C0")}, (0, 0))
+    terminal.write("typed before the end")
+    terminal.press("C-r", "b")
+    terminal.see("a search", {9: "I-search backward: b"})
+    programs = terminal.programs()
+    terminal.server.run("kill-session", "-t", terminal.name)
+    end = time.monotonic() + 10
+    while not all(map(is_gone, programs)) and time.monotonic() < end:
+        time.sleep(0.05)
+    text = (terminal.folder / "notes").read_text()
+    if text != "typed before the end" or text_of(terminal.mgr, terminal.folder / "notes.ops") != text:
+        raise SystemExit(f"NOT AS IT SHOULD BE: the note is {text!r}")
+    print(f"both programs have ended, and the note is {text!r}")
+
+
+PARTS = (
+    ended_by_a_signal,
+    mgr_is_killed,
+    typed_ahead,
+    a_fault_of_the_front,
+    seeded_keys,
+    waiting_for_a_peer,
+    a_silent_peer,
+    exchanging,
+    saved_by_itself,
+    hanging_up,
+)

@@ -1,0 +1,157 @@
+"""A note's files and what mgr-live does with them at the start."""
+
+import re
+
+from terminal import BEHIND, mode_line, text_of
+
+
+def made(terminal, text, then=None, name="notes"):
+    """Makes a note with this text and its log; then another program writes another text."""
+    (terminal.folder / name).write_text(text)
+    terminal.begin(f"{name} --replica 1")
+    terminal.see(f"a note {name}", {8: mode_line("**", "L1 C0", name)}, (0, 0))
+    terminal.quit("saved")
+    if then is not None:
+        (terminal.folder / name).write_text(then)
+
+
+OLD = "one\ntwo\nthree\nfour\n"
+NEW = "one\n2\nthree\nfour and a half\nfive\n"
+
+
+def taking_the_file(terminal):
+    """a text that another program changed, and which is gone on with"""
+    made(terminal, OLD, NEW)
+    log = (terminal.folder / "notes.ops").read_text()
+    terminal.begin("notes --replica 1")
+    terminal.expect("the question", lambda: "f or l?" in terminal.shown(), True)
+    terminal.picture()
+    terminal.write("x")
+    terminal.press("Enter")
+    terminal.expect("once more", lambda: terminal.shown().count("f or l?"), 1)
+    terminal.write("f")
+    terminal.press("Enter")
+    terminal.see("f", {0: "one", 1: "2", 4: "five", 8: mode_line("--", "L1 C0")}, (0, 0))
+    added = (terminal.folder / "notes.ops").read_text().removeprefix(log).splitlines()
+    put, deleted = (sum(f'"op":"{op}"' in line for line in added) for op in ("ins", "del"))
+    print(f"    the log has {put} insertions and {deleted} deletions more")
+    terminal.expect("as few as that", lambda: (put, deleted), (1 + len(" and a half\nfive"), 3))
+    terminal.press("C-x", "C-c")
+    terminal.expect("left", lambda: any(row.endswith("status 0") for row in terminal.shown()), True)
+    terminal.expect_file("notes", NEW)
+    terminal.expect("the log", lambda: text_of(terminal.mgr, terminal.folder / "notes.ops"), NEW)
+    terminal.expect("nothing is kept", lambda: sorted(path.name for path in terminal.folder.glob("notes*~")), [])
+
+
+def keeping_the_file(terminal):
+    """a text that another program changed, and which is kept beside the note"""
+    made(terminal, OLD, NEW)
+    terminal.begin("notes --replica 1")
+    terminal.expect("the question", lambda: "f or l?" in terminal.shown(), True)
+    terminal.write("l")
+    terminal.press("Enter")
+    terminal.see("l", {1: "two", 3: "four", 8: mode_line("--", "L1 C0")}, (0, 0))
+    terminal.expect_file("notes~", NEW)
+    terminal.expect_file("notes", OLD)
+    terminal.write("!")
+    terminal.press("C-x", "C-s", "C-x", "C-c")
+    terminal.expect("left", lambda: any(row.endswith("status 0") for row in terminal.shown()), True)
+    terminal.expect_file("notes", "!" + OLD)
+    terminal.expect("nothing else is kept", lambda: [path.name for path in terminal.folder.glob("notes*~")], ["notes~"])
+
+
+def by_the_command_line(terminal):
+    """the same without a question, and a question that is left"""
+    made(terminal, OLD, NEW)
+    terminal.begin("notes --replica 1")
+    terminal.expect("the question", lambda: "f or l?" in terminal.shown(), True)
+    terminal.press("C-d")
+    terminal.expect("C-d", lambda: "mgr-live: nothing was done" in terminal.shown(), True)
+    terminal.expect_file("notes", NEW)
+    terminal.begin("notes --replica 1 --take-file")
+    terminal.see("--take-file", {1: "2", 8: mode_line("--", "L1 C0")}, (0, 0))
+    terminal.press("C-x", "C-c")
+    terminal.left("left", "status 0")
+    (terminal.folder / "notes").write_text(OLD)
+    terminal.begin("notes --replica 1 --keep-file")
+    terminal.see("--keep-file", {1: "2", 8: mode_line("--", "L1 C0")}, (0, 0))
+    terminal.press("C-x", "C-c")
+    terminal.left("left", "status 0")
+    terminal.expect_file("notes~", OLD)
+    terminal.expect_file("notes", NEW)
+
+
+def a_missing_part(terminal):
+    """a log of which a part is missing"""
+    made(terminal, "one two three\n")
+    log = terminal.folder / "notes.ops"
+    lines = log.read_text().splitlines(keepends=True)
+    log.write_text("".join(line for i, line in enumerate(lines) if i != 3))
+    (terminal.folder / "notes").write_text("one two three\n")
+    terminal.begin("notes --replica 1 --keep-file")
+    said = "A part of notes.ops is missing; see notes~"
+    terminal.see("the first frame", {0: "one", 8: mode_line("--", "L1 C0", waiting=10), 9: said})
+    terminal.press("C-x", "C-c")
+    terminal.left("left", "status 0")
+    terminal.expect_file("notes~", "one two three\n")
+
+
+def numbers(terminal):
+    """numbers that are drawn and kept"""
+    terminal.begin("notes")
+    terminal.see("without a number", {8: mode_line("--", "L1 C0")}, (0, 0))
+    terminal.write("a")
+    terminal.quit("saved")
+    terminal.begin("notes")
+    terminal.see("once more", {0: "a"}, (0, 0))
+    terminal.write("b")
+    terminal.quit("saved")
+    log = (terminal.folder / "notes.ops").read_text()
+    drawn = set(re.findall(r'"id":\[\d+,(\d+)\]', log))
+    kept = (terminal.folder / "state" / "mgr" / "replicas").read_text()
+    print(f"    {kept.strip()}")
+    terminal.expect("one number", lambda: [len(drawn), all(f", {number}]" in kept for number in drawn)], [1, True])
+    beside = sorted(path.name for path in terminal.folder.glob("notes*"))
+    terminal.expect("beside the note", lambda: beside, ["notes", "notes.ops"])
+
+
+def refusals(terminal):
+    """what is no note, and wrong command lines"""
+    (terminal.folder / "folder").mkdir()
+    (terminal.folder / "large").write_text("x" * 1_000_001)
+    (terminal.folder / "latin").write_bytes(b"caf\xe9")
+    (terminal.folder / "bad.ops").write_text("no operation\n")
+    for words, said, status in [
+        ("folder", "folder: is a folder", 1),
+        ("large", "large: has 1,000,001 characters, and a note has at most 1,000,000", 1),
+        ("latin", "latin: not UTF-8", 1),
+        ("bad --replica 1", "bad.ops: line 1: Json", 1),
+        ("--version", "mgr-live 0.1.0", 0),
+    ]:
+        said = said if status == 0 else f"mgr-live: {said}"
+        terminal.begin(words)
+        terminal.left(f"mgr-live {words}", *terminal.wrapped(said), f"status {status}")
+    terminal.begin("")
+    terminal.expect("mgr-live alone", lambda: "status 2" in terminal.shown(), True)
+    terminal.expect("its usage", lambda: any(row.startswith("usage: mgr-live ") for row in terminal.shown()), True)
+    terminal.begin("notes --replica 1", before="MGR=./nowhere")
+    terminal.left("no mgr", "mgr-live: the program ./nowhere is not there", "status 3")
+    terminal.shell(f"stty columns 19; {terminal.live} notes; stty columns {terminal.columns}; {BEHIND}")
+    small = f"mgr-live: the terminal is too small: it has {terminal.rows} rows and 19 columns, and "
+    terminal.left("19 columns", *terminal.wrapped(small + "3 rows and 20 columns are needed"), "status 0")
+
+
+def open_twice(terminal):
+    """a note that another mgr has open"""
+    made(terminal, OLD)
+    other = terminal.another("other")
+    other.begin("notes --replica 2")
+    other.see("open elsewhere", {0: "one"}, (0, 0))
+    terminal.begin("notes --replica 1")
+    said = "mgr-live: notes: another mgr has it open, or a file of it cannot be read"
+    terminal.left("open once more", *terminal.wrapped(said), "status 3")
+    other.press("C-x", "C-c")
+    other.left("left", "status 0")
+
+
+PARTS = (taking_the_file, keeping_the_file, by_the_command_line, a_missing_part, numbers, refusals, open_twice)
