@@ -102,8 +102,11 @@ class Dispatcher:
             return True
         if desk.errand:
             return False
-        goes_on = isinstance(stroke, Typed) and not self.prefix and stroke.data[0] not in self.special
-        return goes_on or self.editor.dialogue.is_settled
+        if not isinstance(stroke, Typed) or self.prefix or self.editor.dialogue.is_settled:
+            return self.editor.dialogue.is_settled
+        # C-z does not wait for a peer.
+        is_waiting = bool(self.editor.dialogue.command)
+        return stroke.data[0] not in self.special or stroke.data[0] == SUSPEND and is_waiting
 
     def _answer(self, stroke: Stroke, desk: Desk) -> None:
         """Gives the front's own question the first key of a stroke; the others wait, as it may end."""

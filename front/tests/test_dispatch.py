@@ -124,6 +124,13 @@ class TestDispatch(unittest.TestCase):
         self.assertEqual(self.press(b"\x11\x1a"), b"\x11\x1a")
         self.assertEqual(self.desk.done, ["suspend", "suspend"])
 
+    def test_suspending_while_a_peer_is_waited_for(self) -> None:
+        self.press(b"\x1bxreplica-serve")
+        self.answer(*["M-x replica-serve"[:i] for i in range(4, 18)])
+        self.editor.dialogue.hand_on(b"\r")
+        self.press(b"\x1a")
+        self.assertEqual(self.desk.done, ["suspend"])
+
     def test_keys_of_an_answer(self) -> None:
         self.assertEqual(self.press(b"\t"), b"\t")
         self.assertEqual(self.answer("") + self.press(b"\r"), b"\r")

@@ -1,0 +1,90 @@
+"""Sessions beside a program that takes the place of mgr, and their ends."""
+
+import pathlib
+import stat
+import sys
+import tempfile
+import unittest
+from unittest import mock
+
+import context  # noqa: F401
+
+from mgr_front import ending, session
+from mgr_front.editor import Editor
+from mgr_front.keys import Keys
+from mgr_front.notes import Note
+from mgr_front.session import Session
+
+FAKE = pathlib.Path(__file__).with_name("fake_mgr.py")
+
+
+class TestEnds(unittest.TestCase):
+    def setUp(self) -> None:
+        folder = tempfile.TemporaryDirectory()
+        self.addCleanup(folder.cleanup)
+        self.folder = pathlib.Path(folder.name)
+        self.program = self.folder / "mgr"
+        self.program.write_text(f'#!/bin/sh\nexec {sys.executable} {FAKE} "$@"\n')
+        self.program.chmod(self.program.stat().st_mode | stat.S_IXUSR)
+
+    def begin(self, name: str) -> Session:
+        self.note = Note(str(self.folder / name))
+        said = tempfile.TemporaryFile()
+        self.addCleanup(said.close)
+        editor = Editor(str(self.program), [self.note.name], 3, said)
+        screen, signals = mock.Mock(erase=127), mock.Mock(first=None)
+        return Session(editor, screen, signals)
+
+    def await_frame(self, edit: Session) -> None:
+        """Waits for the first frame."""
+        while edit.frame is None:
+            edit._await([], None)
+            self.assertTrue(edit._take_frames())
+
+    def type(self, edit: Session, sent: bytes) -> None:
+        edit.dispatcher.take(Keys().take(sent))
+
+    def text(self) -> str:
+        return pathlib.Path(self.note.name).read_text(encoding="utf-8")
+
+    def test_all_that_was_typed_is_saved(self) -> None:
+        edit = self.begin("note")
+        self.type(edit, b"typed " * 100 + b"\x18")
+        ending.finish(edit, self.note)
+        self.assertEqual(self.text(), "typed " * 100)
+        self.assertEqual(edit.editor.process.returncode, 0)
+
+    def test_it_is_too_where_the_front_has_a_fault(self) -> None:
+        edit = self.begin("note")
+        self.type(edit, b"typed")
+        with mock.patch.object(edit, "work", side_effect=RuntimeError), self.assertRaises(RuntimeError):
+            ending.finish(edit, self.note)
+        self.assertEqual(self.text(), "typed")
+
+    def test_keys_that_are_not_taken_are_kept(self) -> None:
+        edit = self.begin("silent")
+        self.await_frame(edit)
+        self.type(edit, b"0123456789the rest\r!")
+        shorter = mock.patch.multiple(session, LAST=0.5), mock.patch.multiple(ending, GIVEN_UP=0.1)
+        with mock.patch.object(ending, "tell") as tell, shorter[0], shorter[1]:
+            ending.finish(edit, self.note)
+        self.assertIn("silent.keys", tell.call_args[0][0])
+        self.assertEqual(pathlib.Path(self.note.name + ".keys").read_bytes(), b"the rest\r!")
+
+    def test_a_question_of_the_front_is_left(self) -> None:
+        edit = self.begin("note")
+        self.await_frame(edit)
+        self.type(edit, b"ab")
+        edit.work()
+        while not edit.editor.dialogue.is_settled:
+            edit._await([], None)
+            edit._take_frames()
+        self.type(edit, b"\x18g12")
+        edit.work()
+        self.assertIsNotNone(edit.question)
+        ending.finish(edit, self.note)
+        self.assertEqual(self.text(), "ab")
+
+
+if __name__ == "__main__":
+    unittest.main()
