@@ -35,8 +35,8 @@ def picture(frame: Frame, echo: Echo, rows: int, columns: int, status: str = "")
     """Returns what shows of a frame, with this echo line.
 
     The row of the cursor is shifted sideways so that the cursor shows. Where the terminal has fewer
-    rows than the frame, the echo line and the rows round the cursor show. The status stands at the
-    right end of the mode line of the current window.
+    rows than the frame, the echo line, the rows round the cursor and the mode line of its window
+    show. The status stands at the right end of that.
     """
     rows, columns = max(rows, LEAST_ROWS), max(columns, LEAST_COLUMNS)
     row, column = frame.row, frame.column
@@ -47,10 +47,19 @@ def picture(frame: Frame, echo: Echo, rows: int, columns: int, status: str = "")
     current = current_mode_row(frame)
     for i in mode_rows(frame.rows):
         lines[i] = _mode_line(frame.rows[i], columns, status if i == current else "")
-    if len(lines) <= rows:
-        return Picture(lines, row, column - left)
-    top = max(0, min(row - rows + 2, len(lines) - rows))
-    return Picture(lines[top : top + rows - 1] + lines[-1:], row - top, column - left)
+    if len(lines) > rows:
+        lines, row = _cut(lines, row, current, rows)
+    return Picture(lines, row, column - left)
+
+
+def _cut(lines: list[Line], row: int, mode: int, rows: int) -> tuple[list[Line], int]:
+    """Returns so many of the lines, and which of them is the cursor's row."""
+    body, foot = lines[:-1], lines[-1:]
+    if row < mode and rows > LEAST_ROWS and mode > rows - 2:
+        body, foot = lines[:mode], [lines[mode], *foot]
+    height = rows - len(foot)
+    top = max(0, min(row - height + 1, len(body) - height))
+    return body[top : top + height] + foot, row - top
 
 
 @functools.lru_cache(maxsize=MOST_LINES)

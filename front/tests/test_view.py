@@ -31,13 +31,26 @@ class TestPictures(unittest.TestCase):
         self.assertEqual(texts(shown)[2], "$" + "y" * 10)
         self.assertEqual((shown.row, shown.column), (2, 11))
 
-    def test_a_smaller_terminal_shows_point_and_the_echo_line(self) -> None:
+    def test_a_smaller_terminal_shows_point_its_mode_line_and_the_echo_line(self) -> None:
         rows = tuple("abcdefgh") + (MODE, "said")
-        for point, wanted, row in [(0, "ab", 0), (1, "ab", 1), (4, "de", 1), (7, "gh", 1)]:
-            with self.subTest(point=point):
-                shown = picture(Frame(rows, point, 0), Echo("said"), 3, 20)
-                self.assertEqual(texts(shown), [*wanted, "said"])
+        for height, point, wanted, row in [
+            (4, 0, ["a", "b", MODE[:20], "said"], 0),
+            (4, 1, ["a", "b", MODE[:20], "said"], 1),
+            (4, 4, ["d", "e", MODE[:20], "said"], 1),
+            (3, 7, ["h", MODE[:20], "said"], 0),
+            (2, 7, ["h", "said"], 0),
+            (3, 9, ["h", MODE[:20], "said"], 2),
+        ]:
+            with self.subTest(height=height, point=point):
+                shown = picture(Frame(rows, point, 0), Echo("said"), height, 20)
+                self.assertEqual(texts(shown), wanted)
                 self.assertEqual(shown.row, row)
+
+    def test_a_smaller_terminal_shows_the_window_of_point(self) -> None:
+        rows = ("a", "b", "c", MODE, "d", "e", MODE, "said")
+        for point, wanted in [(2, ["b", "c", MODE[:20], "said"]), (4, [MODE[:20], "d", MODE[:20], "said"])]:
+            with self.subTest(point=point):
+                self.assertEqual(texts(picture(Frame(rows, point, 0), Echo("said"), 4, 20)), wanted)
 
     def test_no_size_is_too_small(self) -> None:
         frame = Frame(("x" * 500, "漢" * 250, MODE, "said"), 1, 498)
