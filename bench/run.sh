@@ -5,7 +5,7 @@
 # (`bench/edits.py`), a command of the editor by itself (`bench/commands.py`) and on a buffer
 # (`bench/buffers.py`) and a frame of it (`bench/frames.py`), what a key of `mgr edit` costs
 # (`bench/keys.py`), an exchange between two of them (`bench/exchange.py`), and what it costs to read
-# and to write logs and exchanges (`bench/logs.py`).
+# and to write logs and exchanges (`bench/logs.py`), and random events at sites (`bench/worlds.py`).
 # `make bench` calls it. A call by hand may say `--largest N`, to have `mgr show` measured on no log
 # of more than N operations, and `--shape SHAPE`.
 #
@@ -26,6 +26,8 @@ for program in generate native; do
 done
 (cd crates/bench_tasks && rt run -- edits order 1 1 </dev/null >/dev/null)
 cp crates/bench_tasks/out/bench_tasks build/bench_tasks
+(cd crates/test_simulation && rt run -- 1 1 </dev/null >/dev/null)
+cp crates/test_simulation/out/test_simulation build/test_simulation
 
 python3 bench/measure.py "$@"
 echo
@@ -41,4 +43,6 @@ python3 bench/keys.py
 echo
 python3 bench/exchange.py
 echo
-exec python3 bench/logs.py
+python3 bench/logs.py
+echo
+exec python3 bench/worlds.py

@@ -1,0 +1,90 @@
+-- What calls of a world come to.
+use Rattle.std.proofs.Common.{◌≡◌, ℕ, zero, suc, ◌+◌, ◌<◌, ◌≤◌, Bool, true, false, List, [], ◌∷◌, ◌++◌, length, take, get_or, refl, sym, ap, ◌∙◌, subst, inl, inr, arith}
+use Rattle.std.specs.Prelude.{Result, Ok, Err, OnOk}
+use Rattle.rga_ops.specs.Identifier.{Identifier}
+use Rattle.rga_ops.specs.declared.refusal.Refusal.{Refusal}
+use Rattle.rga_ops.specs.declared.refusal.Refusal.TheVariants.{Memory, Conflict, Range}
+use Rattle.rga_store.specs.Limit.{is_limit}
+use Rattle.rga_world.specs.Sites.{World}
+use Rattle.rga_world.specs.Steps.{and_then, stepped, ran, kept}
+use Rattle.rga_world.specs.Outcomes.{Happens}
+use Rattle.rga_world.specs.Together.{IsReached}
+use Rattle.rga_world.specs.declared.event.Event.{Event}
+use Rattle.rga_world.specs.declared.refusal.WorldRefusal.{WorldRefusal}
+use Rattle.rga_world.specs.declared.refusal.WorldRefusal.TheVariants.{Store}
+use Rattle.rga_world.proofs.RunLaws.{reached_on, reached_consistent, step_no_conflict}
+
+-- what was made has a limit that stores have
+pub made_within : (limit : ℕ) (w : World) → (is_limit limit ≡ false → ◌≡◌ {A = Result World Refusal} (Ok w) (Err Range)) → is_limit limit ≡ true
+made_within limit w h = by (is_limit limit) refl
+  where
+    clash : ◌≡◌ {A = Result World Refusal} (Ok w) (Err Range) → ⊥
+    clash e = cc
+
+    by : (b : Bool) → is_limit limit ≡ b → b ≡ true
+    by true e = refl
+    by false e = absurd (clash (h e))
+
+pub step_reached : (r : Result (Unit {0}) WorldRefusal) (w v : World) (event : Event) → IsReached w → Happens r w v (stepped w event) → IsReached v
+step_reached (Ok u) w v event reached h = subst IsReached (ap (kept w) h) (reached_on w (event ∷ []) reached)
+step_reached (Err e) w v event reached h = subst IsReached (sym h.0) reached
+
+memory-conflict : (id : Identifier) → Store Memory ≡ Store (Conflict id) → ⊥
+memory-conflict id h = let inside : Memory ≡ Conflict id = cc in absurd (clash inside)
+  where
+    clash : Memory ≡ Conflict id → ⊥
+    clash e = cc
+
+pub step_conflict : (r : Result (Unit {0}) WorldRefusal) (w v : World) (event : Event) (id : Identifier) → IsReached w → Happens r w v (stepped w event) → r ≡ Err (Store (Conflict id)) → ⊥
+step_conflict (Ok u) w v event id reached h is = clash is
+  where
+    clash : ◌≡◌ {A = Result (Unit {0}) WorldRefusal} (Ok u) (Err (Store (Conflict id))) → ⊥
+    clash e = cc
+step_conflict (Err e) w v event id reached h is = elim h.1 [
+  | inl memory ↦ memory-conflict id (sym memory ∙ same is)
+  | inr refused ↦ step_no_conflict w event id (reached_consistent w reached) (refused ∙ ap (λ f. Err f) (same is))
+]
+  where
+    same : ◌≡◌ {A = Result (Unit {0}) WorldRefusal} (Err e) (Err (Store (Conflict id))) → e ≡ Store (Conflict id)
+    same q = cc
+
+-- one event more
+ran-push : (w v : World) (events : List Event) (event : Event) → ran w events ≡ Ok v → ran w (events ++ event ∷ []) ≡ and_then (stepped v event) (λ x. Ok x)
+ran-push w v [] event h = let same : w ≡ v = inside h in ap (λ x. and_then (stepped x event) (λ y. Ok y)) same
+  where
+    inside : ◌≡◌ {A = Result World WorldRefusal} (Ok w) (Ok v) → w ≡ v
+    inside e = cc
+ran-push w v (e ∷ events) event h = by (stepped w e) h (λ x k. ran-push x v events event k)
+  where
+    by : (r : Result World WorldRefusal) → and_then r (λ x. ran x events) ≡ Ok v → ((x : World) → ran x events ≡ Ok v → ran x (events ++ event ∷ []) ≡ and_then (stepped v event) (λ y. Ok y)) → and_then r (λ x. ran x (events ++ event ∷ [])) ≡ and_then (stepped v event) (λ y. Ok y)
+    by (Ok x) h rest = rest x h
+    by (Err f) h rest = absurd (clash h)
+      where
+        clash : ◌≡◌ {A = Result World WorldRefusal} (Err f) (Ok v) → ⊥
+        clash q = cc
+
+take-next : (events : List Event) (i : ℕ) (e : Event) → i < length events → e ≡ get_or events i e → take (suc i) events ≡ take i events ++ e ∷ []
+take-next [] i e inside is = absurd (omega (arith, inside))
+take-next (x ∷ events) zero e inside is = ap (λ y. y ∷ []) (sym is)
+take-next (x ∷ events) (suc i) e inside is = ap (λ ys. x ∷ ys) (take-next events i e (omega (arith, inside)) is)
+
+pub ran_on : (w v u : World) (events : List Event) (i : ℕ) (e : Event) → i < length events → e ≡ get_or events i e → ran w (take i events) ≡ Ok v → stepped v e ≡ Ok u → ran w (take (i + 1) events) ≡ Ok u
+ran_on w v u events i e inside is h step =
+    ap (λ n. ran w (take n events)) (next i) ∙ ap (ran w) (take-next events i e inside is) ∙ ran-push w v (take i events) e h ∙ ap (λ r. and_then r (λ y. Ok y)) step
+  where
+    next : (i : ℕ) → i + 1 ≡ suc i
+    next i = omega arith
+
+pub ran_all : (w v : World) (events : List Event) (i : ℕ) → length events ≤ i → ran w (take i events) ≡ Ok v → ran w events ≡ Ok v
+ran_all w v events i end h = ap (ran w) (sym (whole events i end)) ∙ h
+  where
+    whole : (xs : List Event) (n : ℕ) → length xs ≤ n → take n xs ≡ xs
+    whole [] zero end = refl
+    whole [] (suc n) end = refl
+    whole (x ∷ xs) zero end = absurd (omega (arith, end))
+    whole (x ∷ xs) (suc n) end = ap (λ ys. x ∷ ys) (whole xs n (omega (arith, end)))
+
+-- what is said of an outcome that is no refusal
+pub said_of_ok : (r : Result (Unit {0}) WorldRefusal) {P : Type 0} → OnOk r P → ((e : WorldRefusal) → r ≡ Err e → ⊥) → P
+said_of_ok (Ok u) h never = h
+said_of_ok (Err e) h never = absurd (never e refl)

@@ -1,0 +1,9 @@
+pub mod ListPlaces
+pub mod Consistent
+pub mod StepLaws
+pub mod TogetherLaws
+pub mod RunLaws
+pub mod SiteSteps
+pub mod CallLaws
+pub mod WordLaws
+pub mod ProgramLaws

@@ -1,0 +1,139 @@
+-- A site that changes, in the list of sites.
+use Rattle.std.proofs.Common.{◌≡◌, ℕ, zero, suc, ◌+◌, ◌<◌, ◌⊎◌, Bool, true, false, List, [], ◌∷◌, ◌++◌, length, map, get_or, replicate, length-append, Some, slice_get, slice_set, refl, sym, ap, ◌∙◌, subst, inl, inr, arith}
+use Rattle.std.specs.Prelude.{Result, Ok, Err}
+use Rattle.std.proofs.lemmas.List.{map-set, map-append}
+use Rattle.std.proofs.lemmas.Option.{slice_get-get_or, same_Some, none-some}
+use Rattle.rga_ops.specs.declared.refusal.Refusal.{Refusal}
+use Rattle.rga_ops.specs.declared.refusal.Refusal.TheVariants.{Range}
+use Rattle.rga_store.specs.Limit.{is_limit}
+use Rattle.rga_ops.specs.Content.{nothing}
+use Rattle.rga_world.specs.Sites.{Site, site, World, world}
+use Rattle.rga_world.specs.SiteStates.{SiteState, new_site, AreSites}
+use Rattle.rga_world.specs.Steps.{Outcome, and_then, found, changed, replica_of}
+use Rattle.rga_doc.specs.LocalEdit.{room_answer}
+use Rattle.rga_world.specs.Outcomes.{Happens, HasRoomAt}
+use Rattle.rga_world.specs.declared.refusal.WorldRefusal.{WorldRefusal}
+use Rattle.rga_world.specs.declared.refusal.WorldRefusal.TheVariants.{NoSite}
+use Rattle.rga_world.proofs.ListPlaces.{set_new, place_mapped}
+
+abbrev pub sites_of : List SiteState → List Site
+sites_of xs = map (λ s. s.site) xs
+
+pub set_same : {A : Type 0} (xs : List A) (i : ℕ) (x : A) → slice_get xs i ≡ Some x → slice_set xs i x ≡ xs
+set_same [] i x h = refl
+set_same (y ∷ xs) zero x h = ap (λ z. z ∷ xs) (sym (same_Some y x h))
+set_same (y ∷ xs) (suc i) x h = ap (λ ys. y ∷ ys) (set_same xs i x h)
+
+-- the site of a number, of which it is known what becomes of it
+pub happens_at : (xs : List SiteState) (limit number : ℕ) (x y : SiteState) (change : Site → Outcome Site) (r : Result (Unit {0}) WorldRefusal)
+    → number < length xs → x ≡ get_or xs number x → Happens r x.site y.site (change x.site) → y ≡ record x { site = y.site }
+    → Happens r (world (sites_of xs) limit) (world (sites_of (slice_set xs number y)) limit) (changed (world (sites_of xs) limit) number change)
+happens_at xs limit number x y change r inside is happens rest = by r happens
+  where
+    there : slice_get xs number ≡ Some x
+    there = slice_get-get_or xs number x inside ∙ ap Some (sym is)
+
+    put : Site → World
+    put t = world (slice_set (sites_of xs) number t) limit
+
+    changes : changed (world (sites_of xs) limit) number change ≡ and_then (change x.site) (λ t. Ok (put t))
+    changes = ap (λ o. and_then (found NoSite o) (λ s. and_then (change s) (λ t. Ok (put t)))) (place_mapped (λ (s : SiteState). s.site) xs number x there)
+
+    set : put y.site ≡ world (sites_of (slice_set xs number y)) limit
+    set = ap (λ ss. world ss limit) (sym (map-set (λ (s : SiteState). s.site) xs number y))
+
+    by : (r : Result (Unit {0}) WorldRefusal) → Happens r x.site y.site (change x.site) → Happens r (world (sites_of xs) limit) (world (sites_of (slice_set xs number y)) limit) (changed (world (sites_of xs) limit) number change)
+    by (Ok u) h = changes ∙ ap (λ o. and_then o (λ t. Ok (put t))) h ∙ ap (λ w. Ok w) set
+    by (Err e) h =
+        let same : y ≡ x = rest ∙ ap (λ s. record x { site = s }) h.0 in (
+          ap (λ z. world (sites_of (slice_set xs number z)) limit) same ∙ ap (λ zs. world (sites_of zs) limit) (set_same xs number x there),
+          elim h.1 [
+            | inl memory ↦ inl memory
+            | inr refused ↦ inr (changes ∙ ap (λ o. and_then o (λ t. Ok (put t))) refused)
+          ],
+        )
+
+-- the replicas and the limits stay
+pub still_sites : (xs : List SiteState) (limit number : ℕ) (x y : SiteState) → AreSites limit xs → number < length xs → x ≡ get_or xs number x → y ≡ record x { site = y.site } → AreSites limit (slice_set xs number y)
+still_sites xs limit number x y are inside is rest i s at = elim (set_new xs number i y s at) [
+  | inl here ↦
+      let there : slice_get xs number ≡ Some x = slice_get-get_or xs number x inside ∙ ap Some (sym is) in
+      let x_is = are number x there in
+      let s_is : s ≡ record x { site = y.site } = here.1 ∙ rest in
+      (ap (λ (z : SiteState). z.replica) s_is ∙ x_is.0 ∙ ap replica_of (sym here.0), ap (λ (z : SiteState). z.limit) s_is ∙ x_is.1)
+  | inr there ↦ are i s there
+]
+
+-- the same, by what a site knows of its own replica and limit
+pub happens_in : (xs : List SiteState) (limit number : ℕ) (x y : SiteState) (change : ℕ → ℕ → Site → Outcome Site) (r : Result (Unit {0}) WorldRefusal) (w : World)
+    → AreSites limit xs → number < length xs → x ≡ get_or xs number x → Happens r x.site y.site (change x.limit x.replica x.site) → y ≡ record x { site = y.site } → world (sites_of xs) limit ≡ w
+    → Happens r w (world (sites_of (slice_set xs number y)) limit) (changed w number (change w.limit (replica_of number)))
+happens_in xs limit number x y change r w are inside is happens rest view =
+    let there : slice_get xs number ≡ Some x = slice_get-get_or xs number x inside ∙ ap Some (sym is) in
+    let x_is = are number x there in
+    subst (λ (v : World). Happens r v (world (sites_of (slice_set xs number y)) limit) (changed v number (change v.limit (replica_of number)))) view
+    (happens_at xs limit number x y (change limit (replica_of number)) r inside is
+    (subst (λ n. Happens r x.site y.site (change n (replica_of number) x.site)) x_is.1 (subst (λ n. Happens r x.site y.site (change x.limit n x.site)) x_is.0 happens)) rest)
+
+-- a site that has room is one of the world's that has
+pub room_in : (xs : List SiteState) (limit number count : ℕ) (x : SiteState) (w : World)
+    → AreSites limit xs → number < length xs → x ≡ get_or xs number x → room_answer x.limit x.site.content count ≡ Ok tt → world (sites_of xs) limit ≡ w → HasRoomAt w number count
+room_in xs limit number count x w are inside is room view =
+    let there : slice_get xs number ≡ Some x = slice_get-get_or xs number x inside ∙ ap Some (sym is) in
+    subst (λ (v : World). HasRoomAt v number count) view
+    (x.site, place_mapped (λ (s : SiteState). s.site) xs number x there, subst (λ n. room_answer n x.site.content count ≡ Ok tt) ((are number x there).1) room)
+
+-- ---- new sites
+
+replicate-more : {A : Type 0} (n : ℕ) (x : A) → replicate (suc n) x ≡ replicate n x ++ x ∷ []
+replicate-more zero x = refl
+replicate-more (suc n) x = ap (λ ys. x ∷ ys) (replicate-more n x)
+
+pub record AreNew (limit number : ℕ) (xs : List SiteState) : Type 0 where
+  pub counted : length xs ≡ number
+  pub numbered : AreSites limit xs
+  pub empty : sites_of xs ≡ replicate number (site nothing nothing)
+
+pub none_new : (limit : ℕ) → AreNew limit 0 []
+none_new limit = record { counted = refl; numbered = λ i s at. absurd (none-some s at); empty = refl }
+
+push_place : {A : Type 0} (xs : List A) (x y : A) (i : ℕ) → slice_get (xs ++ x ∷ []) i ≡ Some y → ((i ≡ length xs) × (y ≡ x)) ⊎ (slice_get xs i ≡ Some y)
+push_place [] x y zero h = inl (refl, sym (same_Some x y h))
+push_place [] x y (suc i) h = absurd (none-some y h)
+push_place (z ∷ xs) x y zero h = inr h
+push_place (z ∷ xs) x y (suc i) h = elim (push_place xs x y i h) [
+  | inl here ↦ inl (omega (arith, here.0), here.1)
+  | inr there ↦ inr there
+]
+
+one_more_new : (limit number : ℕ) (xs : List SiteState) (x : SiteState) → AreNew limit number xs → x ≡ new_site (number + 1) limit → AreNew limit (number + 1) (xs ++ x ∷ [])
+one_more_new limit number xs x h is = record {
+  counted = let long = length-append xs (x ∷ []) in omega (arith, long, h.counted);
+  numbered = λ i s at. elim (push_place xs x s i at) [
+    | inl here ↦
+        let s_is : s ≡ new_site (number + 1) limit = here.1 ∙ is in
+        (ap (λ (z : SiteState). z.replica) s_is ∙ ap replica_of (sym h.counted ∙ sym here.0), ap (λ (z : SiteState). z.limit) s_is)
+    | inr there ↦ h.numbered i s there
+  ];
+  empty =
+      map-append (λ (s : SiteState). s.site) xs (x ∷ []) ∙ ap (λ ys. ys ++ x.site ∷ []) h.empty
+      ∙ ap (λ (z : SiteState). replicate number (site nothing nothing) ++ z.site ∷ []) is
+      ∙ sym (replicate-more number (site nothing nothing)) ∙ ap (λ n. replicate n (site nothing nothing)) (next number);
+}
+  where
+    next : (n : ℕ) → suc n ≡ n + 1
+    next n = omega arith
+
+pub pushed_new : (limit number : ℕ) (xs ys : List SiteState) (x : SiteState) → AreNew limit number xs → ys ≡ xs ++ x ∷ [] → x ≡ new_site (number + 1) limit → AreNew limit (number + 1) ys
+pushed_new limit number xs ys x h pushed is = subst (AreNew limit (number + 1)) (sym pushed) (one_more_new limit number xs x h is)
+
+-- a site that was made has a limit that stores have
+pub limit_of_made : (limit : ℕ) (s : SiteState) → (is_limit limit ≡ false → ◌≡◌ {A = Result SiteState Refusal} (Ok s) (Err Range)) → is_limit limit ≡ true
+limit_of_made limit s h = by (is_limit limit) refl
+  where
+    clash : ◌≡◌ {A = Result SiteState Refusal} (Ok s) (Err Range) → ⊥
+    clash e = cc
+
+    by : (b : Bool) → is_limit limit ≡ b → b ≡ true
+    by true e = refl
+    by false e = absurd (clash (h e))

@@ -1,0 +1,125 @@
+//! A site.
+ghost use Rattle.std.specs.Prelude.{◌≡◌, ◌≤◌, ◌⊎◌, Some, None, IfOk, IfErr, MatchResult, true, false, length, slice_get};
+ghost use Rattle.rga_ops.specs.Prelude.{operations, text};
+ghost use Rattle.rga_doc.specs.LocalEdit.{room_answer};
+ghost use Rattle.rga_store.specs.Limit.{is_limit};
+ghost use Rattle.rga_world.specs.Outcomes.{Happens};
+ghost use Rattle.rga_world.specs.SiteStates.{new_site};
+ghost use Rattle.rga_world.specs.Steps.{edited, delivered, saved, restarted};
+ghost use Rattle.std.specs.Prelude.{Ok, Err};
+
+use crate::refusal::WorldRefusal;
+use rga_doc::Doc;
+use rga_ops::{Op, Refusal};
+use rga_store::{Taker, TextStore};
+use std::alloc::Global;
+use std::marker::Model;
+
+/// A document, and a store of what was saved of it, with one limit.
+#[derive(Drop)]
+pub(crate) struct Site<S: TextStore> {
+    document: Doc<S>,
+    saved: S,
+}
+
+impl<S: TextStore> Model for Site<S> {
+    ghost use Rattle.std.specs.Prelude.{◌≡◌, ◌≤◌};
+    ghost use Rattle.rga_world.specs.Sites.{site};
+    ghost use Rattle.rga_world.specs.SiteStates.{SiteState, site_state, site_state_code};
+
+    ghost Value = { SiteState };
+
+    ghost coded = { site_state_code };
+
+    ghost view = { λ s. site_state (site s.document.content (S.content s.saved))
+        s.document.replica s.document.limit };
+
+    ghost invariant = { λ s. (S.limit s.saved ≡ s.document.limit) × (1 ≤ s.document.replica) };
+}
+
+impl<S: TextStore> Site<S> {
+    /// A site that holds nothing and has saved nothing. `Range` for a limit that no store has; then
+    /// `Memory`.
+    pub(crate) fn new(alloc: Global, replica: u16, limit: usize) -> Result<Site<S>, Refusal>
+        requires { 1 ≤ replica }
+        ensures range { is_limit limit ≡ false → result ≡ Err Refusal.Range }
+        ensures made { is_limit limit ≡ true → MatchResult result
+            (λ s. s ≡ new_site replica limit) (λ e. e ≡ Refusal.Memory) }
+    {
+        let document = Doc::new(alloc, S::new(alloc, limit)?, replica)?;
+        let saved = S::new(alloc, limit)?;
+        Ok(Site { document, saved })
+    }
+
+    /// One splice of the text.
+    pub(crate) fn edit(&mut self, lo: usize, hi: usize, put: &[char]) -> Result<(), WorldRefusal>
+        ensures happens { Happens result self.old.site self.new.site
+            (edited self.old.limit self.old.replica lo hi put.now self.old.site) }
+        ensures memory { result ≡ Err (WorldRefusal.Store Refusal.Memory) →
+            (room_answer self.old.limit self.old.site.content (length put.now) ≡ Ok tt)
+            × (lo ≤ hi) }
+        ensures rest { self.new ≡ record self.old { site = self.new.site } }
+    {
+        drop(self.document.splice(lo, hi, put)?);
+        Ok(())
+    }
+
+    /// What is held is saved.
+    pub(crate) fn save(&mut self) -> Result<(), WorldRefusal>
+        ensures happens { Happens result self.old.site self.new.site (Ok (saved self.old.site)) }
+        ensures rest { self.new ≡ record self.old { site = self.new.site } }
+    {
+        self.saved = self.document.store().copy()?;
+        Ok(())
+    }
+
+    /// What is saved is held, and nothing else.
+    pub(crate) fn restart(&mut self, alloc: Global) -> Result<(), WorldRefusal>
+        ensures happens { Happens result self.old.site self.new.site
+            (Ok (restarted self.old.site)) }
+        ensures rest { self.new ≡ record self.old { site = self.new.site } }
+    {
+        self.document = Doc::new(alloc, self.saved.copy()?, self.document.replica())?;
+        Ok(())
+    }
+
+    /// One operation is taken.
+    pub(crate) fn take(&mut self, op: Op) -> Result<(), WorldRefusal>
+        ensures happens { Happens result self.old.site self.new.site
+            (delivered self.old.limit op self.old.site) }
+        ensures rest { self.new ≡ record self.old { site = self.new.site } }
+    {
+        let _taken = self.document.apply(op)?;
+        Ok(())
+    }
+
+    /// The characters that are shown.
+    pub(crate) fn text(&self) -> Result<Vec<char>, Refusal>
+        ensures ok { IfOk result (λ chars. chars.items ≡ text self.now.site.content) }
+        ensures memory { IfErr result (λ e. e ≡ Refusal.Memory) }
+    {
+        self.document.text()
+    }
+
+    /// The operations that are saved.
+    pub(crate) fn saved_ops(&self) -> Result<Vec<Op>, Refusal>
+        ensures ok { IfOk result (λ ops. ops.items ≡ operations self.now.site.saved) }
+        ensures memory { IfErr result (λ e. e ≡ Refusal.Memory) }
+    {
+        self.saved.ops()
+    }
+
+    /// The one at a place of them.
+    pub(crate) fn saved_operation(&self, place: usize) -> Result<Op, WorldRefusal>
+        ensures { let op = slice_get (operations self.now.site.saved) place in MatchResult result
+            (λ o. op ≡ Some o)
+            (λ e. (e ≡ WorldRefusal.Store Refusal.Memory)
+            ⊎ ((e ≡ WorldRefusal.NoOperation) × (op ≡ None))) }
+    {
+        let ops = self.saved_ops()?;
+        match ops.as_slice().get(place) {
+            Some(op) => Ok(*op),
+            None => Err(WorldRefusal::NoOperation),
+        }
+    }
+}
