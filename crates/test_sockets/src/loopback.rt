@@ -4,7 +4,7 @@ use rga_lines::Counted;
 use rga_store::{Taker, TextStore, TreeStore};
 use rga_walk::text;
 use std::alloc::Global;
-use std::net::{Ipv4Addr, Net, OpenListener, OpenStream, Shutdown, TcpListener, TcpStream};
+use std::net::{Ipv4Addr, OpenListener, OpenStream, Shutdown, TcpListener, TcpStream};
 use test_fixtures::{ops_of, spells};
 
 /// A store that holds the operations of these words.
@@ -26,13 +26,15 @@ fn sends(alloc: Global, store: &TreeStore, stream: TcpStream) -> Option<(u64, Tc
 /// The store receives what comes over a connection: how many operations, and the connection.
 fn receives(alloc: Global, store: &mut TreeStore, stream: TcpStream) -> Option<(u64, TcpStream)> {
     let mut reader = Counted::new(stream);
-    let count = receive(alloc, store, &mut reader).ok()?;
-    Some((count, reader.into_inner()))
+    match receive(alloc, store, &mut reader) {
+        Ok(count) => Some((count, reader.into_inner())),
+        Err(_) => None,
+    }
 }
 
 /// The near replica connects, sends, and ends the sending.
-fn connects<R: Net + AllocGlobal>(
-    rt: &R,
+fn connects(
+    rt: &HostRuntime,
     near: &TreeStore,
     listener: &TcpListener,
 ) -> Option<(u64, TcpStream)> {
@@ -52,8 +54,8 @@ fn replies(alloc: Global, far: &mut TreeStore, listener: &TcpListener) -> Option
 
 /// How many operations the near one sent, the far one received and sent, and the near one received.
 /// A listener stands ready before.
-fn meet<R: Net + AllocGlobal>(
-    rt: &R,
+fn meet(
+    rt: &HostRuntime,
     near: &mut TreeStore,
     far: &mut TreeStore,
 ) -> Option<(u64, u64, u64, u64)> {
