@@ -15,7 +15,7 @@ SOURCES := crates.txt HANDLES \
 NEED_RT = command -v rt >/dev/null || { \
 	echo "rt, the Rattle toolchain, is not installed: put KIT/bin on PATH" >&2; exit 1; }
 
-.PHONY: build try test-front try-live try-hub try-exchange crash hostile files test wrong-bodies contracts bench install clean help
+.PHONY: build try test-front try-live try-hub try-exchange try-sharing crash hostile files test wrong-bodies contracts bench install clean help
 
 build: build/mgr
 	@echo "build/mgr is up to date"
@@ -47,6 +47,10 @@ try-hub: build/mgr
 # Two that exchange over a socket of this machine, and a third that gets the log.
 try-exchange: build/mgr
 	@scripts/try_exchange.py build/mgr
+
+# The ways to share a note that need no exchange: git, sync tools, one plain text.
+try-sharing: build/mgr
+	@scripts/try_sharing.py build/mgr
 
 # Saves that are killed at each call of the system, by strace.
 crash: build/mgr
@@ -102,6 +106,9 @@ help:
 	@echo "make try-hub   runs three mgr-live at one mgr-hub, and looks at what each sees of the others (needs python3 and tmux)"
 	@echo "make try-exchange"
 	@echo "               exchanges a note between two mgr on this machine (needs python3)"
+	@echo "make try-sharing"
+	@echo "               shares a note by git, by a sync tool and from one plain text, and shows what two edits of one"
+	@echo "               word become (needs python3 and git); examples/git/two-clones.sh says how to share by git"
 	@echo "make test      looks up each name in the documents, proves what this machine has not proved yet, and runs"
 	@echo "               every test; the last line counts all"
 	@echo "make wrong-bodies"
