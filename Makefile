@@ -5,6 +5,8 @@ PREFIX = /usr/local
 BINDIR = $(PREFIX)/bin
 MANDIR = $(PREFIX)/share/man
 DATADIR = $(PREFIX)/share/mgr
+DOCDIR = $(PREFIX)/share/doc/mgr
+COMPDIR = $(PREFIX)/share/bash-completion/completions
 
 MAKEFLAGS += --no-print-directory
 
@@ -83,7 +85,8 @@ bench:
 	@bench/run.sh
 
 install: build/mgr
-	mkdir -p "$(DESTDIR)$(BINDIR)" "$(DESTDIR)$(MANDIR)/man1" "$(DESTDIR)$(DATADIR)/mgr_front"
+	mkdir -p "$(DESTDIR)$(BINDIR)" "$(DESTDIR)$(MANDIR)/man1" "$(DESTDIR)$(DATADIR)/mgr_front" \
+		"$(DESTDIR)$(DOCDIR)" "$(DESTDIR)$(COMPDIR)"
 	rm -f "$(DESTDIR)$(BINDIR)/mgr" "$(DESTDIR)$(BINDIR)/mgr-live" "$(DESTDIR)$(BINDIR)/mgr-hub"
 	cp build/mgr "$(DESTDIR)$(BINDIR)"
 	for program in mgr-live mgr-hub; do \
@@ -91,7 +94,12 @@ install: build/mgr
 		chmod 755 "$(DESTDIR)$(BINDIR)/$$program" || exit 1; done
 	rm -f "$(DESTDIR)$(DATADIR)/mgr_front"/*.py
 	cp front/mgr_front/*.py "$(DESTDIR)$(DATADIR)/mgr_front"
-	cp docs/mgr.1 "$(DESTDIR)$(MANDIR)/man1/mgr.1"
+	cp docs/mgr.1 docs/mgr-live.1 "$(DESTDIR)$(MANDIR)/man1"
+	ln -sf mgr-live.1 "$(DESTDIR)$(MANDIR)/man1/mgr-hub.1"
+	cp docs/guide.md docs/commands.md "$(DESTDIR)$(DOCDIR)"
+	cp front/completions.bash "$(DESTDIR)$(COMPDIR)/mgr"
+	ln -sf mgr "$(DESTDIR)$(COMPDIR)/mgr-live"
+	ln -sf mgr "$(DESTDIR)$(COMPDIR)/mgr-hub"
 
 clean:
 	rm -rf build crates/*/out
@@ -121,7 +129,9 @@ help:
 	@echo "make files     does to a note's files what other programs do while it is edited, and looks for each word"
 	@echo "               (needs python3)"
 	@echo "make bench     measures mgr beside a native program (needs python3 and rustc)"
-	@echo "make install   copies mgr, mgr-live and mgr-hub to BINDIR, their parts to DATADIR, and the manual to MANDIR/man1"
-	@echo "               (BINDIR=$(BINDIR), DATADIR=$(DATADIR) and MANDIR=$(MANDIR), by PREFIX=$(PREFIX);"
+	@echo "make install   copies mgr, mgr-live and mgr-hub to BINDIR, their parts to DATADIR, their manuals to MANDIR/man1,"
+	@echo "               the guide and the list of commands to DOCDIR, and completions for bash to COMPDIR"
+	@echo "               (BINDIR=$(BINDIR), DATADIR=$(DATADIR), MANDIR=$(MANDIR),"
+	@echo "               DOCDIR=$(DOCDIR) and COMPDIR=$(COMPDIR), by PREFIX=$(PREFIX);"
 	@echo "               DESTDIR is put before them)"
 	@echo "make clean     removes what was built and proved"
