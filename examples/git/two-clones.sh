@@ -14,6 +14,7 @@
 #   asks at its start: `l`, the log, is then the answer.
 # - A clone does not take over where hooks are: `git config core.hooksPath hooks`, once in each.
 set -eu
+[ $# -eq 1 ] || { echo "usage: two-clones.sh MGR" >&2; exit 2; }
 MGR=$(cd "$(dirname "$1")" && pwd)/$(basename "$1")
 export MGR
 cd "$(dirname "$0")/../.."
