@@ -9,7 +9,14 @@ from collections.abc import Callable
 from mgr_front.relay import HOST, free_port
 
 # So that a connection that is lost is noticed, and one that cannot be made or used is not waited for.
-SETTINGS = ("ExitOnForwardFailure=yes", "ServerAliveInterval=5", "ServerAliveCountMax=2", "ConnectTimeout=10")
+# It is shared with no other ssh: it has to end with this one, and not before.
+SETTINGS = (
+    "ExitOnForwardFailure=yes",
+    "ServerAliveInterval=5",
+    "ServerAliveCountMax=2",
+    "ConnectTimeout=10",
+    "ControlPath=none",
+)
 # Nobody is asked for a word while the terminal shows a note.
 SILENT = "BatchMode=yes"
 # Seconds between two tries to begin it again, and until it is asked whether it is ready.
