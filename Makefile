@@ -5,6 +5,8 @@ PREFIX = /usr/local
 BINDIR = $(PREFIX)/bin
 MANDIR = $(PREFIX)/share/man
 DATADIR = $(PREFIX)/share/mgr
+DOCDIR = $(PREFIX)/share/doc/mgr
+COMPDIR = $(PREFIX)/share/bash-completion/completions
 
 MAKEFLAGS += --no-print-directory
 
@@ -15,7 +17,7 @@ SOURCES := crates.txt HANDLES \
 NEED_RT = command -v rt >/dev/null || { \
 	echo "rt, the Rattle toolchain, is not installed: put KIT/bin on PATH" >&2; exit 1; }
 
-.PHONY: build try test-front try-live try-hub try-exchange crash hostile files test wrong-bodies contracts bench install clean help
+.PHONY: build try test-front try-live try-hub try-exchange try-sharing crash hostile files test wrong-bodies contracts bench install clean help
 
 build: build/mgr
 	@echo "build/mgr is up to date"
@@ -48,6 +50,10 @@ try-hub: build/mgr
 try-exchange: build/mgr
 	@scripts/try_exchange.py build/mgr
 
+# The ways to share a note that need no exchange: git, sync tools, one plain text.
+try-sharing: build/mgr
+	@scripts/try_sharing.py build/mgr
+
 # Saves that are killed at each call of the system, by strace.
 crash: build/mgr
 	@scripts/crash.py build/mgr
@@ -79,7 +85,8 @@ bench:
 	@bench/run.sh
 
 install: build/mgr
-	mkdir -p "$(DESTDIR)$(BINDIR)" "$(DESTDIR)$(MANDIR)/man1" "$(DESTDIR)$(DATADIR)/mgr_front"
+	mkdir -p "$(DESTDIR)$(BINDIR)" "$(DESTDIR)$(MANDIR)/man1" "$(DESTDIR)$(DATADIR)/mgr_front" \
+		"$(DESTDIR)$(DOCDIR)" "$(DESTDIR)$(COMPDIR)"
 	rm -f "$(DESTDIR)$(BINDIR)/mgr" "$(DESTDIR)$(BINDIR)/mgr-live" "$(DESTDIR)$(BINDIR)/mgr-hub"
 	cp build/mgr "$(DESTDIR)$(BINDIR)"
 	for program in mgr-live mgr-hub; do \
@@ -87,7 +94,12 @@ install: build/mgr
 		chmod 755 "$(DESTDIR)$(BINDIR)/$$program" || exit 1; done
 	rm -f "$(DESTDIR)$(DATADIR)/mgr_front"/*.py
 	cp front/mgr_front/*.py "$(DESTDIR)$(DATADIR)/mgr_front"
-	cp docs/mgr.1 "$(DESTDIR)$(MANDIR)/man1/mgr.1"
+	cp docs/mgr.1 docs/mgr-live.1 "$(DESTDIR)$(MANDIR)/man1"
+	ln -sf mgr-live.1 "$(DESTDIR)$(MANDIR)/man1/mgr-hub.1"
+	cp docs/guide.md docs/commands.md "$(DESTDIR)$(DOCDIR)"
+	cp front/completions.bash "$(DESTDIR)$(COMPDIR)/mgr"
+	ln -sf mgr "$(DESTDIR)$(COMPDIR)/mgr-live"
+	ln -sf mgr "$(DESTDIR)$(COMPDIR)/mgr-hub"
 
 clean:
 	rm -rf build crates/*/out
@@ -102,6 +114,9 @@ help:
 	@echo "make try-hub   runs three mgr-live at one mgr-hub, and looks at what each sees of the others (needs python3 and tmux)"
 	@echo "make try-exchange"
 	@echo "               exchanges a note between two mgr on this machine (needs python3)"
+	@echo "make try-sharing"
+	@echo "               shares a note by git, by a sync tool and from one plain text, and shows what two edits of one"
+	@echo "               word become (needs python3 and git); examples/git/two-clones.sh says how to share by git"
 	@echo "make test      looks up each name in the documents, proves what this machine has not proved yet, and runs"
 	@echo "               every test; the last line counts all"
 	@echo "make wrong-bodies"
@@ -114,7 +129,9 @@ help:
 	@echo "make files     does to a note's files what other programs do while it is edited, and looks for each word"
 	@echo "               (needs python3)"
 	@echo "make bench     measures mgr beside a native program (needs python3 and rustc)"
-	@echo "make install   copies mgr, mgr-live and mgr-hub to BINDIR, their parts to DATADIR, and the manual to MANDIR/man1"
-	@echo "               (BINDIR=$(BINDIR), DATADIR=$(DATADIR) and MANDIR=$(MANDIR), by PREFIX=$(PREFIX);"
+	@echo "make install   copies mgr, mgr-live and mgr-hub to BINDIR, their parts to DATADIR, their manuals to MANDIR/man1,"
+	@echo "               the guide and the list of commands to DOCDIR, and completions for bash to COMPDIR"
+	@echo "               (BINDIR=$(BINDIR), DATADIR=$(DATADIR), MANDIR=$(MANDIR),"
+	@echo "               DOCDIR=$(DOCDIR) and COMPDIR=$(COMPDIR), by PREFIX=$(PREFIX);"
 	@echo "               DESTDIR is put before them)"
 	@echo "make clean     removes what was built and proved"

@@ -8,8 +8,15 @@ from collections.abc import Callable
 
 from mgr_front.relay import HOST, free_port
 
-# So that a connection that is lost is noticed, and one that cannot be used ends at once.
-SETTINGS = ("ExitOnForwardFailure=yes", "ServerAliveInterval=5", "ServerAliveCountMax=2")
+# So that a connection that is lost is noticed, and one that cannot be made or used is not waited for.
+# It is shared with no other ssh: it has to end with this one, and not before.
+SETTINGS = (
+    "ExitOnForwardFailure=yes",
+    "ServerAliveInterval=5",
+    "ServerAliveCountMax=2",
+    "ConnectTimeout=10",
+    "ControlPath=none",
+)
 # Nobody is asked for a word while the terminal shows a note.
 SILENT = "BatchMode=yes"
 # Seconds between two tries to begin it again, and until it is asked whether it is ready.
@@ -38,6 +45,8 @@ class Tunnel:
             if self._is_ready() or is_over():
                 return None
             time.sleep(LOOK)
+        if is_over():
+            return None  # What ends this program, as C-c does, has ended it too.
         self.said.seek(0)
         return self.said.read().decode("utf-8", "replace").strip() or f"status {self.process.returncode}"
 

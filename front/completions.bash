@@ -1,0 +1,52 @@
+# Completions of bash for mgr, mgr-live and mgr-hub: options, and notes by the names of their files.
+# `make install` puts them where bash looks for them; without it this file is to be sourced.
+
+# Folders and notes whose names begin so. A log stands for its note; what is kept beside one is left out.
+_mgr_notes() {
+    local begin=${1//\\/} path
+    begin=${begin#[\"\']}
+    while IFS= read -r path; do
+        if [[ -d $path ]]; then
+            COMPREPLY+=("$path")
+        elif [[ $path != *@(~|.keys|.ops.new|.ops.text) ]]; then
+            COMPREPLY+=("${path%.ops}")
+        fi
+    done < <(compgen -f -- "$begin")
+    compopt -o filenames
+}
+
+# An option that begins so, of those that follow, or a note.
+_mgr_word() {
+    local word=$1 before="${COMP_WORDS[*]:1:COMP_CWORD-1}"
+    if [[ $word == -* && " $before " != *" -- "* ]]; then
+        mapfile -t COMPREPLY < <(compgen -W "${*:2}" -- "$word")
+    else
+        _mgr_notes "$word"
+    fi
+}
+
+_mgr() {
+    local word=${COMP_WORDS[COMP_CWORD]} before=${COMP_WORDS[COMP_CWORD - 1]}
+    COMPREPLY=()
+    # Of a value nothing is known. bash takes = and : as words of their own.
+    if [[ $before == @(--replica|--rows|--cols|--fill|--port|--with|=|:) || $word == [=:] ]]; then
+        return
+    fi
+    case ${1##*/} in
+        mgr-live)
+            _mgr_word "$word" --replica --fill --port --with --take-file --keep-file --no-autosave --version --help
+            ;;
+        mgr-hub)
+            _mgr_word "$word" --port --replica --version --help
+            ;;
+        *)
+            if ((COMP_CWORD == 1)); then
+                mapfile -t COMPREPLY < <(compgen -W "edit show help --version --help" -- "$word")
+            elif [[ ${COMP_WORDS[1]} == edit ]]; then
+                _mgr_word "$word" --replica --rows --cols --fill --port --trace --cursor --help
+            fi
+            ;;
+    esac
+}
+
+complete -F _mgr mgr mgr-live mgr-hub
