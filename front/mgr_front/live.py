@@ -9,12 +9,13 @@ from dataclasses import dataclass
 from mgr_front.editor import Editor
 from mgr_front.ending import finish
 from mgr_front.frames import Frame
+from mgr_front.last_texts import is_merged, remember
 from mgr_front.live_exchange import LiveExchange
 from mgr_front.notes import Note, Refused, read
 from mgr_front.numbers import number_of
 from mgr_front.opening import Difference, difference
 from mgr_front.options import Options, read as read_options
-from mgr_front.program import explained, find
+from mgr_front.program import explained, find, text_of_log
 from mgr_front.relay import Relay
 from mgr_front.saving import Autosave, current
 from mgr_front.saying import FAILED, REFUSED, stop, tell
@@ -51,15 +52,21 @@ def replica(options: Options, note: Note) -> int:
 def settle(mgr: str, note: Note, number: int, options: Options) -> str | None:
     """Where the note's text and its log differ: goes on with the one that the person chooses.
 
-    Returns where the file is kept, if that is the log.
+    It is the log, without a question, where that was merged with another and the text is as it was.
+    Returns where the file is kept then.
     """
     found = difference(mgr, note, number)
     if found is None:
         return None
-    if options.takes_file or not options.keeps_file and asks_for_file(found):
+    if options.takes_file or not keeps_file(note, options) and asks_for_file(found):
         found.take_file(mgr, number)
         return None
     return found.keep_file()
+
+
+def keeps_file(note: Note, options: Options) -> bool:
+    """Whether the file is to be kept without a question."""
+    return options.keeps_file or is_merged(note.name, read(note.name), read(note.log))
 
 
 def asks_for_file(found: Difference) -> bool:
@@ -81,15 +88,25 @@ def words_for_mgr(options: Options, number: int, port: int | None) -> list[str]:
     return [*words, "--", options.name]
 
 
-def missing(note: Note, kept: str | None, frame: Frame) -> str:
-    """Returns what is to be said where a part of the log is missing: mgr does not show what waits for it.
+def first_remark(note: Note, kept: str | None, frame: Frame) -> str:
+    """Returns what is to be said of a note that was opened.
 
-    `kept` is where the file is that said something else than the log.
+    That is where a part of the log is missing, as mgr does not show what waits for it; and where the
+    file is kept that said something else than the log.
     """
     said = current(frame)
-    if said is None or not said.waiting:
-        return ""
-    return f"A part of {note.log} is missing" + (f"; see {kept}" if kept else "")
+    if said and said.waiting:
+        return f"A part of {note.log} is missing" + (f"; see {kept}" if kept else "")
+    return f"The text from before is {kept}" if kept else ""
+
+
+def remember_text(mgr: str, note: Note) -> None:
+    """Keeps which text the note has, if it is the one of its log."""
+    if note.has_log and os.path.isfile(note.name):
+        text, log = read(note.name), read(note.log)
+        shown = text_of_log(mgr, log)
+        if shown is not None and shown.encode() == text:
+            remember(note.name, text, log)
 
 
 def status_of(status: int, signals: Signals) -> int:
@@ -137,7 +154,7 @@ def edit(mgr: str, note: Note, options: Options, opening: Opening, signals: Sign
     with tempfile.TemporaryFile() as said:
         editor = Editor(mgr, words_for_mgr(options, opening.number, port), rows, said)
         session = Session(editor, screen, signals, relay or port)
-        session.opened.append(lambda frame: session.remark(missing(note, opening.kept, frame)))
+        session.opened.append(lambda frame: session.remark(first_remark(note, opening.kept, frame)))
         if options.saves:
             session.watches.append(Autosave(session.buffers, lambda name: Note(name).has_log))
         if relay:
@@ -154,6 +171,8 @@ def edit(mgr: str, note: Note, options: Options, opening: Opening, signals: Sign
         if status:
             said.seek(0)
             tell(explained(status, said.read().decode(), note, editor.dialogue.has_begun))
+        else:
+            remember_text(mgr, note)
     return status_of(status, signals)
 
 

@@ -41,6 +41,11 @@ def user() -> str:
         return str(os.getuid())
 
 
+def owner_of(path: str) -> list[str]:
+    """Returns whose copy of a note stands at a path: a machine's, a user's, and where it really is."""
+    return [machine(), user(), os.path.realpath(path)]
+
+
 def used_in(log: bytes) -> set[int]:
     """Returns the numbers that have written in a log."""
     return set(map(int, REPLICA.findall(log)))
@@ -58,7 +63,7 @@ def number_of(path: str, log: bytes) -> int:
 
     `log` is what stands in the note's log: what wrote there has other numbers.
     """
-    owner = [machine(), user(), os.path.realpath(path)]
+    owner = owner_of(path)
     folder = state_folder()
     os.makedirs(folder, mode=0o700, exist_ok=True)
     with open(os.path.join(folder, "replicas"), "a+", encoding="ascii") as file:

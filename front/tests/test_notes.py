@@ -10,6 +10,7 @@ from unittest import mock
 import context  # noqa: F401
 
 from mgr_front import numbers
+from mgr_front.last_texts import is_merged, remember
 from mgr_front.notes import Note, Refused, keep, keep_keys, put_text
 
 
@@ -19,6 +20,23 @@ class InFolder(unittest.TestCase):
         self.addCleanup(folder.cleanup)
         self.folder = pathlib.Path(folder.name)
         self.note = Note(str(self.folder / "note"))
+
+
+class TestLastTexts(InFolder):
+    def test_a_merge_is_told_from_a_change_and_a_loss(self) -> None:
+        name = self.note.name
+        with mock.patch.dict(os.environ, {"XDG_STATE_HOME": str(self.folder / "state")}):
+            self.assertFalse(is_merged(name, b"text", b"1\n2\n"))
+            remember(name, b"text", b"1\n2\n2\n")
+            for what, path, text, log, wanted in [
+                ("nothing", name, b"text", b"2\n1\n", True),
+                ("a merge", name, b"text", b"1\n2\n3\n", True),
+                ("another text", name, b"other", b"1\n2\n3\n", False),
+                ("an older log", name, b"text", b"1\n1\n", False),
+                ("another note", name + "2", b"text", b"1\n2\n", False),
+            ]:
+                with self.subTest(what):
+                    self.assertEqual(is_merged(path, text, log), wanted)
 
 
 class TestNotes(InFolder):
