@@ -1,5 +1,5 @@
 -- What saves, restarts and exchanges of the program are in a world.
-use Rattle.std.proofs.Common.{◌≡◌, ℕ, zero, suc, ◌+◌, ◌<◌, ◌≤◌, ◌^◌, List, [], ◌∷◌, ◌++◌, length, Some, slice_get, slice_set, refl, sym, ap, ◌∙◌, subst, inl, inr, arith}
+use Rattle.std.proofs.Common.{◌≡◌, ℕ, zero, suc, ◌+◌, ◌≤◌, List, [], ◌∷◌, ◌++◌, length, Some, slice_get, slice_set, refl, sym, ap, ◌∙◌, subst, inl, inr, arith}
 use Rattle.std.specs.Prelude.{Result, Ok, Err}
 use Rattle.std.specs.FinMap as finite_map
 use Rattle.std.specs.FinSet as finite_set
@@ -27,7 +27,6 @@ use Rattle.rga_world.specs.Together.{IsReached}
 use Rattle.rga_world.specs.Words.{with_site}
 use Rattle.rga_world.specs.declared.event.Event.TheVariants.{Save, Deliver, Restart}
 use Rattle.rga_world.specs.declared.refusal.WorldRefusal.TheVariants.{NoSite, NoOperation}
-use Rattle.rga_world.proofs.Consistent.{IsConsistent}
 use Rattle.rga_world.proofs.ListPlaces.{set_here, set_old}
 use Rattle.rga_world.proofs.SiteSteps.{set_same}
 use Rattle.rga_world.proofs.WordLaws.{changed_to, saved-iff, restarted-iff}
@@ -109,13 +108,13 @@ all_delivered (op ∷ ops) place taker giver w s g d at there each took =
     let step : stepped w (Deliver taker giver place) ≡ Ok v = one_delivered w taker giver place s g op c at there (ap (slice_get (operations g.saved)) (here place) ∙ each 0 op refl) first in
     let now : slice_get v.sites taker ≡ Some t = set_here w.sites taker s t at in
     let later : (h : Site) → slice_get v.sites giver ≡ Some h → h.saved ≡ g.saved → ran v (deliveries taker giver (place + 1) (length ops)) ≡ Ok (with_site v taker (with_content t d)) = λ h is same.
-        all_delivered ops (place + 1) taker giver v t h d now is
-        (λ n o m. ap (λ (e : Content). slice_get (operations e) (place + 1 + n)) same ∙ ap (slice_get (operations g.saved)) (next place n) ∙ each (suc n) o m) rest in
+    all_delivered ops (place + 1) taker giver v t h d now is
+    (λ n o m. ap (λ (e : Content). slice_get (operations e) (place + 1 + n)) same ∙ ap (slice_get (operations g.saved)) (next place n) ∙ each (suc n) o m) rest in
     let all : ran v (deliveries taker giver (place + 1) (length ops)) ≡ Ok (with_site v taker (with_content t d)) =
-        elim (set_old w.sites taker giver s t g at there) [
-          | inl (number, is, put) ↦ later t put (sym (ap (λ (x : Site). x.saved) is))
-          | inr stays ↦ later g stays refl
-        ] in
+    elim (set_old w.sites taker giver s t g at there) [
+      | inl (number, is, put) ↦ later t put (sym (ap (λ (x : Site). x.saved) is))
+      | inr stays ↦ later g stays refl
+    ] in
     ap (λ r. and_then r (λ u. ran u (deliveries taker giver (place + 1) (length ops)))) step
     ∙ all ∙ ap (λ xs. Ok (record w { sites = xs })) (set_twice w.sites taker t (with_content t d))
   where
