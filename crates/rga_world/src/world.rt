@@ -85,7 +85,8 @@ impl<S: TextStore> World<S> {
         ensures before { IfErr result (λ p. ran self.old (take p.0 events.now) ≡ Ok self.new) }
         ensures refused { IfErr result (λ p. (event : Event)
             × (slice_get events.now p.0 ≡ Some event)
-            × ((p.1 ≡ Store Memory) ⊎ (stepped self.new event ≡ Err p.1))) }
+            × (((p.1 ≡ Store Memory) × MayWantMemory self.new event)
+            ⊎ (stepped self.new event ≡ Err p.1))) }
         ensures no_conflict { (place : ℕ) (id : Identifier) →
             result ≢ Err (place, Store (Conflict id)) }
     {
