@@ -6,12 +6,15 @@ says of it can be looked at while the session goes on.
 
 import os
 import pathlib
-import random
 import re
 import select
-import socket
 import subprocess
+import sys
 import time
+
+sys.path.insert(0, str(pathlib.Path(__file__).resolve().parent.parent / "front"))
+
+from mgr_front.relay import HOST, free_port  # noqa: E402, F401 (for the scripts)
 
 ROWS, COLUMNS = 6, 60
 SECONDS = 120
@@ -23,10 +26,6 @@ SERVE = b"\x1bxreplica-serve\r"
 # ESC and C-x begin a key: no frame comes behind them.
 BEGINNINGS = b"\x1b\x18"
 
-HOST = "127.0.0.1"
-# Below those that the system gives to whoever connects: a client could else get the very number that
-# it asks for, and meet itself.
-PORTS = range(20000, 32000)
 LISTENING = "0A"
 
 
@@ -135,18 +134,6 @@ def end_all():
     """Ends all that still run, once something was not as it should be."""
     for session in list(running):
         session.kill()
-
-
-def free_port():
-    """Returns a port of this machine that nobody uses now."""
-    while True:
-        number = random.choice(PORTS)
-        with socket.socket() as probe:
-            try:
-                probe.bind((HOST, number))
-            except OSError:
-                continue
-        return number
 
 
 def await_listener(number):

@@ -12,7 +12,8 @@ from collections.abc import Callable
 
 HOST = "127.0.0.1"
 BLOCK = 1 << 18
-# Below those that the system gives to whoever connects.
+# Below those that the system gives to whoever connects: a client could else get the very number that
+# it asks for, and meet itself.
 PORTS = range(20000, 32000)
 # The seconds for which a side may say nothing.
 SILENCE = 8.0
