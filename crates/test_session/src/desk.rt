@@ -18,6 +18,7 @@ pub fn values(alloc: Global) -> Result<Values, AllocError> {
         port: None,
         trace: false,
         cursor: false,
+        resizable: false,
         limit: 1000,
     })
 }
