@@ -1,16 +1,8 @@
-//! Tests of buffers.
-//!
-//! Worked examples over a `TreeStore`, as keys that are pressed, and long mixtures against a plain
-//! text. Nothing stands on this crate, so nothing waits for its proof.
+//! Tests of buffers: long mixtures of commands against a plain text, over a `TreeStore`. Nothing
+//! stands on this crate, so nothing waits for its proof.
 #![tactic(auto)]
 
 #[cfg(test)]
-mod keys;
-#[cfg(test)]
 mod mixtures;
 #[cfg(test)]
-mod remote;
-#[cfg(test)]
 mod sessions;
-#[cfg(test)]
-mod undo;

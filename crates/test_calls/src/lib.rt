@@ -1,0 +1,17 @@
+//! Calls of libraries that no program shows: devices that are counted, lines that are lent, writes in
+//! blocks, values of settings, frames that are not flushed, and saves over a port that refuses.
+//! Nothing stands on this crate, so nothing waits for its proof.
+#![tactic(auto)]
+
+#[cfg(test)]
+mod devices;
+#[cfg(test)]
+mod lines;
+#[cfg(test)]
+mod saves;
+#[cfg(test)]
+mod sending;
+#[cfg(test)]
+mod sessions;
+#[cfg(test)]
+mod settings;
