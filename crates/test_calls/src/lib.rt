@@ -1,6 +1,6 @@
 //! Calls of libraries that no program shows: devices that are counted, lines that are lent, writes in
-//! blocks, values of settings, frames that are not flushed, and saves over a port that refuses.
-//! Nothing stands on this crate, so nothing waits for its proof.
+//! blocks, values of settings, cursors that no window shows, frames that are not flushed, and saves over a
+//! port that refuses. Nothing stands on this crate, so nothing waits for its proof.
 #![tactic(auto)]
 
 #[cfg(test)]
@@ -9,6 +9,8 @@ mod devices;
 mod lines;
 #[cfg(test)]
 mod saves;
+#[cfg(test)]
+mod screens;
 #[cfg(test)]
 mod sending;
 #[cfg(test)]

@@ -14,7 +14,6 @@ fn values(alloc: Global) -> Result<Values, AllocError> {
         trace: false,
         cursor: false,
         resizable: false,
-        resizable: false,
         limit: 1000,
     })
 }
