@@ -2,6 +2,7 @@
 use crate::sessions::{Session, open_session};
 use mg_plain::Command;
 use rga_ops::Refusal;
+use rga_store::Taker;
 use test_fixtures::ops_of;
 
 /// Takes the operations that the words say, as one list, and answers whether those of it that are
