@@ -17,6 +17,9 @@ HOST = "127.0.0.1"
 SECONDS = 60
 LISTENING = "0A"
 
+# The file of a socket that no program has.
+CLOSED = "0"
+
 # Below those that the system gives to whoever connects: a client could else get the very number that
 # it asks for, and meet itself. Each is given to one scene alone.
 PORTS = iter(random.sample(range(20000, 32000), 12000))
@@ -42,9 +45,10 @@ def listens(port):
 
 
 def sockets():
-    """Returns of each socket the ports of its ends, its state, and how many bytes it has that were not read."""
+    """Returns of each socket that is open the ports of its ends, its state, and how many bytes came and were not read."""
     for row in pathlib.Path("/proc/net/tcp").read_text().split("\n")[1:]:
-        if words := row.split():
+        words = row.split()
+        if words and words[9] != CLOSED:
             ends = tuple(int(it.rpartition(":")[2], 16) for it in words[1:3])
             yield ends, words[3], int(words[4].rpartition(":")[2], 16)
 
@@ -63,10 +67,14 @@ def await_reading(link):
     """Waits until the other has read all that was said on a link, or reads no more."""
     of_the_other = link.getpeername()[1], link.getsockname()[1]
     end = time.monotonic() + SECONDS
-    while on_its_way(link) or any(unread for ends, _, unread in sockets() if ends == of_the_other):
-        if time.monotonic() > end:
-            return
+    while is_unread(link, of_the_other) and time.monotonic() < end:
         time.sleep(0.0005)
+
+
+def is_unread(link, of_the_other):
+    """Whether something of what was said is on its way, or has come to the other's end and was not read."""
+    comes = on_its_way(link)
+    return any(comes or unread for ends, _, unread in sockets() if ends == of_the_other)
 
 
 def listener(port):

@@ -6,7 +6,7 @@ from dataclasses import dataclass
 
 from play.notation import Unreadable
 from play.programs import Unexpected
-from play.stage import Difference, LeftOut, Stage
+from play.stage import LeftOut, Stage
 from play.words import WORDS, end_all
 
 
@@ -46,7 +46,9 @@ def _faults(stage, scene, line, steps):
     for step in steps:
         try:
             _do(stage, step)
-        except (Difference, Unexpected, Unreadable, OSError) as fault:
+        except LeftOut:
+            raise
+        except Exception as fault:  # Whatever it was, the other scenes go on.
             return _told(scene, line, step, fault)
     try:
         end_all(stage)

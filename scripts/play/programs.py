@@ -40,10 +40,11 @@ def _confine(takes, memory):
 
 
 def failing(call, fault):
-    """Returns the words of a command under which that call of the system fails so."""
+    """Returns the words of a command under which that call of the system fails so, or does nothing and answers so."""
     quiet = ["-f", "-qq", "-o", "/dev/null", "-e", f"trace={call}"]
     # The program is the child then, and what traces it stands apart.
-    return ["strace", "-D", *quiet, "-e", f"inject={call}:error={fault}"]
+    how = "retval" if fault[0].isdigit() else "error"
+    return ["strace", "-D", *quiet, "-e", f"inject={call}:{how}={fault}"]
 
 
 @functools.cache
