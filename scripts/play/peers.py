@@ -44,6 +44,16 @@ def listens(port):
     return any(ends[0] == port and state == LISTENING for ends, state, _ in sockets())
 
 
+def addresses(port):
+    """Returns at which addresses somebody listens at a port."""
+    found = set()
+    for row in pathlib.Path("/proc/net/tcp").read_text().split("\n")[1:]:
+        words = row.split()
+        if words and words[1].endswith(f":{port:04X}") and words[3] == LISTENING:
+            found.add(socket.inet_ntoa(bytes.fromhex(words[1][:8])[::-1]))
+    return found
+
+
 def sockets():
     """Returns of each socket that is open the ports of its ends, its state, and how many bytes came and were not read."""
     for row in pathlib.Path("/proc/net/tcp").read_text().split("\n")[1:]:

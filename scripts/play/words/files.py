@@ -74,6 +74,16 @@ def folder(stage, about):
 
 
 @word
+def rights(stage, about):
+    """`rights NAME 640` gives a file rights, before anything was begun; behind that compares them."""
+    name, mode = about.split()
+    if stage.person.has_begun:
+        stage.compare(mode, f"{os.stat(stage.path(name)).st_mode & 0o777:o}")
+    else:
+        os.chmod(stage.path(name), int(mode, 8))
+
+
+@word
 def move(stage, about):
     old, new = about.split()
     os.rename(stage.path(old), stage.path(new))

@@ -1,7 +1,7 @@
 """A peer with a script."""
 
 from play.notation import Unreadable, keys_of, lines_of, text_of, words_of, written_of
-from play.peers import Peer, await_listener
+from play.peers import HOST, Peer, addresses, await_listener
 from play.programs import Unexpected
 from play.words.looks import says
 from play.words.people import seen, session_of
@@ -61,9 +61,10 @@ def unmet(stage, about):
 
 @word
 def listens(stage, about):
-    """Waits until somebody listens at the port."""
+    """Waits until somebody listens at the port, for this machine alone."""
     if not await_listener(stage.port):
         raise Unexpected("nobody listens at the port")
+    stage.compare({HOST}, addresses(stage.port))
 
 
 @word
