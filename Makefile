@@ -17,7 +17,9 @@ SOURCES := crates.txt HANDLES \
 NEED_RT = command -v rt >/dev/null || { \
 	echo "rt, the Rattle toolchain, is not installed: put KIT/bin on PATH" >&2; exit 1; }
 
-.PHONY: build try test-front try-live try-hub try-exchange try-sharing crash hostile files test wrong-bodies contracts bench install clean help
+NEED_PYTHON = command -v python3 >/dev/null || { echo "python3 is not installed" >&2; exit 1; }
+
+.PHONY: build try scenes test-front try-live try-hub try-exchange try-sharing crash hostile files test wrong-bodies contracts bench install clean help
 
 build: build/mgr
 	@echo "build/mgr is up to date"
@@ -68,9 +70,12 @@ files: build/mgr
 
 # The gate's last line is the verdict, so nothing may follow it.
 test:
-	@$(NEED_RT); command -v python3 >/dev/null || { \
-		echo "python3 is not installed: the names in the documents are not looked up" >&2; exec rt ci; }; \
-		scripts/documents.py && exec rt ci
+	@$(NEED_RT); $(NEED_PYTHON)
+	@scripts/documents.py && exec scripts/gate.py
+
+# What one does with mgr, and what is to be seen of it: all, or those of one file.
+scenes: build/mgr
+	@scripts/scenes.py build/mgr $(FILE)
 
 # The wrong bodies that the gate leaves out.
 wrong-bodies:
@@ -117,8 +122,10 @@ help:
 	@echo "make try-sharing"
 	@echo "               shares a note by git, by a sync tool and from one plain text, and shows what two edits of one"
 	@echo "               word become (needs python3 and git); examples/git/two-clones.sh says how to share by git"
-	@echo "make test      looks up each name in the documents, proves what this machine has not proved yet, and runs"
-	@echo "               every test; the last line counts all"
+	@echo "make test      looks up each name in the documents, proves what this machine has not proved yet, runs every"
+	@echo "               test and plays every scene; the last line counts all (needs python3)"
+	@echo "make scenes    plays the scenes with the mgr that make built; those of one file: make scenes FILE=scenes/.."
+	@echo "               (needs python3)"
 	@echo "make wrong-bodies"
 	@echo "               tries the wrong bodies that make test leaves out: each must be refused (needs python3)"
 	@echo "make contracts prints each public call with its clauses, from the sources; of one call, with the definitions that"

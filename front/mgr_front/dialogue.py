@@ -141,10 +141,11 @@ def _turned(search: str, key: bytes) -> str:
 
 @dataclass(frozen=True)
 class Answer:
-    """What a frame answers: a key, and the command that M-x was given by it."""
+    """What a frame answers: a key, and the command that M-x was given by it, or a size."""
 
     key: bytes
     command: str = ""
+    is_size: bool = False
 
 
 class Dialogue:
@@ -154,6 +155,8 @@ class Dialogue:
         # The echo line of the open prompt, as mgr shows it where no message hides it.
         self.prompt = ""
         self.sent = bytearray()
+        # Behind how many bytes of these a size was told, for each that is not answered.
+        self.sizes: list[int] = []
         # Whether there was a frame yet: the first one answers no key.
         self.has_begun = False
 
@@ -166,7 +169,7 @@ class Dialogue:
     @property
     def is_settled(self) -> bool:
         """Whether all whole keys are answered."""
-        return self.has_begun and key_end(mode_of(self.prompt), self.sent) is None
+        return self.has_begun and not self.sizes and key_end(mode_of(self.prompt), self.sent) is None
 
     @property
     def begun(self) -> bytes:
@@ -179,9 +182,14 @@ class Dialogue:
         return label_of(self.prompt) == QUITTING
 
     @property
+    def is_idle(self) -> bool:
+        """Whether nothing is awaited or begun."""
+        return self.has_begun and not self.sent and not self.sizes
+
+    @property
     def is_at_rest(self) -> bool:
         """Whether nothing is awaited, asked or begun."""
-        return self.has_begun and not self.sent and not self.prompt
+        return self.is_idle and not self.prompt
 
     @property
     def command(self) -> str:
@@ -193,18 +201,27 @@ class Dialogue:
         """Takes note of keys that mgr is given."""
         self.sent += keys
 
+    def hand_on_size(self) -> None:
+        """Takes note that mgr is told a size, which a frame of its own answers."""
+        self.sizes.append(len(self.sent))
+
     def answer(self, echo: str) -> Answer:
         """Takes note of a frame with that echo line, and returns what it answers."""
         if not self.has_begun:
             self.has_begun = True
             return Answer(b"")
+        if self.sizes[:1] == [0]:
+            del self.sizes[0]
+            return Answer(b"", is_size=True)
         command = self.command
         end = key_end(mode_of(self.prompt), self.sent) or 0
         key = bytes(self.sent[:end])
         del self.sent[:end]
+        self.sizes = [at - end for at in self.sizes]
         self.prompt = prompt_behind(self.prompt, key, echo)
         return Answer(key, command)
 
     def assume_settled(self) -> None:
         """Counts all keys as answered: what was expected did not come."""
         self.sent.clear()
+        self.sizes.clear()

@@ -1,6 +1,12 @@
-"""A `mgr edit` that runs: keys go in, frames come out, and nothing here waits for either."""
+"""A `mgr edit` that runs: keys go in, frames come out, and nothing here waits for either.
+
+Among the keys it takes reports of the screen's size, ESC [ 8 ; ROWS ; COLUMNS t, and holds what may
+begin one. So a report of the size that it has stands behind each ESC [ that is no report, and
+behind an ESC that is a key of its own: both are pressed then.
+"""
 
 import os
+import re
 import subprocess
 from collections.abc import Sequence
 from typing import IO
@@ -10,6 +16,11 @@ from mgr_front.frames import Frame, Frames
 from mgr_front.modelines import COLUMNS
 
 BLOCK = 65536
+# How many rows the screen of mgr may have.
+LEAST_ROWS, MOST_ROWS = 3, 200
+
+ESCAPE = b"\x1b"
+OPENING = re.compile(rb"\x1b\[")
 
 
 class Editor:
@@ -20,7 +31,7 @@ class Editor:
         size = ["--rows", str(rows), "--cols", str(COLUMNS)]
         # In a session of its own, so that the end of the terminal reaches it as the end of the keys.
         self.process = subprocess.Popen(
-            [program, "edit", "--trace", "--cursor", *size, *words],
+            [program, "edit", "--trace", "--cursor", "--resizable", *size, *words],
             bufsize=0,
             stdin=subprocess.PIPE,
             stdout=subprocess.PIPE,
@@ -33,11 +44,40 @@ class Editor:
         self.frames = Frames(rows)
         self.dialogue = Dialogue()
         self.waiting = bytearray()
+        # The last key byte, where nothing stands behind it.
+        self.last = b""
 
     def hand_on(self, keys: bytes) -> None:
         """Has these keys wait for mgr, behind those that do."""
+        begin = 0
+        for opening in OPENING.finditer(self.last + keys):
+            end = opening.end() - len(self.last)
+            self._give(keys[begin:end])
+            self.tell_size()
+            begin = end
+        self._give(keys[begin:])
+        self.last = keys[-1:]
+
+    def _give(self, keys: bytes) -> None:
         self.waiting += keys
         self.dialogue.hand_on(keys)
+
+    def tell_size(self) -> None:
+        """Tells mgr the size that its screen has."""
+        self.waiting += b"\x1b[8;%d;%dt" % (self.frames.rows, COLUMNS)
+        self.dialogue.hand_on_size()
+        self.last = b""
+
+    def release(self) -> None:
+        """Has mgr take an ESC for a key, where one is awaited."""
+        if self.dialogue.begun == ESCAPE and not self.dialogue.sizes and not self.dialogue.is_settled:
+            self.tell_size()
+
+    def resize(self, rows: int) -> None:
+        """Gives the screen so many rows, once nothing is awaited or begun."""
+        if rows != self.frames.rows and self.dialogue.is_idle:
+            self.frames.rows = rows
+            self.tell_size()
 
     def write(self) -> None:
         """Gives mgr as many of the keys that wait as it takes now."""

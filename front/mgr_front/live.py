@@ -6,7 +6,7 @@ import tempfile
 from collections.abc import Sequence
 from dataclasses import dataclass
 
-from mgr_front.editor import Editor
+from mgr_front.editor import LEAST_ROWS, MOST_ROWS, Editor
 from mgr_front.ending import finish
 from mgr_front.frames import Frame
 from mgr_front.last_texts import is_merged, remember
@@ -24,8 +24,7 @@ from mgr_front.session import Session
 from mgr_front.signals import Signals
 from mgr_front.tunnel import Tunnel
 
-LEAST_ROWS, LEAST_COLUMNS = 3, 20
-MOST_ROWS = 200
+LEAST_COLUMNS = 20
 
 
 def terminal_rows() -> int:

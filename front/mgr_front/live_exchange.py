@@ -3,6 +3,7 @@
 import math
 import re
 import time
+from collections import deque
 from collections.abc import Callable
 
 from mgr_front.errands import Errand
@@ -17,8 +18,9 @@ COMMANDS = (EXCHANGE, SERVE)
 # Seconds: that nothing is typed before an exchange, and before one that would end a run of kills or
 # of undos; between two while nothing is typed; between two tries where there is no hub.
 IDLE, RUN, MOST, AGAIN = 1.0, 10.0, 5.0, 2.0
-# At most this part of the time goes into exchanges while nothing is typed.
-PART = 20
+# At most this part of the time goes into exchanges while nothing is typed, by the quickest of so many
+# tries: one that met a busy hub tells nothing of the next.
+PART, TRIES = 8, 5
 # Seconds until a hub that does not answer is said to be none.
 PATIENCE = 3.0
 
@@ -39,9 +41,10 @@ class LiveExchange:
         self.remarks, self.lost = remarks, lost
         # The buffer, as its mode line says it.
         self.name: str | None = None
-        # When the last try began, how long it took and when it ended, when the last one was done, and
-        # since when none is.
-        self.tried, self.took, self.ended = -math.inf, 0.0, -math.inf
+        # When the last try began and when it ended, how long the last few took, when the last one was
+        # done, and since when none is.
+        self.tried, self.ended = -math.inf, -math.inf
+        self.took: deque[float] = deque(maxlen=TRIES)
         self.done, self.failing = -math.inf, math.inf
         self.is_stopped = False
 
@@ -62,14 +65,14 @@ class LiveExchange:
         """Returns for how long nothing is exchanged behind the last try."""
         if self.failing < math.inf:
             return AGAIN
-        return 0.0 if is_changed else min(MOST, max(1.0, PART * self.took))
+        return 0.0 if is_changed else min(MOST, max(1.0, PART * min(self.took, default=0.0)))
 
     def begin(self, moment: Moment) -> Errand:
         """Exchanges, and says what is wrong with that. Else what was said before stands."""
         self.tried = time.monotonic()
         frame = yield b"\x1bx" + EXCHANGE.encode() + b"\r"
         self.ended = time.monotonic()
-        self.took = self.ended - self.tried
+        self.took.append(self.ended - self.tried)
         return self._told(frame.echo, moment.said)
 
     def _told(self, said: str, before: str) -> str:

@@ -12,7 +12,7 @@ from mgr_front.completion import accept, asks_for_name, begins_at_home, complete
 from mgr_front.dialogue import CANCEL, FAILED, RETURN, TAB, UNDEFINED, Answer
 from mgr_front.dispatch import Dispatcher
 from mgr_front.echo import Echo, echo_line
-from mgr_front.editor import BLOCK, Editor
+from mgr_front.editor import BLOCK, LEAST_ROWS, MOST_ROWS, Editor
 from mgr_front.errands import Errand
 from mgr_front.frames import Frame
 from mgr_front.keys import Keys, Typed, without_first
@@ -52,6 +52,8 @@ class Session:
         self.editor, self.screen, self.signals = editor, screen, signals
         self.relay = port if isinstance(port, Relay) else None
         self.port = port.port if isinstance(port, Relay) else port
+        # How many rows mgr is to fill.
+        self.rows = editor.frames.rows
         self.keys = Keys()
         self.dispatcher = Dispatcher(editor, screen.erase)
         self.buffers = Buffers()
@@ -135,7 +137,10 @@ class Session:
             knock(self.port)
         elif not dialogue.is_settled and now > self.heard + ANSWER and dialogue.command not in COMMANDS:
             self._assume_settled()
+        self.editor.release()
         self.dispatcher.run(self)
+        if not self.errand:
+            self.editor.resize(self.rows)
         for watch in self.watches:
             moment = self._moment()
             due = watch.due(moment) if moment else None
@@ -194,18 +199,22 @@ class Session:
     def _take_frame(self, answer: Answer, frame: Frame) -> None:
         for opened in self.opened if self.frame is None else ():
             opened(frame)
-        self.frame, self.said = frame, None
+        self.frame = frame
+        if not answer.is_size:
+            self.said = None
         self.buffers.note(frame)
         if self.errand:
             if self.editor.dialogue.is_settled:
                 self._go_on(self.errand, frame)
+            return
+        self.is_stale = True
+        if answer.is_size:
             return
         if answer.command in COMMANDS:
             self._end_exchange(frame.echo)
         if answer.key == bytes([CANCEL]):
             self.remarks.acknowledge()
         self.key = answer.key
-        self.is_stale = True
         self.rings = self.rings or bool(answer.key) and frame.echo in (UNDEFINED, FAILED)
 
     def _end_exchange(self, said: str) -> None:
@@ -328,7 +337,9 @@ class Session:
             self.resize()
 
     def resize(self) -> None:
-        """The terminal has another size: the frame is cut for it."""
+        """The terminal has another size: mgr is told of it, and until then the frame is cut for it."""
+        _, rows = os.get_terminal_size(1)
+        self.rows = max(LEAST_ROWS, min(rows, MOST_ROWS))
         self.repaint()
 
     def repaint(self) -> None:

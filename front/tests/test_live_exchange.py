@@ -48,10 +48,16 @@ class TestLiveExchange(unittest.TestCase):
         self.assertEqual(self.live.due(moment(103)), 104)
 
     def test_long_ones_are_rare(self) -> None:
-        self.exchange("Sent 1, received 1", took=0.1)
-        self.assertAlmostEqual(self.live.due(moment(99)) or 0, 100.1 + 2)
+        self.exchange("Sent 1, received 1", took=0.25)
+        self.assertAlmostEqual(self.live.due(moment(99)) or 0, 100.25 + 2)
+        for _ in range(5):
+            self.exchange("Sent 1, received 1", took=2)
+        self.assertAlmostEqual(self.live.due(moment(99)) or 0, 110.25 + 5)
+
+    def test_one_that_met_a_busy_hub_tells_nothing_of_the_next(self) -> None:
+        self.exchange("Sent 1, received 1", took=0.25)
         self.exchange("Sent 1, received 1", took=2)
-        self.assertAlmostEqual(self.live.due(moment(99)) or 0, 102.1 + 5)
+        self.assertAlmostEqual(self.live.due(moment(99)) or 0, 102.25 + 2)
 
     def test_runs_of_kills_and_undos_are_left_whole(self) -> None:
         for key in (b"\x0b", b"\x154\x0b", b"\x1bd", b"\x1f", b"\x18u"):

@@ -1,6 +1,9 @@
 //! The state of the editor.
-ghost use Rattle.std.specs.Prelude.{◌≡◌, ◌↔◌, [], false};
+ghost use Rattle.std.specs.Prelude.{◌≡◌, ◌≤◌, ◌↔◌, [], false};
 ghost use Rattle.mg_keys.specs.Begun.{HasBegun};
+ghost use Rattle.mg_screen.specs.Layout.{FillsRows};
+ghost use Rattle.mg_screen.specs.declared.size.TheConstants.{MIN_ROWS, MAX_ROWS, MIN_COLUMNS, MAX_COLUMNS};
+ghost use Rattle.mg_workspace.specs.Deeds.{resized};
 
 use crate::dialogue::Dialogue;
 use mg_prompts::Message;
@@ -53,5 +56,18 @@ impl<S: TextStore> Editor<S> {
         ensures { (result ≡ false) ↔ HasBegun self.now.talk.keys [] }
     {
         self.talk.is_amid_keys()
+    }
+
+    /// A screen of so many rows and columns, as `Workspace::resize` has it. What is talked stays: a
+    /// prompt, a message, a key sequence that is not whole yet. Takes no memory.
+    pub fn resize(&mut self, rows: usize, columns: usize)
+        requires rows_from { MIN_ROWS ≤ rows }
+        requires rows_to { rows ≤ MAX_ROWS }
+        requires columns_from { MIN_COLUMNS ≤ columns }
+        requires columns_to { columns ≤ MAX_COLUMNS }
+        ensures exact { self.new ≡ record self.old { work = resized rows columns self.old.work } }
+        ensures filled { FillsRows rows self.new.work.windows }
+    {
+        self.work.resize(rows, columns);
     }
 }

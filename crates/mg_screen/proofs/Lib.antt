@@ -7,3 +7,4 @@ pub mod PlaceLaws
 pub mod CursorLaws
 pub mod LayoutLaws
 pub mod HeightLaws
+pub mod ResizeLaws

@@ -1,5 +1,5 @@
 -- How the rows of the screen are shared among windows.
-use Rattle.std.specs.Prelude.{ℕ, ◌≡◌, ◌+◌, ◌-◌, ◌/◌, ◌<◌, ◌≤◌, List, [], ◌∷◌, length, map, take, drop, if◌then◌else◌, nat_lt, zero, suc, slice_index, refl}
+use Rattle.std.specs.Prelude.{ℕ, ◌≡◌, ◌+◌, ◌-◌, ◌*◌, ◌/◌, ◌<◌, ◌≤◌, List, [], ◌∷◌, length, map, min, take, drop, if◌then◌else◌, nat_lt, zero, suc, slice_index, refl}
 use Rattle.std.proofs.Common.{ap}
 use Rattle.std.specs.Coded.{Coded, code_by, coded×, coded_ℕ, coded_list}
 
@@ -73,6 +73,23 @@ remove_at (suc (suc i)) (v ∷ w ∷ ws) = v ∷ remove_at (suc i) (w ∷ ws)
 abbrev pub only_at : {T : Type 0} → ℕ → List (Window T) → List (Window T)
 only_at i ws = map (of_height (rows_of ws - 1)) (take 1 (drop i ws))
 
+-- the text rows of windows that share so many rows: each keeps its own as far as two rows stay for each window below it,
+-- and the lowest has what is left
+abbrev pub shared : ℕ → List ℕ → List ℕ
+shared room [] = []
+shared room (h ∷ []) = (room - 1) ∷ []
+shared room (h ∷ g ∷ hs) =
+    let n = min h (room - 2 * (length hs + 1) - 1) in
+    n ∷ shared (room - (n + 1)) (g ∷ hs)
+
+-- the windows that stay on a screen of so many rows: from the top on, as many as have two rows each above the echo line
+abbrev pub staying : {T : Type 0} → ℕ → List (Window T) → List (Window T)
+staying rows ws = take ((rows - 1) / 2) ws
+
+-- they share all rows above the echo line
+abbrev pub resized : {T : Type 0} → ℕ → List (Window T) → List (Window T)
+resized rows ws = windows_of (shared (rows - 1) (heights (staying rows ws))) (all_shown (staying rows ws))
+
 -- the text rows of the current window
 abbrev pub current_height : {T : Type 0} → Layout T → ℕ
 current_height l = slice_index (heights l.windows) l.current
@@ -106,6 +123,10 @@ other_layout l = layout l.windows (if nat_lt (l.current + 1) (length l.windows) 
 -- the same one is current
 abbrev pub shown_layout : {T : Type 0} → ℕ → T → Layout T → Layout T
 shown_layout i s l = layout (shows_at i s l.windows) l.current
+
+-- on so many rows: the current window stays current, or else the lowest that stays is
+abbrev pub resized_layout : {T : Type 0} → ℕ → Layout T → Layout T
+resized_layout rows l = layout (resized rows l.windows) (min l.current (length (staying rows l.windows) - 1))
 
 -- each window has some text rows, one is current, and with the echo line the windows fill so many rows
 pub record FillsRows {T : Type 0} (rows : ℕ) (l : Layout T) : Type 0 where

@@ -1,5 +1,5 @@
 //! Heights of windows, and beside these what the windows show.
-ghost use Rattle.std.specs.Prelude.{◌≡◌, ℕ, ◌+◌, ◌-◌, ◌<◌, ◌≤◌, OnOk, OnErr};
+ghost use Rattle.std.specs.Prelude.{◌≡◌, ℕ, ◌+◌, ◌-◌, ◌*◌, ◌<◌, ◌≤◌, OnOk, OnErr};
 ghost use Rattle.std.specs.Prelude.{length, insert, slice_index, sum_by};
 ghost use Rattle.mg_screen.specs.declared.size.TheConstants.{MAX_ROWS, MIN_SPLIT_HEIGHT};
 ghost use Rattle.mg_screen.specs.Inside.{IsKept};
@@ -84,4 +84,20 @@ pub(crate) fn remove_both<T: Copy>(
     }
     heights[index - 1] += height + 1;
     index - 1
+}
+
+/// Shares so many rows among the windows, of which there is one.
+pub(crate) fn share(heights: &mut Vec<usize>, rows: usize)
+    requires some { 0 < length heights.old.items }
+    requires enough { 2 * length heights.old.items ≤ rows }
+    ensures exact { heights.new.items ≡ spec.shared rows heights.old.items }
+{
+    let last = heights.as_slice().len() - 1;
+    let mut room = rows;
+    for i in 0..last {
+        let height = heights[i].min(room - 2 * (last - i) - 1);
+        heights[i] = height;
+        room -= height + 1;
+    }
+    heights[last] = room - 1;
 }

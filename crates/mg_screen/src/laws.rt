@@ -6,6 +6,7 @@ ghost use Rattle.mg_screen.specs.Cells.{Cell, cell, cells, beginning, width_of, 
 ghost use Rattle.mg_screen.specs.Lines.{line_of, column_of, first_line, shows_line};
 ghost use Rattle.mg_screen.specs.Screen.{Pane, Screen};
 ghost use Rattle.mg_screen.specs.Frame.{frame_rows};
+ghost use Rattle.mg_screen.specs.Layout.{Layout, FillsRows, resized_layout};
 ghost use Rattle.mg_screen.specs.Cursor.{cursor, echo_cursor, line_at, row_cells, ShowsAt};
 
 /// What is kept of cells that have too little room is their longest beginning: it fits, and each
@@ -49,4 +50,9 @@ pub fn the_cursor_is_on_the_sign_of_a_cut_line()
         columns < width_of (cells line) →
         length (row_cells columns line) ≤ column_of p.text p.point →
         ShowsAt (get_or (frame_rows columns s) at.row []) at.column (cell (36 ∷ []) 1) }
+{}
+
+/// A screen of as many rows as before leaves the windows as they are.
+pub fn the_same_rows_change_no_window<T: Copy>()
+    ensures { (rows : ℕ) (l : Layout T) → FillsRows rows l → resized_layout rows l ≡ l }
 {}

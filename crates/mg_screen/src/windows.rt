@@ -7,7 +7,7 @@ ghost use Rattle.mg_screen.specs.declared.windows.WindowFault.TheVariants.{TooSm
 ghost use Rattle.mg_screen.specs.declared.windows.WindowFault.TheVariants.{Memory};
 ghost use Rattle.mg_screen.specs.Layout as spec;
 
-use crate::heights::{remove_both, split_both};
+use crate::heights::{remove_both, share, split_both};
 use crate::size::MIN_SPLIT_HEIGHT;
 use std::alloc::{AllocError, Global};
 use std::marker::Model;
@@ -183,5 +183,23 @@ impl<T: Copy> Windows<T> {
         ensures filled { spec.KeepsRows self.old self.new }
     {
         self.shown[index] = shown;
+    }
+
+    /// On a screen of so many rows. As many windows stay, from the top on, as have two rows each;
+    /// a window above others keeps its text rows as far as one row is left for each of those, and
+    /// the lowest has what is left. The current window stays current; where it goes, the lowest is.
+    /// Takes no memory.
+    pub fn resize(&mut self, rows: usize)
+        requires rows_from { MIN_ROWS ≤ rows }
+        requires rows_to { rows ≤ MAX_ROWS }
+        ensures exact { self.new ≡ spec.resized_layout rows self.old }
+        ensures filled { spec.FillsRows rows self.new }
+    {
+        let most = (rows - 1) / 2;
+        self.heights.truncate(most);
+        self.shown.truncate(most);
+        share(&mut self.heights, rows - 1);
+        self.current = self.current.min(self.heights.as_slice().len() - 1);
+        self.rows = rows;
     }
 }

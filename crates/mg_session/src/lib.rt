@@ -11,6 +11,7 @@
 mod display;
 mod fault;
 mod keys;
+mod reports;
 mod session;
 
 pub use fault::SessionFault;

@@ -1,18 +1,21 @@
 //! Sessions.
-ghost use Rattle.std.specs.Prelude.{◌≡◌, ◌≢◌, ◌⊎◌, ◌↔◌, ℕ, Bool, false, not, ◌&&◌, List, [], Err, IfOk, OnOk, IfErr};
+ghost use Rattle.std.specs.Prelude.{◌≡◌, ◌≢◌, ◌⊎◌, ◌↔◌, ℕ, Bool, false, not, ◌&&◌, List, [], ◌∷◌, Err, IfOk, OnOk, IfErr};
 ghost use Rattle.rga_lines.specs.Counting.{CountsAs, Writes, one_more};
 ghost use Rattle.mg_files.specs.declared.fault.LoadFault.TheVariants.{Memory as NoMemory};
 ghost use Rattle.mg_keys.specs.Begun.{HasBegun};
 ghost use Rattle.mg_session.specs.Display.{ShowsIf};
 ghost use Rattle.mg_session.specs.Faults as spec;
+ghost use Rattle.mg_session.specs.Reports as report;
 ghost use Rattle.mg_session.specs.Running as running;
 ghost use Rattle.mg_session.specs.declared.fault.SessionFault.TheVariants.{Load, File, Keys, Screen, Memory};
 
 use crate::display::show;
 use crate::fault::SessionFault;
 use crate::keys::take_key;
+use crate::reports::{Meaning, Reports};
 use mg_editor::Editor;
 use mg_files::Port;
+use mg_screen::{MAX_COLUMNS, MAX_ROWS, MIN_COLUMNS, MIN_ROWS};
 use mg_settings::Settings;
 use rga_lines::Counted;
 use rga_store::TextStore;
@@ -27,6 +30,8 @@ const BLOCK: usize = 4096;
 struct Session<S: TextStore> {
     alloc: Global,
     editor: Editor<S>,
+    /// What the bytes of the keys mean.
+    reports: Reports,
     /// Whether a frame follows each step.
     trace: bool,
     /// Whether a line with the cursor's row and column follows each frame.
@@ -41,6 +46,12 @@ struct Session<S: TextStore> {
 /// pending; else one at the end. Each row of a frame has a newline behind it. What is written is
 /// flushed before the next read.
 ///
+/// Where the settings say that the screen is resizable, `ESC [ 8 ; ROWS ; COLUMNS t` among the keys,
+/// with one to four decimal digits for each number, is no key: the screen takes that size, brought
+/// within its limits, and where steps are traced a frame follows. Bytes that begin such a report are
+/// held until it is whole or turns out to be none; then, and at the end of the keys, they are
+/// pressed. Where a read fails they are not.
+///
 /// Faults end a session at once: `File` and `Load` of the first load, `Keys` and `Screen` of the
 /// devices, and `Memory`, at the load and where a frame is made. Any other fault is said in the
 /// next frame, and the session goes on.
@@ -51,10 +62,10 @@ pub fn run_keys<S: TextStore, R: Read, W: Write, P: Port>(
     port: &mut P,
     settings: &Settings,
 ) -> Result<(), SessionFault>
-    // At the end of a session the keys were taken in turn, and what they show was written.
+    // At the end of a session what the bytes mean was taken in turn, and what it shows was written.
     ensures ran { OnOk result (running.RanFrom R.remaining W.contents settings.now
         keys.old keys.new (P.calls port.old) (P.calls port.new) screen.old screen.new) }
-    // So were those before a read that failed.
+    // So was what is certain before a read that failed.
     ensures broken { result ≡ Err Keys → running.BrokeOffFrom R.remaining W.contents settings.now
         keys.old keys.new (P.calls port.old) (P.calls port.new) screen.old screen.new }
 
@@ -82,7 +93,7 @@ fn open<S: TextStore, P: Port>(
     settings: &Settings,
 ) -> Result<Session<S>, SessionFault>
     ensures opened { IfOk result (λ session. running.IsOpened settings.now (P.calls port.old)
-        (P.calls port.new) session.trace session.cursor session.editor) }
+        (P.calls port.new) session.reports session.trace session.cursor session.editor) }
     ensures failed { IfErr result
         (running.FailsToOpen settings.now (P.calls port.old) (P.calls port.new)) }
     ensures fault { IfErr result (λ e. (e ≢ Keys) × (e ≢ Screen) × (e ≢ Load NoMemory)) }
@@ -93,6 +104,7 @@ fn open<S: TextStore, P: Port>(
     Ok(Session {
         alloc,
         editor: Editor::new(alloc, settings, found)?,
+        reports: Reports::new(values.resizable),
         trace: values.trace,
         cursor: values.cursor,
     })
@@ -106,11 +118,11 @@ impl<S: TextStore> Session<S> {
         screen: &mut Counted<W>,
         port: &mut P,
     ) -> Result<(), SessionFault>
-        ensures ran { OnOk result (running.Ran R.remaining W.contents self.old.trace self.old.cursor
-            keys.old keys.new (P.calls port.old) (P.calls port.new) self.old.editor
-            screen.old screen.new) }
+        ensures ran { OnOk result (running.Ran R.remaining W.contents self.old.reports
+            self.old.trace self.old.cursor keys.old keys.new (P.calls port.old) (P.calls port.new)
+            self.old.editor screen.old screen.new) }
         ensures broken { result ≡ Err Keys → running.BrokeOff R.remaining W.contents
-            self.old.trace self.old.cursor keys.old keys.new (P.calls port.old)
+            self.old.reports self.old.trace self.old.cursor keys.old keys.new (P.calls port.old)
             (P.calls port.new) self.old.editor screen.old screen.new }
         ensures fault { IfErr result (λ e. ¬ (spec.IsOfLoad e)) }
         ensures keys { CountsAs Keys result keys.old keys.new }
@@ -131,6 +143,7 @@ impl<S: TextStore> Session<S> {
             × ShowsIf is_asked self.old.cursor self.old.editor self.new.editor text
             × Writes W.contents screen.old screen.new text) }
         ensures kept { (self.new.trace ≡ self.old.trace) × (self.new.cursor ≡ self.old.cursor) }
+        ensures reports { self.new.reports ≡ self.old.reports }
         ensures fault { IfErr result (λ e. (e ≡ Screen) ⊎ (e ≡ Memory)) }
         ensures device { CountsAs Screen result screen.old screen.new }
     {
@@ -149,18 +162,18 @@ impl<S: TextStore> Session<S> {
         self.trace && !is_amid
     }
 
-    /// Takes a key, and answers whether the session ends.
-    fn take<W: Write, P: Port>(
+    /// Presses a key, and answers whether the session ends.
+    fn press<W: Write, P: Port>(
         &mut self,
         key: u8,
         screen: &mut Counted<W>,
         port: &mut P,
     ) -> Result<bool, SessionFault>
-        ensures taken { IfOk result (λ ends. (text : List ℕ)
-            × running.Takes self.old.trace self.old.cursor key (P.calls port.old)
-            (P.calls port.new) self.old.editor self.new.editor ends text
-            × Writes W.contents screen.old screen.new text) }
+        ensures taken { IfOk result (λ ends. running.TakesOnto W.contents
+            self.old.trace self.old.cursor (report.key key ∷ []) (P.calls port.old)
+            (P.calls port.new) self.old.editor self.new.editor ends screen.old screen.new) }
         ensures kept { (self.new.trace ≡ self.old.trace) × (self.new.cursor ≡ self.old.cursor) }
+        ensures reports { self.new.reports ≡ self.old.reports }
         ensures fault { IfErr result (λ e. (e ≡ Screen) ⊎ (e ≡ Memory)) }
         ensures device { CountsAs Screen result screen.old screen.new }
     {
@@ -169,19 +182,119 @@ impl<S: TextStore> Session<S> {
         Ok(ends)
     }
 
-    /// Takes the keys, block by block, up to one that quits.
+    /// Presses keys up to one that quits, and answers whether there is one.
+    fn press_all<W: Write, P: Port>(
+        &mut self,
+        keys: &[u8],
+        screen: &mut Counted<W>,
+        port: &mut P,
+    ) -> Result<bool, SessionFault>
+        ensures taken { IfOk result (λ quits. running.TakesOnto W.contents
+            self.old.trace self.old.cursor (report.keys keys.now) (P.calls port.old)
+            (P.calls port.new) self.old.editor self.new.editor quits screen.old screen.new) }
+        ensures kept { (self.new.trace ≡ self.old.trace) × (self.new.cursor ≡ self.old.cursor) }
+        ensures reports { self.new.reports ≡ self.old.reports }
+        ensures fault { IfErr result (λ e. (e ≡ Screen) ⊎ (e ≡ Memory)) }
+        ensures device { CountsAs Screen result screen.old screen.new }
+    {
+        for key in keys {
+            let ends = self.press(*key, screen, port)?;
+            if ends {
+                return Ok(true);
+            }
+        }
+        Ok(false)
+    }
+
+    /// The screen takes a size, within its limits.
+    fn resize<W: Write>(
+        &mut self,
+        rows: usize,
+        columns: usize,
+        screen: &mut Counted<W>,
+    ) -> Result<(), SessionFault>
+        ensures taken { (calls : running.Told) → OnOk result (running.TakesOnto W.contents
+            self.old.trace self.old.cursor (report.size rows columns ∷ []) calls calls
+            self.old.editor self.new.editor false screen.old screen.new) }
+        ensures kept { (self.new.trace ≡ self.old.trace) × (self.new.cursor ≡ self.old.cursor) }
+        ensures reports { self.new.reports ≡ self.old.reports }
+        ensures fault { IfErr result (λ e. (e ≡ Screen) ⊎ (e ≡ Memory)) }
+        ensures device { CountsAs Screen result screen.old screen.new }
+    {
+        self.editor.resize(
+            rows.max(MIN_ROWS).min(MAX_ROWS),
+            columns.max(MIN_COLUMNS).min(MAX_COLUMNS),
+        );
+        self.show_if(self.trace, screen)
+    }
+
+    /// Takes what a byte leads to, and answers whether the session ends.
+    fn take<W: Write, P: Port>(
+        &mut self,
+        byte: u8,
+        screen: &mut Counted<W>,
+        port: &mut P,
+    ) -> Result<bool, SessionFault>
+        ensures taken { let read = report.read self.old.reports byte in
+            IfOk result (λ quits. running.TakesOnto W.contents
+            self.old.trace self.old.cursor read.events (P.calls port.old) (P.calls port.new)
+            self.old.editor self.new.editor quits screen.old screen.new) }
+        ensures left { self.new.reports ≡ (report.read self.old.reports byte).left }
+        ensures kept { (self.new.trace ≡ self.old.trace) × (self.new.cursor ≡ self.old.cursor) }
+        ensures fault { IfErr result (λ e. (e ≡ Screen) ⊎ (e ≡ Memory)) }
+        ensures device { CountsAs Screen result screen.old screen.new }
+    {
+        match self.reports.read(byte) {
+            Meaning::Keys(keys) => self.press_all(keys.as_slice(), screen, port),
+            Meaning::Size(rows, columns) => {
+                self.resize(rows, columns, screen)?;
+                Ok(false)
+            }
+        }
+    }
+
+    /// Takes what bytes lead to, up to a key that quits, and answers whether there is one.
+    fn take_all<W: Write, P: Port>(
+        &mut self,
+        bytes: &[u8],
+        screen: &mut Counted<W>,
+        port: &mut P,
+    ) -> Result<bool, SessionFault>
+        ensures taken { IfOk result (λ quits. running.TakesOnto W.contents
+            self.old.trace self.old.cursor (report.events self.old.reports bytes.now)
+            (P.calls port.old) (P.calls port.new)
+            self.old.editor self.new.editor quits screen.old screen.new) }
+        ensures left { IfOk result (λ quits. quits ≡ false →
+            self.new.reports ≡ report.after self.old.reports bytes.now) }
+        ensures kept { (self.new.trace ≡ self.old.trace) × (self.new.cursor ≡ self.old.cursor) }
+        ensures fault { IfErr result (λ e. (e ≡ Screen) ⊎ (e ≡ Memory)) }
+        ensures device { CountsAs Screen result screen.old screen.new }
+    {
+        for byte in bytes {
+            let ends = self.take(*byte, screen, port)?;
+            if ends {
+                return Ok(true);
+            }
+        }
+        Ok(false)
+    }
+
+    /// Takes what the keys mean, block by block, up to one that quits. At their end the bytes that
+    /// are held are pressed.
     fn take_blocks<R: Read, W: Write, P: Port>(
         &mut self,
         keys: &mut Counted<R>,
         screen: &mut Counted<W>,
         port: &mut P,
     ) -> Result<(), SessionFault>
-        ensures taken { OnOk result (running.TakesKeys R.remaining W.contents
-            self.old.trace self.old.cursor keys.old keys.new (P.calls port.old)
-            (P.calls port.new) self.old.editor self.new.editor screen.old screen.new) }
-        ensures broken { result ≡ Err Keys → running.TakesRead R.remaining W.contents
-            self.old.trace self.old.cursor keys.old keys.new (P.calls port.old)
-            (P.calls port.new) self.old.editor self.new.editor false screen.old screen.new }
+        ensures taken { OnOk result (running.TakesKeys (report.all_events self.old.reports)
+            R.remaining W.contents self.old.trace self.old.cursor keys.old keys.new
+            (P.calls port.old) (P.calls port.new) self.old.editor self.new.editor
+            screen.old screen.new) }
+        ensures broken { result ≡ Err Keys → running.TakesRead (report.events self.old.reports)
+            R.remaining W.contents self.old.trace self.old.cursor keys.old keys.new
+            (P.calls port.old) (P.calls port.new) self.old.editor self.new.editor false
+            screen.old screen.new }
         ensures kept { (self.new.trace ≡ self.old.trace) × (self.new.cursor ≡ self.old.cursor) }
         ensures fault { IfErr result (λ e. (e ≡ Keys) ⊎ (e ≡ Screen) ⊎ (e ≡ Memory)) }
         ensures keys { CountsAs Keys result keys.old keys.new }
@@ -193,34 +306,13 @@ impl<S: TextStore> Session<S> {
                 return Err(SessionFault::Keys);
             };
             if count == 0 {
+                let held = self.reports.take_held();
+                self.press_all(held.as_slice(), screen, port)?;
                 return Ok(());
             }
-            if self.take_keys(&block[..count], screen, port)? {
+            if self.take_all(&block[..count], screen, port)? {
                 return Ok(());
             }
         }
-    }
-
-    /// Takes keys up to one that quits, and answers whether there is one.
-    fn take_keys<W: Write, P: Port>(
-        &mut self,
-        keys: &[u8],
-        screen: &mut Counted<W>,
-        port: &mut P,
-    ) -> Result<bool, SessionFault>
-        ensures taken { IfOk result (λ quits. running.TakesOnto W.contents
-            self.old.trace self.old.cursor keys.now (P.calls port.old) (P.calls port.new)
-            self.old.editor self.new.editor quits screen.old screen.new) }
-        ensures kept { (self.new.trace ≡ self.old.trace) × (self.new.cursor ≡ self.old.cursor) }
-        ensures fault { IfErr result (λ e. (e ≡ Screen) ⊎ (e ≡ Memory)) }
-        ensures device { CountsAs Screen result screen.old screen.new }
-    {
-        for key in keys {
-            let ends = self.take(*key, screen, port)?;
-            if ends {
-                return Ok(true);
-            }
-        }
-        Ok(false)
     }
 }

@@ -14,6 +14,7 @@ pub record Values : Type 0 where
   pub port : Option ℕ
   pub trace : Bool
   pub cursor : Bool
+  pub resizable : Bool
   pub limit : ℕ
 
 -- each value is within its limits

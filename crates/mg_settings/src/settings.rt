@@ -28,6 +28,8 @@ pub struct Values {
     pub trace: bool,
     /// Whether the row and the column of the cursor follow each frame.
     pub cursor: bool,
+    /// Whether the screen follows the reports of its size among the keys.
+    pub resizable: bool,
     /// How many identifiers the buffer may know.
     pub limit: usize,
 }
@@ -47,6 +49,7 @@ impl Model for Values {
       port = v.port;
       trace = v.trace;
       cursor = v.cursor;
+      resizable = v.resizable;
       limit = v.limit;
     } };
 }

@@ -1,12 +1,12 @@
 -- What is known of windows by what they show.
-use Rattle.std.proofs.Common.{◌≡◌, ℕ, zero, suc, ◌+◌, ◌-◌, ◌<◌, ◌≤◌, List, [], ◌∷◌, ◌++◌, length, map, take, drop, get_or, Some, slice_get, is_some, true≢false, nat_eq, nat_lt, if◌then◌else◌, refl, sym, ap, subst, ◌∙◌, arith}
+use Rattle.std.proofs.Common.{◌≡◌, ℕ, zero, suc, ◌+◌, ◌-◌, ◌/◌, ◌<◌, ◌≤◌, List, [], ◌∷◌, ◌++◌, length, map, take, drop, get_or, Some, slice_get, is_some, true≢false, nat_eq, nat_lt, if◌then◌else◌, refl, sym, ap, subst, ◌∙◌, arith}
 use Rattle.std.specs.List.{AllByRecursion, remove}
 use Rattle.std.proofs.lemmas.Bool.{cond_both, ltb-true, ltb-false, eqb-false}
 use Rattle.std.proofs.lemmas.List.{length_push}
 use Rattle.std.proofs.lemmas.Option.{same_Some}
 use Rattle.std.proofs.lemmas.List.Edits.{length-remove}
 use Rattle.mg_files.specs.OpenState.{OpenState}
-use Rattle.mg_screen.specs.Layout.{Window, window, Layout, heights, all_shown, shows_at, shown_layout, split_at, remove_at, only_at, of_height, rows_of}
+use Rattle.mg_screen.specs.Layout.{Window, window, Layout, heights, all_shown, shows_at, shown_layout, split_at, remove_at, only_at, windows_of, shared, staying, resized_layout, of_height, rows_of}
 use Rattle.mg_workspace.specs.declared.excerpt.Excerpt.{Excerpt}
 use Rattle.mg_workspace.specs.declared.workspace.TheConstants.{MAX_BUFFERS}
 use Rattle.mg_workspace.specs.Buffers.{Buffers, with_buffer, without_buffer}
@@ -64,6 +64,21 @@ show_drop n (suc i) (w ∷ ws) all = show_drop n i ws all.1
 
 pub show_only : (n i : ℕ) (ws : List (Window Excerpt)) → ShowThese n ws → ShowThese n (only_at i ws)
 show_only n i ws all = show_first n (rows_of ws - 1) (drop i ws) (show_drop n i ws all)
+
+show_take : (n k : ℕ) (ws : List (Window Excerpt)) → ShowThese n ws → ShowThese n (take k ws)
+show_take n zero ws all = tt
+show_take n (suc k) [] all = tt
+show_take n (suc k) (w ∷ ws) all = (all.0, show_take n k ws all.1)
+
+show_as_tall : (n : ℕ) (hs : List ℕ) (ws : List (Window Excerpt)) → ShowThese n ws → ShowThese n (windows_of hs (all_shown ws))
+show_as_tall n [] ws all = tt
+show_as_tall n (h ∷ hs) [] all = tt
+show_as_tall n (h ∷ hs) (w ∷ ws) all = (all.0, show_as_tall n hs ws all.1)
+
+pub show_resized : (n rows : ℕ) (old new : Layout Excerpt) → new ≡ resized_layout rows old → ShowThese n old.windows → ShowThese n new.windows
+show_resized n rows old new is all =
+    subst (λ (l : Layout Excerpt). ShowThese n l.windows) (sym is)
+    (show_as_tall n (shared (rows - 1) (heights (staying rows old.windows))) (staying rows old.windows) (show_take n ((rows - 1) / 2) old.windows all))
 
 pub show_at : (n i : ℕ) (x : Excerpt) (ws : List (Window Excerpt)) → x.buffer < n → ShowThese n ws → ShowThese n (shows_at i x ws)
 show_at n i x [] here all = tt

@@ -18,7 +18,7 @@ use Rattle.mg_prompts.specs.declared.message.Message.TheVariants as message
 use Rattle.mg_screen.specs.declared.size.TheConstants.{MIN_SPLIT_HEIGHT}
 use Rattle.mg_screen.specs.declared.windows.WindowFault.{WindowFault}
 use Rattle.mg_screen.specs.declared.windows.WindowFault.TheVariants as window
-use Rattle.mg_screen.specs.Layout.{Layout, current_height, split_layout, removed_layout, only_layout, other_layout}
+use Rattle.mg_screen.specs.Layout.{Layout, current_height, split_layout, removed_layout, resized_layout, only_layout, other_layout}
 use Rattle.mg_screen.specs.Lines.{line_of, centred}
 use Rattle.mg_workspace.specs.declared.fault.DeedFault.{DeedFault}
 use Rattle.mg_workspace.specs.declared.fault.DeedFault.TheVariants.{Refused, Memory}
@@ -134,6 +134,10 @@ pub record Arranged (a : Arrangement) (w v : Workspace) (r : DeedVerdict) : Type
   pub exact : IsWindowAnswer answer (window_answer a w.windows)
   pub windows : Rearranged answer (windows_after answer a shown w.windows) w v
   pub told : r ≡ of_windows answer
+
+-- on a screen of so many rows and columns
+abbrev pub resized : ℕ → ℕ → Workspace → Workspace
+resized rows columns w = record (with_windows (resized_layout rows w.windows) w) { columns = columns }
 
 -- ---- of the buffers by their names
 

@@ -1,6 +1,7 @@
 //! Windows that change.
-ghost use Rattle.std.specs.Prelude.{◌≡◌, ℕ, ◌<◌, true, Some, Err, length, slice_get, OnOk, OnErr};
-ghost use Rattle.mg_screen.specs.Layout.{all_shown, heights};
+ghost use Rattle.std.specs.Prelude.{◌≡◌, ℕ, ◌<◌, ◌≤◌, true, Some, Err, length, slice_get, OnOk, OnErr};
+ghost use Rattle.mg_screen.specs.Layout.{all_shown, heights, FillsRows};
+ghost use Rattle.mg_screen.specs.declared.size.TheConstants.{MIN_ROWS, MAX_ROWS, MIN_COLUMNS, MAX_COLUMNS};
 ghost use Rattle.mg_workspace.specs.declared.fault.DeedFault.TheVariants.{Memory};
 ghost use Rattle.mg_workspace.specs.Deeds as spec;
 ghost use Rattle.mg_workspace.specs.Excerpts.{current_excerpt, ShowThese};
@@ -110,5 +111,21 @@ impl<S: TextStore> Workspace<S> {
         let shown = current_excerpt(&self.windows);
         self.buffers.go_to(shown.buffer);
         of_windows(answer)
+    }
+
+    /// A screen of so many rows and columns: the windows take the rows as `Windows::resize` does,
+    /// and the buffer of the current window is current. A run of commands goes on. Takes no memory.
+    pub fn resize(&mut self, rows: usize, columns: usize)
+        requires rows_from { MIN_ROWS ≤ rows }
+        requires rows_to { rows ≤ MAX_ROWS }
+        requires columns_from { MIN_COLUMNS ≤ columns }
+        requires columns_to { columns ≤ MAX_COLUMNS }
+        ensures exact { self.new ≡ spec.resized rows columns self.old }
+        ensures filled { FillsRows rows self.new.windows }
+    {
+        self.windows.resize(rows);
+        self.columns = columns;
+        let shown = current_excerpt(&self.windows);
+        self.buffers.go_to(shown.buffer);
     }
 }

@@ -30,14 +30,16 @@ name_rule = record (new_rule (codes "name")) { action = Some Set; value_names = 
 abbrev pub screen_rules : App → App
 screen_rules app = with_rule (with_rule app (with_default (codes "24") (number (codes "rows") 3 200))) (with_default (codes "80") (number (codes "cols") 20 500))
 
-abbrev pub rest_rules : App → App
-rest_rules app =
-    let numbered = with_rule (with_rule app (with_default (codes "70") (number (codes "fill") 1 9999))) (number (codes "port") 1 65535) in
-    with_rule (with_rule numbered (flag (codes "trace"))) (flag (codes "cursor"))
+abbrev pub number_rules : App → App
+number_rules app = with_rule (with_rule app (with_default (codes "70") (number (codes "fill") 1 9999))) (number (codes "port") 1 65535)
+
+abbrev pub flag_rules : App → App
+flag_rules app = with_rule (with_rule (with_rule app (flag (codes "trace"))) (flag (codes "cursor"))) (flag (codes "resizable"))
 
 abbrev pub edit_app : App
 edit_app =
-    rest_rules (screen_rules (with_rule (with_rule (new_app (codes "edit")) name_rule) (required_rule (number (codes "replica") 1 65535))))
+    let named = with_rule (with_rule (new_app (codes "edit")) name_rule) (required_rule (number (codes "replica") 1 65535)) in
+    flag_rules (number_rules (screen_rules named))
 
 -- ---- what it was given, by the rows of what clap found
 
@@ -68,6 +70,7 @@ pub record GivesOptions (rows : List Row) (v : Values) : Type 0 where
   pub port : GivesNumberIf rows (codes "port") v.port
   pub trace : GivesFlag rows (codes "trace") v.trace
   pub cursor : GivesFlag rows (codes "cursor") v.cursor
+  pub resizable : GivesFlag rows (codes "resizable") v.resizable
   pub limit : v.limit ≡ MAX_LIMIT
 
 pub record GivesValues (rows : List Row) (v : Values) : Type 0 where

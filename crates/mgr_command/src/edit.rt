@@ -96,26 +96,34 @@ fn with_screen<'a>(alloc: Global, command: Command<'a>) -> Result<Command<'a>, A
     with(command, described(columns, "Its columns"))
 }
 
-/// The same command with the fill column, the port and the two flags.
-fn with_rest<'a>(alloc: Global, command: Command<'a>) -> Result<Command<'a>, AllocError>
+/// The same command with the fill column and the port.
+fn with_numbers<'a>(alloc: Global, command: Command<'a>) -> Result<Command<'a>, AllocError>
     requires { (fields_of command).has_globals ≡ false }
-    ensures app { IfOk result (λ c. app_of c ≡ spec.rest_rules (app_of command.entry)) }
+    ensures app { IfOk result (λ c. app_of c ≡ spec.number_rules (app_of command.entry)) }
     ensures plain { IfOk result (λ c. (fields_of c).has_globals ≡ false) }
 {
     let fill = with_default(number(alloc, "fill", 1, 9999), "70");
     let port = number(alloc, "port", 1, 65535);
-    let trace = flag(alloc, "trace");
-    let cursor = flag(alloc, "cursor");
     let command = with(command, described(fill, "The fill column"))?;
-    let command = with(command, described(port, "The port of exchanges"))?;
-    let command = with(command, described(trace, "Write a frame behind each step"))?;
-    with(
-        command,
-        described(
-            cursor,
-            "Write the cursor's row and column behind each frame",
-        ),
-    )
+    with(command, described(port, "The port of exchanges"))
+}
+
+/// The same command with its flags.
+fn with_flags<'a>(alloc: Global, command: Command<'a>) -> Result<Command<'a>, AllocError>
+    requires { (fields_of command).has_globals ≡ false }
+    ensures app { IfOk result (λ c. app_of c ≡ spec.flag_rules (app_of command.entry)) }
+    ensures plain { IfOk result (λ c. (fields_of c).has_globals ≡ false) }
+{
+    let trace = described(flag(alloc, "trace"), "Write a frame behind each step");
+    let cursor = described(
+        flag(alloc, "cursor"),
+        "Write the cursor's row and column behind each frame",
+    );
+    let resizable = described(
+        flag(alloc, "resizable"),
+        "Take reports of the screen's size among the keys",
+    );
+    with(with(with(command, trace)?, cursor)?, resizable)
 }
 
 /// `edit`, with the words of its help.
@@ -126,7 +134,8 @@ pub(crate) fn edit<'a>(alloc: Global) -> Result<Command<'a>, AllocError>
     let edit = with(Command::new(alloc, "edit"), name(alloc))?;
     let edit = with(edit, replica(alloc))?;
     let edit = with_screen(alloc, edit)?;
-    let edit = with_rest(alloc, edit)?;
+    let edit = with_numbers(alloc, edit)?;
+    let edit = with_flags(alloc, edit)?;
     Ok(
         edit.about("Take keys and write frames: edit a text and its log")
             .after_help(EDIT_HELP),

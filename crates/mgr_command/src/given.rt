@@ -41,6 +41,7 @@ fn values_of(name: String, found: &ArgMatches<'_>) -> Option<Values>
         port: number(found, "port"),
         trace: found.get_flag("trace"),
         cursor: found.get_flag("cursor"),
+        resizable: found.get_flag("resizable"),
         limit: MAX_LIMIT,
         name,
     })

@@ -1,16 +1,10 @@
-//! Tests of buffers.
-//!
-//! Worked examples over a `TreeStore`, as keys that are pressed, and long mixtures against a plain
-//! text. Nothing stands on this crate, so nothing waits for its proof.
+//! Tests of buffers over a `TreeStore`: long mixtures of commands against a plain text, and lists of
+//! operations. Nothing stands on this crate, so nothing waits for its proof.
 #![tactic(auto)]
 
 #[cfg(test)]
-mod keys;
+mod lists;
 #[cfg(test)]
 mod mixtures;
 #[cfg(test)]
-mod remote;
-#[cfg(test)]
 mod sessions;
-#[cfg(test)]
-mod undo;

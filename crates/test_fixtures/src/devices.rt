@@ -1,28 +1,6 @@
-//! A reader and a writer in memory that do a part of what they are asked, and then fail. Like a
-//! device outside, they do not tell their bytes.
-use std::io::{Error, ErrorKind, Read, Result, Write};
-
-/// Gives its bytes in reads of at most so many, and fails once so many reads were made.
-#[derive(Drop)]
-pub struct Pieces<'a> {
-    pub rest: &'a [u8],
-    pub most: usize,
-    pub reads: usize,
-}
-
-impl Read for Pieces<'_> {
-    fn read(&mut self, buf: &mut [u8]) -> Result<usize> {
-        if self.reads == 0 {
-            return Err(Error::from(ErrorKind::Other));
-        }
-        self.reads -= 1;
-        let n = self.most.min(buf.len()).min(self.rest.len());
-        let (front, rest) = self.rest.split_at(n);
-        buf[..n].copy_from_slice(front);
-        self.rest = rest;
-        Ok(n)
-    }
-}
+//! A writer in memory that takes a part of what it is given, and then fails. Like a device outside, it
+//! does not tell its bytes.
+use std::io::{Error, ErrorKind, Result, Write};
 
 /// Takes as many bytes in all as it has room for, at most so many in a write, and then fails;
 /// counts the writes. Whether a flush succeeds is told when it is made.

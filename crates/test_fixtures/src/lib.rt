@@ -1,5 +1,5 @@
-//! What the tests of the crates above share: operations written short, and devices in memory that
-//! fail.
+//! What the tests of the crates above share: operations written short, and a device in memory that
+//! fails.
 //!
 //! Only tests use this crate. It stands on rga_ops; the layer above may rest on the comments of
 //! what is here, and on no contract.
@@ -8,5 +8,5 @@
 mod devices;
 mod operations;
 
-pub use devices::{Narrow, Pieces};
+pub use devices::Narrow;
 pub use operations::{deletion, id, insertion, ops_of, spells};

@@ -4,11 +4,11 @@ ghost use Rattle.mg_files.specs.Calls.{call, load_call, found_call, link_call, r
 
 use crate::call::{MadeCall, push_calls};
 use crate::folder::{Folder, twin};
-use crate::peer::{MemoryLink, Peer};
+use crate::link::NoLink;
 use mg_files::{CallKind, Found, LinkFault, Port, PortFault};
 use std::alloc::{AllocError, Global};
 
-/// Holds files by name and a peer, and tells its calls.
+/// Holds files by name, meets nobody, and tells its calls.
 #[derive(Drop)]
 pub struct MemoryPort {
     alloc: Global,
@@ -20,12 +20,10 @@ pub struct MemoryPort {
     pub refused: Option<CallKind>,
     /// How many bytes a refused append adds all the same to a log that is there.
     pub begun: usize,
-    /// Who is met. Without a peer there is no port to meet one at.
-    pub peer: Option<Peer>,
 }
 
 impl MemoryPort {
-    /// A port with no files and no peer, which refuses nothing else.
+    /// A port with no files, which refuses no call for a file.
     pub fn new(alloc: Global) -> MemoryPort {
         MemoryPort {
             alloc,
@@ -34,7 +32,6 @@ impl MemoryPort {
             failures: 0,
             refused: None,
             begun: 0,
-            peer: None,
         }
     }
 
@@ -97,34 +94,14 @@ impl MemoryPort {
         Err(PortFault::File)
     }
 
-    /// Opens a link, or refuses it.
-    fn open(&mut self, kind: CallKind) -> Result<MemoryLink, LinkFault>
+    /// Refuses a call for a link.
+    fn meet_nobody(&mut self, kind: CallKind) -> Result<NoLink, LinkFault>
         ensures tells { self.new.calls.items
             ≡ self.old.calls.items ++ link_told result (link_call kind) }
         ensures device { self.new.failures ≡ failures_after_link result self.old.failures }
     {
-        let Some(peer) = &self.peer else {
-            self.note(kind, "", &[], false)?;
-            return Err(LinkFault::NoPort);
-        };
-        let link = peer.link()?;
-        self.ask(kind)?;
-        Ok(link)
-    }
-
-    /// Makes a call for a link, or refuses it.
-    fn ask(&mut self, kind: CallKind) -> Result<(), LinkFault>
-        ensures tells { self.new.calls.items
-            ≡ self.old.calls.items ++ link_told result (link_call kind) }
-        ensures device { self.new.failures ≡ failures_after_link result self.old.failures }
-    {
-        let answered = self.refused != Some(kind);
-        self.note(kind, "", &[], answered)?;
-        if !answered {
-            self.failures = self.failures.saturating_add(1);
-            return Err(LinkFault::Socket);
-        }
-        Ok(())
+        self.note(kind, "", &[], false)?;
+        Err(LinkFault::NoPort)
     }
 
     /// Notes a call that answers no files. `AllocError` alone.
@@ -177,15 +154,12 @@ impl MemoryPort {
             × (self.new.failures ≡ self.old.failures)) }
     {
         self.calls.push(made)?;
-        if let Some(peer) = &self.peer {
-            peer.count_call();
-        }
         Ok(())
     }
 }
 
 impl Port for MemoryPort {
-    type Link = MemoryLink;
+    type Link = NoLink;
 
     ghost calls = { λ p. Some p.calls.items };
 
@@ -214,16 +188,17 @@ impl Port for MemoryPort {
         self.call(CallKind::PutText, name, bytes)
     }
 
-    fn connect(&mut self) -> Result<MemoryLink, LinkFault> {
-        self.open(CallKind::Connect)
+    fn connect(&mut self) -> Result<NoLink, LinkFault> {
+        self.meet_nobody(CallKind::Connect)
     }
 
-    fn accept(&mut self) -> Result<MemoryLink, LinkFault> {
-        self.open(CallKind::Accept)
+    fn accept(&mut self) -> Result<NoLink, LinkFault> {
+        self.meet_nobody(CallKind::Accept)
     }
 
-    fn finish(&mut self, _link: &mut MemoryLink) -> Result<(), LinkFault> {
-        self.ask(CallKind::Finish)
+    fn finish(&mut self, _link: &mut NoLink) -> Result<(), LinkFault> {
+        self.note(CallKind::Finish, "", &[], true)?;
+        Ok(())
     }
 
     fn failures(&self) -> u64 {

@@ -6,12 +6,12 @@ use Rattle.mg_session.proofs.session.run_keys.Goals as goal
 pub returns-clause-ran : goal.returns-clause-ran
 returns-clause-ran g c =
     let opened = c.in_ok-session.ensures.opened in
-    on_ok_map c.run.result _ _ (ran_from c.args.settings.now _ _ _ _ _ _ _ _ opened) c.run.ensures.ran
+    on_ok_map c.run.result _ _ (ran_from c.args.settings.now _ _ _ _ _ _ _ _ _ opened) c.run.ensures.ran
 
 pub returns-clause-broken : goal.returns-clause-broken
 returns-clause-broken g c = λ keys.
     let opened = c.in_ok-session.ensures.opened in
-    broke_from c.args.settings.now _ _ _ _ _ _ _ _ opened (c.run.ensures.broken keys)
+    broke_from c.args.settings.now _ _ _ _ _ _ _ _ _ opened (c.run.ensures.broken keys)
 
 pub returns-clause-unread : goal.returns-clause-unread
 returns-clause-unread g c = never_of_load c.run.result _ c.run.ensures.fault

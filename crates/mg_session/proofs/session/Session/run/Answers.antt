@@ -7,16 +7,17 @@ use Rattle.mg_session.proofs.session.Session.run.Goals as goal
 pub returns-in_err-take_blocks-clause-broken : goal.returns-in_err-take_blocks-clause-broken
 returns-in_err-take_blocks-clause-broken g c = λ keys.
     let p = err_from_is_err_and c.from_residual-in_err-take_blocks.result c.from_residual-in_err-take_blocks.ensures.1 in
-    let broken = c.in_err-take_blocks.ensures.broken (ap Err (sym p.2) ∙ sym p.1 ∙ keys) in
+    let here = c.in_err-take_blocks.ensures.broken (ap Err (sym p.2) ∙ sym p.1 ∙ keys) in
+    let broken = rw c.in_ok-show_if.ensures.reports at here in
     record {
       ended = c.take_blocks.new.self.editor;
-      began = began_by _ _ c.in_ok-show_if.ensures.kept.0 c.in_ok-show_if.ensures.kept.1 _ _ _ _ _ _ _ _ _ _ _ c.in_ok-show_if.ensures.shown broken;
+      began = began_by _ _ _ c.in_ok-show_if.ensures.kept.0 c.in_ok-show_if.ensures.kept.1 _ _ _ _ _ _ _ _ _ _ _ c.in_ok-show_if.ensures.shown broken;
     }
 
 pub returns-clause-ran : goal.returns-clause-ran
 returns-clause-ran g c =
-    let taken = c.in_ok-take_blocks.ensures.taken in
-    let began = began_by _ _ c.in_ok-show_if.ensures.kept.0 c.in_ok-show_if.ensures.kept.1 _ _ _ _ _ _ _ _ _ _ _ c.in_ok-show_if.ensures.shown taken.taken in
+    let taken = rw c.in_ok-show_if.ensures.reports at c.in_ok-take_blocks.ensures.taken in
+    let began = began_by _ _ _ c.in_ok-show_if.ensures.kept.0 c.in_ok-show_if.ensures.kept.1 _ _ _ _ _ _ _ _ _ _ _ c.in_ok-show_if.ensures.shown taken.taken in
     let trace = c.in_ok-take_blocks.ensures.kept.0 ∙ c.in_ok-show_if.ensures.kept.0 in
     let cursor = c.in_ok-take_blocks.ensures.kept.1 ∙ c.in_ok-show_if.ensures.kept.1 in
-    on_ok_map c.show_if-2.result _ _ (λ shown. ran_by _ _ trace cursor _ _ _ _ _ _ _ _ _ _ _ began taken.whole shown) c.show_if-2.ensures.shown
+    on_ok_map c.show_if-2.result _ _ (λ shown. ran_by c.args.self.now.reports _ _ trace cursor _ _ _ _ _ _ _ _ _ _ _ began taken.whole shown) c.show_if-2.ensures.shown

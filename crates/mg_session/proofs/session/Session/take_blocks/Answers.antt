@@ -1,24 +1,33 @@
-use Rattle.std.proofs.Common.{◌∙◌, ap, true≢false, true, false}
+use Rattle.std.proofs.Common.{◌∙◌, ap, [], refl, rules, true≢false}
+use Rattle.std.specs.Io.KnownBytes.{Consumes}
 use Rattle.std.specs.Result.{is_ok}
-use Rattle.mg_session.proofs.TakenLaws.{more_read}
+use Rattle.rga_lines.specs.Counting.{IsReadToEnd}
+use Rattle.mg_session.proofs.TakenLaws.{none_read, more_read, last_read, end_read}
 use Rattle.mg_session.proofs.session.Session.take_blocks.Goals as goal
+
+pub reads-init : goal.reads-init
+reads-init g c = record { taken = none_read _ _ _ _ _; trace = refl; cursor = refl; keys = refl; screen = refl }
+
+pub returns-then-count-eq0-clause-taken : goal.returns-then-count-eq0-clause-taken
+returns-then-count-eq0-clause-taken g c =
+    let read : Consumes (g.R.Read.remaining c.reads.keys.inner) (g.R.Read.remaining c.read.new.self.inner) [] = search rules in
+    let end : IsReadToEnd g.R.Read.remaining c.read.new.self = search rules in
+    end_read c.args.self.now.reports _ _ c.reads.invariant.trace c.reads.invariant.cursor c.reads.self.reports c.as_slice.result.now _ _ _ _ _ _ _ _ _ _ _ _ _
+    c.reads.invariant.taken read end (c.as_slice.ensures.value ∙ c.take_held-held.ensures) c.in_ok-press_all.ensures.taken
 
 pub returns-then-branch-clause-taken : goal.returns-then-branch-clause-taken
 returns-then-branch-clause-taken g c =
-    let taken = rw c.if-branch.true at c.in_ok-take_keys.ensures.taken in
-    record {
-      quits = true;
-      taken = more_read _ _ c.reads.invariant.trace c.reads.invariant.cursor _ _ _ _ _ _ _ _ _ _ true _ _ _ c.reads.invariant.taken c.in-Ok.ensures.bytes.0 taken;
-      whole = λ e. absurd (true≢false e);
-    }
+    let taken = rw c.if-branch.true at c.in_ok-take_all.ensures.taken in
+    last_read c.args.self.now.reports _ _ c.reads.invariant.trace c.reads.invariant.cursor c.reads.self.reports _ _ _ _ _ _ _ _ _ _ _ _ _ c.reads.invariant.taken c.in-Ok.ensures.bytes.0 taken
 
 pub reads-preserved : goal.reads-preserved
 reads-preserved g c =
-    let taken = rw c.if-branch.false at c.in_ok-take_keys.ensures.taken in
+    let taken = rw c.if-branch.false at c.in_ok-take_all.ensures.taken in
     record {
-      taken = more_read _ _ c.reads.invariant.trace c.reads.invariant.cursor _ _ _ _ _ _ _ _ _ _ false _ _ _ c.reads.invariant.taken c.in-Ok.ensures.bytes.0 taken;
-      trace = c.in_ok-take_keys.ensures.kept.0 ∙ c.reads.invariant.trace;
-      cursor = c.in_ok-take_keys.ensures.kept.1 ∙ c.reads.invariant.cursor;
+      taken = more_read c.args.self.now.reports _ _ c.reads.invariant.trace c.reads.invariant.cursor c.reads.self.reports c.take_all.new.self.reports _ _ _ _ _ _ _ _ _ _ _ _ _
+          c.reads.invariant.taken c.in-Ok.ensures.bytes.0 taken (c.in_ok-take_all.ensures.left c.if-branch.false);
+      trace = c.in_ok-take_all.ensures.kept.0 ∙ c.reads.invariant.trace;
+      cursor = c.in_ok-take_all.ensures.kept.1 ∙ c.reads.invariant.cursor;
       keys = c.in-Ok.ensures.device ∙ c.reads.invariant.keys;
-      screen = c.in_ok-take_keys.ensures.device.unfailed (λ e. true≢false (ap is_ok e)) ∙ c.reads.invariant.screen;
+      screen = c.in_ok-take_all.ensures.device.unfailed (λ e. true≢false (ap is_ok e)) ∙ c.reads.invariant.screen;
     }

@@ -1,10 +1,10 @@
-use Rattle.std.proofs.Common.{◌≡◌, false}
-use Rattle.mg_session.specs.Running.{TakesRead}
+use Rattle.std.proofs.Common.{◌≡◌}
+use Rattle.mg_session.proofs.TakenLaws.{ReadsOn}
 use Rattle.mg_session.proofs.session.Session.take_blocks.Given as goal
 
 abbrev pub invariant-reads : goal.invariant-reads
 invariant-reads g l = record {
-  taken : TakesRead g.R.Read.remaining g.W.Write.contents l.fn.self.trace l.fn.self.cursor l.fn.keys l.keys (g.P.Port.calls l.fn.port) (g.P.Port.calls l.port) l.fn.self.editor l.self.editor false l.fn.screen l.screen;
+  taken : ReadsOn g.R.Read.remaining g.W.Write.contents l.fn.self.trace l.fn.self.cursor l.fn.self.reports l.self.reports l.fn.keys l.keys (g.P.Port.calls l.fn.port) (g.P.Port.calls l.port) l.fn.self.editor l.self.editor l.fn.screen l.screen;
   trace : l.self.trace ≡ l.fn.self.trace;
   cursor : l.self.cursor ≡ l.fn.self.cursor;
   keys : l.keys.failures ≡ l.fn.keys.failures;

@@ -1,0 +1,21 @@
+use Rattle.std.proofs.Common.{◌∙◌, ap, true≢false, arith, ◌+◌}
+use Rattle.std.specs.Result.{is_ok}
+use Rattle.mg_session.proofs.TakenLaws.{next_key, last_key}
+use Rattle.mg_session.proofs.session.Session.press_all.Goals as goal
+
+pub returns-then-ends-clause-taken : goal.returns-then-ends-clause-taken
+returns-then-ends-clause-taken g c =
+    let taken = rw c.if-ends.true at c.in_ok-ends.ensures.taken in
+    last_key c.args.keys.now (c.loop-key.key-index + 1) _ _ _ _ _ _
+    (next_key _ _ c.loop-key.invariant.trace c.loop-key.invariant.cursor c.args.keys.now c.loop-key.key-index 0 _ _ _ _ _ _ _ _ _ _ (omega (arith, c.loop-key-test.true)) c.loop-key.invariant.taken taken)
+
+pub loop-key-preserved : goal.loop-key-preserved
+loop-key-preserved g c =
+    let taken = rw c.if-ends.false at c.in_ok-ends.ensures.taken in
+    record {
+      taken = next_key _ _ c.loop-key.invariant.trace c.loop-key.invariant.cursor c.args.keys.now c.loop-key.key-index 0 _ _ _ _ _ _ _ _ _ _ (omega (arith, c.loop-key-test.true)) c.loop-key.invariant.taken taken;
+      trace = c.in_ok-ends.ensures.kept.0 ∙ c.loop-key.invariant.trace;
+      cursor = c.in_ok-ends.ensures.kept.1 ∙ c.loop-key.invariant.cursor;
+      reports = c.in_ok-ends.ensures.reports ∙ c.loop-key.invariant.reports;
+      screen = c.in_ok-ends.ensures.device.unfailed (λ e. true≢false (ap is_ok e)) ∙ c.loop-key.invariant.screen;
+    }

@@ -1,6 +1,0 @@
-use Rattle.mg_session.proofs.TakenLaws.{takes_by}
-use Rattle.mg_session.proofs.session.Session.take.Goals as goal
-
-pub returns-clause-taken : goal.returns-clause-taken
-returns-clause-taken g c =
-    takes_by g.W.Write.contents _ _ _ _ _ _ _ _ _ _ c.args.screen.now c.show_if.new.screen c.take_key-ends.ensures c.is_traced.ensures c.in_ok-show_if.ensures.shown

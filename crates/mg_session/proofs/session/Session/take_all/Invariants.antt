@@ -1,0 +1,13 @@
+use Rattle.std.proofs.Common.{◌≡◌, false, take}
+use Rattle.mg_session.specs.Reports.{events, after}
+use Rattle.mg_session.specs.Running.{TakesOnto}
+use Rattle.mg_session.proofs.session.Session.take_all.Given as goal
+
+abbrev pub invariant-loop-byte : goal.invariant-loop-byte
+invariant-loop-byte g l = record {
+  taken : TakesOnto g.W.Write.contents l.fn.self.trace l.fn.self.cursor (events l.fn.self.reports (take l.byte-index l.bytes)) (g.P.Port.calls l.fn.port) (g.P.Port.calls l.port) l.fn.self.editor l.self.editor false l.fn.screen l.screen;
+  left : l.self.reports ≡ after l.fn.self.reports (take l.byte-index l.bytes);
+  trace : l.self.trace ≡ l.fn.self.trace;
+  cursor : l.self.cursor ≡ l.fn.self.cursor;
+  screen : l.screen.failures ≡ l.fn.screen.failures;
+}

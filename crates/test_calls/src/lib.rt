@@ -1,0 +1,23 @@
+//! Calls of libraries that no program shows: devices that are counted, lines that are lent, writes in
+//! blocks, plans that no key leads to, values of settings, cursors that no window shows, frames and
+//! texts that are not flushed, and saves over a port that refuses. Nothing stands on this crate, so nothing waits for its proof.
+#![tactic(auto)]
+
+#[cfg(test)]
+mod devices;
+#[cfg(test)]
+mod lines;
+#[cfg(test)]
+mod plans;
+#[cfg(test)]
+mod saves;
+#[cfg(test)]
+mod screens;
+#[cfg(test)]
+mod sending;
+#[cfg(test)]
+mod sessions;
+#[cfg(test)]
+mod settings;
+#[cfg(test)]
+mod shows;

@@ -1,0 +1,101 @@
+//! Lines that are appended, to devices that count their writes, take a part of the bytes, or fail.
+use rga_exchange::{SendFault, append_log};
+use rga_lines::{Counted, LineFault, write_line};
+use rga_ops::{Id, Op, Refusal};
+use std::alloc::Global;
+use std::test::Fail;
+use test_fixtures::Narrow;
+
+/// So many insertions, each behind the last.
+fn chain(alloc: Global, count: u64) -> Result<Vec<Op>, Refusal> {
+    let mut ops = Vec::new(alloc);
+    let mut parent = Id::ROOT;
+    for k in 0..count {
+        let op = Op::Insert {
+            id: Id::new(k.saturating_add(1), 7)?,
+            parent,
+            ch: '\u{e9}',
+        };
+        ops.push(op)?;
+        parent = op.id();
+    }
+    Ok(ops)
+}
+
+/// The lines of these operations, each written alone.
+fn lines_of(alloc: Global, ops: &[Op]) -> Result<String, LineFault> {
+    let mut text = String::new(alloc);
+    for op in ops {
+        text.push_str(&write_line(alloc, op)?)?;
+        text.push_str("\n")?;
+    }
+    Ok(text)
+}
+
+/// A device that has room for so many bytes, and takes at most so many in a write.
+fn device(alloc: Global, room: usize, most: usize, flushes: bool) -> Narrow {
+    Narrow {
+        taken: Vec::new(alloc),
+        room,
+        most,
+        writes: 0,
+        flushes,
+    }
+}
+
+/// Whether these operations are appended as this text, in blocks of 65536 bytes.
+fn is_written_in_blocks(alloc: Global, ops: &[Op], text: &str) -> bool {
+    let mut writer = Counted::new(device(alloc, 1000000, 1000000, true));
+    let answer = append_log(alloc, ops, &mut writer);
+    let Narrow { taken, writes, .. } = writer.into_inner();
+    answer == Ok(5000)
+        && taken.as_slice() == text.as_bytes()
+        && writes == text.len().div_ceil(65536)
+}
+
+#[test]
+fn many_lines_are_written_in_few_blocks(rt: HostRuntime) -> Result<(), Fail> {
+    let ops = chain(rt.alloc(), 5000)?;
+    let text = lines_of(rt.alloc(), &ops)?;
+    assert!(rt; is_written_in_blocks(rt.alloc(), &ops, &text));
+    Ok(())
+}
+
+/// Whether this is answered where these operations are appended to the device, which counts as
+/// failed where it is a fault, and takes as much of the text as it has room for.
+fn fills(
+    alloc: Global,
+    ops: &[Op],
+    device: Narrow,
+    answer: Result<u64, SendFault>,
+    text: &str,
+) -> bool {
+    let room = device.room;
+    let mut writer = Counted::new(device);
+    let answered = append_log(alloc, ops, &mut writer) == answer;
+    let counted = writer.failures() == u64::from(answer.is_err());
+    let taken = writer.into_inner().taken;
+    answered && counted && taken.len() == room && text.as_bytes().starts_with(&taken)
+}
+
+#[test]
+fn devices_that_take_part_of_the_bytes_or_fail(rt: HostRuntime) -> Result<(), Fail> {
+    let ops = chain(rt.alloc(), 3000)?;
+    let text = lines_of(rt.alloc(), &ops)?;
+    let all = text.len();
+    let table = [
+        (all, 7, true, Ok(3000)),
+        (all, 65536, false, Err(SendFault::Write)),
+        (all.saturating_sub(1), 65536, true, Err(SendFault::Write)),
+        (70000, 7, true, Err(SendFault::Write)),
+        (0, 1, true, Err(SendFault::Write)),
+    ];
+    for (room, most, flushes, answer) in table {
+        let device = device(rt.alloc(), room, most, flushes);
+        assert!(rt;
+            fills(rt.alloc(), &ops, device, answer, &text),
+            "{room} by {most}"
+        );
+    }
+    Ok(())
+}

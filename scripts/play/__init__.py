@@ -1,0 +1,1 @@
+"""Plays scenes: what one does with the built mgr, and what is to be seen of it."""

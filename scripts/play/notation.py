@@ -1,0 +1,127 @@
+"""How texts, keys and operations are written in a scene, and read.
+
+A text has `|` for a newline. `\\n` is one too, `\\t` a tab, `\\s` a blank (where one would be cut off),
+`\\e` nothing, `\\xNN` a byte, `\\u{N}` a character, `\\20{ab}` is `ab` twenty times, and `\\|`, `\\/` and
+`\\\\` are those signs.
+"""
+
+import json
+import re
+
+ESCAPE = re.compile(r"\\(x[0-9a-f]{2}|u\{[0-9a-f]+\}|(\d+)\{([^}]*)\}|.)")
+
+NAMED = {"n": b"\n", "t": b"\t", "s": b" ", "e": b"", "|": b"|", "/": b"/", "\\": b"\\"}
+
+KEYS = {
+    "RET": b"\r", "SPC": b" ", "DEL": b"\x7f", "ESC": b"\x1b", "TAB": b"\t", "LFD": b"\n",
+    "C-SPC": b"\0", "C-_": b"\x1f",
+}
+
+# A sign, or an escape; the identifier; and for an insertion its parent's.
+OPERATION = re.compile(r"(?:(\\x[0-9a-f]{2}|\\u\{[0-9a-f]+\}|\\.|.)(\d+)\.(\d+)<(\d+)\.(\d+)|-(\d+)\.(\d+))$")
+
+END = re.compile(r"end:(\d+)$")
+
+
+class Unreadable(Exception):
+    """A line of a scene that says nothing that can be done."""
+
+
+def text_of(written):
+    """Returns the bytes of a text."""
+    return b"".join(_pieces(written.replace("\\|", "\\x7c").replace("|", "\\n")))
+
+
+def _pieces(written):
+    end = 0
+    for found in ESCAPE.finditer(written):
+        yield written[end : found.start()].encode()
+        yield text_of(found[3]) * int(found[2]) if found[2] else _escaped(found[1])
+        end = found.end()
+    yield written[end:].encode()
+
+
+def _escaped(name):
+    if name[0] == "x" and len(name) == 3:
+        return bytes([int(name[1:], 16)])
+    if name[0] == "u" and len(name) > 1:
+        return chr(int(name[2:-1], 16)).encode()
+    if name not in NAMED:
+        raise Unreadable(f"no sign is written \\{name}")
+    return NAMED[name]
+
+
+def written_of(text):
+    """Returns how bytes are written, so that what came can be put in a scene."""
+    signs = text.decode("utf-8", "backslashreplace").replace("\\x", "\0x").replace("\\", "\\\\").replace("\0x", "\\x")
+    signs = signs.replace("|", "\\|").replace("\n", "|").replace("\t", "\\t")
+    signs = re.sub(r"[\0-\x1f\x7f]", lambda found: f"\\x{ord(found[0]):02x}", signs)
+    signs = re.sub("^ | $", r"\\s", signs)
+    return signs or "\\e"
+
+
+def keys_of(written):
+    """Returns the bytes of keys: `C-x`, `M-f`, `RET`, or what is typed as it stands.
+
+    `C-f*3` is that key three times.
+    """
+    return b"".join(_key(word) for word in written.split())
+
+
+def _key(word):
+    key, star, times = word.rpartition("*")
+    if star and key and times.isdigit():
+        return _key(key) * int(times)
+    if word in KEYS:
+        return KEYS[word]
+    if word.startswith("M-") and len(word) > 2:
+        return b"\x1b" + _key(word[2:])
+    if re.fullmatch(r"C-[@-_a-z]", word):
+        return bytes([ord(word[2].upper()) & 31])
+    return b"".join(_pieces(word))
+
+
+def lines_of(written):
+    """Returns the bytes of lines: `a1.1<0.0` inserts, `-1.1` deletes, `end:2` ends a stream.
+
+    A word in quotes stands for itself, and a point takes away the last byte, as the newline of a line.
+    """
+    lines = b""
+    for word in re.findall(r"'[^']*'|\S+", written):
+        lines = lines[:-1] if word == "." else lines + _line(word)
+    return lines
+
+
+def _line(word):
+    if word[0] == "'":
+        return text_of(word[1:-1])
+    end = END.match(word)
+    if end:
+        return b'{"count":%d,"op":"end"}\n' % int(end[1])
+    operation = OPERATION.match(word)
+    if not operation:
+        raise Unreadable(f"no line is written {word}")
+    sign, counter, replica, parent, of, deleted, by = operation.groups()
+    if deleted:
+        return b'{"id":[%d,%d],"op":"del"}\n' % (int(deleted), int(by))
+    sign = json.dumps(text_of(sign).decode(), ensure_ascii=False).encode()
+    identifiers = tuple(map(int, (counter, replica, parent, of)))
+    return b'{"char":%s,"id":[%d,%d],"op":"ins","parent":[%d,%d]}\n' % (sign, *identifiers)
+
+
+def words_of(lines):
+    """Returns how lines are written, so that what came can be put in a scene."""
+    return " ".join(map(_word, lines.splitlines(keepends=True))) or "\\e"
+
+
+def _word(line):
+    insertion = re.match(rb'\{"char":(".*"),"id":\[(\d+),(\d+)\],"op":"ins","parent":\[(\d+),(\d+)\]\}\n$', line)
+    if insertion:
+        sign = json.loads(insertion[1])
+        written = {"\n": "\\n", " ": "\\s"}.get(sign) or written_of(sign.encode())
+        return "%s%s.%s<%s.%s" % (written, *map(bytes.decode, insertion.groups()[1:]))
+    deletion = re.match(rb'\{"id":\[(\d+),(\d+)\],"op":"del"\}\n$', line)
+    if deletion:
+        return "-%s.%s" % tuple(map(bytes.decode, deletion.groups()))
+    end = re.match(rb'\{"count":(\d+),"op":"end"\}\n$', line)
+    return f"end:{end[1].decode()}" if end else f"'{written_of(line)}'"

@@ -1,0 +1,210 @@
+"""The programs of a scene: a session of `mgr edit` whose frames are looked at, and jobs."""
+
+import fcntl
+import functools
+import os
+import pathlib
+import re
+import resource
+import select
+import signal
+import struct
+import subprocess
+import tempfile
+import termios
+import time
+
+SECONDS = 60
+
+# The system's name of a process that waits for its first descriptor to be read from.
+WAITS_FOR_KEYS = "0 0x0 "
+
+MODE_LINE = re.compile(r"(-\*\*-|----)Mg: (\S*) \(fund")
+
+
+class Unexpected(Exception):
+    """A program did what no line of a scene can be compared with."""
+
+
+def start(command, folder, takes, memory=None, **pipes):
+    """Starts a program in a folder, which is given so many bytes of memory, and may make files of so many."""
+    confine = lambda: _confine(takes, memory)
+    return subprocess.Popen(command, cwd=folder, bufsize=0, preexec_fn=confine, **pipes)
+
+
+def _confine(takes, memory):
+    # A writing that goes too far is then refused, and kills nobody.
+    signal.signal(signal.SIGXFSZ, signal.SIG_IGN)
+    resource.setrlimit(resource.RLIMIT_FSIZE, limits(takes))
+    resource.setrlimit(resource.RLIMIT_AS, limits(memory))
+
+
+def failing(call, fault):
+    """Returns the words of a command under which that call of the system fails so, or does nothing and answers so."""
+    quiet = ["-f", "-qq", "-o", "/dev/null", "-e", f"trace={call}"]
+    # The program is the child then, and what traces it stands apart.
+    how = "retval" if fault[0].isdigit() else "error"
+    return ["strace", "-D", *quiet, "-e", f"inject={call}:{how}={fault}"]
+
+
+@functools.cache
+def makes_calls_fail():
+    """Whether there is a strace that may trace."""
+    try:
+        return not subprocess.run([*failing("getpid", "EIO"), "true"], capture_output=True).returncode
+    except OSError:
+        return False
+
+
+def limits(takes):
+    return (resource.RLIM_INFINITY if takes is None else takes, resource.RLIM_INFINITY)
+
+
+class Session:
+    """A `mgr edit` that is traced, with each frame that it showed and where the cursor stood then.
+
+    The command may have words in front of mgr, of what runs it.
+    """
+
+    def __init__(self, command, folder, words, takes):
+        words = [*words]
+        for name, value in ("--rows", "6"), ("--cols", "60"):
+            if name not in words:
+                words += [name, value]
+        self.rows = int(words[words.index("--rows") + 1])
+        pipes = {"stdin": subprocess.PIPE, "stdout": subprocess.PIPE, "stderr": subprocess.PIPE}
+        self.process = start([*command, "edit", *words, "--trace", "--cursor"], folder, takes, **pipes)
+        self.shown = b""
+        self.error = b""
+        self._settle()
+
+    def press(self, keys):
+        """Hands keys to mgr, and waits until it waits for more, or for a peer."""
+        try:
+            self.process.stdin.write(keys)
+        except BrokenPipeError:
+            raise Unexpected("mgr takes no more keys") from None
+        self._settle()
+
+    def settle(self, is_done):
+        """Waits until something is so."""
+        end = time.monotonic() + SECONDS
+        while not is_done():
+            if time.monotonic() > end:
+                raise Unexpected(f"mgr goes on for {SECONDS} seconds")
+            self._read(0.001)
+
+    def _settle(self):
+        self.settle(lambda: self.has_ended() or self._has_read_all() and self._sleeps())
+
+    def await_keys(self):
+        """Waits until mgr waits for keys alone, not for a peer."""
+        self.settle(lambda: self.has_ended() or self._has_read_all() and self._reads_keys())
+
+    def _has_read_all(self):
+        left = fcntl.ioctl(self.process.stdin, termios.FIONREAD, b"\0" * 4)
+        return not struct.unpack("i", left)[0]
+
+    def _syscall(self):
+        try:
+            return pathlib.Path(f"/proc/{self.process.pid}/syscall").read_text()
+        except OSError:
+            return ""
+
+    def _reads_keys(self):
+        return self._syscall().startswith(WAITS_FOR_KEYS) and self._has_shown_all()
+
+    def _sleeps(self):
+        return self._state() == "S" and self._has_shown_all()
+
+    def _has_shown_all(self):
+        return not select.select([self.process.stdout], [], [], 0)[0]
+
+    def _state(self):
+        try:
+            return pathlib.Path(f"/proc/{self.process.pid}/stat").read_text().rpartition(") ")[2][0]
+        except OSError:
+            return ""
+
+    def await_stop(self):
+        """Waits until mgr has heard that it is to stop."""
+        while self._state() not in ("T", "t", "Z", ""):
+            time.sleep(0.001)
+
+    def has_ended(self):
+        return self.process.poll() is not None
+
+    def _read(self, seconds):
+        """Takes what is shown, if anything is within these seconds."""
+        if self.process.stdout.closed:
+            return
+        if select.select([self.process.stdout], [], [], seconds)[0]:
+            self.shown += os.read(self.process.stdout.fileno(), 1 << 20)
+
+    def close(self):
+        """Ends the keys, and waits for the end; returns the status."""
+        if not self.process.stdout.closed:
+            shown, self.error = self.process.communicate(timeout=SECONDS)
+            self.shown += shown
+        return self.process.wait(SECONDS)
+
+    def kill(self):
+        self.process.kill()
+        self.close()
+
+    def disk_takes(self, most):
+        """From now on each file may grow to so many bytes, or to any size."""
+        resource.prlimit(self.process.pid, resource.RLIMIT_FSIZE, limits(most))
+
+    def lines(self):
+        return self.shown.split(b"\n")[:-1]
+
+    def count(self):
+        """Returns how many frames were shown."""
+        return len(self.lines()) // (self.rows + 1)
+
+    def frame(self):
+        """Returns the rows of the frame that was shown last."""
+        end = self.count() * (self.rows + 1)
+        if not end:
+            raise Unexpected(f"mgr shows no frame, and says {self.close() and self.error!r}")
+        return [row.decode() for row in self.lines()[end - self.rows - 1 : end - 1]]
+
+    def cursor(self):
+        """Returns the row and the column of the cursor in that frame."""
+        row, column = self.lines()[self.count() * (self.rows + 1) - 1].split()
+        return int(row), int(column)
+
+    def mode_lines(self):
+        """Returns, for each window, the row of its mode line and whether it is changed, and its name."""
+        found = [(at, MODE_LINE.match(row)) for at, row in enumerate(self.frame()[:-1])]
+        return [(at, it[1] == "-**-", it[2]) for at, it in found if it]
+
+
+class Job:
+    """A program that reads its input and ends.
+
+    Its output has room for so many bytes, or for any. Or so many are taken out of a pipe at a time.
+    """
+
+    def __init__(self, command, folder, given, room=None, most=None, memory=None):
+        with tempfile.TemporaryFile() as output:
+            pipes = {"stdin": given.reader(), "stdout": subprocess.PIPE if most else output, "stderr": subprocess.PIPE}
+            process = start(command, folder, room, memory, **pipes)
+            given.feed(process)
+            if most:
+                _take(process, most, output)
+            self.error = process.communicate(timeout=SECONDS)[1]
+            output.seek(0)
+            self.output = output.read()
+        self.status = process.returncode
+
+
+def _take(process, most, output):
+    """Takes what a program writes, so many bytes at a time, and has a write that waits for that be cut short."""
+    while taken := os.read(process.stdout.fileno(), most):
+        output.write(taken)
+        process.send_signal(signal.SIGSTOP)
+        if process.returncode is None:
+            os.waitid(os.P_PID, process.pid, os.WSTOPPED | os.WEXITED | os.WNOWAIT)
+            process.send_signal(signal.SIGCONT)

@@ -1,0 +1,101 @@
+"""Who does something: sessions, their keys, and their ends."""
+
+import pathlib
+import resource
+
+from play.notation import Unreadable, keys_of, text_of
+from play.programs import Session, Unexpected, failing, limits, makes_calls_fail
+from play.stage import LeftOut
+from play.words.table import word
+
+
+@word
+def _as(stage, about):
+    """Somebody else goes on, in a folder of its own; `as BOB beside ALICE` in hers."""
+    name, *beside = about.split()
+    stage.meet(name, beside[1] if beside else None)
+
+
+@word
+def edit(stage, about):
+    """Begins a session of `mgr edit`, once the one before has ended."""
+    person = stage.person
+    if person.session:
+        end(person)
+    words = [str(stage.port) if it == "PORT" else text_of(it).decode() for it in about.split()]
+    person.has_begun = True
+    person.session, person.job = Session([*person.under, stage.mgr], person.folder, words, person.takes), None
+
+
+@word
+def keys(stage, about):
+    session_of(stage).press(keys_of(about))
+
+
+@word
+def disk(stage, about):
+    """`disk takes N`: no file may become larger than that; `disk takes all` ends it."""
+    takes = None if about == "takes all" else int(about.removeprefix("takes "))
+    stage.person.takes = takes
+    if stage.person.session:
+        stage.person.session.disk_takes(takes)
+
+
+@word
+def fails(stage, about):
+    """`fails CALL FAULT`: from here on that call of the system fails so in what `edit` begins.
+
+    Where the fault is a number the call does nothing, and answers that. With `:when=N` behind it the Nth of
+    these calls alone fails.
+    """
+    if not makes_calls_fail():
+        raise LeftOut("there is no strace that may trace")
+    stage.person.under = failing(*about.split())
+
+
+@word
+def growth(stage, about):
+    """`growth none`: the session is given no more memory than it has; `growth any` ends it."""
+    process = session_of(stage).process
+    pages = int(pathlib.Path(f"/proc/{process.pid}/statm").read_text().split()[0])
+    most = {"none": pages * resource.getpagesize(), "any": None}
+    if about not in most:
+        raise Unreadable(f"no growth is {about}")
+    resource.prlimit(process.pid, resource.RLIMIT_AS, limits(most[about]))
+
+
+@word
+def killed(stage, about):
+    """The session is killed where it is."""
+    session_of(stage).kill()
+    stage.person.session = None
+
+
+def session_of(stage):
+    if not stage.person.session:
+        raise Unreadable("no session was begun")
+    return stage.person.session
+
+
+def seen(stage):
+    """Returns the session, once it waits for keys."""
+    session = session_of(stage)
+    session.await_keys()
+    return session
+
+
+def end(person):
+    """Ends a session, which must end well."""
+    session, person.session = person.session, None
+    status = session.close()
+    if status or session.error:
+        raise Unexpected(f"mgr ends with {status}, and says {session.error!r}")
+
+
+def end_all(stage):
+    """Ends each session that a scene left."""
+    for person in stage.people.values():
+        if person.session:
+            end(person)
+    if stage.peer:
+        stage.peer.end()
