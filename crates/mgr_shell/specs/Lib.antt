@@ -1,3 +1,4 @@
 pub mod Peers
 pub mod Report
 pub mod Status
+pub mod Telling

@@ -1,60 +1,79 @@
 -- The exit status of the program.
-use Rattle.std.specs.Prelude.{◌≡◌, ◌≢◌, ◌⊎◌, ℕ, List, Option, Result, Err, OnOk, IfErr}
+use Rattle.std.specs.Prelude.{◌≡◌, ◌≢◌, ◌⊎◌, ℕ, List, [], ◌∷◌, Option, Result, Err, codes, OnOk, OnErr, IfErr}
+use Rattle.rga_ops.specs.Content.{Content, nothing as no_content}
 use Rattle.rga_store.specs.declared.text_store.TheConstants.{MAX_LIMIT}
 use Rattle.rga_lines.specs.Counting.{Calls, CountsAs, OnBytes, WritesNothing, one_more}
+use Rattle.rga_exchange.specs.Taking.{HasTakenWholeLines}
 use Rattle.mgr_command.specs.declared.job.JobFault.{JobFault}
 use Rattle.mgr_command.specs.declared.job.JobFault.TheVariants.{Help, Version, Usage, Memory}
 use Rattle.mgr_show.specs.Log.{log_of}
 use Rattle.mgr_shell.specs.Report.{edited_status, shown_status}
+use Rattle.mgr_shell.specs.Telling.{Told, Tells, line, text, shown_telling, edited_telling}
 use Rattle.mg_session.specs.declared.fault.SessionFault.{SessionFault}
 use Rattle.mg_session.specs.declared.fault.SessionFault.TheVariants as session
 use Rattle.mg_files.specs.Calls.{Call}
-use Rattle.mg_session.specs.Running.{RanFrom, FailsToOpen}
+use Rattle.mg_files.specs.declared.fault.LoadFault.TheVariants as unloaded
+use Rattle.mg_session.specs.Faults.{IsOfLoad}
+use Rattle.mg_session.specs.Running.{RanFrom, BrokeOffFrom, FailsToOpen}
 use Rattle.mg_settings.specs.Settings.{Values}
 use Rattle.mgr_command.specs.declared.job.Job.{Job}
 use Rattle.mgr_command.specs.declared.job.Job.TheVariants.{Show, Edit}
-use Rattle.mgr_show.specs.Shown.{IsOfInput, Shows}
+use Rattle.mgr_show.specs.Shown.{IsOfInput, Shows, BeginsToShow}
 use Rattle.mgr_show.specs.declared.fault.ShowFault.{ShowFault}
 use Rattle.mgr_show.specs.declared.fault.ShowFault.TheVariants as fault
 
 module _ {R W : Type 0} (remaining : R → Option (List ℕ)) (contents : W → Option (List ℕ)) where
-  -- The status is that of an answer to `show`, which says what was read and what was written.
-  pub record IsStatusOfShow (status : ℕ) (r s : Calls R) (old new : Calls W) : Type 0 where
+  -- The status is that of an answer to `show`, which says what was read, what was written and what is told.
+  pub record IsStatusOfShow (status : ℕ) (r s : Calls R) (old new : Calls W) (told telling : Told) : Type 0 where
     pub answer : Result (Unit {0}) ShowFault
     pub exact : status ≡ shown_status answer
+    pub told_line : Tells told telling (shown_telling answer)
     pub shown : OnOk answer (OnBytes remaining r (Shows contents old new))
     pub refused : IfErr answer (λ e. IsOfInput e → OnBytes remaining r (λ bytes. log_of MAX_LIMIT bytes ≡ Err e))
     pub nothing : IfErr answer (λ e. e ≢ fault.Write → e ≢ fault.Memory → WritesNothing contents old new)
+    pub unwritten : IfErr answer (λ e. e ≢ fault.Write → new ≡ old)
+    pub begun : OnErr answer (OnBytes remaining r (λ bytes. WritesNothing contents old new ⊎ BeginsToShow contents old new bytes))
+    pub whole_lines : answer ≡ Err fault.Read → (c : Content) × HasTakenWholeLines remaining (λ _. MAX_LIMIT) (λ held. held) (λ _ _ _. Unit {0}) r s no_content c
     pub reads : CountsAs fault.Read answer r s
     pub writes : CountsAs fault.Write answer old new
 
 module _ {R W P : Type 0} (remaining : R → Option (List ℕ)) (contents : W → Option (List ℕ)) (calls : P → Option (List Call)) (failures : P → ℕ) where
-  -- The status is that of an answer of a session, which says what became of the keys, and which device failed.
-  pub record IsStatusOfEdit (settings : Values) (status : ℕ) (r s : Calls R) (old new : Calls W) (before after : P) : Type 0 where
+  -- The status is that of an answer of a session, which says what became of the keys, which device failed
+  -- and what is told.
+  pub record IsStatusOfEdit (settings : Values) (status : ℕ) (r s : Calls R) (old new : Calls W) (before after : P) (told telling : Told) : Type 0 where
     pub answer : Result (Unit {0}) SessionFault
     pub exact : status ≡ edited_status answer
+    pub told_line : Tells told telling (edited_telling answer)
     pub ran : OnOk answer (RanFrom remaining contents settings r s (calls before) (calls after) old new)
+    pub broken : answer ≡ Err session.Keys → BrokeOffFrom remaining contents settings r s (calls before) (calls after) old new
     pub load : IfErr answer (FailsToOpen settings (calls before) (calls after))
+    pub unread : IfErr answer (λ e. IsOfLoad e → s ≡ r)
+    pub unwritten : IfErr answer (λ e. IsOfLoad e → new ≡ old)
+    pub folded : answer ≢ Err (session.Load unloaded.Memory)
     pub keys : CountsAs session.Keys answer r s
     pub screen : CountsAs session.Screen answer old new
     pub file : answer ≡ Err session.File → failures after ≡ one_more (failures before)
 
   -- of a job; `show` has nothing to do with the port
-  abbrev pub IsStatusOfJob : Job → ℕ → Calls R → Calls R → Calls W → Calls W → P → P → Type 0
-  IsStatusOfJob Show status r s old new before after = IsStatusOfShow remaining contents status r s old new × (after ≡ before)
-  IsStatusOfJob (Edit settings) status r s old new before after = IsStatusOfEdit settings status r s old new before after
+  abbrev pub IsStatusOfJob : Job → ℕ → Calls R → Calls R → Calls W → Calls W → P → P → Told → Told → Type 0
+  IsStatusOfJob Show status r s old new before after told telling = IsStatusOfShow remaining contents status r s old new told telling × (after ≡ before)
+  IsStatusOfJob (Edit settings) status r s old new before after told telling = IsStatusOfEdit settings status r s old new before after told telling
 
 module _ {W : Type 0} where
   -- A text that was asked for was printed, or not: 3 exactly where standard output failed, and else 0, or 4 where
-  -- memory is wanting.
-  pub record IsStatusOfPrint (status : ℕ) (old new : Calls W) : Type 0 where
+  -- memory is wanting, and then nothing was written.
+  pub record IsStatusOfPrint (status : ℕ) (old new : Calls W) (told telling : Told) : Type 0 where
     pub failed : status ≡ 3 → new.failures ≡ one_more old.failures
     pub unfailed : status ≢ 3 → new.failures ≡ old.failures
     pub others : (status ≡ 0) ⊎ (status ≡ 3) ⊎ (status ≡ 4)
+    pub unwritten : status ≡ 4 → new ≡ old
+    pub untold : status ≡ 0 → Tells told telling []
+    pub device : status ≡ 3 → Tells told telling (line (codes "device fault") ∷ [])
+    pub memory : status ≡ 4 → Tells told telling (line (codes "out of memory") ∷ [])
 
   -- the exit status once the fault was told
-  abbrev pub IsStatusOf : JobFault → ℕ → Calls W → Calls W → Type 0
-  IsStatusOf (Help topic text) status old new = IsStatusOfPrint status old new
-  IsStatusOf (Version text) status old new = IsStatusOfPrint status old new
-  IsStatusOf (Usage text) status old new = (status ≡ 2) × (new ≡ old)
-  IsStatusOf Memory status old new = (status ≡ 4) × (new ≡ old)
+  abbrev pub IsStatusOf : JobFault → ℕ → Calls W → Calls W → Told → Told → Type 0
+  IsStatusOf (Help topic help) status old new told telling = IsStatusOfPrint status old new told telling
+  IsStatusOf (Version version) status old new told telling = IsStatusOfPrint status old new told telling
+  IsStatusOf (Usage mistake) status old new told telling = (status ≡ 2) × (new ≡ old) × Tells told telling (text (Usage mistake) ∷ [])
+  IsStatusOf Memory status old new told telling = (status ≡ 4) × (new ≡ old) × Tells told telling (line (codes "out of memory") ∷ [])

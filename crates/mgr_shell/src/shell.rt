@@ -1,9 +1,12 @@
 //! The job of the command line, done, and what the shell is told of it.
-ghost use Rattle.std.specs.Prelude.{◌≡◌, ◌≤◌, MatchResult};
+ghost use Rattle.std.specs.Prelude.{◌≡◌, ◌≤◌, [], ◌∷◌, IfErr, MatchResult};
+ghost use Rattle.mgr_shell.specs.Report.{message_text};
+ghost use Rattle.mgr_shell.specs.Telling.{Tells, line};
 ghost use Rattle.mgr_shell.specs.Status.{IsStatusOf, IsStatusOfJob, IsStatusOfEdit, IsStatusOfPrint, IsStatusOfShow};
 ghost use Rattle.mgr_shell.specs.Peers as spec;
 
 use crate::report::Report;
+use crate::tell::{StandardError, Tell};
 use mg_files::Port;
 use mg_session::run_keys;
 use mg_settings::Settings;
@@ -29,7 +32,15 @@ pub fn run<R: Env + Files<File = File> + Net + AllocGlobal + Input + Print + Epr
     let mut reader = Counted::new(rt.reader());
     let mut writer = Counted::new(io::writer(rt));
     let mut port = FilePort::new(rt, port_number(&job));
-    do_job(rt, &job, &mut reader, &mut writer, &mut port)
+    let mut errors = StandardError::new(rt);
+    do_job(
+        rt.alloc(),
+        &job,
+        &mut reader,
+        &mut writer,
+        &mut port,
+        &mut errors,
+    )
 }
 
 /// The number of the port at which a job meets peers, where the command line gives one.
@@ -43,99 +54,111 @@ fn port_number(job: &Result<Job, JobFault>) -> Option<u16>
 }
 
 /// Does a job, or tells why there is none, and answers the exit status: 0 done, 1 the input is
-/// refused, 2 a wrong command line, 3 a device failed, 4 memory was refused. Nothing is written to
-/// standard error where it is 0.
-pub fn do_job<E: AllocGlobal + Eprint, R: Read, W: Write, P: Port>(
-    rt: &E,
+/// refused, 2 a wrong command line, 3 a device failed, 4 memory was refused. What is told is the one
+/// line of the fault, or the text of a wrong command line, and nothing where the status is 0.
+pub fn do_job<R: Read, W: Write, P: Port, T: Tell>(
+    alloc: Global,
     job: &Result<Job, JobFault>,
     reader: &mut Counted<R>,
     writer: &mut Counted<W>,
     port: &mut P,
+    errors: &mut T,
 ) -> u8
     ensures status { MatchResult job.now
         (λ job. IsStatusOfJob R.remaining W.contents P.calls P.failures job result
-        reader.old reader.new writer.old writer.new port.old port.new)
-        (λ fault. IsStatusOf fault result writer.old writer.new) }
+        reader.old reader.new writer.old writer.new port.old port.new
+        (T.told errors.old) (T.told errors.new))
+        (λ fault. IsStatusOf fault result writer.old writer.new
+        (T.told errors.old) (T.told errors.new)) }
+    ensures idle { IfErr job.now (λ _. (reader.new ≡ reader.old) × (port.new ≡ port.old)) }
     ensures bound { result ≤ 4 }
 {
     match job {
-        Ok(Job::Show) => show(rt, reader, writer),
-        Ok(Job::Edit(settings)) => edit(rt, settings, reader, writer, port),
-        Err(fault) => refuse(rt, fault, writer),
+        Ok(Job::Show) => show(alloc, reader, writer, errors),
+        Ok(Job::Edit(settings)) => edit(alloc, settings, reader, writer, port, errors),
+        Err(fault) => refuse(alloc, fault, writer, errors),
     }
 }
 
-fn show<E: AllocGlobal + Eprint, R: Read, W: Write>(
-    rt: &E,
+fn show<R: Read, W: Write, T: Tell>(
+    alloc: Global,
     reader: &mut Counted<R>,
     writer: &mut Counted<W>,
+    errors: &mut T,
 ) -> u8
     ensures status { IsStatusOfShow R.remaining W.contents result
-        reader.old reader.new writer.old writer.new }
+        reader.old reader.new writer.old writer.new (T.told errors.old) (T.told errors.new) }
     ensures bound { result ≤ 4 }
 {
-    match show_ops(rt.alloc(), reader, writer) {
+    match show_ops(alloc, reader, writer) {
         Ok(()) => 0,
-        Err(fault) => tell(rt, Report::of_show(&fault)),
+        Err(fault) => told(errors, Report::of_show(&fault)),
     }
 }
 
-fn edit<E: AllocGlobal + Eprint, R: Read, W: Write, P: Port>(
-    rt: &E,
+fn edit<R: Read, W: Write, P: Port, T: Tell>(
+    alloc: Global,
     settings: &Settings,
     reader: &mut Counted<R>,
     writer: &mut Counted<W>,
     port: &mut P,
+    errors: &mut T,
 ) -> u8
     ensures status { IsStatusOfEdit R.remaining W.contents P.calls P.failures settings.now result
-        reader.old reader.new writer.old writer.new port.old port.new }
+        reader.old reader.new writer.old writer.new port.old port.new
+        (T.told errors.old) (T.told errors.new) }
     ensures bound { result ≤ 4 }
 {
-    match run_keys::<TreeStore, _, _, _>(rt.alloc(), reader, writer, port, settings) {
+    match run_keys::<TreeStore, _, _, _>(alloc, reader, writer, port, settings) {
         Ok(()) => 0,
-        Err(fault) => tell(rt, Report::of_session(&fault)),
+        Err(fault) => told(errors, Report::of_session(&fault)),
     }
 }
 
-fn refuse<E: AllocGlobal + Eprint, W: Write>(
-    rt: &E,
+fn refuse<W: Write, T: Tell>(
+    alloc: Global,
     fault: &JobFault,
     writer: &mut Counted<W>,
+    errors: &mut T,
 ) -> u8
-    ensures { IsStatusOf fault.now result writer.old writer.new }
+    ensures { IsStatusOf fault.now result writer.old writer.new
+        (T.told errors.old) (T.told errors.new) }
 {
     match fault {
-        JobFault::Help(_, text) | JobFault::Version(text) => print(rt, text, writer),
-        JobFault::Usage(text) => {
-            let _ = rt.eprint(text);
+        JobFault::Help(_, text) | JobFault::Version(text) => print(alloc, text, writer, errors),
+        JobFault::Usage(_) => {
+            errors.tell_text(fault);
             job_status(fault)
         }
-        JobFault::Memory => tell(rt, Report::memory()),
+        JobFault::Memory => told(errors, Report::memory()),
     }
 }
 
 /// Prints a text that was asked for.
-fn print<E: AllocGlobal + Eprint, D: Display, W: Write>(
-    rt: &E,
+fn print<D: Display, W: Write, T: Tell>(
+    alloc: Global,
     text: &D,
     writer: &mut Counted<W>,
+    errors: &mut T,
 ) -> u8
-    ensures { IsStatusOfPrint result writer.old writer.new }
+    ensures { IsStatusOfPrint result writer.old writer.new
+        (T.told errors.old) (T.told errors.new) }
 {
-    let Ok(text) = text.to_string(rt.alloc()) else {
-        return tell(rt, Report::memory());
+    let Ok(text) = text.to_string(alloc) else {
+        return told(errors, Report::memory());
     };
     match write_text(text.as_str(), writer) {
         Ok(()) => 0,
-        Err(fault) => tell(rt, Report::of_show(&fault)),
+        Err(fault) => told(errors, Report::of_show(&fault)),
     }
 }
 
-/// Tells of a fault, and answers its exit status. A line that standard error does not take is lost:
-/// there is nowhere left to say so.
-fn tell<E: Eprint>(rt: &E, report: Report) -> u8
-    ensures { result ≡ report.status }
+/// Tells of a fault, and answers its exit status.
+fn told<T: Tell>(errors: &mut T, report: Report) -> u8
+    ensures status { result ≡ report.status }
+    ensures told { Tells (T.told errors.old) (T.told errors.new)
+        (line (message_text report.message) ∷ []) }
 {
-    let _ = rt.eprintln(report);
+    errors.tell(report);
     report.status
 }

@@ -33,6 +33,7 @@ pub fn show_ops<R: Read, W: Write>(
         (λ bytes. log_of MAX_LIMIT bytes ≡ Err e)) }
     ensures nothing { IfErr result (λ e. e ≢ ShowFault.Write → e ≢ ShowFault.Memory
         → WritesNothing W.contents writer.old writer.new) }
+    ensures unwritten { IfErr result (λ e. e ≢ ShowFault.Write → writer.new ≡ writer.old) }
     // Whatever fails, nothing was written or a beginning of the text of an accepted log.
     ensures begun { OnErr result (OnBytes R.remaining reader.old (λ bytes.
         WritesNothing W.contents writer.old writer.new
