@@ -1,6 +1,7 @@
 //! A port of files and sockets.
-ghost use Rattle.std.specs.Prelude.{◌≡◌, ◌<◌, Bool, Err, IfOk, IfErr, length};
+ghost use Rattle.std.specs.Prelude.{◌≡◌, ◌≢◌, ◌<◌, Bool, Err, IfOk, IfErr, length};
 ghost use Rattle.mg_files.specs.Calls.{failures_after, failures_after_link};
+ghost use Rattle.mg_files.specs.declared.port.LinkFault.TheVariants.{NoPort};
 ghost use Rattle.mg_files.specs.declared.port.PortFault.TheVariants.{Memory};
 
 use crate::names::Paths;
@@ -72,7 +73,9 @@ impl<R: Files<File = File> + Net + AllocGlobal + Drop> FilePort<R> {
 
     /// The same of a call for a link.
     fn link_told<T: Drop>(&mut self, answer: io::Result<T>) -> Result<T, LinkFault>
-        ensures { self.new.failures ≡ failures_after_link result self.old.failures }
+        ensures device { self.new.failures ≡ failures_after_link result self.old.failures }
+        ensures port { result ≢ Err NoPort }
+        ensures number { self.new.number ≡ self.old.number }
     {
         match answer {
             Ok(value) => Ok(value),
@@ -86,8 +89,9 @@ impl<R: Files<File = File> + Net + AllocGlobal + Drop> FilePort<R> {
 
     /// Counts a failure.
     fn count_failure(&mut self)
-        ensures { let refused = Err PortFault.File in
+        ensures device { let refused = Err PortFault.File in
             self.new.failures ≡ failures_after {A = Bool} refused self.old.failures }
+        ensures number { self.new.number ≡ self.old.number }
     {
         self.failures = self.failures.saturating_add(1);
     }
@@ -128,7 +132,9 @@ impl<R: Files<File = File> + Net + AllocGlobal + Drop> FilePort<R> {
 }
 
 impl<R: Files<File = File> + Net + AllocGlobal + Drop> Port for FilePort<R> {
-    ghost use Rattle.std.specs.Prelude.{None};
+    ghost use Rattle.std.specs.Prelude.{◌≡◌, ◌↔◌, None, Err};
+    ghost use Rattle.mg_files.specs.Calls.{failures_after_link};
+    ghost use Rattle.mg_files.specs.declared.port.LinkFault.TheVariants.{NoPort};
 
     type Link = R::Stream;
 
@@ -170,8 +176,12 @@ impl<R: Files<File = File> + Net + AllocGlobal + Drop> Port for FilePort<R> {
         self.told(answer)
     }
 
-    /// To the peer that listens at the number.
-    fn connect(&mut self) -> Result<R::Stream, LinkFault> {
+    /// To the peer that listens at the number. `NoPort` where there is none, and never else.
+    fn connect(&mut self) -> Result<R::Stream, LinkFault>
+        ensures device { self.new.failures ≡ failures_after_link result self.old.failures }
+        ensures no_port { (result ≡ Err NoPort) ↔ (self.old.number ≡ None) }
+        ensures number { self.new.number ≡ self.old.number }
+    {
         let Some(number) = self.number else {
             return Err(LinkFault::NoPort);
         };
@@ -179,8 +189,13 @@ impl<R: Files<File = File> + Net + AllocGlobal + Drop> Port for FilePort<R> {
         self.link_told(answer)
     }
 
-    /// Listens at the number until one peer has connected, and no longer.
-    fn accept(&mut self) -> Result<R::Stream, LinkFault> {
+    /// Listens at the number until one peer has connected, and no longer. `NoPort` where there is
+    /// none, and never else.
+    fn accept(&mut self) -> Result<R::Stream, LinkFault>
+        ensures device { self.new.failures ≡ failures_after_link result self.old.failures }
+        ensures no_port { (result ≡ Err NoPort) ↔ (self.old.number ≡ None) }
+        ensures number { self.new.number ≡ self.old.number }
+    {
         let Some(number) = self.number else {
             return Err(LinkFault::NoPort);
         };
