@@ -7,7 +7,10 @@
 //! note has not is destroyed, is said beside each function, and tried with the built program.
 #![tactic(auto)]
 
+mod beside;
+mod disk;
 mod files;
+pub mod laws;
 mod log;
 mod names;
 mod note;
@@ -16,4 +19,5 @@ mod sockets;
 mod stamp;
 mod text;
 
+pub use disk::{Disk, Named, put_whole};
 pub use port::FilePort;

@@ -1,8 +1,7 @@
 //! The files of one note, as this port found and left them.
-use crate::files::{
-    Keeping, OWN, fill, keep, lock, metadata_if_there, open_beside, set_mode, stands_for,
-    sync_folder, take_mode,
-};
+use crate::beside::NextLog;
+use crate::disk::{Named, put_whole};
+use crate::files::{lock, metadata_if_there, open_beside, stands_for};
 use crate::log::Log;
 use crate::names::Paths;
 use crate::text::{Text, TextPaths};
@@ -143,12 +142,16 @@ impl Note {
         standing: Option<Metadata>,
     ) -> io::Result<()> {
         let mut next = self.take_next(rt)?;
-        if let Err(error) = self.name_next(rt, &mut next, bytes, &standing) {
-            self.next = Some(next);
-            return Err(error);
+        match self.name_next(rt, &mut next, bytes, standing) {
+            Ok(named) => {
+                self.log = Some(Log::new(next)?);
+                named.settled()
+            }
+            Err(error) => {
+                self.next = Some(next);
+                Err(error)
+            }
         }
-        self.log = Some(Log::new(next)?);
-        sync_folder(rt, self.paths.log.as_str())
     }
 
     /// The next log, open and locked.
@@ -169,21 +172,31 @@ impl Note {
         rt: &R,
         next: &mut File,
         bytes: &[u8],
-        standing: &Option<Metadata>,
-    ) -> io::Result<()> {
-        next.set_len(0)?;
+        standing: Option<Metadata>,
+    ) -> io::Result<Named> {
+        let keeps = standing.is_some();
+        let like = self.log_like(rt, standing)?;
+        let mut disk = NextLog {
+            rt,
+            file: next,
+            path: self.paths.next_log.as_str(),
+            log: self.paths.log.as_str(),
+            like: &like,
+        };
+        put_whole(&mut disk, bytes, keeps)
+    }
+
+    /// What the next log's owner and rights are those of: the log that stands there, or else the
+    /// text, where there is one.
+    fn log_like<R: Files>(
+        &self,
+        rt: &R,
+        standing: Option<Metadata>,
+    ) -> io::Result<Option<Metadata>> {
         match standing {
-            Some(log) => take_mode(next, log)?,
-            None => match metadata_if_there(rt, self.paths.text.as_str())? {
-                Some(text) => take_mode(next, &text)?,
-                None => set_mode(next, OWN)?,
-            },
+            Some(log) => Ok(Some(log)),
+            None => metadata_if_there(rt, self.paths.text.as_str()),
         }
-        fill(next, bytes)?;
-        if standing.is_some() {
-            keep(rt, self.paths.log.as_str(), Keeping::ByName)?;
-        }
-        fs::rename(rt, self.paths.next_log.as_str(), self.paths.log.as_str())
     }
 
     /// Makes these bytes the text. What stands there is kept, unless this port read it or put it, or it

@@ -1,7 +1,9 @@
 //! A text, as this port found and left it.
+use crate::beside::{NextText, sync_dated};
+use crate::disk::{Named, put_whole};
 use crate::files::{
     Keeping, check_writable, keep, lock, make_beside, metadata_if_there, set_mode, stands_for,
-    sync_folder, take_owner,
+    take_owner,
 };
 use crate::log::Log;
 use crate::stamp::Stamp;
@@ -158,14 +160,10 @@ impl Text {
         is_safe: bool,
     ) -> io::Result<()> {
         lock(&next)?;
-        fill_dated(&mut next, bytes, log)?;
-        if !is_safe {
-            keep(rt, paths.text, Keeping::ByName)?;
-        }
-        fs::rename(rt, paths.next, paths.text)?;
+        let named = name_next(rt, paths, &mut next, bytes, log, !is_safe)?;
         self.own = Some(Stamp::of(&next.metadata()?));
         self.file = Some(next);
-        sync_folder(rt, paths.text)
+        named.settled()
     }
 
     /// Writes the text where it stands, once that is kept unless it is safe.
@@ -181,10 +179,29 @@ impl Text {
             keep(rt, path, Keeping::ByCopy)?;
         }
         let mut file = fs::create(rt, path)?;
-        fill_dated(&mut file, bytes, log)?;
+        file.write_all(bytes)?;
+        sync_dated(&file, log)?;
         self.own = Some(Stamp::of(&file.metadata()?));
         Ok(())
     }
+}
+
+/// Writes all of the next text, and gives it the text's name.
+fn name_next<R: Files<File = File> + AllocGlobal>(
+    rt: &R,
+    paths: TextPaths<'_>,
+    next: &mut File,
+    bytes: &[u8],
+    log: &Option<Log>,
+    keeps: bool,
+) -> io::Result<Named> {
+    let mut disk = NextText {
+        rt,
+        file: next,
+        paths,
+        log,
+    };
+    put_whole(&mut disk, bytes, keeps)
 }
 
 /// A new file for a text, with its mode, owner and group; none where the text has to be written in
@@ -224,17 +241,4 @@ fn only_name(standing: &Metadata) -> io::Result<Option<File>> {
         return Err(io::Error::from(ErrorKind::PermissionDenied));
     }
     Ok(None)
-}
-
-/// Writes all of a text that is empty, gives it the time of change of its log, and waits until it is
-/// on the device. So a later session knows that it was put beside this very log. A file system that
-/// keeps no such times is no reason to stop.
-fn fill_dated(text: &mut File, bytes: &[u8], log: &Option<Log>) -> io::Result<()> {
-    text.write_all(bytes)?;
-    if let Some(log) = log {
-        if let Ok(time) = log.changed() {
-            let _ = text.set_modified(time);
-        }
-    }
-    text.sync_all()
 }
