@@ -1,8 +1,8 @@
 #!/usr/bin/env python3
 """Has files fail under mgr: a disk that is full, a folder that takes no file, calls that fail or write too little.
 
-The argument is a built mgr. Calls: each call of the system of a save is refused by strace in turn, with
-EIO, with ENOSPC and with EINTR; each of its writes to a file is cut short; and from a call on all of its name
+The argument is a built mgr. Calls: each call of the system of a load and of a save is refused by strace in turn,
+with EIO, ENOSPC, EINTR and ENOMEM; each of its writes to a file is cut short; and from a call on all of its name
 are refused, over two saves, until strace is killed. The disk: a tmpfs of 1 MB, which root alone can mount,
 has room for so many pages when a note is saved. The folder takes no new file between two saves; who calls
 this as root has nobody do it. Each time the echo line has to say `File fault`, or the save has to be right:
@@ -31,11 +31,15 @@ from notes import Notes, Shown, expect, put
 from play.notation import keys_of, lines_of
 from play.programs import Session, Unexpected, failing, limits, makes_calls_fail
 
-ERRORS = ("EIO", "ENOSPC", "EINTR")
+ERRORS = ("EIO", "ENOSPC", "EINTR", "ENOMEM")
 CALL = re.compile(r"^(?:\[pid +\d+\] |\d+ +)?(\w+)\((\d+)?")
 SAVE = "C-x C-s"
-SAVE_IS_READ = 'read(0, "\\30\\23"'
+SAVE_IS_READ, OF_A_NOTE = 'read(0, "\\30\\23"', '(AT_FDCWD, "note'
 WROTE, FAULT, NOTHING_NEW = "Wrote note", "File fault", "No changes"
+
+# What is said where the system itself has no memory, and how a load ends that is refused.
+OUT = "Out of memory"
+NO_LOAD = {(3, b"device fault\n"): "device fault", (4, b"out of memory\n"): "out of memory"}
 
 # Calls that no save may pass over where they are refused, and such as a session needs for more than files.
 TOLD = {"write", "fsync", "fdatasync", "rename", "renameat", "renameat2"}
@@ -47,7 +51,7 @@ NOBODY, NOGROUP = "nobody", "nogroup"
 SECONDS = 60
 
 # For how many microseconds strace holds a write before it is done and behind it.
-HELD = 60000
+HELD = 300000
 
 # ---- what is saved
 
@@ -68,8 +72,12 @@ CASES = [
     Case("a text that another program changed", OLD, first=f"x {SAVE}", others={"note": b"quince"}),
     Case("a text in place, behind a link", IN_PLACE, {"note": "there"}),
 ]
-ON_A_DISK = [*CASES, Case("an append of 1500 letters", OLD, then=LONG), Case("1500 letters, from no files", {}, then=LONG),
-             Case("1500 letters, a text in place", IN_PLACE, {"note": "there"}, then=LONG)]
+ON_A_DISK = [
+    *CASES,
+    Case("an append of 1500 letters", OLD, then=LONG),
+    Case("1500 letters, from no files", {}, then=LONG),
+    Case("1500 letters, a text in place", IN_PLACE, {"note": "there"}, then=LONG),
+]
 
 
 class Desk:
@@ -84,11 +92,19 @@ class Desk:
 
     def begin(self, *under):
         """Begins a session, up to the save that is looked at."""
+        self.load(*under)
+        self.write()
+
+    def load(self, *under):
+        """Begins a session, up to its first frame or its end."""
         put(self.folder, self.case.files)
         for name, target in self.case.links.items():
             (self.folder / name).symlink_to(target)
         self.session = Session([*under, self.mgr], self.folder, ["note", "--replica", "1"], None)
         self.session.await_keys()
+
+    def write(self):
+        """Goes on up to the save that is looked at."""
         if self.case.first:
             self.press(self.case.first)
         for name, data in self.case.others.items():
@@ -115,7 +131,7 @@ class Desk:
 
     def expect_kept(self, said):
         """What is said is true, the log has what it had, and the text is the old or the new one."""
-        if said not in (WROTE, FAULT):
+        if said not in (WROTE, FAULT, OUT):
             raise Unexpected(f"the echo line says {said!r}")
         if said == WROTE:
             self.expect_new()
@@ -173,24 +189,30 @@ Call = collections.namedtuple("Call", "name number file line")
 
 
 def calls_of(desk):
-    """Returns the calls of the desk's save."""
+    """Returns the calls of the desk's load, and those of its save."""
     trace = desk.folder.parent / "trace"
     desk.begin("strace", "-D", "-f", "-o", str(trace))
     expect("what a save says", WROTE, desk.press(SAVE))
     desk.session.close()
     lines = trace_of(trace)
-    begin = max(i for i, line in enumerate(lines) if SAVE_IS_READ in line)
+    loads = min(i for i, line in enumerate(lines) if OF_A_NOTE in line)
+    saves = max(i for i, line in enumerate(lines) if SAVE_IS_READ in line) + 1
+    return calls_before_a_frame(lines, loads), calls_before_a_frame(lines, saves)
+
+
+def calls_before_a_frame(lines, begin):
+    """Returns the calls of a trace from a line on, up to the next frame."""
     seen, found = collections.Counter(), []
     for i, line in enumerate(lines):
         call = CALL.match(line)
         if not call:
             continue
         seen[call[1]] += 1
-        if i > begin:
-            if call[1] == "write" and call[2] == "1":
-                return found
-            found.append(Call(call[1], seen[call[1]], call[2], line.split(" ", 1)[1]))
-    raise Unexpected("no frame behind the save")
+        if i >= begin and (call[1], call[2]) == ("write", "1"):
+            return found
+        if i >= begin:
+            found.append(Call(call[1], seen[call[1]], call[2], line.split(" ", 1)[1].strip()))
+    raise Unexpected("no frame is shown")
 
 
 def trace_of(path):
@@ -208,16 +230,30 @@ def refuse(desk, call, error):
     desk.begin(*failing(call.name, f"{error}:when={call.number}"))
     said = desk.press(SAVE)
     if call.name in TOLD and error != "EINTR":
-        expect(f"what is said where {call.name} is refused", FAULT, said)
+        expect(f"what is said where {call.name} is refused", OUT if error == "ENOMEM" else FAULT, said)
     desk.finish(said)
     return said
+
+
+def refuse_load(desk, call, error):
+    """Has a call of the load refused, which ends mgr or is passed over; returns what was said."""
+    desk.load(*failing(call.name, f"{error}:when={call.number}"))
+    if not desk.session.has_ended():
+        desk.write()
+        desk.finish(desk.press(SAVE))
+        return "loaded"
+    end = desk.session.close(), desk.session.error
+    expect("whether that is an end", True, end in NO_LOAD)
+    for name, data in desk.case.files.items():
+        expect(name, data, (desk.folder / name).read_bytes())
+    return NO_LOAD[end]
 
 
 def refuse_on(desk, call, error):
     """Has that call and all of its name behind it refused, over two saves, until strace is killed."""
     desk.begin(*failing(call.name, f"{error}:when={call.number}+"))
     said = desk.press(SAVE)
-    if said == FAULT:
+    if said != WROTE:
         desk.expect_kept(said)
         said = desk.press(SAVE)
     desk.expect_kept(said)
@@ -272,8 +308,15 @@ class Disk:
     def __init__(self, folder):
         self.folder, self.filler = folder, folder / "filler"
         folder.mkdir()
-        self.is_mounted = not subprocess.run(["mount", "-t", "tmpfs", "-o", "size=1m", "tmpfs", folder],
-                                             capture_output=True).returncode
+        self.is_mounted = self._mount()
+
+    def _mount(self):
+        """Whether it can be mounted here."""
+        words = ["mount", "-t", "tmpfs", "-o", "size=1m", "tmpfs", self.folder]
+        try:
+            return subprocess.run(words, capture_output=True).returncode == 0
+        except OSError:
+            return False
 
     def fill(self, pages):
         """Fills the disk, but for so many pages."""
@@ -354,8 +397,10 @@ def try_calls(tally, mgr, root):
     """Refuses each call of each case's save."""
     for case in CASES:
         desk = Desk(mgr, root / "desk", case)
-        calls = calls_of(desk)
-        print(f"\n{case.name}: {len(calls)} calls")
+        loads, calls = calls_of(desk)
+        print(f"\n{case.name}: {len(loads)} calls of a load, {len(calls)} of a save")
+        for call in loads:
+            tally.row(f"load: {call.line}", [(error, refuse_load, desk, call, error) for error in ERRORS])
         for call in calls:
             tally.row(call.line, [(error, refuse, desk, call, error) for error in ERRORS])
         for call in calls:
@@ -436,8 +481,10 @@ def main():
             print("left out: there is no strace that may trace, which has calls fail")
         try_disk(tally, mgr, root)
         fork_folder(tally, mgr, root / "others")
-    print(f"\n{tally.said.total() + tally.bad} saves were disturbed in {time.monotonic() - begin:.0f} seconds: {tally.said[WROTE]} "
-          f"were right, and {tally.said[FAULT]} were told, and the next one did what was left.")
+    right, told = tally.said[WROTE] + tally.said["loaded"], tally.said.total()
+    seconds = time.monotonic() - begin
+    print(f"\n{told + tally.bad} loads and saves were disturbed in {seconds:.0f} seconds: {right} were right, and "
+          f"{told - right} were told, and the next one did what was left.")
     if tally.bad:
         sys.exit(f"{tally.bad} are not as they have to be")
     print("Nothing was lost.")

@@ -1,16 +1,16 @@
 #!/usr/bin/env python3
 """Refuses growths of memory to mgr, one after another, and then presses the same keys again.
 
-usage: refused_growths.py [--short] MGR. A play is files and keys. Each of its keys, the start of the
-program too, is pressed with its first growth refused, with its second, and so on until none is, each
-alone and once with all that follow. Frame and files then have to be those of a run without
-refusals; or the echo line says `Out of memory`, nothing has changed, and the key pressed again leads
-to the same; or the program ends with status 4 and `out of memory`, and the files are those before
-that key or behind it: keys pressed again on them lead to the same text. Logs are whole, and have the
-lines of every save that said `Wrote`. Jobs such as `mgr show`, and exchanges of two, of which one is
-refused memory, are tried so too. `make hostile` calls it, and `make test` with --short: one play, in
-some seconds. A row is a play: how many growths were refused, and behind how many of these mgr went on
-as without, said so, or ended. It ends with an error where something was lost, or not as it has to be.
+usage: refused_growths.py [--short] MGR [NAME]. A play is files and keys. Each of its keys, the start of the
+program too, is pressed with its first growth refused, with its second, and so on until none is, each alone and,
+where more is asked for then, once with all that follow. Frame and files then have to be those of a run without
+refusals; or the echo line says `Out of memory`, nothing has changed, and the key pressed again leads to the
+same; or the program ends with status 4 and `out of memory`, and the files are those before that key or behind
+it: keys pressed again on them lead to the same text. Logs are whole, and have the lines of every save that said
+`Wrote`. Jobs such as `mgr show`, and exchanges of two, of which one is refused memory, are tried so too. A row
+is a play: how many growths were refused, and behind how many of these mgr went on as without, said so, or
+ended. `make hostile` calls it, and `make test` with --short: one play, in some seconds. A NAME has those alone
+tried that have it in theirs. It ends with an error where something was lost, or not as it has to be.
 """
 
 import collections
@@ -20,7 +20,7 @@ import sys
 import time
 from dataclasses import dataclass, field
 
-from notes import Notes, Shown, expect, put
+from notes import SECONDS, Notes, Shown, expect, put
 from play.notation import lines_of
 from play.peers import await_listener, free_port, listens
 from play.programs import Unexpected
@@ -61,7 +61,8 @@ PLAYS = [
     Play("a replacement of all, undone", WORDS, f"M-%, e, RET, E, E, RET, !, C-_, C-d, {SAVE}"),
     Play("windows", LINES, f"C-x 2, C-v, C-x o, C-u 30 C-n, C-l, z, C-x 0, C-x 2, C-x 1, M-v, {SAVE}"),
     Play("several buffers", {**WORDS, "b": b"abc"},
-         f"C-k, C-x C-f, b, RET, C-y, C-x 2, C-x o, C-x b, RET, C-d, C-x k, x, RET, C-x C-f, n, RET, z, C-x b, RET, {SAVE}"),
+         "C-k, C-x C-f, b, RET, C-y, C-x 2, C-x o, C-x b, RET, C-d, C-x k, x, RET, C-x C-f, n, RET, z, "
+         f"C-x b, RET, {SAVE}"),
     Play("a buffer that is removed, and found again", {**WORDS, "b": b"abc"},
          f"C-x C-f, b, RET, C-x k, RET, C-x C-f, b, RET, C-d, C-u 70 x, {SAVE}"),
     Play("commands by name", WORDS, f"C-k, M-x, y, a, n, k, RET, M-x, q, DEL, RET, M-x, C-g, C-x C-c, n, {SAVE}"),
@@ -91,8 +92,9 @@ JOBS = [
 # What Alice and Bob have; she connects, and he waits.
 Exchange = collections.namedtuple("Exchange", "name alice bob")
 ALICE = lines_of("a1.1<0.0 l2.1<1.1 i3.1<2.1 c4.1<3.1 e5.1<4.1")
+BOB = lines_of("b1.2<0.0 o2.2<1.2 b3.2<2.2 -2.2")
 EXCHANGES = [
-    Exchange("an exchange of two notes", {"note.ops": ALICE}, {"note.ops": lines_of("b1.2<0.0 o2.2<1.2 b3.2<2.2 -2.2")}),
+    Exchange("an exchange of two notes", {"note.ops": ALICE}, {"note.ops": BOB}),
     Exchange("an exchange with a text that is not saved", {"note": b"alice"}, {"note.ops": ALICE}),
     Exchange("an exchange of a large family with no files", {}, {"note.ops": lines_of(FAMILY)}),
 ]
@@ -255,11 +257,23 @@ class Trial:
             behind.expect_shown(editor)
             self._press_rest(editor, at)
             return WENT_ON
-        if editor.rows() == before.rows:
-            self._press_rest(editor, at - 1)
-        else:
-            self._ask_again(editor, at)
+        self._press_again(editor, at)
         return SAID
+
+    def _press_again(self, editor, at):
+        """Presses a key again that was refused, or all of what was asked for, where that is asked for no more."""
+        before = self.moments[at - 1]
+        if editor.rows() != before.rows:
+            self._replace_again(editor, at)
+        elif self.keys[at - 1] == "RET" and before.said.startswith("Find file: "):
+            editor.press("C-g")
+            self._press_rest(editor, self._opening("C-x C-f", at))
+        else:
+            self._press_rest(editor, at - 1)
+
+    def _opening(self, key, at):
+        """Returns how many keys there are before that one, which opened the prompt."""
+        return max(i for i, opening in enumerate(self.keys[:at]) if opening == key)
 
     def _press_rest(self, editor, at):
         """Presses the keys behind that one: each leads to what it leads to without refusals."""
@@ -268,10 +282,10 @@ class Trial:
             moment.expect_shown(editor)
         self._end(editor)
 
-    def _ask_again(self, editor, at):
+    def _replace_again(self, editor, at):
         """A replacement was done, and query-replace ended for want of memory: it is begun again."""
         expect("the text behind Out of memory", self.moments[at].text, editor.text())
-        begin = max(i for i, key in enumerate(self.keys[:at]) if key == "M-%")
+        begin = self._opening("M-%", at)
         ends = [i for i, key in enumerate(self.keys) if key == "RET" and i > begin]
         for key in self.keys[begin : ends[1] + 1] + self.keys[at:]:
             editor.press(key)
@@ -327,8 +341,9 @@ class JobTrial:
         return [(0, "the job")]
 
     def _run(self):
-        words = [*self.stage.library.under(), self.stage.mgr, *self.job.words]
-        ran = subprocess.run(words, cwd=self.stage.library.folder, input=self.job.given, capture_output=True, timeout=60)
+        library, given = self.stage.library, self.job.given
+        words = [*library.under(), self.stage.mgr, *self.job.words]
+        ran = subprocess.run(words, cwd=library.folder, input=given, capture_output=True, timeout=SECONDS)
         return ran.returncode, ran.stdout, ran.stderr
 
     def refuse(self, _, first, on):
@@ -430,6 +445,7 @@ class ExchangeTrial:
             expect("the end", WANT, editor.close())
             self.editors[side], came = self._begin(side), ENDED
         elif editor.said() == OUT:
+            editor.press("C-g")
             came = SAID
         else:
             expect("the echo line", self.moments[side].said, editor.said())
@@ -457,6 +473,8 @@ class ExchangeTrial:
 
 
 # ---- all of it
+
+TRIALS = [(Trial, it) for it in PLAYS] + [(JobTrial, it) for it in JOBS] + [(ExchangeTrial, it) for it in EXCHANGES]
 
 
 def short(mgr):
@@ -490,17 +508,18 @@ def play_one(stage, kind, what):
 
 
 def main():
-    *options, mgr = sys.argv[1:] or [""]
-    if not mgr or options not in ([], ["--short"]):
-        sys.exit("usage: refused_growths.py [--short] MGR")
-    trials = [(Trial, SHORT)] if options else [
-        *((Trial, play) for play in PLAYS), *((JobTrial, job) for job in JOBS), *((ExchangeTrial, it) for it in EXCHANGES)]
+    words = [word for word in sys.argv[1:] if word != "--short"]
+    if len(words) not in (1, 2):
+        sys.exit("usage: refused_growths.py [--short] MGR [NAME]")
+    mgr, name = words[0], "".join(words[1:])
+    trials = [(Trial, SHORT)] if "--short" in sys.argv else [it for it in TRIALS if name in it[1].name]
     begin = time.monotonic()
     outcomes = played(pathlib.Path(mgr).resolve(), trials)
     counts = sum((it.counts for it in outcomes), collections.Counter())
     lost = sum(len(it.faults) for it in outcomes)
-    print(f"\n{counts.total()} growths were refused in {time.monotonic() - begin:.0f} seconds: behind {counts[WENT_ON]} mgr "
-          f"went on as without, {counts[SAID]} it told, and {counts[ENDED]} ended it.")
+    seconds = time.monotonic() - begin
+    print(f"\n{counts.total()} growths were refused in {seconds:.0f} seconds: behind {counts[WENT_ON]} mgr went on as "
+          f"without, {counts[SAID]} it told, and {counts[ENDED]} ended it.")
     if lost:
         sys.exit(f"{lost} are not as they have to be")
     if outcomes:

@@ -3,10 +3,10 @@
 
 The argument is a built mgr. Each shape is a log of so many lines: its identifiers, counters, parents, chains
 or spellings are such as a store, a map or a reader may be slow with. Each size is shown by `mgr show` and
-loaded by `mgr edit`, and the processor time of the user is taken, the least of 3 runs. A row has these times
-and the exponent log2(t(2n) / t(n)) of each doubling; n log n has 1.1 here. A shape grows too fast where the
-mean of its exponents is above 1.2, also once it was measured three times as often: times scatter where others
-use the machine. `make hostile` calls it. It ends with an error where one grows too fast that is not in KNOWN.
+loaded by `mgr edit`, and its processor time is taken, the least of 3 runs. A row has these times and the
+exponent log2(t(2n) / t(n)) of each doubling; n log n has 1.1 here. A shape grows too fast where the mean of
+its exponents is above 1.2, or above what KNOWN says of it, each time of six that it is measured so: times
+scatter where others use the machine. `make hostile` calls it. It ends with an error where one grows too fast.
 """
 
 import itertools
@@ -24,9 +24,14 @@ RUNS, ROUNDS = 3, 6
 TOO_FAST = 1.2
 SECONDS = 120
 
-# Shapes that are known to grow too fast, each with the reason.
-COLLIDING = "identifiers that collide in the map"
-KNOWN = {COLLIDING: "its hash has a fixed seed, and looks for a free place from group to group"}
+# Shapes that are known to grow too fast: the exponent that each may have, and the reason.
+COLLIDING, CHAIN, SIBLINGS = "identifiers that collide in the map", "a chain in no order", "siblings in no order"
+FAR = "what an operation touches lies anywhere in memory, and with the size ever less of it in the caches"
+KNOWN = {
+    COLLIDING: (2.3, "the hash has a fixed seed, and a place that is taken is looked for in the next group"),
+    CHAIN: (1.6, FAR),
+    SIBLINGS: (1.6, FAR),
+}
 
 # That hash, and how many entries a group of the map has at most on average.
 SEED, MULTIPLIER, WORD = 0x243F6A8885A308D3, 0x9E3779B97F4A7C15, 1 << 64
@@ -117,22 +122,22 @@ def group_of(counter, groups):
 
 
 def colliding(size):
-    """Siblings that the map looks for in the first sixteenth of its groups."""
+    """Siblings that the map looks for in the first quarter of its groups."""
     groups = 1
     while GROUP_LOAD * groups < size:
         groups *= 2
-    counters = (i for i in itertools.count(1) if group_of(i, groups) < groups // 16)
+    counters = (i for i in itertools.count(1) if group_of(i, groups) < groups // 4)
     return [inserted(counter, 0) for counter in itertools.islice(counters, size)]
 
 
 SHAPES = {
     "a chain": chain,
     "a chain that comes last first": lambda size: chain(size)[::-1],
-    "a chain in no order": lambda size: shuffled(chain(size)),
+    CHAIN: lambda size: shuffled(chain(size)),
     "siblings, rising": siblings,
     "siblings, falling": lambda size: siblings(size)[::-1],
     "siblings, from both ends": from_both_ends,
-    "siblings in no order": lambda size: shuffled(siblings(size)),
+    SIBLINGS: lambda size: shuffled(siblings(size)),
     "siblings below two in turn": two_parents,
     "siblings that differ in their replicas": replicas,
     "families of 65": families,
@@ -173,14 +178,15 @@ class Shape:
             (place / "note.ops").write_bytes(b"".join(make(size)))
         edit = [mgr, "edit", "note", "--replica", "9", "--rows", "3", "--cols", "20"]
         self.jobs = {"show": ([mgr, "show"], "note.ops"), "edit": (edit, os.devnull)}
-        self.times = {job: [math.inf] * len(SIZES) for job in self.jobs}
+        self.times = {}
 
-    def measure(self, job):
-        """Measures a round, and up to five more while the job seems to grow too fast."""
+    def measure(self, job, most):
+        """Measures a round, and then others in its place while the job seems to grow faster than that."""
         for _ in range(ROUNDS):
+            self.times[job] = [math.inf] * len(SIZES)
             for _ in range(RUNS):
                 self._run(*self.jobs[job], self.times[job])
-            if not self.is_too_fast(job):
+            if self.grows_by(job) <= most:
                 return
 
     def _run(self, words, given, times):
@@ -191,9 +197,10 @@ class Shape:
         times = [max(time, 0.0001) for time in self.times[job]]
         return [math.log2(later / earlier) for earlier, later in zip(times, times[1:])]
 
-    def is_too_fast(self, job):
+    def grows_by(self, job):
+        """Returns the mean of the exponents."""
         exponents = self.exponents(job)
-        return sum(exponents) / len(exponents) > TOO_FAST
+        return sum(exponents) / len(exponents)
 
     def row(self, job):
         times = " ".join(f"{time:7.3f}" for time in self.times[job])
@@ -201,16 +208,14 @@ class Shape:
 
 
 def measured(mgr, folder, name, make):
-    """Measures a shape, prints its row, and returns whether it grows too fast."""
-    shape = Shape(mgr, folder, make)
+    """Measures a shape, prints its row, and returns by how much it grows at most."""
+    shape, (most, why) = Shape(mgr, folder, make), KNOWN.get(name, (TOO_FAST, ""))
     for job in shape.jobs:
-        shape.measure(job)
-    fast = [job for job in shape.jobs if shape.is_too_fast(job)]
-    verdict = f"too fast: {', '.join(fast)}" if fast else "well"
-    if fast and name in KNOWN:
-        verdict += f", known: {KNOWN[name]}"
+        shape.measure(job, most)
+    grows = max(map(shape.grows_by, shape.jobs))
+    verdict = "too fast" if grows > most else "well" if grows <= TOO_FAST else f"known: {why}"
     print(f"{name:<40} {'  '.join(map(shape.row, shape.jobs))}  {verdict}", flush=True)
-    return bool(fast)
+    return grows
 
 
 def main():
@@ -219,9 +224,11 @@ def main():
     mgr = os.path.abspath(sys.argv[1])
     print(f"seconds for {', '.join(f'{size:,}' for size in SIZES)} lines, and the exponents of both doublings")
     with tempfile.TemporaryDirectory(prefix="mgr-shapes-") as folder:
-        fast = {name for name, make in SHAPES.items() if measured(mgr, pathlib.Path(folder), name, make)}
-    new = fast - set(KNOWN)
-    print(f"\n{len(SHAPES)} shapes, of which {len(fast)} grow faster than n log n, {len(fast) - len(new)} of them known.")
+        grows = {name: measured(mgr, pathlib.Path(folder), name, make) for name, make in SHAPES.items()}
+    fast = {name for name, by in grows.items() if by > TOO_FAST}
+    new = {name for name in fast if name not in KNOWN or grows[name] > KNOWN[name][0]}
+    known = len(fast - new)
+    print(f"\n{len(SHAPES)} shapes, of which {len(fast)} grow faster than n log n, {known} of them as is known.")
     if new:
         sys.exit(f"too fast: {', '.join(sorted(new))}")
 
