@@ -9,7 +9,7 @@ same; or the program ends with status 4 and `out of memory`, and the files are t
 it: keys pressed again on them lead to the same text. Logs are whole, and have the lines of every save that said
 `Wrote`. Jobs such as `mgr show`, and exchanges of two, of which one is refused memory, are tried so too. A row
 is a play: how many growths were refused, and behind how many of these mgr went on as without, said so, or
-ended. `make hostile` calls it, and `make test` with --short: one play, in some seconds. A NAME has those alone
+ended. `make hostile` calls it, and `make test` with --short: the keys of one play. A NAME has those alone
 tried that have it in theirs. It ends with an error where something was lost, or not as it has to be.
 """
 
@@ -30,6 +30,9 @@ OUT = "Out of memory"
 
 # What came of a growth that was refused.
 WENT_ON, SAID, ENDED, BAD = "went on", "said", "ended", "bad"
+
+# What a run that is not as it has to be ends with.
+FAULTS = (Unexpected, OSError, subprocess.SubprocessError)
 
 # ---- what is played
 
@@ -145,7 +148,7 @@ def once(outcomes, called, try_once, *refusal):
     """Tries one refusal; returns whether something was refused."""
     try:
         came = try_once(*refusal)
-    except (Unexpected, OSError, subprocess.SubprocessError) as fault:
+    except FAULTS as fault:
         outcomes.faults.append(f"{called}: {fault}")
         came = BAD
     outcomes.counts[came] += came is not None
@@ -327,6 +330,13 @@ class Trial:
         return self.loaded
 
 
+class KeyTrial(Trial):
+    """The same, without the start of the program."""
+
+    def places(self):
+        return super().places()[1:]
+
+
 # ---- a job
 
 
@@ -474,13 +484,14 @@ class ExchangeTrial:
 
 # ---- all of it
 
+SHORT_TRIALS = [(KeyTrial, SHORT)]
 TRIALS = [(Trial, it) for it in PLAYS] + [(JobTrial, it) for it in JOBS] + [(ExchangeTrial, it) for it in EXCHANGES]
 
 
 def short(mgr):
     """Tries the short play; returns at how many of its keys all was as it has to be, and at how many not."""
-    outcomes = played(mgr, [(Trial, SHORT)])
-    return sum(it.places - it.bad for it in outcomes), sum(it.bad for it in outcomes)
+    outcomes = played(mgr, SHORT_TRIALS)
+    return sum(max(it.places - it.bad, 0) for it in outcomes), sum(it.bad for it in outcomes)
 
 
 def played(mgr, trials):
@@ -502,6 +513,10 @@ def play_one(stage, kind, what):
     """Tries one play, job or exchange."""
     try:
         trial = kind(stage, what)
+    except FAULTS as fault:
+        outcomes = Outcomes(what.name, faults=[f"without a refusal: {fault}"], bad=1)
+        outcomes.print()
+        return outcomes
     finally:
         stage.clear()
     return tried(stage.library, what.name, trial.places(), trial.refuse)
@@ -512,7 +527,7 @@ def main():
     if len(words) not in (1, 2):
         sys.exit("usage: refused_growths.py [--short] MGR [NAME]")
     mgr, name = words[0], "".join(words[1:])
-    trials = [(Trial, SHORT)] if "--short" in sys.argv else [it for it in TRIALS if name in it[1].name]
+    trials = SHORT_TRIALS if "--short" in sys.argv else [it for it in TRIALS if name in it[1].name]
     begin = time.monotonic()
     outcomes = played(pathlib.Path(mgr).resolve(), trials)
     counts = sum((it.counts for it in outcomes), collections.Counter())
