@@ -48,7 +48,8 @@ class Library:
     def end(self):
         """Refuses nothing more; returns how many were refused since the mark."""
         asked, first, _, refused = self.FORM.unpack(self.shared[:])
-        self.asked_on = refused and asked > first
+        if refused:
+            self.asked_on = asked > first
         self.refuse(0, False)
         return refused
 

@@ -22,7 +22,9 @@ import tempfile
 SIZES = (50_000, 100_000, 200_000)
 RUNS, ROUNDS = 3, 6
 TOO_FAST = 1.2
-SECONDS = 120
+
+# Seconds: behind which a run is not repeated, and is ended.
+LONG, SECONDS = 2, 120
 
 # Shapes that are known to grow too fast: the exponent that each may have, and the reason.
 COLLIDING, CHAIN, SIBLINGS = "identifiers that collide in the map", "a chain in no order", "siblings in no order"
@@ -190,8 +192,10 @@ class Shape:
                 return
 
     def _run(self, words, given, times):
+        """Runs a job at each size, but not again at one where it takes long, which scatters little."""
         for i, folder in enumerate(self.folders):
-            times[i] = min(times[i], seconds_of(words, folder, folder / given))
+            if not LONG < times[i] < math.inf:
+                times[i] = min(times[i], seconds_of(words, folder, folder / given))
 
     def exponents(self, job):
         times = [max(time, 0.0001) for time in self.times[job]]
