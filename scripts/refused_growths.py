@@ -455,6 +455,7 @@ class ExchangeTrial:
         """Looks at both, and has them exchange again."""
         for number in (0, 1):
             self._expect_own(number)
+        self._expect_saved_before_reply()
         editor = self.editors[side]
         if editor.has_ended():
             expect("the end", WANT, editor.close())
@@ -467,7 +468,7 @@ class ExchangeTrial:
             came = WENT_ON
         if came != WENT_ON:
             self._meet()
-        self._expect_both(came)
+        self._expect_both(came, side)
         return came
 
     def _expect_own(self, number):
@@ -478,13 +479,32 @@ class ExchangeTrial:
         expect("what nobody wrote", set(), set(now.lines(name)) - set(high.lines(name)))
         self.stage.shown.text(now.files.get(name, b""))
 
-    def _expect_both(self, came):
-        for editor, moment, folder in zip(self.editors, self.moments, self.stage.folders):
+    def _expect_saved_before_reply(self):
+        """Where Alice was answered, Bob's log has all: he replies once it is saved."""
+        alice = self.editors[0]
+        if not alice.has_ended() and alice.said() == self.moments[0].said:
+            saved = Notes(self.stage.folders[1]).lines("note.ops")
+            expect("the log of the one who replied", self.moments[1].notes.lines("note.ops"), saved)
+
+    def _expect_both(self, came, side):
+        for number, (editor, moment, folder) in enumerate(zip(self.editors, self.moments, self.stage.folders)):
             expect("the text", moment.text, editor.text())
             if came == WENT_ON:
                 expect("the echo line", moment.said, editor.said())
-            self.stage.expect_same(moment, folder)
+            if came == ENDED and number == side:
+                self._expect_put(editor, moment, folder)
+            else:
+                self.stage.expect_same(moment, folder)
             self.stage.expect_well(editor)
+
+    def _expect_put(self, editor, moment, folder):
+        """Where a program ended between its log and its text, the next save of a change puts this."""
+        editor.press(f"z {SAVE}")
+        expect("the echo line", "Wrote note", editor.said())
+        notes = Notes(folder)
+        lacks = set(moment.notes.lines("note.ops")) - set(notes.lines("note.ops"))
+        expect("what the log lacks", set(), lacks)
+        expect("the text", notes.files["note"], self.stage.shown.text(notes.files["note.ops"]))
 
 
 # ---- all of it
