@@ -30,7 +30,7 @@ LONG, SECONDS = 2, 120
 COLLIDING, CHAIN, SIBLINGS = "identifiers that collide in the map", "a chain in no order", "siblings in no order"
 FAR = "what an operation touches lies anywhere in memory, and with the size ever less of it in the caches"
 KNOWN = {
-    COLLIDING: (2.3, "the hash has a fixed seed, and a place that is taken is looked for in the next group"),
+    COLLIDING: (2.6, "the hash has a fixed seed, and a place that is taken is looked for in the next group"),
     CHAIN: (1.6, FAR),
     SIBLINGS: (1.6, FAR),
 }
