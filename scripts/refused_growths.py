@@ -523,8 +523,8 @@ def played(mgr, trials):
     """Tries these; returns what came of each, and nothing where no library can be built."""
     try:
         library = Library()
-    except (OSError, subprocess.CalledProcessError):
-        print("refused growths are left out: cc builds no library here that refuses them")
+    except OSError as why:
+        print(f"refused growths are left out: {why}")
         return []
     try:
         stage = Stage(mgr, library)

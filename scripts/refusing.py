@@ -6,6 +6,7 @@ import pathlib
 import shutil
 import struct
 import subprocess
+import sys
 import tempfile
 
 from play.notation import keys_of
@@ -13,8 +14,10 @@ from play.programs import Session
 
 SOURCE = pathlib.Path(__file__).resolve().parent / "refuse_growth.c"
 SIZE = ("--rows", "5", "--cols", "40")
+
 # How a program ends for want of memory.
 WANT = (4, b"out of memory\n")
+
 
 def memory_folder():
     """Returns a folder in memory, where saves wait for no device; None where there is none."""
@@ -22,24 +25,35 @@ def memory_folder():
 
 
 class Library:
-    """The library, built in a folder that goes with it, and the orders that it reads there."""
+    """The library, the orders that it reads, and a folder for notes; all go with it.
+
+    `OSError` where it cannot be built here, or no program can be given it.
+    """
 
     FORM = struct.Struct("4Q")
 
     def __init__(self):
         self.folder = pathlib.Path(tempfile.mkdtemp(prefix="mgr-refused-", dir=memory_folder()))
+        # A folder in memory may be one from which nothing can be run.
+        self.home = pathlib.Path(tempfile.mkdtemp(prefix="mgr-refused-"))
+        self.path, self.orders = self.home / "refuse_growth.so", self.home / "orders"
         # Whether more was asked for behind the first refusal.
         self.asked_on = False
-        self.path, self.orders = self.folder / "refuse_growth.so", self.folder / "orders"
-        words = ["cc", "-O2", "-fno-builtin", "-shared", "-fPIC", "-o", self.path, SOURCE]
         try:
-            subprocess.run(words, check=True, capture_output=True)
-        except (OSError, subprocess.CalledProcessError):
+            self._build()
+        except (OSError, subprocess.CalledProcessError) as fault:
             self.remove()
-            raise
+            raise OSError("no library can be built and loaded here") from fault
+
+    def _build(self):
+        words = ["cc", "-O2", "-fno-builtin", "-shared", "-fPIC", "-o", self.path, SOURCE]
+        subprocess.run(words, check=True, capture_output=True)
         self.orders.write_bytes(bytes(self.FORM.size))
         with open(self.orders, "r+b") as file:
             self.shared = mmap.mmap(file.fileno(), self.FORM.size)
+        subprocess.run([*self.under(), sys.executable, "-c", ""], check=True)
+        if not self.FORM.unpack(self.shared[:])[0]:
+            raise OSError("the library counts nothing")
 
     def refuse(self, first, on):
         """Sets a mark. From there on that growth is refused, and all behind it where `on` says so."""
@@ -58,7 +72,8 @@ class Library:
         return ["env", f"LD_PRELOAD={self.path}", f"REFUSE_ORDERS={self.orders}"]
 
     def remove(self):
-        shutil.rmtree(self.folder)
+        for folder in (self.folder, self.home):
+            shutil.rmtree(folder)
 
 
 class Editor:
