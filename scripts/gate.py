@@ -1,7 +1,7 @@
 #!/usr/bin/env python3
-"""Proves, tests and plays all: `rt ci`, and then the scenes with the mgr that it built.
+"""Proves, tests and plays all: `rt ci`, and then the scenes, and refused growths, with the mgr that it built.
 
-The last line counts proofs, wrong bodies, tests and scenes together.
+The last line counts proofs, wrong bodies, tests, scenes and keys at which growths are refused together.
 """
 
 import pathlib
@@ -9,6 +9,7 @@ import re
 import subprocess
 import sys
 
+import refused_growths
 import scenes
 
 HERE = pathlib.Path(__file__).resolve().parent.parent
@@ -18,9 +19,8 @@ VERDICT = re.compile(r"(\d+) passed, (\d+) failed$")
 
 
 def main():
-    passed, failed = proved()
-    also = scenes.played(BUILT) if BUILT.is_file() else not_played()
-    passed, failed = passed + also[0], failed + also[1]
+    parts = [proved(), *played()]
+    passed, failed = map(sum, zip(*parts))
     print(f"{passed} passed, {failed} failed")
     return 1 if failed or not passed else 0
 
@@ -39,9 +39,12 @@ def proved():
     return passed, failed if gate.wait() == 0 else max(failed, 1)
 
 
-def not_played():
-    print("the scenes are not played: no mgr was built")
-    return 0, 1
+def played():
+    """Plays what needs a built mgr; returns how much of each part passed and failed."""
+    if not BUILT.is_file():
+        print("the scenes are not played: no mgr was built")
+        return [(0, 1)]
+    return [scenes.played(BUILT), refused_growths.short(BUILT)]
 
 
 if __name__ == "__main__":

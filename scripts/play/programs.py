@@ -99,7 +99,7 @@ class Session:
 
     def await_keys(self):
         """Waits until mgr waits for keys alone, not for a peer."""
-        self.settle(lambda: self.has_ended() or self._has_read_all() and self._reads_keys())
+        self.settle(lambda: self.has_ended() or self._has_read_all() and self.reads_keys())
 
     def _has_read_all(self):
         left = fcntl.ioctl(self.process.stdin, termios.FIONREAD, b"\0" * 4)
@@ -111,7 +111,7 @@ class Session:
         except OSError:
             return ""
 
-    def _reads_keys(self):
+    def reads_keys(self):
         return self._syscall().startswith(WAITS_FOR_KEYS) and self._has_shown_all()
 
     def _sleeps(self):
