@@ -36,7 +36,7 @@ class Library:
         self.folder = pathlib.Path(tempfile.mkdtemp(prefix="mgr-refused-", dir=memory_folder()))
         # A folder in memory may be one from which nothing can be run.
         self.home = pathlib.Path(tempfile.mkdtemp(prefix="mgr-refused-"))
-        self.path, self.orders = self.home / "refuse_growth.so", self.home / "orders"
+        self.path, self.orders = self.home / "refuse_growth.so", self.folder / "orders"
         # Whether more was asked for behind the first refusal.
         self.asked_on = False
         try:
