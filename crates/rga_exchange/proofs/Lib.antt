@@ -10,3 +10,4 @@ pub mod MeetingLaws
 pub mod WritableLaws
 pub mod BegunLogLaws
 pub mod FirstLinesLemmas
+pub mod AgainLaws

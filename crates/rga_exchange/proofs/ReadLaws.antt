@@ -1,5 +1,5 @@
 -- What was read of a device, and what was taken of it.
-use Rattle.std.proofs.Common.{◌≡◌, ℕ, ◌≤◌, List, [], ◌∷◌, ◌++◌, length, Option, Some, None, Result, Ok, sym, ap, subst, ◌∙◌, append-nil, arith}
+use Rattle.std.proofs.Common.{◌≡◌, ℕ, ◌≤◌, List, [], ◌∷◌, ◌++◌, length, Option, Some, None, Result, Ok, refl, sym, ap, subst, ◌∙◌, append_assoc, append-nil, arith}
 use Rattle.std.specs.Prelude.{IfSome}
 use Rattle.std.specs.Io.KnownBytes.{Consumes, Keeps, IsAtEnd}
 use Rattle.std.proofs.KnownBytes.{Consumes-nil, Consumes-trans, Consumes-kept, Consumes-whole}
@@ -44,6 +44,8 @@ module _ {R T : Type 0} (remaining : R → Option (List ℕ)) (limit : T → ℕ
   read_nothing follows_nothing r t = record {
     read = record { before = []; last = []; read = Consumes-nil (remaining r.inner); one_block = omega arith; operations = tt };
     up_to = record { takes = takes_nothing (limit t) 0 (content t) []; beside = follows_nothing t };
+    begun = [];
+    whole_before = refl;
   }
 
   -- the taker's own limit may be another name of the same number
@@ -51,6 +53,8 @@ module _ {R T : Type 0} (remaining : R → Option (List ℕ)) (limit : T → ℕ
   read_lines follows_on r s t u v n m w x is h more = record {
     read = h.read;
     up_to = up_to_chain limit content follows follows_on t u v 0 n m (all_read h.read) w x is h.up_to more;
+    begun = h.begun ++ more.takes.lines;
+    whole_before = ap (λ ls. ls ++ more.takes.lines) h.whole_before ∙ append_assoc (lines_of h.read.before) h.begun more.takes.lines;
   }
 
   pub read_piece : (r s next : Calls R) (t u : T) (n : ℕ) (w piece : List ℕ) → HasTakenOfRead remaining limit content follows r s t u n w → lines_of w ≡ [] → Consumes (remaining s.inner) (remaining next.inner) piece → length piece ≤ BLOCK → HasTakenOfRead remaining limit content follows r next t u n (w ++ piece)
@@ -63,6 +67,8 @@ module _ {R T : Type 0} (remaining : R → Option (List ℕ)) (limit : T → ℕ
       operations = (whole (limit t) n (content t) (content u) (all_read h.read) w h.up_to.takes none).operations;
     };
     up_to = record { takes = takes_more_bytes (limit t) 0 n (content t) (content u) (all_read h.read) w piece h.up_to.takes; beside = h.up_to.beside };
+    begun = [];
+    whole_before = sym (append-nil (lines_of (all_read h.read)) ∙ all_lines (limit t) n (content t) (content u) (all_read h.read) w h.up_to.takes none);
   }
 
   -- at the end of the input what waits is the rest
@@ -139,13 +145,17 @@ module _ {R T : Type 0} (remaining : R → Option (List ℕ)) (limit : T → ℕ
             (subst (λ l. follows u (operations_of (l ∷ [])) v) (sym h.rest) more));
       }
 
-  -- whatever fails, the first lines of what was read were taken
+  -- whatever fails, all lines that were whole before the last block were taken, and the first of those that end in it
   pub first_lines : (r s : Calls R) (t u : T) (n : ℕ) (w : List ℕ) → HasTakenOfRead remaining limit content follows r s t u n w → HasTakenLines remaining limit content follows r s t u
   first_lines r s t u n w h = record {
-    bytes = all_read h.read;
+    before = h.read.before;
+    block = h.read.last;
     read = h.read.read;
+    one_block = h.read.one_block;
     lines = h.up_to.takes.lines;
+    begun = h.begun;
     later = lines_of (w ++ []);
+    whole_before = h.whole_before;
     begins = ap lines_of (sym (append-nil (all_read h.read))) ∙ h.up_to.takes.cut [];
     taken = are_taken (limit t) 0 n (content t) (content u) h.up_to.takes.lines h.up_to.takes.taken;
     beside = h.up_to.beside;
@@ -153,11 +163,15 @@ module _ {R T : Type 0} (remaining : R → Option (List ℕ)) (limit : T → ℕ
 
   pub first_of_whole : (r s : Calls R) (t u : T) → HasTakenWholeLines remaining limit content follows r s t u → HasTakenLines remaining limit content follows r s t u
   first_of_whole r s t u h = record {
-    bytes = h.bytes;
-    read = h.read;
+    before = h.bytes;
+    block = [];
+    read = subst (Consumes (remaining r.inner) (remaining s.inner)) (sym (append-nil h.bytes)) h.read;
+    one_block = omega arith;
     lines = lines_of h.bytes;
+    begun = [];
     later = [];
-    begins = sym (append-nil (lines_of h.bytes));
+    whole_before = sym (append-nil (lines_of h.bytes));
+    begins = ap lines_of (append-nil h.bytes) ∙ sym (append-nil (lines_of h.bytes));
     taken = h.taken;
     beside = h.beside;
   }
@@ -165,10 +179,14 @@ module _ {R T : Type 0} (remaining : R → Option (List ℕ)) (limit : T → ℕ
   -- a taker that holds the same took the same lines
   pub same_lines : FollowsOn follows → (r s : Calls R) (t u v : T) → content v ≡ content u → follows u [] v → HasTakenLines remaining limit content follows r s t u → HasTakenLines remaining limit content follows r s t v
   same_lines follows_on r s t u v same none h = record {
-    bytes = h.bytes;
+    before = h.before;
+    block = h.block;
     read = h.read;
+    one_block = h.one_block;
     lines = h.lines;
+    begun = h.begun;
     later = h.later;
+    whole_before = h.whole_before;
     begins = h.begins;
     taken = subst (AreTaken (limit t) h.lines (content t)) (sym same) h.taken;
     beside = then_nothing limit content follows follows_on t u v (operations_of h.lines) h.beside none;

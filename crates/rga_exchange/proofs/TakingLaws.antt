@@ -181,7 +181,7 @@ module _ {T : Type 0} (limit : T → ℕ) (content : T → Content) (follows : T
   then_nothing t u v ops first none = subst (λ os. follows t os v) (append-nil ops) (follows_on t u v ops [] first none)
 
   -- the taker's own limit may be another name of the same number
-  pub up_to_chain : (t u v : T) (n m k : ℕ) (a b w : List ℕ) → limit u ≡ limit t → TakesUpTo limit content follows t u n m a b → TakesUpTo limit content follows u v m k b w → TakesUpTo limit content follows t v n k a w
+  abbrev pub up_to_chain : (t u v : T) (n m k : ℕ) (a b w : List ℕ) → limit u ≡ limit t → TakesUpTo limit content follows t u n m a b → TakesUpTo limit content follows u v m k b w → TakesUpTo limit content follows t v n k a w
   up_to_chain t u v n m k a b w is s h = record {
     takes = takes_chain (limit t) n m k (content t) (content u) (content v) a b w s.takes (record {
       lines = h.takes.lines;

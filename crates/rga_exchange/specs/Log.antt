@@ -83,7 +83,8 @@ module _ {R T A E : Type 0} (remaining : R → Option (List ℕ)) (limit : T →
     pub outcome : result ≢ told (Err fault.Read) → result ≢ told (Err fault.Memory) → OnBytes remaining r (LeadsToAnswer t u)
     pub joined : OnOk result (OnBytes remaining r (λ bytes. content u ≡ join (content t) (content_of (log_operations bytes))))
     pub whole_lines : result ≡ told (Err fault.Read) → HasTakenWholeLines remaining limit content follows r s t u
-    -- whatever the fault, the first lines that were read were taken, and nothing else
+    -- whatever the fault, all lines that were whole before the last block were taken, the first of those that end in it,
+    -- and nothing else
     pub lines : OnErr result (HasTakenLines remaining limit content follows r s t u)
-    -- without one all operations were, to the end of the input, and nothing else
+    -- without one all operations were taken, to the end of the input, and nothing else
     pub log : OnOk result (HasTakenLog r s t u)

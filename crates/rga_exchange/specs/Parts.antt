@@ -49,11 +49,13 @@ module _ {R : Type 0} (remaining : R → Option (List ℕ)) (r s : Calls R) wher
   StopsReading (EndLine number) = EndsWithLastRead remaining r s
   StopsReading (Input bytes) = Unit {0}
 
--- what a reader gave, and what of it was taken
+-- What a reader gave, and what of it was taken: all lines that were whole before the last block, and then some more.
 module _ {R T : Type 0} (remaining : R → Option (List ℕ)) (limit : T → ℕ) (content : T → Content) (follows : T → List Op → T → Type 0) where
   pub record HasTakenOfRead (r s : Calls R) (t u : T) (n : ℕ) (waiting : List ℕ) : Type 0 where
     pub read : EndsWithLastRead remaining r s
     pub up_to : TakesUpTo limit content follows t u 0 n (read.before ++ read.last) waiting
+    pub begun : List (List ℕ)
+    pub whole_before : up_to.takes.lines ≡ lines_of read.before ++ begun
 
   -- the input was read to its end, all whole lines were taken, so many, and this rest is left
   pub record HasTakenAllBut (r s : Calls R) (t u : T) (n : ℕ) (left : List ℕ) : Type 0 where

@@ -1,5 +1,5 @@
 -- What comes of the lines of a stream that are taken in turn.
-use Rattle.std.specs.Prelude.{◌≡◌, ℕ, ◌+◌, nat_lt, if◌then◌else◌, List, [], ◌∷◌, ◌++◌, length, Option, Result, Ok, Err}
+use Rattle.std.specs.Prelude.{◌≡◌, ℕ, ◌+◌, ◌≤◌, nat_lt, if◌then◌else◌, List, [], ◌∷◌, ◌++◌, length, Option, Result, Ok, Err}
 use Rattle.std.specs.List.{AllByRecursion}
 use Rattle.std.specs.Io.KnownBytes.{Consumes}
 use Rattle.rga_ops.specs.Content.{Content, join, content_of}
@@ -13,6 +13,7 @@ use Rattle.rga_lines.specs.Stream.{lines_of, rest_of}
 use Rattle.rga_lines.specs.Log.{operations_of, IsOperation}
 use Rattle.rga_lines.specs.declared.reading.Line.TheVariants.{One, Last}
 use Rattle.rga_lines.specs.declared.fault.LineFault.TheVariants as line_fault
+use Rattle.rga_exchange.specs.declared.block.TheConstants.{BLOCK}
 use Rattle.rga_exchange.specs.declared.fault.LogFault.{LogFault}
 use Rattle.rga_exchange.specs.declared.fault.LogFault.TheVariants as fault
 
@@ -84,13 +85,18 @@ pub record AreTaken (limit : ℕ) (lines : List (List ℕ)) (c d : Content) : Ty
 -- Between two states of a reader, and of a taker, by their members: `follows` says what the taker keeps beside its
 -- content and its limit, by the operations that it took.
 module _ {R T : Type 0} (remaining : R → Option (List ℕ)) (limit : T → ℕ) (content : T → Content) (follows : T → List Op → T → Type 0) (r s : Calls R) (t u : T) where
-  -- the first lines of what the reader gave were taken, and nothing else
+  -- Of what the reader gave were taken all lines that were whole before the last block, the first ones of those that end
+  -- in it, and nothing else.
   pub record HasTakenLines : Type 0 where
-    pub bytes : List ℕ
-    pub read : Consumes (remaining r.inner) (remaining s.inner) bytes
+    pub before : List ℕ
+    pub block : List ℕ
+    pub read : Consumes (remaining r.inner) (remaining s.inner) (before ++ block)
+    pub one_block : length block ≤ BLOCK
     pub lines : List (List ℕ)
+    pub begun : List (List ℕ)
     pub later : List (List ℕ)
-    pub begins : lines_of bytes ≡ lines ++ later
+    pub whole_before : lines ≡ lines_of before ++ begun
+    pub begins : lines_of (before ++ block) ≡ lines ++ later
     pub taken : AreTaken (limit t) lines (content t) (content u)
     pub beside : follows t (operations_of lines) u
 

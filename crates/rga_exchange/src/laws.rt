@@ -8,7 +8,7 @@ ghost use Rattle.rga_lines.specs.Log.{stream_operations, log_operations, HasOnly
 ghost use Rattle.rga_lines.specs.Stream.{newline, lines_of, rest_of};
 ghost use Rattle.rga_exchange.specs.Sending.{log_text, exchange_lines, stream_text};
 ghost use Rattle.rga_exchange.specs.Sending.{AreWritable, StandsFor, GainsFirst};
-ghost use Rattle.rga_exchange.specs.Taking.{Stop, progress, lines_taken, stream_taken};
+ghost use Rattle.rga_exchange.specs.Taking.{Stop, progress, lines_taken, stream_taken, AreTaken};
 ghost use Rattle.rga_exchange.specs.Log.{log_outcome};
 ghost use Rattle.rga_exchange.specs.Receiving.{exchange_outcome};
 ghost use Rattle.rga_exchange.specs.Stops.{IsTakenUpTo, all_lines, HasNothingTorn};
@@ -70,6 +70,18 @@ pub fn streams_in_words()
         ↔ IsTakenUpTo limit c lines n d stop }
     ensures stream { (limit : ℕ) (c : Content) (bytes : List ℕ)
         → stream_taken limit c bytes ≡ lines_taken limit 0 c (all_lines bytes) }
+{}
+
+/// Where a taking ended early, for want of memory or by a device that failed, the first lines of
+/// what was read are taken. Then the same bytes from the start, whatever follows them, lead to the
+/// content and the answer to which they would have led at first.
+pub fn what_is_taken_again_changes_nothing()
+    ensures exchange { (limit : ℕ) (c d : Content) (bytes more : List ℕ)
+        (lines later : List (List ℕ)) → lines_of bytes ≡ lines ++ later → AreTaken limit lines c d
+        → exchange_outcome limit d (bytes ++ more) ≡ exchange_outcome limit c (bytes ++ more) }
+    ensures log { (limit : ℕ) (c d : Content) (bytes more : List ℕ)
+        (lines later : List (List ℕ)) → lines_of bytes ≡ lines ++ later → AreTaken limit lines c d
+        → log_outcome limit d (bytes ++ more) ≡ log_outcome limit c (bytes ++ more) }
 {}
 
 /// A log is read to its end with nothing torn off exactly where each line is an operation, the rest

@@ -39,7 +39,8 @@ pub struct LogRead {
 /// Faults, of which the first in the order of the lines is answered: `Line`, where an end line of
 /// an exchange is `Kind` and a rest of more than 65536 bytes is `Long`; `Refused`. `Read` and
 /// `Memory` come where the device fails and where a growth is refused. The lines before a fault
-/// stay taken.
+/// stay taken; with `Memory` these are all that were whole before the last read, and the first ones
+/// of those that it ended.
 pub fn take_log<T: Taker, R: Read>(
     alloc: Global,
     taker: &mut T,

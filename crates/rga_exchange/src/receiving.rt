@@ -21,7 +21,8 @@ use std::io::Read;
 /// than 65536 bytes is `Long`; `Refused`; `Cut`, where the input ends before an end line that a
 /// newline ends; `Count`, where the end line names another number than that of the lines before
 /// it. `Read` and `Memory` come where the device fails and where a growth is refused. The lines
-/// before a fault stay taken, and nothing behind the last newline ever is.
+/// before a fault stay taken; with `Memory` these are all that were whole before the last read, and
+/// the first ones of those that it ended. Nothing behind the last newline ever is.
 pub fn receive<T: Taker, R: Read>(
     alloc: Global,
     taker: &mut T,
@@ -43,7 +44,8 @@ pub fn receive<T: Taker, R: Read>(
 
     ensures whole_lines { result ≡ Err ReceiveFault.Read → HasTakenWholeLines
         R.remaining T.limit T.content T.follows reader.old reader.new taker.old taker.new }
-    // Whatever the answer, the first lines that were read were taken, and nothing else.
+    // Whatever the answer, all lines that were whole before the last block were taken, the first
+    // ones of those that end in it, and nothing else.
     ensures lines { HasTakenLines R.remaining T.limit T.content T.follows
         reader.old reader.new taker.old taker.new }
     ensures device { CountsAs ReceiveFault.Read result reader.old reader.new }

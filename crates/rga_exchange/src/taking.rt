@@ -43,7 +43,8 @@ pub(crate) fn take_stream<T: Taker, R: Read>(
     ensures fault { IfErr result (λ e. e ≢ ReadFailed → e ≢ Memory → OnBytes R.remaining reader.old
         (λ bytes. (n : ℕ) × LeadsTo T.limit T.content taker.old taker.new bytes n (AtFault e))) }
 
-    // Whatever the answer, the first lines that were read were taken, and nothing else.
+    // Whatever the answer, all lines that were whole before the last block were taken, the first
+    // ones of those that end in it, and nothing else.
     ensures lines { HasTakenLines R.remaining T.limit T.content T.follows
         reader.old reader.new taker.old taker.new }
     ensures whole_lines { IfErr result (λ e. e ≡ ReadFailed → HasTakenWholeLines

@@ -3,9 +3,10 @@
 //! A log or an exchange is a stream of bytes with one operation a line, each a JSON object (RFC
 //! 8259) of a few members; an exchange has one line more, which ends it. This crate says what a
 //! line means (`read_any`, `read_line`), writes lines (`write_line`, `write_end`), cuts a stream
-//! into its lines in whatever pieces it comes (`Splitter`), and bounds what a device is asked
-//! (`Counted`). It stands on `rga_ops` for the operations, on `serde_json` and `json` for the JSON,
-//! on `itoa` for the digits and on `memchr` for the ends of lines.
+//! into its lines in whatever pieces it comes (`Splitter`), bounds what a device is asked
+//! (`Counted`), and has a device fail on purpose (`Fuse`). It stands on `rga_ops` for the
+//! operations, on `serde_json` and `json` for the JSON, on `itoa` for the digits and on `memchr` for
+//! the ends of lines.
 //!
 //! The layer above may rest on the table of `specs/Table.antt`, which each line meets or is at
 //! fault by; on the one spelling of what is written, in `specs/Spelling.antt`; on the lines and the
@@ -16,6 +17,7 @@
 
 mod counted;
 mod fault;
+mod fuse;
 pub mod laws;
 mod lexed;
 mod members;
@@ -27,6 +29,7 @@ mod writing;
 
 pub use counted::{Counted, MAX_CALLS};
 pub use fault::LineFault;
+pub use fuse::Fuse;
 pub use reading::{Line, MAX_LINE, read_any, read_line};
 pub use splitter::Splitter;
 pub use writing::{write_end, write_line};

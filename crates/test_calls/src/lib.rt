@@ -1,9 +1,11 @@
-//! Calls of libraries that no program shows: devices that are counted, lines that are lent, writes in
-//! blocks, plans that no key leads to, values of settings, cursors that no window shows, frames and
-//! texts that are not flushed, saves over a port that refuses, and files over a disk that fails. Nothing
-//! stands on this crate, so nothing waits for its proof.
+//! Calls of libraries that no program shows: devices that are counted, exchanges that are cut off,
+//! lines that are lent, writes in blocks, plans that no key leads to, values of settings, cursors
+//! that no window shows, frames and texts that are not flushed, saves over a port that refuses, and
+//! files over a disk that fails. Nothing stands on this crate, so nothing waits for its proof.
 #![tactic(auto)]
 
+#[cfg(test)]
+mod cuts;
 #[cfg(test)]
 mod devices;
 #[cfg(test)]

@@ -1,0 +1,59 @@
+//! Exchanges that a device cuts off, and received again from the start.
+use rga_exchange::{ReceiveFault, receive};
+use rga_lines::{Counted, Fuse};
+use rga_store::{TextStore, TreeStore};
+use std::alloc::Global;
+use std::io::{Read, Result as IoResult};
+use test_fixtures::spells;
+
+/// An exchange of three insertions: three lines of 50 bytes, and the end line of 23.
+const ABC: &str = r#"{"char":"a","id":[1,1],"op":"ins","parent":[0,0]}
+{"char":"b","id":[2,1],"op":"ins","parent":[1,1]}
+{"char":"c","id":[3,1],"op":"ins","parent":[2,1]}
+{"count":3,"op":"end"}
+"#;
+
+/// A reader of bytes that gives at most 40 in a read.
+#[derive(Drop)]
+struct Pieces {
+    bytes: &'static [u8],
+}
+
+impl Read for Pieces {
+    fn read(&mut self, buf: &mut [u8]) -> IoResult<usize> {
+        let n = buf.len().min(40);
+        self.bytes.read(&mut buf[..n])
+    }
+}
+
+/// What is answered to the exchange by a reader that fails behind so many reads.
+fn answered(alloc: Global, store: &mut TreeStore, reads: u64) -> Result<u64, ReceiveFault> {
+    let bytes = ABC.as_bytes();
+    let mut reader = Counted::new(Fuse::new(Pieces { bytes }, reads));
+    receive(alloc, store, &mut reader)
+}
+
+fn shows(alloc: Global, store: &TreeStore, text: &str) -> bool {
+    match store.text(alloc) {
+        Ok(chars) => spells(&chars, text),
+        Err(_) => false,
+    }
+}
+
+/// Whether so many reads lead to this text and, if not all is read, to a fault of the device; and
+/// then the same bytes from the start to the whole text.
+fn goes_on(alloc: Global, reads: u64, text: &str) -> bool {
+    let Ok(mut store) = TreeStore::new(alloc, 10) else {
+        return false;
+    };
+    let first = answered(alloc, &mut store, reads);
+    let begun = first == Err(ReceiveFault::Read) && shows(alloc, &store, text);
+    begun && answered(alloc, &mut store, 5) == Ok(3) && shows(alloc, &store, "abc")
+}
+
+#[test]
+fn what_is_received_again_changes_nothing(rt: HostRuntime) {
+    for (reads, text) in [(0, ""), (1, ""), (2, "a"), (3, "ab"), (4, "abc")] {
+        assert!(rt; goes_on(rt.alloc(), reads, text), "{reads}");
+    }
+}
