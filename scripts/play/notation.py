@@ -115,7 +115,7 @@ def words_of(lines):
 
 
 def _word(line):
-    insertion = re.match(rb'\{"char":(".*"),"id":\[(\d+),(\d+)\],"op":"ins","parent":\[(\d+),(\d+)\]\}\n$', line)
+    insertion = re.match(rb'\{"char":("(?:[^"\\]|\\.)*"),"id":\[(\d+),(\d+)\],"op":"ins","parent":\[(\d+),(\d+)\]\}\n$', line)
     if insertion:
         sign = json.loads(insertion[1])
         written = {"\n": "\\n", " ": "\\s"}.get(sign) or written_of(sign.encode())

@@ -19,6 +19,15 @@ SECONDS = 60
 # The system's name of a process that waits for its first descriptor to be read from.
 WAITS_FOR_KEYS = "0 0x0 "
 
+# The calls that are noted, and how a scene names them.
+CHANGES = {"write": "write", "pwrite64": "write", "writev": "write", "fsync": "sync", "fdatasync": "sync"}
+CHANGES |= {"rename": "rename", "renameat": "rename", "renameat2": "rename", "link": "link", "linkat": "link"}
+
+# Of a line of strace the call and what it is about, where it was not refused; that begins with a file, or has names.
+NOTED = re.compile(r"^(?:\d+ +)?(\w+)\((.*)\) += \d", re.MULTILINE)
+OPENED = re.compile(r"\d+<(/[^>]*)>")
+NAMES = re.compile(r'"([^"]*)"')
+
 MODE_LINE = re.compile(r"(-\*\*-|----)Mg: (\S*) \(fund")
 
 
@@ -33,6 +42,7 @@ def start(command, folder, takes, memory=None, **pipes):
 
 
 def _confine(takes, memory):
+    os.umask(0o022)
     # A writing that goes too far is then refused, and kills nobody.
     signal.signal(signal.SIGXFSZ, signal.SIG_IGN)
     resource.setrlimit(resource.RLIMIT_FSIZE, limits(takes))
@@ -47,11 +57,36 @@ def failing(call, fault):
     return ["strace", "-D", *quiet, "-e", f"inject={call}:{how}={fault}"]
 
 
-@functools.cache
+def noting(path):
+    """Returns the words of a command under which the calls that change files, or wait for the device, are noted in a file."""
+    return ["strace", "-D", "-f", "-qq", "-y", "-o", path, "-e", f"trace={','.join(CHANGES)}"]
+
+
+def noted(path, folder):
+    """Returns the calls that were noted and not refused, as `write NAME` or `rename NAME NAME`, one behind the other.
+
+    What is written to no file is left out, and what is written to one in parts is one call.
+    """
+    calls = []
+    for name, about in NOTED.findall(pathlib.Path(path).read_text()):
+        of, opened = CHANGES[name], OPENED.match(about)
+        if of in ("rename", "link"):
+            calls.append(" ".join([of, *NAMES.findall(about)]))
+        elif opened and calls[-1:] != [call := f"{of} {os.path.relpath(opened[1], folder)}"]:
+            calls.append(call)
+    return calls
+
+
 def makes_calls_fail():
     """Whether there is a strace that may trace."""
+    return ends_well((*failing("getpid", "EIO"), "true"))
+
+
+@functools.cache
+def ends_well(command):
+    """Whether this machine can run a command, and it ends well."""
     try:
-        return not subprocess.run([*failing("getpid", "EIO"), "true"], capture_output=True).returncode
+        return not subprocess.run(command, capture_output=True).returncode
     except OSError:
         return False
 

@@ -42,6 +42,8 @@ class Person:
         self.takes = None
         # What the sessions run under: words of a command.
         self.under = []
+        # Where their calls are noted.
+        self.noted = None
         self.await_job()
 
     def await_job(self):
@@ -96,4 +98,7 @@ class Stage:
             session.kill()
         if self.peer:
             self.peer.end()
+        for person in self.people.values():
+            # It may be one that nobody may write.
+            os.chmod(person.folder, 0o700)
         shutil.rmtree(self.root)

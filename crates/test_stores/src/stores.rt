@@ -98,7 +98,7 @@ fn the_last_visible_element_is_found(rt: HostRuntime) {
 }
 
 /// Whether the store has this answer to each of the operations, and tells it before it takes them.
-fn answers(alloc: Global, store: &mut TreeStore, words: &str, answer: &str) -> bool {
+fn answers<S: TextStore>(alloc: Global, store: &mut S, words: &str, answer: &str) -> bool {
     match ops_of(alloc, words) {
         Ok(ops) => ops.as_slice().iter().all(|op| {
             prints(alloc, &answer_at(store, *op), answer)
@@ -130,6 +130,31 @@ fn each_operation_has_its_answer(rt: HostRuntime) -> Result<(), Fail> {
     }
     assert_eq!(rt; has_order_of_three(&store), Ok(true));
     Ok(())
+}
+
+/// Whether a store with room for three is filled by elements that wait: then it has no room for their
+/// parent, one of them can be deleted, and nothing is shown.
+fn is_filled_by_waiting_ones<S: TextStore>(alloc: Global) -> Result<bool, Refusal> {
+    let mut store = S::new(alloc, 3)?;
+    for (words, answer) in &[
+        ("p5.1<4.1 q6.1<4.1 r7.1<4.1", "Ok(New)"),
+        ("s4.1<0.0", "Err(Full)"),
+        ("-4.1", "Err(Full)"),
+        ("-5.1", "Ok(New)"),
+    ] {
+        if !answers(alloc, &mut store, words, answer) {
+            return Ok(false);
+        }
+    }
+    Ok(shows(alloc, &store, "") && store.waiting_count() == Ok(3))
+}
+
+#[test]
+fn elements_that_wait_fill_a_store(rt: HostRuntime) {
+    assert_eq!(rt;
+        is_filled_by_waiting_ones::<TreeStore>(rt.alloc()),
+        Ok(true)
+    );
 }
 
 /// Whether the elements of the store are (1, 1), (2, 1) and (3, 1), in this order.

@@ -16,7 +16,7 @@ pub fn store_of(alloc: Global, limit: usize, words: &str) -> Result<TreeStore, R
 }
 
 /// Whether the text of the store is this one.
-pub fn shows(alloc: Global, store: &TreeStore, text: &str) -> bool {
+pub fn shows<S: TextStore>(alloc: Global, store: &S, text: &str) -> bool {
     match store.text(alloc) {
         Ok(chars) => chars.as_slice().iter().copied().eq(text.chars()),
         Err(_) => false,

@@ -2,6 +2,7 @@
 
 import os
 import pathlib
+import shutil
 import subprocess
 
 from play.notation import lines_of, text_of, words_of, written_of
@@ -84,6 +85,17 @@ def rights(stage, about):
 
 
 @word
+def owner(stage, about):
+    """The same of its owner: `owner NAME USER`. Root alone can give a file to another."""
+    name, user = about.split()
+    path = pathlib.Path(stage.path(name))
+    if stage.person.has_begun:
+        stage.compare(user, path.owner())
+    else:
+        shutil.chown(path, user)
+
+
+@word
 def move(stage, about):
     old, new = about.split()
     os.rename(stage.path(old), stage.path(new))
@@ -94,6 +106,20 @@ def link(stage, about):
     """`link NEW OLD` makes a symbolic link."""
     new, old = about.split()
     os.symlink(old, stage.path(new))
+
+
+@word
+def twin(stage, about):
+    """`twin NEW OLD` gives a file a second name."""
+    new, old = map(stage.path, about.split())
+    os.link(old, new)
+
+
+@word
+def dated(stage, about):
+    """`dated NAME SECONDS` gives a file the time of its last change."""
+    name, seconds = about.split()
+    os.utime(stage.path(name), (int(seconds), int(seconds)))
 
 
 @word

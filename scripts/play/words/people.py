@@ -1,12 +1,18 @@
 """Who does something: sessions, their keys, and their ends."""
 
+import os
 import pathlib
 import resource
+import shutil
 
 from play.notation import Unreadable, keys_of, text_of
-from play.programs import Session, Unexpected, failing, limits, makes_calls_fail
+from play.programs import Session, Unexpected, ends_well, failing, limits, makes_calls_fail, noted, noting
 from play.stage import LeftOut
 from play.words.table import word
+
+# An ordinary user and a group, and the words of a command that are in front of one of hers.
+NOBODY, NOGROUP = "nobody", "nogroup"
+AS_NOBODY = ["setpriv", f"--reuid={NOBODY}", f"--regid={NOGROUP}", "--clear-groups"]
 
 
 @word
@@ -51,6 +57,44 @@ def fails(stage, about):
     if not makes_calls_fail():
         raise LeftOut("there is no strace that may trace")
     stage.person.under = failing(*about.split())
+
+
+@word
+def notes(stage, about):
+    """`notes calls`: from here on the calls by which a session changes files are noted."""
+    if about != "calls":
+        raise Unreadable(f"{about} are not noted")
+    if not makes_calls_fail():
+        raise LeftOut("there is no strace that may trace")
+    stage.person.noted = f"{stage.person.folder}.calls"
+    stage.person.under = noting(stage.person.noted)
+
+
+@word
+def calls(stage, about):
+    """All that the session did to files so far: `calls write NAME, sync NAME, rename OLD NEW, link OLD NEW`."""
+    seen(stage)
+    stage.compare(about, ", ".join(noted(stage.person.noted, stage.person.folder)))
+
+
+@word
+def ordinary(stage, about):
+    """From here on sessions are an ordinary user's, whom rights bind, and so are the files that are there."""
+    if os.getuid():
+        return
+    if not ends_well((*AS_NOBODY, str(stage.mgr), "--version")):
+        raise LeftOut("root can't have an ordinary user run mgr")
+    os.chmod(stage.root, 0o711)
+    for path in (stage.person.folder, *stage.person.folder.iterdir()):
+        shutil.chown(path, NOBODY, NOGROUP)
+    stage.person.under = AS_NOBODY
+
+
+@word
+def root(stage, about):
+    """Who plays this is bound by no rights."""
+    if os.getuid():
+        raise LeftOut("root alone is bound by no rights")
 
 
 @word
