@@ -8,12 +8,11 @@
 //! `undo-all` undoes that too; `take` has the buffer take an operation of another replica, and
 //! `store` its store alone. The number is how many identifiers are known in the end.
 use crate::fault::Fault;
-use crate::text::{number_at, paragraph};
+use crate::text::{document, number_at, paragraph};
 use mg_buffer::{Buffer, BufferFault, Memo};
 use mg_plain::{Chars, Command};
-use rga_doc::Doc;
 use rga_ops::{Id, Op, Refusal};
-use rga_store::{MAX_LIMIT, Taker, TextStore, TreeStore};
+use rga_store::{Taker, TextStore, TreeStore};
 use std::alloc::Global;
 
 /// The column to which nothing is filled here.
@@ -75,60 +74,75 @@ pub fn outcome(alloc: Global, words: &[String]) -> Result<usize, Fault> {
     let known = match task.work {
         Work::Kill => made_again(alloc, &task, KILLS)?,
         Work::Make => made_again(alloc, &task, 0)?,
+        Work::Store => taken_again(alloc, &task)?,
         _ => done_again(alloc, &task)?,
     };
     Ok(known)
 }
 
-fn document(alloc: Global, size: usize) -> Result<Doc<TreeStore>, Refusal> {
-    let text = paragraph(alloc, size)?;
-    let mut doc = Doc::new(alloc, TreeStore::new(alloc, MAX_LIMIT)?, 1)?;
-    let _ops = doc.splice(0, 0, &text)?;
-    Ok(doc)
+/// A buffer of so many characters.
+fn buffer_of(alloc: Global, size: usize) -> Result<Buffer<TreeStore>, Refusal> {
+    let doc = document(alloc, &paragraph(alloc, size)?)?;
+    Ok(Buffer::new(alloc, doc, String::new(alloc), Vec::new(alloc)))
 }
 
 /// Makes a buffer so many times, and kills so many lines in each.
 fn made_again(alloc: Global, task: &Task, kills: usize) -> Result<usize, BufferFault> {
     let mut known = 0;
     for _ in 0..task.times {
-        let doc = document(alloc, task.size)?;
-        let mut buffer = Buffer::new(alloc, doc, String::new(alloc), Vec::new(alloc));
-        let mut memo = Memo::new(alloc);
-        kill_lines(&mut buffer, &mut memo, kills)?;
-        known = buffer.store().known();
+        known = made_once(alloc, task.size, kills)?;
     }
     Ok(known)
+}
+
+fn made_once(alloc: Global, size: usize, kills: usize) -> Result<usize, BufferFault> {
+    let mut buffer = buffer_of(alloc, size)?;
+    kill_lines(&mut buffer, &mut Memo::new(alloc), kills)
 }
 
 fn kill_lines(
     buffer: &mut Buffer<TreeStore>,
     memo: &mut Memo,
     kills: usize,
-) -> Result<(), BufferFault> {
+) -> Result<usize, BufferFault> {
     buffer.list()?;
     for _ in 0..kills {
-        run(buffer, memo, &Command::KillLine)?;
-        run(buffer, memo, &Command::NextLine)?;
+        run(buffer, memo, Command::KillLine)?;
+        run(buffer, memo, Command::NextLine)?;
     }
-    Ok(())
+    Ok(buffer.store().known())
+}
+
+/// Has a store of so many characters take so many insertions.
+fn taken_again(alloc: Global, task: &Task) -> Result<usize, Refusal> {
+    let mut store = store_of(alloc, task.size)?;
+    take(&mut store, task.times)?;
+    Ok(store.known())
+}
+
+fn store_of(alloc: Global, size: usize) -> Result<TreeStore, Refusal> {
+    let buffer = buffer_of(alloc, size)?;
+    buffer.store().copy()
 }
 
 /// Makes a buffer, and does the work in it again and again.
 fn done_again(alloc: Global, task: &Task) -> Result<usize, BufferFault> {
-    let doc = document(alloc, task.size)?;
-    if let Work::Store = task.work {
-        let mut store = doc.store().copy()?;
-        take(&mut store, task.times)?;
-        return Ok(store.known());
-    }
-    let mut buffer = Buffer::new(alloc, doc, String::new(alloc), Vec::new(alloc));
-    let mut memo = Memo::new(alloc);
-    go_to(alloc, &mut buffer, &mut memo, task.size / 2)?;
+    let mut buffer = buffer_of(alloc, task.size)?;
+    do_again(alloc, &mut buffer, &mut Memo::new(alloc), task)
+}
+
+fn do_again(
+    alloc: Global,
+    buffer: &mut Buffer<TreeStore>,
+    memo: &mut Memo,
+    task: &Task,
+) -> Result<usize, BufferFault> {
+    go_to(alloc, buffer, memo, task.size / 2)?;
     if let Work::Take = task.work {
-        take(&mut buffer, task.times)?;
+        take(buffer, task.times)?;
     } else {
         for _ in 0..task.times {
-            do_once(task.work, &mut buffer, &mut memo)?;
+            do_once(task.work, buffer, memo)?;
         }
     }
     Ok(buffer.store().known())
@@ -148,45 +162,47 @@ fn go_to(
 fn do_once(work: Work, buffer: &mut Buffer<TreeStore>, memo: &mut Memo) -> Result<(), BufferFault> {
     buffer.list()?;
     match work {
-        Work::Insert => run(buffer, memo, &Command::Insert('a'))?,
+        Work::Insert => run(buffer, memo, Command::Insert('a')),
         Work::Motion => {
-            run(buffer, memo, &Command::ForwardChar)?;
-            run(buffer, memo, &Command::BackwardChar)?;
+            run(buffer, memo, Command::ForwardChar)?;
+            run(buffer, memo, Command::BackwardChar)
         }
         Work::KillLine => {
-            run(buffer, memo, &Command::KillLine)?;
-            run(buffer, memo, &Command::Yank)?;
-            run(buffer, memo, &Command::BeginningOfLine)?;
+            run(buffer, memo, Command::KillLine)?;
+            run(buffer, memo, Command::Yank)?;
+            run(buffer, memo, Command::BeginningOfLine)
         }
-        Work::UndoLine => {
-            run(buffer, memo, &Command::KillLine)?;
-            undo(buffer, memo)?;
-            buffer.idle(memo);
-        }
-        Work::UndoInsert => {
-            run(buffer, memo, &Command::Insert('a'))?;
-            undo(buffer, memo)?;
-            buffer.idle(memo);
-        }
-        Work::KillAll => kill_all(buffer, memo)?,
+        Work::UndoLine => run_and_undo(buffer, memo, Command::KillLine),
+        Work::UndoInsert => run_and_undo(buffer, memo, Command::Insert('a')),
+        Work::KillAll => kill_all(buffer, memo),
         Work::UndoAll => {
             kill_all(buffer, memo)?;
-            buffer.undo(memo)?;
+            buffer.undo(memo)
         }
-        Work::Take | Work::Store | Work::Kill | Work::Make => {}
+        Work::Take | Work::Store | Work::Kill | Work::Make => Ok(()),
     }
-    Ok(())
 }
 
 /// Runs a command, and looks at the view.
 fn run(
     buffer: &mut Buffer<TreeStore>,
     memo: &mut Memo,
-    command: &Command,
+    command: Command,
 ) -> Result<(), BufferFault> {
-    buffer.run(command, 1, memo, FILL)?;
+    buffer.run(&command, 1, memo, FILL)?;
     buffer.list()?;
     let _place = buffer.view(memo).point;
+    Ok(())
+}
+
+fn run_and_undo(
+    buffer: &mut Buffer<TreeStore>,
+    memo: &mut Memo,
+    command: Command,
+) -> Result<(), BufferFault> {
+    run(buffer, memo, command)?;
+    undo(buffer, memo)?;
+    buffer.idle(memo);
     Ok(())
 }
 

@@ -19,17 +19,19 @@ pub fn outcome(alloc: Global, words: &[String]) -> Result<usize, Fault> {
     let Some(command) = command_of(alloc, name.as_str())? else {
         return Err(Fault::Words);
     };
-    let text = paragraph(alloc, size)?;
-    let view = View {
-        text: text.as_slice(),
-        point: point_of(&command, size).min(text.as_slice().len()),
+    Ok(planned(alloc, &command, size, times)?)
+}
+
+/// The view of a text with point at a place, or at its end.
+fn view_of(text: &[char], point: usize) -> View<'_> {
+    View {
+        text,
+        point: point.min(text.len()),
         mark: None,
         kill: &[],
         goal: 0,
         last: Kind::Plain,
-    };
-    let sum = planned(alloc, &command, times, &view)?;
-    Ok(sum)
+    }
 }
 
 /// The command of that name. The search is for what the text does not hold, and what is replaced is
@@ -66,7 +68,13 @@ fn point_of(command: &Command, size: usize) -> usize {
     }
 }
 
-fn planned(
+fn planned(alloc: Global, command: &Command, size: usize, times: usize) -> Result<usize, Notice> {
+    let text = paragraph(alloc, size)?;
+    let view = view_of(&text, point_of(command, size));
+    plan_again(alloc, command, times, &view)
+}
+
+fn plan_again(
     alloc: Global,
     command: &Command,
     times: usize,

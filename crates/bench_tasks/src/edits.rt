@@ -6,10 +6,10 @@
 //! changes in one edit; `revert` deletes all of the text and reverts that. The number is how many
 //! elements there are in the end.
 use crate::fault::Fault;
-use crate::text::number_at;
+use crate::text::{document, number_at};
 use rga_doc::{Doc, Splice};
 use rga_ops::{Id, Op, Refusal};
-use rga_store::{MAX_LIMIT, Taker, TextStore, TreeStore};
+use rga_store::{Taker, TextStore, TreeStore};
 use std::alloc::Global;
 
 type Document = Doc<TreeStore>;
@@ -42,9 +42,20 @@ pub fn outcome(alloc: Global, words: &[String]) -> Result<usize, Fault> {
     let Some(work) = work_of(words) else {
         return Err(Fault::Words);
     };
-    let mut doc = document(alloc, number_at(words, 3)?)?;
-    for _ in 0..number_at(words, 4)? {
-        do_once(alloc, &mut doc, work)?;
+    let (size, times) = (number_at(words, 3)?, number_at(words, 4)?);
+    Ok(done_again(alloc, work, size, times)?)
+}
+
+/// Makes a document, and does the work with it again and again.
+fn done_again(alloc: Global, work: Work, size: usize, times: usize) -> Result<usize, Refusal> {
+    let mut doc = document_of(alloc, size)?;
+    do_again(alloc, &mut doc, work, times)
+}
+
+fn do_again(alloc: Global, doc: &mut Document, work: Work, times: usize) -> Result<usize, Refusal> {
+    doc.list()?;
+    for _ in 0..times {
+        do_once(alloc, doc, work)?;
     }
     Ok(doc.store().known())
 }
@@ -65,14 +76,11 @@ fn do_once(alloc: Global, doc: &mut Document, work: Work) -> Result<(), Refusal>
     }
 }
 
-/// A document of so many characters, put in at once.
-fn document(alloc: Global, size: usize) -> Result<Document, Refusal> {
+/// A document of so many characters.
+fn document_of(alloc: Global, size: usize) -> Result<Document, Refusal> {
     let mut chars = Vec::new(alloc);
     chars.resize(size, 'a')?;
-    let mut doc = Doc::new(alloc, TreeStore::new(alloc, MAX_LIMIT)?, 1)?;
-    let _ops = doc.splice(0, 0, &chars)?;
-    doc.list()?;
-    Ok(doc)
+    document(alloc, &chars)
 }
 
 /// Puts a letter in the middle, and asks for the anchor behind it and for the text.
@@ -119,12 +127,23 @@ fn change(alloc: Global, doc: &mut Document) -> Result<(), Refusal> {
 
 /// Deletes all of the text, and reverts that.
 fn revert(alloc: Global, doc: &mut Document) -> Result<(), Refusal> {
-    let text = doc.text()?;
-    let deletions = doc.splice(0, text.as_slice().len(), &[])?;
-    let mut back = Vec::with_capacity(alloc, text.as_slice().len())?;
-    for (op, ch) in deletions.iter().zip(text.iter()) {
-        back.push((op.id(), *ch))?;
-    }
+    let back = deleted(alloc, doc)?;
     let _ops = doc.revert(&[], &back)?;
     doc.list()
+}
+
+/// Deletes all of the text. What was deleted.
+fn deleted(alloc: Global, doc: &mut Document) -> Result<Vec<(Id, char)>, Refusal> {
+    let text = doc.text()?;
+    let deletions = doc.splice(0, text.as_slice().len(), &[])?;
+    pairs(alloc, &deletions, &text)
+}
+
+/// The identifiers of the operations, each with its character.
+fn pairs(alloc: Global, ops: &[Op], text: &[char]) -> Result<Vec<(Id, char)>, Refusal> {
+    let mut pairs = Vec::with_capacity(alloc, text.len())?;
+    for (op, ch) in ops.iter().zip(text) {
+        pairs.push((op.id(), *ch))?;
+    }
+    Ok(pairs)
 }

@@ -21,27 +21,23 @@ pub fn outcome(rt: &HostRuntime, words: &[String]) -> Result<Option<u64>, Fault>
     let Some(work) = words.get(2) else {
         return Err(Fault::Words);
     };
-    let alloc = rt.alloc();
     let mut reader = Counted::new(rt.reader());
     match work.as_str() {
-        "bytes" => Ok(Some(bytes(&mut reader)?)),
-        "read" => Ok(Some(store_of(alloc, &mut reader)?.known() as u64)),
-        "receive" => {
-            let mut store = TreeStore::new(alloc, MAX_LIMIT)?;
-            Ok(Some(receive(alloc, &mut store, &mut reader)?))
-        }
-        "write" => {
-            let times = number_at(words, 3)?;
-            let store = store_of(alloc, &mut reader)?;
-            write(alloc, &store, times, &mut Counted::new(writer(rt)))?;
+        "write" | "send" => {
+            let (sends, times) = (work.as_str() == "send", number_at(words, 3)?);
+            let mut writer = Counted::new(writer(rt));
+            write_again(rt.alloc(), sends, times, &mut reader, &mut writer)?;
             Ok(None)
         }
-        "send" => {
-            let times = number_at(words, 3)?;
-            let store = store_of(alloc, &mut reader)?;
-            send_store(alloc, &store, times, &mut Counted::new(writer(rt)))?;
-            Ok(None)
-        }
+        _ => Ok(Some(counted(rt.alloc(), work.as_str(), &mut reader)?)),
+    }
+}
+
+fn counted<R: Read>(alloc: Global, work: &str, reader: &mut Counted<R>) -> Result<u64, Fault> {
+    match work {
+        "bytes" => bytes(reader),
+        "read" => Ok(store_of(alloc, reader)?.known() as u64),
+        "receive" => received(alloc, reader),
         _ => Err(Fault::Words),
     }
 }
@@ -65,6 +61,27 @@ fn store_of<R: Read>(alloc: Global, reader: &mut Counted<R>) -> Result<TreeStore
     let mut store = TreeStore::new(alloc, MAX_LIMIT)?;
     let _end = read_log(alloc, &mut store, reader)?;
     Ok(store)
+}
+
+/// How many operations the exchange has.
+fn received<R: Read>(alloc: Global, reader: &mut Counted<R>) -> Result<u64, Fault> {
+    let mut store = TreeStore::new(alloc, MAX_LIMIT)?;
+    Ok(receive(alloc, &mut store, reader)?)
+}
+
+/// Sends or writes the store of a log so many times.
+fn write_again<R: Read, W: Write>(
+    alloc: Global,
+    sends: bool,
+    times: usize,
+    reader: &mut Counted<R>,
+    writer: &mut Counted<W>,
+) -> Result<(), Fault> {
+    let store = store_of(alloc, reader)?;
+    if sends {
+        return send_store(alloc, &store, times, writer);
+    }
+    write(alloc, &store, times, writer)
 }
 
 /// Writes the operations of the store so many times.

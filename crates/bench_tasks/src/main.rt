@@ -24,7 +24,11 @@ fn main(rt: HostRuntime) -> io::Result<ExitCode> {
         eprintln!(rt; "out of memory")?;
         return Ok(ExitCode::FAILURE);
     };
-    match outcome(&rt, &words) {
+    print(&rt, outcome(&rt, &words))
+}
+
+fn print(rt: &HostRuntime, outcome: Result<Option<u64>, Fault>) -> io::Result<ExitCode> {
+    match outcome {
         Ok(Some(count)) => println!(rt; "{count}")?,
         Ok(None) => {}
         Err(fault) => {

@@ -1,5 +1,8 @@
-//! The words that say a number, and texts.
+//! The words that say a number, texts, and documents.
 use crate::fault::Fault;
+use rga_doc::Doc;
+use rga_ops::Refusal;
+use rga_store::{MAX_LIMIT, TextStore, TreeStore};
 use std::alloc::{AllocError, Global};
 
 /// The number that the word at an index says.
@@ -45,4 +48,11 @@ pub fn lines(alloc: Global, line: usize, size: usize) -> Result<Vec<char>, Alloc
         }
     }
     Ok(text)
+}
+
+/// A document with this text, put in at once.
+pub fn document(alloc: Global, text: &[char]) -> Result<Doc<TreeStore>, Refusal> {
+    let mut doc = Doc::new(alloc, TreeStore::new(alloc, MAX_LIMIT)?, 1)?;
+    let _ops = doc.splice(0, 0, text)?;
+    Ok(doc)
 }

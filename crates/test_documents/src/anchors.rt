@@ -1,43 +1,59 @@
 //! Anchors, at the ends of a text and while others edit.
-use crate::documents::{AB, ABC, Document, document, shows, takes};
+use crate::documents::{AB, ABC, Document, document, shows, take};
 use rga_doc::Anchor;
 use rga_ops::{Id, Refusal};
 use std::alloc::Global;
 use test_fixtures::id;
 
 /// Whether the anchor of the place is this element.
-fn is_anchored(doc: &Document, place: usize, answer: Result<Id, Refusal>) -> bool {
+pub fn is_anchored(doc: &Document, place: usize, answer: Result<Id, Refusal>) -> bool {
     match doc.anchor_at(place) {
         Ok(anchor) => Ok(anchor.element) == answer,
         Err(refusal) => Err(refusal) == answer,
     }
 }
 
-/// Whether the anchor that is this element is at this place once the document took the operations
-/// that the words say.
-fn moves_to(alloc: Global, doc: &mut Document, words: &str, element: Id, place: usize) -> bool {
-    takes(alloc, doc, words, Ok(())) && doc.place(Anchor { element }) == Ok(place)
+/// The place of the anchor that is the element with this counter and replica.
+pub fn place_of(doc: &Document, counter: u64, replica: u16) -> Result<usize, Refusal> {
+    let element = id(counter, replica)?;
+    doc.place(Anchor { element })
+}
+
+/// Whether the anchor that is the element (2, 1) is at this place once the document took the
+/// operations that the words say.
+fn moves_to(alloc: Global, doc: &mut Document, words: &str, place: usize) -> bool {
+    take(alloc, doc, words) == Ok(()) && place_of(doc, 2, 1) == Ok(place)
+}
+
+fn is_kept(alloc: Global) -> bool {
+    match document(alloc, (1, 100, ABC)) {
+        Ok(mut doc) => {
+            is_anchored(&doc, 2, id(2, 1))
+                && moves_to(alloc, &mut doc, "-2.1", 1)
+                && moves_to(alloc, &mut doc, "x4.2<1.1", 2)
+                && shows(&doc, "axc")
+        }
+        Err(_) => false,
+    }
 }
 
 #[test]
 fn anchor_keeps_its_place_under_remote_edits(rt: HostRuntime) {
-    let element = id(2, 1).expect(&rt, "an element");
-    let mut doc = document(rt.alloc(), 1, 100, ABC).expect(&rt, "a document");
-    assert!(rt; is_anchored(&doc, 2, Ok(element)));
-    for (words, place) in [("-2.1", 1), ("x4.2<1.1", 2)] {
-        assert!(rt;
-            moves_to(rt.alloc(), &mut doc, words, element, place),
-            "{words}"
-        );
+    assert!(rt; is_kept(rt.alloc()));
+}
+
+fn has_ends(alloc: Global) -> bool {
+    match document(alloc, (1, 100, AB)) {
+        Ok(doc) => {
+            is_anchored(&doc, 0, Ok(Id::ROOT))
+                && is_anchored(&doc, 3, Err(Refusal::Range))
+                && place_of(&doc, 9, 9) == Err(Refusal::Range)
+        }
+        Err(_) => false,
     }
-    assert!(rt; shows(&doc, "axc"));
 }
 
 #[test]
 fn anchors_at_the_ends(rt: HostRuntime) {
-    let absent = id(9, 9).expect(&rt, "an element");
-    let doc = document(rt.alloc(), 1, 100, AB).expect(&rt, "a document");
-    assert!(rt; is_anchored(&doc, 0, Ok(Id::ROOT)));
-    assert!(rt; is_anchored(&doc, 3, Err(Refusal::Range)));
-    assert!(rt; doc.place(Anchor { element: absent }) == Err(Refusal::Range));
+    assert!(rt; has_ends(rt.alloc()));
 }

@@ -17,4 +17,6 @@ mod merging;
 #[cfg(test)]
 mod reverts;
 #[cfg(test)]
+mod steps;
+#[cfg(test)]
 mod taking;

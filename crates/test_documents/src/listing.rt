@@ -1,7 +1,7 @@
 //! The listed elements and characters of a document, and what is asked of them.
+use crate::anchors::{is_anchored, place_of};
 use crate::documents::{AB, ABC, Document, document, shows};
 use crate::local_edits::letters;
-use rga_doc::Anchor;
 use rga_ops::{Id, Op, Refusal};
 use rga_store::{Taker, TextStore};
 use std::alloc::Global;
@@ -52,8 +52,7 @@ fn elements_between(
     Ok(pairs)
 }
 
-/// What stands between two places deleted, and brought back behind another replica's insertion; and
-/// the same by a draft.
+/// What stands between two places deleted, and brought back behind another replica's insertion.
 fn delete_and_restore(
     alloc: Global,
     doc: &mut Document,
@@ -65,6 +64,16 @@ fn delete_and_restore(
     insert_remotely(doc, lo)?;
     doc.list()?;
     let _restored = doc.revert(&[], &back)?;
+    Ok(())
+}
+
+/// What stands between two places deleted, and brought back by a draft.
+fn delete_and_draft(
+    alloc: Global,
+    doc: &mut Document,
+    lo: usize,
+    hi: usize,
+) -> Result<(), Refusal> {
     let back = elements_between(alloc, doc, lo, hi)?;
     let _deleted = doc.splice(lo, hi, &[])?;
     let ops = doc.draft_revert(&[], &back)?;
@@ -85,7 +94,10 @@ fn edit(alloc: Global, doc: &mut Document, number: u64) -> Result<(), Refusal> {
             Ok(())
         }
         3 => put_two(alloc, doc, lo, hi),
-        4 => delete_and_restore(alloc, doc, lo, hi),
+        4 => {
+            delete_and_restore(alloc, doc, lo, hi)?;
+            delete_and_draft(alloc, doc, lo, hi)
+        }
         _ => {
             let _ops = doc.splice(lo, hi, &['x', 'y'])?;
             Ok(())
@@ -109,14 +121,17 @@ fn stays_true(alloc: Global, doc: &mut Document, seed: u64) -> Result<bool, Refu
     Ok(true)
 }
 
+fn starts_and_stays_true(alloc: Global, seed: u64) -> bool {
+    match document(alloc, (1, 1000, AB)) {
+        Ok(mut doc) => stays_true(alloc, &mut doc, seed) == Ok(true),
+        Err(_) => false,
+    }
+}
+
 #[test]
 fn list_stays_the_text_of_the_store(rt: HostRuntime) {
-    for seed in &[1, 2, 3] {
-        let mut doc = document(rt.alloc(), 1, 1000, AB).expect(&rt, "a document");
-        assert!(rt;
-            stays_true(rt.alloc(), &mut doc, *seed) == Ok(true),
-            "{seed}"
-        );
+    for seed in 1..4 {
+        assert!(rt; starts_and_stays_true(rt.alloc(), seed), "{seed}");
     }
 }
 
@@ -129,14 +144,21 @@ fn element_at(doc: &mut Document, place: usize) -> Result<Id, Refusal> {
     Ok(doc.listed_anchor(place).element)
 }
 
+fn agrees_with_the_list(alloc: Global) -> bool {
+    match document(alloc, (1, 100, ABC)) {
+        Ok(mut doc) => {
+            element_at(&mut doc, 2) == id(2, 1)
+                && place_of(&doc, 2, 1) == Ok(2)
+                && is_anchored(&doc, 4, Err(Refusal::Range))
+                && shows(&doc, "abc")
+        }
+        Err(_) => false,
+    }
+}
+
 #[test]
 fn anchors_by_the_list(rt: HostRuntime) {
-    let element = id(2, 1).expect(&rt, "an element");
-    let mut doc = document(rt.alloc(), 1, 100, ABC).expect(&rt, "a document");
-    assert!(rt; element_at(&mut doc, 2) == Ok(element));
-    assert!(rt; doc.place(Anchor { element }) == Ok(2));
-    assert!(rt; doc.anchor_at(4).err() == Some(Refusal::Range));
-    assert!(rt; shows(&doc, "abc"));
+    assert!(rt; agrees_with_the_list(rt.alloc()));
 }
 
 /// Whether a document lists these characters once two letters were put in.
@@ -146,9 +168,18 @@ fn lists(alloc: Global, doc: &mut Document, expected: &str) -> Result<bool, Refu
     Ok(spells(doc.characters(), expected))
 }
 
+/// Whether two letters are put in, and no two more.
+fn takes_one_draft(alloc: Global) -> bool {
+    match document(alloc, (1, 4, AB)) {
+        Ok(mut doc) => {
+            lists(alloc, &mut doc, "acbd") == Ok(true)
+                && lists(alloc, &mut doc, "") == Err(Refusal::Full)
+        }
+        Err(_) => false,
+    }
+}
+
 #[test]
 fn draft_is_taken(rt: HostRuntime) {
-    let mut doc = document(rt.alloc(), 1, 4, AB).expect(&rt, "a document");
-    assert!(rt; lists(rt.alloc(), &mut doc, "acbd") == Ok(true));
-    assert!(rt; lists(rt.alloc(), &mut doc, "") == Err(Refusal::Full));
+    assert!(rt; takes_one_draft(rt.alloc()));
 }

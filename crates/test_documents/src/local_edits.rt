@@ -1,45 +1,23 @@
 //! Splices by place, as a user meets them: the operations that they answer, and the text then.
-use crate::documents::{AB, ABC, Document, are, document, shows, splice};
+use crate::documents::{AB, ABC, Document, document, shows, splice};
+use crate::steps::{Step, answers, walk};
 use rga_ops::{Op, Refusal, Splice};
 use rga_store::TextStore;
 use std::alloc::Global;
 
-/// Whether a splice is answered by the operations that the words say.
-fn answers(
-    alloc: Global,
-    doc: &mut Document,
-    range: (usize, usize),
-    put: &str,
-    words: &str,
-) -> bool {
-    are(alloc, splice(alloc, doc, range, put), words)
-}
-
-/// Whether a splice is refused so.
-fn refuses(
-    alloc: Global,
-    doc: &mut Document,
-    range: (usize, usize),
-    put: &str,
-    refusal: Refusal,
-) -> bool {
-    splice(alloc, doc, range, put).err() == Some(refusal)
-}
-
 #[test]
 fn used_up_clock_allows_deletions_alone(rt: HostRuntime) {
-    let mut doc = document(rt.alloc(), 1, 100, "z9007199254740991.2<0.0").expect(&rt, "a document");
-    assert!(rt; refuses(rt.alloc(), &mut doc, (1, 1), "q", Refusal::Clock));
-    assert!(rt; shows(&doc, "z"));
-    assert!(rt; answers(rt.alloc(), &mut doc, (0, 1), "", "-9007199254740991.2"));
-    assert!(rt; shows(&doc, ""));
+    let steps = [
+        (Step::Splice((1, 1), "q"), "Clock", "z"),
+        (Step::Splice((0, 1), ""), "-9007199254740991.2", ""),
+    ];
+    walk(&rt, rt.alloc(), (1, 100, "z9007199254740991.2<0.0"), &steps);
 }
 
 #[test]
 fn clock_goes_on_from_a_deletion(rt: HostRuntime) {
-    let mut doc = document(rt.alloc(), 1, 100, "-7.1").expect(&rt, "a document");
-    assert!(rt; answers(rt.alloc(), &mut doc, (0, 0), "q", "q8.1<0.0"));
-    assert!(rt; shows(&doc, "q"));
+    let steps = [(Step::Splice((0, 0), "q"), "q8.1<0.0", "q")];
+    walk(&rt, rt.alloc(), (1, 100, "-7.1"), &steps);
 }
 
 /// One letter at each of the places.
@@ -58,7 +36,7 @@ pub fn letters(alloc: Global, places: [(usize, char); 2]) -> Result<Vec<Splice>,
 }
 
 /// What a document answers to one letter at each of the places.
-fn put_letters(
+pub fn put_letters(
     alloc: Global,
     doc: &mut Document,
     places: [(usize, char); 2],
@@ -69,28 +47,40 @@ fn put_letters(
 
 #[test]
 fn splices_of_falling_places_and_of_rising_ones(rt: HostRuntime) {
-    let mut doc = document(rt.alloc(), 1, 100, AB).expect(&rt, "a document");
-    let rising = put_letters(rt.alloc(), &mut doc, [(1, 'c'), (2, 'd')]);
-    assert!(rt; rising.err() == Some(Refusal::Range));
-    let falling = put_letters(rt.alloc(), &mut doc, [(2, 'd'), (1, 'c')]);
-    assert!(rt; are(rt.alloc(), falling, "d3.1<2.1 c4.1<1.1"));
-    assert!(rt; shows(&doc, "acbd"));
+    let steps = [
+        (Step::Letters([(1, 'c'), (2, 'd')]), "Range", "ab"),
+        (
+            Step::Letters([(2, 'd'), (1, 'c')]),
+            "d3.1<2.1 c4.1<1.1",
+            "acbd",
+        ),
+    ];
+    walk(&rt, rt.alloc(), (1, 100, AB), &steps);
 }
 
 #[test]
 fn splices_that_are_refused(rt: HostRuntime) {
-    let mut doc = document(rt.alloc(), 2, 5, ABC).expect(&rt, "a document");
-    assert!(rt; refuses(rt.alloc(), &mut doc, (2, 1), "", Refusal::Range));
-    assert!(rt; refuses(rt.alloc(), &mut doc, (2, 4), "", Refusal::Range));
-    assert!(rt; refuses(rt.alloc(), &mut doc, (9, 9), "xyz", Refusal::Full));
-    assert!(rt; shows(&doc, "abc"));
+    let steps = [
+        (Step::Splice((2, 1), ""), "Range", "abc"),
+        (Step::Splice((2, 4), ""), "Range", "abc"),
+        (Step::Splice((9, 9), "xyz"), "Full", "abc"),
+    ];
+    walk(&rt, rt.alloc(), (2, 5, ABC), &steps);
+}
+
+fn replaces(alloc: Global) -> bool {
+    match document(alloc, (2, 5, ABC)) {
+        Ok(mut doc) => {
+            let answer = splice(alloc, &mut doc, (1, 2), "xy");
+            answers(alloc, answer, "-2.1 x4.2<1.1 y5.2<4.2")
+                && shows(&doc, "axyc")
+                && (doc.replica(), doc.store().known()) == (2, 5)
+        }
+        Err(_) => false,
+    }
 }
 
 #[test]
 fn splice_replaces_what_stands_between(rt: HostRuntime) {
-    let mut doc = document(rt.alloc(), 2, 5, ABC).expect(&rt, "a document");
-    assert!(rt; answers(rt.alloc(), &mut doc, (1, 2), "xy", "-2.1 x4.2<1.1 y5.2<4.2"));
-    assert!(rt; shows(&doc, "axyc"));
-    assert!(rt; doc.replica() == 2);
-    assert!(rt; doc.store().known() == 5);
+    assert!(rt; replaces(rt.alloc()));
 }

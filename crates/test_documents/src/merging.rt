@@ -1,22 +1,22 @@
 //! Merges of documents: two people who edit apart, both ways round, and refusals.
-use crate::documents::{AB, Document, document, shows};
+use crate::documents::{AB, Document, Held, document, merges, shows, splice};
 use rga_doc::Doc;
 use rga_ops::Refusal;
-use rga_store::{TextStore, TreeStore};
+use rga_store::TextStore;
 use std::alloc::Global;
-use test_fixtures::{id, spells};
+use test_fixtures::id;
 
-/// Alice writes a note; Bob edits a copy of it apart, and each takes the other's changes.
-fn two_people(alloc: Global) -> Result<Vec<char>, Refusal> {
-    let mut alice = note(alloc)?;
-    edit_apart(alloc, &mut alice)?;
-    alice.text()
-}
-
-fn note(alloc: Global) -> Result<Document, Refusal> {
-    let mut alice = Doc::new(alloc, TreeStore::new(alloc, 1000)?, 1)?;
-    drop(alice.splice(0, 0, &['o', 'a', 't', 's'])?);
-    Ok(alice)
+/// Whether a note that Alice writes is this text, once Bob edited a copy of it apart, and each took
+/// the other's changes.
+fn two_people_write(alloc: Global, text: &str) -> bool {
+    match document(alloc, (1, 1000, "")) {
+        Ok(mut alice) => {
+            splice(alloc, &mut alice, (0, 0), "oats").is_ok()
+                && edit_apart(alloc, &mut alice) == Ok(())
+                && shows(&alice, text)
+        }
+        Err(_) => false,
+    }
 }
 
 fn edit_apart(alloc: Global, alice: &mut Document) -> Result<(), Refusal> {
@@ -37,29 +37,22 @@ fn edit_both(alice: &mut Document, bob: &mut Document) -> Result<(), Refusal> {
 
 #[test]
 fn what_two_people_wrote_apart(rt: HostRuntime) {
-    let text = two_people(rt.alloc());
-    assert!(rt; text.is_ok_and(|chars| spells(&chars, "Oats!")));
+    assert!(rt; two_people_write(rt.alloc(), "Oats!"));
 }
-
-/// A replica with a limit, and the operations that it took.
-type Held = (u16, usize, &'static str);
 
 /// The copy of a document that holds this.
-fn copied(alloc: Global, (replica, limit, words): Held) -> Result<Document, Refusal> {
-    document(alloc, replica, limit, words)?.copy()
-}
-
-/// What a document is behind the merge of one that holds this.
-fn merged(alloc: Global, own: Held, (replica, limit, words): Held) -> Result<Document, Refusal> {
-    let mut doc = copied(alloc, own)?;
-    doc.merge(&document(alloc, replica, limit, words)?)?;
-    Ok(doc)
+fn copied(alloc: Global, held: Held) -> Result<Document, Refusal> {
+    document(alloc, held)?.copy()
 }
 
 /// Whether a document takes another, shows this text then, and has its limit and its replica still.
-fn merges(alloc: Global, own: Held, other: Held, text: &str) -> bool {
-    match merged(alloc, own, other) {
-        Ok(doc) => shows(&doc, text) && (doc.replica(), doc.store().limit()) == (own.0, own.1),
+fn takes_other(alloc: Global, own: Held, other: Held, text: &str) -> bool {
+    match copied(alloc, own) {
+        Ok(mut doc) => {
+            merges(alloc, &mut doc, other, Ok(()))
+                && shows(&doc, text)
+                && (doc.replica(), doc.store().limit()) == (own.0, own.1)
+        }
         Err(_) => false,
     }
 }
@@ -68,31 +61,33 @@ fn merges(alloc: Global, own: Held, other: Held, text: &str) -> bool {
 fn documents_merged_both_ways(rt: HostRuntime) {
     let first = (1, 100, AB);
     let second = (2, 3, "x1.2<0.0 -2.1");
-    assert!(rt; merges(rt.alloc(), first, second, "xa"));
-    assert!(rt; merges(rt.alloc(), second, first, "xa"));
+    assert!(rt; takes_other(rt.alloc(), first, second, "xa"));
+    assert!(rt; takes_other(rt.alloc(), second, first, "xa"));
 }
 
-/// Whether the document refuses so to take another, which took the operations of the words.
-fn refuses_merge(alloc: Global, doc: &mut Document, words: &str, refusal: Refusal) -> bool {
-    match document(alloc, 2, 100, words) {
-        Ok(other) => doc.merge(&other) == Err(refusal),
+/// Whether the document refuses so to take another, which took the operations of the words, and
+/// its text stays.
+fn refuses(alloc: Global, doc: &mut Document, words: &'static str, refusal: Refusal) -> bool {
+    merges(alloc, doc, (2, 100, words), Err(refusal)) && shows(doc, "ab")
+}
+
+fn refuses_both(alloc: Global, doc: &mut Document) -> Result<bool, Refusal> {
+    let taken = id(1, 1)?;
+    Ok(
+        refuses(alloc, doc, "x1.2<0.0 -2.1", Refusal::Full)
+            && refuses(alloc, doc, "z2.1<0.0 q1.1<0.0", Refusal::Conflict(taken)),
+    )
+}
+
+/// Whether a document that has no room refuses another, and one whose insertions are others.
+fn stays(alloc: Global) -> bool {
+    match document(alloc, (1, 2, AB)) {
+        Ok(mut doc) => refuses_both(alloc, &mut doc) == Ok(true),
         Err(_) => false,
     }
 }
 
 #[test]
 fn merge_that_is_refused_changes_nothing(rt: HostRuntime) {
-    let taken = id(1, 1).expect(&rt, "an element");
-    let mut doc = document(rt.alloc(), 1, 2, AB).expect(&rt, "a document");
-    let table = [
-        ("x1.2<0.0 -2.1", Refusal::Full),
-        ("z2.1<0.0 q1.1<0.0", Refusal::Conflict(taken)),
-    ];
-    for (words, refusal) in table {
-        assert!(rt;
-            refuses_merge(rt.alloc(), &mut doc, words, refusal),
-            "{words}"
-        );
-        assert!(rt; shows(&doc, "ab"), "{words}");
-    }
+    assert!(rt; stays(rt.alloc()));
 }

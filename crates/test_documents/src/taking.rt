@@ -1,21 +1,19 @@
 //! What a document answers to operations, and to a replica that is none.
-use crate::documents::{AB, ABC, Document, document, shows, takes};
+use crate::documents::{AB, ABC, Document, document};
+use crate::steps::{Step, walk};
 use rga_ops::{Refusal, Taken};
 use rga_store::Taker;
-use test_fixtures::{deletion, id};
+use std::alloc::Global;
+use test_fixtures::deletion;
 
 #[test]
 fn list_is_taken_whole_or_not_at_all(rt: HostRuntime) {
-    let taken = id(2, 1).expect(&rt, "an element");
-    let mut doc = document(rt.alloc(), 2, 4, ABC).expect(&rt, "a document");
-    let table = [
-        ("-2.1 x4.2<1.1", Ok(())),
-        ("x4.2<1.1 z2.1<0.0", Err(Refusal::Conflict(taken))),
+    let conflict = "Conflict(Id { counter: 2, replica: 1 })";
+    let steps = [
+        (Step::Take("-2.1 x4.2<1.1"), "", "axc"),
+        (Step::Take("x4.2<1.1 z2.1<0.0"), conflict, "axc"),
     ];
-    for (words, answer) in table {
-        assert!(rt; takes(rt.alloc(), &mut doc, words, answer), "{words}");
-        assert!(rt; shows(&doc, "axc"), "{words}");
-    }
+    walk(&rt, rt.alloc(), (2, 4, ABC), &steps);
 }
 
 /// What is answered to the deletion of the element (2, 1).
@@ -23,14 +21,21 @@ fn delete_second(doc: &mut Document) -> Result<Taken, Refusal> {
     doc.apply(deletion(2, 1)?)
 }
 
+fn deletes_once(alloc: Global) -> bool {
+    match document(alloc, (2, 4, AB)) {
+        Ok(mut doc) => {
+            delete_second(&mut doc) == Ok(Taken::New) && delete_second(&mut doc) == Ok(Taken::Known)
+        }
+        Err(_) => false,
+    }
+}
+
 #[test]
 fn an_operation_is_taken_once(rt: HostRuntime) {
-    let mut doc = document(rt.alloc(), 2, 4, AB).expect(&rt, "a document");
-    assert!(rt; delete_second(&mut doc) == Ok(Taken::New));
-    assert!(rt; delete_second(&mut doc) == Ok(Taken::Known));
+    assert!(rt; deletes_once(rt.alloc()));
 }
 
 #[test]
 fn replica_zero_is_none(rt: HostRuntime) {
-    assert!(rt; document(rt.alloc(), 0, 1, "").err() == Some(Refusal::BadId));
+    assert!(rt; document(rt.alloc(), (0, 1, "")).err() == Some(Refusal::BadId));
 }
