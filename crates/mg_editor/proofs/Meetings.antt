@@ -1,6 +1,6 @@
 -- Meetings of which nothing is said of the link.
 use Rattle.std.proofs.Common.{ℕ, List, Option}
-use Rattle.mg_exchange.proofs.LessSaid.{exchanges_some, serves_some}
+use Rattle.mg_exchange.proofs.LessSaid.{exchanges_over, serves_over, exchanges_some, serves_some}
 use Rattle.mg_files.specs.Calls.{Call}
 use Rattle.mg_files.specs.OpenState.{OpenState}
 use Rattle.mg_workspace.specs.Saving.{Changes}
@@ -22,19 +22,19 @@ changes f w v c = record {
   rest = c.rest;
 }
 
-module _ {L : Type 0} (remaining contents : L → Option (List ℕ)) {calls more : Option (List Call)} {old new : Editor} {r : Answer} where
-  pub exchanged_some : ExchangedOver remaining contents calls more old new r → Exchanged calls more old new r
+module _ {L : Type 0} (remaining contents : L → Option (List ℕ)) {links opened : Option (List L)} {calls more : Option (List Call)} {old new : Editor} {r : Answer} where
+  pub exchanged_some : ExchangedOver remaining contents links opened calls more old new r → Exchanged calls more old new r
   exchanged_some m = record {
     answer = m.answer;
-    work = changes (λ b d. exchanges_some remaining contents calls more b d m.answer) old.work new.work m.work;
+    work = changes (λ b d e. exchanges_some remaining contents calls more b d m.answer (exchanges_over remaining contents e)) old.work new.work m.work;
     rest = m.rest;
     done = m.done;
   }
 
-  pub served_some : ServedOver remaining contents calls more old new r → Served calls more old new r
+  pub served_some : ServedOver remaining contents links opened calls more old new r → Served calls more old new r
   served_some m = record {
     answer = m.answer;
-    work = changes (λ b d. serves_some remaining contents calls more b d m.answer) old.work new.work m.work;
+    work = changes (λ b d e. serves_some remaining contents calls more b d m.answer (serves_over remaining contents e)) old.work new.work m.work;
     rest = m.rest;
     done = m.done;
   }

@@ -3,7 +3,8 @@ use Rattle.std.specs.Prelude.{◌≡◌, ℕ, ⊤, List, Option, Result, Ok, Err
 use Rattle.mg_files.specs.Calls.{Call}
 use Rattle.mg_files.specs.OpenState.{OpenState}
 use Rattle.mg_exchange.specs.Meeting.{Exchanges, Serves}
-use Rattle.mg_exchange.specs.Talking.{Sends, Hears, TakesSome, SendsSome}
+use Rattle.mg_exchange.specs.Linking.{ExchangesOver, ServesOver}
+use Rattle.mg_exchange.specs.Talking.{TakesSome, SendsSome}
 use Rattle.mg_exchange.specs.declared.fault.ExchangeFault.{ExchangeFault}
 use Rattle.mg_exchange.specs.declared.talking.Exchanged as talking
 use Rattle.mg_prompts.specs.declared.ending.Request.{Request}
@@ -41,13 +42,13 @@ Exchanged calls more old new r = Met (Exchanges TakesSome SendsSome calls more) 
 abbrev pub Served : Option (List Call) → Option (List Call) → Editor → Editor → Answer → Type 0
 Served calls more old new r = Met (Serves TakesSome SendsSome calls more) old new r
 
--- and by the bytes that the link tells
-module _ {L : Type 0} (remaining contents : L → Option (List ℕ)) (calls more : Option (List Call)) (old new : Editor) (r : Answer) where
+-- and by the links that it tells, and the bytes that these tell
+module _ {L : Type 0} (remaining contents : L → Option (List ℕ)) (links opened : Option (List L)) (calls more : Option (List Call)) (old new : Editor) (r : Answer) where
   abbrev pub ExchangedOver : Type 0
-  ExchangedOver = Met (Exchanges (Hears remaining) (Sends contents) calls more) old new r
+  ExchangedOver = Met (ExchangesOver remaining contents links opened calls more) old new r
 
   abbrev pub ServedOver : Type 0
-  ServedOver = Met (Serves (Hears remaining) (Sends contents) calls more) old new r
+  ServedOver = Met (ServesOver remaining contents links opened calls more) old new r
 
   -- of any request: the others have no link
   abbrev pub MetOver : Request → Type 0

@@ -84,7 +84,8 @@ impl<S: TextStore> Editor<S> {
         ensures carried { spec.Carried request
             (P.calls port.old) (P.calls port.new) self.old self.new result }
         ensures met { meeting.MetOver P.Link.remaining P.Link.contents
-            (P.calls port.old) (P.calls port.new) self.old self.new result request }
+            (P.links port.old) (P.links port.new) (P.calls port.old) (P.calls port.new)
+            self.old self.new result request }
         ensures device { telling.CountsBehind result (P.failures port.old) (P.failures port.new) }
     {
         match request {

@@ -36,7 +36,8 @@ impl<S: TextStore> Editor<S> {
         ensures told { spec.Exchanged
             (P.calls port.old) (P.calls port.new) self.old self.new result }
         ensures over { spec.ExchangedOver P.Link.remaining P.Link.contents
-            (P.calls port.old) (P.calls port.new) self.old self.new result }
+            (P.links port.old) (P.links port.new) (P.calls port.old) (P.calls port.new)
+            self.old self.new result }
         ensures device { telling.CountsBehind result (P.failures port.old) (P.failures port.new) }
     {
         let answer = self.work.exchange(port);
@@ -48,7 +49,8 @@ impl<S: TextStore> Editor<S> {
     pub(crate) fn serve<P: Port>(&mut self, port: &mut P) -> Result<(), CarryFault>
         ensures told { spec.Served (P.calls port.old) (P.calls port.new) self.old self.new result }
         ensures over { spec.ServedOver P.Link.remaining P.Link.contents
-            (P.calls port.old) (P.calls port.new) self.old self.new result }
+            (P.links port.old) (P.links port.new) (P.calls port.old) (P.calls port.new)
+            self.old self.new result }
         ensures device { telling.CountsBehind result (P.failures port.old) (P.failures port.new) }
     {
         let answer = self.work.serve(port);

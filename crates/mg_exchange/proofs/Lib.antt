@@ -1,2 +1,4 @@
 mod MeetingLaws
 pub mod LessSaid
+mod LinkLaws
+mod JoinedLaws

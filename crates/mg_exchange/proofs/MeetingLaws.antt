@@ -1,6 +1,6 @@
 -- What is known of the steps of an exchange, put together.
 use Rattle.std.proofs.Common.{◌≡◌, inl, inr, ℕ, Bool, true, false, List, ◌++◌, Option, Some, None, Result, Ok, Err, if◌then◌else◌, refl, sym, ap, ◌∙◌, subst, append_assoc}
-use Rattle.rga_ops.specs.Content.{IsWithin, content_of}
+use Rattle.rga_ops.specs.Content.{Content, IsWithin, content_of}
 use Rattle.rga_ops.proofs.ContentLaws.{within_itself, within_chain, within_join}
 use Rattle.rga_lines.specs.Log.{operations_of}
 use Rattle.rga_exchange.specs.declared.fault.ReceiveFault.{ReceiveFault}
@@ -12,7 +12,7 @@ use Rattle.mg_files.specs.OpenState.{OpenState}
 use Rattle.mg_files.specs.Saving.{has_unsaved, save_calls, saved, logged, written, unlogged, SaveFailed, SavesTo}
 use Rattle.mg_exchange.specs.declared.fault.ExchangeFault.{ExchangeFault}
 use Rattle.mg_exchange.specs.declared.fault.ExchangeFault.TheVariants.{Save, Link, Send, Receive}
-use Rattle.mg_exchange.specs.Talking.{Sends, Hears, Gains}
+use Rattle.mg_exchange.specs.Talking.{Hears, Gains}
 use Rattle.mg_exchange.specs.Meeting.{Takes, TakesTo, Meets, Turns, ExchangesTo, ServesTo, accepting}
 
 -- ---- calls
@@ -58,8 +58,8 @@ gains_by_save (Err fault) old new b d s = gains_failed fault old new b d s
 
 pub gains_heard : {L : Type 0} (remaining : L → Option (List ℕ)) (r : Result ℕ ReceiveFault) (b d : OpenState) → Hears remaining r b d → Gains b d
 gains_heard remaining r b d h =
-    let f = h.lines.beside in
-    let ops = operations_of h.lines.lines in
+    let f = h.over.lines.beside in
+    let ops = operations_of h.over.lines.lines in
     record {
       within = subst (λ c. IsWithin b.buffer.content c) (sym f.content) (within_join b.buffer.content (content_of ops));
       rest = f.rest;
@@ -87,8 +87,8 @@ saved_content b = if_content (has_unsaved b) b
     if_content false b = refl
 
 -- what is sent of a buffer that was saved
-pub sends_saved : {L : Type 0} (contents : L → Option (List ℕ)) (r : Result ℕ SendFault) (b d : OpenState) → d ≡ saved b → Sends contents r d.buffer.content → Sends contents r b.buffer.content
-sends_saved contents r b d left s = subst (λ c. Sends contents r c) (ap (λ (o : OpenState). o.buffer.content) left ∙ saved_content b) s
+pub sends_saved : (S : Result ℕ SendFault → Content → Type 0) (r : Result ℕ SendFault) (b d : OpenState) → d ≡ saved b → S r d.buffer.content → S r b.buffer.content
+sends_saved S r b d left s = subst (λ c. S r c) (ap (λ (o : OpenState). o.buffer.content) left ∙ saved_content b) s
 
 -- ---- all of it
 
@@ -98,26 +98,27 @@ pub gains_behind : {L : Type 0} (remaining : L → Option (List ℕ)) (mid new :
 gains_behind remaining mid new b s d r left t =
     gains_on b s d (subst (λ x. Gains b x) (sym left) (gains_saved b)) (gains_by remaining mid new s d r t)
 
--- a peer that is met behind a save and these calls
-pub meets : {L : Type 0} (remaining contents : L → Option (List ℕ)) (old first mid new : Option (List Call)) (b s d : OpenState) (made : List Call) (r : Result ℕ ExchangeFault)
-    → s ≡ saved b → Adds old first (save_calls b) → Adds first mid made → TakesTo (Hears remaining) mid new s d r → Meets (Hears remaining) (Sends contents) old new b d made r
-meets remaining contents old first mid new b s d made r left h k t = record {
-  mid = mid;
-  calls = adds_then old first mid (save_calls b) made h k;
-  takes = subst (λ x. TakesTo (Hears remaining) mid new x d r) left t;
-}
+-- whatever is said of what is heard and sent
+module _ {H : Result ℕ ReceiveFault → OpenState → OpenState → Type 0} {S : Result ℕ SendFault → Content → Type 0} where
+  -- a peer that is met behind a save and these calls
+  pub meets : (old first mid new : Option (List Call)) (b s d : OpenState) (made : List Call) (r : Result ℕ ExchangeFault)
+      → s ≡ saved b → Adds old first (save_calls b) → Adds first mid made → TakesTo H mid new s d r → Meets H S old new b d made r
+  meets old first mid new b s d made r left h k t = record {
+    mid = mid;
+    calls = adds_then old first mid (save_calls b) made h k;
+    takes = subst (λ x. TakesTo H mid new x d r) left t;
+  }
 
-module _ {L : Type 0} (remaining contents : L → Option (List ℕ)) (old new : Option (List Call)) (b d : OpenState) where
   -- a replica that connected, and fails once it has sent all
-  pub turn_fails : (e : ExchangeFault) (sent : ℕ) → Turns (Hears remaining) (Sends contents) old new b d sent (Err e) → ExchangesTo (Hears remaining) (Sends contents) old new b d (Err e)
-  turn_fails (Save fault) sent t = inr (sent, t)
-  turn_fails (Receive fault) sent t = (sent, t)
-  turn_fails (Link fault) sent t = elim t.meets.takes [ ]
-  turn_fails (Send fault) sent t = elim t.meets.takes [ ]
+  pub turn_fails : (old new : Option (List Call)) (b d : OpenState) (e : ExchangeFault) (sent : ℕ) → Turns H S old new b d sent (Err e) → ExchangesTo H S old new b d (Err e)
+  turn_fails old new b d (Save fault) sent t = inr (sent, t)
+  turn_fails old new b d (Receive fault) sent t = (sent, t)
+  turn_fails old new b d (Link fault) sent t = elim t.meets.takes [ ]
+  turn_fails old new b d (Send fault) sent t = elim t.meets.takes [ ]
 
   -- a replica that waited, and fails before it replies
-  pub wait_fails : (e : ExchangeFault) → Meets (Hears remaining) (Sends contents) old new b d accepting (Err e) → ServesTo (Hears remaining) (Sends contents) old new b d (Err e)
-  wait_fails (Save fault) m = inr m
-  wait_fails (Receive fault) m = m
-  wait_fails (Link fault) m = elim m.takes [ ]
-  wait_fails (Send fault) m = elim m.takes [ ]
+  pub wait_fails : (old new : Option (List Call)) (b d : OpenState) (e : ExchangeFault) → Meets H S old new b d accepting (Err e) → ServesTo H S old new b d (Err e)
+  wait_fails old new b d (Save fault) m = inr m
+  wait_fails old new b d (Receive fault) m = m
+  wait_fails old new b d (Link fault) m = elim m.takes [ ]
+  wait_fails old new b d (Send fault) m = elim m.takes [ ]

@@ -1,2 +1,3 @@
 pub mod Talking
 pub mod Meeting
+pub mod Linking

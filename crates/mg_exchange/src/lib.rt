@@ -6,10 +6,13 @@
 //! generic over any `TextStore` and any port. The layer above may rest on one record of facts for
 //! each (`Exchanges`, `Serves`): which calls are made of the port, in which order and up to which
 //! fault; what passed over the link; and what was gained and what stayed, whatever was answered.
+//! Another (`ExchangesOver`, `ServesOver`) says so of the one link that the port opened, and `laws`
+//! what follows of links that tell their bytes: two that meet hold one content.
 #![tactic(auto)]
 
 mod client;
 mod fault;
+pub mod laws;
 mod server;
 mod talking;
 

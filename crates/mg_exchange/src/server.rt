@@ -1,5 +1,6 @@
 //! The replica that waits.
 ghost use Rattle.mg_exchange.specs.Meeting as spec;
+ghost use Rattle.mg_exchange.specs.Linking.{ServesOver};
 ghost use Rattle.mg_exchange.specs.Talking.{Sends, Hears};
 
 use crate::fault::ExchangeFault;
@@ -25,6 +26,9 @@ pub fn serve<S: TextStore, P: Port>(
 ) -> Result<Exchanged, ExchangeFault>
     ensures serves { spec.Serves (Hears P.Link.remaining) (Sends P.Link.contents)
         (P.calls port.old) (P.calls port.new) opened.old opened.new result }
+    // So it is over the one link that the port opened, from the one state of it to the next.
+    ensures over { ServesOver P.Link.remaining P.Link.contents (P.links port.old)
+        (P.links port.new) (P.calls port.old) (P.calls port.new) opened.old opened.new result }
     ensures device { spec.CountsFaults result (P.failures port.old) (P.failures port.new) }
 {
     opened.save(port)?;

@@ -1,6 +1,7 @@
 //! What passes between a buffer and a peer.
+ghost use Rattle.std.specs.Prelude.{◌≡◌};
 ghost use Rattle.mg_exchange.specs.Meeting as spec;
-ghost use Rattle.mg_exchange.specs.Talking.{Sends, Hears};
+ghost use Rattle.mg_exchange.specs.Talking.{SendsOver, HearsOver};
 
 use crate::fault::ExchangeFault;
 use mg_files::{Opened, Port};
@@ -23,7 +24,7 @@ pub(crate) fn tell<S: TextStore, L: Write>(
     opened: &Opened<S>,
     writer: &mut Counted<L>,
 ) -> Result<u64, SendFault>
-    ensures { Sends L.contents result opened.now.buffer.content }
+    ensures { SendsOver L.contents writer.old writer.new result opened.now.buffer.content }
 {
     send(alloc, opened.buffer.store(), writer)
 }
@@ -36,8 +37,9 @@ pub(crate) fn hear_and_save<S: TextStore, L: Read, P: Port>(
     reader: &mut Counted<L>,
     port: &mut P,
 ) -> Result<u64, ExchangeFault>
-    ensures takes { spec.TakesTo (Hears L.remaining)
+    ensures takes { spec.TakesTo (HearsOver L.remaining reader.old reader.new)
         (P.calls port.old) (P.calls port.new) opened.old opened.new result }
+    ensures links { P.links port.new ≡ P.links port.old }
     ensures device { spec.CountsFaults result (P.failures port.old) (P.failures port.new) }
 {
     let heard = hear(alloc, opened, reader);
@@ -53,7 +55,7 @@ fn hear<S: TextStore, L: Read>(
     opened: &mut Opened<S>,
     reader: &mut Counted<L>,
 ) -> Result<u64, ReceiveFault>
-    ensures { Hears L.remaining result opened.old opened.new }
+    ensures { HearsOver L.remaining reader.old reader.new result opened.old opened.new }
 {
     receive(alloc, &mut opened.buffer, reader)
 }

@@ -1,4 +1,5 @@
 pub mod Calls
+pub mod Links
 pub mod Files
 pub mod OpenState
 pub mod Saving

@@ -1,5 +1,6 @@
 //! Where the files of buffers are, and peers.
-ghost use Rattle.std.specs.Prelude.{◌≡◌, ℕ, List, Option};
+ghost use Rattle.std.specs.Prelude.{◌≡◌, ℕ, List, Option, IfOk, OnErr};
+ghost use Rattle.mg_files.specs.Links.{Opens, KeepsBytes};
 ghost use Rattle.mg_files.specs.Calls.{Call, call, link_call, Adds, told, load_told, link_told, failures_after, failures_after_link};
 
 use std::alloc::AllocError;
@@ -85,14 +86,17 @@ impl Model for Found {
 ///
 /// A port may tell its calls, in their order: one in memory does, one of real files need not. A call
 /// that the port refuses with `File`, `Socket` or `NoPort` is told too, as refused. With `Memory` no
-/// call is told: memory was wanting before anything was done. What passes over a link is no call of
-/// the port: the link may tell its bytes.
+/// call is told: memory was wanting before anything was done. So it may tell the links that it
+/// opened. What passes over a link is no call of the port: the link may tell its bytes.
 pub trait Port {
     /// What is read from a peer and written to it.
     type Link: Read + Write + Drop;
 
     /// The calls so far, where the port tells them.
     ghost calls: { Self → Option (List Call) };
+
+    /// The links that were opened so far, each as it was answered, where the port tells them.
+    ghost links: { Self → Option (List Self.Link) };
 
     /// How many calls failed.
     ghost failures: { Self → ℕ };
@@ -101,6 +105,7 @@ pub trait Port {
     /// something else has the files open to write them.
     fn load(&mut self, name: &str) -> Result<Found, PortFault>
         ensures tells { Adds (calls self.old) (calls self.new) (load_told result name.now) }
+        ensures links { links self.new ≡ links self.old }
         ensures device { failures self.new ≡ failures_after result (failures self.old) };
 
     /// Adds bytes at the end of the log, which is made where there is none. Where it answers `File`
@@ -109,6 +114,7 @@ pub trait Port {
     fn append(&mut self, name: &str, bytes: &[u8]) -> Result<(), PortFault>
         ensures tells { Adds (calls self.old) (calls self.new)
             (told result (call CallKind.Append name.now bytes.now)) }
+        ensures links { links self.new ≡ links self.old }
         ensures device { failures self.new ≡ failures_after result (failures self.old) };
 
     /// Makes these bytes the whole log. Where it answers `File` the log is the old one or this one.
@@ -116,6 +122,7 @@ pub trait Port {
     fn replace(&mut self, name: &str, bytes: &[u8]) -> Result<(), PortFault>
         ensures tells { Adds (calls self.old) (calls self.new)
             (told result (call CallKind.Replace name.now bytes.now)) }
+        ensures links { links self.new ≡ links self.old }
         ensures device { failures self.new ≡ failures_after result (failures self.old) };
 
     /// Makes these bytes the whole text. Where it answers `File` the text may be cut short, or gone.
@@ -123,24 +130,32 @@ pub trait Port {
     fn put_text(&mut self, name: &str, bytes: &[u8]) -> Result<(), PortFault>
         ensures tells { Adds (calls self.old) (calls self.new)
             (told result (call CallKind.PutText name.now bytes.now)) }
+        ensures links { links self.new ≡ links self.old }
         ensures device { failures self.new ≡ failures_after result (failures self.old) };
 
     /// Opens a link to a peer that waits for one.
     fn connect(&mut self) -> Result<Self::Link, LinkFault>
         ensures tells { Adds (calls self.old) (calls self.new)
             (link_told result (link_call CallKind.Connect)) }
+        ensures opens { IfOk result (λ link. Opens (links self.old) (links self.new) link) }
+        ensures links { OnErr result (links self.new ≡ links self.old) }
         ensures device { failures self.new ≡ failures_after_link result (failures self.old) };
 
     /// Waits for a peer, and opens the link that it asks for.
     fn accept(&mut self) -> Result<Self::Link, LinkFault>
         ensures tells { Adds (calls self.old) (calls self.new)
             (link_told result (link_call CallKind.Accept)) }
+        ensures opens { IfOk result (λ link. Opens (links self.old) (links self.new) link) }
+        ensures links { OnErr result (links self.new ≡ links self.old) }
         ensures device { failures self.new ≡ failures_after_link result (failures self.old) };
 
     /// Ends the sending on a link: the peer finds the end there. What it sends can still be read.
+    /// No byte passes over the link.
     fn finish(&mut self, link: &mut Self::Link) -> Result<(), LinkFault>
         ensures tells { Adds (calls self.old) (calls self.new)
             (link_told result (link_call CallKind.Finish)) }
+        ensures links { links self.new ≡ links self.old }
+        ensures bytes { KeepsBytes Self.Link.remaining Self.Link.contents link.old link.new }
         ensures device { failures self.new ≡ failures_after_link result (failures self.old) };
 
     /// How many calls failed: `File` and `Socket` add one, up to the greatest `u64`, and nothing

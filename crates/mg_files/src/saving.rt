@@ -24,6 +24,7 @@ impl<S: TextStore> Opened<S> {
         ensures saved { OnOk result (self.new ≡ saved self.old) }
         ensures failed { IfErr result (λ fault.
             SaveFailed fault (P.calls port.old) (P.calls port.new) self.old self.new) }
+        ensures links { P.links port.new ≡ P.links port.old }
         ensures device { P.failures port.new ≡ failures_after result (P.failures port.old) }
     {
         if !self.is_changed() {
@@ -42,6 +43,7 @@ impl<S: TextStore> Opened<S> {
             (told result (log_call self.old)) }
         ensures logged { OnOk result (self.new ≡ written self.old) }
         ensures unlogged { OnErr result (self.new ≡ unlogged self.old) }
+        ensures links { P.links port.new ≡ P.links port.old }
         ensures device { P.failures port.new ≡ failures_after result (P.failures port.old) }
     {
         if let Err(fault) = self.write_log(port) {
@@ -58,6 +60,7 @@ impl<S: TextStore> Opened<S> {
     fn write_log<P: Port>(&self, port: &mut P) -> Result<(), PortFault>
         ensures tells { Adds (P.calls port.old) (P.calls port.new)
             (told result (log_call self.now)) }
+        ensures links { P.links port.new ≡ P.links port.old }
         ensures device { P.failures port.new ≡ failures_after result (P.failures port.old) }
     {
         if self.whole {
@@ -74,6 +77,7 @@ impl<S: TextStore> Opened<S> {
             (told result (text_call self.old)) }
         ensures put { OnOk result (self.new ≡ record self.old { text_waits = false }) }
         ensures same { OnErr result (self.new ≡ self.old) }
+        ensures links { P.links port.new ≡ P.links port.old }
         ensures device { P.failures port.new ≡ failures_after result (P.failures port.old) }
     {
         let text = text_of(self.alloc, self.buffer.store())?;

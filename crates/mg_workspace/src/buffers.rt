@@ -5,8 +5,8 @@ ghost use Rattle.mg_workspace.specs.Buffers as spec;
 ghost use Rattle.mg_workspace.specs.Saving.{CurrentBecomes};
 ghost use Rattle.mg_files.specs.Saving.{SavesTo};
 ghost use Rattle.mg_files.specs.Calls.{failures_after};
-ghost use Rattle.mg_exchange.specs.Meeting.{Exchanges, Serves, CountsFaults};
-ghost use Rattle.mg_exchange.specs.Talking.{Sends, Hears};
+ghost use Rattle.mg_exchange.specs.Meeting.{CountsFaults};
+ghost use Rattle.mg_exchange.specs.Linking.{ExchangesOver, ServesOver};
 ghost use Rattle.mg_workspace.specs.Mapped.{mapped_at};
 ghost use Rattle.mg_workspace.specs.Names as names;
 
@@ -227,8 +227,8 @@ impl<S: TextStore> Buffers<S> {
         alloc: Global,
         port: &mut P,
     ) -> Result<Exchanged, ExchangeFault>
-        ensures exchanges { CurrentBecomes (λ b d. Exchanges (Hears P.Link.remaining)
-            (Sends P.Link.contents) (P.calls port.old) (P.calls port.new) b d result)
+        ensures exchanges { CurrentBecomes (λ b d. ExchangesOver P.Link.remaining P.Link.contents
+            (P.links port.old) (P.links port.new) (P.calls port.old) (P.calls port.new) b d result)
             self.old self.new }
         ensures device { CountsFaults result (P.failures port.old) (P.failures port.new) }
     {
@@ -241,8 +241,8 @@ impl<S: TextStore> Buffers<S> {
         alloc: Global,
         port: &mut P,
     ) -> Result<Exchanged, ExchangeFault>
-        ensures serves { CurrentBecomes (λ b d. Serves (Hears P.Link.remaining)
-            (Sends P.Link.contents) (P.calls port.old) (P.calls port.new) b d result)
+        ensures serves { CurrentBecomes (λ b d. ServesOver P.Link.remaining P.Link.contents
+            (P.links port.old) (P.links port.new) (P.calls port.old) (P.calls port.new) b d result)
             self.old self.new }
         ensures device { CountsFaults result (P.failures port.old) (P.failures port.new) }
     {

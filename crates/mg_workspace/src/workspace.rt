@@ -5,8 +5,8 @@ ghost use Rattle.mg_files.specs.declared.fault.LoadFault.TheVariants.{Memory};
 ghost use Rattle.mg_screen.specs.declared.size.TheConstants.{MIN_COLUMNS, MAX_COLUMNS};
 ghost use Rattle.mg_workspace.specs.Deeds.{Keeps};
 ghost use Rattle.mg_workspace.specs.Opening.{workspace};
-ghost use Rattle.mg_exchange.specs.Meeting.{Exchanges, Serves, CountsFaults};
-ghost use Rattle.mg_exchange.specs.Talking.{Sends, Hears};
+ghost use Rattle.mg_exchange.specs.Meeting.{CountsFaults};
+ghost use Rattle.mg_exchange.specs.Linking.{ExchangesOver, ServesOver};
 ghost use Rattle.mg_workspace.specs.Saving.{Saves, Changes};
 ghost use Rattle.mg_workspace.specs.Workspaces as spec;
 
@@ -129,8 +129,8 @@ impl<S: TextStore> Workspace<S> {
     /// `mg_exchange::exchange` does, and answers how many operations were sent and how many
     /// received. Faults: those of that call.
     pub fn exchange<P: Port>(&mut self, port: &mut P) -> Result<Exchanged, ExchangeFault>
-        ensures exchanges { Changes (λ b d. Exchanges (Hears P.Link.remaining)
-            (Sends P.Link.contents) (P.calls port.old) (P.calls port.new) b d result)
+        ensures exchanges { Changes (λ b d. ExchangesOver P.Link.remaining P.Link.contents
+            (P.links port.old) (P.links port.new) (P.calls port.old) (P.calls port.new) b d result)
             self.old self.new }
         ensures device { CountsFaults result (P.failures port.old) (P.failures port.new) }
     {
@@ -141,8 +141,8 @@ impl<S: TextStore> Workspace<S> {
     /// `mg_exchange::serve` does, and answers how many operations were sent and how many received.
     /// Faults: those of that call.
     pub fn serve<P: Port>(&mut self, port: &mut P) -> Result<Exchanged, ExchangeFault>
-        ensures serves { Changes (λ b d. Serves (Hears P.Link.remaining)
-            (Sends P.Link.contents) (P.calls port.old) (P.calls port.new) b d result)
+        ensures serves { Changes (λ b d. ServesOver P.Link.remaining P.Link.contents
+            (P.links port.old) (P.links port.new) (P.calls port.old) (P.calls port.new) b d result)
             self.old self.new }
         ensures device { CountsFaults result (P.failures port.old) (P.failures port.new) }
     {

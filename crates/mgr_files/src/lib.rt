@@ -2,9 +2,10 @@
 //!
 //! A buffer `NAME` has its text in the file `NAME` and its log in `NAME.ops`. The crate stands on
 //! mg_files for what a port is. The layer above may rest on the contract of `Port`, where this one
-//! tells no calls: what files give and keep, and what a peer says, no clause can name. So that a note
-//! has one writer, that its files are whole whenever the machine stops, and that nothing that the
-//! note has not is destroyed, is said beside each function, and tried with the built program.
+//! tells no calls and no links: what files give and keep, and what a peer says, no clause can name.
+//! So that a note has one writer, that its files are whole whenever the machine stops, and that
+//! nothing that the note has not is destroyed, is said beside each function, and tried with the
+//! built program.
 #![tactic(auto)]
 
 mod beside;

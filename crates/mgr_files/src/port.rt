@@ -140,6 +140,8 @@ impl<R: Files<File = File> + Net + AllocGlobal + Drop> Port for FilePort<R> {
 
     ghost calls = { λ _. None };
 
+    ghost links = { λ _. None };
+
     ghost failures = { λ p. p.failures };
 
     /// Where there is a log, the text is not read. A note that something else has open is refused,

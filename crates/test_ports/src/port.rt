@@ -1,5 +1,5 @@
 //! A port in memory.
-ghost use Rattle.std.specs.Prelude.{◌≡◌, [], ◌∷◌, ◌++◌, Some, IfErr, OnOk, OnErr};
+ghost use Rattle.std.specs.Prelude.{◌≡◌, [], ◌∷◌, ◌++◌, Some, IsErr, IfErr, OnOk, OnErr};
 ghost use Rattle.mg_files.specs.Calls.{call, load_call, found_call, link_call, refused, told, link_told, failures_after, failures_after_link};
 
 use crate::call::{MadeCall, push_calls};
@@ -96,6 +96,7 @@ impl MemoryPort {
 
     /// Refuses a call for a link.
     fn meet_nobody(&mut self, kind: CallKind) -> Result<NoLink, LinkFault>
+        ensures nobody { IsErr result }
         ensures tells { self.new.calls.items
             ≡ self.old.calls.items ++ link_told result (link_call kind) }
         ensures device { self.new.failures ≡ failures_after_link result self.old.failures }
@@ -162,6 +163,8 @@ impl Port for MemoryPort {
     type Link = NoLink;
 
     ghost calls = { λ p. Some p.calls.items };
+
+    ghost links = { λ _. Some [] };
 
     ghost failures = { λ p. p.failures };
 

@@ -1,6 +1,5 @@
 use Rattle.std.proofs.Common.{rules, ◌≡◌, sym, subst}
-use Rattle.mg_exchange.specs.Meeting.{Exchanges}
-use Rattle.mg_exchange.specs.Talking.{Sends, Hears}
+use Rattle.mg_exchange.specs.Linking.{ExchangesOver}
 use Rattle.mg_files.specs.OpenState.{OpenState}
 use Rattle.mg_workspace.specs.Saving.{Changes}
 use Rattle.mg_workspace.specs.Workspaces.{Workspace}
@@ -13,7 +12,9 @@ returns-clause-over g c =
     let r = c.exchange-answer.result in
     let calls = g.P.Port.calls c.args.port.now in
     let more = g.P.Port.calls c.exchange-answer.new.port in
-    let became = λ (b d : OpenState). Exchanges (Hears g.P.Link.Read.remaining) (Sends g.P.Link.Write.contents) calls more b d r in
+    let links = g.P.Port.links c.args.port.now in
+    let opened = g.P.Port.links c.exchange-answer.new.port in
+    let became = λ (b d : OpenState). ExchangesOver g.P.Link.Read.remaining g.P.Link.Write.contents links opened calls more b d r in
     record {
       answer = r;
       work = subst (λ (w : Workspace). Changes became w c.exchange-answer.new.self) (sym is) c.exchange-answer.ensures.exchanges;

@@ -1,6 +1,5 @@
 use Rattle.std.proofs.Common.{rules, ◌≡◌, sym, subst}
-use Rattle.mg_exchange.specs.Meeting.{Exchanges}
-use Rattle.mg_exchange.specs.Talking.{Sends, Hears}
+use Rattle.mg_exchange.specs.Linking.{ExchangesOver}
 use Rattle.mg_files.specs.OpenState.{OpenState}
 use Rattle.mg_workspace.specs.Buffers.{Buffers}
 use Rattle.mg_workspace.specs.Saving.{CurrentBecomes}
@@ -11,7 +10,9 @@ returns-clause-exchanges g c =
     let is : c.args.self.now.buffers ≡ c.self.inside.buffers = search rules in
     let calls = g.P.Port.calls c.args.port.now in
     let more = g.P.Port.calls c.exchange.new.port in
-    let became = λ (b d : OpenState). Exchanges (Hears g.P.Link.Read.remaining) (Sends g.P.Link.Write.contents) calls more b d c.exchange.result in
+    let links = g.P.Port.links c.args.port.now in
+    let opened = g.P.Port.links c.exchange.new.port in
+    let became = λ (b d : OpenState). ExchangesOver g.P.Link.Read.remaining g.P.Link.Write.contents links opened calls more b d c.exchange.result in
     record {
       buffers = subst (λ (bs : Buffers). CurrentBecomes became bs c.exchange.new.self) (sym is) c.exchange.ensures.exchanges;
       rest = search rules;
