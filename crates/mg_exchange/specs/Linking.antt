@@ -1,5 +1,5 @@
 -- What passes over the link that a port opens for an exchange.
-use Rattle.std.specs.Prelude.{◌≡◌, ◌⊎◌, ℕ, false, List, ◌++◌, Option, Some, Result, Ok}
+use Rattle.std.specs.Prelude.{◌≡◌, ◌⊎◌, ℕ, true, false, List, ◌++◌, Option, Some, Result, Ok}
 use Rattle.rga_ops.specs.Content.{Content}
 use Rattle.rga_lines.specs.Counting.{Calls}
 use Rattle.rga_lines.specs.declared.counted.TheConstants.{MAX_CALLS}
@@ -15,7 +15,7 @@ use Rattle.mg_exchange.specs.Meeting.{ExchangesTo, ServesTo}
 
 -- a link of which no call is counted yet
 abbrev pub counted : {L : Type 0} → L → Calls L
-counted link = record { inner = link; failures = 0; left = MAX_CALLS; at_end = false }
+counted link = record { inner = link; failures = 0; left = MAX_CALLS; at_end = false; flushed = true }
 
 -- nothing was heard, and nothing sent
 abbrev pub HearsNone : Result ℕ ReceiveFault → OpenState → OpenState → Type 0

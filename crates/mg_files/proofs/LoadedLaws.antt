@@ -45,7 +45,7 @@ failed e = Err e
 
 -- a device of bytes in memory, of which nothing is read
 abbrev unread : Bor (List ℕ) → Calls (Bor (List ℕ))
-unread bytes = record { inner = bytes; failures = 0; left = MAX_CALLS; at_end = false }
+unread bytes = record { inner = bytes; failures = 0; left = MAX_CALLS; at_end = false; flushed = true }
 
 abbrev Takes : LogEnd → Calls (Bor (List ℕ)) → Calls (Bor (List ℕ)) → Document → Document → Type 0
 Takes end r s doc d = TakesLog (λ (x : Bor (List ℕ)). Some x.now) (λ (x : Document). x.limit) (λ (x : Document). x.content) (λ x ops y. Follows x ops y) log_end (ended end) r s doc d

@@ -1,4 +1,5 @@
 pub mod FrameLaws
 pub mod ReportLaws
 pub mod TakenLaws
+pub mod StoppedLaws
 pub mod FaultLaws

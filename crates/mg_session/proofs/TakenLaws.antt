@@ -101,7 +101,7 @@ module _ {W : Type 0} {contents : W → Option (List ℕ)} {trace has_cursor : B
       subst (λ t. TakesOnto contents t has_cursor xs calls more old new quits screen shown) same_trace
       (subst (λ h. TakesOnto contents traced h xs calls more old new quits screen shown) same_cursor taken)
 
-keys_behind : (bytes : List ℕ) (i : ℕ) → keys bytes ≡ keys (take i bytes) ++ keys (drop i bytes)
+pub keys_behind : (bytes : List ℕ) (i : ℕ) → keys bytes ≡ keys (take i bytes) ++ keys (drop i bytes)
 keys_behind bytes i = ap keys (sym (take-append-drop i bytes)) ∙ map-append key (take i bytes) (drop i bytes)
 
 module _ {W : Type 0} {contents : W → Option (List ℕ)} {trace has_cursor : Bool} where

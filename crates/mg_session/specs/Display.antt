@@ -7,6 +7,8 @@ use Rattle.rga_lines.specs.Stream.{bytes_of_lines}
 use Rattle.mg_screen.specs.declared.screen.Position.{Position}
 use Rattle.mg_editor.specs.Editors.{Editor}
 use Rattle.mg_editor.specs.Frames.{IsPlaced, ShowsRows, ShowsCursor}
+use Rattle.mg_session.specs.declared.fault.SessionFault.{SessionFault}
+use Rattle.mg_session.specs.declared.fault.SessionFault.TheVariants.{Load, File, Keys, Screen, Memory}
 
 -- the row and the column
 abbrev pub position_text : Position → List ℕ
@@ -37,3 +39,17 @@ pub record ShowsFrame (has_cursor : Bool) (old new : Editor) (text : List ℕ) :
 abbrev pub ShowsIf : Bool → Bool → Editor → Editor → List ℕ → Type 0
 ShowsIf true has_cursor old new text = ShowsFrame has_cursor old new text
 ShowsIf false has_cursor old new text = (new ≡ old) × (text ≡ [])
+
+-- A frame was only begun, and this part of its text was written: a beginning where the screen failed, and nothing where
+-- memory is wanting. No other fault comes there.
+abbrev pub BeginsFrame : SessionFault → Bool → Editor → List ℕ → Type 0
+BeginsFrame Screen has_cursor old part = (new : Editor) × (text : List ℕ) × (rest : List ℕ) × ShowsFrame has_cursor old new text × (text ≡ part ++ rest)
+BeginsFrame Memory has_cursor old part = part ≡ []
+BeginsFrame Keys has_cursor old part = ⊥
+BeginsFrame File has_cursor old part = ⊥
+BeginsFrame (Load e) has_cursor old part = ⊥
+
+-- one that is asked for
+abbrev pub BeginsIf : Bool → SessionFault → Bool → Editor → List ℕ → Type 0
+BeginsIf true fault has_cursor old part = BeginsFrame fault has_cursor old part
+BeginsIf false fault has_cursor old part = ⊥

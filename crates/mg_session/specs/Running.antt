@@ -1,5 +1,5 @@
 -- What a session does with its keys.
-use Rattle.std.specs.Prelude.{◌≡◌, ◌↔◌, ⊤, ℕ, Bool, true, false, not, ◌&&◌, List, [], ◌∷◌, ◌++◌, min, max, Option, Ok, Err}
+use Rattle.std.specs.Prelude.{◌≡◌, ◌⊎◌, ◌↔◌, ⊤, ℕ, Bool, true, false, not, ◌&&◌, List, [], ◌∷◌, ◌++◌, min, max, Option, Ok, Err}
 use Rattle.std.specs.Io.KnownBytes.{Consumes}
 use Rattle.rga_lines.specs.Counting.{Calls, Writes, IsReadToEnd}
 use Rattle.mg_files.specs.Calls.{Call, Adds, load_call, found_call, refused}
@@ -11,7 +11,7 @@ use Rattle.mg_settings.specs.Settings.{Values}
 use Rattle.mg_workspace.specs.Deeds.{resized}
 use Rattle.mg_editor.specs.Editors.{Editor}
 use Rattle.mg_editor.specs.Opening.{Opens}
-use Rattle.mg_session.specs.Display.{ShowsIf}
+use Rattle.mg_session.specs.Display.{ShowsIf, BeginsIf}
 use Rattle.mg_session.specs.Keys.{TakesKey}
 use Rattle.mg_session.specs.Reports.{Event, key, size, Reports, fresh, events, all_events}
 use Rattle.mg_session.specs.declared.fault.SessionFault.{SessionFault}
@@ -73,6 +73,43 @@ pub record TakesKeys {R W : Type 0} (meaning : List ℕ → List Event) (remaini
   pub quits : Bool
   pub taken : TakesRead meaning remaining contents trace has_cursor keys rest calls more old new quits screen shown
   pub whole : quits ≡ false → IsReadToEnd remaining rest
+
+-- ---- a fault at a frame
+
+-- A byte was taken, and the frame behind it was only begun.
+pub record StopsKey (trace has_cursor : Bool) (fault : SessionFault) (byte : ℕ) (calls more : Told) (old : Editor) (part : List ℕ) : Type 0 where
+  pub between : Editor
+  pub ends : Bool
+  pub taken : TakesKey byte calls more old between ends
+  pub amid : Bool
+  pub is_amid : (amid ≡ false) ↔ HasBegun between.talk.keys []
+  pub begins : BeginsIf (trace && not amid) fault has_cursor between part
+
+-- so was a size
+abbrev pub StopsEvent : Bool → Bool → SessionFault → Event → Told → Told → Editor → List ℕ → Type 0
+StopsEvent trace has_cursor fault (key byte) calls more old part = StopsKey trace has_cursor fault byte calls more old part
+StopsEvent trace has_cursor fault (size rows columns) calls more old part = (more ≡ calls) × BeginsIf trace fault has_cursor (resized_editor rows columns old) part
+
+-- Of the events some were taken in turn, none of which quits, and the next one stops at its frame.
+abbrev pub StopsAll : Bool → Bool → SessionFault → List Event → Told → Told → Editor → List ℕ → Type 0
+StopsAll trace has_cursor fault [] calls more old text = ⊥
+StopsAll trace has_cursor fault (event ∷ rest) calls more old text =
+    StopsEvent trace has_cursor fault event calls more old text
+    ⊎ ((told : Told) × (mid : Editor) × (shown : List ℕ) × (further : List ℕ)
+    × TakesEvent trace has_cursor event calls told old mid false shown
+    × StopsAll trace has_cursor fault rest told more mid further × (text ≡ shown ++ further))
+
+-- the same, and what was written stands behind the known bytes of a screen
+pub record StopsOnto {W : Type 0} (contents : W → Option (List ℕ)) (trace has_cursor : Bool) (fault : SessionFault) (events : List Event) (calls more : Told) (old : Editor) (screen shown : Calls W) : Type 0 where
+  pub text : List ℕ
+  pub stopped : StopsAll trace has_cursor fault events calls more old text
+  pub written : Writes contents screen shown text
+
+-- Keys were read, and of what their bytes mean an event stops.
+pub record StopsRead {R W : Type 0} (meaning : List ℕ → List Event) (remaining : R → Option (List ℕ)) (contents : W → Option (List ℕ)) (trace has_cursor : Bool) (fault : SessionFault) (keys rest : Calls R) (calls more : Told) (old : Editor) (screen shown : Calls W) : Type 0 where
+  pub bytes : List ℕ
+  pub read : Consumes (remaining keys.inner) (remaining rest.inner) bytes
+  pub stopped : StopsOnto contents trace has_cursor fault (meaning bytes) calls more old screen shown
 
 -- ---- the load of the settings' name
 
@@ -157,3 +194,52 @@ module _ {R W : Type 0} (remaining : R → Option (List ℕ)) (contents : W → 
     pub load : IsFound v found calls told
     pub opens : Opens v found (Ok first)
     pub broke : BrokeOff (fresh v.resizable) v.trace v.cursor keys rest told more first screen shown
+
+  -- ---- a session that stops short: what was written is a beginning of what it shows
+
+  -- at the frame at the start, before a key was read
+  pub record StopsAtStart (trace has_cursor : Bool) (fault : SessionFault) (keys rest : Calls R) (calls more : Told) (first : Editor) (screen shown : Calls W) : Type 0 where
+    pub part : List ℕ
+    pub unread : rest ≡ keys
+    pub uncalled : more ≡ calls
+    pub begins : BeginsIf trace fault has_cursor first part
+    pub written : Writes contents screen shown part
+
+  -- at a frame behind an event
+  pub record StopsAmid (reports : Reports) (trace has_cursor : Bool) (fault : SessionFault) (keys rest : Calls R) (calls more : Told) (first : Editor) (screen shown : Calls W) : Type 0 where
+    pub bytes : List ℕ
+    pub begun : Editor
+    pub start : List ℕ
+    pub behind : List ℕ
+    pub read : Consumes (remaining keys.inner) (remaining rest.inner) bytes
+    pub starts : ShowsIf trace has_cursor first begun start
+    pub stopped : StopsAll trace has_cursor fault (all_events reports bytes) calls more begun behind
+    pub written : Writes contents screen shown (start ++ behind)
+
+  -- at the frame at the end
+  pub record StopsAtEnd (reports : Reports) (trace has_cursor : Bool) (fault : SessionFault) (keys rest : Calls R) (calls more : Told) (first : Editor) (screen shown : Calls W) : Type 0 where
+    pub bytes : List ℕ
+    pub quits : Bool
+    pub ended : Editor
+    pub front : List ℕ
+    pub part : List ℕ
+    pub read : Consumes (remaining keys.inner) (remaining rest.inner) bytes
+    pub whole : quits ≡ false → IsReadToEnd remaining rest
+    pub begun : IsBegun trace has_cursor (all_events reports bytes) calls more first ended quits front
+    pub begins : BeginsIf (not trace) fault has_cursor ended part
+    pub written : Writes contents screen shown (front ++ part)
+
+  abbrev pub Stops : Reports → Bool → Bool → SessionFault → Calls R → Calls R → Told → Told → Editor → Calls W → Calls W → Type 0
+  Stops reports trace has_cursor fault keys rest calls more first screen shown =
+      StopsAtStart trace has_cursor fault keys rest calls more first screen shown
+      ⊎ StopsAmid reports trace has_cursor fault keys rest calls more first screen shown
+      ⊎ StopsAtEnd reports trace has_cursor fault keys rest calls more first screen shown
+
+  -- the same from the load on
+  pub record StopsFrom (v : Values) (fault : SessionFault) (keys rest : Calls R) (calls more : Told) (screen shown : Calls W) : Type 0 where
+    pub found : Files
+    pub told : Told
+    pub first : Editor
+    pub load : IsFound v found calls told
+    pub opens : Opens v found (Ok first)
+    pub stops : Stops (fresh v.resizable) v.trace v.cursor fault keys rest told more first screen shown

@@ -1,6 +1,6 @@
 //! Frames, as they are written.
-ghost use Rattle.std.specs.Prelude.{◌≡◌, ◌⊎◌, ℕ, List, ◌∷◌, ◌++◌, [], map, string_bytes, IfOk, OnOk, IfErr};
-ghost use Rattle.rga_lines.specs.Counting.{CountsAs, Writes};
+ghost use Rattle.std.specs.Prelude.{◌≡◌, ◌⊎◌, ℕ, List, ◌∷◌, ◌++◌, [], true, map, string_bytes, IfOk, OnOk, IfErr};
+ghost use Rattle.rga_lines.specs.Counting.{CountsAs, StaysFlushed, Writes, WritesFront};
 ghost use Rattle.rga_lines.specs.Stream.{newline, bytes_of_lines};
 ghost use Rattle.mg_session.specs.Display as spec;
 ghost use Rattle.mg_session.specs.declared.fault.SessionFault.TheVariants.{Screen, Memory};
@@ -61,6 +61,8 @@ fn frame_text(
 /// Writes a text, and flushes the device. `Screen` comes exactly where a call failed.
 fn write_text<W: Write>(text: &str, screen: &mut Counted<W>) -> Result<(), SessionFault>
     ensures written { OnOk result (Writes W.contents screen.old screen.new text.now) }
+    ensures begun { WritesFront W.contents screen.old screen.new text.now }
+    ensures flushed { OnOk result (screen.new.flushed ≡ true) }
     ensures fault { IfErr result (λ e. e ≡ Screen) }
     ensures device { CountsAs Screen result screen.old screen.new }
 {
@@ -105,6 +107,10 @@ pub(crate) fn show<S: TextStore, W: Write>(
     ensures shown { OnOk result ((text : List ℕ)
         × spec.ShowsFrame has_cursor editor.old editor.new text
         × Writes W.contents screen.old screen.new text) }
+    ensures begun { IfErr result (λ e. (part : List ℕ)
+        × spec.BeginsFrame e has_cursor editor.old part
+        × Writes W.contents screen.old screen.new part) }
+    ensures flushed { StaysFlushed Screen result screen.old screen.new }
     ensures fault { IfErr result (λ e. (e ≡ Screen) ⊎ (e ≡ Memory)) }
     ensures device { CountsAs Screen result screen.old screen.new }
 {

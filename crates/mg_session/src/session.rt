@@ -1,9 +1,9 @@
 //! Sessions.
 ghost use Rattle.std.specs.Prelude.{◌≡◌, ◌≢◌, ◌⊎◌, ◌↔◌, ℕ, Bool, false, not, ◌&&◌, List, [], ◌∷◌, Err, IfOk, OnOk, IfErr};
-ghost use Rattle.rga_lines.specs.Counting.{CountsAs, Writes, one_more};
+ghost use Rattle.rga_lines.specs.Counting.{CountsAs, StaysFlushed, Writes, one_more};
 ghost use Rattle.mg_files.specs.declared.fault.LoadFault.TheVariants.{Memory as NoMemory};
 ghost use Rattle.mg_keys.specs.Begun.{HasBegun};
-ghost use Rattle.mg_session.specs.Display.{ShowsIf};
+ghost use Rattle.mg_session.specs.Display.{ShowsIf, BeginsIf};
 ghost use Rattle.mg_session.specs.Faults as spec;
 ghost use Rattle.mg_session.specs.Reports as report;
 ghost use Rattle.mg_session.specs.Running as running;
@@ -68,6 +68,17 @@ pub fn run_keys<S: TextStore, R: Read, W: Write, P: Port>(
     // So was what is certain before a read that failed.
     ensures broken { result ≡ Err Keys → running.BrokeOffFrom R.remaining W.contents settings.now
         keys.old keys.new (P.calls port.old) (P.calls port.new) screen.old screen.new }
+    // Where a frame could not be written or made, a beginning of what the session shows was written:
+    // of that frame a beginning, or nothing where memory is wanting.
+    ensures begun { result ≡ Err Screen → running.StopsFrom R.remaining W.contents settings.now
+        Screen keys.old keys.new (P.calls port.old) (P.calls port.new) screen.old screen.new }
+    // Where memory is wanting at the load, no key was read and nothing was written.
+    ensures memory { result ≡ Err Memory → ((keys.new ≡ keys.old) × (screen.new ≡ screen.old))
+        ⊎ running.StopsFrom R.remaining W.contents settings.now
+        Memory keys.old keys.new (P.calls port.old) (P.calls port.new) screen.old screen.new }
+
+    // What is written is flushed before the next read, and at the end.
+    ensures flushed { StaysFlushed Screen result screen.old screen.new }
 
     // A call of a device that failed is told as such, and not as something else.
     ensures keys { CountsAs Keys result keys.old keys.new }
@@ -124,8 +135,12 @@ impl<S: TextStore> Session<S> {
         ensures broken { result ≡ Err Keys → running.BrokeOff R.remaining W.contents
             self.old.reports self.old.trace self.old.cursor keys.old keys.new (P.calls port.old)
             (P.calls port.new) self.old.editor screen.old screen.new }
+        ensures begun { IfErr result (λ e. e ≢ Keys → running.Stops R.remaining W.contents
+            self.old.reports self.old.trace self.old.cursor e keys.old keys.new
+            (P.calls port.old) (P.calls port.new) self.old.editor screen.old screen.new) }
         ensures fault { IfErr result (λ e. ¬ (spec.IsOfLoad e)) }
         ensures keys { CountsAs Keys result keys.old keys.new }
+        ensures flushed { StaysFlushed Screen result screen.old screen.new }
         ensures screen { CountsAs Screen result screen.old screen.new }
     {
         self.show_if(self.trace, screen)?;
@@ -142,9 +157,13 @@ impl<S: TextStore> Session<S> {
         ensures shown { OnOk result ((text : List ℕ)
             × ShowsIf is_asked self.old.cursor self.old.editor self.new.editor text
             × Writes W.contents screen.old screen.new text) }
+        ensures begun { IfErr result (λ e. (part : List ℕ)
+            × BeginsIf is_asked e self.old.cursor self.old.editor part
+            × Writes W.contents screen.old screen.new part) }
         ensures kept { (self.new.trace ≡ self.old.trace) × (self.new.cursor ≡ self.old.cursor) }
         ensures reports { self.new.reports ≡ self.old.reports }
         ensures fault { IfErr result (λ e. (e ≡ Screen) ⊎ (e ≡ Memory)) }
+        ensures flushed { StaysFlushed Screen result screen.old screen.new }
         ensures device { CountsAs Screen result screen.old screen.new }
     {
         if is_asked {
@@ -172,9 +191,13 @@ impl<S: TextStore> Session<S> {
         ensures taken { IfOk result (λ ends. running.TakesOnto W.contents
             self.old.trace self.old.cursor (report.key key ∷ []) (P.calls port.old)
             (P.calls port.new) self.old.editor self.new.editor ends screen.old screen.new) }
+        ensures begun { IfErr result (λ e. running.StopsOnto W.contents
+            self.old.trace self.old.cursor e (report.key key ∷ []) (P.calls port.old)
+            (P.calls port.new) self.old.editor screen.old screen.new) }
         ensures kept { (self.new.trace ≡ self.old.trace) × (self.new.cursor ≡ self.old.cursor) }
         ensures reports { self.new.reports ≡ self.old.reports }
         ensures fault { IfErr result (λ e. (e ≡ Screen) ⊎ (e ≡ Memory)) }
+        ensures flushed { StaysFlushed Screen result screen.old screen.new }
         ensures device { CountsAs Screen result screen.old screen.new }
     {
         let ends = take_key(&mut self.editor, key, port);
@@ -192,9 +215,13 @@ impl<S: TextStore> Session<S> {
         ensures taken { IfOk result (λ quits. running.TakesOnto W.contents
             self.old.trace self.old.cursor (report.keys keys.now) (P.calls port.old)
             (P.calls port.new) self.old.editor self.new.editor quits screen.old screen.new) }
+        ensures begun { IfErr result (λ e. running.StopsOnto W.contents
+            self.old.trace self.old.cursor e (report.keys keys.now) (P.calls port.old)
+            (P.calls port.new) self.old.editor screen.old screen.new) }
         ensures kept { (self.new.trace ≡ self.old.trace) × (self.new.cursor ≡ self.old.cursor) }
         ensures reports { self.new.reports ≡ self.old.reports }
         ensures fault { IfErr result (λ e. (e ≡ Screen) ⊎ (e ≡ Memory)) }
+        ensures flushed { StaysFlushed Screen result screen.old screen.new }
         ensures device { CountsAs Screen result screen.old screen.new }
     {
         for key in keys {
@@ -216,9 +243,13 @@ impl<S: TextStore> Session<S> {
         ensures taken { (calls : running.Told) → OnOk result (running.TakesOnto W.contents
             self.old.trace self.old.cursor (report.size rows columns ∷ []) calls calls
             self.old.editor self.new.editor false screen.old screen.new) }
+        ensures begun { (calls : running.Told) → IfErr result (λ e. running.StopsOnto W.contents
+            self.old.trace self.old.cursor e (report.size rows columns ∷ []) calls calls
+            self.old.editor screen.old screen.new) }
         ensures kept { (self.new.trace ≡ self.old.trace) × (self.new.cursor ≡ self.old.cursor) }
         ensures reports { self.new.reports ≡ self.old.reports }
         ensures fault { IfErr result (λ e. (e ≡ Screen) ⊎ (e ≡ Memory)) }
+        ensures flushed { StaysFlushed Screen result screen.old screen.new }
         ensures device { CountsAs Screen result screen.old screen.new }
     {
         self.editor.resize(
@@ -239,9 +270,14 @@ impl<S: TextStore> Session<S> {
             IfOk result (λ quits. running.TakesOnto W.contents
             self.old.trace self.old.cursor read.events (P.calls port.old) (P.calls port.new)
             self.old.editor self.new.editor quits screen.old screen.new) }
+        ensures begun { let read = report.read self.old.reports byte in
+            IfErr result (λ e. running.StopsOnto W.contents
+            self.old.trace self.old.cursor e read.events (P.calls port.old) (P.calls port.new)
+            self.old.editor screen.old screen.new) }
         ensures left { self.new.reports ≡ (report.read self.old.reports byte).left }
         ensures kept { (self.new.trace ≡ self.old.trace) × (self.new.cursor ≡ self.old.cursor) }
         ensures fault { IfErr result (λ e. (e ≡ Screen) ⊎ (e ≡ Memory)) }
+        ensures flushed { StaysFlushed Screen result screen.old screen.new }
         ensures device { CountsAs Screen result screen.old screen.new }
     {
         match self.reports.read(byte) {
@@ -264,10 +300,14 @@ impl<S: TextStore> Session<S> {
             self.old.trace self.old.cursor (report.events self.old.reports bytes.now)
             (P.calls port.old) (P.calls port.new)
             self.old.editor self.new.editor quits screen.old screen.new) }
+        ensures begun { IfErr result (λ e. running.StopsOnto W.contents
+            self.old.trace self.old.cursor e (report.events self.old.reports bytes.now)
+            (P.calls port.old) (P.calls port.new) self.old.editor screen.old screen.new) }
         ensures left { IfOk result (λ quits. quits ≡ false →
             self.new.reports ≡ report.after self.old.reports bytes.now) }
         ensures kept { (self.new.trace ≡ self.old.trace) × (self.new.cursor ≡ self.old.cursor) }
         ensures fault { IfErr result (λ e. (e ≡ Screen) ⊎ (e ≡ Memory)) }
+        ensures flushed { StaysFlushed Screen result screen.old screen.new }
         ensures device { CountsAs Screen result screen.old screen.new }
     {
         for byte in bytes {
@@ -295,9 +335,14 @@ impl<S: TextStore> Session<S> {
             R.remaining W.contents self.old.trace self.old.cursor keys.old keys.new
             (P.calls port.old) (P.calls port.new) self.old.editor self.new.editor false
             screen.old screen.new }
+        ensures begun { IfErr result (λ e. e ≢ Keys → running.StopsRead
+            (report.all_events self.old.reports) R.remaining W.contents self.old.trace
+            self.old.cursor e keys.old keys.new (P.calls port.old) (P.calls port.new)
+            self.old.editor screen.old screen.new) }
         ensures kept { (self.new.trace ≡ self.old.trace) × (self.new.cursor ≡ self.old.cursor) }
         ensures fault { IfErr result (λ e. (e ≡ Keys) ⊎ (e ≡ Screen) ⊎ (e ≡ Memory)) }
         ensures keys { CountsAs Keys result keys.old keys.new }
+        ensures flushed { StaysFlushed Screen result screen.old screen.new }
         ensures screen { CountsAs Screen result screen.old screen.new }
     {
         let mut block = [0u8; BLOCK];

@@ -59,7 +59,8 @@ impl<R: Files<File = File> + Net + AllocGlobal + Drop> FilePort<R> {
 
     /// What a call for a file answered, in a port's words; a failure of the device is counted.
     fn told<T: Drop>(&mut self, answer: io::Result<T>) -> Result<T, PortFault>
-        ensures { self.new.failures ≡ failures_after result self.old.failures }
+        ensures device { self.new.failures ≡ failures_after result self.old.failures }
+        ensures number { self.new.number ≡ self.old.number }
     {
         match answer {
             Ok(value) => Ok(value),
@@ -101,6 +102,7 @@ impl<R: Files<File = File> + Net + AllocGlobal + Drop> FilePort<R> {
         ensures found { IfOk result (λ i. i < length self.new.notes.items) }
         ensures memory { IfErr result (λ e. e ≡ Memory) }
         ensures failures { self.new.failures ≡ self.old.failures }
+        ensures number { self.new.number ≡ self.old.number }
     {
         let known = self.notes.iter().position(|note| note.is_of(name));
         if let Some(index) = known {
@@ -133,7 +135,8 @@ impl<R: Files<File = File> + Net + AllocGlobal + Drop> FilePort<R> {
 
 impl<R: Files<File = File> + Net + AllocGlobal + Drop> Port for FilePort<R> {
     ghost use Rattle.std.specs.Prelude.{◌≡◌, ◌↔◌, None, Err};
-    ghost use Rattle.mg_files.specs.Calls.{failures_after_link};
+    ghost use Rattle.mg_files.specs.Calls.{failures_after, failures_after_link};
+    ghost use Rattle.mg_files.specs.Links.{KeepsBytes};
     ghost use Rattle.mg_files.specs.declared.port.LinkFault.TheVariants.{NoPort};
 
     type Link = R::Stream;
@@ -146,7 +149,10 @@ impl<R: Files<File = File> + Net + AllocGlobal + Drop> Port for FilePort<R> {
 
     /// Where there is a log, the text is not read. A note that something else has open is refused,
     /// be it under another path.
-    fn load(&mut self, name: &str) -> Result<Found, PortFault> {
+    fn load(&mut self, name: &str) -> Result<Found, PortFault>
+        ensures device { self.new.failures ≡ failures_after result self.old.failures }
+        ensures number { self.new.number ≡ self.old.number }
+    {
         let index = self.note(name)?;
         let note = self.new_note(name)?;
         self.notes[index] = note;
@@ -156,7 +162,10 @@ impl<R: Files<File = File> + Net + AllocGlobal + Drop> Port for FilePort<R> {
 
     /// The bytes are on the device once it answers `Ok`. Nothing is written where the log is gone,
     /// is another file, or is not as it was left, but for lines that were put behind it.
-    fn append(&mut self, name: &str, bytes: &[u8]) -> Result<(), PortFault> {
+    fn append(&mut self, name: &str, bytes: &[u8]) -> Result<(), PortFault>
+        ensures device { self.new.failures ≡ failures_after result self.old.failures }
+        ensures number { self.new.number ≡ self.old.number }
+    {
         let index = self.note(name)?;
         let answer = self.notes[index].append(&self.rt, bytes);
         self.told(answer)
@@ -164,7 +173,10 @@ impl<R: Files<File = File> + Net + AllocGlobal + Drop> Port for FilePort<R> {
 
     /// Whenever the machine stops, the log is the old one or the new one, whole. The old one is
     /// kept.
-    fn replace(&mut self, name: &str, bytes: &[u8]) -> Result<(), PortFault> {
+    fn replace(&mut self, name: &str, bytes: &[u8]) -> Result<(), PortFault>
+        ensures device { self.new.failures ≡ failures_after result self.old.failures }
+        ensures number { self.new.number ≡ self.old.number }
+    {
         let index = self.note(name)?;
         let answer = self.notes[index].replace(&self.rt, bytes);
         self.told(answer)
@@ -172,7 +184,10 @@ impl<R: Files<File = File> + Net + AllocGlobal + Drop> Port for FilePort<R> {
 
     /// So is the text, where it is a plain file in a folder that takes new ones. Its permissions
     /// stay; where they do not let it be written, it is refused.
-    fn put_text(&mut self, name: &str, bytes: &[u8]) -> Result<(), PortFault> {
+    fn put_text(&mut self, name: &str, bytes: &[u8]) -> Result<(), PortFault>
+        ensures device { self.new.failures ≡ failures_after result self.old.failures }
+        ensures number { self.new.number ≡ self.old.number }
+    {
         let index = self.note(name)?;
         let answer = self.notes[index].put_text(&self.rt, bytes);
         self.told(answer)
@@ -205,7 +220,11 @@ impl<R: Files<File = File> + Net + AllocGlobal + Drop> Port for FilePort<R> {
         self.link_told(answer)
     }
 
-    fn finish(&mut self, link: &mut R::Stream) -> Result<(), LinkFault> {
+    fn finish(&mut self, link: &mut R::Stream) -> Result<(), LinkFault>
+        ensures device { self.new.failures ≡ failures_after_link result self.old.failures }
+        ensures bytes { KeepsBytes R.Stream.remaining R.Stream.contents link.old link.new }
+        ensures number { self.new.number ≡ self.old.number }
+    {
         let answer = link.shutdown(Shutdown::Write);
         self.link_told(answer)
     }

@@ -1,8 +1,8 @@
 -- The exit status of the program.
-use Rattle.std.specs.Prelude.{◌≡◌, ◌≢◌, ◌⊎◌, ℕ, List, [], ◌∷◌, Option, Result, Err, codes, OnOk, OnErr, IfErr}
+use Rattle.std.specs.Prelude.{◌≡◌, ◌≢◌, ◌⊎◌, ℕ, true, List, [], ◌∷◌, Option, Result, Err, codes, OnOk, OnErr, IfErr}
 use Rattle.rga_ops.specs.Content.{Content, nothing as no_content}
 use Rattle.rga_store.specs.declared.text_store.TheConstants.{MAX_LIMIT}
-use Rattle.rga_lines.specs.Counting.{Calls, CountsAs, OnBytes, WritesNothing, one_more}
+use Rattle.rga_lines.specs.Counting.{Calls, CountsAs, StaysFlushed, OnBytes, WritesNothing, one_more}
 use Rattle.rga_exchange.specs.Taking.{HasTakenWholeLines}
 use Rattle.mgr_command.specs.declared.job.JobFault.{JobFault}
 use Rattle.mgr_command.specs.declared.job.JobFault.TheVariants.{Help, Version, Usage, Memory}
@@ -14,7 +14,7 @@ use Rattle.mg_session.specs.declared.fault.SessionFault.TheVariants as session
 use Rattle.mg_files.specs.Calls.{Call}
 use Rattle.mg_files.specs.declared.fault.LoadFault.TheVariants as unloaded
 use Rattle.mg_session.specs.Faults.{IsOfLoad}
-use Rattle.mg_session.specs.Running.{RanFrom, BrokeOffFrom, FailsToOpen}
+use Rattle.mg_session.specs.Running.{RanFrom, BrokeOffFrom, StopsFrom, FailsToOpen}
 use Rattle.mg_settings.specs.Settings.{Values}
 use Rattle.mgr_command.specs.declared.job.Job.{Job}
 use Rattle.mgr_command.specs.declared.job.Job.TheVariants.{Show, Edit}
@@ -32,6 +32,7 @@ module _ {R W : Type 0} (remaining : R → Option (List ℕ)) (contents : W → 
     pub refused : IfErr answer (λ e. IsOfInput e → OnBytes remaining r (λ bytes. log_of MAX_LIMIT bytes ≡ Err e))
     pub nothing : IfErr answer (λ e. e ≢ fault.Write → e ≢ fault.Memory → WritesNothing contents old new)
     pub unwritten : IfErr answer (λ e. e ≢ fault.Write → new ≡ old)
+    pub flushed : OnOk answer (new.flushed ≡ true)
     pub begun : OnErr answer (OnBytes remaining r (λ bytes. WritesNothing contents old new ⊎ BeginsToShow contents old new bytes))
     pub whole_lines : answer ≡ Err fault.Read → (c : Content) × HasTakenWholeLines remaining (λ _. MAX_LIMIT) (λ held. held) (λ _ _ _. Unit {0}) r s no_content c
     pub reads : CountsAs fault.Read answer r s
@@ -46,9 +47,12 @@ module _ {R W P : Type 0} (remaining : R → Option (List ℕ)) (contents : W �
     pub told_line : Tells told telling (edited_telling answer)
     pub ran : OnOk answer (RanFrom remaining contents settings r s (calls before) (calls after) old new)
     pub broken : answer ≡ Err session.Keys → BrokeOffFrom remaining contents settings r s (calls before) (calls after) old new
+    pub begun : answer ≡ Err session.Screen → StopsFrom remaining contents settings session.Screen r s (calls before) (calls after) old new
+    pub memory : answer ≡ Err session.Memory → ((s ≡ r) × (new ≡ old)) ⊎ StopsFrom remaining contents settings session.Memory r s (calls before) (calls after) old new
     pub load : IfErr answer (FailsToOpen settings (calls before) (calls after))
     pub unread : IfErr answer (λ e. IsOfLoad e → s ≡ r)
     pub unwritten : IfErr answer (λ e. IsOfLoad e → new ≡ old)
+    pub flushed : StaysFlushed session.Screen answer old new
     pub folded : answer ≢ Err (session.Load unloaded.Memory)
     pub keys : CountsAs session.Keys answer r s
     pub screen : CountsAs session.Screen answer old new
@@ -67,6 +71,7 @@ module _ {W : Type 0} where
     pub unfailed : status ≢ 3 → new.failures ≡ old.failures
     pub others : (status ≡ 0) ⊎ (status ≡ 3) ⊎ (status ≡ 4)
     pub unwritten : status ≡ 4 → new ≡ old
+    pub flushed : status ≡ 0 → new.flushed ≡ true
     pub untold : status ≡ 0 → Tells told telling []
     pub device : status ≡ 3 → Tells told telling (line (codes "device fault") ∷ [])
     pub memory : status ≡ 4 → Tells told telling (line (codes "out of memory") ∷ [])

@@ -1,5 +1,5 @@
 //! The text of a log.
-ghost use Rattle.std.specs.Prelude.{◌≡◌, ◌≢◌, ◌⊎◌, Ok, Err, OnOk, OnErr, IfErr};
+ghost use Rattle.std.specs.Prelude.{◌≡◌, ◌≢◌, ◌⊎◌, true, Ok, Err, OnOk, OnErr, IfErr};
 ghost use Rattle.rga_ops.specs.Prelude.{Content, nothing};
 ghost use Rattle.rga_store.specs.declared.text_store.TheConstants.{MAX_LIMIT};
 ghost use Rattle.rga_lines.specs.Counting.{CountsAs, OnBytes, Writes, WritesFront, WritesNothing};
@@ -38,6 +38,7 @@ pub fn show_ops<R: Read, W: Write>(
     ensures begun { OnErr result (OnBytes R.remaining reader.old (λ bytes.
         WritesNothing W.contents writer.old writer.new
         ⊎ BeginsToShow W.contents writer.old writer.new bytes)) }
+    ensures flushed { OnOk result (writer.new.flushed ≡ true) }
 
     // Of what was taken the content alone is told: the store is made and dropped here.
     ensures whole_lines { result ≡ Err ShowFault.Read → (c : Content) × HasTakenWholeLines
@@ -82,6 +83,7 @@ fn take_whole_log<T: Taker, R: Read>(
 pub fn write_text<W: Write>(text: &str, writer: &mut Counted<W>) -> Result<(), ShowFault>
     ensures written { OnOk result (Writes W.contents writer.old writer.new text.now) }
     ensures begun { WritesFront W.contents writer.old writer.new text.now }
+    ensures flushed { OnOk result (writer.new.flushed ≡ true) }
     ensures fault { IfErr result (λ e. e ≡ ShowFault.Write) }
     ensures device { CountsAs ShowFault.Write result writer.old writer.new }
 {

@@ -1,5 +1,5 @@
 //! Operations sent: as lines, in blocks.
-ghost use Rattle.std.specs.Prelude.{◌≡◌, ℕ, ◌≤◌, ◌++◌, ◌∷◌, List, [], length, Ok, IfOk, OnOk};
+ghost use Rattle.std.specs.Prelude.{◌≡◌, ℕ, ◌≤◌, ◌++◌, ◌∷◌, List, [], length, true, Ok, IfOk, OnOk};
 ghost use Rattle.rga_ops.specs.Prelude.{checked, operations, Content, Agree, IsSound, join, known_count, content_of};
 ghost use Rattle.rga_ops.specs.ListAnswer.{AreWellFormed, IsJoinable};
 ghost use Rattle.rga_lines.specs.Counting.{CountsAs, Writes, WritesFront, WritesAllBut};
@@ -39,6 +39,7 @@ pub fn send<S: TextStore, W: Write>(
         → exchange_outcome limit c (stream_text sent) ≡ (join c sent, Ok number)) }
     ensures begun { WritesFront W.contents writer.old writer.new
         (stream_text (S.content store.now)) }
+    ensures flushed { OnOk result (writer.new.flushed ≡ true) }
     ensures device { CountsAs SendFault.Write result writer.old writer.new }
 {
     let Ok(ops) = store.ops() else {
@@ -77,6 +78,7 @@ pub fn append_log<W: Write>(
     // Whatever is answered, such a log, with what was written behind it, stands for that content
     // joined with the first so many of the operations.
     ensures gained { AppendsFirst W.contents writer.old writer.new ops.now }
+    ensures flushed { OnOk result (writer.new.flushed ≡ true) }
     ensures device { CountsAs SendFault.Write result writer.old writer.new }
 {
     let mut block = Block::new(alloc)?;
@@ -132,6 +134,7 @@ fn push_line<W: Write>(
 fn finish<W: Write>(mut rest: Block, writer: &mut Counted<W>) -> Result<(), SendFault>
     ensures ok { OnOk result (Writes W.contents writer.old writer.new rest) }
     ensures begun { WritesFront W.contents writer.old writer.new rest }
+    ensures flushed { OnOk result (writer.new.flushed ≡ true) }
     ensures device { CountsAs SendFault.Write result writer.old writer.new }
 {
     rest.write_to(writer)?;

@@ -1,23 +1,24 @@
 -- A device whose failed calls are counted, and whose calls come to an end.
-use Rattle.std.specs.Prelude.{◌≡◌, ◌≢◌, ℕ, ◌+◌, ◌-◌, ◌^◌, ◌≤◌, ◌⊎◌, ◌&&◌, ◌==◌, Bool, true, min, List, ◌++◌, length, nat_lt, if◌then◌else◌, Option, IfSome, Result, Err, MatchResult, ⊤, refl}
+use Rattle.std.specs.Prelude.{◌≡◌, ◌≢◌, ℕ, ◌+◌, ◌-◌, ◌^◌, ◌≤◌, ◌⊎◌, ◌&&◌, ◌==◌, Bool, true, false, min, List, ◌++◌, length, nat_lt, if◌then◌else◌, Option, IfSome, Result, Err, MatchResult, ⊤, refl}
 use Rattle.std.specs.Coded.{Coded, code_by, coded×, coded_bool, coded_ℕ}
 use Rattle.std.specs.Io.KnownBytes.{Keeps, Appends, IsAtEnd}
 use Rattle.rga_lines.specs.declared.counted.TheConstants.{MAX_CALLS}
 
--- what a contract sees of a `Counted`: the device, how many calls failed, how many more are passed on to it, and whether
--- the last read that it answered gave no bytes though there was room
+-- what a contract sees of a `Counted`: the device, how many calls failed, how many more are passed on to it, whether the
+-- last read that it answered gave no bytes though there was room, and whether all that was written was flushed behind it
 pub record Calls (T : Type 0) : Type 0 where
   pub inner : T
   pub failures : ℕ
   pub left : ℕ
   pub at_end : Bool
+  pub flushed : Bool
 
 -- they are stored as the tuple of the fields
 abbrev pub calls_code : {T : Type 0} → Coded T → Coded (Calls T)
 calls_code {T} code =
-    code_by (T × (ℕ × (ℕ × Bool))) (coded× code (coded× coded_ℕ (coded× coded_ℕ coded_bool)))
-    (λ c. (c.inner, (c.failures, (c.left, c.at_end))))
-    (λ p. record { inner = p.0; failures = p.1.0; left = p.1.1.0; at_end = p.1.1.1 }) (λ _. refl)
+    code_by (T × (ℕ × (ℕ × (Bool × Bool)))) (coded× code (coded× coded_ℕ (coded× coded_ℕ (coded× coded_bool coded_bool))))
+    (λ c. (c.inner, (c.failures, (c.left, (c.at_end, c.flushed)))))
+    (λ p. record { inner = p.0; failures = p.1.0; left = p.1.1.0; at_end = p.1.1.1.0; flushed = p.1.1.1.1 }) (λ _. refl)
 
 -- where the count of failures stops: the greatest `u64`
 abbrev pub max_failures : ℕ
@@ -45,6 +46,19 @@ module _ {T : Type 0} where
   -- a read that is answered tells whether it gave no bytes though there was room, and one that fails tells nothing
   abbrev pub TellsEnd : {E : Type 0} → Result ℕ E → List ℕ → Calls T → Calls T → Type 0
   TellsEnd r buf old new = MatchResult r (λ n. new.at_end ≡ ((n == 0) && nat_lt 0 (length buf))) (λ _. new.at_end ≡ old.at_end)
+
+  -- a write that is passed on is not flushed yet, whatever it answers
+  pub record Unsettles (old new : Calls T) : Type 0 where
+    pub passed_on : ¬ (IsSpent old) → new.flushed ≡ false
+    pub refused : IsSpent old → new.flushed ≡ old.flushed
+
+  -- behind a flush that is answered all is flushed, and one that fails changes nothing of that
+  abbrev pub Settles : {A E : Type 0} → Result A E → Calls T → Calls T → Type 0
+  Settles r old new = MatchResult r (λ _. new.flushed ≡ true) (λ _. new.flushed ≡ old.flushed)
+
+  -- At any answer but this fault all is flushed, where it was before.
+  abbrev pub StaysFlushed : {A E : Type 0} → E → Result A E → Calls T → Calls T → Type 0
+  StaysFlushed fault r old new = r ≢ Err fault → old.flushed ≡ true → new.flushed ≡ true
 
   -- A call that is passed on costs one of those that are left, whether it fails or not; one that is not costs none.
   pub record Costs (old new : Calls T) : Type 0 where

@@ -12,13 +12,15 @@ pub const MAX_CALLS: u64 = 1099511627776;
 /// further one is not made and counts as failed, so that each loop over a device ends. At the
 /// greatest `u64` of failures no call is made any more, and each fails.
 ///
-/// It also keeps whether the last read that was answered found the end of the input.
+/// It also keeps whether the last read that was answered found the end of the input, and whether
+/// all that was written was flushed behind it.
 #[derive(Drop)]
 pub struct Counted<T> {
     inner: T,
     left: u64,
     failures: u64,
     at_end: bool,
+    flushed: bool,
 }
 
 impl<T> Model for Counted<T> {
@@ -35,24 +37,26 @@ impl<T> Model for Counted<T> {
       failures = c.failures;
       left = c.left;
       at_end = c.at_end;
+      flushed = c.flushed;
     } };
 
     ghost invariant = { λ c. c.left ≤ MAX_CALLS };
 }
 
 impl<T> Counted<T> {
-    ghost use Rattle.std.specs.Prelude.{◌≡◌, ◌+◌, ◌≤◌, false};
+    ghost use Rattle.std.specs.Prelude.{◌≡◌, ◌+◌, ◌≤◌, true, false};
     ghost use Rattle.std.specs.Bool.{MatchBool};
     ghost use Rattle.rga_lines.specs.Counting.{one_more, IsSpent};
     ghost use Rattle.rga_lines.specs.declared.counted.TheConstants.{MAX_CALLS};
 
-    /// The device, with no failure yet, no end found and all calls left.
+    /// The device, with no failure yet, no end found, nothing to flush and all calls left.
     pub fn new(inner: T) -> Self
         ensures { result ≡ record {
           inner = inner;
           failures = 0;
           left = MAX_CALLS;
           at_end = false;
+          flushed = true;
         } }
     {
         Counted {
@@ -60,6 +64,7 @@ impl<T> Counted<T> {
             left: MAX_CALLS,
             failures: 0,
             at_end: false,
+            flushed: true,
         }
     }
 
@@ -72,6 +77,7 @@ impl<T> Counted<T> {
             left: _,
             failures: _,
             at_end: _,
+            flushed: _,
         } = self;
         inner
     }
@@ -144,7 +150,7 @@ impl<W: Write> Write for Counted<W> {
     ghost use Rattle.std.specs.Prelude.{◌≡◌, ◌≤◌, IsErr, OnOk};
     ghost use Rattle.std.specs.Io.{WritesAtMost};
     ghost use Rattle.std.specs.Io.KnownBytes.{WriteAppends};
-    ghost use Rattle.rga_lines.specs.Counting.{Counts, WriteCounts, UsesCall, IsSpent, Writes, WritesFront, WritesNothing};
+    ghost use Rattle.rga_lines.specs.Counting.{Counts, WriteCounts, UsesCall, IsSpent, Unsettles, Settles, Writes, WritesFront, WritesNothing};
 
     ghost contents = { λ c. W.contents c.inner };
 
@@ -153,6 +159,7 @@ impl<W: Write> Write for Counted<W> {
         ensures bytes { WriteAppends (W.contents self.old.inner) (W.contents self.new.inner)
             result buf.now }
         ensures device { WriteCounts result buf.now self.old self.new }
+        ensures flushed { Unsettles self.old self.new }
         ensures calls { UsesCall result self.old self.new }
         ensures spent { IsSpent self.old → IsErr result × (self.new.inner ≡ self.old.inner) }
     {
@@ -160,6 +167,7 @@ impl<W: Write> Write for Counted<W> {
             self.fail();
             return Err(Error::from(ErrorKind::Other));
         }
+        self.flushed = false;
         match self.inner.write(buf) {
             Ok(n) => {
                 if n == 0 && !buf.is_empty() {
@@ -177,6 +185,7 @@ impl<W: Write> Write for Counted<W> {
     fn flush(&mut self) -> Result<()>
         ensures bytes { WritesNothing W.contents self.old self.new }
         ensures device { Counts result self.old self.new }
+        ensures flushed { Settles result self.old self.new }
         ensures calls { UsesCall result self.old self.new }
         ensures spent { IsSpent self.old → IsErr result × (self.new.inner ≡ self.old.inner) }
     {
@@ -185,7 +194,10 @@ impl<W: Write> Write for Counted<W> {
             return Err(Error::from(ErrorKind::Other));
         }
         match self.inner.flush() {
-            Ok(()) => Ok(()),
+            Ok(()) => {
+                self.flushed = true;
+                Ok(())
+            }
             Err(e) => {
                 self.fail();
                 Err(e)

@@ -12,6 +12,7 @@ returns-in-Err-clause-status g c =
       refused = e.refused;
       nothing = e.nothing;
       unwritten = e.unwritten;
+      flushed = e.flushed;
       begun = e.begun;
       whole_lines = e.whole_lines;
       reads = e.reads;

@@ -1,5 +1,7 @@
 use Rattle.std.proofs.Common.{◌∙◌, ap, true≢false, arith, ◌+◌}
+use Rattle.std.proofs.lemmas.Result.{err_from_is_err_and}
 use Rattle.std.specs.Result.{is_ok}
+use Rattle.mg_session.proofs.StoppedLaws.{stopped_key}
 use Rattle.mg_session.proofs.TakenLaws.{next_key, last_key}
 use Rattle.mg_session.proofs.session.Session.press_all.Goals as goal
 
@@ -18,4 +20,10 @@ loop-key-preserved g c =
       cursor = c.in_ok-ends.ensures.kept.1 ∙ c.loop-key.invariant.cursor;
       reports = c.in_ok-ends.ensures.reports ∙ c.loop-key.invariant.reports;
       screen = c.in_ok-ends.ensures.device.unfailed (λ e. true≢false (ap is_ok e)) ∙ c.loop-key.invariant.screen;
+      flushed = λ was. c.in_ok-ends.ensures.flushed (λ e. true≢false (ap is_ok e)) (c.loop-key.invariant.flushed was);
     }
+
+pub returns-in_err-ends-clause-begun : goal.returns-in_err-ends-clause-begun
+returns-in_err-ends-clause-begun g c =
+    let p = err_from_is_err_and c.from_residual.result c.from_residual.ensures.1 in
+    rw (p.1, p.2) (stopped_key _ _ c.loop-key.invariant.trace c.loop-key.invariant.cursor c.args.keys.now c.loop-key.key-index 0 _ _ _ _ _ _ _ _ (omega (arith, c.loop-key-test.true)) c.loop-key.invariant.taken c.in_err-ends.ensures.begun)

@@ -1,4 +1,4 @@
-use Rattle.std.proofs.Common.{◌≡◌, false, take}
+use Rattle.std.proofs.Common.{◌≡◌, true, false, take}
 use Rattle.mg_session.specs.Reports.{keys}
 use Rattle.mg_session.specs.Running.{TakesOnto}
 use Rattle.mg_session.proofs.session.Session.press_all.Given as goal
@@ -10,4 +10,5 @@ invariant-loop-key g l = record {
   cursor : l.self.cursor ≡ l.fn.self.cursor;
   reports : l.self.reports ≡ l.fn.self.reports;
   screen : l.screen.failures ≡ l.fn.screen.failures;
+  flushed : l.fn.screen.flushed ≡ true → l.screen.flushed ≡ true;
 }

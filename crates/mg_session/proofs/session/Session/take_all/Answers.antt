@@ -1,6 +1,8 @@
 use Rattle.std.proofs.Common.{◌∙◌, ap, true≢false, arith, ◌+◌}
+use Rattle.std.proofs.lemmas.Result.{err_from_is_err_and}
 use Rattle.std.specs.Result.{is_ok}
 use Rattle.mg_session.proofs.ReportLaws.{after_next}
+use Rattle.mg_session.proofs.StoppedLaws.{stopped_byte}
 use Rattle.mg_session.proofs.TakenLaws.{next_byte, last_byte}
 use Rattle.mg_session.proofs.session.Session.take_all.Goals as goal
 
@@ -21,4 +23,10 @@ loop-byte-preserved g c =
       trace = c.in_ok-ends.ensures.kept.0 ∙ c.loop-byte.invariant.trace;
       cursor = c.in_ok-ends.ensures.kept.1 ∙ c.loop-byte.invariant.cursor;
       screen = c.in_ok-ends.ensures.device.unfailed (λ e. true≢false (ap is_ok e)) ∙ c.loop-byte.invariant.screen;
+      flushed = λ was. c.in_ok-ends.ensures.flushed (λ e. true≢false (ap is_ok e)) (c.loop-byte.invariant.flushed was);
     }
+
+pub returns-in_err-ends-clause-begun : goal.returns-in_err-ends-clause-begun
+returns-in_err-ends-clause-begun g c =
+    let p = err_from_is_err_and c.from_residual.result c.from_residual.ensures.1 in
+    rw (p.1, p.2) (stopped_byte _ _ _ c.loop-byte.invariant.trace c.loop-byte.invariant.cursor _ c.args.bytes.now c.loop-byte.byte-index 0 _ _ _ _ _ _ _ _ (omega (arith, c.loop-byte-test.true)) c.loop-byte.invariant.left c.loop-byte.invariant.taken c.in_err-ends.ensures.begun)

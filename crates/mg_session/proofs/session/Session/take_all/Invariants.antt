@@ -1,4 +1,4 @@
-use Rattle.std.proofs.Common.{◌≡◌, false, take}
+use Rattle.std.proofs.Common.{◌≡◌, true, false, take}
 use Rattle.mg_session.specs.Reports.{events, after}
 use Rattle.mg_session.specs.Running.{TakesOnto}
 use Rattle.mg_session.proofs.session.Session.take_all.Given as goal
@@ -10,4 +10,5 @@ invariant-loop-byte g l = record {
   trace : l.self.trace ≡ l.fn.self.trace;
   cursor : l.self.cursor ≡ l.fn.self.cursor;
   screen : l.screen.failures ≡ l.fn.screen.failures;
+  flushed : l.fn.screen.flushed ≡ true → l.screen.flushed ≡ true;
 }

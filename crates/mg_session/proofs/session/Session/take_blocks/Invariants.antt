@@ -1,4 +1,4 @@
-use Rattle.std.proofs.Common.{◌≡◌}
+use Rattle.std.proofs.Common.{◌≡◌, true}
 use Rattle.mg_session.proofs.TakenLaws.{ReadsOn}
 use Rattle.mg_session.proofs.session.Session.take_blocks.Given as goal
 
@@ -9,6 +9,7 @@ invariant-reads g l = record {
   cursor : l.self.cursor ≡ l.fn.self.cursor;
   keys : l.keys.failures ≡ l.fn.keys.failures;
   screen : l.screen.failures ≡ l.fn.screen.failures;
+  flushed : l.fn.screen.flushed ≡ true → l.screen.flushed ≡ true;
 }
 
 abbrev pub decreases-reads : goal.decreases-reads
