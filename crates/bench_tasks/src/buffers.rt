@@ -90,14 +90,10 @@ fn buffer_of(alloc: Global, size: usize) -> Result<Buffer<TreeStore>, Refusal> {
 fn made_again(alloc: Global, task: &Task, kills: usize) -> Result<usize, BufferFault> {
     let mut known = 0;
     for _ in 0..task.times {
-        known = made_once(alloc, task.size, kills)?;
+        let mut buffer = buffer_of(alloc, task.size)?;
+        known = kill_lines(&mut buffer, &mut Memo::new(alloc), kills)?;
     }
     Ok(known)
-}
-
-fn made_once(alloc: Global, size: usize, kills: usize) -> Result<usize, BufferFault> {
-    let mut buffer = buffer_of(alloc, size)?;
-    kill_lines(&mut buffer, &mut Memo::new(alloc), kills)
 }
 
 fn kill_lines(
@@ -195,22 +191,17 @@ fn run(
     Ok(())
 }
 
+/// Runs a command and undoes it, and looks at the view behind each.
 fn run_and_undo(
     buffer: &mut Buffer<TreeStore>,
     memo: &mut Memo,
     command: Command,
 ) -> Result<(), BufferFault> {
     run(buffer, memo, command)?;
-    undo(buffer, memo)?;
-    buffer.idle(memo);
-    Ok(())
-}
-
-/// Undoes, and looks at the view.
-fn undo(buffer: &mut Buffer<TreeStore>, memo: &mut Memo) -> Result<(), BufferFault> {
     buffer.undo(memo)?;
     buffer.list()?;
     let _place = buffer.view(memo).point;
+    buffer.idle(memo);
     Ok(())
 }
 
