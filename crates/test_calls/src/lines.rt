@@ -1,8 +1,7 @@
 //! Lines that are lent, and what no line says.
 use rga_lines::{LineFault, MAX_LINE, Splitter, write_end, write_line};
-use rga_ops::{Op, Refusal};
 use std::alloc::Global;
-use test_fixtures::{deletion, insertion};
+use test_fixtures::op_of;
 
 /// Whether the next whole line is this one, also when it is asked for again. Goes on behind it.
 fn lends(splitter: &mut Splitter, line: &[u8]) -> bool {
@@ -22,17 +21,18 @@ fn waits_for(splitter: &mut Splitter, piece: &[u8], end: usize) -> bool {
     before == Ok(None) && fed && splitter.find_line() == Ok(Some(end))
 }
 
+/// Whether two lines are lent and passed, and then the rest with its newline is left.
+fn lends_each(mut splitter: Splitter) -> bool {
+    splitter.feed(b"ab\ncde\nf").is_ok()
+        && lends(&mut splitter, b"ab")
+        && lends(&mut splitter, b"cde")
+        && waits_for(&mut splitter, b"\n", 1)
+        && splitter.finish().as_slice() == b"f\n".as_slice()
+}
+
 #[test]
 fn a_line_is_lent_until_it_is_passed(rt: HostRuntime) {
-    let mut splitter = Splitter::new(rt.alloc());
-    assert!(rt; splitter.feed(b"ab\ncde\nf").is_ok());
-    assert!(rt; lends(&mut splitter, b"ab"), "the first line");
-    assert!(rt; lends(&mut splitter, b"cde"), "the second line");
-    assert!(rt;
-        waits_for(&mut splitter, b"\n", 1),
-        "the rest and its newline"
-    );
-    assert!(rt; splitter.finish().as_slice() == b"f\n".as_slice());
+    assert!(rt; lends_each(Splitter::new(rt.alloc())));
 }
 
 /// A splitter that was fed a line, and as many blanks as a line may have.
@@ -54,42 +54,39 @@ fn is_too_long_with(splitter: &mut Splitter, piece: &[u8]) -> bool {
     splitter.feed(piece).is_ok() && matches!(splitter.next_line(), Err(LineFault::Long))
 }
 
-#[test]
-fn a_long_line_ends_the_lines(rt: HostRuntime) -> Result<(), LineFault> {
-    let mut splitter = almost_too_long(rt.alloc())?;
-    assert!(rt;
-        has_one_line(&mut splitter),
-        "before the line that is too long"
-    );
-    assert!(rt; is_too_long_with(&mut splitter, b"b"), "one byte more");
-    assert!(rt;
-        is_too_long_with(&mut splitter, b"\nc\n"),
-        "no line behind it"
-    );
-    assert!(rt; splitter.finish().is_empty());
-    Ok(())
+/// Whether one line stands before the one that is too long with one byte more, and none behind it.
+fn ends_with_a_long_line(mut splitter: Splitter) -> bool {
+    has_one_line(&mut splitter)
+        && is_too_long_with(&mut splitter, b"b")
+        && is_too_long_with(&mut splitter, b"\nc\n")
+        && splitter.finish().is_empty()
 }
 
-/// Whether this is the line of the operation.
-fn is_line_of(alloc: Global, line: &str, op: &Op) -> bool {
-    match write_line(alloc, op) {
-        Ok(written) => written.as_str() == line,
+#[test]
+fn a_long_line_ends_the_lines(rt: HostRuntime) {
+    let splitter = almost_too_long(rt.alloc()).expect(&rt, "a splitter");
+    assert!(rt; ends_with_a_long_line(splitter));
+}
+
+/// Whether this is the line of the operation that the word says.
+fn is_line_of(alloc: Global, line: &str, word: &str) -> bool {
+    match op_of(word) {
+        Ok(op) => write_line(alloc, &op).is_ok_and(|written| written.as_str() == line),
         Err(_) => false,
     }
 }
 
 #[test]
-fn operations_that_no_line_says_are_written(rt: HostRuntime) -> Result<(), Refusal> {
-    for (op, line) in [
-        (deletion(0, 0)?, r#"{"id":[0,0],"op":"del"}"#),
+fn operations_that_no_line_says_are_written(rt: HostRuntime) {
+    for (word, line) in &[
+        ("-0.0", r#"{"id":[0,0],"op":"del"}"#),
         (
-            insertion((1, 1), (1, 1), 'a')?,
+            "a1.1<1.1",
             r#"{"char":"a","id":[1,1],"op":"ins","parent":[1,1]}"#,
         ),
     ] {
-        assert!(rt; is_line_of(rt.alloc(), line, &op), "{line}");
+        assert!(rt; is_line_of(rt.alloc(), line, word), "{line}");
     }
-    Ok(())
 }
 
 /// Whether this is the line of the end of an exchange of so many operations.

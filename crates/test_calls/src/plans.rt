@@ -4,17 +4,14 @@ use std::alloc::{AllocError, Global};
 
 /// The characters of a text.
 fn chars_of(alloc: Global, text: &str) -> Result<Vec<char>, AllocError> {
-    let mut chars = Vec::new(alloc);
-    for c in text.chars() {
-        chars.push(c)?;
-    }
-    Ok(chars)
+    text.chars().collect(alloc)
 }
 
 /// What refuses a command where point is at the begin of a text.
-fn refusal(alloc: Global, text: &[char], command: &Command) -> Option<Notice> {
+fn refusal(alloc: Global, text: &str, command: &Command) -> Option<Notice> {
+    let text = chars_of(alloc, text).ok()?;
     let view = View {
-        text,
+        text: &text,
         point: 0,
         mark: None,
         kill: &[],
@@ -24,41 +21,53 @@ fn refusal(alloc: Global, text: &[char], command: &Command) -> Option<Notice> {
     plan(alloc, command, 1, &view, 70).err()
 }
 
-fn fails(alloc: Global, text: &str, command: &Command) -> bool {
-    match chars_of(alloc, text) {
-        Ok(text) => refusal(alloc, &text, command) == Some(Notice::SearchFailed),
+/// Whether there is the command, and its search fails where point is at the begin of the text.
+fn fails(alloc: Global, text: &str, command: Result<Command, AllocError>) -> bool {
+    match command {
+        Ok(command) => refusal(alloc, text, &command) == Some(Notice::SearchFailed),
         Err(_) => false,
     }
 }
 
-#[test]
-fn searches_behind_the_text_fail(rt: HostRuntime) -> Result<(), AllocError> {
-    let forward = Command::SearchForward {
-        pattern: chars_of(rt.alloc(), "")?.into(),
-        start: 12,
-    };
-    assert!(rt; fails(rt.alloc(), "Foo bar foo", &forward), "forward");
-    let backward = Command::SearchBackward {
-        pattern: chars_of(rt.alloc(), "foo")?.into(),
-        start: 12,
-    };
-    assert!(rt; fails(rt.alloc(), "Foo bar foo", &backward), "backward");
-    Ok(())
+fn search(
+    alloc: Global,
+    direction: Direction,
+    pattern: &str,
+    start: usize,
+) -> Result<Command, AllocError> {
+    let pattern = chars_of(alloc, pattern)?.into();
+    match direction {
+        Direction::Forward => Ok(Command::SearchForward { pattern, start }),
+        Direction::Backward => Ok(Command::SearchBackward { pattern, start }),
+    }
 }
 
 #[test]
-fn replacements_without_a_match_at_point_fail(rt: HostRuntime) -> Result<(), AllocError> {
-    let one = Command::ReplaceOne {
-        pattern: chars_of(rt.alloc(), "a")?.into(),
-        put: chars_of(rt.alloc(), "x")?.into(),
-    };
-    assert!(rt; fails(rt.alloc(), "a-a-a", &one), "one");
-    let all = Command::ReplaceAll {
-        pattern: chars_of(rt.alloc(), "a")?.into(),
-        put: chars_of(rt.alloc(), "x")?.into(),
-    };
-    assert!(rt; fails(rt.alloc(), "a-a-a", &all), "all");
-    Ok(())
+fn searches_behind_the_text_fail(rt: HostRuntime) {
+    let forward = search(rt.alloc(), Direction::Forward, "", 12);
+    assert!(rt; fails(rt.alloc(), "Foo bar foo", forward), "forward");
+    let backward = search(rt.alloc(), Direction::Backward, "foo", 12);
+    assert!(rt; fails(rt.alloc(), "Foo bar foo", backward), "backward");
+}
+
+fn replace_one(alloc: Global, pattern: &str, put: &str) -> Result<Command, AllocError> {
+    let pattern = chars_of(alloc, pattern)?.into();
+    let put = chars_of(alloc, put)?.into();
+    Ok(Command::ReplaceOne { pattern, put })
+}
+
+fn replace_all(alloc: Global, pattern: &str, put: &str) -> Result<Command, AllocError> {
+    let pattern = chars_of(alloc, pattern)?.into();
+    let put = chars_of(alloc, put)?.into();
+    Ok(Command::ReplaceAll { pattern, put })
+}
+
+#[test]
+fn replacements_without_a_match_at_point_fail(rt: HostRuntime) {
+    let one = replace_one(rt.alloc(), "a", "x");
+    assert!(rt; fails(rt.alloc(), "a-a-a", one), "one");
+    let all = replace_all(rt.alloc(), "a", "x");
+    assert!(rt; fails(rt.alloc(), "a-a-a", all), "all");
 }
 
 /// Whether nothing is found of a pattern from behind a text on.
@@ -70,11 +79,9 @@ fn finds_nothing(text: &[char], pattern: &[char]) -> bool {
 }
 
 #[test]
-fn nothing_is_found_from_behind_the_text_on(rt: HostRuntime) -> Result<(), AllocError> {
-    let text = chars_of(rt.alloc(), "aaaa")?;
-    let pattern = chars_of(rt.alloc(), "aa")?;
-    assert!(rt; finds_nothing(&text, &pattern) && finds_nothing(&text, &[]));
-    Ok(())
+fn nothing_is_found_from_behind_the_text_on(rt: HostRuntime) {
+    assert!(rt; finds_nothing(&['a', 'a', 'a', 'a'], &['a', 'a']), "two");
+    assert!(rt; finds_nothing(&['a', 'a', 'a', 'a'], &[]), "none");
 }
 
 /// The characters of a text, copied in one piece.

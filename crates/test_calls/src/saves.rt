@@ -6,20 +6,22 @@ use rga_store::TreeStore;
 use std::alloc::Global;
 use test_ports::MemoryPort;
 
-/// The note in which `a` was typed.
-fn typed(alloc: Global) -> Option<Opened<TreeStore>> {
+fn empty(alloc: Global) -> Option<Opened<TreeStore>> {
     let found = Found {
         log: None,
         text: None,
     };
     let name = String::from_str(alloc, "notes").ok()?;
-    let (mut opened, _) = Opened::load(alloc, name, 1, 100, found).ok()?;
-    let mut memo = Memo::new(alloc);
-    opened
-        .buffer
-        .run(&Command::Insert('a'), 1, &mut memo, 70)
-        .ok()?;
+    let (opened, _) = Opened::load(alloc, name, 1, 100, found).ok()?;
     Some(opened)
+}
+
+/// The note in which `a` was typed.
+fn typed(alloc: Global) -> Option<Opened<TreeStore>> {
+    let mut opened = empty(alloc)?;
+    let mut memo = Memo::new(alloc);
+    let typed = opened.buffer.run(&Command::Insert('a'), 1, &mut memo, 70);
+    typed.is_ok().then_some(opened)
 }
 
 /// Saves once for each letter, where the call that it stands for is refused: the append, the whole

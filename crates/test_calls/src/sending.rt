@@ -1,23 +1,16 @@
 //! Lines that are appended, to devices that count their writes, take a part of the bytes, or fail.
 use rga_exchange::{SendFault, append_log};
 use rga_lines::{Counted, LineFault, write_line};
-use rga_ops::{Id, Op, Refusal};
+use rga_ops::{Op, Refusal};
 use std::alloc::Global;
-use std::test::Fail;
-use test_fixtures::Narrow;
+use std::process::Abort;
+use test_fixtures::{Narrow, insertion};
 
 /// So many insertions, each behind the last.
 fn chain(alloc: Global, count: u64) -> Result<Vec<Op>, Refusal> {
     let mut ops = Vec::new(alloc);
-    let mut parent = Id::ROOT;
     for k in 0..count {
-        let op = Op::Insert {
-            id: Id::new(k.saturating_add(1), 7)?,
-            parent,
-            ch: '\u{e9}',
-        };
-        ops.push(op)?;
-        parent = op.id();
+        ops.push(insertion((k.saturating_add(1), 7), (k, 7), '\u{e9}')?)?;
     }
     Ok(ops)
 }
@@ -26,10 +19,15 @@ fn chain(alloc: Global, count: u64) -> Result<Vec<Op>, Refusal> {
 fn lines_of(alloc: Global, ops: &[Op]) -> Result<String, LineFault> {
     let mut text = String::new(alloc);
     for op in ops {
-        text.push_str(&write_line(alloc, op)?)?;
-        text.push_str("\n")?;
+        push_line(alloc, &mut text, op)?;
     }
     Ok(text)
+}
+
+fn push_line(alloc: Global, text: &mut String, op: &Op) -> Result<(), LineFault> {
+    text.push_str(&write_line(alloc, op)?)?;
+    text.push_str("\n")?;
+    Ok(())
 }
 
 /// A device that has room for so many bytes, and takes at most so many in a write.
@@ -53,12 +51,18 @@ fn is_written_in_blocks(alloc: Global, ops: &[Op], text: &str) -> bool {
         && writes == text.len().div_ceil(65536)
 }
 
+/// Whether there are lines of these operations, which are appended so.
+fn are_written_in_blocks(alloc: Global, ops: &[Op]) -> bool {
+    match lines_of(alloc, ops) {
+        Ok(text) => is_written_in_blocks(alloc, ops, &text),
+        Err(_) => false,
+    }
+}
+
 #[test]
-fn many_lines_are_written_in_few_blocks(rt: HostRuntime) -> Result<(), Fail> {
-    let ops = chain(rt.alloc(), 5000)?;
-    let text = lines_of(rt.alloc(), &ops)?;
-    assert!(rt; is_written_in_blocks(rt.alloc(), &ops, &text));
-    Ok(())
+fn many_lines_are_written_in_few_blocks(rt: HostRuntime) {
+    let ops = chain(rt.alloc(), 5000).expect(&rt, "a chain");
+    assert!(rt; are_written_in_blocks(rt.alloc(), &ops));
 }
 
 /// Whether this is answered where these operations are appended to the device, which counts as
@@ -78,24 +82,25 @@ fn fills(
     answered && counted && taken.len() == room && text.as_bytes().starts_with(&taken)
 }
 
-#[test]
-fn devices_that_take_part_of_the_bytes_or_fail(rt: HostRuntime) -> Result<(), Fail> {
-    let ops = chain(rt.alloc(), 3000)?;
-    let text = lines_of(rt.alloc(), &ops)?;
+/// Whether devices with room for all lines and for fewer, that take few bytes in a write, many, or
+/// none more, answer so.
+fn fill(rt: &impl Abort, alloc: Global, ops: &[Op], text: &str) {
     let all = text.len();
-    let table = [
+    for (room, most, flushes, answer) in [
         (all, 7, true, Ok(3000)),
         (all, 65536, false, Err(SendFault::Write)),
         (all.saturating_sub(1), 65536, true, Err(SendFault::Write)),
         (70000, 7, true, Err(SendFault::Write)),
         (0, 1, true, Err(SendFault::Write)),
-    ];
-    for (room, most, flushes, answer) in table {
-        let device = device(rt.alloc(), room, most, flushes);
-        assert!(rt;
-            fills(rt.alloc(), &ops, device, answer, &text),
-            "{room} by {most}"
-        );
+    ] {
+        let device = device(alloc, room, most, flushes);
+        assert!(rt; fills(alloc, ops, device, answer, text), "{room} by {most}");
     }
-    Ok(())
+}
+
+#[test]
+fn devices_that_take_part_of_the_bytes_or_fail(rt: HostRuntime) {
+    let ops = chain(rt.alloc(), 3000).expect(&rt, "a chain");
+    let text = lines_of(rt.alloc(), &ops).expect(&rt, "its lines");
+    fill(&rt, rt.alloc(), &ops, &text);
 }

@@ -45,12 +45,13 @@ fn ended(alloc: Global, settings: &Settings) -> (Result<(), SessionFault>, usize
     (answer, screen.into_inner().taken.len())
 }
 
+fn settings(alloc: Global, trace: bool) -> Option<Settings> {
+    Settings::new(values(alloc, trace).ok()?)
+}
+
 /// Whether a session ends so, behind its first frame.
 fn ends_with(alloc: Global, trace: bool, taken: usize) -> bool {
-    let Ok(values) = values(alloc, trace) else {
-        return false;
-    };
-    match Settings::new(values) {
+    match settings(alloc, trace) {
         Some(settings) => ended(alloc, &settings) == (Err(SessionFault::Screen), taken),
         None => false,
     }

@@ -2,10 +2,10 @@
 use mg_settings::{Settings, Values};
 use std::alloc::{AllocError, Global};
 
-/// Values that are allowed.
-fn values(alloc: Global) -> Result<Values, AllocError> {
+/// Values that are allowed, for a name.
+fn values(alloc: Global, name: &str) -> Result<Values, AllocError> {
     Ok(Values {
-        name: String::from_str(alloc, "notes")?,
+        name: String::from_str(alloc, name)?,
         replica: 1,
         rows: 24,
         columns: 80,
@@ -20,13 +20,9 @@ fn values(alloc: Global) -> Result<Values, AllocError> {
 
 /// Whether there are settings of a name, a replica, rows, columns, a fill column, a port and a limit.
 fn are_allowed(alloc: Global, name: &str, numbers: &[usize; 4], replica: u16, fill: u16) -> bool {
-    let Ok(mut values) = values(alloc) else {
+    let Ok(mut values) = values(alloc, name) else {
         return false;
     };
-    let Ok(name) = String::from_str(alloc, name) else {
-        return false;
-    };
-    values.name = name;
     values.replica = replica;
     values.rows = numbers[0];
     values.columns = numbers[1];

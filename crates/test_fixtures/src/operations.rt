@@ -26,9 +26,7 @@ pub fn deletion(counter: u64, replica: u16) -> Result<Op, Refusal> {
     })
 }
 
-/// The operations that the words say: `a2.1<1.1` is the insertion of `a` with the identifier (2, 1)
-/// behind (1, 1), and `-2.1` the deletion of (2, 1); the root is `0.0`. `BadId` where a word says
-/// none, and `Memory`.
+/// The operations that the words say. `BadId` where a word says none, and `Memory`.
 pub fn ops_of(alloc: Global, words: &str) -> Result<Vec<Op>, Refusal> {
     let mut ops = Vec::new(alloc);
     for word in words.split_whitespace() {
@@ -37,7 +35,9 @@ pub fn ops_of(alloc: Global, words: &str) -> Result<Vec<Op>, Refusal> {
     Ok(ops)
 }
 
-fn op_of(word: &str) -> Result<Op, Refusal> {
+/// The operation that the word says: `a2.1<1.1` is the insertion of `a` with the identifier (2, 1)
+/// behind (1, 1), and `-2.1` the deletion of (2, 1); the root is `0.0`. `BadId` where it says none.
+pub fn op_of(word: &str) -> Result<Op, Refusal> {
     if let Some(element) = word.strip_prefix('-') {
         return Ok(Op::Delete {
             id: id_of(element)?,

@@ -24,8 +24,11 @@ impl Pair {
     }
 
     /// Whether both answer the operation alike, and show the same then.
-    fn takes_alike(&mut self, op: Op) -> bool {
-        self.answers_alike(op) && self.shows_alike()
+    fn takes_alike(&mut self, op: Result<Op, Refusal>) -> bool {
+        match op {
+            Ok(op) => self.answers_alike(op) && self.shows_alike(),
+            Err(_) => false,
+        }
     }
 
     fn answers_alike(&mut self, op: Op) -> bool {
@@ -58,27 +61,29 @@ impl Pair {
     }
 }
 
-/// How many of the 80 operations of this seed both take alike.
-fn steps_alike(alloc: Global, limit: usize, seed: u64) -> Result<u64, Refusal> {
-    let mut pair = Pair::new(alloc, limit)?;
-    let mut random = Random::new(seed);
-    for step in 0..80 {
-        if !pair.takes_alike(random.op()?) {
-            return Ok(step);
+/// Whether both take 80 operations alike.
+fn takes_each_alike(pair: &mut Pair, random: &mut Random) -> bool {
+    for _ in 0..80 {
+        if !pair.takes_alike(random.op()) {
+            return false;
         }
     }
-    Ok(80)
+    true
+}
+
+/// Whether both stores with this limit take the operations of this seed alike.
+fn are_alike(alloc: Global, limit: usize, seed: u64) -> bool {
+    match Pair::new(alloc, limit) {
+        Ok(mut pair) => takes_each_alike(&mut pair, &mut Random::new(seed)),
+        Err(_) => false,
+    }
 }
 
 #[test]
 fn the_tree_answers_as_the_plain_list_does(rt: HostRuntime) {
     for limit in &[3usize, 8, 20, 100] {
         for seed in 0..5 {
-            assert_eq!(rt;
-                steps_alike(rt.alloc(), *limit, seed),
-                Ok(80),
-                "{limit} {seed}"
-            );
+            assert!(rt; are_alike(rt.alloc(), *limit, seed), "{limit} {seed}");
         }
     }
 }

@@ -109,13 +109,19 @@ impl ListStore {
         let mut paths = Vec::new(self.alloc);
         for op in &self.ops {
             if let Op::Insert { id, .. } = op {
-                if let Some(path) = self.root_path(*id)? {
-                    paths.push(path)?;
-                }
+                self.push_root_path(&mut paths, *id)?;
             }
         }
         paths.sort()?;
         Ok(paths)
+    }
+
+    /// Adds the root path of an element, if it is complete.
+    fn push_root_path(&self, paths: &mut Vec<RootPath>, id: Id) -> Result<(), Refusal> {
+        if let Some(path) = self.root_path(id)? {
+            paths.push(path)?;
+        }
+        Ok(())
     }
 
     /// The root path of an element, if it is complete.

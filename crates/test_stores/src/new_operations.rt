@@ -1,14 +1,22 @@
 //! Lists of operations, and those of them that are new to a store.
 use crate::words::{same, store_of};
-use rga_store::new_operations_at;
+use rga_store::{TreeStore, new_operations_at};
 use std::alloc::Global;
 use test_fixtures::ops_of;
 
+/// Whether these operations of the list are new to the store.
+fn are_new_to(alloc: Global, store: &TreeStore, list: &str, new: &str) -> bool {
+    match ops_of(alloc, list) {
+        Ok(ops) => same(new_operations_at(alloc, store, &ops), ops_of(alloc, new)),
+        Err(_) => false,
+    }
+}
+
 /// Whether these operations of the list are new to a store that took the operations before.
 fn has_new(alloc: Global, before: &str, list: &str, new: &str) -> bool {
-    match (store_of(alloc, 9, before), ops_of(alloc, list)) {
-        (Ok(store), Ok(ops)) => same(new_operations_at(alloc, &store, &ops), ops_of(alloc, new)),
-        _ => false,
+    match store_of(alloc, 9, before) {
+        Ok(store) => are_new_to(alloc, &store, list, new),
+        Err(_) => false,
     }
 }
 

@@ -1,9 +1,9 @@
 //! The tree store on worked examples.
-use crate::words::{holds, last_visible_ones, prints, shows, store_of};
+use crate::words::{holds, last_visible_ones, prints, shows, spell, store_of};
 use rga_ops::{Id, Refusal};
 use rga_store::{MAX_LIMIT, Taker, TextStore, TreeStore, answer_at};
 use std::alloc::Global;
-use std::test::Fail;
+use std::process::Abort;
 use test_fixtures::{id, insertion, ops_of};
 
 /// Whether a store that took these operations shows the text, and so many elements wait.
@@ -41,18 +41,23 @@ fn the_text_follows_the_root_paths(rt: HostRuntime) {
     }
 }
 
-/// Whether the last visible elements up to each element of the order, in turn, have these
-/// characters; the root has a dot.
-fn leads_back(alloc: Global, words: &str, text: &str) -> Result<bool, Refusal> {
-    let store = store_of(alloc, 100, words)?;
-    let found = last_visible_ones(alloc, &store)?;
-    Ok(
-        found
-            .as_slice()
-            .iter()
-            .map(|id| store.get(*id).map_or('.', |(_, ch)| ch))
-            .eq(text.chars()),
-    )
+/// The characters of the last visible elements up to each element of the order, in turn; the root
+/// has a dot.
+fn last_characters(alloc: Global, store: &TreeStore) -> Result<Vec<char>, Refusal> {
+    let mut chars = Vec::new(alloc);
+    for id in &last_visible_ones(alloc, store)? {
+        chars.push(store.get(*id).map_or('.', |(_, ch)| ch))?;
+    }
+    Ok(chars)
+}
+
+/// Whether these are the characters of the last visible elements of a store that took these
+/// operations.
+fn leads_back(alloc: Global, words: &str, text: &str) -> bool {
+    match store_of(alloc, 100, words) {
+        Ok(store) => spell(last_characters(alloc, &store), text),
+        Err(_) => false,
+    }
 }
 
 #[test]
@@ -93,7 +98,7 @@ fn the_last_visible_element_is_found(rt: HostRuntime) {
             "..",
         ),
     ] {
-        assert_eq!(rt; leads_back(rt.alloc(), words, text), Ok(true), "{name}");
+        assert!(rt; leads_back(rt.alloc(), words, text), "{name}");
     }
 }
 
@@ -108,9 +113,8 @@ fn answers<S: TextStore>(alloc: Global, store: &mut S, words: &str, answer: &str
     }
 }
 
-#[test]
-fn each_operation_has_its_answer(rt: HostRuntime) -> Result<(), Fail> {
-    let mut store = TreeStore::new(rt.alloc(), 3)?;
+/// Gives the operations to a store that may know three identifiers.
+fn ask(rt: &impl Abort, alloc: Global, store: &mut TreeStore) {
     for (words, answer) in &[
         ("a0.0<0.0", "Err(BadId)"),
         ("a1.1<1.2", "Err(BadOrder)"),
@@ -126,10 +130,15 @@ fn each_operation_has_its_answer(rt: HostRuntime) -> Result<(), Fail> {
         ("-2.1", "Ok(New)"),
         ("-2.1", "Ok(Known)"),
     ] {
-        assert!(rt; answers(rt.alloc(), &mut store, words, answer), "{words}");
+        assert!(rt; answers(alloc, store, words, answer), "{words}");
     }
-    assert_eq!(rt; has_order_of_three(&store), Ok(true));
-    Ok(())
+}
+
+#[test]
+fn each_operation_has_its_answer(rt: HostRuntime) {
+    let mut store = TreeStore::new(rt.alloc(), 3).expect(&rt, "a store");
+    ask(&rt, rt.alloc(), &mut store);
+    assert!(rt; has_order_of_three(&store) == Ok(true));
 }
 
 /// Whether a store with room for three is filled by elements that wait: then it has no room for their
@@ -183,31 +192,41 @@ fn facts(store: &TreeStore) -> Result<[bool; 4], Refusal> {
     Ok([element, deletion, insertion_of_c, insertion_of_x])
 }
 
-#[test]
-fn a_store_tells_its_content(rt: HostRuntime) -> Result<(), Fail> {
-    let store = store_of(rt.alloc(), 7, SHUFFLED)?;
-    assert_eq!(rt; numbers(&store), (7, 5, 7));
-    assert_eq!(rt; facts(&store), Ok([true, true, true, false]));
-    Ok(())
+/// Whether a store of the small tree tells its numbers and the facts.
+fn tells_content(alloc: Global) -> bool {
+    match store_of(alloc, 7, SHUFFLED) {
+        Ok(store) => numbers(&store) == (7, 5, 7) && facts(&store) == Ok([true, true, true, false]),
+        Err(_) => false,
+    }
 }
 
 #[test]
-fn operations_come_by_identifier(rt: HostRuntime) -> Result<(), Fail> {
-    let store = store_of(rt.alloc(), 7, SHUFFLED)?;
-    assert!(rt; holds(rt.alloc(), &store, TREE));
-    Ok(())
+fn a_store_tells_its_content(rt: HostRuntime) {
+    assert!(rt; tells_content(rt.alloc()));
 }
 
-/// Whether a store has the limit, the text and the operations of the small tree.
-fn is_tree(alloc: Global, store: &TreeStore) -> bool {
-    store.limit() == 7 && shows(alloc, store, "adb") && holds(alloc, store, TREE)
+/// Whether there is a store, and it has the limit, the text and the operations of the small tree.
+fn is_tree(alloc: Global, store: Result<TreeStore, Refusal>) -> bool {
+    match store {
+        Ok(store) => {
+            store.limit() == 7 && shows(alloc, &store, "adb") && holds(alloc, &store, TREE)
+        }
+        Err(_) => false,
+    }
 }
 
 #[test]
-fn a_copy_has_the_same_content(rt: HostRuntime) -> Result<(), Fail> {
-    let copy = store_of(rt.alloc(), 7, SHUFFLED)?.copy()?;
-    assert!(rt; is_tree(rt.alloc(), &copy));
-    Ok(())
+fn operations_come_by_identifier(rt: HostRuntime) {
+    assert!(rt; is_tree(rt.alloc(), store_of(rt.alloc(), 7, SHUFFLED)));
+}
+
+fn copied(alloc: Global) -> Result<TreeStore, Refusal> {
+    store_of(alloc, 7, SHUFFLED)?.copy()
+}
+
+#[test]
+fn a_copy_has_the_same_content(rt: HostRuntime) {
+    assert!(rt; is_tree(rt.alloc(), copied(rt.alloc())));
 }
 
 /// Whether there may be a store with this limit.
@@ -223,7 +242,7 @@ fn a_limit_is_one_to_a_million(rt: HostRuntime) {
         (MAX_LIMIT, true),
         (MAX_LIMIT + 1, false),
     ] {
-        assert_eq!(rt; fits(rt.alloc(), *limit), *answer, "{limit}");
+        assert!(rt; fits(rt.alloc(), *limit) == *answer, "{limit}");
     }
 }
 
@@ -240,13 +259,12 @@ fn sibling(shape: usize, k: u64) -> u64 {
     }
 }
 
-/// A store that took all of the siblings.
-fn family(alloc: Global, shape: usize) -> Result<TreeStore, Refusal> {
-    let mut store = TreeStore::new(alloc, 1000)?;
+/// Has the store take all of the siblings.
+fn apply_siblings(store: &mut TreeStore, shape: usize) -> Result<(), Refusal> {
     for k in 0..199 {
         let _taken = store.apply(insertion((sibling(shape, k), 1), (0, 0), 'a')?)?;
     }
-    Ok(store)
+    Ok(())
 }
 
 /// Whether all of the siblings stand by falling identifier.
@@ -257,13 +275,18 @@ fn falls(store: &TreeStore) -> bool {
     }
 }
 
+/// Whether all of the siblings, once a store took them, stand by falling identifier.
+fn family_falls(alloc: Global, shape: usize) -> bool {
+    match TreeStore::new(alloc, 1000) {
+        Ok(mut store) => apply_siblings(&mut store, shape) == Ok(()) && falls(&store),
+        Err(_) => false,
+    }
+}
+
 /// A large family stands by falling identifier, whichever way it came.
 #[test]
 fn many_siblings(rt: HostRuntime) {
     for shape in 0..3 {
-        assert!(rt;
-            family(rt.alloc(), shape).is_ok_and(|store| falls(&store)),
-            "{shape}"
-        );
+        assert!(rt; family_falls(rt.alloc(), shape), "{shape}");
     }
 }

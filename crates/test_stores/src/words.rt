@@ -3,24 +3,33 @@ use rga_ops::{Id, Refusal};
 use rga_store::{Taker, TextStore, TreeStore};
 use std::alloc::Global;
 use std::fmt::Debug;
-use test_fixtures::ops_of;
+use test_fixtures::{ops_of, spells};
 
 /// A store that took the operations of these words one by one.
 pub fn store_of(alloc: Global, limit: usize, words: &str) -> Result<TreeStore, Refusal> {
-    let ops = ops_of(alloc, words)?;
     let mut store = TreeStore::new(alloc, limit)?;
-    for op in &ops {
+    apply_each(alloc, &mut store, words)?;
+    Ok(store)
+}
+
+fn apply_each(alloc: Global, store: &mut TreeStore, words: &str) -> Result<(), Refusal> {
+    for op in &ops_of(alloc, words)? {
         let _taken = store.apply(*op)?;
     }
-    Ok(store)
+    Ok(())
+}
+
+/// Whether there are characters, and they are those of the text.
+pub fn spell(chars: Result<Vec<char>, Refusal>, text: &str) -> bool {
+    match chars {
+        Ok(chars) => spells(&chars, text),
+        Err(_) => false,
+    }
 }
 
 /// Whether the text of the store is this one.
 pub fn shows<S: TextStore>(alloc: Global, store: &S, text: &str) -> bool {
-    match store.text(alloc) {
-        Ok(chars) => chars.as_slice().iter().copied().eq(text.chars()),
-        Err(_) => false,
-    }
+    spell(store.text(alloc), text)
 }
 
 /// Whether these are the operations of the store, in their order.
