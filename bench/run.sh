@@ -5,7 +5,8 @@
 # (`bench/edits.py`), a command of the editor by itself (`bench/commands.py`) and on a buffer
 # (`bench/buffers.py`) and a frame of it (`bench/frames.py`), what a key of `mgr edit` costs
 # (`bench/keys.py`), an exchange between two of them (`bench/exchange.py`), and what it costs to read
-# and to write logs and exchanges (`bench/logs.py`), and random events at sites (`bench/worlds.py`).
+# and to write logs and exchanges (`bench/logs.py`), what a compaction makes of a log (`bench/compaction.py`),
+# and random events at sites (`bench/worlds.py`).
 # `make bench` calls it. A call by hand may say `--largest N`, to have `mgr show` measured on no log
 # of more than N operations, and `--shape SHAPE`.
 #
@@ -44,5 +45,7 @@ echo
 python3 bench/exchange.py
 echo
 python3 bench/logs.py
+echo
+python3 bench/compaction.py
 echo
 exec python3 bench/worlds.py

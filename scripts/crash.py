@@ -7,6 +7,9 @@ the log has to be the old one or the new one, byte for byte, the text too, and t
 beside the new log; and what is loaded then has to show the old text or the new one. `make crash`
 calls it. It prints a row a call, and ends with an error where one is not as it has to be.
 
+A compaction is killed before each of its calls likewise: then the log has to be the old one or the new one, and
+the old one to be kept beside the new one.
+
 A kill is no power cut: that what was synced is on the device, and that a write that was begun is
 there in part, it cannot show. So the cuts of what is appended are tried by hand, one for each
 length: each loads, and shows a beginning of what was typed.
@@ -122,6 +125,42 @@ def run(mgr, case):
     return bad
 
 
+# A log with a row of insertions and a deletion, and its text.
+ROW = 3000
+LOG = b"".join(
+    b'{"char":"a","id":[%d,1],"op":"ins","parent":[%d,%d]}\n' % (at, at - 1, at > 1) for at in range(1, ROW + 1)
+) + b'{"id":[2,1],"op":"del"}\n'
+ROW_TEXT = b"a" * (ROW - 1)
+
+
+def compacted(mgr, *strace):
+    """Compacts that log, and returns the files that this leaves."""
+    shutil.rmtree(FOLDER, ignore_errors=True)
+    FOLDER.mkdir(parents=True)
+    (FOLDER / "notes.ops").write_bytes(LOG)
+    subprocess.run([*strace, mgr, "compact", "notes"], cwd=FOLDER, capture_output=True)
+    return {path.name: path.read_bytes() for path in FOLDER.iterdir()}
+
+
+def run_compaction(mgr):
+    """Kills a compaction at each call; returns how many were not as they have to be."""
+    trace = FOLDER.parent / "crash.trace"
+    new = compacted(mgr, "strace", "-f", "-o", trace)["notes.ops"]
+    calls = [call[1] for call in map(CALL.match, trace.read_text(errors="replace").splitlines()) if call]
+    seen, bad = collections.Counter(), 0
+    for name in calls:
+        seen[name] += 1
+        inject = f"inject={name}:signal=KILL:when={seen[name]}"
+        left = compacted(mgr, "strace", "-f", "-o", "/dev/null", "-e", inject)
+        log = left.get("notes.ops")
+        shown = subprocess.run([mgr, "show"], input=log or b"", capture_output=True).stdout
+        if shown != ROW_TEXT or log != LOG and (log != new or left.get("notes.ops~") != LOG):
+            print(f"a compaction that is killed before {name} {seen[name]}: not as it has to be")
+            bad += 1
+    print(f"\na compaction: {len(calls)} calls, {bad} of them not well")
+    return bad
+
+
 def cut_appends(mgr):
     """Cuts what is appended to a log at each length; returns how many loads were wrong."""
     trial, bad = Trial(mgr, CASES[0]), 0
@@ -148,7 +187,7 @@ def main():
     if shutil.which("strace") is None:
         sys.exit("strace is not installed, and kills the saves")
     mgr = os.path.abspath(sys.argv[1])
-    bad = sum(run(mgr, case) for case in CASES) + cut_appends(mgr)
+    bad = sum(run(mgr, case) for case in CASES) + run_compaction(mgr) + cut_appends(mgr)
     if bad:
         sys.exit(f"{bad} are not as they have to be")
     print("All loaded the old or the new.")

@@ -35,6 +35,8 @@ CONNECTS, WAITS = "connects", "waits"
 ROLES = (CONNECTS, WAITS)
 ALL = None
 
+HEAD = b'{"op":"head","version":2}\n'
+
 
 def inserted(counter, replica, char, behind=(0, 0)):
     """Returns the line of an insertion."""
@@ -116,6 +118,11 @@ PEERS = [
     Peer("an operation that is not known", X + b'{"id":[1,2],"op":"mov"}\n' + Y + end(3), "line 2: Kind", X),
     Peer("an identifier out of its range", X + b'{"id":[0,2],"op":"del"}\n' + Y + end(3), "line 2: Id", X),
     Peer("a counter not above its parent's", X + inserted(2, 2, "y", (2, 1)) + end(2), "line 2: Order", X),
+    Peer("a head", HEAD + XY, None, X + Y, 2),
+    Peer("a head alone", HEAD, "Cut"),
+    Peer("a head twice", HEAD + HEAD + XY, "line 2: Kind"),
+    Peer("a head behind an operation", X + HEAD + end(1), "line 2: Kind", X),
+    Peer("a head of another version", HEAD.replace(b"2", b"3") + XY, "line 1: Kind"),
     Peer("a line of 65,536 bytes", padded(X, MAX_LINE) + end(1), None, X, 1),
     Peer("a line of 65,537 bytes", X + padded(Y, MAX_LINE + 1) + end(2), "line 2: Long", X),
     Peer("65,536 bytes and no newline", b" " * MAX_LINE, "Cut"),
@@ -145,7 +152,7 @@ def breaking_off(length):
 
 def inattentive(length):
     """Returns a peer that says nothing, and closes behind so many bytes of what it is told."""
-    told = len(A + end(1))
+    told = len(HEAD + A + end(1))
     return Peer(f"reads {length} bytes", b"", "Socket fault" if length < told else "Cut", reads=length, roles=(CONNECTS,))
 
 
@@ -157,8 +164,8 @@ def ungrateful(length):
 # Peers that close at each byte: what they do, and one for each length.
 CLOSING = {
     "closes behind each byte that it says": [breaking_off(length) for length in range(len(XY) + 1)],
-    "closes behind each byte that it is told": [inattentive(length) for length in range(len(A + end(1)) + 1)],
-    "closes behind each byte of the reply": [ungrateful(length) for length in range(len(A + X + Y + end(3)) + 1)],
+    "closes behind each byte that it is told": [inattentive(length) for length in range(len(HEAD + A + end(1)) + 1)],
+    "closes behind each byte of the reply": [ungrateful(length) for length in range(len(HEAD + A + X + Y + end(3)) + 1)],
 }
 
 
@@ -301,7 +308,7 @@ class Case:
         told = self.own
         if self.role == WAITS:
             told = b"" if self.peer.message else self.own + self.taken
-        told += end(told.count(b"\n")) if told else b""
+        told = HEAD + told + end(told.count(b"\n")) if told else b""
         if self.peer.resets or self.peer.large:
             return
         expect("what the peer heard", told if self.peer.reads is ALL else told[: self.peer.reads], heard)

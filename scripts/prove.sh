@@ -5,9 +5,9 @@ cd "$(dirname "$0")/.."
 log=$PWD/build/prove/$1.log
 cd "crates/$1"
 if [ "$1" = mgr ]; then
-    set -- mgr run --jobs 2 -- --version
+    set -- mgr run --jobs "$(nproc)" -- --version
 else
-    set -- "$1" lib --jobs 2
+    set -- "$1" lib --jobs "$(nproc)"
 fi
 name=$1
 shift

@@ -95,6 +95,14 @@ JOBS = [
     Job("no option", ("edit", "note", "--replica", "0", "--rosw", "3"), b""),
 ]
 
+# The files of a note whose log is compacted.
+Compaction = collections.namedtuple("Compaction", "name files")
+COMPACTIONS = [
+    Compaction("mgr compact: a log", {"note.ops": TYPED["note.ops"] + lines_of("-2.1 -4.1 w90.1<80.1"), "note": b"oe two"}),
+    Compaction("mgr compact: a large family", {"note.ops": lines_of(FAMILY)}),
+    Compaction("mgr compact: a conflict", {"note.ops": lines_of("a1.1<0.0 b1.1<0.0")}),
+]
+
 # What Alice and Bob have; she connects, and he waits.
 Exchange = collections.namedtuple("Exchange", "name alice bob")
 ALICE = lines_of("a1.1<0.0 l2.1<1.1 i3.1<2.1 c4.1<3.1 e5.1<4.1")
@@ -373,6 +381,37 @@ class JobTrial:
         return ENDED
 
 
+class CompactionTrial:
+    """A log that is compacted, and the files that this leaves without refusals."""
+
+    def __init__(self, stage, compaction):
+        self.stage, self.files = stage, compaction.files
+        self.wanted = self._run()
+
+    def places(self):
+        return [(0, "the job")]
+
+    def _run(self):
+        library, folder = self.stage.library, self.stage.folders[0]
+        put(folder, self.files)
+        words = [*library.under(), self.stage.mgr, "compact", "note"]
+        ran = subprocess.run(words, cwd=folder, capture_output=True, timeout=SECONDS)
+        # What is written beside may stay where no memory is left to name it by; the next compaction begins it anew.
+        files = {path.name: path.read_bytes() for path in folder.iterdir() if path.name != "note.ops.new"}
+        return ran.returncode, ran.stdout, ran.stderr, files
+
+    def refuse(self, _, first, on):
+        self.stage.library.refuse(first, on)
+        came = self._run()
+        if not self.stage.library.end():
+            return None
+        if came == self.wanted:
+            return WENT_ON
+        expect("the end", (WANT[0], b"", WANT[1]), came[:3])
+        expect("the files", self.files, came[3])
+        return ENDED
+
+
 # ---- an exchange
 
 
@@ -510,7 +549,8 @@ class ExchangeTrial:
 # ---- all of it
 
 SHORT_TRIALS = [(KeyTrial, SHORT)]
-TRIALS = [(Trial, it) for it in PLAYS] + [(JobTrial, it) for it in JOBS] + [(ExchangeTrial, it) for it in EXCHANGES]
+TRIALS = [(Trial, it) for it in PLAYS] + [(JobTrial, it) for it in JOBS]
+TRIALS += [(CompactionTrial, it) for it in COMPACTIONS] + [(ExchangeTrial, it) for it in EXCHANGES]
 
 
 def short(mgr):

@@ -6,6 +6,7 @@ import tempfile
 from collections.abc import Sequence
 from dataclasses import dataclass
 
+from mgr_front.compaction import offer
 from mgr_front.editor import LEAST_ROWS, MOST_ROWS, Editor
 from mgr_front.ending import finish
 from mgr_front.frames import Frame
@@ -187,6 +188,7 @@ def main(words: Sequence[str], folder: str) -> int:
         note.check()
         number = replica(options, note)
         kept = settle(mgr, note, number, options)
+        offer(mgr, note)
     except Refused as refused:
         stop(str(refused), REFUSED)
     signals = Signals(signal.SIGTSTP, signal.SIGCONT, signal.SIGWINCH)

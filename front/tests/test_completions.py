@@ -42,6 +42,8 @@ class TestCompletions(unittest.TestCase):
 
     def test_jobs(self) -> None:
         self.assertEqual(completed("mgr", "e"), ["edit"])
+        self.assertEqual(completed("mgr", "c"), ["compact"])
+        self.assertEqual(completed("mgr", "compact", "--"), ["--help"])
         self.assertEqual(completed("mgr", "show", ""), [])
 
     def test_values(self) -> None:
@@ -54,7 +56,8 @@ class TestCompletions(unittest.TestCase):
                 pathlib.Path(folder, name).touch()
             os.mkdir(os.path.join(folder, "notes"))
             self.assertEqual(completed("mgr-live", "no", folder=folder), ["no text", "note", "notes"])
-            self.assertEqual(completed("mgr", "edit", r"no\ t", folder=folder), ["no text"])
+            for job in ("edit", "compact"):
+                self.assertEqual(completed("mgr", job, r"no\ t", folder=folder), ["no text"])
             self.assertEqual(completed("mgr-hub", '"no t', folder=folder), ["no text"])
             self.assertEqual(completed("mgr-live", "--", "--", folder=folder), ["--odd"])
 

@@ -20,7 +20,11 @@ KEYS = {
 # A sign, or an escape; the identifier; and for an insertion its parent's.
 OPERATION = re.compile(r"(?:(\\x[0-9a-f]{2}|\\u\{[0-9a-f]+\}|\\.|.)(\d+)\.(\d+)<(\d+)\.(\d+)|-(\d+)\.(\d+))$")
 
+RUN = re.compile(r"run:(\d+)\.(\d+)<(\d+)\.(\d+):(.*)$")
+
 END = re.compile(r"end:(\d+)$")
+
+HEAD = b'{"op":"head","version":2}\n'
 
 
 class Unreadable(Exception):
@@ -82,7 +86,9 @@ def _key(word):
 
 
 def lines_of(written):
-    """Returns the bytes of lines: `a1.1<0.0` inserts, `-1.1` deletes, `end:2` ends a stream.
+    """Returns the bytes of lines: `a1.1<0.0` inserts, `-1.1` deletes, `run:1.1<0.0:ab` is a run.
+
+    `head` begins an exchange, and `end:2` ends one.
 
     A word in quotes stands for itself, and a point takes away the last byte, as the newline of a line.
     """
@@ -95,9 +101,15 @@ def lines_of(written):
 def _line(word):
     if word[0] == "'":
         return text_of(word[1:-1])
+    if word == "head":
+        return HEAD
     end = END.match(word)
     if end:
         return b'{"count":%d,"op":"end"}\n' % int(end[1])
+    run = RUN.match(word)
+    if run:
+        text = json.dumps(text_of(run[5]).decode(), ensure_ascii=False).encode()
+        return b'{"id":[%d,%d],"op":"run","parent":[%d,%d],"text":%s}\n' % (*map(int, run.groups()[:4]), text)
     operation = OPERATION.match(word)
     if not operation:
         raise Unreadable(f"no line is written {word}")
@@ -115,6 +127,8 @@ def words_of(lines):
 
 
 def _word(line):
+    if line == HEAD:
+        return "head"
     insertion = re.match(rb'\{"char":("(?:[^"\\]|\\.)*"),"id":\[(\d+),(\d+)\],"op":"ins","parent":\[(\d+),(\d+)\]\}\n$', line)
     if insertion:
         sign = json.loads(insertion[1])
@@ -123,5 +137,9 @@ def _word(line):
     deletion = re.match(rb'\{"id":\[(\d+),(\d+)\],"op":"del"\}\n$', line)
     if deletion:
         return "-%s.%s" % tuple(map(bytes.decode, deletion.groups()))
+    run = re.match(rb'\{"id":\[(\d+),(\d+)\],"op":"run","parent":\[(\d+),(\d+)\],"text":("(?:[^"\\]|\\.)*")\}\n$', line)
+    if run:
+        text = written_of(json.loads(run[5]).encode()).replace(" ", "\\s")
+        return "run:%s.%s<%s.%s:%s" % (*map(bytes.decode, run.groups()[:4]), text)
     end = re.match(rb'\{"count":(\d+),"op":"end"\}\n$', line)
     return f"end:{end[1].decode()}" if end else f"'{written_of(line)}'"

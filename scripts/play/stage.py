@@ -40,7 +40,7 @@ class Person:
         self.has_begun = False
         # How large each file may become.
         self.takes = None
-        # What the sessions run under: words of a command.
+        # What sessions and jobs run under: words of a command.
         self.under = []
         # Where their calls are noted.
         self.noted = None

@@ -1,5 +1,5 @@
 -- What links that tell their bytes leave of contents.
-use Rattle.std.proofs.Common.{◌≡◌, ◌⊎◌, inl, inr, ℕ, ◌≤◌, List, ◌++◌, Option, None, Some, Result, Ok, Err, IfSome, refl, sym, ap, subst, ◌∙◌, arith}
+use Rattle.std.proofs.Common.{◌≡◌, ◌⊎◌, inl, inr, ℕ, ◌≤◌, List, ◌++◌, length, Option, None, Some, Result, Ok, Err, IfSome, refl, sym, ap, subst, ◌∙◌, arith}
 use Rattle.std.specs.Io.KnownBytes.{Keeps, Appends}
 use Rattle.std.proofs.lemmas.List.{append_cancel_left}
 use Rattle.rga_ops.specs.Content.{Content, IsSound, Agree, join, content_of, known_count}
@@ -11,6 +11,7 @@ use Rattle.rga_lines.specs.Log.{stream_operations}
 use Rattle.rga_exchange.specs.Receiving.{number_received, receive_fault, exchange_outcome}
 use Rattle.rga_exchange.specs.Sending.{stream_text}
 use Rattle.rga_exchange.specs.Taking.{Stop, AllTaken, AtEnd, AtFault, progress, stream_taken}
+use Rattle.rga_exchange.specs.declared.taking.Form.TheVariants.{Exchange}
 use Rattle.rga_exchange.specs.declared.fault.ReceiveFault.{ReceiveFault}
 use Rattle.rga_exchange.specs.declared.fault.ReceiveFault.TheVariants.{Cut}
 use Rattle.rga_exchange.proofs.OperationLaws.{stream_joined}
@@ -83,14 +84,14 @@ fails e = Err e
 
 -- what is received to its end is joined
 outcome_joined : (limit n : ℕ) (c d : Content) (bytes : List ℕ) → exchange_outcome limit c bytes ≡ (d, Ok n) → d ≡ join c (content_of (stream_operations bytes))
-outcome_joined limit n c d bytes h = by (stream_taken limit c bytes).stop refl (ap (λ (o : Outcome). o.1) h)
+outcome_joined limit n c d bytes h = by (stream_taken Exchange limit c bytes).stop refl (ap (λ (o : Outcome). o.1) h)
   where
-    content : (stream_taken limit c bytes).content ≡ d
+    content : (stream_taken Exchange limit c bytes).content ≡ d
     content = ap (λ (o : Outcome). o.0) h
 
-    by : (stop : Stop) → (stream_taken limit c bytes).stop ≡ stop → number_received (stream_taken limit c bytes).lines stop ≡ counts n → d ≡ join c (content_of (stream_operations bytes))
+    by : (stop : Stop) → (stream_taken Exchange limit c bytes).stop ≡ stop → number_received (length (stream_operations bytes)) stop ≡ counts n → d ≡ join c (content_of (stream_operations bytes))
     by AllTaken is told = let clash : fails Cut ≡ counts n = told in absurd cc
-    by (AtEnd number) is told = stream_joined limit (stream_taken limit c bytes).lines c d number bytes (λ k. progress (stream_taken limit c bytes).lines (content k) (is k))
+    by (AtEnd number) is told = stream_joined limit (stream_taken Exchange limit c bytes).lines c d number bytes (λ k. progress (stream_taken Exchange limit c bytes).lines (content k) (is k))
     by (AtFault e) is told = let clash : fails (receive_fault e) ≡ counts n = told in absurd cc
 
 -- what was sent stands for the content, to what agrees with it

@@ -1,7 +1,7 @@
 -- An exchange of which less is said: what follows from what passed over the link is said in its place.
 use Rattle.std.proofs.Common.{◌≡◌, ◌⊎◌, inl, inr, ℕ, List, Option, Result, Ok, Err}
 use Rattle.rga_lines.specs.Counting.{Calls}
-use Rattle.rga_lines.specs.Log.{operations_of}
+use Rattle.rga_lines.specs.Log.{operations_of, behind_head}
 use Rattle.rga_ops.specs.Content.{Content}
 use Rattle.rga_exchange.specs.declared.fault.ReceiveFault.{ReceiveFault}
 use Rattle.rga_exchange.specs.declared.fault.SendFault.{SendFault}
@@ -90,7 +90,7 @@ module _ {L : Type 0} (remaining contents : L → Option (List ℕ)) {links more
 -- ---- nothing is said of the link
 
 takes_some : {L : Type 0} (remaining : L → Option (List ℕ)) (r : Result ℕ ReceiveFault) (b d : OpenState) → Hears remaining r b d → TakesSome r b d
-takes_some remaining r b d h = record { ops = operations_of h.over.lines.lines; follows = h.over.lines.beside; rest = h.over.rest }
+takes_some remaining r b d h = record { ops = operations_of (behind_head h.over.lines.lines); follows = h.over.lines.beside; rest = h.over.rest }
 
 sends_some : {L : Type 0} (contents : L → Option (List ℕ)) (r : Result ℕ SendFault) (c : Content) → Sends contents r c → SendsSome r c
 sends_some contents r c s = tt

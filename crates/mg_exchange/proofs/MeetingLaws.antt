@@ -2,7 +2,7 @@
 use Rattle.std.proofs.Common.{◌≡◌, inl, inr, ℕ, Bool, true, false, List, ◌++◌, Option, Some, None, Result, Ok, Err, if◌then◌else◌, refl, sym, ap, ◌∙◌, subst, append_assoc}
 use Rattle.rga_ops.specs.Content.{Content, IsWithin, content_of}
 use Rattle.rga_ops.proofs.ContentLaws.{within_itself, within_chain, within_join}
-use Rattle.rga_lines.specs.Log.{operations_of}
+use Rattle.rga_lines.specs.Log.{operations_of, behind_head}
 use Rattle.rga_exchange.specs.declared.fault.ReceiveFault.{ReceiveFault}
 use Rattle.rga_exchange.specs.declared.fault.SendFault.{SendFault}
 use Rattle.mg_buffer.specs.State.{State}
@@ -59,7 +59,7 @@ gains_by_save (Err fault) old new b d s = gains_failed fault old new b d s
 pub gains_heard : {L : Type 0} (remaining : L → Option (List ℕ)) (r : Result ℕ ReceiveFault) (b d : OpenState) → Hears remaining r b d → Gains b d
 gains_heard remaining r b d h =
     let f = h.over.lines.beside in
-    let ops = operations_of h.over.lines.lines in
+    let ops = operations_of (behind_head h.over.lines.lines) in
     record {
       within = subst (λ c. IsWithin b.buffer.content c) (sym f.content) (within_join b.buffer.content (content_of ops));
       rest = f.rest;

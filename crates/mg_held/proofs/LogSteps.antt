@@ -15,7 +15,7 @@ use Rattle.rga_ops.specs.declared.op.Op.TheVariants.{Insert}
 use Rattle.rga_ops.specs.Content.{IsAgreed}
 use Rattle.rga_lines.specs.Stream.{rest_of}
 use Rattle.rga_lines.specs.Log.{then_operations, log_operations}
-use Rattle.rga_lines.proofs.SplitterLemmas.{no_line}
+use Rattle.rga_lines.proofs.StandLemmas.{nothing_stands}
 use Rattle.rga_exchange.specs.Sending.{log_text, AreWritable, StandsFor, GainsFirst}
 use Rattle.rga_exchange.specs.Log.{log_end}
 use Rattle.rga_exchange.specs.declared.log.LogEnd.{LogEnd}
@@ -31,7 +31,7 @@ use Rattle.mg_held.proofs.ContentSteps.{fewer_known, well_formed_all, writable_a
 
 -- no bytes stand for nothing
 says_none : log_operations [] ≡ []
-says_none = ap (λ r. then_operations r []) no_line
+says_none = ap (λ r. then_operations r []) nothing_stands
 
 pub empty_stands : StandsFor [] nothing
 empty_stands = record {

@@ -16,7 +16,9 @@ use Rattle.rga_doc.specs.LocalEdit.{splice_answer}
 use Rattle.rga_doc.proofs.EditLaws.{splice_taken}
 use Rattle.rga_ops.proofs.ContentLaws.{nothing_join, join_nothing}
 use Rattle.rga_ops.proofs.AgreeLaws.{joinable_nothing}
-use Rattle.rga_lines.specs.Table.{Reading, line_at}
+use Rattle.rga_lines.specs.Runs.{stretch_operations}
+use Rattle.rga_lines.specs.Table.{AnyReading, any_line_at}
+use Rattle.rga_lines.specs.declared.reading.Line.TheVariants.{One, Run, Head, Last}
 use Rattle.rga_lines.specs.Stream.{rest_of}
 use Rattle.rga_lines.specs.Log.{log_operations}
 use Rattle.rga_exchange.specs.declared.log.LogEnd.{LogEnd}
@@ -24,6 +26,7 @@ use Rattle.rga_exchange.specs.declared.log.LogEnd.TheVariants.{Whole, Bare, Torn
 use Rattle.rga_exchange.specs.declared.log.LogRead.{LogRead}
 use Rattle.rga_exchange.specs.declared.fault.LogFault.TheVariants as fault
 use Rattle.rga_exchange.specs.Log.{LogOutcome, log_end, end_outcome, after_bare_operation, after_bare_line, after_rest, log_outcome}
+use Rattle.rga_exchange.specs.Taking.{taken_whole}
 use Rattle.rga_exchange.specs.Receiving.{receive_fault}
 use Rattle.rga_exchange.specs.Sending.{StandsFor}
 use Rattle.rga_exchange.proofs.OperationLaws.{IsRead, is_read, no_fault, log_joined}
@@ -39,7 +42,7 @@ use Rattle.mg_held.proofs.LogSteps.{empty_stands}
 
 ends_whole : (limit n : ℕ) (c d : Content) (read : LogRead) (rest : List ℕ) → after_rest limit n c rest ≡ (d, Ok read) → ends_open read.end ≡ false → rest ≡ []
 ends_whole limit n c d read [] h e = refl
-ends_whole limit n c d read (b ∷ bytes) h e = by_reading (line_at (b ∷ bytes)) h
+ends_whole limit n c d read (b ∷ bytes) h e = by_reading (any_line_at (b ∷ bytes)) h
   where
     no_open : (x : Content) (end : LogEnd) → ends_open end ≡ true → end_outcome n x end ≡ (d, Ok read) → (b ∷ bytes) ≡ []
     no_open x end is g = absurd (true≢false (sym is ∙ ap ends_open (same x end g) ∙ e))
@@ -55,8 +58,11 @@ ends_whole limit n c d read (b ∷ bytes) h e = by_reading (line_at (b ∷ bytes
     by_taken (Ok x) g = no_open x Bare refl g
     by_taken (Err x) g = absurd (no_fault (fault.Refused (n + 1) x) read g)
 
-    by_reading : (r : Reading) → after_bare_line limit n c (length (b ∷ bytes)) r ≡ (d, Ok read) → (b ∷ bytes) ≡ []
-    by_reading (Ok op) g = by_taken (taken limit c op) g
+    by_reading : (r : AnyReading) → after_bare_line limit n c (length (b ∷ bytes)) r ≡ (d, Ok read) → (b ∷ bytes) ≡ []
+    by_reading (Ok (One op)) g = by_taken (taken limit c op) g
+    by_reading (Ok (Run r)) g = by_taken (taken_whole limit c (stretch_operations r)) g
+    by_reading (Ok Head) g = no_open c (Torn (length (b ∷ bytes))) refl g
+    by_reading (Ok (Last number)) g = no_open c (Torn (length (b ∷ bytes))) refl g
     by_reading (Err x) g = no_open c (Torn (length (b ∷ bytes))) refl g
 
 -- what is opened by a log is kept beside it

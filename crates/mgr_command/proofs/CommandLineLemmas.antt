@@ -21,14 +21,14 @@ use Rattle.clap.specs.declared.error.kind.ErrorKind.TheVariants as kind
 use Rattle.clap.proofs.FaultLemmas.{stopped_fault}
 use Rattle.clap.proofs.WalkLemmas.{walk_stopped}
 use Rattle.clap.proofs.OnLiterals.{clap_on_literals}
-use Rattle.mgr_command.specs.Job.{IsChosen, IsFaultOf, IsFaultOfKind, IsJobOf, IsNotChosen, edit_kinds}
+use Rattle.mgr_command.specs.Job.{FindsName, FindsSettings, IsChosen, IsFaultBehind, IsFaultOf, IsFaultOfKind, IsJobOf, IsNotChosen, kinds_behind}
 use Rattle.mgr_command.specs.declared.job.Job.{Job}
-use Rattle.mgr_command.specs.declared.job.Job.TheVariants.{Show, Edit}
+use Rattle.mgr_command.specs.declared.job.Job.TheVariants.{Show, Edit, Compact}
 use Rattle.mgr_command.specs.declared.job.JobFault.{JobFault}
 use Rattle.mgr_command.specs.declared.job.JobFault.TheVariants.{Help, Version, Usage, Memory}
 use Rattle.mgr_command.specs.declared.job.Topic.{Topic}
 use Rattle.mgr_command.specs.declared.job.Topic.TheVariants as topic
-use Rattle.mgr_command.specs.CommandLine.{Text, Wish, arguments_wish, command_line, with_help_flag, editing, help, is_end_of_flags, is_help_flag, is_version_flag, mistake, show_wish, showing, topic_of, version, wish_of}
+use Rattle.mgr_command.specs.CommandLine.{Text, Wish, arguments_wish, command_line, with_help_flag, compacting, editing, help, is_end_of_flags, is_help_flag, is_version_flag, mistake, show_wish, showing, topic_of, version, wish_of}
 
 pub command_line_is_simple : is_simple_and_free command_line ≡ true
 unfolding clap_on_literals
@@ -57,7 +57,8 @@ pub record IsMistaken (ks : Kinds) : Type 0 where
 -- the kinds of error that such a wish may bring, where help is on that topic
 abbrev pub AreKindsOf : Topic → Wish → Kinds → Type 0
 AreKindsOf topic showing ks = ks ≡ []
-AreKindsOf on (editing words) ks = (on ≡ topic.Edit) × (ks ≡ edit_kinds words)
+AreKindsOf on (editing words) ks = (on ≡ topic.Edit) × (ks ≡ kinds_behind (codes "edit") words)
+AreKindsOf on (compacting words) ks = (on ≡ topic.Compact) × (ks ≡ kinds_behind (codes "compact") words)
 AreKindsOf topic (help on) ks = (on ≡ topic) × (ks ≡ kind.DisplayHelp ∷ [])
 AreKindsOf topic version ks = ks ≡ kind.DisplayVersion ∷ []
 AreKindsOf topic mistake ks = IsMistaken ks
@@ -306,10 +307,10 @@ bytes_eq-swap : (a b : Text) → bytes_eq a b ≡ false → bytes_eq b a ≡ fal
 bytes_eq-swap a b unlike =
     false_from_ne_true (bytes_eq b a) (λ same. both_ways _ unlike ((bytes_eq-Decides a b).1 (sym ((bytes_eq-Decides b a).0 same))))
 
-turn_top : (word : Text) → bytes_eq (codes "show") word ≡ false → bytes_eq (codes "edit") word ≡ false → bytes_eq word (codes "--") ≡ false
+turn_top : (word : Text) → bytes_eq (codes "show") word ≡ false → bytes_eq (codes "edit") word ≡ false → bytes_eq (codes "compact") word ≡ false → bytes_eq word (codes "--") ≡ false
     → turn_fault top top_names (walk_from nothing_held) word ≡ or_else (flag_kinds true word) (step_fault top 1 (flag_held true word) (flag_step true word))
 unfolding clap_on_literals
-turn_top word unshown unedited unlike = rw (unshown, unedited, unlike) refl
+turn_top word unshown unedited uncompacted unlike = rw (unshown, unedited, uncompacted, unlike) refl
 
 turn_leaf : (word : Text) → bytes_eq word (codes "--") ≡ false
     → turn_fault leaf [] (walk_from nothing_held) word ≡ or_else (flag_kinds false word) (step_fault leaf 1 (flag_held false word) (flag_step false word))
@@ -389,19 +390,23 @@ top_edit : (rest : List Text) → AtTop (codes "edit" ∷ rest)
 unfolding clap_on_literals
 top_edit rest = (refl, refl)
 
+top_compact : (rest : List Text) → AtTop (codes "compact" ∷ rest)
+unfolding clap_on_literals
+top_compact rest = (refl, refl)
+
 top_dashes : (more : List Text) → AtTop (codes "--" ∷ more)
 unfolding clap_on_literals
 top_dashes [] = record { test = refl }
 top_dashes (x ∷ xs) = record { test = refl }
 
 -- a word that names no job
-top_other : (word : Text) (rest : List Text) → bytes_eq word (codes "show") ≡ false → bytes_eq word (codes "edit") ≡ false
+top_other : (word : Text) (rest : List Text) → bytes_eq word (codes "show") ≡ false → bytes_eq word (codes "edit") ≡ false → bytes_eq word (codes "compact") ≡ false
     → Settles true word (turn_fault top top_names (walk_from nothing_held) word) → AtTop (word ∷ rest)
 unfolding clap_on_literals
-top_other word rest unshown unedited (for_help asked kinds) = rw (unshown, unedited, asked, kinds) (refl, refl)
-top_other word rest unshown unedited (for_version no_help asked kinds) = rw (unshown, unedited, no_help, asked, kinds) refl
-top_other word rest unshown unedited (for_nothing no_help no_version wrong) =
-    rw (unshown, unedited, no_help, no_version) (first_mistake _ _ (first_mistake _ _ wrong))
+top_other word rest unshown unedited uncompacted (for_help asked kinds) = rw (unshown, unedited, uncompacted, asked, kinds) (refl, refl)
+top_other word rest unshown unedited uncompacted (for_version no_help asked kinds) = rw (unshown, unedited, uncompacted, no_help, asked, kinds) refl
+top_other word rest unshown unedited uncompacted (for_nothing no_help no_version wrong) =
+    rw (unshown, unedited, uncompacted, no_help, no_version) (first_mistake _ _ (first_mistake _ _ wrong))
 
 -- all words but the program's name
 top_kinds : (words : List Text) → AreTexts words → AtTop words
@@ -411,12 +416,15 @@ top_kinds (word ∷ rest) utf8 = elim (cases_Bool (bytes_eq word (codes "show"))
   | inl shown ↦ subst (λ (w : Text). AtTop (w ∷ rest)) (sym ((bytes_eq-Decides word (codes "show")).0 shown)) (top_show rest utf8.1)
   | inr unshown ↦ elim (cases_Bool (bytes_eq word (codes "edit"))) [
     | inl edited ↦ subst (λ (w : Text). AtTop (w ∷ rest)) (sym ((bytes_eq-Decides word (codes "edit")).0 edited)) (top_edit rest)
-    | inr unedited ↦ elim (cases_Bool (bytes_eq word (codes "--"))) [
-      | inl dashes ↦ subst (λ (w : Text). AtTop (w ∷ rest)) (sym ((bytes_eq-Decides word (codes "--")).0 dashes)) (top_dashes rest)
-      | inr unlike ↦ top_other word rest unshown unedited
-          (settles true word _ (step_fault top 1 (flag_held true word))
-          (turn_top word (bytes_eq-swap word (codes "show") unshown) (bytes_eq-swap word (codes "edit") unedited) unlike)
-          (record { test = refl }) (reads_flag true word utf8.0))
+    | inr unedited ↦ elim (cases_Bool (bytes_eq word (codes "compact"))) [
+      | inl compacted ↦ subst (λ (w : Text). AtTop (w ∷ rest)) (sym ((bytes_eq-Decides word (codes "compact")).0 compacted)) (top_compact rest)
+      | inr uncompacted ↦ elim (cases_Bool (bytes_eq word (codes "--"))) [
+        | inl dashes ↦ subst (λ (w : Text). AtTop (w ∷ rest)) (sym ((bytes_eq-Decides word (codes "--")).0 dashes)) (top_dashes rest)
+        | inr unlike ↦ top_other word rest unshown unedited uncompacted
+            (settles true word _ (step_fault top 1 (flag_held true word))
+            (turn_top word (bytes_eq-swap word (codes "show") unshown) (bytes_eq-swap word (codes "edit") unedited) (bytes_eq-swap word (codes "compact") uncompacted) unlike)
+            (record { test = refl }) (reads_flag true word utf8.0))
+      ]
     ]
   ]
 ]
@@ -460,7 +468,8 @@ word_kinds app words given app_is given_is =
 -- the kinds that are the program's answer to a wish
 abbrev IsKindOf : Topic → Wish → ErrorKind → Type 0
 IsKindOf on showing k = ⊥
-IsKindOf on (editing words) k = (on ≡ topic.Edit) × IsAmong k (edit_kinds words)
+IsKindOf on (editing words) k = (on ≡ topic.Edit) × IsAmong k (kinds_behind (codes "edit") words)
+IsKindOf on (compacting words) k = (on ≡ topic.Compact) × IsAmong k (kinds_behind (codes "compact") words)
 IsKindOf on (help asked) k = (asked ≡ on) × (k ≡ kind.DisplayHelp)
 IsKindOf on version k = k ≡ kind.DisplayVersion
 IsKindOf on mistake k = is_request k ≡ false
@@ -484,6 +493,7 @@ mistaken k (x ∷ xs) some among = no_request k (x ∷ xs) (not-true (list_any i
 kind_of_wish : (on : Topic) (wish : Wish) (ks : Kinds) (k : ErrorKind) → AreKindsOf on wish ks → IsAmong k ks → IsKindOf on wish k
 kind_of_wish on showing ks k are among = subst (IsAmong k) are among
 kind_of_wish on (editing words) ks k are among = (are.0, subst (IsAmong k) are.1 among)
+kind_of_wish on (compacting words) ks k are among = (are.0, subst (IsAmong k) are.1 among)
 kind_of_wish on (help asked) ks k are among = (are.0, only k kind.DisplayHelp ks are.1 among)
 kind_of_wish on version ks k are among = only k kind.DisplayVersion ks are among
 kind_of_wish on mistake ks k are among = mistaken k ks are among
@@ -492,16 +502,23 @@ kind_of_wish on mistake ks k are among = mistaken k ks are among
 pub memory_of : (wish : Wish) → IsFaultOf wish Memory
 memory_of showing = tt
 memory_of (editing words) = tt
+memory_of (compacting words) = tt
 memory_of (help asked) = tt
 memory_of version = tt
 memory_of mistake = tt
 
+-- behind the word of a job
+fault_behind : (on topic : Topic) (kinds : Kinds) (Nothing : Type 0) (k : ErrorKind) (fault : JobFault) → on ≡ topic → IsAmong k kinds → IsFaultOfKind on k fault → IsFaultBehind topic kinds Nothing fault
+fault_behind on topic kinds Nothing k Memory same among is = tt
+fault_behind on topic kinds Nothing k (Help t text) same among is = (is.1 ∙ same, subst (λ j. IsAmong j kinds) is.0 among)
+fault_behind on topic kinds Nothing k (Version text) same among is = subst (λ j. IsAmong j kinds) is among
+fault_behind on topic kinds Nothing k (Usage text) same among is = inl (k, is.0, is.1, among)
+
 fault_of_kind : (on : Topic) (wish : Wish) (k : ErrorKind) (fault : JobFault) → IsKindOf on wish k → IsFaultOfKind on k fault → IsFaultOf wish fault
 fault_of_kind on wish k Memory of is = memory_of wish
 fault_of_kind on showing k fault of is = absurd of
-fault_of_kind on (editing words) k (Help t text) of is = (is.1 ∙ of.0, subst (λ j. IsAmong j (edit_kinds words)) is.0 of.1)
-fault_of_kind on (editing words) k (Version text) of is = subst (λ j. IsAmong j (edit_kinds words)) is of.1
-fault_of_kind on (editing words) k (Usage text) of is = inl (k, is.0, is.1, of.1)
+fault_of_kind on (editing words) k fault of is = fault_behind on topic.Edit (kinds_behind (codes "edit") words) (FindsSettings words None) k fault of.0 of.1 is
+fault_of_kind on (compacting words) k fault of is = fault_behind on topic.Compact (kinds_behind (codes "compact") words) (FindsName words None) k fault of.0 of.1 is
 fault_of_kind on (help asked) k (Help t text) of is = ap help (of.0 ∙ sym is.1)
 fault_of_kind on (help asked) k (Version text) of is = absurd (let clash : kind.DisplayHelp ≡ kind.DisplayVersion = sym of.1 ∙ is in cc)
 fault_of_kind on (help asked) k (Usage text) of is = absurd (is.0 of.1)
@@ -550,6 +567,7 @@ no_mistake on ks are none = both_ways _ (ap is_mistaken none) are.test
 shows : (wish : Wish) (ks : Kinds) → AreKindsOf topic.Show wish ks → ks ≡ [] → wish ≡ showing
 shows showing ks are none = refl
 shows (editing words) ks are none = absurd (let clash : topic.Show ≡ topic.Edit = are.0 in cc)
+shows (compacting words) ks are none = absurd (let clash : topic.Show ≡ topic.Compact = are.0 in cc)
 shows (help asked) ks are none = absurd (no_help topic.Show asked ks are none)
 shows version ks are none = absurd (no_version topic.Show ks are none)
 shows mistake ks are none = absurd (no_mistake topic.Show ks are none)
@@ -564,6 +582,7 @@ chooses_show rest ks are none = record { job = job; fault = fault }
     job : (j : Job) → IsChosen topic.Show found j → IsJobOf (show_wish rest) j
     job Show chosen = shows (show_wish rest) ks are none
     job (Edit s) chosen = absurd chosen
+    job (Compact name) chosen = absurd chosen
 
     fault : (f : JobFault) → IsNotChosen topic.Show found f → IsFaultOf (show_wish rest) f
     fault Memory chosen = memory_of (show_wish rest)
@@ -581,6 +600,7 @@ chooses_edit rest ks are none = record { job = job; fault = fault }
     job : (j : Job) → IsChosen topic.Edit found j → IsJobOf (editing rest) j
     job Show chosen = absurd chosen
     job (Edit s) chosen = (rest, refl, (sym are.1 ∙ none, chosen))
+    job (Compact name) chosen = absurd chosen
 
     fault : (f : JobFault) → IsNotChosen topic.Edit found f → IsFaultOf (editing rest) f
     fault Memory chosen = tt
@@ -588,12 +608,30 @@ chooses_edit rest ks are none = record { job = job; fault = fault }
     fault (Version text) chosen = absurd chosen
     fault (Usage text) chosen = inr (sym are.1 ∙ none, chosen)
 
-chooses_other : (word : Text) (rest : List Text) → bytes_eq word (codes "show") ≡ false → bytes_eq word (codes "edit") ≡ false → ChoosesAt (word ∷ rest)
-chooses_other word rest unshown unedited ks are none = elim (cases_Bool (is_help_flag word)) [
-  | inl asked ↦ absurd (no_help topic.Program topic.Program ks (rw (unshown, unedited, asked) at are) none)
+chooses_compact : (rest : List Text) → ChoosesAt (codes "compact" ∷ rest)
+unfolding clap_on_literals
+chooses_compact rest ks are none = record { job = job; fault = fault }
+  where
+    found : Option (List Row)
+    found = rows_entered (codes "compact" ∷ rest)
+
+    job : (j : Job) → IsChosen topic.Compact found j → IsJobOf (compacting rest) j
+    job Show chosen = absurd chosen
+    job (Edit s) chosen = absurd chosen
+    job (Compact name) chosen = (rest, refl, (sym are.1 ∙ none, chosen))
+
+    fault : (f : JobFault) → IsNotChosen topic.Compact found f → IsFaultOf (compacting rest) f
+    fault Memory chosen = tt
+    fault (Help on text) chosen = absurd chosen
+    fault (Version text) chosen = absurd chosen
+    fault (Usage text) chosen = inr (sym are.1 ∙ none, chosen)
+
+chooses_other : (word : Text) (rest : List Text) → bytes_eq word (codes "show") ≡ false → bytes_eq word (codes "edit") ≡ false → bytes_eq word (codes "compact") ≡ false → ChoosesAt (word ∷ rest)
+chooses_other word rest unshown unedited uncompacted ks are none = elim (cases_Bool (is_help_flag word)) [
+  | inl asked ↦ absurd (no_help topic.Program topic.Program ks (rw (unshown, unedited, uncompacted, asked) at are) none)
   | inr unasked ↦ elim (cases_Bool (is_version_flag word)) [
-    | inl asked ↦ absurd (no_version topic.Program ks (rw (unshown, unedited, unasked, asked) at are) none)
-    | inr other ↦ absurd (no_mistake topic.Program ks (rw (unshown, unedited, unasked, other) at are) none)
+    | inl asked ↦ absurd (no_version topic.Program ks (rw (unshown, unedited, uncompacted, unasked, asked) at are) none)
+    | inr other ↦ absurd (no_mistake topic.Program ks (rw (unshown, unedited, uncompacted, unasked, other) at are) none)
   ]
 ]
 
@@ -603,7 +641,10 @@ chooses_behind (word ∷ rest) = elim (cases_Bool (bytes_eq word (codes "show"))
   | inl shown ↦ subst (λ (w : Text). ChoosesAt (w ∷ rest)) (sym ((bytes_eq-Decides word (codes "show")).0 shown)) (chooses_show rest)
   | inr unshown ↦ elim (cases_Bool (bytes_eq word (codes "edit"))) [
     | inl edited ↦ subst (λ (w : Text). ChoosesAt (w ∷ rest)) (sym ((bytes_eq-Decides word (codes "edit")).0 edited)) (chooses_edit rest)
-    | inr unedited ↦ chooses_other word rest unshown unedited
+    | inr unedited ↦ elim (cases_Bool (bytes_eq word (codes "compact"))) [
+      | inl compacted ↦ subst (λ (w : Text). ChoosesAt (w ∷ rest)) (sym ((bytes_eq-Decides word (codes "compact")).0 compacted)) (chooses_compact rest)
+      | inr uncompacted ↦ chooses_other word rest unshown unedited uncompacted
+    ]
   ]
 ]
 

@@ -14,7 +14,7 @@ use Rattle.mg_settings.specs.Settings.{Values, AreAllowed}
 use Rattle.mgr_command.specs.Edit.{GivesFlag, GivesNumber, GivesNumberIf, GivesSettings, GivesValues}
 
 -- two texts at one place are one
-same_some : {A : Type 0} (o : Option A) (a b : A) → o ≡ Some a → o ≡ Some b → a ≡ b
+pub same_some : {A : Type 0} (o : Option A) (a b : A) → o ≡ Some a → o ≡ Some b → a ≡ b
 same_some o a b at also = let same : Some a ≡ Some b = sym at ∙ also in cc
 
 -- a text is a number of 16 bits in decimal digits

@@ -4,6 +4,7 @@ use Rattle.std.specs.Prelude.{if◌then◌else◌}
 use Rattle.std.specs.List.{starts_with}
 use Rattle.std.specs.Str.{bytes_eq}
 use Rattle.clap.specs.Simple.{App, Shape, new_app, new_shape, on_top, with_subcommand}
+use Rattle.mgr_command.specs.Compact.{compact_app}
 use Rattle.mgr_command.specs.Edit.{edit_app}
 use Rattle.mgr_command.specs.declared.job.Topic.{Topic}
 use Rattle.mgr_command.specs.declared.job.Topic.TheVariants as topic
@@ -11,10 +12,12 @@ use Rattle.mgr_command.specs.declared.job.Topic.TheVariants as topic
 abbrev pub Text : Type 0
 Text = List ℕ
 
--- a job, help on a topic, the version, or nothing that the program has; what stands behind `edit` is read by clap
+-- a job, help on a topic, the version, or nothing that the program has; what stands behind `edit` and `compact` is read
+-- by clap
 pub data Wish : Type 0 where
   showing : Wish
   editing : List Text → Wish
+  compacting : List Text → Wish
   help : Topic → Wish
   version : Wish
   mistake : Wish
@@ -45,6 +48,7 @@ arguments_wish [] = mistake
 arguments_wish (word ∷ rest) =
     if bytes_eq word (codes "show") then show_wish rest
     else if bytes_eq word (codes "edit") then editing rest
+    else if bytes_eq word (codes "compact") then compacting rest
     else if is_help_flag word then help topic.Program
     else if is_version_flag word then version else mistake
 
@@ -63,9 +67,10 @@ abbrev pub topic_of : List Text → Topic
 topic_of [] = topic.Program
 topic_of (word ∷ rest) =
     if bytes_eq word (codes "show") then topic.Show
-    else if bytes_eq word (codes "edit") then topic.Edit else topic.Program
+    else if bytes_eq word (codes "edit") then topic.Edit
+    else if bytes_eq word (codes "compact") then topic.Compact else topic.Program
 
--- the command line as clap is told of it: `show`, which stands alone, and `edit` with what it takes
+-- the command line as clap is told of it: `show`, which stands alone, and `edit` and `compact` with what they take
 abbrev pub required : Shape → Shape
 required top = record top {
   has_version = true;
@@ -77,4 +82,4 @@ abbrev pub program_alone : App
 program_alone = on_top required (new_app (codes "mgr"))
 
 abbrev pub command_line : App
-command_line = with_subcommand (with_subcommand program_alone (new_shape (codes "show"))) edit_app.top
+command_line = with_subcommand (with_subcommand (with_subcommand program_alone (new_shape (codes "show"))) edit_app.top) compact_app.top

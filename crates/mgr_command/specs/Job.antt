@@ -1,5 +1,5 @@
 -- What `job_of` answers.
-use Rattle.std.specs.Prelude.{◌≡◌, ◌≢◌, ◌⊎◌, ℕ, List, [], ◌∷◌, codes, Option, Some, None, option_map}
+use Rattle.std.specs.Prelude.{◌≡◌, ◌≢◌, ◌⊎◌, ℕ, List, [], ◌∷◌, codes, Option, Some, None, option_map, string_bytes}
 use Rattle.clap.specs.Faults.{fault_of}
 use Rattle.clap.specs.Kinds.{IsAmong, Kinds}
 use Rattle.clap.specs.Simple.{subcommand_of, subcommand_rows_of}
@@ -8,35 +8,43 @@ use Rattle.clap.specs.declared.error.kind.ErrorKind.{ErrorKind}
 use Rattle.clap.specs.declared.parser.matches.ArgMatches.{ArgMatches}
 use Rattle.clap.specs.declared.error.kind.ErrorKind.TheVariants.{DisplayHelp, DisplayVersion}
 use Rattle.clap.specs.declared.error.kind.ErrorKind.TheVariants.{OutOfMemory}
-use Rattle.mgr_command.specs.CommandLine.{Text, Wish, command_line, editing, help, mistake, showing, version}
+use Rattle.mgr_command.specs.CommandLine.{Text, Wish, command_line, compacting, editing, help, mistake, showing, version}
 use Rattle.mg_settings.specs.Settings.{Values}
+use Rattle.mgr_command.specs.Compact.{GivesName}
 use Rattle.mgr_command.specs.Edit.{GivesSettings}
 use Rattle.mgr_command.specs.declared.job.Job.{Job}
-use Rattle.mgr_command.specs.declared.job.Job.TheVariants.{Show, Edit}
+use Rattle.mgr_command.specs.declared.job.Job.TheVariants.{Show, Edit, Compact}
 use Rattle.mgr_command.specs.declared.job.JobFault.{JobFault}
 use Rattle.mgr_command.specs.declared.job.JobFault.TheVariants.{Help, Version, Usage, Memory}
 use Rattle.mgr_command.specs.declared.job.Topic.{Topic}
 use Rattle.mgr_command.specs.declared.job.Topic.TheVariants as topic
 
--- ---- behind `edit`, in clap's words
+-- ---- behind the word of a job, in clap's words
 
--- what clap may find wrong with these words behind `edit`
-abbrev pub edit_kinds : List Text → Kinds
-edit_kinds words = fault_of command_line (codes "mgr" ∷ codes "edit" ∷ words)
+-- what clap may find wrong with these words behind that one
+abbrev pub kinds_behind : Text → List Text → Kinds
+kinds_behind job words = fault_of command_line (codes "mgr" ∷ job ∷ words)
 
 -- what it finds there
-abbrev pub edit_rows : List Text → Option (List Row)
-edit_rows words = option_map (λ p. p.1) (subcommand_of command_line (codes "mgr" ∷ codes "edit" ∷ words))
+abbrev pub rows_behind_job : Text → List Text → Option (List Row)
+rows_behind_job job words = option_map (λ p. p.1) (subcommand_of command_line (codes "mgr" ∷ job ∷ words))
 
--- the settings, or none that are allowed, by what was found
-abbrev pub GivesAll : Option (List Row) → Option Values → Type 0
-GivesAll None None = Unit {0}
-GivesAll None (Some v) = ⊥
-GivesAll (Some rows) settings = GivesSettings rows settings
+-- what was found gives this, or nothing that is allowed
+abbrev pub GivesAll : {A : Type 0} → (List Row → Option A → Type 0) → Option (List Row) → Option A → Type 0
+GivesAll gives None None = Unit {0}
+GivesAll gives None (Some a) = ⊥
+GivesAll gives (Some rows) answer = gives rows answer
 
--- clap finds nothing wrong, and what it finds gives these settings, or none that are allowed
-abbrev pub Finds : List Text → Option Values → Type 0
-Finds words settings = (edit_kinds words ≡ []) × GivesAll (edit_rows words) settings
+-- clap finds nothing wrong, and what it finds gives this, or nothing that is allowed
+abbrev pub Finds : {A : Type 0} → (List Row → Option A → Type 0) → Text → List Text → Option A → Type 0
+Finds gives job words answer = (kinds_behind job words ≡ []) × GivesAll gives (rows_behind_job job words) answer
+
+-- these settings behind `edit`, and this name behind `compact`
+abbrev pub FindsSettings : List Text → Option Values → Type 0
+FindsSettings words settings = Finds GivesSettings (codes "edit") words settings
+
+abbrev pub FindsName : List Text → Option (List ℕ) → Type 0
+FindsName words name = Finds GivesName (codes "compact") words name
 
 -- a kind of error that is no answer to a question for help or the version
 abbrev pub HasMistake : Kinds → Type 0
@@ -47,17 +55,20 @@ HasMistake kinds = (k : ErrorKind) × (k ≢ DisplayHelp) × (k ≢ DisplayVersi
 -- the job that is wished for
 abbrev pub IsJobOf : Wish → Job → Type 0
 IsJobOf wish Show = wish ≡ showing
-IsJobOf wish (Edit settings) = (words : List Text) × (wish ≡ editing words) × Finds words (Some settings)
+IsJobOf wish (Edit settings) = (words : List Text) × (wish ≡ editing words) × FindsSettings words (Some settings)
+IsJobOf wish (Compact name) = (words : List Text) × (wish ≡ compacting words) × FindsName words (Some (string_bytes name))
 
-abbrev pub IsEditFault : List Text → JobFault → Type 0
-IsEditFault words (Help on text) = (on ≡ topic.Edit) × IsAmong DisplayHelp (edit_kinds words)
-IsEditFault words (Version text) = IsAmong DisplayVersion (edit_kinds words)
-IsEditFault words (Usage text) = HasMistake (edit_kinds words) ⊎ Finds words None
-IsEditFault words Memory = Unit {0}
+-- why clap gives none behind the word of a job: one of these kinds, or it finds nothing that is allowed
+abbrev pub IsFaultBehind : Topic → Kinds → Type 0 → JobFault → Type 0
+IsFaultBehind topic kinds Nothing (Help on text) = (on ≡ topic) × IsAmong DisplayHelp kinds
+IsFaultBehind topic kinds Nothing (Version text) = IsAmong DisplayVersion kinds
+IsFaultBehind topic kinds Nothing (Usage text) = HasMistake kinds ⊎ Nothing
+IsFaultBehind topic kinds Nothing Memory = Unit {0}
 
 -- why such a wish gives no job; memory may be wanting at any
 abbrev pub IsFaultOf : Wish → JobFault → Type 0
-IsFaultOf (editing words) fault = IsEditFault words fault
+IsFaultOf (editing words) fault = IsFaultBehind topic.Edit (kinds_behind (codes "edit") words) (FindsSettings words None) fault
+IsFaultOf (compacting words) fault = IsFaultBehind topic.Compact (kinds_behind (codes "compact") words) (FindsName words None) fault
 IsFaultOf wish (Help on text) = wish ≡ help on
 IsFaultOf wish (Version text) = wish ≡ version
 IsFaultOf wish (Usage text) = wish ≡ mistake
@@ -77,13 +88,16 @@ abbrev pub rows_behind : ArgMatches → Option (List Row)
 rows_behind matches = option_map (λ p. p.1) (subcommand_rows_of matches)
 
 abbrev pub IsChosen : Topic → Option (List Row) → Job → Type 0
-IsChosen topic.Edit found (Edit settings) = GivesAll found (Some settings)
-IsChosen topic.Edit found Show = ⊥
-IsChosen _ found (Edit settings) = ⊥
+IsChosen topic.Edit found (Edit settings) = GivesAll GivesSettings found (Some settings)
+IsChosen topic.Edit found _ = ⊥
+IsChosen topic.Compact found (Compact name) = GivesAll GivesName found (Some (string_bytes name))
+IsChosen topic.Compact found _ = ⊥
 IsChosen _ found Show = Unit {0}
+IsChosen _ found _ = ⊥
 
 abbrev pub IsNotChosen : Topic → Option (List Row) → JobFault → Type 0
-IsNotChosen topic.Edit found (Usage text) = GivesAll found None
+IsNotChosen topic.Edit found (Usage text) = GivesAll GivesSettings found None
+IsNotChosen topic.Compact found (Usage text) = GivesAll GivesName found None
 IsNotChosen on found Memory = Unit {0}
 IsNotChosen on found fault = ⊥
 

@@ -1,3 +1,4 @@
 pub mod Edit
+pub mod Compact
 pub mod CommandLine
 pub mod Job

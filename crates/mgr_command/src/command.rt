@@ -4,6 +4,7 @@ ghost use Rattle.clap.specs.Simple.{app_of, new_shape, shape_of};
 ghost use Rattle.clap.specs.declared.builder.command.Command.TheViews.{out-Command as fields_of};
 ghost use Rattle.mgr_command.specs.CommandLine.{command_line, program_alone};
 
+use crate::compact::compact;
 use crate::edit::edit;
 use clap::Command;
 use std::alloc::{AllocError, Global};
@@ -11,7 +12,8 @@ use std::alloc::{AllocError, Global};
 /// The version of the package.
 pub const VERSION: &str = "0.1.0";
 
-const MGR_HELP: &str = "`mgr help show` and `mgr help edit` are the help of its jobs.";
+const MGR_HELP: &str =
+    "`mgr help show`, `mgr help edit` and `mgr help compact` are the help of its jobs.";
 
 const SHOW_HELP: &str = "Operation lines come on standard input, from one log or from several:
 
@@ -41,11 +43,12 @@ fn program<'a>(alloc: Global) -> Command<'a>
         .disable_help_subcommand(true)
 }
 
-/// The program, whose jobs are `show` and `edit`.
+/// The program, whose jobs are `show`, `edit` and `compact`.
 pub(crate) fn command<'a>(alloc: Global) -> Result<Command<'a>, AllocError>
     ensures { IfOk result (λ c. app_of c ≡ command_line) }
 {
     program(alloc)
         .subcommand(show(alloc))?
-        .subcommand(edit(alloc)?)
+        .subcommand(edit(alloc)?)?
+        .subcommand(compact(alloc)?)
 }

@@ -18,7 +18,7 @@ The log is NAME.ops, and the text NAME. C-x C-s saves, C-x C-c ends:
 `mgr-live` shows it on a terminal.";
 
 /// The same command with an argument more.
-fn with<'a>(command: Command<'a>, arg: Arg<'a>) -> Result<Command<'a>, AllocError>
+pub(crate) fn with<'a>(command: Command<'a>, arg: Arg<'a>) -> Result<Command<'a>, AllocError>
     requires local { arg.global ≡ false }
     requires plain { (fields_of command).has_globals ≡ false }
     ensures app { IfOk result (λ c. app_of c ≡ with_rule (app_of command.entry) (rule_of arg.entry)) }
@@ -64,7 +64,8 @@ fn flag<'a>(alloc: Global, id: &'a str) -> Arg<'a>
     Arg::new(alloc, id).long(id).action(ArgAction::SetTrue)
 }
 
-fn name<'a>(alloc: Global) -> Arg<'a>
+/// The name of a buffer.
+pub(crate) fn name<'a>(alloc: Global) -> Arg<'a>
     ensures rule { rule_of result ≡ spec.name_rule }
     ensures local { result.global ≡ false }
 {

@@ -1,8 +1,9 @@
-//! The settings that `edit` was given.
+//! What `edit` and `compact` were given.
 ghost use Rattle.std.specs.Prelude.{◌≡◌, None, IfOk, IfSome, option_map, string_bytes};
 ghost use Rattle.clap.specs.Matches.{found_of};
 ghost use Rattle.clap.specs.Walk.{rows_of};
 ghost use Rattle.mg_settings.specs.Settings.{Values};
+ghost use Rattle.mgr_command.specs.Compact.{GivesName};
 ghost use Rattle.mgr_command.specs.Edit.{GivesNumberIf, GivesFlag, GivesOptions, GivesSettings};
 
 use clap::ArgMatches;
@@ -24,6 +25,20 @@ pub(crate) fn settings_of(
         return Ok(None);
     };
     Ok(Settings::new(values))
+}
+
+/// The name that clap's matches give; none where it is empty.
+pub(crate) fn name_of(alloc: Global, found: &ArgMatches<'_>) -> Result<Option<String>, AllocError>
+    ensures { IfOk result (λ name.
+        GivesName (rows_of (found_of found.now)) (option_map string_bytes name)) }
+{
+    let Some(name) = found.get_str("name") else {
+        return Ok(None);
+    };
+    if name.is_empty() {
+        return Ok(None);
+    }
+    Ok(Some(String::from_str(alloc, name)?))
 }
 
 /// What stands there, under a name; none where a number is no number.

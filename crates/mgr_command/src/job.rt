@@ -7,7 +7,7 @@ ghost use Rattle.mgr_command.specs.Job.{IsChosen, IsNotChosen, IsFaultOf, IsFaul
 ghost use Rattle.mgr_command.specs.declared.job.JobFault.TheVariants.{Memory};
 
 use crate::command::command;
-use crate::given::settings_of;
+use crate::given::{name_of, settings_of};
 use clap::error::ErrorKind;
 use clap::{ArgMatches, Error};
 use mg_settings::Settings;
@@ -20,6 +20,8 @@ pub enum Job {
     Show,
     /// Keys in, frames out.
     Edit(Settings),
+    /// The log of this note, written anew.
+    Compact(String),
 }
 
 /// What help is on.
@@ -29,6 +31,7 @@ pub enum Topic {
     Program,
     Show,
     Edit,
+    Compact,
 }
 
 /// Why there is no job.
@@ -71,9 +74,10 @@ pub fn job_status(fault: &JobFault) -> u8
 /// The job that the words ask for, of which the first is the program's name.
 ///
 /// `show` alone is `Job::Show`; a `--` may end its flags. `edit` is followed by what clap reads: a
-/// name, `--replica N`, and the other options, each at most once and within its limits. `Help` is on
-/// the program where the first word behind its name is `--help`, or `-h` with anything behind it, on
-/// `show` where the first word behind `show` is, and on `edit` where clap finds it there. `Version`
+/// name, `--replica N`, and the other options, each at most once and within its limits, `compact` by
+/// a name. `Help` is on the program where the first word behind its name is `--help`, or `-h` with
+/// anything behind it, on `show` where the first word behind `show` is, and on `edit` and `compact`
+/// where clap finds it there. `Version`
 /// where the first word is `--version`, or `-V` with anything behind it. `help` in front is `--help`
 /// behind: `mgr help show` asks for what `mgr show --help` does. `Usage` at any other command line,
 /// and `Memory`.
@@ -97,6 +101,7 @@ fn chosen(alloc: Global, topic: Topic, matches: &ArgMatches<'_>) -> Result<Job, 
 {
     match topic {
         Topic::Edit => edit_of(alloc, matches),
+        Topic::Compact => compact_of(alloc, matches),
         Topic::Program | Topic::Show => Ok(Job::Show),
     }
 }
@@ -111,6 +116,20 @@ fn edit_of(alloc: Global, matches: &ArgMatches<'_>) -> Result<Job, JobFault>
     };
     match settings_of(alloc, found)? {
         Some(settings) => Ok(Job::Edit(settings)),
+        None => Err(mistake(alloc, "the name is empty")),
+    }
+}
+
+/// The note that `compact` was asked for.
+fn compact_of(alloc: Global, matches: &ArgMatches<'_>) -> Result<Job, JobFault>
+    ensures job { IfOk result (IsChosen Topic.Compact (rows_behind matches.now)) }
+    ensures fault { IfErr result (IsNotChosen Topic.Compact (rows_behind matches.now)) }
+{
+    let Some((_, found)) = matches.subcommand() else {
+        return Err(mistake(alloc, "nothing is to be compacted"));
+    };
+    match name_of(alloc, found)? {
+        Some(name) => Ok(Job::Compact(name)),
         None => Err(mistake(alloc, "the name is empty")),
     }
 }
@@ -149,6 +168,9 @@ fn topic_of(words: &[&str]) -> Topic
     }
     if first == Some(&"edit") {
         return Topic::Edit;
+    }
+    if first == Some(&"compact") {
+        return Topic::Compact;
     }
     Topic::Program
 }

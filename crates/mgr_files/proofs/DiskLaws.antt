@@ -1,5 +1,5 @@
 -- What stands under a name behind each beginning of the steps that give it a file.
-use Rattle.std.proofs.Common.{◌≡◌, ◌⊎◌, inl, inr, ℕ, List, [], ◌∷◌, ◌++◌, Bool, true, false, Option, Some, None, refl, sym, ap, ◌∙◌, subst, append_assoc}
+use Rattle.std.proofs.Common.{◌≡◌, ◌⊎◌, inl, inr, ℕ, List, [], ◌∷◌, ◌++◌, Bool, true, false, Option, Some, None, refl, sym, ap, ◌∙◌, subst, append_assoc, append-nil}
 use Rattle.mgr_files.specs.Disk.{Step, Empties, Writes, Syncs, Keeps, TakesName, SyncsFolder, Begins, Place, behind_step, behind, MayStand, MayBeFound, IsUntouched, naming_steps, named_steps, whole_steps, Tells, WritesFront, StopsBefore}
 
 -- What holds of a place, holds of it behind a part of the first step where that is a write, and behind that step and any
@@ -109,6 +109,10 @@ kept_before p bytes made u begins =
 
 -- ---- the steps that were told
 
+tells_nothing : (a : Option (List Step)) → Tells a a []
+tells_nothing None = tt
+tells_nothing (Some steps) = ap (λ (l : List Step). Some l) (sym (append-nil steps))
+
 tells_more : (a b c : Option (List Step)) (xs ys : List Step) → Tells a b xs → Tells b c ys → Tells a c (xs ++ ys)
 tells_more None b c xs ys one two = tt
 tells_more (Some steps) b c xs ys one two =
@@ -134,3 +138,27 @@ stops_behind a b c step later one s = record {
   begins = inr (inr (s.made, refl, s.begins));
   tells = tells_more a b c (step ∷ []) s.made one s.tells;
 }
+
+-- ---- a beginning of some of the steps is one of all
+
+begins_longer : (made wanted more : List Step) → Begins made wanted → Begins made (wanted ++ more)
+begins_longer made [] [] none = none
+begins_longer made [] (step ∷ more) none = inl none
+begins_longer made (step ∷ later) more (inl none) = inl none
+begins_longer made (step ∷ later) more (inr (inl part)) = inr (inl part)
+begins_longer made (step ∷ later) more (inr (inr (others, is, begins))) = inr (inr (others, is, begins_longer others later more begins))
+
+begins_all : (made more : List Step) → Begins made (made ++ more)
+begins_all [] [] = refl
+begins_all [] (step ∷ more) = inl refl
+begins_all (step ∷ made) more = inr (inr (made, refl, begins_all made more))
+
+pub stops_longer : (a b : Option (List Step)) (wanted more : List Step) → StopsBefore a b wanted → StopsBefore a b (wanted ++ more)
+stops_longer a b wanted more s = record { made = s.made; begins = begins_longer s.made wanted more s.begins; tells = s.tells }
+
+pub stops_at : (a b : Option (List Step)) (made more : List Step) → Tells a b made → StopsBefore a b (made ++ more)
+stops_at a b made more told = record { made = made; begins = begins_all made more; tells = told }
+
+-- nothing was done
+pub stops_at_once : (a b : Option (List Step)) (wanted : List Step) → b ≡ a → StopsBefore a b wanted
+stops_at_once a b wanted same = record { made = []; begins = begins_all [] wanted; tells = subst (λ o. Tells a o []) (sym same) (tells_nothing a) }

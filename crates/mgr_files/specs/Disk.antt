@@ -41,16 +41,23 @@ abbrev pub naming_steps : Bool → List Step
 naming_steps true = Keeps ∷ TakesName ∷ []
 naming_steps false = TakesName ∷ []
 
+abbrev pub synced_steps : Bool → List Step
+synced_steps keeps = Syncs ∷ naming_steps keeps
+
 abbrev pub named_steps : Bool → List ℕ → List Step
-named_steps keeps bytes = Empties ∷ Writes bytes ∷ Syncs ∷ naming_steps keeps
+named_steps keeps bytes = Empties ∷ Writes bytes ∷ synced_steps keeps
 
 -- and then the name is on the device
 abbrev pub whole_steps : Bool → List ℕ → List Step
 whole_steps keeps bytes = named_steps keeps bytes ++ SyncsFolder ∷ []
 
+-- the steps behind the last write, and all of them
+abbrev pub last_steps : Named → Bool → List Step
+last_steps Settled keeps = synced_steps keeps ++ SyncsFolder ∷ []
+last_steps (Unsettled error) keeps = synced_steps keeps
+
 abbrev pub steps_to : Named → Bool → List ℕ → List Step
-steps_to Settled keeps bytes = whole_steps keeps bytes
-steps_to (Unsettled error) keeps bytes = named_steps keeps bytes
+steps_to named keeps bytes = Empties ∷ Writes bytes ∷ last_steps named keeps
 
 -- a write was done in part
 abbrev pub WritesPart : Step → List Step → Type 0

@@ -1,7 +1,7 @@
 //! A file that is written whole beside another, and then takes its name.
 ghost use Rattle.std.specs.Prelude.{List, Option, IfOk, OnOk, OnErr};
 ghost use Rattle.mgr_files.specs.Disk.{Step, Empties, Syncs, Keeps, TakesName, SyncsFolder};
-ghost use Rattle.mgr_files.specs.Disk.{Does, DoesWrite, Tells, StopsBefore, naming_steps, named_steps, steps_to};
+ghost use Rattle.mgr_files.specs.Disk.{Does, DoesWrite, Tells, StopsBefore, naming_steps, synced_steps, last_steps, named_steps, steps_to};
 
 use std::io;
 
@@ -66,6 +66,18 @@ pub fn put_whole<D: Disk>(disk: &mut D, bytes: &[u8], keeps: bool) -> io::Result
 {
     disk.empty()?;
     disk.write(bytes)?;
+    name_written(disk, keeps)
+}
+
+/// Gives the file beside the name, once all that was written to it is on the device. What stands
+/// there is kept where it is to be. Where a step before the last fails, the old file has the name.
+#[tactic(auto, using(crate::proofs::DiskLaws::stops_here, crate::proofs::DiskLaws::stops_behind))]
+pub(crate) fn name_written<D: Disk>(disk: &mut D, keeps: bool) -> io::Result<Named>
+    ensures named { IfOk result (λ named.
+        Tells (D.steps disk.old) (D.steps disk.new) (last_steps named keeps)) }
+    ensures unnamed { OnErr result
+        (StopsBefore (D.steps disk.old) (D.steps disk.new) (synced_steps keeps)) }
+{
     disk.sync()?;
     give_name(disk, keeps)?;
     match disk.sync_folder() {

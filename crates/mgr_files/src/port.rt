@@ -4,8 +4,11 @@ ghost use Rattle.mg_files.specs.Calls.{failures_after, failures_after_link};
 ghost use Rattle.mg_files.specs.declared.port.LinkFault.TheVariants.{NoPort};
 ghost use Rattle.mg_files.specs.declared.port.PortFault.TheVariants.{Memory};
 
+use crate::disk::Named;
+use crate::logs::Logs;
 use crate::names::Paths;
 use crate::note::Note;
+use crate::rewriting::{OpenLog, make_next, name_next, remove_next};
 use crate::sockets::{accept_at, connect_to};
 use mg_files::{Found, LinkFault, Port, PortFault};
 use std::fs::File;
@@ -125,6 +128,13 @@ impl<R: Files<File = File> + Net + AllocGlobal + Drop> FilePort<R> {
         }
     }
 
+    fn paths(&self, name: &str) -> io::Result<Paths> {
+        match Paths::new(self.rt.alloc(), name) {
+            Ok(paths) => Ok(paths),
+            Err(_) => Err(io::Error::from(ErrorKind::OutOfMemory)),
+        }
+    }
+
     /// Removes what stands in the place of logs that were never made.
     fn leave(&self) {
         for note in &self.notes {
@@ -231,5 +241,43 @@ impl<R: Files<File = File> + Net + AllocGlobal + Drop> Port for FilePort<R> {
 
     fn failures(&self) -> u64 {
         self.failures
+    }
+}
+
+impl<R: Files<File = File> + Net + AllocGlobal + Drop> Logs for FilePort<R> {
+    ghost use Rattle.std.specs.Prelude.{None};
+
+    type Log = OpenLog;
+
+    type Next = File;
+
+    ghost standing = { λ _ _. None };
+
+    ghost steps = { λ _. None };
+
+    /// A log that may not be written is refused.
+    fn open_log(&mut self, name: &str) -> io::Result<OpenLog> {
+        let paths = self.paths(name)?;
+        OpenLog::open(&self.rt, paths.log.as_str())
+    }
+
+    fn make_next(&mut self, name: &str, log: &OpenLog) -> io::Result<File> {
+        let paths = self.paths(name)?;
+        make_next(&self.rt, &paths, log)
+    }
+
+    fn name_next(&mut self, name: &str, log: &OpenLog, mut next: File) -> io::Result<Named> {
+        let paths = self.paths(name)?;
+        let named = name_next(&self.rt, &paths, log, &mut next);
+        if named.is_err() {
+            remove_next(&self.rt, &paths, &next);
+        }
+        named
+    }
+
+    fn leave_next(&mut self, name: &str, next: File) {
+        if let Ok(paths) = self.paths(name) {
+            remove_next(&self.rt, &paths, &next);
+        }
     }
 }

@@ -1,9 +1,10 @@
 -- The exit status of the program.
-use Rattle.std.specs.Prelude.{◌≡◌, ◌≢◌, ◌⊎◌, ℕ, true, List, [], ◌∷◌, Option, Result, Err, codes, OnOk, OnErr, IfErr}
+use Rattle.std.specs.Prelude.{◌≡◌, ◌≢◌, ◌⊎◌, ℕ, true, List, [], ◌∷◌, Option, Result, Err, IfSome, codes, OnOk, OnErr, IfErr, string_bytes}
 use Rattle.rga_ops.specs.Content.{Content, nothing as no_content}
 use Rattle.rga_store.specs.declared.text_store.TheConstants.{MAX_LIMIT}
 use Rattle.rga_lines.specs.Counting.{Calls, CountsAs, StaysFlushed, OnBytes, WritesNothing, one_more}
 use Rattle.rga_exchange.specs.Taking.{HasTakenWholeLines}
+use Rattle.rga_exchange.specs.declared.taking.Form.TheVariants.{Log}
 use Rattle.mgr_command.specs.declared.job.JobFault.{JobFault}
 use Rattle.mgr_command.specs.declared.job.JobFault.TheVariants.{Help, Version, Usage, Memory}
 use Rattle.mgr_show.specs.Log.{log_of}
@@ -17,7 +18,10 @@ use Rattle.mg_session.specs.Faults.{IsOfLoad}
 use Rattle.mg_session.specs.Running.{RanFrom, BrokeOffFrom, StopsFrom, FailsToOpen}
 use Rattle.mg_settings.specs.Settings.{Values}
 use Rattle.mgr_command.specs.declared.job.Job.{Job}
-use Rattle.mgr_command.specs.declared.job.Job.TheVariants.{Show, Edit}
+use Rattle.mgr_command.specs.declared.job.Job.TheVariants.{Show, Edit, Compact}
+use Rattle.mgr_files.specs.Disk.{Step, StopsBefore, whole_steps}
+use Rattle.mgr_files.specs.Disk.{Tells as Made}
+use Rattle.mgr_show.specs.Compacted.{KeepsContent, compacted}
 use Rattle.mgr_show.specs.Shown.{IsOfInput, Shows, BeginsToShow}
 use Rattle.mgr_show.specs.declared.fault.ShowFault.{ShowFault}
 use Rattle.mgr_show.specs.declared.fault.ShowFault.TheVariants as fault
@@ -34,9 +38,21 @@ module _ {R W : Type 0} (remaining : R → Option (List ℕ)) (contents : W → 
     pub unwritten : IfErr answer (λ e. e ≢ fault.Write → new ≡ old)
     pub flushed : OnOk answer (new.flushed ≡ true)
     pub begun : OnErr answer (OnBytes remaining r (λ bytes. WritesNothing contents old new ⊎ BeginsToShow contents old new bytes))
-    pub whole_lines : answer ≡ Err fault.Read → (c : Content) × HasTakenWholeLines remaining (λ _. MAX_LIMIT) (λ held. held) (λ _ _ _. Unit {0}) r s no_content c
+    pub whole_lines : answer ≡ Err fault.Read → (c : Content) × HasTakenWholeLines Log remaining (λ _. MAX_LIMIT) (λ held. held) (λ _ _ _. Unit {0}) r s no_content c
     pub reads : CountsAs fault.Read answer r s
     pub writes : CountsAs fault.Write answer old new
+
+module _ {P : Type 0} (standing : P → List ℕ → Option (List ℕ)) (steps : P → Option (List Step)) where
+  -- The status is that of an answer to `compact` of a name, which says what became of its log, where that is told, and
+  -- what is told.
+  pub record IsStatusOfCompact (name : List ℕ) (status : ℕ) (before after : P) (told telling : Told) : Type 0 where
+    pub answer : Result (Unit {0}) ShowFault
+    pub exact : status ≡ shown_status answer
+    pub told_line : Tells told telling (shown_telling answer)
+    pub keeps : OnOk answer (IfSome (standing before name) (λ bytes. KeepsContent bytes × Made (steps before) (steps after) (whole_steps true (compacted bytes))))
+    pub refused : IfErr answer (λ e. IsOfInput e → IfSome (standing before name) (λ bytes. log_of MAX_LIMIT bytes ≡ Err e))
+    pub begun : OnErr answer (IfSome (standing before name) (λ bytes. StopsBefore (steps before) (steps after) (whole_steps true (compacted bytes))))
+    pub untouched : IfErr answer (λ e. e ≢ fault.Write → e ≢ fault.Memory → steps after ≡ steps before)
 
 module _ {R W P : Type 0} (remaining : R → Option (List ℕ)) (contents : W → Option (List ℕ)) (calls : P → Option (List Call)) (failures : P → ℕ) where
   -- The status is that of an answer of a session, which says what became of the keys, which device failed
@@ -58,10 +74,12 @@ module _ {R W P : Type 0} (remaining : R → Option (List ℕ)) (contents : W �
     pub screen : CountsAs session.Screen answer old new
     pub file : answer ≡ Err session.File → failures after ≡ one_more (failures before)
 
-  -- of a job; `show` has nothing to do with the port
+module _ {R W P : Type 0} (remaining : R → Option (List ℕ)) (contents : W → Option (List ℕ)) (calls : P → Option (List Call)) (failures : P → ℕ) (standing : P → List ℕ → Option (List ℕ)) (steps : P → Option (List Step)) where
+  -- of a job; `show` has nothing to do with the port, and `compact` nothing with standard input and output
   abbrev pub IsStatusOfJob : Job → ℕ → Calls R → Calls R → Calls W → Calls W → P → P → Told → Told → Type 0
   IsStatusOfJob Show status r s old new before after told telling = IsStatusOfShow remaining contents status r s old new told telling × (after ≡ before)
-  IsStatusOfJob (Edit settings) status r s old new before after told telling = IsStatusOfEdit settings status r s old new before after told telling
+  IsStatusOfJob (Edit settings) status r s old new before after told telling = IsStatusOfEdit remaining contents calls failures settings status r s old new before after told telling
+  IsStatusOfJob (Compact name) status r s old new before after told telling = IsStatusOfCompact standing steps (string_bytes name) status before after told telling × (s ≡ r) × (new ≡ old)
 
 module _ {W : Type 0} where
   -- A text that was asked for was printed, or not: 3 exactly where standard output failed, and else 0, or 4 where

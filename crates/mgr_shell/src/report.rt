@@ -67,7 +67,7 @@ impl Report {
         }
     }
 
-    /// What the shell is told of a fault of `mgr show`. It takes no memory.
+    /// What the shell is told of a fault of `mgr show`, or of `mgr compact`. It takes no memory.
     ///
     /// Where the input is refused the status is 1, and the line has the number of the line and the
     /// name of its fault or refusal, as `line 2: Conflict`, or `Torn`. Where a device failed it is

@@ -2,7 +2,7 @@
 ghost use Rattle.std.specs.Prelude.{◌≡◌, ◌≤◌, [], ◌∷◌, IfErr, MatchResult};
 ghost use Rattle.mgr_shell.specs.Report.{message_text};
 ghost use Rattle.mgr_shell.specs.Telling.{Tells, line};
-ghost use Rattle.mgr_shell.specs.Status.{IsStatusOf, IsStatusOfJob, IsStatusOfEdit, IsStatusOfPrint, IsStatusOfShow};
+ghost use Rattle.mgr_shell.specs.Status.{IsStatusOf, IsStatusOfJob, IsStatusOfEdit, IsStatusOfCompact, IsStatusOfPrint, IsStatusOfShow};
 ghost use Rattle.mgr_shell.specs.Peers as spec;
 
 use crate::report::Report;
@@ -11,7 +11,8 @@ use mg_files::Port;
 use mg_session::run_keys;
 use mg_settings::Settings;
 use mgr_command::{Job, JobFault, job_of, job_status, words};
-use mgr_files::FilePort;
+use mgr_compact::compact_note;
+use mgr_files::{FilePort, Logs};
 use mgr_show::{show_ops, write_text};
 use rga_lines::Counted;
 use rga_store::TreeStore;
@@ -56,7 +57,9 @@ fn port_number(job: &Result<Job, JobFault>) -> Option<u16>
 /// Does a job, or tells why there is none, and answers the exit status: 0 done, 1 the input is
 /// refused, 2 a wrong command line, 3 a device failed, 4 memory was refused. What is told is the one
 /// line of the fault, or the text of a wrong command line, and nothing where the status is 0.
-pub fn do_job<R: Read, W: Write, P: Port, T: Tell>(
+/// `compact` leaves the log as it was where the status is not 0, but at a device that fails once the
+/// new one has its name.
+pub fn do_job<R: Read, W: Write, P: Port + Logs, T: Tell>(
     alloc: Global,
     job: &Result<Job, JobFault>,
     reader: &mut Counted<R>,
@@ -65,7 +68,7 @@ pub fn do_job<R: Read, W: Write, P: Port, T: Tell>(
     errors: &mut T,
 ) -> u8
     ensures status { MatchResult job.now
-        (λ job. IsStatusOfJob R.remaining W.contents P.calls P.failures job result
+        (λ job. IsStatusOfJob R.remaining W.contents P.calls P.failures P.standing P.steps job result
         reader.old reader.new writer.old writer.new port.old port.new
         (T.told errors.old) (T.told errors.new))
         (λ fault. IsStatusOf fault result writer.old writer.new
@@ -76,6 +79,7 @@ pub fn do_job<R: Read, W: Write, P: Port, T: Tell>(
     match job {
         Ok(Job::Show) => show(alloc, reader, writer, errors),
         Ok(Job::Edit(settings)) => edit(alloc, settings, reader, writer, port, errors),
+        Ok(Job::Compact(name)) => compact(alloc, name.as_str(), port, errors),
         Err(fault) => refuse(alloc, fault, writer, errors),
     }
 }
@@ -112,6 +116,17 @@ fn edit<R: Read, W: Write, P: Port, T: Tell>(
     match run_keys::<TreeStore, _, _, _>(alloc, reader, writer, port, settings) {
         Ok(()) => 0,
         Err(fault) => told(errors, Report::of_session(&fault)),
+    }
+}
+
+fn compact<P: Logs, T: Tell>(alloc: Global, name: &str, port: &mut P, errors: &mut T) -> u8
+    ensures status { IsStatusOfCompact P.standing P.steps name.now result port.old port.new
+        (T.told errors.old) (T.told errors.new) }
+    ensures bound { result ≤ 4 }
+{
+    match compact_note(alloc, port, name) {
+        Ok(()) => 0,
+        Err(fault) => told(errors, Report::of_show(&fault)),
     }
 }
 

@@ -14,6 +14,7 @@ use Rattle.rga_exchange.specs.declared.log.LogEnd.{LogEnd}
 use Rattle.rga_exchange.specs.declared.log.LogEnd.TheVariants.{Whole, Bare, Torn}
 use Rattle.rga_exchange.specs.declared.log.LogRead.{LogRead}
 use Rattle.rga_exchange.specs.Taking.{AreTaken, HasTakenWholeLines}
+use Rattle.rga_exchange.specs.declared.taking.Form.TheVariants.{Log}
 use Rattle.rga_exchange.specs.Log.{LogOutcome, log_outcome}
 use Rattle.rga_exchange.proofs.OperationLaws.{log_taken}
 use Rattle.mgr_show.specs.declared.fault.ShowFault.{ShowFault}
@@ -56,24 +57,33 @@ log_agrees limit bytes c h =
     let w = read_to_end limit c bytes h in
     taken_list_agrees limit nothing (log_operations bytes) c (log_taken limit nothing c w.0 bytes w.1)
 
--- what a store holds that took a log from the start, and the text that was made of it
+-- the content that a log stands for, of a store that took it from the start
+pub record IsContentOf (bytes : List ℕ) (c : Content) : Type 0 where
+  pub accepted : IsAccepted bytes
+  pub is : c ≡ log_content bytes
+
+content_of_log : (bytes : List ℕ) (c : Content) → log_of MAX_LIMIT bytes ≡ Ok c → IsContentOf bytes c
+content_of_log bytes c h =
+    let content : c ≡ log_content bytes = log_content_is MAX_LIMIT bytes c h in
+    record { accepted = record { agreed = log_agrees MAX_LIMIT bytes c h; content = h ∙ ap Ok content }; is = content }
+
+pub content_of_input : (known : Option (List ℕ)) (limit : ℕ) (start c : Content) → limit ≡ MAX_LIMIT → start ≡ nothing
+    → IfSome known (λ bytes. shown_from limit start bytes ≡ Ok c) → IfSome known (λ bytes. IsContentOf bytes c)
+content_of_input None limit start c same empty h = tt
+content_of_input (Some bytes) limit start c same empty h = content_of_log bytes c (sym (λ k. shown_from (same k) (empty k) bytes) ∙ h)
+
+-- the text that was made of it
 pub record IsTextOf (bytes : List ℕ) (written : List ℕ) : Type 0 where
   pub accepted : IsAccepted bytes
   pub is : written ≡ text_bytes (log_content bytes)
 
-text_of_log : (bytes : List ℕ) (c : Content) (written : List ℕ) → log_of MAX_LIMIT bytes ≡ Ok c → written ≡ text_bytes c → IsTextOf bytes written
-text_of_log bytes c written h is =
-    let content : c ≡ log_content bytes = log_content_is MAX_LIMIT bytes c h in
-    record {
-      accepted = record { agreed = log_agrees MAX_LIMIT bytes c h; content = h ∙ ap Ok content };
-      is = is ∙ ap text_bytes content;
-    }
+text_of_content : (known : Option (List ℕ)) (c : Content) (written : List ℕ) → IfSome known (λ bytes. IsContentOf bytes c) → written ≡ text_bytes c → IfSome known (λ bytes. IsTextOf bytes written)
+text_of_content None c written h is = tt
+text_of_content (Some bytes) c written h is = record { accepted = h.accepted; is = is ∙ ap text_bytes h.is }
 
 pub text_of_input : (known : Option (List ℕ)) (limit : ℕ) (start c : Content) (written : List ℕ) → limit ≡ MAX_LIMIT → start ≡ nothing
     → IfSome known (λ bytes. shown_from limit start bytes ≡ Ok c) → written ≡ text_bytes c → IfSome known (λ bytes. IsTextOf bytes written)
-text_of_input None limit start c written same empty h is = tt
-text_of_input (Some bytes) limit start c written same empty h is =
-    text_of_log bytes c written (sym (λ k. shown_from (same k) (empty k) bytes) ∙ h) is
+text_of_input known limit start c written same empty h is = text_of_content known c written (content_of_input known limit start c same empty h) is
 
 module _ {W : Type 0} (contents : W → Option (List ℕ)) where
   pub shows : (known : Option (List ℕ)) (old new : Calls W) (written : List ℕ) → IfSome known (λ bytes. IsTextOf bytes written) → Writes contents old new written → IfSome known (λ bytes. Shows contents old new bytes)
@@ -85,7 +95,7 @@ module _ {W : Type 0} (contents : W → Option (List ℕ)) where
   begins_to_show (Some bytes) old new written h w = inr (record { accepted = h.accepted; begun = subst (λ l. WritesFront contents old new l) h.is w })
 
 -- all whole lines that were read were taken, by a store that was made empty
-pub whole_from : {R T : Type 0} (remaining : R → Option (List ℕ)) (limit : T → ℕ) (content : T → Content) (follows : T → List Op → T → Type 0) (r s : Calls R) (t u : T) → limit t ≡ MAX_LIMIT → content t ≡ nothing → HasTakenWholeLines remaining limit content follows r s t u → (c : Content) × HasTakenWholeLines remaining (λ _. MAX_LIMIT) (λ held. held) (λ _ _ _. Unit {0}) r s nothing c
+pub whole_from : {R T : Type 0} (remaining : R → Option (List ℕ)) (limit : T → ℕ) (content : T → Content) (follows : T → List Op → T → Type 0) (r s : Calls R) (t u : T) → limit t ≡ MAX_LIMIT → content t ≡ nothing → HasTakenWholeLines Log remaining limit content follows r s t u → (c : Content) × HasTakenWholeLines Log remaining (λ _. MAX_LIMIT) (λ held. held) (λ _ _ _. Unit {0}) r s nothing c
 whole_from remaining limit content follows r s t u same empty h = (
   content u,
   record {

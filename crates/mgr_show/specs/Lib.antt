@@ -1,2 +1,3 @@
 pub mod Log
 pub mod Shown
+pub mod Compacted

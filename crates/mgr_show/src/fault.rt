@@ -1,13 +1,15 @@
-//! Why `mgr show` ends without the text.
+//! Why `mgr show` ends without the text, or `mgr compact` without the log.
 ghost use Rattle.std.specs.Prelude.{◌≡◌};
 ghost use Rattle.mgr_show.specs.Log.{show_fault};
+ghost use Rattle.mgr_show.specs.Compacted.{send_fault};
 
-use rga_exchange::LogFault;
+use rga_exchange::{LogFault, SendFault};
 use rga_lines::LineFault;
 use rga_ops::Refusal;
 use thiserror::Error;
 
-/// Why `mgr show` ends without the whole text. Lines count from 1.
+/// Why `mgr show` ends without the whole text, or `mgr compact` without the whole log. Lines count
+/// from 1.
 #[derive(Clone, Copy, Debug, PartialEq, Eq, Error)]
 pub enum ShowFault {
     /// The line is no operation.
@@ -39,6 +41,17 @@ impl From<LogFault> for ShowFault {
             LogFault::Refused(number, refusal) => ShowFault::Refused(number, refusal),
             LogFault::Read => ShowFault::Read,
             LogFault::Memory => ShowFault::Memory,
+        }
+    }
+}
+
+impl From<SendFault> for ShowFault {
+    ghost from_gives = { λ fault e. e ≡ send_fault fault };
+
+    fn from(fault: SendFault) -> ShowFault {
+        match fault {
+            SendFault::Write => ShowFault::Write,
+            SendFault::Memory => ShowFault::Memory,
         }
     }
 }

@@ -4,6 +4,7 @@ ghost use Rattle.rga_ops.specs.Prelude.{Content, nothing};
 ghost use Rattle.rga_store.specs.declared.text_store.TheConstants.{MAX_LIMIT};
 ghost use Rattle.rga_lines.specs.Counting.{CountsAs, OnBytes, Writes, WritesFront, WritesNothing};
 ghost use Rattle.rga_exchange.specs.Taking.{HasTakenWholeLines};
+ghost use Rattle.rga_exchange.specs.declared.taking.Form.TheVariants.{Log};
 ghost use Rattle.mgr_show.specs.Log.{log_of, shown_from};
 ghost use Rattle.mgr_show.specs.Shown.{IsOfInput, Shows, BeginsToShow};
 
@@ -41,7 +42,7 @@ pub fn show_ops<R: Read, W: Write>(
     ensures flushed { OnOk result (writer.new.flushed ≡ true) }
 
     // Of what was taken the content alone is told: the store is made and dropped here.
-    ensures whole_lines { result ≡ Err ShowFault.Read → (c : Content) × HasTakenWholeLines
+    ensures whole_lines { result ≡ Err ShowFault.Read → (c : Content) × HasTakenWholeLines Log
         R.remaining (λ _. MAX_LIMIT) (λ held. held) (λ _ _ _. Unit {0})
         reader.old reader.new nothing c }
     // A call that failed is told as such, and not as something else.
@@ -57,7 +58,7 @@ pub fn show_ops<R: Read, W: Write>(
 }
 
 /// Takes the operations of a log to its end, where a last line that was cut off is a fault.
-fn take_whole_log<T: Taker, R: Read>(
+pub(crate) fn take_whole_log<T: Taker, R: Read>(
     alloc: Global,
     taker: &mut T,
     reader: &mut Counted<R>,
@@ -67,7 +68,7 @@ fn take_whole_log<T: Taker, R: Read>(
     ensures refused { IfErr result (λ e. IsOfInput e → OnBytes R.remaining reader.old
         (λ bytes. shown_from (T.limit taker.old) (T.content taker.old) bytes ≡ Err e)) }
 
-    ensures whole_lines { IfErr result (λ e. e ≡ ShowFault.Read → HasTakenWholeLines
+    ensures whole_lines { IfErr result (λ e. e ≡ ShowFault.Read → HasTakenWholeLines Log
         R.remaining T.limit T.content T.follows reader.old reader.new taker.old taker.new) }
     ensures device { CountsAs ShowFault.Read result reader.old reader.new }
     ensures no_write { result ≢ Err ShowFault.Write }

@@ -1,5 +1,5 @@
 -- Written operations behind a log, and before the end of an exchange.
-use Rattle.std.proofs.Common.{◌≡◌, ◌≢◌, ℕ, ◌<◌, ◌≤◌, lit≤, ◌^◌, List, [], ◌∷◌, ◌++◌, map, length, Ok, refl, sym, ap, ◌∙◌, subst, append-nil}
+use Rattle.std.proofs.Common.{◌≡◌, ◌≢◌, ℕ, ◌<◌, ◌≤◌, lit≤, ◌^◌, cond, List, [], ◌∷◌, ◌++◌, map, length, Ok, refl, sym, ap, ◌∙◌, subst, append-nil}
 use Rattle.std.specs.Prelude.{All}
 use Rattle.std.specs.List.{AllByRecursion}
 use Rattle.std.proofs.lemmas.List.Elements.{All-nil, All-cons}
@@ -13,14 +13,13 @@ use Rattle.rga_ops.proofs.OperationsLaws.{operations_hold}
 use Rattle.rga_ops.proofs.AgreeLaws.{agree_swap, agree_nothing}
 use Rattle.rga_ops.proofs.ListAnswerLaws.{joinable_append}
 use Rattle.rga_lines.specs.declared.reading.TheConstants.{MAX_LINE}
-use Rattle.rga_lines.specs.Table.{line_at}
-use Rattle.rga_lines.specs.Log.{then_operations, operations_of, stream_operations, log_operations, IsOperation}
-use Rattle.rga_lines.specs.Spelling.{line, end_line}
+use Rattle.rga_lines.specs.Log.{operations_at, then_operations, operations_of, is_head, behind_head, stream_operations, log_operations, IsOperation}
+use Rattle.rga_lines.specs.Spelling.{line, head_line, end_line}
 use Rattle.rga_lines.specs.Stream.{newline, lines_of, rest_of, HasNoNewline, bytes_of_lines}
 use Rattle.rga_lines.proofs.StreamLemmas.{is_cut, only_cut, lines-append_ended, rest-append_ended, rest-line}
-use Rattle.rga_lines.proofs.SplitterLemmas.{no_line}
-use Rattle.rga_lines.proofs.ReadBack.{operation_back, end_is_no_operation}
-use Rattle.rga_lines.proofs.NewlineLemmas.{line_has_none, end_has_none}
+use Rattle.rga_lines.proofs.StandLemmas.{nothing_stands, line_stands, end_stands}
+use Rattle.rga_lines.proofs.NewlineLemmas.{line_has_none, head_has_none, end_has_none}
+use Rattle.rga_lines.proofs.ReadBack.{head_back}
 use Rattle.rga_exchange.specs.Sending.{log_text, exchange_lines, stream_text, AreWritable, StandsFor}
 use Rattle.rga_exchange.proofs.TakingLaws.{operations_of-append}
 
@@ -38,13 +37,13 @@ later_writable op ops writable o m = writable o (Contains-later op o ops m)
 pub later_well_formed : (op : Op) (ops : List Op) → AreWellFormed (op ∷ ops) → AreWellFormed ops
 later_well_formed op ops well o m = well o (Contains-later op o ops m)
 
-pub first_back : (op : Op) (ops : List Op) → AreWritable (op ∷ ops) → AreWellFormed (op ∷ ops) → line_at (line op) ≡ Ok op
-first_back op ops writable well = operation_back op (writable op (Contains-first op ops)) (well op (Contains-first op ops))
+pub first_back : (op : Op) (ops : List Op) → AreWritable (op ∷ ops) → AreWellFormed (op ∷ ops) → operations_at (line op) ≡ Ok (op ∷ [])
+first_back op ops writable well = line_stands op (writable op (Contains-first op ops)) (well op (Contains-first op ops))
 
 pub are_operations-written : (ops : List Op) → AreWritable ops → AreWellFormed ops → AllByRecursion IsOperation (map line ops)
 are_operations-written [] writable well = tt
 are_operations-written (op ∷ ops) writable well =
-    ((op, first_back op ops writable well), are_operations-written ops (later_writable op ops writable) (later_well_formed op ops well))
+    ((op ∷ [], first_back op ops writable well), are_operations-written ops (later_writable op ops writable) (later_well_formed op ops well))
 
 pub operations_of-written : (ops : List Op) → AreWritable ops → AreWellFormed ops → operations_of (map line ops) ≡ ops
 operations_of-written [] writable well = refl
@@ -59,7 +58,7 @@ written_then (op ∷ ops) lines writable none =
     All-cons HasNoNewline (line op) (map line ops ++ lines) (line_has_none op (writable op (Contains-first op ops))) (written_then ops lines (later_writable op ops writable) none)
 
 -- lines without a newline are cut as they were put together
-cut_again : (lines : List (List ℕ)) → All HasNoNewline lines → (lines ≡ lines_of (bytes_of_lines lines)) × ([] ≡ rest_of (bytes_of_lines lines))
+pub cut_again : (lines : List (List ℕ)) → All HasNoNewline lines → (lines ≡ lines_of (bytes_of_lines lines)) × ([] ≡ rest_of (bytes_of_lines lines))
 cut_again lines none =
     only_cut (bytes_of_lines lines) lines [] (record { whole = sym (append-nil (bytes_of_lines lines)); lines_have_none = none; rest_has_none = All-nil (λ b. b ≢ newline) })
 
@@ -89,7 +88,7 @@ pub operations_ended : (bytes : List ℕ) → rest_of bytes ≡ [] → AllByRecu
 operations_ended bytes ended all =
     operations_of-append (lines_of bytes) (rest_of bytes ∷ []) all
     ∙ ap (λ (rest : List ℕ). operations_of (lines_of bytes) ++ operations_of (rest ∷ [])) ended
-    ∙ ap (λ r. operations_of (lines_of bytes) ++ then_operations r []) no_line
+    ∙ ap (λ r. operations_of (lines_of bytes) ++ then_operations r []) nothing_stands
     ∙ append-nil (operations_of (lines_of bytes))
 
 only_appended : (bytes : List ℕ) (ops : List Op) → AllByRecursion IsOperation (lines_of bytes) → rest_of bytes ≡ [] → AreWritable ops → AreWellFormed ops → AllByRecursion IsOperation (lines_of (bytes ++ log_text ops))
@@ -124,10 +123,15 @@ stands_appended bytes c ops stands ended writable well joinable =
 
 -- ---- an exchange
 
+-- the lines of operations, and then the end
+abbrev pub lines_and_end : List Op → List (List ℕ)
+lines_and_end ops = map line ops ++ end_line (length ops) ∷ []
+
 stream_cut : (c : Content) → AreWritable (operations c) → length (operations c) < 2 ^ 64 → (exchange_lines (operations c) ≡ lines_of (stream_text c)) × ([] ≡ rest_of (stream_text c))
 stream_cut c writable few =
     let ops : List Op = operations c in
-    cut_again (exchange_lines ops) (written_then ops (end_line (length ops) ∷ []) writable (All-cons HasNoNewline (end_line (length ops)) [] (end_has_none (length ops) few) (All-nil HasNoNewline)))
+    let end : All HasNoNewline (end_line (length ops) ∷ []) = All-cons HasNoNewline (end_line (length ops)) [] (end_has_none (length ops) few) (All-nil HasNoNewline) in
+    cut_again (exchange_lines ops) (All-cons HasNoNewline head_line (lines_and_end ops) head_has_none (written_then ops (end_line (length ops) ∷ []) writable end))
 
 pub stream_lines : (c : Content) → AreWritable (operations c) → length (operations c) < 2 ^ 64 → lines_of (stream_text c) ≡ exchange_lines (operations c)
 stream_lines c writable few = sym (stream_cut c writable few).0
@@ -135,11 +139,15 @@ stream_lines c writable few = sym (stream_cut c writable few).0
 pub stream_rest : (c : Content) → AreWritable (operations c) → length (operations c) < 2 ^ 64 → rest_of (stream_text c) ≡ []
 stream_rest c writable few = sym (stream_cut c writable few).1
 
+behind_written_head : (lines : List (List ℕ)) → behind_head (head_line ∷ lines) ≡ lines
+behind_written_head lines = ap (λ r. cond (is_head r) lines (head_line ∷ lines)) head_back
+
 pub stream_says : (c : Content) → IsSound c → AreWritable (operations c) → length (operations c) < 2 ^ 64 → stream_operations (stream_text c) ≡ operations c
 stream_says c sound writable few =
     let ops : List Op = operations c in
     let well : AreWellFormed ops = λ op m. sound op (operations_hold c op m) in
-    ap operations_of (stream_lines c writable few)
+    ap (λ ls. operations_of (behind_head ls)) (stream_lines c writable few)
+    ∙ ap operations_of (behind_written_head (lines_and_end ops))
     ∙ operations_of-append (map line ops) (end_line (length ops) ∷ []) (are_operations-written ops writable well)
-    ∙ (λ k. operations_of-written ops writable well k ++ then_operations (end_is_no_operation (length ops) few k) [])
+    ∙ (λ k. operations_of-written ops writable well k ++ then_operations (end_stands (length ops) few k) [])
     ∙ append-nil ops

@@ -16,11 +16,10 @@ use Rattle.rga_lines.specs.Log.{then_operations, operations_of, log_operations, 
 use Rattle.rga_lines.specs.Spelling.{line}
 use Rattle.rga_lines.specs.Stream.{newline, lines_of, rest_of, HasNoNewline}
 use Rattle.rga_lines.proofs.StreamLemmas.{lines-none, rest-none, lines-line, rest-line, lines-append_ended, rest-append_ended}
-use Rattle.rga_lines.proofs.SplitterLemmas.{no_line}
-use Rattle.rga_lines.proofs.ReadingLemmas.{too_long, alone}
+use Rattle.rga_lines.proofs.ReadingLemmas.{too_long}
+use Rattle.rga_lines.proofs.StandLemmas.{nothing_stands, beginning_stands}
 use Rattle.rga_lines.proofs.ReadBack.{line_back}
 use Rattle.rga_lines.proofs.NewlineLemmas.{line_has_none}
-use Rattle.rga_lines.proofs.BeginningLemmas.{beginning_refused}
 use Rattle.rga_exchange.specs.Sending.{log_text, AreWritable, StandsFor, GainsFirst}
 use Rattle.rga_exchange.proofs.TakingLaws.{operations_of-append}
 use Rattle.rga_exchange.proofs.AppendedLaws.{later_writable, later_well_formed, first_back, are_operations-append, operations_ended, agreed_append}
@@ -74,13 +73,13 @@ module _ (op : Op) (ops : List Op) (writable : AreWritable (op ∷ ops)) (well :
       )
   within_line front (b ∷ back) e =
       let none : HasNoNewline front = λ k d h same. subst HasNoNewline e no_newline k d (omega (arith, length-append front (b ∷ back))) (get_or_append_left front (b ∷ back) d k h ∙ same) in
-      let refused = beginning_refused op front b back (writable op (Contains-first op ops)) e in (
+      let refused = beginning_stands op front b back (writable op (Contains-first op ops)) e in (
         0,
         record {
           enough = omega arith;
           operations = ap (λ (ls : List (List ℕ)). operations_of (ls ++ rest_of front ∷ [])) (lines-none front none)
               ∙ ap (λ (l : List ℕ). operations_of (l ∷ [])) (rest-none front none)
-              ∙ ap (λ r. then_operations r []) (alone front (Err refused.0) refused.1);
+              ∙ ap (λ r. then_operations r []) refused.1;
           lines = subst (AllByRecursion IsOperation) (sym (lines-none front none)) tt;
           short = subst (λ (l : List ℕ). length l ≤ MAX_LINE) (sym (rest-none front none)) (omega (arith, short_line, ap length e, length-append front (b ∷ back)));
         },
@@ -93,7 +92,7 @@ module _ (op : Op) (ops : List Op) (writable : AreWritable (op ∷ ops)) (well :
     operations = (λ k. operations_of (lines-line (line op) more no_newline k ++ rest-line (line op) more no_newline k ∷ []))
         ∙ ap (λ r. then_operations r (log_operations more)) (first_back op ops writable well)
         ∙ ap (λ (os : List Op). op ∷ os) h.operations;
-    lines = subst (AllByRecursion IsOperation) (sym (lines-line (line op) more no_newline)) ((op, first_back op ops writable well), h.lines);
+    lines = subst (AllByRecursion IsOperation) (sym (lines-line (line op) more no_newline)) ((op ∷ [], first_back op ops writable well), h.lines);
     short = subst (λ (l : List ℕ). length l ≤ MAX_LINE) (sym (rest-line (line op) more no_newline)) h.short;
   })
 
@@ -103,7 +102,7 @@ no_bytes (x ∷ front) rest e = absurd (omega (arith, ap length e))
 
 begun : (ops : List Op) (front rest : List ℕ) → AreWritable ops → AreWellFormed ops → front ++ rest ≡ log_text ops → (j : ℕ) × IsLogOf front ops j
 begun [] front rest writable well e =
-    (0, subst (λ (l : List ℕ). IsLogOf l [] 0) (sym (no_bytes front rest e)) (record { enough = omega arith; operations = ap (λ r. then_operations r []) no_line; lines = tt; short = lit≤ tt }))
+    (0, subst (λ (l : List ℕ). IsLogOf l [] 0) (sym (no_bytes front rest e)) (record { enough = omega arith; operations = ap (λ r. then_operations r []) nothing_stands; lines = tt; short = lit≤ tt }))
 begun (op ∷ ops) front rest writable well e =
     elim (cut_in_two (line op) front rest (log_text ops) newline (e ∙ append_assoc (line op) (newline ∷ []) (log_text ops))) [
       | inl inside ↦ within_line op ops writable well front inside.0 inside.1

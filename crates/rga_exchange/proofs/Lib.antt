@@ -1,3 +1,4 @@
+pub mod HeadLaws
 pub mod TakingLaws
 pub mod ReadLaws
 pub mod OperationLaws
@@ -11,3 +12,6 @@ pub mod WritableLaws
 pub mod BegunLogLaws
 pub mod FirstLinesLemmas
 pub mod AgainLaws
+pub mod CompactLaws
+pub mod GoingOnLemmas
+pub mod TurnLaws

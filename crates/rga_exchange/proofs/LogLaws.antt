@@ -1,38 +1,41 @@
 -- Logs that are read to their end, in words.
-use Rattle.std.proofs.Common.{◌≡◌, ℕ, ◌+◌, ◌≤◌, Bool, true, false, cond, nat_lt, List, [], ◌∷◌, ◌++◌, length, Result, Ok, Err, refl, sym, ap, subst, ◌∙◌, arith, inl, inr, lit≤}
+use Rattle.std.proofs.Common.{◌≡◌, ℕ, ◌+◌, ◌≤◌, Bool, true, false, cond, nat_lt, List, [], ◌∷◌, ◌++◌, length, Result, Ok, Err, refl, sym, ap, subst, ◌∙◌, arith, append-nil, inl, inr, lit≤}
 use Rattle.std.specs.Prelude.{◌⊎◌, Contains}
 use Rattle.std.specs.List.{AllByRecursion}
 use Rattle.std.specs.FinSet as finite_set
 use Rattle.std.proofs.lemmas.Bool.{ltb-true, cases_lt}
 use Rattle.rga_ops.specs.Operation.{checked}
 use Rattle.rga_ops.specs.Content.{Content, Agree, join, content_of, known_ids}
-use Rattle.rga_ops.specs.Answer.{taken, and_take, taken_one_by_one}
+use Rattle.rga_ops.specs.Answer.{taken, taken_one_by_one}
 use Rattle.rga_ops.specs.ListAnswer.{IsJoinable}
 use Rattle.rga_ops.specs.declared.op.Op.{Op}
 use Rattle.rga_ops.specs.declared.refusal.Refusal.{Refusal}
-use Rattle.rga_ops.proofs.OperationLaws.{Contains-nil, Contains-cases}
+use Rattle.rga_ops.proofs.OperationLaws.{Contains-nil, Contains-cases, Contains-append}
 use Rattle.rga_ops.proofs.TakenLaws.{took}
 use Rattle.rga_ops.proofs.KnownLaws.{takeable_is_taken, taken_list_within}
 use Rattle.rga_ops.proofs.ListAnswerLaws.{one_by_one_list, list_taken-iff}
-use Rattle.rga_lines.specs.Table.{Reading, line_at}
+use Rattle.rga_lines.specs.Runs.{stretch_operations}
+use Rattle.rga_lines.specs.declared.reading.Line.TheVariants.{One, Run, Head, Last}
+use Rattle.rga_lines.specs.Table.{AnyReading, any_line_at}
 use Rattle.rga_lines.specs.declared.reading.TheConstants.{MAX_LINE}
 use Rattle.rga_lines.specs.Stream.{lines_of, rest_of}
-use Rattle.rga_lines.specs.Log.{operations_of, then_operations, log_operations, IsOperation, HasOnlyOperations}
+use Rattle.rga_lines.specs.Log.{operations_of, operations_at, then_operations, log_operations, IsOperation, HasOnlyOperations}
 use Rattle.rga_lines.specs.declared.fault.LineFault.{LineFault}
 use Rattle.rga_lines.specs.declared.fault.LineFault.TheVariants as line_fault
-use Rattle.rga_lines.proofs.ReadingLemmas.{well_formed}
-use Rattle.rga_lines.proofs.SplitterLemmas.{long_line, no_line}
+use Rattle.rga_lines.proofs.StandLemmas.{stands, stands_for, stands_for_none, stand_checked, AreChecked, long_stands, nothing_stands}
 use Rattle.rga_exchange.specs.declared.fault.LogFault.TheVariants as fault
 use Rattle.rga_exchange.specs.declared.log.LogEnd.{LogEnd}
 use Rattle.rga_exchange.specs.declared.log.LogEnd.TheVariants.{Whole, Bare, Torn}
 use Rattle.rga_exchange.specs.declared.log.LogRead.{LogRead}
-use Rattle.rga_exchange.specs.Taking.{AllTaken, AtFault, progress, stop_at_rest}
+use Rattle.rga_exchange.specs.declared.taking.Form.TheVariants.{Log}
+use Rattle.rga_exchange.specs.Taking.{AllTaken, AtFault, progress, taken_whole, stop_at_rest}
 use Rattle.rga_exchange.specs.Log.{LogOutcome, end_outcome, after_bare_operation, after_bare_line, after_rest, after_stop, after_lines, log_outcome}
 use Rattle.rga_exchange.specs.Sending.{StandsFor}
 use Rattle.rga_exchange.specs.Stops.{HasNothingTorn}
-use Rattle.rga_exchange.proofs.TakingLaws.{are_taken}
+use Rattle.rga_exchange.proofs.TakingLaws.{are_taken, lines_counted, took_front, one_by_one-append, one_taken, one_by_one_taken_whole}
 use Rattle.rga_exchange.proofs.OperationLaws.{is_read_to_end, no_fault, is_read, log_taken}
-use Rattle.rga_exchange.proofs.StopLaws.{operation, no_operation, operations_are_taken, took_first, lines_counted}
+use Rattle.rga_exchange.proofs.StopLaws.{operations_are_taken}
+use Rattle.rga_exchange.proofs.MeetingLaws.{first_fits}
 
 pub log_joinable : (limit : ℕ) (c d : Content) (read : LogRead) (bytes : List ℕ) → finite_set.len (known_ids c) ≤ limit → log_outcome limit c bytes ≡ (d, Ok read) → IsJoinable c (log_operations bytes) × (finite_set.len (known_ids d) ≤ limit)
 log_joinable limit c d read bytes within h =
@@ -59,20 +62,23 @@ tells n c d end read rest h one =
 
 rest_tells : (limit n : ℕ) (c d : Content) (read : LogRead) (rest : List ℕ) → after_rest limit n c rest ≡ (d, Ok read) → Tells n read rest
 rest_tells limit n c d read [] h = tells n c d Whole read [] h (λ _. inl refl)
-rest_tells limit n c d read (b ∷ bytes) h = by_reading (line_at (b ∷ bytes)) refl h
+rest_tells limit n c d read (b ∷ bytes) h = by_reading (any_line_at (b ∷ bytes)) refl h
   where
-    by_taken : (op : Op) (r : Result Content Refusal) → line_at (b ∷ bytes) ≡ Ok op → after_bare_operation n c r ≡ (d, Ok read) → Tells n read (b ∷ bytes)
-    by_taken op (Ok e) says g = tells n e d Bare read (b ∷ bytes) g (λ _. inr (op, says))
-    by_taken op (Err x) says g = absurd (no_fault (fault.Refused (n + 1) x) read g)
+    by_taken : (ops : List Op) (r : Result Content Refusal) → operations_at (b ∷ bytes) ≡ Ok ops → after_bare_operation n c r ≡ (d, Ok read) → Tells n read (b ∷ bytes)
+    by_taken ops (Ok e) reads g = tells n e d Bare read (b ∷ bytes) g (λ _. inr (ops, reads))
+    by_taken ops (Err x) reads g = absurd (no_fault (fault.Refused (n + 1) x) read g)
 
-    by_reading : (r : Reading) → line_at (b ∷ bytes) ≡ r → after_bare_line limit n c (length (b ∷ bytes)) r ≡ (d, Ok read) → Tells n read (b ∷ bytes)
-    by_reading (Ok op) says g = by_taken op (taken limit c op) says g
+    by_reading : (r : AnyReading) → any_line_at (b ∷ bytes) ≡ r → after_bare_line limit n c (length (b ∷ bytes)) r ≡ (d, Ok read) → Tells n read (b ∷ bytes)
+    by_reading (Ok (One op)) says g = by_taken (op ∷ []) (taken limit c op) (stands (b ∷ bytes) (Ok (One op)) says) g
+    by_reading (Ok (Run r)) says g = by_taken (stretch_operations r) (taken_whole limit c (stretch_operations r)) (stands (b ∷ bytes) (Ok (Run r)) says) g
+    by_reading (Ok Head) says g = tells n c d (Torn (length (b ∷ bytes))) read (b ∷ bytes) g (λ torn. absurd torn)
+    by_reading (Ok (Last number)) says g = tells n c d (Torn (length (b ∷ bytes))) read (b ∷ bytes) g (λ torn. absurd torn)
     by_reading (Err e) says g = tells n c d (Torn (length (b ∷ bytes))) read (b ∷ bytes) g (λ torn. absurd torn)
 
 pub log_lines : (limit : ℕ) (c d : Content) (read : LogRead) (bytes : List ℕ) → log_outcome limit c bytes ≡ (d, Ok read) → read.lines ≡ length (lines_of bytes)
 log_lines limit c d read bytes h =
     let w = is_read limit c d read bytes h in
-    let count = lines_counted limit 0 w.lines c w.content (lines_of bytes) w.taken in
+    let count = lines_counted Log limit 0 w.lines c w.content (lines_of bytes) w.taken in
     let told = (rest_tells limit w.lines w.content d read (rest_of bytes) w.rest).lines in
     omega (arith, count, told)
 
@@ -80,75 +86,94 @@ pub log_only_operations : (limit : ℕ) (c d : Content) (read : LogRead) (bytes 
 log_only_operations limit c d read bytes h whole =
     let w = is_read limit c d read bytes h in
     record {
-      lines = (are_taken limit 0 w.lines c w.content (lines_of bytes) w.taken).operations;
+      lines = (are_taken Log limit 0 w.lines c w.content (lines_of bytes) w.taken).operations;
       rest = (rest_tells limit w.lines w.content d read (rest_of bytes) w.rest).operation whole;
     }
 
 -- ---- what is read to its end
 
+all_checked_hold : (ops : List Op) (op : Op) → AreChecked ops → Contains ops op → checked op ≡ Ok tt
+all_checked_hold [] op all m = absurd (Contains-nil op m)
+all_checked_hold (first ∷ ops) op all m = elim (Contains-cases first op ops m) [
+  | inl same ↦ subst (λ o. checked o ≡ Ok tt) same all.0
+  | inr later ↦ all_checked_hold ops op all.1 later
+]
+
 operations_well_formed : (lines : List (List ℕ)) (op : Op) → Contains (operations_of lines) op → checked op ≡ Ok tt
 operations_well_formed [] op m = absurd (Contains-nil op m)
-operations_well_formed (line ∷ lines) op m = by_line (line_at line) refl m (λ later. operations_well_formed lines op later)
+operations_well_formed (line ∷ lines) op m = by_line (operations_at line) refl m (λ later. operations_well_formed lines op later)
   where
-    by_line : (r : Reading) → line_at line ≡ r → Contains (then_operations r (operations_of lines)) op → (Contains (operations_of lines) op → checked op ≡ Ok tt) → checked op ≡ Ok tt
-    by_line (Ok first) says m others = elim (Contains-cases first op (operations_of lines) m) [
-      | inl same ↦ well_formed line op (says ∙ ap operation same)
+    by_line : (r : Result (List Op) LineFault) → operations_at line ≡ r → Contains (then_operations r (operations_of lines)) op → (Contains (operations_of lines) op → checked op ≡ Ok tt) → checked op ≡ Ok tt
+    by_line (Ok ops) reads m others = elim (Contains-append ops (operations_of lines) op m) [
+      | inl here ↦ all_checked_hold ops op (stand_checked line ops reads) here
       | inr later ↦ others later
     ]
-    by_line (Err e) says m others = absurd (Contains-nil op m)
+    by_line (Err e) reads m others = absurd (Contains-nil op m)
 
 -- lines that are operations were taken one by one, and then others
 parts_taken : (limit : ℕ) (c d : Content) (lines others : List (List ℕ)) → AllByRecursion IsOperation lines → taken_one_by_one limit c (operations_of (lines ++ others)) ≡ Ok d → (e : Content) × (taken_one_by_one limit c (operations_of lines) ≡ Ok e) × (taken_one_by_one limit e (operations_of others) ≡ Ok d)
 parts_taken limit c d [] others all h = (c, refl, h)
 parts_taken limit c d (line ∷ lines) others all h =
-    let op : Op = all.0.0 in
-    let says : line_at line ≡ Ok op = all.0.1 in
-    let first = took_first limit c d op (operations_of (lines ++ others)) (sym (ap (λ r. taken_one_by_one limit c (then_operations r (operations_of (lines ++ others)))) says) ∙ h) in
+    let ops : List Op = all.0.0 in
+    let reads : operations_at line ≡ Ok ops = all.0.1 in
+    let first = took_front limit c d ops (operations_of (lines ++ others)) (sym (ap (λ r. taken_one_by_one limit c (then_operations r (operations_of (lines ++ others)))) reads) ∙ h) in
     let later = parts_taken limit first.0 d lines others all.1 first.2 in (
       later.0,
-      ap (λ r. taken_one_by_one limit c (then_operations r (operations_of lines))) says ∙ ap (λ r. and_take r (λ e. taken_one_by_one limit e (operations_of lines))) first.1 ∙ later.1,
+      ap (λ r. taken_one_by_one limit c (then_operations r (operations_of lines))) reads ∙ one_by_one-append limit c first.0 ops (operations_of lines) first.1 ∙ later.1,
       later.2,
     )
 
 -- a rest that is not empty and no operation
-none_torn : (b : ℕ) (bytes : List ℕ) (e : LineFault) → line_at (b ∷ bytes) ≡ Err e → (b ∷ bytes ≡ []) ⊎ IsOperation (b ∷ bytes) → ⊥
-none_torn b bytes e says (inl none) = absurd cc
-none_torn b bytes e says (inr (op, reads)) =
-    let clash : no_operation e ≡ operation op = sym says ∙ reads in
+none_torn : (b : ℕ) (bytes : List ℕ) (e : LineFault) → operations_at (b ∷ bytes) ≡ Err e → (b ∷ bytes ≡ []) ⊎ IsOperation (b ∷ bytes) → ⊥
+none_torn b bytes e reads (inl none) = absurd cc
+none_torn b bytes e reads (inr (ops, says)) =
+    let clash : stands_for_none e ≡ stands_for ops = sym reads ∙ says in
     absurd cc
 
+abbrev ReadTo : ℕ → ℕ → Content → Content → List ℕ → Type 0
+ReadTo limit n c d rest = (read : LogRead) × (after_rest limit n c rest ≡ (d, Ok read)) × ((rest ≡ []) ⊎ IsOperation rest → HasNothingTorn read.end)
+
 -- The rest ends a log. With one that is an operation, or none, nothing is torn off.
-rest_read : (limit n : ℕ) (c d : Content) (rest : List ℕ) → taken_one_by_one limit c (operations_of (rest ∷ [])) ≡ Ok d → (read : LogRead) × (after_rest limit n c rest ≡ (d, Ok read)) × ((rest ≡ []) ⊎ IsOperation rest → HasNothingTorn read.end)
-rest_read limit n c d [] h =
-    let same : took c ≡ took d = sym (ap (λ r. taken_one_by_one limit c (then_operations r [])) no_line) ∙ h in
+rest_read : (limit n : ℕ) (c d : Content) (rest : List ℕ) → finite_set.len (known_ids c) ≤ limit → taken_one_by_one limit c (operations_of (rest ∷ [])) ≡ Ok d → ReadTo limit n c d rest
+rest_read limit n c d [] within h =
+    let same : took c ≡ took d = sym (ap (λ r. taken_one_by_one limit c (then_operations r [])) nothing_stands) ∙ h in
     let is : c ≡ d = cc in
     (record { lines = n; end = Whole }, ap (λ e. end_outcome n e Whole) is, λ _. tt)
-rest_read limit n c d (b ∷ bytes) h = by_reading (line_at (b ∷ bytes)) refl
+rest_read limit n c d (b ∷ bytes) within h = by_reading (any_line_at (b ∷ bytes)) refl
   where
-    by_reading : (r : Reading) → line_at (b ∷ bytes) ≡ r → (read : LogRead) × (after_rest limit n c (b ∷ bytes) ≡ (d, Ok read)) × ((b ∷ bytes ≡ []) ⊎ IsOperation (b ∷ bytes) → HasNothingTorn read.end)
-    by_reading (Ok op) says =
-        let w = took_first limit c d op [] (sym (ap (λ r. taken_one_by_one limit c (then_operations r [])) says) ∙ h) in
-        let same : took w.0 ≡ took d = w.2 in
-        let is : w.0 ≡ d = cc in (
-          record { lines = n; end = Bare },
-          ap (after_bare_line limit n c (length (b ∷ bytes))) says ∙ ap (after_bare_operation n c) w.1 ∙ ap (λ e. end_outcome n e Bare) is,
-          λ _. tt,
-        )
-    by_reading (Err e) says =
-        let same : took c ≡ took d = sym (ap (λ r. taken_one_by_one limit c (then_operations r [])) says) ∙ h in
+    -- all operations that it stands for
+    all : (ops : List Op) → operations_at (b ∷ bytes) ≡ Ok ops → taken_one_by_one limit c ops ≡ Ok d
+    all ops reads =
+        ap (taken_one_by_one limit c) (sym (append-nil ops)) ∙ sym (ap (λ r. taken_one_by_one limit c (then_operations r [])) reads) ∙ h
+
+    bare : (r : AnyReading) → any_line_at (b ∷ bytes) ≡ r → after_bare_line limit n c (length (b ∷ bytes)) r ≡ end_outcome n d Bare → ReadTo limit n c d (b ∷ bytes)
+    bare r says ends = (record { lines = n; end = Bare }, ap (after_bare_line limit n c (length (b ∷ bytes))) says ∙ ends, λ _. tt)
+
+    torn : (r : AnyReading) (e : LineFault) → any_line_at (b ∷ bytes) ≡ r → operations_at (b ∷ bytes) ≡ Err e → after_bare_line limit n c (length (b ∷ bytes)) r ≡ end_outcome n c (Torn (length (b ∷ bytes))) → ReadTo limit n c d (b ∷ bytes)
+    torn r e says reads ends =
+        let same : took c ≡ took d = sym (ap (λ r. taken_one_by_one limit c (then_operations r [])) reads) ∙ h in
         let is : c ≡ d = cc in
         let end : LogEnd = Torn (length (b ∷ bytes)) in (
           record { lines = n; end = end },
-          ap (after_bare_line limit n c (length (b ∷ bytes))) says ∙ ap (λ e. end_outcome n e end) is,
-          λ one. absurd (none_torn b bytes e says one),
+          ap (after_bare_line limit n c (length (b ∷ bytes))) says ∙ ends ∙ ap (λ e. end_outcome n e end) is,
+          λ one. absurd (none_torn b bytes e reads one),
         )
+
+    by_reading : (r : AnyReading) → any_line_at (b ∷ bytes) ≡ r → ReadTo limit n c d (b ∷ bytes)
+    by_reading (Ok (One op)) says =
+        bare (Ok (One op)) says (ap (after_bare_operation n c) (one_taken limit c d op (all (op ∷ []) (stands (b ∷ bytes) (Ok (One op)) says))))
+    by_reading (Ok (Run r)) says =
+        bare (Ok (Run r)) says (ap (after_bare_operation n c) (one_by_one_taken_whole limit c d (stretch_operations r) within (all (stretch_operations r) (stands (b ∷ bytes) (Ok (Run r)) says))))
+    by_reading (Ok Head) says = torn (Ok Head) line_fault.Kind says (stands (b ∷ bytes) (Ok Head) says) refl
+    by_reading (Ok (Last number)) says = torn (Ok (Last number)) line_fault.Kind says (stands (b ∷ bytes) (Ok (Last number)) says) refl
+    by_reading (Err e) says = torn (Err e) e says (stands (b ∷ bytes) (Err e) says) refl
 
 -- a rest that is an operation, or none, is not too long
 rest_is_short : (rest : List ℕ) → (rest ≡ []) ⊎ IsOperation rest → length rest ≤ MAX_LINE
 rest_is_short rest (inl none) = subst (λ (r : List ℕ). length r ≤ MAX_LINE) (sym none) (lit≤ tt)
-rest_is_short rest (inr (op, says)) = elim (cases_lt MAX_LINE (length rest)) [
+rest_is_short rest (inr (ops, says)) = elim (cases_lt MAX_LINE (length rest)) [
   | inl long ↦
-      let clash : no_operation line_fault.Long ≡ operation op = sym (long_line rest long) ∙ says in
+      let clash : stands_for_none line_fault.Long ≡ stands_for ops = sym (long_stands rest long) ∙ says in
       absurd cc
   | inr short ↦ short
 ]
@@ -166,9 +191,10 @@ log_to_end limit c bytes operations short joinable fits =
     let lines : List (List ℕ) = lines_of bytes in
     let all = takeable_is_taken limit c (log_operations bytes) (record { well_formed = operations_well_formed (lines ++ rest ∷ []); joinable = joinable; fits = fits }) in
     let parts = parts_taken limit c (join c (content_of (log_operations bytes))) lines (rest ∷ []) operations all in
-    let read = rest_read limit (0 + length lines) parts.0 (join c (content_of (log_operations bytes))) rest parts.2 in (
+    let within = first_fits limit c (content_of (log_operations bytes)) fits in
+    let read = rest_read limit (0 + length lines) parts.0 (join c (content_of (log_operations bytes))) rest (taken_list_within limit c (operations_of lines) parts.0 within parts.1) parts.2 in (
       read.0,
-      ap (λ t. after_lines limit rest (progress t.lines t.content (stop_at_rest t.lines rest t.stop))) (operations_are_taken limit 0 c parts.0 lines operations parts.1)
+      ap (λ t. after_lines limit rest (progress t.lines t.content (stop_at_rest t.lines rest t.stop))) (operations_are_taken Log limit 0 c parts.0 lines within operations parts.1)
           ∙ ap (λ long. after_stop limit rest (0 + length lines) parts.0 (cond long (AtFault (fault.Line (0 + length lines + 1) line_fault.Long)) AllTaken)) (not_long rest short)
           ∙ read.1,
       read.2,
@@ -185,7 +211,7 @@ pub log_stands : (limit : ℕ) (c d : Content) (read : LogRead) (bytes : List �
 log_stands limit c d read bytes within h =
     let w = is_read limit c d read bytes h in
     record {
-      lines = (are_taken limit 0 w.lines c w.content (lines_of bytes) w.taken).operations;
+      lines = (are_taken Log limit 0 w.lines c w.content (lines_of bytes) w.taken).operations;
       short = w.short;
       agreed = (log_joinable limit c d read bytes within h).0.agreed;
       content = refl;

@@ -5,7 +5,7 @@ use Rattle.std.proofs.lemmas.List.Concat.{flat_map-append}
 use Rattle.rga_ops.specs.Content.{Content}
 use Rattle.rga_ops.specs.Operations.{operations}
 use Rattle.rga_ops.specs.declared.op.Op.{Op}
-use Rattle.rga_lines.specs.Spelling.{line, end_line}
+use Rattle.rga_lines.specs.Spelling.{line, head_line, end_line}
 use Rattle.rga_lines.specs.Stream.{newline, bytes_of_lines}
 use Rattle.rga_lines.specs.Counting.{Calls, WritesFront, WritesAllBut}
 use Rattle.rga_exchange.specs.Sending.{log_text, exchange_lines, stream_text}
@@ -15,13 +15,17 @@ use Rattle.rga_exchange.proofs.BegunLemmas.{begun_next, begun_longer, front_long
 log_text-from : (ops : List Op) (i : ℕ) (op : Op) → i < length ops → op ≡ get_or ops i op → log_text (drop i ops) ≡ (line op ++ newline ∷ []) ++ log_text (drop (i + 1) ops)
 log_text-from ops i op within at = ap log_text (drop_more ops i op within) ∙ ap (λ (x : Op). (line x ++ newline ∷ []) ++ log_text (drop (i + 1) ops)) (sym at)
 
--- the lines of the operations, and then the end
-stream_text-is : (c : Content) (ops : List Op) → ops ≡ operations c → stream_text c ≡ log_text ops ++ (end_line (length ops) ++ newline ∷ [])
+-- a line with its newline
+abbrev pub ended : List ℕ → List ℕ
+ended l = l ++ newline ∷ []
+
+-- the head, the lines of the operations, and then the end
+stream_text-is : (c : Content) (ops : List Op) → ops ≡ operations c → stream_text c ≡ (ended head_line ++ log_text ops) ++ ended (end_line (length ops))
 stream_text-is c ops are =
     let end : List ℕ = end_line (length ops) in
     ap (λ (os : List Op). bytes_of_lines (exchange_lines os)) (sym are)
-    ∙ flat_map-append (λ (l : List ℕ). l ++ newline ∷ []) (map line ops) (end ∷ [])
-    ∙ ap (λ (l : List ℕ). log_text ops ++ l) (append-nil (end ++ newline ∷ []))
+    ∙ ap (λ (l : List ℕ). ended head_line ++ l) (flat_map-append ended (map line ops) (end ∷ []) ∙ ap (λ (l : List ℕ). log_text ops ++ l) (append-nil (ended end)))
+    ∙ sym (append_assoc (ended head_line) (log_text ops) (ended end))
 
 module _ {W : Type 0} (contents : W → Option (List ℕ)) where
   -- the line of the next operation was added to the block
@@ -39,20 +43,18 @@ module _ {W : Type 0} (contents : W → Option (List ℕ)) where
   pub log_begun : (a b : Calls W) (start text left : List ℕ) → start ≡ [] → WritesAllBut contents a b (start ++ text) left → WritesAllBut contents a b text left
   log_begun a b start text left none h = subst (λ (l : List ℕ). WritesAllBut contents a b (l ++ text) left) none h
 
-  pub log_front : (a b : Calls W) (start text : List ℕ) → start ≡ [] → WritesFront contents a b (start ++ text) → WritesFront contents a b text
-  log_front a b start text none h = subst (λ (l : List ℕ). WritesFront contents a b (l ++ text)) none h
-
   -- ---- an exchange
 
-  -- what was left was put before the end
-  pub stream_begun : (a b : Calls W) (c : Content) (ops : List Op) (start left : List ℕ) (number : ℕ) (end last : List ℕ) → ops ≡ operations c → start ≡ [] → number ≡ length ops → end ≡ end_line number → last ≡ left ++ (end ++ newline ∷ [])
+  -- Behind the head what was left of the operations was put before the end.
+  pub stream_begun : (a b : Calls W) (c : Content) (ops : List Op) (start left : List ℕ) (number : ℕ) (end last : List ℕ) → ops ≡ operations c → start ≡ ended head_line → number ≡ length ops → end ≡ end_line number → last ≡ left ++ ended end
       → WritesAllBut contents a b (start ++ log_text ops) left → WritesAllBut contents a b (stream_text c) last
-  stream_begun a b c ops start left number end last are none count ends is h =
-      let whole : WritesAllBut contents a b (log_text ops ++ (end ++ newline ∷ [])) (left ++ (end ++ newline ∷ [])) = begun_longer contents a b (log_text ops) left (end ++ newline ∷ []) (log_begun a b start (log_text ops) left none h) in
-      let text : log_text ops ++ (end ++ newline ∷ []) ≡ stream_text c = ap (λ (l : List ℕ). log_text ops ++ (l ++ newline ∷ [])) (ends ∙ ap end_line count) ∙ sym (stream_text-is c ops are) in
-      subst (WritesAllBut contents a b (stream_text c)) (sym is) (subst (λ (l : List ℕ). WritesAllBut contents a b l (left ++ (end ++ newline ∷ []))) text whole)
+  stream_begun a b c ops start left number end last are head count ends is h =
+      let whole : WritesAllBut contents a b ((start ++ log_text ops) ++ ended end) (left ++ ended end) = begun_longer contents a b (start ++ log_text ops) left (ended end) h in
+      let text : (start ++ log_text ops) ++ ended end ≡ stream_text c = (λ k. (head k ++ log_text ops) ++ ended ((ends ∙ ap end_line count) k)) ∙ sym (stream_text-is c ops are) in
+      subst (WritesAllBut contents a b (stream_text c)) (sym is) (subst (λ (l : List ℕ). WritesAllBut contents a b l (left ++ ended end)) text whole)
 
-  -- a beginning of the lines of the operations is one of all
-  pub stream_front : (a b : Calls W) (c : Content) (ops : List Op) (start : List ℕ) → ops ≡ operations c → start ≡ [] → WritesFront contents a b (start ++ log_text ops) → WritesFront contents a b (stream_text c)
-  stream_front a b c ops start are none h =
-      subst (WritesFront contents a b) (sym (stream_text-is c ops are)) (front_longer contents a b (log_text ops) (end_line (length ops) ++ newline ∷ []) (log_front a b start (log_text ops) none h))
+  -- a beginning of the head and of the lines of the operations is one of all
+  pub stream_front : (a b : Calls W) (c : Content) (ops : List Op) (start : List ℕ) → ops ≡ operations c → start ≡ ended head_line → WritesFront contents a b (start ++ log_text ops) → WritesFront contents a b (stream_text c)
+  stream_front a b c ops start are head h =
+      subst (WritesFront contents a b) (sym (stream_text-is c ops are)) (front_longer contents a b (ended head_line ++ log_text ops) (ended (end_line (length ops)))
+      (subst (λ (l : List ℕ). WritesFront contents a b (l ++ log_text ops)) head h))

@@ -1,5 +1,5 @@
 -- What was taken of a stream or a log, as operations.
-use Rattle.std.proofs.Common.{◌≡◌, ℕ, ◌+◌, ◌≤◌, Bool, true, false, cond, List, [], ◌∷◌, ◌++◌, length, Option, Some, None, Result, Ok, Err, refl, sym, ap, ◌∙◌, arith, nat_lt}
+use Rattle.std.proofs.Common.{◌≡◌, ◌≢◌, ℕ, ◌+◌, ◌≤◌, Bool, true, false, cond, List, [], ◌∷◌, ◌++◌, length, Option, Some, None, Result, Ok, Err, refl, sym, ap, subst, ◌∙◌, arith, nat_lt, append-nil}
 use Rattle.std.specs.Prelude.{IfSome}
 use Rattle.std.proofs.lemmas.Bool.{ltb-false}
 use Rattle.rga_ops.specs.Content.{Content, join, content_of}
@@ -7,58 +7,94 @@ use Rattle.rga_ops.specs.Answer.{taken, and_take, taken_one_by_one}
 use Rattle.rga_ops.specs.declared.op.Op.{Op}
 use Rattle.rga_ops.specs.declared.refusal.Refusal.{Refusal}
 use Rattle.rga_ops.proofs.TakenLaws.{taken_list_is}
-use Rattle.rga_lines.specs.Table.{Reading, AnyReading, any_line_at, line_at}
+use Rattle.rga_lines.specs.Runs.{stretch_operations}
+use Rattle.rga_lines.specs.Table.{AnyReading, any_line_at}
 use Rattle.rga_lines.specs.declared.reading.TheConstants.{MAX_LINE}
 use Rattle.rga_lines.specs.Stream.{lines_of, rest_of}
-use Rattle.rga_lines.specs.Log.{operations_of, stream_operations, log_operations, then_operations}
-use Rattle.rga_lines.specs.declared.reading.Line.TheVariants.{One, Last}
+use Rattle.rga_lines.specs.Log.{operations_of, operations_at, stream_operations, log_operations, then_operations}
+use Rattle.rga_lines.specs.declared.reading.Line.TheVariants.{One, Run, Head, Last}
 use Rattle.rga_lines.specs.declared.fault.LineFault.TheVariants as line_fault
-use Rattle.rga_lines.proofs.ReadingLemmas.{alone}
-use Rattle.rga_lines.proofs.SplitterLemmas.{no_line}
+use Rattle.rga_lines.proofs.StandLemmas.{stands, nothing_stands}
 use Rattle.rga_exchange.specs.declared.fault.LogFault.{LogFault}
 use Rattle.rga_exchange.specs.declared.fault.LogFault.TheVariants as fault
 use Rattle.rga_exchange.specs.declared.log.LogEnd.{LogEnd}
 use Rattle.rga_exchange.specs.declared.log.LogRead.{LogRead}
-use Rattle.rga_exchange.specs.Taking.{Stop, AllTaken, AtEnd, AtFault, Progress, progress, after_line, refused_at, go_on, lines_taken, stop_at_rest, stream_taken}
+use Rattle.rga_exchange.specs.declared.taking.Form.{Form}
+use Rattle.rga_exchange.specs.declared.taking.Form.TheVariants.{Log, Exchange}
+use Rattle.rga_exchange.specs.Taking.{body_behind, Stop, AllTaken, AtEnd, AtFault, Progress, progress, after_line, taken_whole, refused_at, go_on, lines_taken, stop_at_rest, stream_taken}
 use Rattle.rga_exchange.specs.Log.{LogOutcome, end_outcome, after_bare_operation, after_bare_line, after_rest, after_stop, after_lines, log_outcome}
-use Rattle.rga_exchange.proofs.TakingLaws.{goes_on, line_taken}
+use Rattle.rga_exchange.proofs.HeadLaws.{on, halt, through_body}
+use Rattle.rga_exchange.proofs.TakingLaws.{goes_on, line_taken, one_by_one-append, taken_whole_one_by_one}
 
 abbrev pub ran : Result LogRead LogFault → Content → LogOutcome
 ran r c = (c, r)
 
 -- ---- up to the end line
 
--- the lines before the end line are operations, which were taken; nothing counts behind it
-pub record Ends (limit n m : ℕ) (c d : Content) (lines : List (List ℕ)) : Type 0 where
-  pub taken : taken_one_by_one limit c (operations_of lines) ≡ Ok d
-  pub count : m ≡ n + length (operations_of lines)
-
-pub lines_end : (limit n m : ℕ) (c d : Content) (number : ℕ) (lines : List (List ℕ)) → lines_taken limit n c lines ≡ progress m d (AtEnd number) → Ends limit n m c d lines
-lines_end limit n m c d number [] h = let clash : AllTaken ≡ AtEnd number = ap (λ (t : Progress). t.stop) h in absurd cc
-lines_end limit n m c d number (line ∷ lines) h = by_reading (any_line_at line) refl h (λ e g. lines_end limit (n + 1) m e d number lines g)
+-- the line that ends an exchange stands for no operations
+end_line_stands : (limit n : ℕ) (c : Content) (line : List ℕ) (number : ℕ) → after_line Log limit n c (any_line_at line) ≡ Err (AtEnd number) → operations_at line ≡ Err line_fault.Kind
+end_line_stands limit n c line number h = by_reading (any_line_at line) refl h
   where
-    by_taken : (op : Op) (r : Result Content Refusal) → any_line_at line ≡ Ok (One op) → taken limit c op ≡ r → go_on n c (refused_at (n + 1) r) (λ e. lines_taken limit (n + 1) e lines) ≡ progress m d (AtEnd number) → ((e : Content) → lines_taken limit (n + 1) e lines ≡ progress m d (AtEnd number) → Ends limit (n + 1) m e d lines) → Ends limit n m c d (line ∷ lines)
-    by_taken op (Ok e) says was g rec =
-        let w = rec e g in
-        let first = ap (λ r. then_operations r (operations_of lines)) (alone line (Ok (One op)) says) in
-        let longer = ap (λ (ops : List Op). length ops) first in
-        record {
-          taken = ap (taken_one_by_one limit c) first ∙ ap (λ r. and_take r (λ f. taken_one_by_one limit f (operations_of lines))) was ∙ w.taken;
-          count = omega (arith, w.count, longer);
-        }
-    by_taken op (Err x) says was g rec = let clash : AtFault (fault.Refused (n + 1) x) ≡ AtEnd number = ap (λ (t : Progress). t.stop) g in absurd cc
+    not_refused : (r : Result Content Refusal) → refused_at n r ≡ Err (AtEnd number) → ⊥
+    not_refused (Ok e) h = let clash : on e ≡ halt (AtEnd number) = h in cc
+    not_refused (Err x) h = let clash : halt (AtFault (fault.Refused n x)) ≡ halt (AtEnd number) = h in cc
 
-    by_reading : (r : AnyReading) → any_line_at line ≡ r → go_on n c (after_line limit (n + 1) c r) (λ e. lines_taken limit (n + 1) e lines) ≡ progress m d (AtEnd number) → ((e : Content) → lines_taken limit (n + 1) e lines ≡ progress m d (AtEnd number) → Ends limit (n + 1) m e d lines) → Ends limit n m c d (line ∷ lines)
-    by_reading (Ok (One op)) says g later = by_taken op (taken limit c op) says refl g later
-    by_reading (Ok (Last k)) says g later =
-        let none = ap (λ r. then_operations r (operations_of lines)) (alone line (Ok (Last k)) says) in
-        let short = ap (λ (ops : List Op). length ops) none in
-        let count : n ≡ m = ap (λ (t : Progress). t.lines) g in
-        record {
-          taken = ap (taken_one_by_one limit c) none ∙ ap Ok (ap (λ (t : Progress). t.content) g);
-          count = omega (arith, short, count);
-        }
-    by_reading (Err e) says g later = let clash : AtFault (fault.Line (n + 1) e) ≡ AtEnd number = ap (λ (t : Progress). t.stop) g in absurd cc
+    by_reading : (r : AnyReading) → any_line_at line ≡ r → after_line Log limit n c r ≡ Err (AtEnd number) → operations_at line ≡ Err line_fault.Kind
+    by_reading (Ok (One op)) says g = absurd (not_refused (taken limit c op) g)
+    by_reading (Ok (Run r)) says g = absurd (not_refused (taken_whole limit c (stretch_operations r)) g)
+    by_reading (Ok Head) says g = let clash : halt (AtFault (fault.Line n line_fault.Kind)) ≡ halt (AtEnd number) = g in absurd cc
+    by_reading (Ok (Last k)) says g = stands line (Ok (Last k)) says
+    by_reading (Err e) says g = let clash : halt (AtFault (fault.Line n e)) ≡ halt (AtEnd number) = g in absurd cc
+
+-- so nothing counts behind it
+ends_here : (limit n m : ℕ) (c d : Content) (number : ℕ) (line : List ℕ) (lines : List (List ℕ)) (stop : Stop) → after_line Log limit (n + 1) c (any_line_at line) ≡ Err stop → progress n c stop ≡ progress m d (AtEnd number) → operations_of (line ∷ lines) ≡ []
+ends_here limit n m c d number line lines stop first h =
+    let is : stop ≡ AtEnd number = ap (λ (t : Progress). t.stop) h in
+    ap (λ r. then_operations r (operations_of lines)) (end_line_stands limit (n + 1) c line number (first ∙ ap (λ (s : Stop). Err s) is))
+
+-- the lines of a log before an end line are operations, which were taken
+log_lines_end : (limit n m : ℕ) (c d : Content) (number : ℕ) (lines : List (List ℕ)) → lines_taken Log limit n c lines ≡ progress m d (AtEnd number) → taken_one_by_one limit c (operations_of lines) ≡ Ok d
+log_lines_end limit n m c d number [] h = let clash : AllTaken ≡ AtEnd number = ap (λ (t : Progress). t.stop) h in absurd cc
+log_lines_end limit n m c d number (line ∷ lines) h = by_first (after_line Log limit (n + 1) c (any_line_at line)) refl h (λ e g. log_lines_end limit (n + 1) m e d number lines g)
+  where
+    by_first : (r : Result Content Stop) → after_line Log limit (n + 1) c (any_line_at line) ≡ r → go_on n c r (λ e. lines_taken Log limit (n + 1) e lines) ≡ progress m d (AtEnd number) → ((e : Content) → lines_taken Log limit (n + 1) e lines ≡ progress m d (AtEnd number) → taken_one_by_one limit e (operations_of lines) ≡ Ok d) → taken_one_by_one limit c (operations_of (line ∷ lines)) ≡ Ok d
+    by_first (Ok e) first g later =
+        let w = line_taken limit (n + 1) c e line first in
+        ap (λ r. taken_one_by_one limit c (then_operations r (operations_of lines))) w.1 ∙ one_by_one-append limit c e w.0 (operations_of lines) w.2 ∙ later e g
+    by_first (Err stop) first g later =
+        ap (taken_one_by_one limit c) (ends_here limit n m c d number line lines stop first g) ∙ ap Ok (ap (λ (t : Progress). t.content) g)
+
+-- no line is taken back
+lines_up : (limit n m : ℕ) (c d : Content) (stop : Stop) (lines : List (List ℕ)) → lines_taken Log limit n c lines ≡ progress m d stop → n ≤ m
+lines_up limit n m c d stop [] h = let count : n ≡ m = ap (λ (t : Progress). t.lines) h in omega (arith, count)
+lines_up limit n m c d stop (line ∷ lines) h = by_first (after_line Log limit (n + 1) c (any_line_at line)) h (λ e g. lines_up limit (n + 1) m e d stop lines g)
+  where
+    by_first : (r : Result Content Stop) → go_on n c r (λ e. lines_taken Log limit (n + 1) e lines) ≡ progress m d stop → ((e : Content) → lines_taken Log limit (n + 1) e lines ≡ progress m d stop → n + 1 ≤ m) → n ≤ m
+    by_first (Ok e) g later = omega (arith, later e g)
+    by_first (Err s) g later = let count : n ≡ m = ap (λ (t : Progress). t.lines) g in omega (arith, count)
+
+-- where no line of a log was taken before an end line, none counts
+log_ends_at_once : (limit n : ℕ) (c d : Content) (number : ℕ) (lines : List (List ℕ)) → lines_taken Log limit n c lines ≡ progress n d (AtEnd number) → operations_of lines ≡ []
+log_ends_at_once limit n c d number [] h = refl
+log_ends_at_once limit n c d number (line ∷ lines) h = by_first (after_line Log limit (n + 1) c (any_line_at line)) refl h
+  where
+    by_first : (r : Result Content Stop) → after_line Log limit (n + 1) c (any_line_at line) ≡ r → go_on n c r (λ e. lines_taken Log limit (n + 1) e lines) ≡ progress n d (AtEnd number) → operations_of (line ∷ lines) ≡ []
+    by_first (Ok e) first g = absurd (omega (arith, lines_up limit (n + 1) n e d (AtEnd number) lines g))
+    by_first (Err stop) first g = ends_here limit n n c d number line lines stop first g
+
+-- the same of the lines of a stream behind its head
+lines_end : (form : Form) (limit n m : ℕ) (c d : Content) (number : ℕ) (lines : List (List ℕ)) → lines_taken form limit n c lines ≡ progress m d (AtEnd number) → taken_one_by_one limit c (operations_of (body_behind form n lines)) ≡ Ok d
+lines_end form limit n m c d number lines h =
+    let w = through_body form limit n c lines in
+    log_lines_end limit w.before m c d number (body_behind form n lines) (sym w.same ∙ h)
+
+pub ends_at_once : (form : Form) (limit n : ℕ) (c d : Content) (number : ℕ) (lines : List (List ℕ)) → lines_taken form limit n c lines ≡ progress n d (AtEnd number) → operations_of (body_behind form n lines) ≡ []
+ends_at_once form limit n c d number lines h =
+    let w = through_body form limit n c lines in
+    let behind = body_behind form n lines in
+    let ends = sym w.same ∙ h in
+    let here : w.before ≡ n = omega (arith, w.behind, lines_up limit w.before n c d (AtEnd number) behind ends) in
+    log_ends_at_once limit n c d number behind (subst (λ k. lines_taken Log limit k c behind ≡ progress n d (AtEnd number)) here ends)
 
 -- the rest of a stream changes nothing of an end that came before
 before_rest : (n : ℕ) (rest : List ℕ) (stop : Stop) (number : ℕ) → stop_at_rest n rest stop ≡ AtEnd number → stop ≡ AtEnd number
@@ -70,16 +106,17 @@ before_rest n rest AllTaken number h = by_size (nat_lt MAX_LINE (length rest)) h
 before_rest n rest (AtEnd k) number h = h
 before_rest n rest (AtFault e) number h = h
 
-pub stream_ends : (limit n : ℕ) (c d : Content) (number : ℕ) (bytes : List ℕ) → stream_taken limit c bytes ≡ progress n d (AtEnd number) → Ends limit 0 n c d (lines_of bytes)
-stream_ends limit n c d number bytes h =
-    let t = lines_taken limit 0 c (lines_of bytes) in
+pub stream_lines_end : (form : Form) (limit n : ℕ) (c d : Content) (number : ℕ) (bytes : List ℕ) → stream_taken form limit c bytes ≡ progress n d (AtEnd number) → lines_taken form limit 0 c (lines_of bytes) ≡ progress n d (AtEnd number)
+stream_lines_end form limit n c d number bytes h =
+    let t = lines_taken form limit 0 c (lines_of bytes) in
     let lines : t.lines ≡ n = ap (λ (u : Progress). u.lines) h in
     let content : t.content ≡ d = ap (λ (u : Progress). u.content) h in
     let stop : t.stop ≡ AtEnd number = before_rest t.lines (rest_of bytes) t.stop number (ap (λ (u : Progress). u.stop) h) in
-    lines_end limit 0 n c d number (lines_of bytes) (λ k. progress (lines k) (content k) (stop k))
+    λ k. progress (lines k) (content k) (stop k)
 
-pub stream_joined : (limit n : ℕ) (c d : Content) (number : ℕ) (bytes : List ℕ) → stream_taken limit c bytes ≡ progress n d (AtEnd number) → d ≡ join c (content_of (stream_operations bytes))
-stream_joined limit n c d number bytes h = (taken_list_is limit c (stream_operations bytes) d (stream_ends limit n c d number bytes h).taken).joined
+pub stream_joined : (limit n : ℕ) (c d : Content) (number : ℕ) (bytes : List ℕ) → stream_taken Exchange limit c bytes ≡ progress n d (AtEnd number) → d ≡ join c (content_of (stream_operations bytes))
+stream_joined limit n c d number bytes h =
+    (taken_list_is limit c (stream_operations bytes) d (lines_end Exchange limit 0 n c d number (lines_of bytes) (stream_lines_end Exchange limit n c d number bytes h))).joined
 
 -- ---- a whole log
 
@@ -89,39 +126,59 @@ is_read_to_end read = Ok read
 pub no_fault : {c d : Content} (e : LogFault) (read : LogRead) → ran (Err e) c ≡ ran (Ok read) d → ⊥
 no_fault e read h = let clash : Err e ≡ is_read_to_end read = ap (λ (o : LogOutcome). o.1) h in cc
 
+-- a rest that is not empty counts by what it says
+pub rest_says : (limit n : ℕ) (c : Content) (rest : List ℕ) (r : AnyReading) → length rest ≢ 0 → any_line_at rest ≡ r → after_rest limit n c rest ≡ after_bare_line limit n c (length rest) r
+rest_says limit n c [] r some says = absurd (some refl)
+rest_says limit n c (b ∷ bytes) r some says = ap (after_bare_line limit n c (length (b ∷ bytes))) says
+
+-- and is refused where that is
+pub bare_refused : (n : ℕ) (c d : Content) (r : Result Content Refusal) (e : LogFault) → refused_at (n + 1) r ≡ Err (AtFault e) → d ≡ c → after_bare_operation n c r ≡ ran (Err e) d
+bare_refused n c d (Ok x) e h same = let clash : on x ≡ halt (AtFault e) = h in absurd cc
+bare_refused n c d (Err x) e h same =
+    let told : halt (AtFault (fault.Refused (n + 1) x)) ≡ halt (AtFault e) = h in
+    let is : fault.Refused (n + 1) x ≡ e = cc in
+    λ k. ran (Err (is k)) (sym same k)
+
 -- how the rest of a log ends it, at content c behind n lines
 pub rest_taken : (limit n : ℕ) (c d : Content) (read : LogRead) (rest : List ℕ) → after_rest limit n c rest ≡ (d, Ok read) → taken_one_by_one limit c (operations_of (rest ∷ [])) ≡ Ok d
 rest_taken limit n c d read [] h =
-    ap (λ r. taken_one_by_one limit c (then_operations r [])) no_line ∙ ap Ok (ap (λ (o : LogOutcome). o.0) h)
-rest_taken limit n c d read (b ∷ bytes) h = by_reading (line_at (b ∷ bytes)) refl h
+    ap (λ r. taken_one_by_one limit c (then_operations r [])) nothing_stands ∙ ap Ok (ap (λ (o : LogOutcome). o.0) h)
+rest_taken limit n c d read (b ∷ bytes) h = by_reading (any_line_at (b ∷ bytes)) refl h
   where
-    by_taken : (op : Op) (r : Result Content Refusal) → line_at (b ∷ bytes) ≡ Ok op → taken limit c op ≡ r → after_bare_operation n c r ≡ (d, Ok read) → taken_one_by_one limit c (operations_of ((b ∷ bytes) ∷ [])) ≡ Ok d
-    by_taken op (Ok e) says was g =
-        ap (λ r. taken_one_by_one limit c (then_operations r [])) says
-        ∙ ap (λ r. and_take r (λ f. taken_one_by_one limit f [])) was
+    by_taken : (ops : List Op) (r : Result Content Refusal) → operations_at (b ∷ bytes) ≡ Ok ops → ((e : Content) → r ≡ Ok e → taken_one_by_one limit c ops ≡ Ok e) → after_bare_operation n c r ≡ (d, Ok read) → taken_one_by_one limit c (operations_of ((b ∷ bytes) ∷ [])) ≡ Ok d
+    by_taken ops (Ok e) reads was g =
+        ap (λ r. taken_one_by_one limit c (then_operations r [])) reads
+        ∙ ap (taken_one_by_one limit c) (append-nil ops)
+        ∙ was e refl
         ∙ ap Ok (ap (λ (o : LogOutcome). o.0) g)
-    by_taken op (Err x) says was g = absurd (no_fault (fault.Refused (n + 1) x) read g)
+    by_taken ops (Err x) reads was g = absurd (no_fault (fault.Refused (n + 1) x) read g)
 
-    by_reading : (r : Reading) → line_at (b ∷ bytes) ≡ r → after_bare_line limit n c (length (b ∷ bytes)) r ≡ (d, Ok read) → taken_one_by_one limit c (operations_of ((b ∷ bytes) ∷ [])) ≡ Ok d
-    by_reading (Ok op) says g = by_taken op (taken limit c op) says refl g
+    by_reading : (r : AnyReading) → any_line_at (b ∷ bytes) ≡ r → after_bare_line limit n c (length (b ∷ bytes)) r ≡ (d, Ok read) → taken_one_by_one limit c (operations_of ((b ∷ bytes) ∷ [])) ≡ Ok d
+    by_reading (Ok (One op)) says g = by_taken (op ∷ []) (taken limit c op) (stands (b ∷ bytes) (Ok (One op)) says) (λ e was. ap (λ r. and_take r (λ f. Ok f)) was) g
+    by_reading (Ok (Run r)) says g =
+        by_taken (stretch_operations r) (taken_whole limit c (stretch_operations r)) (stands (b ∷ bytes) (Ok (Run r)) says) (λ e was. taken_whole_one_by_one limit c e (stretch_operations r) was) g
+    by_reading (Ok Head) says g =
+        ap (λ r. taken_one_by_one limit c (then_operations r [])) (stands (b ∷ bytes) (Ok Head) says) ∙ ap Ok (ap (λ (o : LogOutcome). o.0) g)
+    by_reading (Ok (Last number)) says g =
+        ap (λ r. taken_one_by_one limit c (then_operations r [])) (stands (b ∷ bytes) (Ok (Last number)) says) ∙ ap Ok (ap (λ (o : LogOutcome). o.0) g)
     by_reading (Err e) says g =
-        ap (λ r. taken_one_by_one limit c (then_operations r [])) says ∙ ap Ok (ap (λ (o : LogOutcome). o.0) g)
+        ap (λ r. taken_one_by_one limit c (then_operations r [])) (stands (b ∷ bytes) (Err e) says) ∙ ap Ok (ap (λ (o : LogOutcome). o.0) g)
 
 -- the operations of lines that were taken, and then those of others
-pub then_taken : (limit n m : ℕ) (c d : Content) (xs ys : List (List ℕ)) → lines_taken limit n c xs ≡ progress m d AllTaken → taken_one_by_one limit c (operations_of (xs ++ ys)) ≡ taken_one_by_one limit d (operations_of ys)
+pub then_taken : (limit n m : ℕ) (c d : Content) (xs ys : List (List ℕ)) → lines_taken Log limit n c xs ≡ progress m d AllTaken → taken_one_by_one limit c (operations_of (xs ++ ys)) ≡ taken_one_by_one limit d (operations_of ys)
 then_taken limit n m c d [] ys h = ap (λ e. taken_one_by_one limit e (operations_of ys)) (ap (λ (t : Progress). t.content) h)
 then_taken limit n m c d (x ∷ xs) ys h =
-    let w = goes_on limit n m c d x xs h in
+    let w = goes_on Log limit n m c d x xs h in
     let first = line_taken limit (n + 1) c w.next x w.first in
     ap (λ r. taken_one_by_one limit c (then_operations r (operations_of (xs ++ ys)))) first.1
-    ∙ ap (λ r. and_take r (λ e. taken_one_by_one limit e (operations_of (xs ++ ys)))) first.2
+    ∙ one_by_one-append limit c w.next first.0 (operations_of (xs ++ ys)) first.2
     ∙ then_taken limit (n + 1) m w.next d xs ys w.later
 
 -- a log that is read to its end was read so: all its lines, and then its rest
 pub record IsRead (limit : ℕ) (c d : Content) (read : LogRead) (bytes : List ℕ) : Type 0 where
   pub lines : ℕ
   pub content : Content
-  pub taken : lines_taken limit 0 c (lines_of bytes) ≡ progress lines content AllTaken
+  pub taken : lines_taken Log limit 0 c (lines_of bytes) ≡ progress lines content AllTaken
   pub rest : after_rest limit lines content (rest_of bytes) ≡ (d, Ok read)
   pub short : length (rest_of bytes) ≤ MAX_LINE
 
@@ -129,7 +186,7 @@ pub is_read : (limit : ℕ) (c d : Content) (read : LogRead) (bytes : List ℕ) 
 is_read limit c d read bytes h = by_stop t.stop refl h
   where
     t : Progress
-    t = lines_taken limit 0 c (lines_of bytes)
+    t = lines_taken Log limit 0 c (lines_of bytes)
 
     by_size : (long : Bool) → nat_lt MAX_LINE (length (rest_of bytes)) ≡ long → t.stop ≡ AllTaken → after_stop limit (rest_of bytes) t.lines t.content (cond long (AtFault (fault.Line (t.lines + 1) line_fault.Long)) AllTaken) ≡ (d, Ok read) → IsRead limit c d read bytes
     by_size true size is g = absurd (no_fault (fault.Line (t.lines + 1) line_fault.Long) read g)
@@ -151,26 +208,25 @@ log_joined limit c d read bytes h = (taken_list_is limit c (log_operations bytes
 
 -- ---- of a device that tells its bytes
 
-pub received_joined : (known : Option (List ℕ)) (limit n number : ℕ) (c d : Content) → IfSome known (λ bytes. stream_taken limit c bytes ≡ progress n d (AtEnd number)) → IfSome known (λ bytes. d ≡ join c (content_of (stream_operations bytes)))
-received_joined None limit n number c d h = tt
-received_joined (Some bytes) limit n number c d h = stream_joined limit n c d number bytes h
+abbrev pub EndsBehind : Option (List ℕ) → ℕ → ℕ → ℕ → ℕ → Content → Content → Type 0
+EndsBehind known limit n j number c d = IfSome known (λ bytes. (stream_taken Exchange limit c bytes ≡ progress n d (AtEnd number)) × (j ≡ length (stream_operations bytes)))
 
-pub received_count : (known : Option (List ℕ)) (limit n number : ℕ) (c d : Content) → IfSome known (λ bytes. stream_taken limit c bytes ≡ progress n d (AtEnd number)) → IfSome known (λ bytes. n ≡ length (stream_operations bytes))
-received_count None limit n number c d h = tt
-received_count (Some bytes) limit n number c d h = let w = stream_ends limit n c d number bytes h in omega (arith, w.count)
+pub received_joined : (known : Option (List ℕ)) (limit n j number : ℕ) (c d : Content) → EndsBehind known limit n j number c d → IfSome known (λ bytes. d ≡ join c (content_of (stream_operations bytes)))
+received_joined None limit n j number c d h = tt
+received_joined (Some bytes) limit n j number c d h = stream_joined limit n c d number bytes h.0
 
 -- a log of which all lines were taken, and then the rest; the taker's own limit may be another name of the same number
-pub log_ends : (limit own n : ℕ) (c e d : Content) (rest bytes : List ℕ) (told : Result LogRead LogFault) → own ≡ limit → (stream_taken limit c bytes ≡ progress n e AllTaken) × (rest_of bytes ≡ rest) → after_rest own n e rest ≡ ran told d → log_outcome limit c bytes ≡ ran told d
+pub log_ends : (limit own n : ℕ) (c e d : Content) (rest bytes : List ℕ) (told : Result LogRead LogFault) → own ≡ limit → (stream_taken Log limit c bytes ≡ progress n e AllTaken) × (rest_of bytes ≡ rest) → after_rest own n e rest ≡ ran told d → log_outcome limit c bytes ≡ ran told d
 log_ends limit own n c e d rest bytes told is h outcome =
     (λ k. after_lines limit (h.1 k) (h.0 k)) ∙ sym (ap (λ l. after_rest l n e rest) is) ∙ outcome
 
-pub log_ends_outcome : (known : Option (List ℕ)) (limit own n : ℕ) (c e d : Content) (rest : List ℕ) (told : Result LogRead LogFault) → own ≡ limit → IfSome known (λ bytes. (stream_taken limit c bytes ≡ progress n e AllTaken) × (rest_of bytes ≡ rest)) → after_rest own n e rest ≡ ran told d → IfSome known (λ bytes. let p = log_outcome limit c bytes in (p.0 ≡ d) × (p.1 ≡ told))
+pub log_ends_outcome : (known : Option (List ℕ)) (limit own n : ℕ) (c e d : Content) (rest : List ℕ) (told : Result LogRead LogFault) → own ≡ limit → IfSome known (λ bytes. (stream_taken Log limit c bytes ≡ progress n e AllTaken) × (rest_of bytes ≡ rest)) → after_rest own n e rest ≡ ran told d → IfSome known (λ bytes. let p = log_outcome limit c bytes in (p.0 ≡ d) × (p.1 ≡ told))
 log_ends_outcome None limit own n c e d rest told is h outcome = tt
 log_ends_outcome (Some bytes) limit own n c e d rest told is h outcome =
     let all : log_outcome limit c bytes ≡ ran told d = log_ends limit own n c e d rest bytes told is h outcome in
     (ap (λ (o : LogOutcome). o.0) all, ap (λ (o : LogOutcome). o.1) all)
 
-pub log_ends_joined : (known : Option (List ℕ)) (limit own n : ℕ) (c e d : Content) (rest : List ℕ) (end : LogEnd) → own ≡ limit → IfSome known (λ bytes. (stream_taken limit c bytes ≡ progress n e AllTaken) × (rest_of bytes ≡ rest)) → after_rest own n e rest ≡ end_outcome n d end → IfSome known (λ bytes. d ≡ join c (content_of (log_operations bytes)))
+pub log_ends_joined : (known : Option (List ℕ)) (limit own n : ℕ) (c e d : Content) (rest : List ℕ) (end : LogEnd) → own ≡ limit → IfSome known (λ bytes. (stream_taken Log limit c bytes ≡ progress n e AllTaken) × (rest_of bytes ≡ rest)) → after_rest own n e rest ≡ end_outcome n d end → IfSome known (λ bytes. d ≡ join c (content_of (log_operations bytes)))
 log_ends_joined None limit own n c e d rest end is h outcome = tt
 log_ends_joined (Some bytes) limit own n c e d rest end is h outcome =
     log_joined limit c d (record { lines = n; end = end }) bytes (log_ends limit own n c e d rest bytes (Ok (record { lines = n; end = end })) is h outcome)

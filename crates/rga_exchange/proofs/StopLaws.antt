@@ -1,54 +1,76 @@
 -- Why the lines of a stream are taken no further, in words.
-use Rattle.std.proofs.Common.{◌≡◌, ℕ, ◌+◌, Bool, true, false, cond, nat_lt, List, [], ◌∷◌, ◌++◌, length, Result, Ok, Err, refl, sym, ap, subst, ◌∙◌, arith, append_assoc, append-nil}
+use Rattle.std.proofs.Common.{◌≡◌, ℕ, ◌+◌, Bool, true, false, cond, nat_lt, List, [], ◌∷◌, ◌++◌, length, Option, Some, None, Result, Ok, Err, refl, sym, ap, subst, ◌∙◌, ◌≤◌, arith}
 use Rattle.std.specs.Prelude.{◌↔◌}
 use Rattle.std.specs.List.{AllByRecursion}
 use Rattle.std.proofs.lemmas.Bool.{ltb-true}
-use Rattle.rga_ops.specs.Content.{Content}
-use Rattle.rga_ops.specs.Answer.{taken, and_take, taken_one_by_one}
+use Rattle.std.specs.FinSet as finite_set
+use Rattle.rga_ops.specs.Content.{Content, known_ids}
+use Rattle.rga_ops.specs.Answer.{taken, taken_one_by_one}
 use Rattle.rga_ops.specs.declared.op.Op.{Op}
 use Rattle.rga_ops.specs.declared.refusal.Refusal.{Refusal}
 use Rattle.rga_ops.proofs.TakenLaws.{took, refused}
-use Rattle.rga_lines.specs.Table.{Reading, AnyReading, any_line_at, line_at}
+use Rattle.rga_ops.proofs.KnownLaws.{taken_list_within}
+use Rattle.rga_lines.specs.Runs.{stretch_operations}
+use Rattle.rga_lines.specs.Table.{AnyReading, any_line_at}
 use Rattle.rga_lines.specs.declared.reading.TheConstants.{MAX_LINE}
 use Rattle.rga_lines.specs.Stream.{lines_of, rest_of}
-use Rattle.rga_lines.specs.Log.{operations_of, then_operations, IsOperation}
-use Rattle.rga_lines.specs.declared.reading.Line.TheVariants.{One, Last}
+use Rattle.rga_lines.specs.Log.{operations_of, operations_at, then_operations, IsOperation}
+use Rattle.rga_lines.specs.declared.reading.Line.{Line}
+use Rattle.rga_lines.specs.declared.reading.Line.TheVariants.{One, Run, Head, Last}
 use Rattle.rga_lines.specs.declared.fault.LineFault.{LineFault}
 use Rattle.rga_lines.specs.declared.fault.LineFault.TheVariants as line_fault
-use Rattle.rga_lines.proofs.ReadingLemmas.{too_long, alone}
+use Rattle.rga_lines.proofs.ReadingLemmas.{too_long}
 use Rattle.rga_exchange.specs.declared.fault.LogFault.TheVariants as fault
-use Rattle.rga_exchange.specs.Taking.{Stop, AllTaken, AtEnd, AtFault, Progress, progress, refused_at, after_line, go_on, lines_taken, stream_taken}
-use Rattle.rga_exchange.specs.Stops.{GoesOnWith, IsTakenUpTo, all_lines}
-use Rattle.rga_exchange.proofs.TakingLaws.{on, halt, lines_taken-append, are_taken}
+use Rattle.rga_exchange.specs.declared.taking.Form.{Form}
+use Rattle.rga_exchange.specs.declared.taking.Form.TheVariants.{Log}
+use Rattle.rga_exchange.specs.Taking.{may_be_head, body_behind, Stop, AllTaken, AtEnd, AtFault, Progress, progress, refused_at, taken_whole, after_line, go_on, lines_taken, stream_taken}
+use Rattle.rga_exchange.specs.Stops.{fault_in, taken_of_line, GoesOnWith, IsTakenUpTo, all_lines}
+use Rattle.rga_exchange.proofs.HeadLaws.{on, halt, through_body}
+use Rattle.rga_exchange.proofs.TakingLaws.{lines_taken-append, line_is_taken, took_front, are_taken}
+
+abbrev no_fault : Option LineFault
+no_fault = None
+
+abbrev some_fault : LineFault → Option LineFault
+some_fault e = Some e
 
 -- ---- what stops is so
 
-halting_line : (limit n : ℕ) (c : Content) (line : List ℕ) (lines : List (List ℕ)) (stop : Stop) → after_line limit (n + 1) c (any_line_at line) ≡ Err stop → GoesOnWith limit n c (line ∷ lines) stop
-halting_line limit n c line lines stop h = by_reading (any_line_at line) refl h
+halting_line : (form : Form) (limit n : ℕ) (c : Content) (line : List ℕ) (lines : List (List ℕ)) (stop : Stop) → after_line form limit (n + 1) c (any_line_at line) ≡ Err stop → GoesOnWith form limit n c (line ∷ lines) stop
+halting_line form limit n c line lines stop h = by_reading (any_line_at line) refl h
   where
-    so : (s : Stop) → halt s ≡ halt stop → GoesOnWith limit n c (line ∷ lines) s → GoesOnWith limit n c (line ∷ lines) stop
-    so s same w = let is : s ≡ stop = cc in subst (GoesOnWith limit n c (line ∷ lines)) is w
+    so : (s : Stop) → halt s ≡ halt stop → GoesOnWith form limit n c (line ∷ lines) s → GoesOnWith form limit n c (line ∷ lines) stop
+    so s same w = let is : s ≡ stop = cc in subst (GoesOnWith form limit n c (line ∷ lines)) is w
 
-    by_taken : (op : Op) (r : Result Content Refusal) → any_line_at line ≡ Ok (One op) → taken limit c op ≡ r → refused_at (n + 1) r ≡ Err stop → GoesOnWith limit n c (line ∷ lines) stop
-    by_taken op (Ok d) says was g = let clash : on d ≡ halt stop = g in absurd cc
-    by_taken op (Err e) says was g = so (AtFault (fault.Refused (n + 1) e)) g (refl, record { line = line; later = lines; split = refl; op = op; says = says; refused = was })
+    by_taken : (said : Line) (r : Result Content Refusal) → any_line_at line ≡ Ok said → taken_of_line limit c said ≡ r → refused_at (n + 1) r ≡ Err stop → GoesOnWith form limit n c (line ∷ lines) stop
+    by_taken said (Ok d) says was g = let clash : on d ≡ halt stop = g in absurd cc
+    by_taken said (Err e) says was g = so (AtFault (fault.Refused (n + 1) e)) g (refl, record { line = line; later = lines; split = refl; said = said; says = says; refused = was })
 
-    by_reading : (r : AnyReading) → any_line_at line ≡ r → after_line limit (n + 1) c r ≡ Err stop → GoesOnWith limit n c (line ∷ lines) stop
-    by_reading (Ok (One op)) says g = by_taken op (taken limit c op) says refl g
+    wrong : (e : LineFault) → fault_in form (n + 1) (any_line_at line) ≡ Some e → halt (AtFault (fault.Line (n + 1) e)) ≡ halt stop → GoesOnWith form limit n c (line ∷ lines) stop
+    wrong e is g = so (AtFault (fault.Line (n + 1) e)) g (refl, record { line = line; later = lines; split = refl; wrong = is })
+
+    by_place : (may : Bool) → may_be_head form (n + 1) ≡ may → any_line_at line ≡ Ok Head → cond may (on c) (halt (AtFault (fault.Line (n + 1) line_fault.Kind))) ≡ halt stop → GoesOnWith form limit n c (line ∷ lines) stop
+    by_place true is says g = let clash : on c ≡ halt stop = g in absurd cc
+    by_place false is says g = wrong line_fault.Kind (ap (fault_in form (n + 1)) says ∙ ap (λ b. cond b no_fault (some_fault line_fault.Kind)) is) g
+
+    by_reading : (r : AnyReading) → any_line_at line ≡ r → after_line form limit (n + 1) c r ≡ Err stop → GoesOnWith form limit n c (line ∷ lines) stop
+    by_reading (Ok (One op)) says g = by_taken (One op) (taken limit c op) says refl g
+    by_reading (Ok (Run r)) says g = by_taken (Run r) (taken_whole limit c (stretch_operations r)) says refl g
+    by_reading (Ok Head) says g = by_place (may_be_head form (n + 1)) refl says g
     by_reading (Ok (Last number)) says g = so (AtEnd number) g (record { line = line; later = lines; split = refl; says = says })
-    by_reading (Err e) says g = so (AtFault (fault.Line (n + 1) e)) g (refl, record { line = line; later = lines; split = refl; says = says })
+    by_reading (Err e) says g = wrong e (ap (fault_in form (n + 1)) says) g
 
-record Stopped (limit n m : ℕ) (c d : Content) (lines : List (List ℕ)) (stop : Stop) : Type 0 where
+record Stopped (form : Form) (limit n m : ℕ) (c d : Content) (lines : List (List ℕ)) (stop : Stop) : Type 0 where
   front : List (List ℕ)
   later : List (List ℕ)
   split : lines ≡ front ++ later
   count : m ≡ n + length front
-  taken : lines_taken limit n c front ≡ progress m d AllTaken
-  reason : GoesOnWith limit m d later stop
+  taken : lines_taken form limit n c front ≡ progress m d AllTaken
+  reason : GoesOnWith form limit m d later stop
 
 -- nothing was taken
-at_once : (limit n m : ℕ) (c d : Content) (lines : List (List ℕ)) (s stop : Stop) → progress n c s ≡ progress m d stop → GoesOnWith limit n c lines s → Stopped limit n m c d lines stop
-at_once limit n m c d lines s stop h w =
+at_once : (form : Form) (limit n m : ℕ) (c d : Content) (lines : List (List ℕ)) (s stop : Stop) → progress n c s ≡ progress m d stop → GoesOnWith form limit n c lines s → Stopped form limit n m c d lines stop
+at_once form limit n m c d lines s stop h w =
     let count : n ≡ m = ap (λ (t : Progress). t.lines) h in
     let content : c ≡ d = ap (λ (t : Progress). t.content) h in
     let is : s ≡ stop = ap (λ (t : Progress). t.stop) h in
@@ -58,14 +80,14 @@ at_once limit n m c d lines s stop h w =
       split = refl;
       count = omega (arith, count);
       taken = λ k. progress (count k) (content k) AllTaken;
-      reason = subst (λ k. GoesOnWith limit k d lines stop) count (subst (λ e. GoesOnWith limit n e lines stop) content (subst (GoesOnWith limit n c lines) is w));
+      reason = subst (λ k. GoesOnWith form limit k d lines stop) count (subst (λ e. GoesOnWith form limit n e lines stop) content (subst (GoesOnWith form limit n c lines) is w));
     }
 
-stopped : (limit n m : ℕ) (c d : Content) (lines : List (List ℕ)) (stop : Stop) → lines_taken limit n c lines ≡ progress m d stop → Stopped limit n m c d lines stop
-stopped limit n m c d [] stop h = at_once limit n m c d [] AllTaken stop h refl
-stopped limit n m c d (line ∷ lines) stop h = by_first (after_line limit (n + 1) c (any_line_at line)) refl h (λ e g. stopped limit (n + 1) m e d lines stop g)
+stopped : (form : Form) (limit n m : ℕ) (c d : Content) (lines : List (List ℕ)) (stop : Stop) → lines_taken form limit n c lines ≡ progress m d stop → Stopped form limit n m c d lines stop
+stopped form limit n m c d [] stop h = at_once form limit n m c d [] AllTaken stop h refl
+stopped form limit n m c d (line ∷ lines) stop h = by_first (after_line form limit (n + 1) c (any_line_at line)) refl h (λ e g. stopped form limit (n + 1) m e d lines stop g)
   where
-    by_first : (r : Result Content Stop) → after_line limit (n + 1) c (any_line_at line) ≡ r → go_on n c r (λ e. lines_taken limit (n + 1) e lines) ≡ progress m d stop → ((e : Content) → lines_taken limit (n + 1) e lines ≡ progress m d stop → Stopped limit (n + 1) m e d lines stop) → Stopped limit n m c d (line ∷ lines) stop
+    by_first : (r : Result Content Stop) → after_line form limit (n + 1) c (any_line_at line) ≡ r → go_on n c r (λ e. lines_taken form limit (n + 1) e lines) ≡ progress m d stop → ((e : Content) → lines_taken form limit (n + 1) e lines ≡ progress m d stop → Stopped form limit (n + 1) m e d lines stop) → Stopped form limit n m c d (line ∷ lines) stop
     by_first (Ok e) first g later =
         let w = later e g in
         record {
@@ -73,96 +95,88 @@ stopped limit n m c d (line ∷ lines) stop h = by_first (after_line limit (n + 
           later = w.later;
           split = ap (λ ls. line ∷ ls) w.split;
           count = omega (arith, w.count);
-          taken = ap (λ r. go_on n c r (λ f. lines_taken limit (n + 1) f w.front)) first ∙ w.taken;
+          taken = ap (λ r. go_on n c r (λ f. lines_taken form limit (n + 1) f w.front)) first ∙ w.taken;
           reason = w.reason;
         }
-    by_first (Err s) first g later = at_once limit n m c d (line ∷ lines) s stop g (halting_line limit n c line lines s first)
-
-pub lines_counted : (limit n m : ℕ) (c d : Content) (lines : List (List ℕ)) → lines_taken limit n c lines ≡ progress m d AllTaken → m ≡ n + length lines
-lines_counted limit n m c d lines h =
-    let w = stopped limit n m c d lines AllTaken h in
-    w.count ∙ ap (λ ls. n + length ls) (sym (w.split ∙ ap (λ ls. w.front ++ ls) w.reason ∙ append-nil w.front))
+    by_first (Err s) first g later = at_once form limit n m c d (line ∷ lines) s stop g (halting_line form limit n c line lines s first)
 
 -- ---- what is so stops
 
-abbrev pub operation : Op → Reading
-operation op = Ok op
-
-abbrev pub no_operation : LineFault → Reading
-no_operation e = Err e
-
-abbrev says_one : Op → AnyReading
-says_one op = Ok (One op)
-
--- an operation that is said where operations alone may stand is said anywhere
-said_anywhere : (line : List ℕ) (op : Op) → line_at line ≡ Ok op → any_line_at line ≡ Ok (One op)
-said_anywhere line op h = by_reading (any_line_at line) refl
-  where
-    by_reading : (r : AnyReading) → any_line_at line ≡ r → any_line_at line ≡ Ok (One op)
-    by_reading (Ok (One other)) says =
-        let same : operation other ≡ operation op = sym (alone line (Ok (One other)) says) ∙ h in
-        let is : other ≡ op = cc in
-        says ∙ ap says_one is
-    by_reading (Ok (Last number)) says = let clash : no_operation line_fault.Kind ≡ operation op = sym (alone line (Ok (Last number)) says) ∙ h in absurd cc
-    by_reading (Err e) says = let clash : no_operation e ≡ operation op = sym (alone line (Err e) says) ∙ h in absurd cc
-
-pub took_first : (limit : ℕ) (c d : Content) (op : Op) (ops : List Op) → taken_one_by_one limit c (op ∷ ops) ≡ Ok d → (e : Content) × (taken limit c op ≡ Ok e) × (taken_one_by_one limit e ops ≡ Ok d)
-took_first limit c d op ops h = by_first (taken limit c op) refl h
-  where
-    by_first : (r : Result Content Refusal) → taken limit c op ≡ r → and_take r (λ e. taken_one_by_one limit e ops) ≡ Ok d → (e : Content) × (taken limit c op ≡ Ok e) × (taken_one_by_one limit e ops ≡ Ok d)
-    by_first (Ok e) was g = (e, was, g)
-    by_first (Err x) was g = let clash : refused x ≡ took d = g in absurd cc
-
-pub operations_are_taken : (limit n : ℕ) (c d : Content) (lines : List (List ℕ)) → AllByRecursion IsOperation lines → taken_one_by_one limit c (operations_of lines) ≡ Ok d → lines_taken limit n c lines ≡ progress (n + length lines) d AllTaken
-operations_are_taken limit n c d [] all h =
+log_is_taken : (limit n : ℕ) (c d : Content) (lines : List (List ℕ)) → finite_set.len (known_ids c) ≤ limit → AllByRecursion IsOperation lines → taken_one_by_one limit c (operations_of lines) ≡ Ok d → lines_taken Log limit n c lines ≡ progress (n + length lines) d AllTaken
+log_is_taken limit n c d [] within all h =
     let same : took c ≡ took d = h in
     let is : c ≡ d = cc in
     let count : n ≡ n + 0 = omega arith in
     λ k. progress (count k) (is k) AllTaken
-operations_are_taken limit n c d (line ∷ lines) all h =
-    let op : Op = all.0.0 in
-    let says : line_at line ≡ Ok op = all.0.1 in
-    let w = took_first limit c d op (operations_of lines) (sym (ap (λ r. taken_one_by_one limit c (then_operations r (operations_of lines))) says) ∙ h) in
+log_is_taken limit n c d (line ∷ lines) within all h =
+    let ops : List Op = all.0.0 in
+    let reads : operations_at line ≡ Ok ops = all.0.1 in
+    let w = took_front limit c d ops (operations_of lines) (sym (ap (λ r. taken_one_by_one limit c (then_operations r (operations_of lines))) reads) ∙ h) in
     let count : n + 1 + length lines ≡ n + length (line ∷ lines) = omega arith in
-    let later : Content → Progress = λ e. lines_taken limit (n + 1) e lines in
-    ap (λ r. go_on n c (after_line limit (n + 1) c r) later) (said_anywhere line op says)
-    ∙ ap (λ r. go_on n c (refused_at (n + 1) r) later) w.1
-    ∙ operations_are_taken limit (n + 1) w.0 d lines all.1 w.2
+    ap (λ r. go_on n c r (λ e. lines_taken Log limit (n + 1) e lines)) (line_is_taken limit (n + 1) c w.0 line ops within reads w.1)
+    ∙ log_is_taken limit (n + 1) w.0 d lines (taken_list_within limit c ops w.0 within w.1) all.1 w.2
     ∙ ap (λ k. progress k d AllTaken) count
 
+-- lines that are operations behind a head, where these are taken
+pub operations_are_taken : (form : Form) (limit n : ℕ) (c d : Content) (lines : List (List ℕ)) → finite_set.len (known_ids c) ≤ limit → AllByRecursion IsOperation (body_behind form n lines) → taken_one_by_one limit c (operations_of (body_behind form n lines)) ≡ Ok d → lines_taken form limit n c lines ≡ progress (n + length lines) d AllTaken
+operations_are_taken form limit n c d lines within all h =
+    let w = through_body form limit n c lines in
+    w.same ∙ log_is_taken limit w.before c d (body_behind form n lines) within all h ∙ ap (λ k. progress k d AllTaken) w.count
+
 -- what the first line says decides how the lines go on
-said_next : (limit n : ℕ) (c : Content) (lines later : List (List ℕ)) (line : List ℕ) (r : AnyReading) → lines ≡ line ∷ later → any_line_at line ≡ r → lines_taken limit n c lines ≡ go_on n c (after_line limit (n + 1) c r) (λ d. lines_taken limit (n + 1) d later)
-said_next limit n c lines later line r split says =
-    ap (lines_taken limit n c) split
-    ∙ ap (λ r. go_on n c (after_line limit (n + 1) c r) (λ d. lines_taken limit (n + 1) d later)) says
+said_next : (form : Form) (limit n : ℕ) (c : Content) (lines later : List (List ℕ)) (line : List ℕ) (r : AnyReading) → lines ≡ line ∷ later → any_line_at line ≡ r → lines_taken form limit n c lines ≡ go_on n c (after_line form limit (n + 1) c r) (λ d. lines_taken form limit (n + 1) d later)
+said_next form limit n c lines later line r split says =
+    ap (lines_taken form limit n c) split
+    ∙ ap (λ r. go_on n c (after_line form limit (n + 1) c r) (λ d. lines_taken form limit (n + 1) d later)) says
 
-goes_on_so : (limit n : ℕ) (c : Content) (lines : List (List ℕ)) (stop : Stop) → GoesOnWith limit n c lines stop → lines_taken limit n c lines ≡ progress n c stop
-goes_on_so limit n c lines AllTaken none = ap (lines_taken limit n c) none
-goes_on_so limit n c lines (AtEnd number) w = said_next limit n c lines w.later w.line (Ok (Last number)) w.split w.says
-goes_on_so limit n c lines (AtFault (fault.Line k e)) (number, w) =
-    said_next limit n c lines w.later w.line (Err e) w.split w.says
-    ∙ ap (λ i. progress n c (AtFault (fault.Line i e))) (sym number)
-goes_on_so limit n c lines (AtFault (fault.Refused k e)) (number, w) =
-    said_next limit n c lines w.later w.line (Ok (One w.op)) w.split w.says
-    ∙ ap (λ r. go_on n c (refused_at (n + 1) r) (λ d. lines_taken limit (n + 1) d w.later)) w.refused
-    ∙ ap (λ i. progress n c (AtFault (fault.Refused i e))) (sym number)
-goes_on_so limit n c lines (AtFault fault.Read) w = absurd w
-goes_on_so limit n c lines (AtFault fault.Memory) w = absurd w
+refused_so : (form : Form) (limit n : ℕ) (c : Content) (said : Line) (e : Refusal) → taken_of_line limit c said ≡ Err e → after_line form limit n c (Ok said) ≡ Err (AtFault (fault.Refused n e))
+refused_so form limit n c (One op) e h = ap (refused_at n) h
+refused_so form limit n c (Run r) e h = ap (refused_at n) h
+refused_so form limit n c Head e h = let clash : took c ≡ refused e = h in absurd cc
+refused_so form limit n c (Last number) e h = let clash : took c ≡ refused e = h in absurd cc
 
-pub taken_up_to-iff : (limit : ℕ) (c : Content) (lines : List (List ℕ)) (n : ℕ) (d : Content) (stop : Stop) → (lines_taken limit 0 c lines ≡ progress n d stop) ↔ IsTakenUpTo limit c lines n d stop
-taken_up_to-iff limit c lines n d stop = (there, back)
+fault_so : (form : Form) (limit n : ℕ) (c : Content) (r : AnyReading) (e : LineFault) → fault_in form n r ≡ Some e → after_line form limit n c r ≡ Err (AtFault (fault.Line n e))
+fault_so form limit n c (Ok (One op)) e h = let clash : no_fault ≡ some_fault e = h in absurd cc
+fault_so form limit n c (Ok (Run r)) e h = let clash : no_fault ≡ some_fault e = h in absurd cc
+fault_so form limit n c (Ok Head) e h = by_place (may_be_head form n) h
   where
-    there : lines_taken limit 0 c lines ≡ progress n d stop → IsTakenUpTo limit c lines n d stop
-    there h =
-        let w = stopped limit 0 n c d lines stop h in
-        record { front = w.front; later = w.later; split = w.split; count = omega (arith, w.count); taken = are_taken limit 0 n c d w.front w.taken; reason = w.reason }
+    by_place : (may : Bool) → cond may no_fault (some_fault line_fault.Kind) ≡ some_fault e → cond may (on c) (halt (AtFault (fault.Line n line_fault.Kind))) ≡ halt (AtFault (fault.Line n e))
+    by_place true h = absurd cc
+    by_place false h = let is : line_fault.Kind ≡ e = cc in ap (λ x. halt (AtFault (fault.Line n x))) is
+fault_so form limit n c (Ok (Last number)) e h = let clash : no_fault ≡ some_fault e = h in absurd cc
+fault_so form limit n c (Err x) e h =
+    let same : some_fault x ≡ some_fault e = h in
+    let is : x ≡ e = cc in
+    ap (λ x. halt (AtFault (fault.Line n x))) is
 
-    back : IsTakenUpTo limit c lines n d stop → lines_taken limit 0 c lines ≡ progress n d stop
+goes_on_so : (form : Form) (limit n : ℕ) (c : Content) (lines : List (List ℕ)) (stop : Stop) → GoesOnWith form limit n c lines stop → lines_taken form limit n c lines ≡ progress n c stop
+goes_on_so form limit n c lines AllTaken none = ap (lines_taken form limit n c) none
+goes_on_so form limit n c lines (AtEnd number) w = said_next form limit n c lines w.later w.line (Ok (Last number)) w.split w.says
+goes_on_so form limit n c lines (AtFault (fault.Line k e)) (number, w) =
+    said_next form limit n c lines w.later w.line (any_line_at w.line) w.split refl
+    ∙ ap (λ r. go_on n c r (λ d. lines_taken form limit (n + 1) d w.later)) (fault_so form limit (n + 1) c (any_line_at w.line) e (ap (λ i. fault_in form i (any_line_at w.line)) (sym number) ∙ w.wrong))
+    ∙ ap (λ i. progress n c (AtFault (fault.Line i e))) (sym number)
+goes_on_so form limit n c lines (AtFault (fault.Refused k e)) (number, w) =
+    said_next form limit n c lines w.later w.line (Ok w.said) w.split w.says
+    ∙ ap (λ r. go_on n c r (λ d. lines_taken form limit (n + 1) d w.later)) (refused_so form limit (n + 1) c w.said e w.refused)
+    ∙ ap (λ i. progress n c (AtFault (fault.Refused i e))) (sym number)
+goes_on_so form limit n c lines (AtFault fault.Read) w = absurd w
+goes_on_so form limit n c lines (AtFault fault.Memory) w = absurd w
+
+pub taken_up_to-iff : (form : Form) (limit : ℕ) (c : Content) (lines : List (List ℕ)) (n : ℕ) (d : Content) (stop : Stop) → finite_set.len (known_ids c) ≤ limit → (lines_taken form limit 0 c lines ≡ progress n d stop) ↔ IsTakenUpTo form limit c lines n d stop
+taken_up_to-iff form limit c lines n d stop within = (there, back)
+  where
+    there : lines_taken form limit 0 c lines ≡ progress n d stop → IsTakenUpTo form limit c lines n d stop
+    there h =
+        let w = stopped form limit 0 n c d lines stop h in
+        record { front = w.front; later = w.later; split = w.split; count = omega (arith, w.count); taken = are_taken form limit 0 n c d w.front w.taken; reason = w.reason }
+
+    back : IsTakenUpTo form limit c lines n d stop → lines_taken form limit 0 c lines ≡ progress n d stop
     back w =
         let count : 0 + length w.front ≡ n = omega (arith, w.count) in
-        ap (lines_taken limit 0 c) w.split
-        ∙ lines_taken-append limit 0 n c d w.front w.later (operations_are_taken limit 0 c d w.front w.taken.operations w.taken.taken ∙ ap (λ k. progress k d AllTaken) count)
-        ∙ goes_on_so limit n d w.later stop w.reason
+        ap (lines_taken form limit 0 c) w.split
+        ∙ lines_taken-append form limit 0 n c d w.front w.later (operations_are_taken form limit 0 c d w.front within w.taken.operations w.taken.taken ∙ ap (λ k. progress k d AllTaken) count)
+        ∙ goes_on_so form limit n d w.later stop w.reason
 
 -- ---- a rest that is too long counts as a line
 
@@ -172,29 +186,17 @@ HasStopped AllTaken = ⊥
 HasStopped (AtEnd number) = Unit {0}
 HasStopped (AtFault e) = Unit {0}
 
-goes_on_longer : (limit n : ℕ) (c : Content) (lines more : List (List ℕ)) (stop : Stop) → HasStopped stop → GoesOnWith limit n c lines stop → GoesOnWith limit n c (lines ++ more) stop
-goes_on_longer limit n c lines more AllTaken halts w = absurd halts
-goes_on_longer limit n c lines more (AtEnd number) halts w = record { line = w.line; later = w.later ++ more; split = ap (λ ls. ls ++ more) w.split; says = w.says }
-goes_on_longer limit n c lines more (AtFault (fault.Line k e)) halts (number, w) = (number, record { line = w.line; later = w.later ++ more; split = ap (λ ls. ls ++ more) w.split; says = w.says })
-goes_on_longer limit n c lines more (AtFault (fault.Refused k e)) halts (number, w) = (number, record { line = w.line; later = w.later ++ more; split = ap (λ ls. ls ++ more) w.split; op = w.op; says = w.says; refused = w.refused })
-goes_on_longer limit n c lines more (AtFault fault.Read) halts w = absurd w
-goes_on_longer limit n c lines more (AtFault fault.Memory) halts w = absurd w
-
-stops_longer : (limit : ℕ) (c : Content) (lines more : List (List ℕ)) (n : ℕ) (d : Content) (stop : Stop) → HasStopped stop → lines_taken limit 0 c lines ≡ progress n d stop → lines_taken limit 0 c (lines ++ more) ≡ progress n d stop
-stops_longer limit c lines more n d stop halts h =
-    let w = (taken_up_to-iff limit c lines n d stop).0 h in
-    (taken_up_to-iff limit c (lines ++ more) n d stop).1 (record {
-      front = w.front;
-      later = w.later ++ more;
-      split = ap (λ ls. ls ++ more) w.split ∙ append_assoc w.front w.later more;
-      count = w.count;
-      taken = w.taken;
-      reason = goes_on_longer limit n d w.later more stop halts w.reason;
-    })
+stops_longer : (form : Form) (limit n m : ℕ) (c d : Content) (lines more : List (List ℕ)) (stop : Stop) → HasStopped stop → lines_taken form limit n c lines ≡ progress m d stop → lines_taken form limit n c (lines ++ more) ≡ progress m d stop
+stops_longer form limit n m c d [] more stop halts h = absurd (subst HasStopped (sym (ap (λ (t : Progress). t.stop) h)) halts)
+stops_longer form limit n m c d (line ∷ lines) more stop halts h = by_first (after_line form limit (n + 1) c (any_line_at line)) h (λ e g. stops_longer form limit (n + 1) m e d lines more stop halts g)
+  where
+    by_first : (r : Result Content Stop) → go_on n c r (λ e. lines_taken form limit (n + 1) e lines) ≡ progress m d stop → ((e : Content) → lines_taken form limit (n + 1) e lines ≡ progress m d stop → lines_taken form limit (n + 1) e (lines ++ more) ≡ progress m d stop) → go_on n c r (λ e. lines_taken form limit (n + 1) e (lines ++ more)) ≡ progress m d stop
+    by_first (Ok e) g later = later e g
+    by_first (Err s) g later = g
 
 -- a rest that is too long counts as a line
-pub stream_is_its_lines : (limit : ℕ) (c : Content) (bytes : List ℕ) → stream_taken limit c bytes ≡ lines_taken limit 0 c (all_lines bytes)
-stream_is_its_lines limit c bytes = by_size (nat_lt MAX_LINE (length rest)) refl
+pub stream_is_its_lines : (form : Form) (limit : ℕ) (c : Content) (bytes : List ℕ) → stream_taken form limit c bytes ≡ lines_taken form limit 0 c (all_lines bytes)
+stream_is_its_lines form limit c bytes = by_size (nat_lt MAX_LINE (length rest)) refl
   where
     rest : List ℕ
     rest = rest_of bytes
@@ -203,7 +205,7 @@ stream_is_its_lines limit c bytes = by_size (nat_lt MAX_LINE (length rest)) refl
     lines = lines_of bytes
 
     t : Progress
-    t = lines_taken limit 0 c lines
+    t = lines_taken form limit 0 c lines
 
     size_stop : Bool → Stop → Stop
     size_stop long AllTaken = cond long (AtFault (fault.Line (t.lines + 1) line_fault.Long)) AllTaken
@@ -215,13 +217,13 @@ stream_is_its_lines limit c bytes = by_size (nat_lt MAX_LINE (length rest)) refl
     short (AtEnd number) = refl
     short (AtFault e) = refl
 
-    long : nat_lt MAX_LINE (length rest) ≡ true → (stop : Stop) → t.stop ≡ stop → progress t.lines t.content (size_stop true stop) ≡ lines_taken limit 0 c (lines ++ rest ∷ [])
+    long : nat_lt MAX_LINE (length rest) ≡ true → (stop : Stop) → t.stop ≡ stop → progress t.lines t.content (size_stop true stop) ≡ lines_taken form limit 0 c (lines ++ rest ∷ [])
     long size AllTaken is =
-        sym (lines_taken-append limit 0 t.lines c t.content lines (rest ∷ []) (ap (progress t.lines t.content) is)
-        ∙ ap (λ r. go_on t.lines t.content (after_line limit (t.lines + 1) t.content r) (λ d. lines_taken limit (t.lines + 1) d [])) (too_long rest (ltb-true MAX_LINE (length rest) size)))
-    long size (AtEnd number) is = sym (stops_longer limit c lines (rest ∷ []) t.lines t.content (AtEnd number) tt (ap (progress t.lines t.content) is))
-    long size (AtFault e) is = sym (stops_longer limit c lines (rest ∷ []) t.lines t.content (AtFault e) tt (ap (progress t.lines t.content) is))
+        sym (lines_taken-append form limit 0 t.lines c t.content lines (rest ∷ []) (ap (progress t.lines t.content) is)
+        ∙ ap (λ r. go_on t.lines t.content (after_line form limit (t.lines + 1) t.content r) (λ d. lines_taken form limit (t.lines + 1) d [])) (too_long rest (ltb-true MAX_LINE (length rest) size)))
+    long size (AtEnd number) is = sym (stops_longer form limit 0 t.lines c t.content lines (rest ∷ []) (AtEnd number) tt (ap (progress t.lines t.content) is))
+    long size (AtFault e) is = sym (stops_longer form limit 0 t.lines c t.content lines (rest ∷ []) (AtFault e) tt (ap (progress t.lines t.content) is))
 
-    by_size : (b : Bool) → nat_lt MAX_LINE (length rest) ≡ b → progress t.lines t.content (size_stop b t.stop) ≡ lines_taken limit 0 c (cond b (lines ++ rest ∷ []) lines)
+    by_size : (b : Bool) → nat_lt MAX_LINE (length rest) ≡ b → progress t.lines t.content (size_stop b t.stop) ≡ lines_taken form limit 0 c (cond b (lines ++ rest ∷ []) lines)
     by_size true size = long size t.stop refl
     by_size false size = ap (progress t.lines t.content) (short t.stop)

@@ -1,30 +1,34 @@
 -- A stream line by line: what is taken of it, in whatever parts it comes.
-use Rattle.std.proofs.Common.{◌≡◌, ℕ, ◌+◌, ◌≤◌, List, [], ◌∷◌, ◌++◌, length, Result, Ok, Err, refl, sym, ap, subst, ◌∙◌, append_assoc, append-nil, cond}
+use Rattle.std.proofs.Common.{◌≡◌, ℕ, ◌+◌, ◌≤◌, Bool, true, false, List, [], ◌∷◌, ◌++◌, length, Result, Ok, Err, refl, sym, ap, subst, ◌∙◌, append_assoc, append-nil, cond, arith, length-append}
 use Rattle.std.specs.List.{AllByRecursion}
 use Rattle.std.proofs.lemmas.Bool.{lt-ltb, le-ltb}
-use Rattle.rga_ops.specs.Content.{Content}
+use Rattle.std.specs.FinSet as finite_set
+use Rattle.rga_ops.specs.Content.{Content, known_ids}
+use Rattle.rga_ops.specs.ListAnswer.{Verdict, list_answer}
 use Rattle.rga_ops.specs.Answer.{taken, and_take, taken_one_by_one}
 use Rattle.rga_ops.specs.declared.op.Op.{Op}
 use Rattle.rga_ops.specs.declared.refusal.Refusal.{Refusal}
-use Rattle.rga_ops.proofs.TakenLaws.{taken_list_is}
-use Rattle.rga_lines.specs.Table.{AnyReading, any_line_at, line_at}
+use Rattle.rga_ops.proofs.TakenLaws.{took, refused, taken_list_is}
+use Rattle.rga_ops.proofs.ListAnswerLaws.{list_one_by_one, one_by_one_list}
+use Rattle.rga_lines.specs.Runs.{Stretch, stretch_operations}
+use Rattle.rga_lines.proofs.RunLemmas.{run_operations-length}
+use Rattle.rga_lines.specs.Table.{AnyReading, any_line_at}
 use Rattle.rga_lines.specs.declared.reading.TheConstants.{MAX_LINE}
 use Rattle.rga_lines.specs.Stream.{lines_of, rest_of, BeginsLong, Splitting}
-use Rattle.rga_lines.specs.Log.{operations_of, then_operations, IsOperation}
-use Rattle.rga_lines.specs.declared.reading.Line.TheVariants.{One, Last}
+use Rattle.rga_lines.specs.Log.{operations_of, operations_at, then_operations, IsOperation}
+use Rattle.rga_lines.specs.declared.reading.Line.TheVariants.{One, Run, Head, Last}
+use Rattle.rga_lines.specs.declared.fault.LineFault.{LineFault}
 use Rattle.rga_lines.specs.declared.fault.LineFault.TheVariants as line_fault
-use Rattle.rga_lines.proofs.ReadingLemmas.{too_long, alone}
+use Rattle.rga_lines.proofs.ReadingLemmas.{too_long}
+use Rattle.rga_lines.proofs.StandLemmas.{stands, stands_for, stands_for_none}
 use Rattle.rga_lines.proofs.SplitterLemmas.{GivesLine}
 use Rattle.rga_exchange.specs.declared.fault.LogFault.{LogFault}
 use Rattle.rga_exchange.specs.declared.fault.LogFault.TheVariants as fault
-use Rattle.rga_exchange.specs.Taking.{Stop, AllTaken, AtEnd, AtFault, Progress, progress, refused_at, after_line, go_on, lines_taken, with_rest, bytes_taken, AreTaken}
+use Rattle.rga_exchange.specs.declared.taking.Form.{Form}
+use Rattle.rga_exchange.specs.declared.taking.Form.TheVariants.{Log}
+use Rattle.rga_exchange.specs.Taking.{may_be_head, body_behind, Stop, AllTaken, AtEnd, AtFault, Progress, progress, refused_at, after_list, taken_whole, after_line, go_on, lines_taken, with_rest, bytes_taken, AreTaken}
 use Rattle.rga_exchange.specs.Parts.{Takes, TakesUpTo}
-
-abbrev pub on : Content → Result Content Stop
-on c = Ok c
-
-abbrev pub halt : Stop → Result Content Stop
-halt s = Err s
+use Rattle.rga_exchange.proofs.HeadLaws.{on, halt, through_body, body-nil, body-append, body_alone}
 
 -- ---- what is not a stop behind all lines
 
@@ -34,66 +38,72 @@ not_end n m c d number h = let clash : AtEnd number ≡ AllTaken = ap (λ (t : P
 not_fault : (n m : ℕ) (c d : Content) (e : LogFault) → progress n c (AtFault e) ≡ progress m d AllTaken → ⊥
 not_fault n m c d e h = let clash : AtFault e ≡ AllTaken = ap (λ (t : Progress). t.stop) h in cc
 
--- a line either leads to a content, or stops with the end or a fault
-halts : (limit n : ℕ) (c d : Content) (m : ℕ) (r : AnyReading) (stop : Stop) → after_line limit n c r ≡ Err stop → progress m d stop ≡ progress m d AllTaken → ⊥
-halts limit n c d m (Ok (One op)) stop h is = by_taken (taken limit c op) h
-  where
-    by_taken : (r : Result Content Refusal) → refused_at n r ≡ Err stop → ⊥
-    by_taken (Ok e) h = let clash : on e ≡ halt stop = h in cc
-    by_taken (Err e) h = let same : halt (AtFault (fault.Refused n e)) ≡ halt stop = h in let which : AtFault (fault.Refused n e) ≡ stop = cc in not_fault m m d d (fault.Refused n e) (ap (progress m d) which ∙ is)
-halts limit n c d m (Ok (Last number)) stop h is = let same : halt (AtEnd number) ≡ halt stop = h in let which : AtEnd number ≡ stop = cc in not_end m m d d number (ap (progress m d) which ∙ is)
-halts limit n c d m (Err e) stop h is = let same : halt (AtFault (fault.Line n e)) ≡ halt stop = h in let which : AtFault (fault.Line n e) ≡ stop = cc in not_fault m m d d (fault.Line n e) (ap (progress m d) which ∙ is)
+refusal_halts : (n : ℕ) (d : Content) (m : ℕ) (r : Result Content Refusal) (stop : Stop) → refused_at n r ≡ Err stop → progress m d stop ≡ progress m d AllTaken → ⊥
+refusal_halts n d m (Ok e) stop h is = let clash : on e ≡ halt stop = h in cc
+refusal_halts n d m (Err e) stop h is = let same : halt (AtFault (fault.Refused n e)) ≡ halt stop = h in let which : AtFault (fault.Refused n e) ≡ stop = cc in not_fault m m d d (fault.Refused n e) (ap (progress m d) which ∙ is)
 
-pub record GoesOn (limit n m : ℕ) (c d : Content) (line : List ℕ) (lines : List (List ℕ)) : Type 0 where
+-- a line either leads to a content, or stops with the end or a fault
+halts : (form : Form) (limit n : ℕ) (c d : Content) (m : ℕ) (r : AnyReading) (stop : Stop) → after_line form limit n c r ≡ Err stop → progress m d stop ≡ progress m d AllTaken → ⊥
+halts form limit n c d m (Ok (One op)) stop h is = refusal_halts n d m (taken limit c op) stop h is
+halts form limit n c d m (Ok (Run r)) stop h is = refusal_halts n d m (taken_whole limit c (stretch_operations r)) stop h is
+halts form limit n c d m (Ok Head) stop h is = by_place (may_be_head form n) h
+  where
+    by_place : (may : Bool) → cond may (on c) (halt (AtFault (fault.Line n line_fault.Kind))) ≡ halt stop → ⊥
+    by_place true g = let clash : on c ≡ halt stop = g in absurd cc
+    by_place false g = let same : halt (AtFault (fault.Line n line_fault.Kind)) ≡ halt stop = g in let which : AtFault (fault.Line n line_fault.Kind) ≡ stop = cc in not_fault m m d d (fault.Line n line_fault.Kind) (ap (progress m d) which ∙ is)
+halts form limit n c d m (Ok (Last number)) stop h is = let same : halt (AtEnd number) ≡ halt stop = h in let which : AtEnd number ≡ stop = cc in not_end m m d d number (ap (progress m d) which ∙ is)
+halts form limit n c d m (Err e) stop h is = let same : halt (AtFault (fault.Line n e)) ≡ halt stop = h in let which : AtFault (fault.Line n e) ≡ stop = cc in not_fault m m d d (fault.Line n e) (ap (progress m d) which ∙ is)
+
+pub record GoesOn (form : Form) (limit n m : ℕ) (c d : Content) (line : List ℕ) (lines : List (List ℕ)) : Type 0 where
   pub next : Content
-  pub first : after_line limit (n + 1) c (any_line_at line) ≡ Ok next
-  pub later : lines_taken limit (n + 1) next lines ≡ progress m d AllTaken
+  pub first : after_line form limit (n + 1) c (any_line_at line) ≡ Ok next
+  pub later : lines_taken form limit (n + 1) next lines ≡ progress m d AllTaken
 
 -- where all lines were taken the first was, and then the others
-pub goes_on : (limit n m : ℕ) (c d : Content) (line : List ℕ) (lines : List (List ℕ)) → lines_taken limit n c (line ∷ lines) ≡ progress m d AllTaken → GoesOn limit n m c d line lines
-goes_on limit n m c d line lines h = by_first (after_line limit (n + 1) c (any_line_at line)) refl h
+pub goes_on : (form : Form) (limit n m : ℕ) (c d : Content) (line : List ℕ) (lines : List (List ℕ)) → lines_taken form limit n c (line ∷ lines) ≡ progress m d AllTaken → GoesOn form limit n m c d line lines
+goes_on form limit n m c d line lines h = by_first (after_line form limit (n + 1) c (any_line_at line)) refl h
   where
-    by_first : (r : Result Content Stop) → after_line limit (n + 1) c (any_line_at line) ≡ r → go_on n c r (λ e. lines_taken limit (n + 1) e lines) ≡ progress m d AllTaken → GoesOn limit n m c d line lines
+    by_first : (r : Result Content Stop) → after_line form limit (n + 1) c (any_line_at line) ≡ r → go_on n c r (λ e. lines_taken form limit (n + 1) e lines) ≡ progress m d AllTaken → GoesOn form limit n m c d line lines
     by_first (Ok e) first h = record { next = e; first = first; later = h }
     by_first (Err stop) first h =
         let is : stop ≡ AllTaken = ap (λ (t : Progress). t.stop) h in
-        absurd (halts limit (n + 1) c d m (any_line_at line) stop first (ap (progress m d) is))
+        absurd (halts form limit (n + 1) c d m (any_line_at line) stop first (ap (progress m d) is))
 
 -- ---- lines in a row
 
-pub lines_taken-append : (limit n m : ℕ) (c d : Content) (xs ys : List (List ℕ)) → lines_taken limit n c xs ≡ progress m d AllTaken → lines_taken limit n c (xs ++ ys) ≡ lines_taken limit m d ys
-lines_taken-append limit n m c d [] ys h =
+pub lines_taken-append : (form : Form) (limit n m : ℕ) (c d : Content) (xs ys : List (List ℕ)) → lines_taken form limit n c xs ≡ progress m d AllTaken → lines_taken form limit n c (xs ++ ys) ≡ lines_taken form limit m d ys
+lines_taken-append form limit n m c d [] ys h =
     let count : n ≡ m = ap (λ (t : Progress). t.lines) h in
     let content : c ≡ d = ap (λ (t : Progress). t.content) h in
-    λ k. lines_taken limit (count k) (content k) ys
-lines_taken-append limit n m c d (x ∷ xs) ys h =
-    let w = goes_on limit n m c d x xs h in
-    ap (λ r. go_on n c r (λ e. lines_taken limit (n + 1) e (xs ++ ys))) w.first
-    ∙ lines_taken-append limit (n + 1) m w.next d xs ys w.later
+    λ k. lines_taken form limit (count k) (content k) ys
+lines_taken-append form limit n m c d (x ∷ xs) ys h =
+    let w = goes_on form limit n m c d x xs h in
+    ap (λ r. go_on n c r (λ e. lines_taken form limit (n + 1) e (xs ++ ys))) w.first
+    ∙ lines_taken-append form limit (n + 1) m w.next d xs ys w.later
 
 -- ---- what was taken of a stream in parts
 
-abbrev pub takes_nothing : (limit n : ℕ) (c : Content) (bytes : List ℕ) → Takes limit n c bytes n c bytes
-takes_nothing limit n c bytes = record { lines = []; cut = λ more. refl; rest = λ more. refl; taken = refl }
+abbrev pub takes_nothing : (form : Form) (limit n : ℕ) (c : Content) (bytes : List ℕ) → Takes form limit n c bytes n c bytes
+takes_nothing form limit n c bytes = record { lines = []; cut = λ more. refl; rest = λ more. refl; taken = refl }
 
-abbrev pub takes_line : (limit n : ℕ) (c d : Content) (s t : Splitting) (line : List ℕ) → GivesLine s t line → after_line limit (n + 1) c (any_line_at line) ≡ Ok d → Takes limit n c s.waiting (n + 1) d t.waiting
-takes_line limit n c d s t line given h = record {
+abbrev pub takes_line : (form : Form) (limit n : ℕ) (c d : Content) (s t : Splitting) (line : List ℕ) → GivesLine s t line → after_line form limit (n + 1) c (any_line_at line) ≡ Ok d → Takes form limit n c s.waiting (n + 1) d t.waiting
+takes_line form limit n c d s t line given h = record {
   lines = line ∷ [];
   cut = given.lines;
   rest = given.rest;
-  taken = ap (λ r. go_on n c r (λ e. lines_taken limit (n + 1) e [])) h;
+  taken = ap (λ r. go_on n c r (λ e. lines_taken form limit (n + 1) e [])) h;
 }
 
-abbrev pub takes_chain : (limit n m k : ℕ) (c d e : Content) (a b w : List ℕ) → Takes limit n c a m d b → Takes limit m d b k e w → Takes limit n c a k e w
-takes_chain limit n m k c d e a b w s t = record {
+abbrev pub takes_chain : (form : Form) (limit n m k : ℕ) (c d e : Content) (a b w : List ℕ) → Takes form limit n c a m d b → Takes form limit m d b k e w → Takes form limit n c a k e w
+takes_chain form limit n m k c d e a b w s t = record {
   lines = s.lines ++ t.lines;
   cut = λ more. s.cut more ∙ ap (λ ls. s.lines ++ ls) (t.cut more) ∙ sym (append_assoc s.lines t.lines (lines_of (w ++ more)));
   rest = λ more. s.rest more ∙ t.rest more;
-  taken = lines_taken-append limit n m c d s.lines t.lines s.taken ∙ t.taken;
+  taken = lines_taken-append form limit n m c d s.lines t.lines s.taken ∙ t.taken;
 }
 
-abbrev pub takes_more_bytes : (limit n m : ℕ) (c d : Content) (bytes waiting piece : List ℕ) → Takes limit n c bytes m d waiting → Takes limit n c (bytes ++ piece) m d (waiting ++ piece)
-takes_more_bytes limit n m c d bytes waiting piece s = record {
+abbrev pub takes_more_bytes : (form : Form) (limit n m : ℕ) (c d : Content) (bytes waiting piece : List ℕ) → Takes form limit n c bytes m d waiting → Takes form limit n c (bytes ++ piece) m d (waiting ++ piece)
+takes_more_bytes form limit n m c d bytes waiting piece s = record {
   lines = s.lines;
   cut = λ more. ap lines_of (append_assoc bytes piece more) ∙ s.cut (piece ++ more) ∙ ap (λ l. s.lines ++ lines_of l) (sym (append_assoc waiting piece more));
   rest = λ more. ap rest_of (append_assoc bytes piece more) ∙ s.rest (piece ++ more) ∙ ap rest_of (sym (append_assoc waiting piece more));
@@ -101,73 +111,173 @@ takes_more_bytes limit n m c d bytes waiting piece s = record {
 }
 
 -- whatever bytes follow, what waits leads to what all bytes lead to
-pub takes_after : (limit n m : ℕ) (c d : Content) (bytes waiting : List ℕ) → Takes limit n c bytes m d waiting → (more : List ℕ) → bytes_taken limit n c (bytes ++ more) ≡ bytes_taken limit m d (waiting ++ more)
-takes_after limit n m c d bytes waiting s more =
-    (λ k. with_rest (s.rest more k) (lines_taken limit n c (s.cut more k)))
-    ∙ ap (with_rest (rest_of (waiting ++ more))) (lines_taken-append limit n m c d s.lines (lines_of (waiting ++ more)) s.taken)
+pub takes_after : (form : Form) (limit n m : ℕ) (c d : Content) (bytes waiting : List ℕ) → Takes form limit n c bytes m d waiting → (more : List ℕ) → bytes_taken form limit n c (bytes ++ more) ≡ bytes_taken form limit m d (waiting ++ more)
+takes_after form limit n m c d bytes waiting s more =
+    (λ k. with_rest (s.rest more k) (lines_taken form limit n c (s.cut more k)))
+    ∙ ap (with_rest (rest_of (waiting ++ more))) (lines_taken-append form limit n m c d s.lines (lines_of (waiting ++ more)) s.taken)
 
 -- a line that is not taken ends the stream
-line_stops : (limit n : ℕ) (c : Content) (s t : Splitting) (line : List ℕ) (stop : Stop) → GivesLine s t line → after_line limit (n + 1) c (any_line_at line) ≡ Err stop → (more : List ℕ) → bytes_taken limit n c (s.waiting ++ more) ≡ with_rest (rest_of (s.waiting ++ more)) (progress n c stop)
-line_stops limit n c s t line stop given h more =
-    ap (λ ls. with_rest (rest_of (s.waiting ++ more)) (lines_taken limit n c ls)) (given.lines more)
-    ∙ ap (λ r. with_rest (rest_of (s.waiting ++ more)) (go_on n c r (λ d. lines_taken limit (n + 1) d (lines_of (t.waiting ++ more))))) h
+line_stops : (form : Form) (limit n : ℕ) (c : Content) (s t : Splitting) (line : List ℕ) (stop : Stop) → GivesLine s t line → after_line form limit (n + 1) c (any_line_at line) ≡ Err stop → (more : List ℕ) → bytes_taken form limit n c (s.waiting ++ more) ≡ with_rest (rest_of (s.waiting ++ more)) (progress n c stop)
+line_stops form limit n c s t line stop given h more =
+    ap (λ ls. with_rest (rest_of (s.waiting ++ more)) (lines_taken form limit n c ls)) (given.lines more)
+    ∙ ap (λ r. with_rest (rest_of (s.waiting ++ more)) (go_on n c r (λ d. lines_taken form limit (n + 1) d (lines_of (t.waiting ++ more))))) h
 
-pub line_ends : (limit n : ℕ) (c : Content) (s t : Splitting) (line : List ℕ) (number : ℕ) → GivesLine s t line → after_line limit (n + 1) c (any_line_at line) ≡ Err (AtEnd number) → (more : List ℕ) → bytes_taken limit n c (s.waiting ++ more) ≡ progress n c (AtEnd number)
-line_ends limit n c s t line number given h more = line_stops limit n c s t line (AtEnd number) given h more
+pub line_ends : (form : Form) (limit n : ℕ) (c : Content) (s t : Splitting) (line : List ℕ) (number : ℕ) → GivesLine s t line → after_line form limit (n + 1) c (any_line_at line) ≡ Err (AtEnd number) → (more : List ℕ) → bytes_taken form limit n c (s.waiting ++ more) ≡ progress n c (AtEnd number)
+line_ends form limit n c s t line number given h more = line_stops form limit n c s t line (AtEnd number) given h more
 
-pub line_fails : (limit n : ℕ) (c : Content) (s t : Splitting) (line : List ℕ) (e : LogFault) → GivesLine s t line → after_line limit (n + 1) c (any_line_at line) ≡ Err (AtFault e) → (more : List ℕ) → bytes_taken limit n c (s.waiting ++ more) ≡ progress n c (AtFault e)
-line_fails limit n c s t line e given h more = line_stops limit n c s t line (AtFault e) given h more
+pub line_fails : (form : Form) (limit n : ℕ) (c : Content) (s t : Splitting) (line : List ℕ) (e : LogFault) → GivesLine s t line → after_line form limit (n + 1) c (any_line_at line) ≡ Err (AtFault e) → (more : List ℕ) → bytes_taken form limit n c (s.waiting ++ more) ≡ progress n c (AtFault e)
+line_fails form limit n c s t line e given h more = line_stops form limit n c s t line (AtFault e) given h more
 
 -- and so does one that is too long
-pub begins_long : (limit n : ℕ) (c : Content) (lines : List (List ℕ)) (rest : List ℕ) → BeginsLong lines rest → with_rest rest (lines_taken limit n c lines) ≡ progress n c (AtFault (fault.Line (n + 1) line_fault.Long))
-begins_long limit n c [] rest h = ap (λ b. progress n c (cond b (AtFault (fault.Line (n + 1) line_fault.Long)) AllTaken)) (lt-ltb MAX_LINE (length rest) h)
-begins_long limit n c (line ∷ lines) rest h =
-    ap (λ r. with_rest rest (go_on n c (after_line limit (n + 1) c r) (λ d. lines_taken limit (n + 1) d lines))) (too_long line h)
+pub begins_long : (form : Form) (limit n : ℕ) (c : Content) (lines : List (List ℕ)) (rest : List ℕ) → BeginsLong lines rest → with_rest rest (lines_taken form limit n c lines) ≡ progress n c (AtFault (fault.Line (n + 1) line_fault.Long))
+begins_long form limit n c [] rest h = ap (λ b. progress n c (cond b (AtFault (fault.Line (n + 1) line_fault.Long)) AllTaken)) (lt-ltb MAX_LINE (length rest) h)
+begins_long form limit n c (line ∷ lines) rest h =
+    ap (λ r. with_rest rest (go_on n c (after_line form limit (n + 1) c r) (λ d. lines_taken form limit (n + 1) d lines))) (too_long line h)
 
 -- no line waits: the rest alone is left, which is not too long
-pub only_rest : (limit n : ℕ) (c : Content) (waiting : List ℕ) → lines_of waiting ≡ [] → rest_of waiting ≡ waiting → length waiting ≤ MAX_LINE → bytes_taken limit n c (waiting ++ []) ≡ progress n c AllTaken
-only_rest limit n c waiting none whole short =
-    ap (bytes_taken limit n c) (append-nil waiting)
-    ∙ (λ k. with_rest (whole k) (lines_taken limit n c (none k)))
+pub only_rest : (form : Form) (limit n : ℕ) (c : Content) (waiting : List ℕ) → lines_of waiting ≡ [] → rest_of waiting ≡ waiting → length waiting ≤ MAX_LINE → bytes_taken form limit n c (waiting ++ []) ≡ progress n c AllTaken
+only_rest form limit n c waiting none whole short =
+    ap (bytes_taken form limit n c) (append-nil waiting)
+    ∙ (λ k. with_rest (whole k) (lines_taken form limit n c (none k)))
     ∙ ap (λ b. progress n c (cond b (AtFault (fault.Line (n + 1) line_fault.Long)) AllTaken)) (le-ltb MAX_LINE (length waiting) short)
 
 -- ---- what was taken, as operations
 
--- a line that was taken is an operation that was taken
-pub line_taken : (limit n : ℕ) (c d : Content) (line : List ℕ) → after_line limit n c (any_line_at line) ≡ Ok d → (op : Op) × (line_at line ≡ Ok op) × (taken limit c op ≡ Ok d)
+pub took_first : (limit : ℕ) (c d : Content) (op : Op) (ops : List Op) → taken_one_by_one limit c (op ∷ ops) ≡ Ok d → (e : Content) × (taken limit c op ≡ Ok e) × (taken_one_by_one limit e ops ≡ Ok d)
+took_first limit c d op ops h = by_first (taken limit c op) refl h
+  where
+    by_first : (r : Result Content Refusal) → taken limit c op ≡ r → and_take r (λ e. taken_one_by_one limit e ops) ≡ Ok d → (e : Content) × (taken limit c op ≡ Ok e) × (taken_one_by_one limit e ops ≡ Ok d)
+    by_first (Ok e) was g = (e, was, g)
+    by_first (Err x) was g = let clash : refused x ≡ took d = g in absurd cc
+
+-- operations that were taken, and then others
+pub one_by_one-append : (limit : ℕ) (c d : Content) (xs ys : List Op) → taken_one_by_one limit c xs ≡ Ok d → taken_one_by_one limit c (xs ++ ys) ≡ taken_one_by_one limit d ys
+one_by_one-append limit c d [] ys h =
+    let same : took c ≡ took d = h in
+    let is : c ≡ d = cc in
+    ap (λ e. taken_one_by_one limit e ys) is
+one_by_one-append limit c d (x ∷ xs) ys h =
+    let w = took_first limit c d x xs h in
+    ap (λ r. and_take r (λ e. taken_one_by_one limit e (xs ++ ys))) w.1 ∙ one_by_one-append limit w.0 d xs ys w.2
+
+pub took_front : (limit : ℕ) (c d : Content) (xs ys : List Op) → taken_one_by_one limit c (xs ++ ys) ≡ Ok d → (e : Content) × (taken_one_by_one limit c xs ≡ Ok e) × (taken_one_by_one limit e ys ≡ Ok d)
+took_front limit c d [] ys h = (c, refl, h)
+took_front limit c d (x ∷ xs) ys h =
+    let w = took_first limit c d x (xs ++ ys) h in
+    let later = took_front limit w.0 d xs ys w.2 in
+    (later.0, ap (λ r. and_take r (λ e. taken_one_by_one limit e xs)) w.1 ∙ later.1, later.2)
+
+whole_taken : (limit : ℕ) (c d : Content) (ops : List Op) (v : Verdict) → list_answer limit c ops ≡ v → after_list c ops v ≡ Ok d → taken_one_by_one limit c ops ≡ Ok d
+whole_taken limit c d ops (Ok u) e h = list_one_by_one limit c ops e ∙ h
+whole_taken limit c d ops (Err x) e h = let clash : refused x ≡ took d = h in absurd cc
+
+-- a list that was taken whole was taken one by one, and the other way round
+pub taken_whole_one_by_one : (limit : ℕ) (c d : Content) (ops : List Op) → taken_whole limit c ops ≡ Ok d → taken_one_by_one limit c ops ≡ Ok d
+taken_whole_one_by_one limit c d ops h = whole_taken limit c d ops (list_answer limit c ops) refl h
+
+pub one_by_one_taken_whole : (limit : ℕ) (c d : Content) (ops : List Op) → finite_set.len (known_ids c) ≤ limit → taken_one_by_one limit c ops ≡ Ok d → taken_whole limit c ops ≡ Ok d
+one_by_one_taken_whole limit c d ops within h =
+    ap (after_list c ops) (one_by_one_list limit c d ops within h) ∙ ap Ok (sym (taken_list_is limit c ops d h).joined)
+
+-- a line of a log that was taken stands for operations that were taken
+pub line_taken : (limit n : ℕ) (c d : Content) (line : List ℕ) → after_line Log limit n c (any_line_at line) ≡ Ok d → (ops : List Op) × (operations_at line ≡ Ok ops) × (taken_one_by_one limit c ops ≡ Ok d)
 line_taken limit n c d line h = by_reading (any_line_at line) refl h
   where
     by_taken : (r : Result Content Refusal) → refused_at n r ≡ Ok d → r ≡ Ok d
     by_taken (Ok e) h = let same : on e ≡ on d = h in let is : e ≡ d = cc in ap Ok is
     by_taken (Err e) h = let clash : halt (AtFault (fault.Refused n e)) ≡ on d = h in absurd cc
 
-    by_reading : (r : AnyReading) → any_line_at line ≡ r → after_line limit n c r ≡ Ok d → (op : Op) × (line_at line ≡ Ok op) × (taken limit c op ≡ Ok d)
-    by_reading (Ok (One op)) says h = (op, alone line (Ok (One op)) says, by_taken (taken limit c op) h)
+    by_reading : (r : AnyReading) → any_line_at line ≡ r → after_line Log limit n c r ≡ Ok d → (ops : List Op) × (operations_at line ≡ Ok ops) × (taken_one_by_one limit c ops ≡ Ok d)
+    by_reading (Ok (One op)) says h = (op ∷ [], stands line (Ok (One op)) says, ap (λ r. and_take r (λ e. Ok e)) (by_taken (taken limit c op) h))
+    by_reading (Ok (Run r)) says h = (stretch_operations r, stands line (Ok (Run r)) says, taken_whole_one_by_one limit c d (stretch_operations r) (by_taken (taken_whole limit c (stretch_operations r)) h))
+    by_reading (Ok Head) says h = let clash : halt (AtFault (fault.Line n line_fault.Kind)) ≡ on d = h in absurd cc
     by_reading (Ok (Last number)) says h = let clash : halt (AtEnd number) ≡ on d = h in absurd cc
     by_reading (Err e) says h = let clash : halt (AtFault (fault.Line n e)) ≡ on d = h in absurd cc
 
-pub lines_are_operations : (limit n m : ℕ) (c d : Content) (lines : List (List ℕ)) → lines_taken limit n c lines ≡ progress m d AllTaken → AllByRecursion IsOperation lines × (taken_one_by_one limit c (operations_of lines) ≡ Ok d)
-lines_are_operations limit n m c d [] h = (tt, ap Ok (ap (λ (t : Progress). t.content) h))
-lines_are_operations limit n m c d (line ∷ lines) h =
-    let w = goes_on limit n m c d line lines h in
+pub one_taken : (limit : ℕ) (c d : Content) (op : Op) → taken_one_by_one limit c (op ∷ []) ≡ Ok d → taken limit c op ≡ Ok d
+one_taken limit c d op h =
+    let w = took_first limit c d op [] h in
+    let same : took w.0 ≡ took d = w.2 in
+    let is : w.0 ≡ d = cc in
+    w.1 ∙ ap Ok is
+
+-- and the other way round
+pub line_is_taken : (limit n : ℕ) (c d : Content) (line : List ℕ) (ops : List Op) → finite_set.len (known_ids c) ≤ limit → operations_at line ≡ Ok ops → taken_one_by_one limit c ops ≡ Ok d → after_line Log limit n c (any_line_at line) ≡ Ok d
+line_is_taken limit n c d line ops within reads h = by_reading (any_line_at line) refl
+  where
+    by_reading : (r : AnyReading) → any_line_at line ≡ r → after_line Log limit n c r ≡ Ok d
+    by_reading (Ok (One op)) says =
+        let same : stands_for (op ∷ []) ≡ stands_for ops = sym (stands line (Ok (One op)) says) ∙ reads in
+        let is : op ∷ [] ≡ ops = cc in
+        ap (refused_at n) (one_taken limit c d op (ap (taken_one_by_one limit c) is ∙ h))
+    by_reading (Ok (Run r)) says =
+        let same : stands_for (stretch_operations r) ≡ stands_for ops = sym (stands line (Ok (Run r)) says) ∙ reads in
+        let is : stretch_operations r ≡ ops = cc in
+        ap (refused_at n) (one_by_one_taken_whole limit c d (stretch_operations r) within (ap (taken_one_by_one limit c) is ∙ h))
+    by_reading (Ok Head) says = let clash : stands_for_none line_fault.Kind ≡ stands_for ops = sym (stands line (Ok Head) says) ∙ reads in absurd cc
+    by_reading (Ok (Last number)) says = let clash : stands_for_none line_fault.Kind ≡ stands_for ops = sym (stands line (Ok (Last number)) says) ∙ reads in absurd cc
+    by_reading (Err e) says = let clash : stands_for_none e ≡ stands_for ops = sym (stands line (Err e) says) ∙ reads in absurd cc
+
+-- ---- one line alone
+
+pub one_alone : (line : List ℕ) (op : Op) → any_line_at line ≡ Ok (One op) → operations_of (line ∷ []) ≡ op ∷ []
+one_alone line op says = ap (λ r. then_operations r []) (stands line (Ok (One op)) says)
+
+pub run_alone : (line : List ℕ) (r : Stretch) → any_line_at line ≡ Ok (Run r) → operations_of (line ∷ []) ≡ stretch_operations r
+run_alone line r says = ap (λ r. then_operations r []) (stands line (Ok (Run r)) says) ∙ append-nil (stretch_operations r)
+
+pub run_alone-length : (line : List ℕ) (r : Stretch) → any_line_at line ≡ Ok (Run r) → length (operations_of (line ∷ [])) ≡ length r.chars
+run_alone-length line r says = ap (λ (ops : List Op). length ops) (run_alone line r says) ∙ run_operations-length r.id r.parent r.chars
+
+pub head_alone : (line : List ℕ) → any_line_at line ≡ Ok Head → operations_of (line ∷ []) ≡ []
+head_alone line says = ap (λ r. then_operations r []) (stands line (Ok Head) says)
+
+pub last_alone : (line : List ℕ) (number : ℕ) → any_line_at line ≡ Ok (Last number) → operations_of (line ∷ []) ≡ []
+last_alone line number says = ap (λ r. then_operations r []) (stands line (Ok (Last number)) says)
+
+pub none_alone : (line : List ℕ) (e : LineFault) → any_line_at line ≡ Err e → operations_of (line ∷ []) ≡ []
+none_alone line e says = ap (λ r. then_operations r []) (stands line (Err e) says)
+
+-- ---- lines
+
+pub lines_counted : (form : Form) (limit n m : ℕ) (c d : Content) (lines : List (List ℕ)) → lines_taken form limit n c lines ≡ progress m d AllTaken → m ≡ n + length lines
+lines_counted form limit n m c d [] h =
+    let count : n ≡ m = ap (λ (t : Progress). t.lines) h in
+    omega (arith, count)
+lines_counted form limit n m c d (line ∷ lines) h =
+    let w = goes_on form limit n m c d line lines h in
+    omega (arith, lines_counted form limit (n + 1) m w.next d lines w.later)
+
+log_lines : (limit n m : ℕ) (c d : Content) (lines : List (List ℕ)) → lines_taken Log limit n c lines ≡ progress m d AllTaken → AllByRecursion IsOperation lines × (taken_one_by_one limit c (operations_of lines) ≡ Ok d)
+log_lines limit n m c d [] h = (tt, ap Ok (ap (λ (t : Progress). t.content) h))
+log_lines limit n m c d (line ∷ lines) h =
+    let w = goes_on Log limit n m c d line lines h in
     let first = line_taken limit (n + 1) c w.next line w.first in
-    let later = lines_are_operations limit (n + 1) m w.next d lines w.later in (
+    let later = log_lines limit (n + 1) m w.next d lines w.later in (
       ((first.0, first.1), later.0),
       ap (λ r. taken_one_by_one limit c (then_operations r (operations_of lines))) first.1
-          ∙ ap (λ r. and_take r (λ e. taken_one_by_one limit e (operations_of lines))) first.2
+          ∙ one_by_one-append limit c w.next first.0 (operations_of lines) first.2
           ∙ later.1,
     )
 
-pub are_taken : (limit n m : ℕ) (c d : Content) (lines : List (List ℕ)) → lines_taken limit n c lines ≡ progress m d AllTaken → AreTaken limit lines c d
-are_taken limit n m c d lines h =
-    let w = lines_are_operations limit n m c d lines h in
-    record { operations = w.0; taken = w.1; joined = (taken_list_is limit c (operations_of lines) d w.1).joined }
+-- where all lines were taken, those behind a head are operations
+pub lines_are_operations : (form : Form) (limit n m : ℕ) (c d : Content) (lines : List (List ℕ)) → lines_taken form limit n c lines ≡ progress m d AllTaken
+    → AllByRecursion IsOperation (body_behind form n lines) × (taken_one_by_one limit c (operations_of (body_behind form n lines)) ≡ Ok d)
+lines_are_operations form limit n m c d lines h =
+    let w = through_body form limit n c lines in
+    log_lines limit w.before m c d (body_behind form n lines) (sym w.same ∙ h)
+
+pub are_taken : (form : Form) (limit n m : ℕ) (c d : Content) (lines : List (List ℕ)) → lines_taken form limit n c lines ≡ progress m d AllTaken → AreTaken limit (body_behind form n lines) c d
+are_taken form limit n m c d lines h =
+    let w = lines_are_operations form limit n m c d lines h in
+    record { operations = w.0; taken = w.1; joined = (taken_list_is limit c (operations_of (body_behind form n lines)) d w.1).joined }
 
 pub operations_of-append : (xs ys : List (List ℕ)) → AllByRecursion IsOperation xs → operations_of (xs ++ ys) ≡ operations_of xs ++ operations_of ys
 operations_of-append [] ys all = refl
 operations_of-append (x ∷ xs) ys all =
     ap (λ r. then_operations r (operations_of (xs ++ ys))) (all.0).1
-    ∙ ap (λ (os : List Op). (all.0).0 ∷ os) (operations_of-append xs ys all.1)
+    ∙ ap (λ (os : List Op). (all.0).0 ++ os) (operations_of-append xs ys all.1)
+    ∙ sym (append_assoc (all.0).0 (operations_of xs) (operations_of ys))
     ∙ sym (ap (λ r. then_operations r (operations_of xs) ++ operations_of ys) (all.0).1)
 
 -- ---- what was taken from one state of a taker to another
@@ -175,33 +285,60 @@ operations_of-append (x ∷ xs) ys all =
 abbrev pub FollowsOn : {T : Type 0} → (T → List Op → T → Type 0) → Type 0
 FollowsOn {T} follows = (s t u : T) (xs ys : List Op) → follows s xs t → follows t ys u → follows s (xs ++ ys) u
 
-module _ {T : Type 0} (limit : T → ℕ) (content : T → Content) (follows : T → List Op → T → Type 0) (follows_on : FollowsOn follows) where
+module _ {T : Type 0} (form : Form) (limit : T → ℕ) (content : T → Content) (follows : T → List Op → T → Type 0) where
+  abbrev pub up_to_nothing : (t : T) (n k : ℕ) (bytes : List ℕ) → follows t [] t → TakesUpTo form limit content follows t t n n k k bytes bytes
+  up_to_nothing t n k bytes none =
+      let nothing : [] ≡ operations_of (body_behind form n []) = ap operations_of (sym (body-nil form n)) in
+      record {
+        takes = takes_nothing form (limit t) n (content t) bytes;
+        beside = subst (λ ops. follows t ops t) nothing none;
+        count = omega (arith, ap (λ (ops : List Op). length ops) nothing);
+      }
+
+  abbrev pub up_to_line : (t u : T) (n k j : ℕ) (s x : Splitting) (line : List ℕ) → GivesLine s x line → after_line form (limit t) (n + 1) (content t) (any_line_at line) ≡ Ok (content u) → follows t (operations_of (line ∷ [])) u → j ≡ k + length (operations_of (line ∷ []))
+      → TakesUpTo form limit content follows t u n (n + 1) k j s.waiting x.waiting
+  up_to_line t u n k j s x line given h beside count = record {
+    takes = takes_line form (limit t) n (content t) (content u) s x line given h;
+    beside = subst (λ ops. follows t ops u) (sym (body_alone form n line)) beside;
+    count = count ∙ ap (λ (ops : List Op). k + length ops) (sym (body_alone form n line));
+  }
+
+module _ {T : Type 0} (form : Form) (limit : T → ℕ) (content : T → Content) (follows : T → List Op → T → Type 0) (follows_on : FollowsOn follows) where
   -- to take nothing more
   pub then_nothing : (t u v : T) (ops : List Op) → follows t ops u → follows u [] v → follows t ops v
   then_nothing t u v ops first none = subst (λ os. follows t os v) (append-nil ops) (follows_on t u v ops [] first none)
 
   -- the taker's own limit may be another name of the same number
-  abbrev pub up_to_chain : (t u v : T) (n m k : ℕ) (a b w : List ℕ) → limit u ≡ limit t → TakesUpTo limit content follows t u n m a b → TakesUpTo limit content follows u v m k b w → TakesUpTo limit content follows t v n k a w
-  up_to_chain t u v n m k a b w is s h = record {
-    takes = takes_chain (limit t) n m k (content t) (content u) (content v) a b w s.takes (record {
-      lines = h.takes.lines;
-      cut = h.takes.cut;
-      rest = h.takes.rest;
-      taken = subst (λ l. lines_taken l m (content u) h.takes.lines ≡ progress k (content v) AllTaken) is h.takes.taken;
-    });
-    beside = subst (λ ops. follows t ops v)
-        (sym (operations_of-append s.takes.lines h.takes.lines (lines_are_operations (limit t) n m (content t) (content u) s.takes.lines s.takes.taken).0))
-        (follows_on t u v (operations_of s.takes.lines) (operations_of h.takes.lines) s.beside h.beside);
-  }
+  abbrev pub up_to_chain : (t u v : T) (n m k i j l : ℕ) (a b w : List ℕ) → limit u ≡ limit t → TakesUpTo form limit content follows t u n m i j a b → TakesUpTo form limit content follows u v m k j l b w → TakesUpTo form limit content follows t v n k i l a w
+  up_to_chain t u v n m k i j l a b w is s h =
+      let first = body_behind form n s.takes.lines in
+      let later = body_behind form m h.takes.lines in
+      let operations = (lines_are_operations form (limit t) n m (content t) (content u) s.takes.lines s.takes.taken).0 in
+      let count = lines_counted form (limit t) n m (content t) (content u) s.takes.lines s.takes.taken in
+      let both = ap operations_of (body-append form n s.takes.lines h.takes.lines ∙ ap (λ i. first ++ body_behind form i h.takes.lines) (sym count)) ∙ operations_of-append first later operations in
+      let longer = ap (λ (ops : List Op). length ops) both in
+      record {
+        takes = takes_chain form (limit t) n m k (content t) (content u) (content v) a b w s.takes (record {
+          lines = h.takes.lines;
+          cut = h.takes.cut;
+          rest = h.takes.rest;
+          taken = subst (λ l. lines_taken form l m (content u) h.takes.lines ≡ progress k (content v) AllTaken) is h.takes.taken;
+        });
+        beside = subst (λ ops. follows t ops v)
+            (sym both)
+            (follows_on t u v (operations_of first) (operations_of later) s.beside h.beside);
+        count = omega (arith, s.count, h.count, longer, length-append (operations_of first) (operations_of later));
+      }
 
   -- a taker that holds the same
-  pub up_to_same : (t u v : T) (n m : ℕ) (a w : List ℕ) → content v ≡ content u → follows u [] v → TakesUpTo limit content follows t u n m a w → TakesUpTo limit content follows t v n m a w
-  up_to_same t u v n m a w same none s = record {
+  pub up_to_same : (t u v : T) (n m i j k : ℕ) (a w : List ℕ) → content v ≡ content u → follows u [] v → k ≡ j → TakesUpTo form limit content follows t u n m i j a w → TakesUpTo form limit content follows t v n m i k a w
+  up_to_same t u v n m i j k a w same none counted s = record {
     takes = record {
       lines = s.takes.lines;
       cut = s.takes.cut;
       rest = s.takes.rest;
       taken = s.takes.taken ∙ ap (λ d. progress m d AllTaken) (sym same);
     };
-    beside = then_nothing t u v (operations_of s.takes.lines) s.beside none;
+    beside = then_nothing t u v (operations_of (body_behind form n s.takes.lines)) s.beside none;
+    count = counted ∙ s.count;
   }

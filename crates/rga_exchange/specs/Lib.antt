@@ -4,3 +4,5 @@ pub mod Log
 pub mod Receiving
 pub mod Sending
 pub mod Stops
+pub mod Compacting
+pub mod Turns

@@ -7,9 +7,12 @@ use Rattle.rga_ops.specs.declared.op.Op.{Op}
 use Rattle.rga_ops.specs.declared.refusal.Refusal.{Refusal}
 use Rattle.rga_lines.specs.Counting.{Calls, IsReadToEnd, OnBytes}
 use Rattle.rga_lines.specs.Log.{log_operations}
-use Rattle.rga_lines.specs.Table.{Reading, line_at}
+use Rattle.rga_lines.specs.Runs.{stretch_operations}
+use Rattle.rga_lines.specs.Table.{AnyReading, any_line_at}
+use Rattle.rga_lines.specs.declared.reading.Line.TheVariants.{One, Run, Head, Last}
 use Rattle.rga_lines.specs.Stream.{rest_of}
 use Rattle.rga_lines.specs.declared.fault.LineFault.TheVariants as line_fault
+use Rattle.rga_exchange.specs.declared.taking.Form.TheVariants as form
 use Rattle.rga_exchange.specs.declared.fault.LogFault.{LogFault}
 use Rattle.rga_exchange.specs.declared.fault.LogFault.TheVariants as fault
 use Rattle.rga_exchange.specs.declared.log.LogEnd.{LogEnd}
@@ -17,7 +20,7 @@ use Rattle.rga_exchange.specs.declared.log.LogEnd.TheVariants.{Whole, Bare, Torn
 use Rattle.rga_exchange.specs.declared.log.LogRead.{LogRead}
 use Rattle.rga_exchange.specs.declared.fault.ReceiveFault.{ReceiveFault}
 use Rattle.rga_exchange.specs.Receiving.{receive_fault}
-use Rattle.rga_exchange.specs.Taking.{Stop, AllTaken, AtEnd, AtFault, Progress, stream_taken, HasTakenLines, HasTakenWholeLines}
+use Rattle.rga_exchange.specs.Taking.{Stop, AllTaken, AtEnd, AtFault, Progress, taken_whole, stream_taken, HasTakenLines, HasTakenWholeLines}
 
 -- the content, and the number of lines with how the log ends, or a fault
 abbrev pub LogOutcome : Type 0
@@ -30,15 +33,18 @@ abbrev pub after_bare_operation : ℕ → Content → Result Content Refusal →
 after_bare_operation n c (Ok d) = end_outcome n d Bare
 after_bare_operation n c (Err e) = (c, Err (fault.Refused (n + 1) e))
 
--- a last line that no newline ends counts if it is an operation, and else was cut off
-abbrev pub after_bare_line : ℕ → ℕ → Content → ℕ → Reading → LogOutcome
-after_bare_line limit n c bytes (Ok op) = after_bare_operation n c (taken limit c op)
+-- a last line that no newline ends counts if it is an operation or a run, and else was cut off
+abbrev pub after_bare_line : ℕ → ℕ → Content → ℕ → AnyReading → LogOutcome
+after_bare_line limit n c bytes (Ok (One op)) = after_bare_operation n c (taken limit c op)
+after_bare_line limit n c bytes (Ok (Run r)) = after_bare_operation n c (taken_whole limit c (stretch_operations r))
+after_bare_line limit n c bytes (Ok Head) = end_outcome n c (Torn bytes)
+after_bare_line limit n c bytes (Ok (Last number)) = end_outcome n c (Torn bytes)
 after_bare_line limit n c bytes (Err e) = end_outcome n c (Torn bytes)
 
 -- the rest of a log behind n lines, at a store that may know that many identifiers and holds c
 abbrev pub after_rest : ℕ → ℕ → Content → List ℕ → LogOutcome
 after_rest limit n c [] = end_outcome n c Whole
-after_rest limit n c (b ∷ bytes) = after_bare_line limit n c (length (b ∷ bytes)) (line_at (b ∷ bytes))
+after_rest limit n c (b ∷ bytes) = after_bare_line limit n c (length (b ∷ bytes)) (any_line_at (b ∷ bytes))
 
 -- the same of what a taker holds
 abbrev pub rest_outcome : {T : Type 0} → (T → ℕ) → (T → Content) → T → ℕ → List ℕ → LogOutcome
@@ -55,7 +61,7 @@ after_lines limit rest t = after_stop limit rest t.lines t.content t.stop
 
 -- a whole log
 abbrev pub log_outcome : ℕ → Content → List ℕ → LogOutcome
-log_outcome limit c bytes = after_lines limit (rest_of bytes) (stream_taken limit c bytes)
+log_outcome limit c bytes = after_lines limit (rest_of bytes) (stream_taken form.Log limit c bytes)
 
 -- how the log ends, whatever the number of its lines, or the fault as one of those that an exchange has too
 abbrev pub log_end : Result LogRead LogFault → Result LogEnd ReceiveFault
@@ -82,9 +88,9 @@ module _ {R T A E : Type 0} (remaining : R → Option (List ℕ)) (limit : T →
     -- however the reads cut the bytes, they lead to what the whole log leads to
     pub outcome : result ≢ told (Err fault.Read) → result ≢ told (Err fault.Memory) → OnBytes remaining r (LeadsToAnswer t u)
     pub joined : OnOk result (OnBytes remaining r (λ bytes. content u ≡ join (content t) (content_of (log_operations bytes))))
-    pub whole_lines : result ≡ told (Err fault.Read) → HasTakenWholeLines remaining limit content follows r s t u
+    pub whole_lines : result ≡ told (Err fault.Read) → HasTakenWholeLines form.Log remaining limit content follows r s t u
     -- whatever the fault, all lines that were whole before the last block were taken, the first of those that end in it,
     -- and nothing else
-    pub lines : OnErr result (HasTakenLines remaining limit content follows r s t u)
+    pub lines : OnErr result (HasTakenLines form.Log remaining limit content follows r s t u)
     -- without one all operations were taken, to the end of the input, and nothing else
     pub log : OnOk result (HasTakenLog r s t u)

@@ -8,18 +8,18 @@ use Rattle.rga_ops.specs.declared.op.Op.{Op}
 use Rattle.rga_lines.specs.declared.reading.TheConstants.{MAX_LINE}
 use Rattle.rga_lines.specs.Counting.{Calls, Writes, WritesFront}
 use Rattle.rga_lines.specs.Log.{log_operations, IsOperation}
-use Rattle.rga_lines.specs.Spelling.{line, end_line, IsWritable}
+use Rattle.rga_lines.specs.Spelling.{line, head_line, end_line, IsWritable}
 use Rattle.rga_lines.specs.Stream.{bytes_of_lines, lines_of, rest_of}
 
 -- the lines of operations, each with its newline
 abbrev pub log_text : List Op → List ℕ
 log_text ops = bytes_of_lines (map line ops)
 
--- the lines of operations, and the line that ends an exchange of so many
+-- the line that begins an exchange, the lines of operations, and the line that ends an exchange of so many
 abbrev pub exchange_lines : List Op → List (List ℕ)
-exchange_lines ops = map line ops ++ end_line (length ops) ∷ []
+exchange_lines ops = head_line ∷ (map line ops ++ end_line (length ops) ∷ [])
 
--- what is sent of a content: its operations and the end, each line with its newline
+-- what is sent of a content: the head, its operations and the end, each line with its newline
 abbrev pub stream_text : Content → List ℕ
 stream_text c = bytes_of_lines (exchange_lines (operations c))
 

@@ -1,25 +1,46 @@
 -- What comes of the lines of a stream that are taken in turn.
-use Rattle.std.specs.Prelude.{◌≡◌, ℕ, ◌+◌, ◌≤◌, nat_lt, if◌then◌else◌, List, [], ◌∷◌, ◌++◌, length, Option, Result, Ok, Err}
+use Rattle.std.specs.Prelude.{◌≡◌, ℕ, ◌+◌, ◌≤◌, ◌==◌, Bool, false, nat_lt, if◌then◌else◌, List, [], ◌∷◌, ◌++◌, length, Option, Result, Ok, Err}
 use Rattle.std.specs.List.{AllByRecursion}
 use Rattle.std.specs.Io.KnownBytes.{Consumes}
 use Rattle.rga_ops.specs.Content.{Content, join, content_of}
 use Rattle.rga_ops.specs.Answer.{taken, taken_one_by_one}
+use Rattle.rga_ops.specs.ListAnswer.{Verdict, list_answer}
 use Rattle.rga_ops.specs.declared.op.Op.{Op}
 use Rattle.rga_ops.specs.declared.refusal.Refusal.{Refusal}
 use Rattle.rga_lines.specs.Counting.{Calls}
+use Rattle.rga_lines.specs.Runs.{stretch_operations}
 use Rattle.rga_lines.specs.Table.{AnyReading, any_line_at}
 use Rattle.rga_lines.specs.declared.reading.TheConstants.{MAX_LINE}
 use Rattle.rga_lines.specs.Stream.{lines_of, rest_of}
-use Rattle.rga_lines.specs.Log.{operations_of, IsOperation}
-use Rattle.rga_lines.specs.declared.reading.Line.TheVariants.{One, Last}
+use Rattle.rga_lines.specs.Log.{operations_of, behind_head, IsOperation}
+use Rattle.rga_lines.specs.declared.reading.Line.TheVariants.{One, Run, Head, Last}
 use Rattle.rga_lines.specs.declared.fault.LineFault.TheVariants as line_fault
 use Rattle.rga_exchange.specs.declared.block.TheConstants.{BLOCK}
+use Rattle.rga_exchange.specs.declared.taking.Form.{Form}
+use Rattle.rga_exchange.specs.declared.taking.Form.TheVariants.{Log, Exchange}
 use Rattle.rga_exchange.specs.declared.fault.LogFault.{LogFault}
 use Rattle.rga_exchange.specs.declared.fault.LogFault.TheVariants as fault
 
+-- ---- the head of an exchange
+
+-- whether the line with this number may be a head: the first one of an exchange
+abbrev pub may_be_head : Form → ℕ → Bool
+may_be_head Log n = false
+may_be_head Exchange n = n == 1
+
+-- of lines behind n others those that are to be operations: all, but for the head of an exchange
+abbrev pub body_behind : Form → ℕ → List (List ℕ) → List (List ℕ)
+body_behind form n lines = if may_be_head form (n + 1) then behind_head lines else lines
+
+-- those of all lines of a stream
+abbrev pub body : Form → List (List ℕ) → List (List ℕ)
+body form lines = body_behind form 0 lines
+
+-- ---- what is taken
+
 -- why no further line is taken
 pub data Stop : Type 0 where
-  -- all are operations, and were taken
+  -- all are operations, but for a head, and were taken
   AllTaken : Stop
   -- the end line, which names a number
   AtEnd : ℕ → Stop
@@ -40,11 +61,25 @@ abbrev pub refused_at : ℕ → Result Content Refusal → Result Content Stop
 refused_at n (Ok c) = Ok c
 refused_at n (Err e) = Err (AtFault (fault.Refused n e))
 
+abbrev pub after_list : Content → List Op → Verdict → Result Content Refusal
+after_list c ops (Ok u) = Ok (join c (content_of ops))
+after_list c ops (Err e) = Err e
+
+-- what a store holds once it took a list whole, or why it took none of it
+abbrev pub taken_whole : ℕ → Content → List Op → Result Content Refusal
+taken_whole limit c ops = after_list c ops (list_answer limit c ops)
+
+-- a head adds nothing, and is a line of another kind where none may be
+abbrev pub after_head : Form → ℕ → Content → Result Content Stop
+after_head form n c = if may_be_head form n then Ok c else Err (AtFault (fault.Line n line_fault.Kind))
+
 -- what is held after line n, at a store that may know that many identifiers and holds c; or why the line is not taken
-abbrev pub after_line : ℕ → ℕ → Content → AnyReading → Result Content Stop
-after_line limit n c (Ok (One op)) = refused_at n (taken limit c op)
-after_line limit n c (Ok (Last number)) = Err (AtEnd number)
-after_line limit n c (Err e) = Err (AtFault (fault.Line n e))
+abbrev pub after_line : Form → ℕ → ℕ → Content → AnyReading → Result Content Stop
+after_line form limit n c (Ok (One op)) = refused_at n (taken limit c op)
+after_line form limit n c (Ok (Run r)) = refused_at n (taken_whole limit c (stretch_operations r))
+after_line form limit n c (Ok Head) = after_head form n c
+after_line form limit n c (Ok (Last number)) = Err (AtEnd number)
+after_line form limit n c (Err e) = Err (AtFault (fault.Line n e))
 
 -- ---- lines in turn, behind n others
 
@@ -52,9 +87,9 @@ abbrev pub go_on : ℕ → Content → Result Content Stop → (Content → Prog
 go_on n c (Ok d) f = f d
 go_on n c (Err stop) f = progress n c stop
 
-abbrev pub lines_taken : ℕ → ℕ → Content → List (List ℕ) → Progress
-lines_taken limit n c [] = progress n c AllTaken
-lines_taken limit n c (line ∷ lines) = go_on n c (after_line limit (n + 1) c (any_line_at line)) (λ d. lines_taken limit (n + 1) d lines)
+abbrev pub lines_taken : Form → ℕ → ℕ → Content → List (List ℕ) → Progress
+lines_taken form limit n c [] = progress n c AllTaken
+lines_taken form limit n c (line ∷ lines) = go_on n c (after_line form limit (n + 1) c (any_line_at line)) (λ d. lines_taken form limit (n + 1) d lines)
 
 -- ---- a stream, of which n lines were taken before
 
@@ -67,12 +102,12 @@ stop_at_rest n rest (AtFault e) = AtFault e
 abbrev pub with_rest : List ℕ → Progress → Progress
 with_rest rest t = progress t.lines t.content (stop_at_rest t.lines rest t.stop)
 
-abbrev pub bytes_taken : ℕ → ℕ → Content → List ℕ → Progress
-bytes_taken limit n c bytes = with_rest (rest_of bytes) (lines_taken limit n c (lines_of bytes))
+abbrev pub bytes_taken : Form → ℕ → ℕ → Content → List ℕ → Progress
+bytes_taken form limit n c bytes = with_rest (rest_of bytes) (lines_taken form limit n c (lines_of bytes))
 
 -- all of a stream
-abbrev pub stream_taken : ℕ → Content → List ℕ → Progress
-stream_taken limit c bytes = bytes_taken limit 0 c bytes
+abbrev pub stream_taken : Form → ℕ → Content → List ℕ → Progress
+stream_taken form limit c bytes = bytes_taken form limit 0 c bytes
 
 -- ---- where a device or memory failed
 
@@ -82,9 +117,9 @@ pub record AreTaken (limit : ℕ) (lines : List (List ℕ)) (c d : Content) : Ty
   pub taken : taken_one_by_one limit c (operations_of lines) ≡ Ok d
   pub joined : d ≡ join c (content_of (operations_of lines))
 
--- Between two states of a reader, and of a taker, by their members: `follows` says what the taker keeps beside its
--- content and its limit, by the operations that it took.
-module _ {R T : Type 0} (remaining : R → Option (List ℕ)) (limit : T → ℕ) (content : T → Content) (follows : T → List Op → T → Type 0) (r s : Calls R) (t u : T) where
+-- Between two states of a reader that gives a stream of that form, and of a taker, by their members: `follows` says what
+-- the taker keeps beside its content and its limit, by the operations that it took.
+module _ {R T : Type 0} (form : Form) (remaining : R → Option (List ℕ)) (limit : T → ℕ) (content : T → Content) (follows : T → List Op → T → Type 0) (r s : Calls R) (t u : T) where
   -- Of what the reader gave were taken all lines that were whole before the last block, the first ones of those that end
   -- in it, and nothing else.
   pub record HasTakenLines : Type 0 where
@@ -97,12 +132,12 @@ module _ {R T : Type 0} (remaining : R → Option (List ℕ)) (limit : T → ℕ
     pub later : List (List ℕ)
     pub whole_before : lines ≡ lines_of before ++ begun
     pub begins : lines_of (before ++ block) ≡ lines ++ later
-    pub taken : AreTaken (limit t) lines (content t) (content u)
-    pub beside : follows t (operations_of lines) u
+    pub taken : AreTaken (limit t) (body form lines) (content t) (content u)
+    pub beside : follows t (operations_of (body form lines)) u
 
   -- all whole lines of what the reader gave were taken, and nothing else
   pub record HasTakenWholeLines : Type 0 where
     pub bytes : List ℕ
     pub read : Consumes (remaining r.inner) (remaining s.inner) bytes
-    pub taken : AreTaken (limit t) (lines_of bytes) (content t) (content u)
-    pub beside : follows t (operations_of (lines_of bytes)) u
+    pub taken : AreTaken (limit t) (body form (lines_of bytes)) (content t) (content u)
+    pub beside : follows t (operations_of (body form (lines_of bytes))) u

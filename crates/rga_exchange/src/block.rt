@@ -28,7 +28,7 @@ impl Model for Block {
 
 impl Block {
     ghost use Rattle.std.specs.Prelude.{◌≡◌, ◌++◌, ◌∷◌, [], IfOk, OnOk, IfErr};
-    ghost use Rattle.rga_lines.specs.Counting.{Writes, WritesFront, CountsAs};
+    ghost use Rattle.rga_lines.specs.Counting.{Writes, WritesFront, WritesAllBut, CountsAs};
     ghost use Rattle.rga_lines.specs.Stream.{newline};
 
     /// An empty block.
@@ -50,6 +50,24 @@ impl Block {
     {
         self.text.extend_from_slice(line.as_bytes())?;
         self.text.push(b'\n')?;
+        Ok(())
+    }
+
+    /// Takes a line, of any length: where there is no room for it, what it has is written before.
+    pub(crate) fn take_line<W: Write>(
+        &mut self,
+        line: &str,
+        writer: &mut Counted<W>,
+    ) -> Result<(), SendFault>
+        ensures ok { OnOk result (WritesAllBut W.contents writer.old writer.new
+            (self.old ++ (line.now ++ newline ∷ [])) self.new) }
+        ensures begun { WritesFront W.contents writer.old writer.new self.old }
+        ensures device { CountsAs SendFault.Write result writer.old writer.new }
+    {
+        if self.text.len() + line.len() >= BLOCK {
+            self.write_to(writer)?;
+        }
+        self.push(line)?;
         Ok(())
     }
 

@@ -1,17 +1,24 @@
 //! Theorems about logs and exchanges. Each function does nothing: its contract is the theorem.
-ghost use Rattle.std.specs.Prelude.{◌≡◌, ◌↔◌, ℕ, ◌<◌, ◌≤◌, ◌^◌, List, [], ◌∷◌, ◌++◌, length, Ok};
+ghost use Rattle.std.specs.Prelude.{◌≡◌, ◌↔◌, ℕ, ◌+◌, ◌<◌, ◌≤◌, ◌^◌, true, false, List, [], ◌∷◌, ◌++◌, length, Ok};
 ghost use Rattle.rga_ops.specs.Content.{Content, Agree, join, content_of, known_count, IsSound};
 ghost use Rattle.rga_ops.specs.ListAnswer.{AreWellFormed, IsJoinable};
 ghost use Rattle.rga_ops.specs.Operations.{operations};
 ghost use Rattle.rga_ops.specs.declared.op.Op.{Op as Operation};
-ghost use Rattle.rga_lines.specs.Log.{stream_operations, log_operations, HasOnlyOperations};
+ghost use Rattle.rga_lines.specs.Log.{behind_head, stream_operations, log_operations, HasOnlyOperations};
 ghost use Rattle.rga_lines.specs.Stream.{newline, lines_of, rest_of};
+ghost use Rattle.rga_lines.specs.Table.{any_line_at};
+ghost use Rattle.rga_lines.specs.declared.reading.Line.TheVariants.{Head};
+ghost use Rattle.rga_lines.specs.declared.fault.LineFault.TheVariants.{Kind};
 ghost use Rattle.rga_exchange.specs.Sending.{log_text, exchange_lines, stream_text};
 ghost use Rattle.rga_exchange.specs.Sending.{AreWritable, StandsFor, GainsFirst};
-ghost use Rattle.rga_exchange.specs.Taking.{Stop, progress, lines_taken, stream_taken, AreTaken};
+ghost use Rattle.rga_exchange.specs.Compacting.{compact_text};
+ghost use Rattle.rga_exchange.specs.Taking.{may_be_head, Stop, AtFault, progress, lines_taken, stream_taken, AreTaken};
 ghost use Rattle.rga_exchange.specs.Log.{log_outcome};
 ghost use Rattle.rga_exchange.specs.Receiving.{exchange_outcome};
-ghost use Rattle.rga_exchange.specs.Stops.{IsTakenUpTo, all_lines, HasNothingTorn};
+ghost use Rattle.rga_exchange.specs.Stops.{IsTakenUpTo, one_further, all_lines, HasNothingTorn};
+ghost use Rattle.rga_exchange.specs.declared.taking.Form.{Form};
+ghost use Rattle.rga_exchange.specs.declared.taking.Form.TheVariants.{Log, Exchange};
+ghost use Rattle.rga_exchange.specs.declared.fault.LogFault.TheVariants.{Line as FaultyLine};
 ghost use Rattle.rga_exchange.specs.declared.log.LogRead.{LogRead};
 
 /// Where a log is empty or ends in a newline and stands for a content, and behind it are written
@@ -40,8 +47,15 @@ pub fn cut_logs_stand_for_their_first_operations()
         → IsJoinable c ops → front ++ rest ≡ log_text ops → GainsFirst bytes front c ops }
 {}
 
+/// The compacted lines of a content whose operations are well-formed and can be written stand for
+/// that content, and end in a newline, so that further lines may follow.
+pub fn compacted_lines_stand_for_the_content()
+    ensures { (c : Content) → IsSound c → AreWritable (operations c)
+        → StandsFor (compact_text c) c × (rest_of (compact_text c) ≡ []) }
+{}
+
 /// What is sent of a content is cut into the lines that were written, with nothing behind them; the
-/// operations that they say, up to the end line, are those of the content.
+/// operations that they say, behind the head and up to the end line, are those of the content.
 pub fn what_is_sent_says_the_content()
     ensures lines { (c : Content) → AreWritable (operations c)
         → length (operations c) < 2 ^ 64
@@ -60,27 +74,50 @@ pub fn what_is_sent_is_received()
         → exchange_outcome limit d (stream_text c) ≡ (join d c, Ok (length (operations c))) }
 {}
 
-/// What comes of the lines of a stream, each exactly where it comes. All are taken where each is an
-/// operation that is taken. Else the first that is not is the end line, or neither an operation nor
-/// the end, or an operation that is refused; a fault has the number of that line. A rest of more
-/// than 65536 bytes counts as a line.
+/// What comes of the lines of a log, or of an exchange, each exactly where it comes. All are taken
+/// where each is an operation or a run that is taken, or the head of an exchange. Else the first
+/// that is not is the end line, or neither an operation nor a run nor the end, or an operation or a
+/// run that is refused; a fault has the number of that line. A rest of more than 65536 bytes counts
+/// as a line.
 pub fn streams_in_words()
-    ensures lines { (limit : ℕ) (c : Content) (lines : List (List ℕ))
-        (n : ℕ) (d : Content) (stop : Stop) → (lines_taken limit 0 c lines ≡ progress n d stop)
-        ↔ IsTakenUpTo limit c lines n d stop }
-    ensures stream { (limit : ℕ) (c : Content) (bytes : List ℕ)
-        → stream_taken limit c bytes ≡ lines_taken limit 0 c (all_lines bytes) }
+    ensures lines { (form : Form) (limit : ℕ) (c : Content) (lines : List (List ℕ))
+        (n : ℕ) (d : Content) (stop : Stop) → known_count c ≤ limit
+        → (lines_taken form limit 0 c lines ≡ progress n d stop)
+        ↔ IsTakenUpTo form limit c lines n d stop }
+    ensures stream { (form : Form) (limit : ℕ) (c : Content) (bytes : List ℕ)
+        → stream_taken form limit c bytes ≡ lines_taken form limit 0 c (all_lines bytes) }
+{}
+
+/// Where the first line of an exchange is a head, it leads to what the lines behind it lead to,
+/// with line numbers higher by one. With no head in front it leads to what the lines of a log lead
+/// to. A head behind another line, or anywhere in a log, is a fault of its line.
+pub fn heads_in_words()
+    ensures first { (limit : ℕ) (c : Content) (line : List ℕ) (lines : List (List ℕ))
+        → any_line_at line ≡ Ok Head → lines_taken Exchange limit 0 c (line ∷ lines)
+        ≡ one_further (lines_taken Log limit 0 c lines) }
+    ensures none { (limit : ℕ) (c : Content) (lines : List (List ℕ))
+        → behind_head lines ≡ lines
+        → lines_taken Exchange limit 0 c lines ≡ lines_taken Log limit 0 c lines }
+    ensures elsewhere { (form : Form) (limit n : ℕ) (c : Content) (line : List ℕ)
+        (lines : List (List ℕ)) → any_line_at line ≡ Ok Head → may_be_head form (n + 1) ≡ false
+        → lines_taken form limit n c (line ∷ lines)
+        ≡ progress n c (AtFault (FaultyLine (n + 1) Kind)) }
+    ensures which { (form : Form) (n : ℕ)
+        → (may_be_head form n ≡ true) ↔ ((form ≡ Exchange) × (n ≡ 1)) }
 {}
 
 /// Where a taking ended early, for want of memory or by a device that failed, the first lines of
-/// what was read are taken. Then the same bytes from the start, whatever follows them, lead to the
-/// content and the answer to which they would have led at first.
+/// what was read are taken, those of an exchange behind its head. Then the same bytes from the
+/// start, whatever follows them, lead to the content and the answer to which they would have led at
+/// first.
 pub fn what_is_taken_again_changes_nothing()
     ensures exchange { (limit : ℕ) (c d : Content) (bytes more : List ℕ)
-        (lines later : List (List ℕ)) → lines_of bytes ≡ lines ++ later → AreTaken limit lines c d
+        (lines later : List (List ℕ)) → known_count c ≤ limit → lines_of bytes ≡ lines ++ later
+        → AreTaken limit (behind_head lines) c d
         → exchange_outcome limit d (bytes ++ more) ≡ exchange_outcome limit c (bytes ++ more) }
     ensures log { (limit : ℕ) (c d : Content) (bytes more : List ℕ)
-        (lines later : List (List ℕ)) → lines_of bytes ≡ lines ++ later → AreTaken limit lines c d
+        (lines later : List (List ℕ)) → known_count c ≤ limit → lines_of bytes ≡ lines ++ later
+        → AreTaken limit lines c d
         → log_outcome limit d (bytes ++ more) ≡ log_outcome limit c (bytes ++ more) }
 {}
 

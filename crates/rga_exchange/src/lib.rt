@@ -1,10 +1,11 @@
 //! Replicas that meet: operations written as lines, kept in logs that survive a cut, and sent over
 //! any reader and writer.
 //!
-//! A log is a stream of lines with one operation each; an exchange has one line more, which ends it
-//! and names their number. `append_log` and `send` write them; `read_log` and `receive` take them
-//! into whatever takes operations, and `take_log` is the reader of logs within, which also tells
-//! how many lines there were. The crate stands on rga_lines for the lines and the devices, on the
+//! A log is a stream of lines with an operation each, or a run of them; an exchange has one line
+//! more in front, its head, which may be absent, and one that ends it and names the number of
+//! operations. `append_log` and `send` write them; `read_log` and `receive` take them into whatever
+//! takes operations, and `take_log` is the reader of logs within, which also tells how many lines
+//! there were. The crate stands on rga_lines for the lines and the devices, on the
 //! traits of rga_store for what takes operations (`Taker`) and what has them (`TextStore`), and on
 //! rga_ops for what they mean. The layer above may rest on the contracts, for any taker, any store
 //! and any device that tells its bytes: however the reads cut the bytes, what is held afterwards is
@@ -15,6 +16,7 @@
 #![tactic(auto)]
 
 mod block;
+mod compacting;
 mod fault;
 pub mod laws;
 mod log;
@@ -22,7 +24,9 @@ mod receiving;
 mod sending;
 mod taking;
 
+pub use compacting::compact;
 pub use fault::{LogFault, ReceiveFault, SendFault};
 pub use log::{LogEnd, LogRead, read_log, take_log};
 pub use receiving::receive;
 pub use sending::{append_log, send};
+pub use taking::Form;

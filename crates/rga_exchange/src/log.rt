@@ -6,8 +6,8 @@ ghost use Rattle.rga_exchange.specs.Log.{TakesLog, log_end, rest_outcome, end_ou
 ghost use Rattle.rga_exchange.specs.declared.fault.LogFault.TheVariants.{Memory as NoMemory, Read as ReadFailed};
 
 use crate::fault::{LogFault, ReceiveFault};
-use crate::taking::{Stream, StreamEnd, take, take_stream};
-use rga_lines::{Counted, LineFault, read_line};
+use crate::taking::{Form, Stream, StreamEnd, take, take_run, take_stream};
+use rga_lines::{Counted, Line, LineFault, read_any};
 use rga_store::Taker;
 use std::alloc::Global;
 use std::io::Read;
@@ -17,7 +17,7 @@ use std::io::Read;
 pub enum LogEnd {
     /// Nothing.
     Whole,
-    /// An operation, which was taken.
+    /// An operation or a run, which was taken.
     Bare,
     /// So many bytes that are no operation: a line that was cut off. They were left out.
     Torn(u64),
@@ -36,11 +36,11 @@ pub struct LogRead {
 /// they are. Before each read the whole lines read so far are taken. `Ok` comes only once a read
 /// gave no bytes, whatever the reader.
 ///
-/// Faults, of which the first in the order of the lines is answered: `Line`, where an end line of
-/// an exchange is `Kind` and a rest of more than 65536 bytes is `Long`; `Refused`. `Read` and
-/// `Memory` come where the device fails and where a growth is refused. The lines before a fault
-/// stay taken; with `Memory` these are all that were whole before the last read, and the first ones
-/// of those that it ended.
+/// Faults, of which the first in the order of the lines is answered: `Line`, where the head and the
+/// end line of an exchange are `Kind` and a rest of more than 65536 bytes is `Long`; `Refused`.
+/// `Read` and `Memory` come where the device fails and where a growth is refused. The lines before
+/// a fault stay taken; with `Memory` these are all that were whole before the last read, and the
+/// first ones of those that it ended.
 pub fn take_log<T: Taker, R: Read>(
     alloc: Global,
     taker: &mut T,
@@ -52,7 +52,11 @@ pub fn take_log<T: Taker, R: Read>(
     ensures limit { T.limit taker.new ≡ T.limit taker.old }
     ensures bound { IfOk result (λ log. log.lines < 2 ^ 63) }
 {
-    let Stream { lines, end } = take_stream(alloc, taker, reader)?;
+    let Stream {
+        lines,
+        operations: _operations,
+        end,
+    } = take_stream(alloc, Form::Log, taker, reader)?;
     match end {
         StreamEnd::EndLine(_) => Err(LogFault::Line(lines + 1, LineFault::Kind)),
         StreamEnd::Input(rest) => {
@@ -62,7 +66,7 @@ pub fn take_log<T: Taker, R: Read>(
     }
 }
 
-/// Takes what stands behind so many lines: an operation, or nothing.
+/// Takes what stands behind so many lines: an operation, a run, or nothing.
 fn take_rest<T: Taker>(
     alloc: Global,
     taker: &mut T,
@@ -84,12 +88,18 @@ fn take_rest<T: Taker>(
     if rest.is_empty() {
         return Ok(LogEnd::Whole);
     }
-    match read_line(alloc, rest) {
-        Ok(op) => {
+    match read_any(alloc, rest) {
+        Ok(Line::One(op)) => {
             take(taker, lines + 1, op)?;
             Ok(LogEnd::Bare)
         }
+        Ok(Line::Run(run)) => {
+            take_run(alloc, taker, lines + 1, &run)?;
+            Ok(LogEnd::Bare)
+        }
         Err(LineFault::Memory) => Err(LogFault::Memory),
+        Ok(Line::Head) => Ok(LogEnd::Torn(rest.len() as u64)),
+        Ok(Line::Last(_)) => Ok(LogEnd::Torn(rest.len() as u64)),
         Err(_) => Ok(LogEnd::Torn(rest.len() as u64)),
     }
 }

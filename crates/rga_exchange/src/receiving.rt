@@ -5,24 +5,27 @@ ghost use Rattle.rga_lines.specs.Counting.{CountsAs, OnBytes};
 ghost use Rattle.rga_lines.specs.Log.{stream_operations};
 ghost use Rattle.rga_exchange.specs.Taking.{HasTakenLines, HasTakenWholeLines};
 ghost use Rattle.rga_exchange.specs.Receiving.{exchange_outcome, EndsWithLastRead};
+ghost use Rattle.rga_exchange.specs.declared.taking.Form.TheVariants.{Exchange};
 
 use crate::fault::ReceiveFault;
-use crate::taking::{Stream, StreamEnd, take_stream};
+use crate::taking::{Form, Stream, StreamEnd, take_stream};
 use rga_lines::Counted;
 use rga_store::Taker;
 use std::alloc::Global;
 use std::io::Read;
 
-/// Takes the operations of an exchange up to its end line, and answers their number. Before each
-/// read the whole lines read so far are taken; no read follows the one that brought the end line,
-/// and what stands behind it in that read is dropped.
+/// Takes the operations of an exchange up to its end line, and answers their number. The first line
+/// may be the head, `{"op":"head","version":2}`: it counts as a line and not as an operation.
+/// Before each read the whole lines read so far are taken; no read follows the one that brought the
+/// end line, and what stands behind it in that read is dropped.
 ///
-/// Faults, of which the first in the order of the lines is answered: `Line`, where a rest of more
-/// than 65536 bytes is `Long`; `Refused`; `Cut`, where the input ends before an end line that a
-/// newline ends; `Count`, where the end line names another number than that of the lines before
-/// it. `Read` and `Memory` come where the device fails and where a growth is refused. The lines
-/// before a fault stay taken; with `Memory` these are all that were whole before the last read, and
-/// the first ones of those that it ended. Nothing behind the last newline ever is.
+/// Faults, of which the first in the order of the lines is answered: `Line`, where a head behind
+/// another line is `Kind` and a rest of more than 65536 bytes is `Long`; `Refused`; `Cut`, where
+/// the input ends before an end line that a newline ends; `Count`, where the end line names another
+/// number than that of the operations before it. `Read` and `Memory` come where the device fails
+/// and where a growth is refused. The lines before a fault stay taken; with `Memory` these are all
+/// that were whole before the last read, and the first ones of those that it ended. Nothing behind
+/// the last newline ever is.
 pub fn receive<T: Taker, R: Read>(
     alloc: Global,
     taker: &mut T,
@@ -37,23 +40,28 @@ pub fn receive<T: Taker, R: Read>(
     ensures number { IfOk result (λ n. OnBytes R.remaining reader.old
         (λ bytes. n ≡ length (stream_operations bytes))) }
 
-    // What was read is lines of operations alone, and then one block at most.
-    ensures last { OnOk result (EndsWithLastRead R.remaining reader.old reader.new) }
+    // What was read is lines of operations alone, with the head before them or without one, and
+    // then one block at most.
+    ensures last { OnOk result (EndsWithLastRead Exchange R.remaining reader.old reader.new) }
     ensures last_count { result ≡ Err ReceiveFault.Count
-        → EndsWithLastRead R.remaining reader.old reader.new }
+        → EndsWithLastRead Exchange R.remaining reader.old reader.new }
 
-    ensures whole_lines { result ≡ Err ReceiveFault.Read → HasTakenWholeLines
+    ensures whole_lines { result ≡ Err ReceiveFault.Read → HasTakenWholeLines Exchange
         R.remaining T.limit T.content T.follows reader.old reader.new taker.old taker.new }
     // Whatever the answer, all lines that were whole before the last block were taken, the first
     // ones of those that end in it, and nothing else.
-    ensures lines { HasTakenLines R.remaining T.limit T.content T.follows
+    ensures lines { HasTakenLines Exchange R.remaining T.limit T.content T.follows
         reader.old reader.new taker.old taker.new }
     ensures device { CountsAs ReceiveFault.Read result reader.old reader.new }
     ensures limit { T.limit taker.new ≡ T.limit taker.old }
 {
-    let Stream { lines, end } = take_stream(alloc, taker, reader)?;
+    let Stream {
+        lines: _lines,
+        operations,
+        end,
+    } = take_stream(alloc, Form::Exchange, taker, reader)?;
     match end {
-        StreamEnd::EndLine(number) if number == lines => Ok(lines),
+        StreamEnd::EndLine(number) if u128::from(number) == operations => Ok(number),
         StreamEnd::EndLine(_) => Err(ReceiveFault::Count),
         StreamEnd::Input(_) => Err(ReceiveFault::Cut),
     }

@@ -1,9 +1,9 @@
 //! Operations sent: as lines, in blocks.
-ghost use Rattle.std.specs.Prelude.{◌≡◌, ℕ, ◌≤◌, ◌++◌, ◌∷◌, List, [], length, true, Ok, IfOk, OnOk};
+ghost use Rattle.std.specs.Prelude.{◌≡◌, ℕ, ◌≤◌, ◌++◌, ◌∷◌, List, [], length, true, Ok, IfOk, IfErr, OnOk};
 ghost use Rattle.rga_ops.specs.Prelude.{checked, operations, Content, Agree, IsSound, join, known_count, content_of};
 ghost use Rattle.rga_ops.specs.ListAnswer.{AreWellFormed, IsJoinable};
 ghost use Rattle.rga_lines.specs.Counting.{CountsAs, Writes, WritesFront, WritesAllBut};
-ghost use Rattle.rga_lines.specs.Spelling.{line as line_of, IsWritable};
+ghost use Rattle.rga_lines.specs.Spelling.{line as line_of, head_line, IsWritable};
 ghost use Rattle.rga_lines.specs.Stream.{newline, rest_of};
 ghost use Rattle.rga_exchange.specs.Sending.{log_text, stream_text, AreWritable, StandsFor};
 ghost use Rattle.rga_exchange.specs.Sending.{AppendsFirst, WritesFirst};
@@ -11,15 +11,15 @@ ghost use Rattle.rga_exchange.specs.Receiving.{exchange_outcome};
 
 use crate::block::Block;
 use crate::fault::SendFault;
-use rga_lines::{Counted, write_end, write_line};
+use rga_lines::{Counted, write_end, write_head, write_line};
 use rga_ops::Op;
 use rga_store::TextStore;
 use std::alloc::Global;
 use std::io::Write;
 
-/// Writes all that a store holds: the line of each of its operations, the insertions by rising
-/// identifier and then the deletions, and the line that ends an exchange of so many; each with its
-/// newline. Answers how many operations there are.
+/// Writes all that a store holds: the head of an exchange, the line of each of its operations, the
+/// insertions by rising identifier and then the deletions, and the line that ends an exchange of so
+/// many; each with its newline. Answers how many operations there are.
 ///
 /// Beside the list of the operations only one block of some 64 KiB is held. The device is given as
 /// many lines at once as a block has, no failed call is made again, and the device is flushed at
@@ -49,11 +49,24 @@ pub fn send<S: TextStore, W: Write>(
     let Ok(end) = write_end(alloc, number) else {
         return Err(SendFault::Memory);
     };
-    let mut block = Block::new(alloc)?;
+    let mut block = begin_exchange(alloc)?;
     push_lines(alloc, &ops, &mut block, writer)?;
     block.push(&end)?;
     finish(block, writer)?;
     Ok(number)
+}
+
+/// A block with the head of an exchange.
+fn begin_exchange(alloc: Global) -> Result<Block, SendFault>
+    ensures ok { IfOk result (λ block. block ≡ head_line ++ newline ∷ []) }
+    ensures fault { IfErr result (λ e. e ≡ SendFault.Memory) }
+{
+    let Ok(head) = write_head(alloc) else {
+        return Err(SendFault::Memory);
+    };
+    let mut block = Block::new(alloc)?;
+    block.push(&head)?;
+    Ok(block)
 }
 
 /// Writes the line of each operation with its newline, in the order of the list, and nothing else.
@@ -131,7 +144,7 @@ fn push_line<W: Write>(
 }
 
 /// Writes the lines that are left, and flushes the device.
-fn finish<W: Write>(mut rest: Block, writer: &mut Counted<W>) -> Result<(), SendFault>
+pub(crate) fn finish<W: Write>(mut rest: Block, writer: &mut Counted<W>) -> Result<(), SendFault>
     ensures ok { OnOk result (Writes W.contents writer.old writer.new rest) }
     ensures begun { WritesFront W.contents writer.old writer.new rest }
     ensures flushed { OnOk result (writer.new.flushed ≡ true) }

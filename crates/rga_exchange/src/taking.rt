@@ -1,25 +1,40 @@
 //! The lines of a stream, taken in turn into whatever takes operations.
-ghost use Rattle.std.specs.Prelude.{◌≡◌, ◌≢◌, ◌+◌, ◌^◌, ◌<◌, ◌≤◌, ℕ, List, length, [], ◌∷◌, false, Ok, Err, Some, None, OnOk, IfOk, OnErr, IfErr, MatchResult};
+ghost use Rattle.std.specs.Prelude.{◌≡◌, ◌≢◌, ◌+◌, ◌*◌, ◌^◌, ◌<◌, ◌≤◌, ℕ, List, length, [], ◌∷◌, true, false, Ok, Err, Some, None, OnOk, IfOk, OnErr, IfErr, MatchResult};
 ghost use Rattle.rga_ops.specs.Prelude.{taken};
 ghost use Rattle.rga_lines.specs.Counting.{CountsAs, OnBytes};
 ghost use Rattle.rga_lines.specs.Log.{operations_of};
+ghost use Rattle.rga_lines.specs.Runs.{stretch_operations, IsRun};
+ghost use Rattle.rga_lines.specs.declared.run.TheConstants.{MAX_RUN};
 ghost use Rattle.rga_lines.specs.Stream.{lines_of};
 ghost use Rattle.rga_lines.specs.declared.reading.TheConstants.{MAX_LINE};
-ghost use Rattle.rga_exchange.specs.Taking.{AtEnd, AtFault, refused_at, HasTakenLines, HasTakenWholeLines};
+ghost use Rattle.rga_lines.specs.declared.fault.LineFault.TheVariants.{Kind};
+ghost use Rattle.rga_exchange.specs.Taking.{AtEnd, AtFault, may_be_head, refused_at, taken_whole};
+ghost use Rattle.rga_exchange.specs.Taking.{HasTakenLines, HasTakenWholeLines};
 ghost use Rattle.rga_exchange.specs.Parts.{line_outcome, TakesUpTo, StopsAs, LeadsTo, EndsAs, LeavesRest, StopsReading};
-ghost use Rattle.rga_exchange.specs.declared.fault.LogFault.TheVariants.{Memory, Read as ReadFailed};
+ghost use Rattle.rga_exchange.specs.declared.fault.LogFault.TheVariants.{Memory, Read as ReadFailed, Line as FaultyLine};
 
 use crate::block::BLOCK;
 use crate::fault::LogFault;
-use rga_lines::{Counted, Line, LineFault, Splitter, read_any};
+use rga_lines::{Counted, Line, LineFault, Run, Splitter, read_any};
 use rga_ops::{Op, Refusal};
 use rga_store::Taker;
 use std::alloc::Global;
 use std::io::Read;
 
-/// Where the lines of a stream came to an end, and how many were taken before.
+/// What a stream of lines is, as contracts name it.
+#[derive(Clone, Copy)]
+pub enum Form {
+    /// A log: the lines of operations alone.
+    Log,
+    /// An exchange: their first line may be a head, and one of them ends it.
+    Exchange,
+}
+
+/// Where the lines of a stream came to an end, and how many were taken before, with how many
+/// operations: a line may stand for 4096 of them, so that they need more than 64 bits.
 pub(crate) struct Stream {
     pub(crate) lines: u64,
+    pub(crate) operations: u128,
     pub(crate) end: StreamEnd,
 }
 
@@ -30,46 +45,66 @@ pub(crate) enum StreamEnd {
     Input(Vec<u8>),
 }
 
-/// Takes the operations of the lines of a stream up to the end line, or to the end of the input.
-/// Before each read the whole lines read so far are taken, and none follows that of the end line.
+/// Takes the operations of the lines of a stream of that form up to the end line, or to the end of
+/// the input. Before each read the whole lines read so far are taken, and none follows that of the
+/// end line.
 pub(crate) fn take_stream<T: Taker, R: Read>(
     alloc: Global,
+    form: Form,
     taker: &mut T,
     reader: &mut Counted<R>,
 ) -> Result<Stream, LogFault>
     // However the reads cut the bytes, they lead to what all of them lead to.
     ensures end { IfOk result (λ s. OnBytes R.remaining reader.old
-        (λ bytes. EndsAs T.limit T.content taker.old taker.new bytes s.lines s.end)) }
+        (λ bytes. EndsAs form T.limit T.content taker.old taker.new bytes s.lines s.operations
+        s.end)) }
     ensures fault { IfErr result (λ e. e ≢ ReadFailed → e ≢ Memory → OnBytes R.remaining reader.old
-        (λ bytes. (n : ℕ) × LeadsTo T.limit T.content taker.old taker.new bytes n (AtFault e))) }
+        (λ bytes. (n : ℕ) × LeadsTo form T.limit T.content taker.old taker.new bytes n
+        (AtFault e))) }
 
     // Whatever the answer, all lines that were whole before the last block were taken, the first
     // ones of those that end in it, and nothing else.
-    ensures lines { HasTakenLines R.remaining T.limit T.content T.follows
+    ensures lines { HasTakenLines form R.remaining T.limit T.content T.follows
         reader.old reader.new taker.old taker.new }
-    ensures whole_lines { IfErr result (λ e. e ≡ ReadFailed → HasTakenWholeLines
+    ensures whole_lines { IfErr result (λ e. e ≡ ReadFailed → HasTakenWholeLines form
         R.remaining T.limit T.content T.follows reader.old reader.new taker.old taker.new) }
-    ensures rest { IfOk result (λ s. LeavesRest R.remaining T.limit T.content T.follows
+    ensures rest { IfOk result (λ s. LeavesRest form R.remaining T.limit T.content T.follows
         reader.old reader.new taker.old taker.new s.lines s.end) }
-    ensures last { IfOk result (λ s. StopsReading R.remaining reader.old reader.new s.end) }
+    ensures last { IfOk result (λ s. StopsReading form R.remaining reader.old reader.new s.end) }
     ensures device { CountsAs ReadFailed result reader.old reader.new }
     ensures limit { T.limit taker.new ≡ T.limit taker.old }
     ensures bound { IfOk result (λ s. s.lines < 2 ^ 63) }
 {
     let mut splitter = Splitter::new(alloc);
     let mut lines = 0u64;
+    let mut operations = 0u128;
     let mut block = [0u8; BLOCK];
     'reads: loop {
-        if let Some(number) = take_lines(alloc, taker, &mut splitter, &mut lines)? {
+        if let Some(number) = take_lines(
+            alloc,
+            form,
+            taker,
+            &mut splitter,
+            &mut lines,
+            &mut operations,
+        )? {
             let end = StreamEnd::EndLine(number);
-            return Ok(Stream { lines, end });
+            return Ok(Stream {
+                lines,
+                operations,
+                end,
+            });
         }
         let Ok(count) = reader.read(&mut block) else {
             return Err(LogFault::Read);
         };
         if count == 0 {
             let end = StreamEnd::Input(splitter.finish());
-            return Ok(Stream { lines, end });
+            return Ok(Stream {
+                lines,
+                operations,
+                end,
+            });
         }
         let Ok(()) = splitter.feed(&block[..count]) else {
             return Err(LogFault::Memory);
@@ -81,19 +116,25 @@ pub(crate) fn take_stream<T: Taker, R: Read>(
 /// the number that it names is the answer.
 fn take_lines<T: Taker>(
     alloc: Global,
+    form: Form,
     taker: &mut T,
     splitter: &mut Splitter,
     lines: &mut u64,
+    operations: &mut u128,
 ) -> Result<Option<u64>, LogFault>
+    requires few { operations.old ≤ MAX_RUN * lines.old }
     requires whole { splitter.old.broken ≡ false }
     requires room { lines.old + length splitter.old.waiting < 2 ^ 63 }
-    ensures taken { (waiting : List ℕ) × TakesUpTo T.limit T.content T.follows
-        taker.old taker.new lines.old lines.new splitter.old.waiting waiting }
-    ensures all { result ≡ Ok None → TakesUpTo T.limit T.content T.follows taker.old taker.new
-        lines.old lines.new splitter.old.waiting splitter.new.waiting }
-    ensures end { (number : ℕ) → result ≡ Ok (Some number) → StopsAs T.limit T.content
+    ensures taken { (waiting : List ℕ) × TakesUpTo form T.limit T.content T.follows
+        taker.old taker.new lines.old lines.new operations.old operations.new
+        splitter.old.waiting waiting }
+    ensures all { result ≡ Ok None → TakesUpTo form T.limit T.content T.follows taker.old taker.new
+        lines.old lines.new operations.old operations.new
+        splitter.old.waiting splitter.new.waiting }
+    ensures few { operations.new ≤ MAX_RUN * lines.new }
+    ensures end { (number : ℕ) → result ≡ Ok (Some number) → StopsAs form T.limit T.content
         taker.old taker.new lines.old lines.new splitter.old.waiting (AtEnd number) }
-    ensures fault { IfErr result (λ e. e ≢ Memory → StopsAs T.limit T.content
+    ensures fault { IfErr result (λ e. e ≢ Memory → StopsAs form T.limit T.content
         taker.old taker.new lines.old lines.new splitter.old.waiting (AtFault e)) }
     ensures device { IfErr result (λ e. e ≢ ReadFailed) }
 
@@ -111,7 +152,14 @@ fn take_lines<T: Taker>(
             Ok(None) => return Ok(None),
             Err(fault) => return Err(LogFault::Line(*lines + 1, fault)),
         };
-        if let Some(number) = take_line(alloc, taker, *lines + 1, splitter.line(end))? {
+        if let Some(number) = take_line(
+            alloc,
+            form,
+            taker,
+            *lines + 1,
+            splitter.line(end),
+            operations,
+        )? {
             return Ok(Some(number));
         }
         splitter.pass_line(end);
@@ -119,34 +167,64 @@ fn take_lines<T: Taker>(
     }
 }
 
-/// Takes the operation of a whole line, or answers the number that the end line names.
+/// Takes the operations of a whole line, all or none, and counts them, passes over the head of an
+/// exchange, or answers the number that the end line names.
 fn take_line<T: Taker>(
     alloc: Global,
+    form: Form,
     taker: &mut T,
     number: u64,
     line: &[u8],
+    operations: &mut u128,
 ) -> Result<Option<u64>, LogFault>
+    requires { operations.old < 2 ^ 127 }
     ensures operation { result ≡ Ok None →
-        line_outcome T.limit T.content taker.old number line.now ≡ Ok (T.content taker.new) }
+        line_outcome form T.limit T.content taker.old number line.now ≡ Ok (T.content taker.new) }
     ensures end { (count : ℕ) → result ≡ Ok (Some count) →
-        line_outcome T.limit T.content taker.old number line.now ≡ Err (AtEnd count) }
+        line_outcome form T.limit T.content taker.old number line.now ≡ Err (AtEnd count) }
     ensures fault { IfErr result (λ e. e ≢ Memory →
-        line_outcome T.limit T.content taker.old number line.now ≡ Err (AtFault e)) }
+        line_outcome form T.limit T.content taker.old number line.now ≡ Err (AtFault e)) }
     ensures device { IfErr result (λ e. e ≢ ReadFailed) }
     ensures same { result ≢ Ok None → T.content taker.new ≡ T.content taker.old }
     ensures limit { T.limit taker.new ≡ T.limit taker.old }
     ensures follows { result ≡ Ok None →
         T.follows taker.old (operations_of (line.now ∷ [])) taker.new }
     ensures follows_nothing { result ≢ Ok None → T.follows taker.old [] taker.new }
+    ensures count { result ≡ Ok None →
+        operations.new ≡ operations.old + length (operations_of (line.now ∷ [])) }
+    ensures same_count { result ≢ Ok None → operations.new ≡ operations.old }
+    ensures few { operations.new ≤ operations.old + MAX_RUN }
 {
     match read_any(alloc, line) {
         Ok(Line::One(op)) => {
             take(taker, number, op)?;
+            *operations += 1;
+            Ok(None)
+        }
+        Ok(Line::Run(run)) => {
+            let count = take_run(alloc, taker, number, &run)?;
+            *operations += u128::from(count);
+            Ok(None)
+        }
+        Ok(Line::Head) => {
+            pass_head(form, number)?;
             Ok(None)
         }
         Ok(Line::Last(count)) => Ok(Some(count)),
         Err(LineFault::Memory) => Err(LogFault::Memory),
         Err(fault) => Err(LogFault::Line(number, fault)),
+    }
+}
+
+/// Passes over a head as the line with this number, where it is the first one of an exchange.
+fn pass_head(form: Form, number: u64) -> Result<(), LogFault>
+    ensures ok { OnOk result (may_be_head form number ≡ true) }
+    ensures fault { IfErr result (λ e. (may_be_head form number ≡ false)
+        × (e ≡ FaultyLine number Kind)) }
+{
+    match form {
+        Form::Exchange if number == 1 => Ok(()),
+        _ => Err(LogFault::Line(number, LineFault::Kind)),
     }
 }
 
@@ -166,5 +244,36 @@ pub(crate) fn take<T: Taker>(taker: &mut T, number: u64, op: Op) -> Result<(), L
         Ok(_) => Ok(()),
         Err(Refusal::Memory) => Err(LogFault::Memory),
         Err(refusal) => Err(LogFault::Refused(number, refusal)),
+    }
+}
+
+/// Takes the insertions of the run of the line with this number, all or none, and answers how many
+/// they are.
+pub(crate) fn take_run<T: Taker>(
+    alloc: Global,
+    taker: &mut T,
+    number: u64,
+    run: &Run,
+) -> Result<u64, LogFault>
+    requires { IsRun run.now }
+    ensures count { IfOk result (λ count. count ≡ length (stretch_operations run.now)) }
+    ensures ok { OnOk result (taken_whole (T.limit taker.old) (T.content taker.old)
+        (stretch_operations run.now) ≡ Ok (T.content taker.new)) }
+    ensures fault { IfErr result (λ e. e ≢ Memory → refused_at number (taken_whole
+        (T.limit taker.old) (T.content taker.old) (stretch_operations run.now)) ≡ Err (AtFault e)) }
+    ensures device { IfErr result (λ e. e ≢ ReadFailed) }
+    ensures same { OnErr result (T.content taker.new ≡ T.content taker.old) }
+    ensures limit { T.limit taker.new ≡ T.limit taker.old }
+    ensures follows { MatchResult result
+        (λ _. T.follows taker.old (stretch_operations run.now) taker.new)
+        (λ _. T.follows taker.old [] taker.new) }
+{
+    let Ok(ops) = run.ops(alloc) else {
+        return Err(LogFault::Memory);
+    };
+    match taker.apply_all(&ops) {
+        Ok(()) => Ok(ops.len() as u64),
+        Err(Refusal::Memory) => Err(LogFault::Memory),
+        Err(fault) => Err(LogFault::Refused(number, fault)),
     }
 }

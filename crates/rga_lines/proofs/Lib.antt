@@ -11,3 +11,7 @@ pub mod PartsLemmas
 pub mod NewlineLemmas
 pub mod WritableLemmas
 pub mod BeginningLemmas
+pub mod RunBack
+pub mod RunLemmas
+pub mod SpelledRun
+pub mod StandLemmas

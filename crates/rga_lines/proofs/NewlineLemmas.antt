@@ -8,7 +8,9 @@ use Rattle.std.proofs.lemmas.Fmt.{decimal_by_steps}
 use Rattle.rga_ops.specs.Identifier.{Identifier}
 use Rattle.rga_ops.specs.declared.op.Op.{Op}
 use Rattle.rga_ops.specs.declared.op.Op.TheVariants.{Insert, Delete}
-use Rattle.rga_lines.specs.Spelling.{escaped, pair_text, line, end_line, IsWritable}
+use Rattle.std.specs.List.{flat_map}
+use Rattle.rga_lines.specs.Runs.{Stretch}
+use Rattle.rga_lines.specs.Spelling.{escaped, pair_text, line, run_line, head_line, end_line, IsWritable, IsWritableRun}
 use Rattle.rga_lines.specs.Stream.{newline, HasNoNewline}
 use Rattle.rga_lines.proofs.SpellingLemmas.{escaped_all, Plain, Plain-encode}
 use Rattle.rga_lines.proofs.ReadBack.{InBounds, within, in_bounds}
@@ -81,6 +83,16 @@ clear_line (Insert id parent ch) h =
     clear (codes "{\"char\":\"") refl then (c then (clear (codes "\",\"id\":") refl then (clear_pair id (within id h.0) then (clear (codes ",\"op\":\"ins\",\"parent\":") refl then (clear_pair parent (in_bounds parent h.1) then clear (codes "}") refl)))))
 clear_line (Delete id) h = clear (codes "{\"id\":") refl then (clear_pair id (within id h) then clear (codes ",\"op\":\"del\"}") refl)
 
+HasNo-all : (cs : List ℕ) → HasNo (flat_map escaped cs)
+HasNo-all [] = tt
+HasNo-all (c ∷ cs) = HasNo-append (escaped c) (flat_map escaped cs) (HasNo-escaped c) (HasNo-all cs)
+
+clear_run : (r : Stretch) → IsWritableRun r → Clear (run_line r)
+unfolding run_line
+clear_run r h =
+    let text : Clear (flat_map escaped r.chars) = record { all = HasNo-all r.chars } in
+    clear (codes "{\"id\":") refl then (clear_pair r.id (within r.id h.id) then (clear (codes ",\"op\":\"run\",\"parent\":") refl then (clear_pair r.parent (in_bounds r.parent h.parent) then (clear (codes ",\"text\":\"") refl then (text then clear (codes "\"}") refl)))))
+
 clear_end : (operations : ℕ) → operations < 2 ^ 64 → Clear (end_line operations)
 unfolding end_line
 clear_end operations h = clear (codes "{\"count\":") refl then (clear_decimal operations h then clear (codes ",\"op\":\"end\"}") refl)
@@ -93,6 +105,13 @@ by_index (x ∷ xs) h = All-cons (λ b. b ≢ newline) x xs h.0 (by_index xs h.1
 
 pub line_has_none : (op : Op) → IsWritable op → HasNoNewline (line op)
 line_has_none op h = by_index (line op) (clear_line op h).all
+
+pub run_has_none : (r : Stretch) → IsWritableRun r → HasNoNewline (run_line r)
+run_has_none r h = by_index (run_line r) (clear_run r h).all
+
+pub head_has_none : HasNoNewline head_line
+unfolding head_line
+head_has_none = by_index (codes "{\"op\":\"head\",\"version\":2}") (literal (codes "{\"op\":\"head\",\"version\":2}") refl)
 
 pub end_has_none : (operations : ℕ) → operations < 2 ^ 64 → HasNoNewline (end_line operations)
 end_has_none operations h = by_index (end_line operations) (clear_end operations h).all

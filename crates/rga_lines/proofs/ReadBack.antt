@@ -28,14 +28,14 @@ use Rattle.rga_ops.specs.declared.op.Op.{Op}
 use Rattle.rga_ops.specs.declared.op.Op.TheVariants.{Insert, Delete}
 use Rattle.rga_ops.proofs.AnswerLaws.{well_formed_insertion}
 use Rattle.rga_lines.specs.declared.reading.Line.{Line}
-use Rattle.rga_lines.specs.declared.reading.Line.TheVariants.{One, Last}
+use Rattle.rga_lines.specs.declared.reading.Line.TheVariants.{One, Head, Last}
 use Rattle.rga_lines.specs.declared.fault.LineFault.TheVariants.{Kind}
 use Rattle.rga_lines.specs.Members.{pair_data}
-use Rattle.rga_lines.specs.Spelling.{escaped, pair_text, line, end_line, IsWritable}
+use Rattle.rga_lines.specs.Spelling.{escaped, pair_text, line, head_line, end_line, IsWritable}
 use Rattle.rga_lines.specs.declared.reading.TheConstants.{MAX_LINE}
 use Rattle.rga_lines.specs.Table.{value_line, any_line_at, line_at}
 use Rattle.rga_lines.proofs.ReadingLemmas.{accepted, alone}
-use Rattle.rga_lines.proofs.SpellingLemmas.{escaped_all, op_data, end_data, insert_data, insert_text, compact_op, compact_end}
+use Rattle.rga_lines.proofs.SpellingLemmas.{escaped_all, op_data, head_data, end_data, insert_data, insert_text, compact_op, compact_head, compact_end}
 
 -- ---- a value without floats is read back from its compact text
 
@@ -74,16 +74,16 @@ in_bounds id e = elim (or_cases (is_root id) (is_in_range id.counter id.replica)
 
 -- ---- lengths and characters
 
-pair_text-length : (s : Identifier) → InBounds s → length (pair_text s) ≤ 24
+pub pair_text-length : (s : Identifier) → InBounds s → length (pair_text s) ≤ 24
 pair_text-length s h =
     let c = length-decimal-le 16 s.counter (omega arith) (omega (arith, h.counter)) (omega (arith, h.counter)) in
     let r = length-decimal-le 5 s.replica (omega arith) (omega (arith, h.replica)) (omega (arith, h.replica)) in
     omega (arith, length-append (decimal s.counter) (44 ∷ (decimal s.replica ++ 93 ∷ [])), length-append (decimal s.replica) (93 ∷ []))
 
-IsUtf8-decimal : (n : ℕ) → n < 2 ^ 64 → IsUtf8 (decimal n)
+pub IsUtf8-decimal : (n : ℕ) → n < 2 ^ 64 → IsUtf8 (decimal n)
 IsUtf8-decimal n h = IsUtf8-from_ascii (decimal n) (IsAscii-decimal n h)
 
-IsUtf8-pair_text : (s : Identifier) → InBounds s → IsUtf8 (pair_text s)
+pub IsUtf8-pair_text : (s : Identifier) → InBounds s → IsUtf8 (pair_text s)
 IsUtf8-pair_text s h =
     IsUtf8-append _ _ (IsUtf8-are_ascii (91 ∷ []) refl)
     (IsUtf8-append _ _ (IsUtf8-decimal s.counter (omega (arith, h.counter)))
@@ -94,7 +94,7 @@ IsUtf8-pair_text s h =
 pair-number : (s : Identifier) → InBounds s → (number_of (decimal s.counter) ≡ Some (unsigned s.counter)) × (number_of (decimal s.replica) ≡ Some (unsigned s.replica))
 pair-number s h = (number_of-decimal s.counter (omega (arith, h.counter)), number_of-decimal s.replica (omega (arith, h.replica)))
 
-pair-numbers : (s : Identifier) → InBounds s → tree.HasNumbers (outline (pair_data s))
+pub pair-numbers : (s : Identifier) → InBounds s → tree.HasNumbers (outline (pair_data s))
 pair-numbers s h = (IsNumber-decimal s.counter (omega (arith, h.counter)), (IsNumber-decimal s.replica (omega (arith, h.replica)), tt))
 
 pub pair-json : (s : Identifier) → InBounds s → of_json (outline (pair_data s)) ≡ Some (pair_data s)
@@ -123,7 +123,7 @@ one_scalar b e = rw e
 pub chars-one : (ch : ℕ) → IsScalar ch → chars (encode_utf8 ch) ≡ ch ∷ []
 chars-one ch h = ap chars (sym (append-nil (encode_utf8 ch))) ∙ chars-encodes (ch ∷ []) (one_scalar (scalar ch) h)
 
-escaped-length : (c : ℕ) → length (escaped c) ≤ 6
+pub escaped-length : (c : ℕ) → length (escaped c) ≤ 6
 escaped-length c = escaped_all (λ (l : List ℕ). length l ≤ 6) c (omega arith) (omega arith) (omega arith) (omega arith) (omega arith) (omega arith) (omega arith) (omega (arith, length-encode c, len_utf8_bounds c))
 
 insert-length : (inside : List ℕ) (id parent : Identifier) → length inside ≤ 6 → InBounds id → InBounds parent → length (insert_text inside id parent) ≤ MAX_LINE
@@ -205,3 +205,20 @@ end_back operations h =
 
 pub end_is_no_operation : (operations : ℕ) → operations < 2 ^ 64 → line_at (end_line operations) ≡ Err Kind
 end_is_no_operation operations h = alone (end_line operations) (Ok (Last operations)) (end_back operations h)
+
+-- ---- the head of an exchange
+
+head_says : value_line head_data ≡ Ok Head
+unfolding value_line
+head_says = refl
+
+head-json : of_json (outline head_data) ≡ Some head_data
+head-json = rw (number_of-decimal 2 (lit≤ tt))
+
+pub head_back : any_line_at head_line ≡ Ok Head
+unfolding head_line
+head_back =
+    back head_data head_line Head compact_head (lit≤ tt) (IsUtf8-are_ascii head_line refl) (tt, (IsNumber-decimal 2 (lit≤ tt), tt)) (lit≤ tt) head-json head_says
+
+pub head_is_no_operation : line_at head_line ≡ Err Kind
+head_is_no_operation = alone head_line (Ok Head) head_back

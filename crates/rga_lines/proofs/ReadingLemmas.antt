@@ -1,6 +1,6 @@
 -- What the parts of a line say.
-use Rattle.std.proofs.Common.{◌≡◌, ◌≢◌, ℕ, ◌<◌, ◌≤◌, ◌&&◌, ◌==◌, Bool, true, false, cond, nat_le, nat_lt, List, [], ◌∷◌, ◌++◌, length, Option, Some, None, Result, Ok, Err, option_and_then, refl, sym, ap, ◌∙◌, arith, lt-ltb, le-ltb, ne_eqb}
-use Rattle.std.proofs.lemmas.Bool.{and_parts, and_left, leb-true}
+use Rattle.std.proofs.Common.{◌≡◌, ◌≢◌, ℕ, ◌<◌, ◌≤◌, ◌+◌, zero, suc, ◌&&◌, ◌||◌, ◌==◌, Bool, true, false, cond, nat_le, nat_lt, List, [], ◌∷◌, ◌++◌, length, Option, Some, None, Result, Ok, Err, option_and_then, refl, sym, ap, ◌∙◌, arith, lt-ltb, le-ltb, ne_eqb}
+use Rattle.std.proofs.lemmas.Bool.{and_parts, and_left, leb-true, leb-false, ltb-false}
 use Rattle.std.specs.Prelude.{⊤, codes}
 use Rattle.std.specs.Str.{IsUtf8, is_utf8, chars, bytes_eq}
 use Rattle.std.specs.Char.{encode_utf8}
@@ -16,10 +16,12 @@ use Rattle.rga_ops.specs.declared.id.TheConstants.Id.{MAX_COUNTER}
 use Rattle.rga_ops.specs.Operation.{checked}
 use Rattle.rga_ops.specs.declared.op.Op.{Op}
 use Rattle.rga_ops.specs.declared.op.Op.TheVariants.{Insert}
-use Rattle.rga_lines.specs.declared.reading.Line.TheVariants.{One, Last}
+use Rattle.rga_lines.specs.declared.reading.Line.TheVariants.{One, Run, Head, Last}
+use Rattle.rga_lines.specs.Runs.{Stretch, stretch, IsRun}
+use Rattle.rga_lines.specs.declared.run.TheConstants.{MAX_RUN}
 use Rattle.rga_lines.specs.declared.fault.LineFault.{LineFault}
 use Rattle.rga_lines.specs.declared.reading.TheConstants.{MAX_LINE}
-use Rattle.rga_lines.specs.Table.{Reading, AnyReading, only_char, two_numbers, if_in_range, element_of, parent_of, with_order, with_char, with_identifiers, with_types, insertion, with_identifier, with_type, deletion, ending, one, last, of_kind, with_name, with_op, with_count, count_of, text_at, array_at, has, value_line, text_line, any_line_at, operation_alone, line_at}
+use Rattle.rga_lines.specs.Table.{Reading, AnyReading, only_char, two_numbers, if_in_range, element_of, parent_of, with_order, with_char, with_identifiers, with_types, insertion, with_identifier, with_type, deletion, with_run_order, with_run_chars, with_run_end, with_run_identifiers, with_run_types, run, with_version, heading, number_at, ending, one, last, of_kind, with_name, with_op, with_count, count_of, text_at, array_at, has, value_line, text_line, any_line_at, operation_alone, line_at}
 use Rattle.rga_lines.specs.declared.fault.LineFault.TheVariants as fault
 
 -- ---- one character
@@ -146,6 +148,8 @@ sound_deletion count d = sound_if ((count == 2) && has (codes "id") d) (with_typ
 -- the same of what may also be the end of an exchange
 abbrev IsSoundLine : AnyReading → Type 0
 IsSoundLine (Ok (One op)) = checked op ≡ Ok tt
+IsSoundLine (Ok (Run r)) = IsRun r
+IsSoundLine (Ok Head) = ⊤
 IsSoundLine (Ok (Last operations)) = ⊤
 IsSoundLine (Err e) = ⊤
 
@@ -161,12 +165,62 @@ sound_line_if : (b : Bool) (r q : AnyReading) → IsSoundLine r → IsSoundLine 
 sound_line_if true r q first second = first
 sound_line_if false r q first second = second
 
+-- a choice of which the second is only taken where the test failed
+sound_unless : (b : Bool) (r q : AnyReading) → IsSoundLine r → (b ≡ false → IsSoundLine q) → IsSoundLine (cond b r q)
+sound_unless true r q first second = first
+sound_unless false r q first second = second refl
+
+sound_run_end : (id parent : Identifier) (chars : List ℕ) → IsSoundLine (with_run_end id parent chars)
+sound_run_end id parent chars =
+    sound_unless (nat_lt (MAX_COUNTER + 1) (id.counter + length chars)) (Err fault.Id) (with_run_chars id parent chars) tt (λ end.
+    sound_unless ((length chars == 0) || nat_lt MAX_RUN (length chars)) (Err fault.Char) (with_run_order id parent chars) tt (λ count.
+    let p = or_none (length chars == 0) (nat_lt MAX_RUN (length chars)) count in
+    sound_unless (nat_le id.counter parent.counter) (Err fault.Order) (Ok (Run (stretch id parent chars))) tt (λ order. record {
+      some = not_zero (length chars) p.0;
+      few = ltb-false MAX_RUN (length chars) p.1;
+      end = ltb-false (MAX_COUNTER + 1) (id.counter + length chars) end;
+      rising = leb-false id.counter parent.counter order;
+    })))
+  where
+    or_none : (a b : Bool) → a || b ≡ false → (a ≡ false) × (b ≡ false)
+    or_none true b h = absurd cc
+    or_none false b h = (refl, h)
+
+    not_zero : (n : ℕ) → (n == 0) ≡ false → 0 < n
+    not_zero zero h = absurd cc
+    not_zero (suc n) h = omega arith
+
+sound_run_types : (text : Option (List ℕ)) (id parent : Option Items) → IsSoundLine (with_run_types text id parent)
+sound_run_types (Some text) (Some id) (Some parent) = by_identifiers (element_of id) (parent_of parent)
+  where
+    by_identifiers : (id parent : Option Identifier) → IsSoundLine (with_run_identifiers id parent text)
+    by_identifiers (Some id) (Some parent) = sound_run_end id parent (chars text)
+    by_identifiers (Some id) None = tt
+    by_identifiers None parent = tt
+sound_run_types (Some text) (Some id) None = tt
+sound_run_types (Some text) None parent = tt
+sound_run_types None id parent = tt
+
+sound_run : (count : ℕ) (d : Data) → IsSoundLine (run count d)
+sound_run count d = sound_line_if _ (with_run_types (text_at (codes "text") d) (array_at (codes "id") d) (array_at (codes "parent") d)) (Err fault.Member) (sound_run_types (text_at (codes "text") d) (array_at (codes "id") d) (array_at (codes "parent") d)) tt
+
+sound_heading : (count : ℕ) (d : Data) → IsSoundLine (heading count d)
+sound_heading count d = sound_line_if ((count == 2) && has (codes "version") d) (with_version (number_at (codes "version") d)) (Err fault.Member) (by_version (number_at (codes "version") d)) tt
+  where
+    by_version : (version : Option ℕ) → IsSoundLine (with_version version)
+    by_version (Some version) = sound_line_if (version == 2) (Ok Head) (Err fault.Kind) tt tt
+    by_version None = tt
+
 sound_kind : (count : ℕ) (d : Data) (name : List ℕ) → IsSoundLine (of_kind count d name)
 sound_kind count d name =
     let ends : AnyReading = cond (bytes_eq name (codes "end")) (last (ending count d)) (Err fault.Kind) in
-    sound_line_if (bytes_eq name (codes "ins")) (one (insertion count d)) (cond (bytes_eq name (codes "del")) (one (deletion count d)) ends) (sound_one (insertion count d) (sound_insertion count d))
-    (sound_line_if (bytes_eq name (codes "del")) (one (deletion count d)) ends (sound_one (deletion count d) (sound_deletion count d))
-    (sound_line_if (bytes_eq name (codes "end")) (last (ending count d)) (Err fault.Kind) (sound_last (ending count d)) tt))
+    let heads : AnyReading = cond (bytes_eq name (codes "head")) (heading count d) ends in
+    let runs : AnyReading = cond (bytes_eq name (codes "run")) (run count d) heads in
+    sound_line_if (bytes_eq name (codes "ins")) (one (insertion count d)) (cond (bytes_eq name (codes "del")) (one (deletion count d)) runs) (sound_one (insertion count d) (sound_insertion count d))
+    (sound_line_if (bytes_eq name (codes "del")) (one (deletion count d)) runs (sound_one (deletion count d) (sound_deletion count d))
+    (sound_line_if (bytes_eq name (codes "run")) (run count d) heads (sound_run count d)
+    (sound_line_if (bytes_eq name (codes "head")) (heading count d) ends (sound_heading count d)
+    (sound_line_if (bytes_eq name (codes "end")) (last (ending count d)) (Err fault.Kind) (sound_last (ending count d)) tt))))
 
 sound_name : (count : ℕ) (d : Data) (name : Option (List ℕ)) → IsSoundLine (with_name count d name)
 sound_name count d (Some name) = sound_kind count d name
@@ -193,11 +247,17 @@ sound_line : (bytes : List ℕ) → IsSoundLine (any_line_at bytes)
 unfolding any_line_at
 sound_line bytes = sound_line_if (nat_lt MAX_LINE (length bytes)) (Err fault.Long) (text_line (is_utf8 bytes) (read bytes)) tt (sound_text (is_utf8 bytes) (read bytes))
 
+-- a run that a line says has 1 to 4096 characters, counters in range, and a parent that is before it
+pub any_run : (bytes : List ℕ) (r : Stretch) → any_line_at bytes ≡ Ok (Run r) → IsRun r
+any_run bytes r e = let sound : IsSoundLine (Ok (Run r)) = rw e at (sound_line bytes) in sound
+
 pub any_well_formed : (bytes : List ℕ) (op : Op) → any_line_at bytes ≡ Ok (One op) → checked op ≡ Ok tt
 any_well_formed bytes op e = let sound : IsSoundLine (Ok (One op)) = rw e at (sound_line bytes) in sound
 
 sound_alone : (r : AnyReading) → IsSoundLine r → IsSound (operation_alone r)
 sound_alone (Ok (One op)) sound = sound
+sound_alone (Ok (Run r)) sound = tt
+sound_alone (Ok Head) sound = tt
 sound_alone (Ok (Last operations)) sound = tt
 sound_alone (Err e) sound = tt
 

@@ -1,11 +1,12 @@
 -- The compact text of the value of an operation, or of the end of an exchange, is its line.
-use Rattle.std.proofs.Common.{◌≡◌, ℕ, ◌+◌, ◌<◌, ◌≤◌, ◌/◌, Bool, true, false, cond, List, [], ◌∷◌, ◌++◌, ◌⊎◌, inl, inr, codes, refl, sym, ap, subst, ◌∙◌, arith, append_assoc, append-nil, ltb, lt-ltb, le-ltb, ne_eqb, eqb, ◌||◌}
+use Rattle.std.proofs.Common.{lit≤, ◌≡◌, ℕ, ◌+◌, ◌<◌, ◌≤◌, ◌/◌, Bool, true, false, cond, List, [], ◌∷◌, ◌++◌, ◌⊎◌, inl, inr, codes, refl, sym, ap, subst, ◌∙◌, arith, append_assoc, append-nil, ltb, lt-ltb, le-ltb, ne_eqb, eqb, ◌||◌}
 use Rattle.std.specs.Char.{encode_utf8}
 use lib.Utf8.{next}
 use Rattle.std.proofs.lemmas.Bool.{cases_eq, cases_lt}
 use Rattle.std.proofs.lemmas.Str.{encode_ascii}
 use Rattle.json.specs.Print.{escape, escape_byte}
 use Rattle.json.proofs.Printed.Strings.{escape_byte_plain}
+use Rattle.std.proofs.lemmas.Fmt.{decimal_digit}
 use Rattle.serde_json.specs.Data.{Data, number, unsigned, string, object, member, no_members}
 use Rattle.serde_json.specs.Written.{compact_text}
 use Rattle.serde_json.proofs.OnLiterals.{serde_json_on_literals}
@@ -13,7 +14,7 @@ use Rattle.rga_ops.specs.Identifier.{Identifier}
 use Rattle.rga_ops.specs.declared.op.Op.{Op}
 use Rattle.rga_ops.specs.declared.op.Op.TheVariants.{Insert, Delete}
 use Rattle.rga_lines.specs.Members.{pair_data}
-use Rattle.rga_lines.specs.Spelling.{code_escape, escaped, pair_text, line, end_line}
+use Rattle.rga_lines.specs.Spelling.{code_escape, escaped, pair_text, line, head_line, end_line}
 
 -- ---- the value of JSON of an operation
 
@@ -23,6 +24,9 @@ op_data (Delete id) = object (member (codes "id") (pair_data id) (member (codes 
 
 abbrev pub end_data : ℕ → Data
 end_data operations = object (member (codes "count") (number (unsigned operations)) (member (codes "op") (string (codes "end")) no_members))
+
+abbrev pub head_data : Data
+head_data = object (member (codes "op") (string (codes "head")) (member (codes "version") (number (unsigned 2)) no_members))
 
 -- ---- one character
 
@@ -109,6 +113,10 @@ pub compact_op : (op : Op) → compact_text (op_data op) ≡ line op
 unfolding line serde_json_on_literals
 compact_op (Insert id parent ch) = compact_insert (encode_utf8 ch) id parent ∙ ap (λ (inside : List ℕ). insert_text inside id parent) (escape-encode ch)
 compact_op (Delete id) = refl
+
+pub compact_head : compact_text head_data ≡ head_line
+unfolding head_line serde_json_on_literals
+compact_head = ap (λ ds. codes "{\"op\":\"head\",\"version\":" ++ (ds ++ codes "}")) (decimal_digit 2 (lit≤ tt))
 
 pub compact_end : (operations : ℕ) → compact_text (end_data operations) ≡ end_line operations
 unfolding end_line serde_json_on_literals

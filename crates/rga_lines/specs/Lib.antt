@@ -4,4 +4,5 @@ pub mod Log
 pub mod Counting
 pub mod Members
 pub mod Spelling
+pub mod Runs
 pub mod FaultName

@@ -1,10 +1,12 @@
--- How an operation, or the end of an exchange, is spelled where nothing is left open: no blanks, and the members by
--- their names.
+-- How an operation, a run, or the head or the end of an exchange is spelled where nothing is left open: no blanks, and
+-- the members by their names.
 use Rattle.std.specs.Prelude.{◌≡◌, ℕ, ◌/◌, ◌%◌, true, List, [], ◌∷◌, ◌++◌, ◌||◌, ◌==◌, nat_lt, if◌then◌else◌, codes, decimal}
 use Rattle.std.specs.Char.{digit_char, encode_utf8, IsScalar}
+use Rattle.std.specs.List.{flat_map, AllByRecursion}
 use Rattle.rga_ops.specs.Identifier.{Identifier, is_root, is_in_range}
 use Rattle.rga_ops.specs.declared.op.Op.{Op}
 use Rattle.rga_ops.specs.declared.op.Op.TheVariants.{Insert, Delete}
+use Rattle.rga_lines.specs.Runs.{Stretch, IsRun}
 
 -- a character below a space by four hexadecimal digits
 abbrev pub code_escape : ℕ → List ℕ
@@ -57,3 +59,32 @@ IsWritable (Delete id) = IsElement id
 -- the bytes are the line of an operation that can be written
 abbrev pub IsLineOf : List ℕ → Op → Type 0
 IsLineOf bytes op = (bytes ≡ line op) × IsWritable op
+
+-- the line that begins an exchange, without its newline
+unfoldable pub head_line : List ℕ
+head_line = codes "{\"op\":\"head\",\"version\":2}"
+
+-- ---- runs
+
+-- the line of a run up to the quote that opens its text, and then the rest
+abbrev pub run_from : Identifier → Identifier → List ℕ → List ℕ
+run_from id parent rest =
+    codes "{\"id\":" ++ (pair_text id
+    ++ (codes ",\"op\":\"run\",\"parent\":" ++ (pair_text parent
+    ++ (codes ",\"text\":\"" ++ rest))))
+
+-- the line of a run, without its newline
+unfoldable pub run_line : Stretch → List ℕ
+run_line r = run_from r.id r.parent (flat_map escaped r.chars ++ codes "\"}")
+
+-- a run whose identifiers are those of elements, or the parent the root, and whose characters are Unicode scalar values
+pub record IsWritableRun (r : Stretch) : Type 0 where
+  pub id : IsElement r.id
+  pub parent : IsElementOrRoot r.parent
+  pub scalars : AllByRecursion IsScalar r.chars
+  pub run : IsRun r
+
+-- the bytes are these characters as they stand between quotes, and then the rest
+pub record BeginsWithCharacters (bytes chars rest : List ℕ) : Type 0 where
+  pub parts : bytes ≡ flat_map escaped chars ++ rest
+  pub scalars : AllByRecursion IsScalar chars

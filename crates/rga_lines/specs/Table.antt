@@ -1,16 +1,19 @@
 -- What a line says, or its fault: the first one of this table that holds.
-use Rattle.std.specs.Prelude.{ℕ, Bool, true, false, ◌&&◌, ◌||◌, ◌==◌, nat_le, nat_lt, if◌then◌else◌, List, [], ◌∷◌, length, codes, Option, Some, None, is_some, option_map, option_and_then, Result, Ok, Err, ok_or}
+use Rattle.std.specs.Prelude.{ℕ, ◌+◌, Bool, true, false, ◌&&◌, ◌||◌, ◌==◌, nat_le, nat_lt, if◌then◌else◌, List, [], ◌∷◌, length, codes, Option, Some, None, is_some, option_map, option_and_then, Result, Ok, Err, ok_or}
 use Rattle.std.specs.Str.{is_utf8, chars, bytes_eq}
 use Rattle.serde_json.specs.Data.{Data, Items, no_items, item}
 use Rattle.serde_json.specs.Events.{members_len}
 use Rattle.serde_json.specs.Read.{read}
 use Rattle.serde_json.specs.Find.{get, as_str, as_array, as_object, as_number, as_u64}
 use Rattle.rga_ops.specs.Identifier.{Identifier, identifier, is_root, is_in_range}
+use Rattle.rga_ops.specs.declared.id.TheConstants.Id.{MAX_COUNTER}
 use Rattle.rga_ops.specs.declared.op.Op.{Op}
 use Rattle.rga_ops.specs.declared.op.Op.TheVariants.{Insert, Delete}
-use Rattle.rga_lines.specs.declared.reading.TheConstants.{MAX_LINE}
+use Rattle.rga_lines.specs.declared.reading.TheConstants.{MAX_LINE, VERSION}
 use Rattle.rga_lines.specs.declared.reading.Line.{Line}
-use Rattle.rga_lines.specs.declared.reading.Line.TheVariants.{One, Last}
+use Rattle.rga_lines.specs.declared.reading.Line.TheVariants.{One, Run, Head, Last}
+use Rattle.rga_lines.specs.declared.run.TheConstants.{MAX_RUN}
+use Rattle.rga_lines.specs.Runs.{stretch}
 use Rattle.rga_lines.specs.declared.fault.LineFault.{LineFault}
 use Rattle.rga_lines.specs.declared.fault.LineFault.TheVariants as fault
 
@@ -18,7 +21,7 @@ use Rattle.rga_lines.specs.declared.fault.LineFault.TheVariants as fault
 abbrev pub Reading : Type 0
 Reading = Result Op LineFault
 
--- an operation or the end of an exchange, or what is wrong
+-- an operation, a run, the head or the end of an exchange, or what is wrong
 abbrev pub AnyReading : Type 0
 AnyReading = Result Line LineFault
 
@@ -118,6 +121,50 @@ deletion count d =
     if (count == 2) && has (codes "id") d then with_type (array_at (codes "id") d)
     else Err fault.Member
 
+-- ---- a run
+
+abbrev pub with_run_order : Identifier → Identifier → List ℕ → AnyReading
+with_run_order id parent chars =
+    if nat_le id.counter parent.counter then Err fault.Order else Ok (Run (stretch id parent chars))
+
+abbrev pub with_run_chars : Identifier → Identifier → List ℕ → AnyReading
+with_run_chars id parent chars =
+    if (length chars == 0) || nat_lt MAX_RUN (length chars) then Err fault.Char
+    else with_run_order id parent chars
+
+-- the last character's counter is within the range, too
+abbrev pub with_run_end : Identifier → Identifier → List ℕ → AnyReading
+with_run_end id parent chars =
+    if nat_lt (MAX_COUNTER + 1) (id.counter + length chars) then Err fault.Id
+    else with_run_chars id parent chars
+
+abbrev pub with_run_identifiers : Option Identifier → Option Identifier → List ℕ → AnyReading
+with_run_identifiers (Some id) (Some parent) text = with_run_end id parent (chars text)
+with_run_identifiers _ _ text = Err fault.Id
+
+abbrev pub with_run_types : Option (List ℕ) → Option Items → Option Items → AnyReading
+with_run_types (Some text) (Some id) (Some parent) =
+    with_run_identifiers (element_of id) (parent_of parent) text
+with_run_types _ _ _ = Err fault.Kind
+
+-- The members are these four: there are four, and each of the other three is there.
+abbrev pub run : ℕ → Data → AnyReading
+run count d =
+    if (count == 4) && (has (codes "id") d && (has (codes "parent") d && has (codes "text") d)) then
+    with_run_types (text_at (codes "text") d) (array_at (codes "id") d) (array_at (codes "parent") d)
+    else Err fault.Member
+
+-- ---- the head of an exchange
+
+abbrev pub with_version : Option ℕ → AnyReading
+with_version (Some version) = if version == VERSION then Ok Head else Err fault.Kind
+with_version None = Err fault.Kind
+
+abbrev pub heading : ℕ → Data → AnyReading
+heading count d =
+    if (count == 2) && has (codes "version") d then with_version (number_at (codes "version") d)
+    else Err fault.Member
+
 -- ---- the end of an exchange
 
 -- how many operations the exchange had
@@ -140,8 +187,10 @@ abbrev pub of_kind : ℕ → Data → List ℕ → AnyReading
 of_kind count d name =
     if bytes_eq name (codes "ins") then one (insertion count d)
     else (if bytes_eq name (codes "del") then one (deletion count d)
+    else (if bytes_eq name (codes "run") then run count d
+    else (if bytes_eq name (codes "head") then heading count d
     else (if bytes_eq name (codes "end") then last (ending count d)
-    else Err fault.Kind))
+    else Err fault.Kind))))
 
 abbrev pub with_name : ℕ → Data → Option (List ℕ) → AnyReading
 with_name count d (Some name) = of_kind count d name
@@ -171,9 +220,11 @@ any_line_at bytes =
     if nat_lt MAX_LINE (length bytes) then Err fault.Long
     else text_line (is_utf8 bytes) (read bytes)
 
--- where operations alone may stand, the end of an exchange is a line of another kind
+-- where one operation alone may stand, a run, the head and the end of an exchange are lines of another kind
 abbrev pub operation_alone : AnyReading → Reading
 operation_alone (Ok (One op)) = Ok op
+operation_alone (Ok (Run r)) = Err fault.Kind
+operation_alone (Ok Head) = Err fault.Kind
 operation_alone (Ok (Last operations)) = Err fault.Kind
 operation_alone (Err e) = Err e
 

@@ -5,11 +5,12 @@ ghost use Rattle.rga_lines.specs.FaultName.{fault_name};
 
 use std::alloc::AllocError;
 
-/// Why a line is neither an operation nor the end of an exchange. Where several hold, the one that
-/// is tested first is answered: `Long`; `Json`; `Kind` where the value is no object; `Member` where
-/// it has no `op`; `Kind` where `op` is no text or is unknown; `Member` where a member of that kind
-/// of line is absent or a further one is there; `Kind` where a member has the wrong type; `Id`;
-/// `Char`; `Order`. Want of memory comes last: it is answered only where a growth was refused.
+/// Why a line is neither an operation or a run of them nor the head or the end of an exchange.
+/// Where several hold, the one that is tested first is answered: `Long`; `Json`; `Kind` where the
+/// value is no object; `Member` where it has no `op`; `Kind` where `op` is no text or is unknown;
+/// `Member` where a member of that kind of line is absent or a further one is there; `Kind` where a
+/// member has the wrong type; `Id`; `Char`; `Order`. Want of memory comes last: it is answered only
+/// where a growth was refused.
 #[derive(Clone, Copy, Debug, PartialEq, Eq)]
 pub enum LineFault {
     /// More than `MAX_LINE` bytes.
@@ -18,16 +19,17 @@ pub enum LineFault {
     Json,
     /// A member is absent, or a further one is there.
     Member,
-    /// No object; an `op` that is no text or is unknown; a `char` that is no text; an `id` or a
-    /// `parent` that is no array; a `count` that is no whole number below 2^64. Also the end of an
-    /// exchange, where an operation was to be read.
+    /// No object; an `op` that is no text or is unknown; a `char` or a `text` that is no text; an
+    /// `id` or a `parent` that is no array; a `count` that is no whole number below 2^64; a
+    /// `version` that is not 2. Also the head or the end of an exchange, where an operation was to
+    /// be read.
     Kind,
     /// An `id` or a `parent` that is not exactly two whole numbers in the ranges of an identifier.
-    /// A `parent` may be the root, [0,0].
+    /// A `parent` may be the root, [0,0]. Also a run whose last counter is above the greatest.
     Id,
-    /// A `char` that is not exactly one character.
+    /// A `char` that is not exactly one character, or a `text` that is not 1 to 4096 of them.
     Char,
-    /// An insertion whose counter is not above its parent's.
+    /// An insertion, or a run, whose counter is not above its parent's.
     Order,
     /// A growth of memory was refused.
     Memory,

@@ -4,10 +4,11 @@ ghost use Rattle.std.specs.Prelude.{◌≡◌, ℕ, ◌<◌, ◌^◌, ◌++◌, 
 ghost use Rattle.rga_ops.specs.Operation.{checked};
 ghost use Rattle.rga_ops.specs.declared.op.Op.{Op};
 ghost use Rattle.rga_lines.specs.Table.{any_line_at, line_at};
-ghost use Rattle.rga_lines.specs.Spelling.{line, end_line, IsWritable};
+ghost use Rattle.rga_lines.specs.Runs.{Stretch, IsRun};
+ghost use Rattle.rga_lines.specs.Spelling.{line, end_line, head_line, run_line, IsWritable, IsWritableRun};
 ghost use Rattle.rga_lines.specs.Stream.{HasNoNewline, lines_of, rest_of, IsCut, BeginsLong};
 ghost use Rattle.rga_lines.specs.Stream.{Call, holds, after_calls, lines_given, bytes_fed};
-ghost use Rattle.rga_lines.specs.declared.reading.Line.TheVariants.{One, Last};
+ghost use Rattle.rga_lines.specs.declared.reading.Line.TheVariants.{One, Run as RunLine, Head, Last};
 ghost use Rattle.rga_lines.specs.declared.fault.LineFault.{LineFault};
 ghost use Rattle.rga_lines.specs.declared.fault.LineFault.TheVariants.{Kind};
 
@@ -27,6 +28,13 @@ pub fn written_lines_read_back()
         → line_at (line op) ≡ Ok op }
 {}
 
+/// The run that a line says has 1 to 4096 characters, a last counter that is in range, and a
+/// counter above its parent's; and the line of such a run says that run.
+pub fn runs_read_back()
+    ensures run { (bytes : List ℕ) (r : Stretch) → any_line_at bytes ≡ Ok (RunLine r) → IsRun r }
+    ensures written { (r : Stretch) → IsWritableRun r → any_line_at (run_line r) ≡ Ok (RunLine r) }
+{}
+
 /// The line that ends an exchange of so many operations says their number. Where operations alone
 /// may stand it is a line of another kind.
 pub fn written_ends_read_back()
@@ -36,9 +44,18 @@ pub fn written_ends_read_back()
         → line_at (end_line operations) ≡ Err Kind }
 {}
 
+/// The line that begins an exchange says that. Where operations alone may stand it is a line of
+/// another kind.
+pub fn written_heads_read_back()
+    ensures any { any_line_at head_line ≡ Ok Head }
+    ensures operation { line_at head_line ≡ Err Kind }
+{}
+
 /// No line that is written has a newline in it, so each is one line of a stream.
 pub fn written_lines_have_no_newline()
     ensures operation { (op : Op) → IsWritable op → HasNoNewline (line op) }
+    ensures run { (r : Stretch) → IsWritableRun r → HasNoNewline (run_line r) }
+    ensures head { HasNoNewline head_line }
     ensures end { (operations : ℕ) → operations < 2 ^ 64 → HasNoNewline (end_line operations) }
 {}
 

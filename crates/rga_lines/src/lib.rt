@@ -1,12 +1,13 @@
 //! Operations as lines of JSON, streams as lines, and devices whose calls are counted.
 //!
-//! A log or an exchange is a stream of bytes with one operation a line, each a JSON object (RFC
-//! 8259) of a few members; an exchange has one line more, which ends it. This crate says what a
-//! line means (`read_any`, `read_line`), writes lines (`write_line`, `write_end`), cuts a stream
+//! A log or an exchange is a stream of bytes with an operation, or a run of them, a line, each a
+//! JSON object (RFC 8259) of a few members; an exchange has a line more in front, its head, which
+//! may be absent, and one that ends it. This crate says what a line means (`read_any`,
+//! `read_line`), writes lines (`write_line`, `write_run`, `write_head`, `write_end`), cuts a stream
 //! into its lines in whatever pieces it comes (`Splitter`), bounds what a device is asked
 //! (`Counted`), and has a device fail on purpose (`Fuse`). It stands on `rga_ops` for the
-//! operations, on `serde_json` and `json` for the JSON, on `itoa` for the digits and on `memchr` for
-//! the ends of lines.
+//! operations, on `serde_json` and `json` for the JSON, on `itoa` for the digits and on `memchr`
+//! for the ends of lines.
 //!
 //! The layer above may rest on the table of `specs/Table.antt`, which each line meets or is at
 //! fault by; on the one spelling of what is written, in `specs/Spelling.antt`; on the lines and the
@@ -23,7 +24,9 @@ mod lexed;
 mod members;
 mod parts;
 mod reading;
+mod run;
 mod spelled;
+mod spelled_run;
 mod splitter;
 mod writing;
 
@@ -31,5 +34,6 @@ pub use counted::{Counted, MAX_CALLS};
 pub use fault::LineFault;
 pub use fuse::Fuse;
 pub use reading::{Line, MAX_LINE, read_any, read_line};
+pub use run::{MAX_RUN, Run};
 pub use splitter::Splitter;
-pub use writing::{write_end, write_line};
+pub use writing::{write_end, write_head, write_line, write_run};

@@ -1,15 +1,19 @@
 //! What a line says.
-ghost use Rattle.std.specs.Prelude.{◌≡◌, ◌≢◌, ◌<◌, length, Err};
+ghost use Rattle.std.specs.Prelude.{◌≡◌, ◌≢◌, ◌<◌, length, IfOk, IfErr, Ok, Err};
+ghost use Rattle.std.specs.Str.{chars};
 ghost use Rattle.serde_json.specs.View.{view, items_view};
 ghost use Rattle.rga_lines.specs.Table.{count_of, two_numbers, element_of, parent_of};
-ghost use Rattle.rga_lines.specs.Table.{insertion, deletion, ending};
+ghost use Rattle.rga_lines.specs.Table.{insertion, deletion, run, heading, ending, operation_alone};
 ghost use Rattle.rga_lines.specs.Table.{value_line, any_line_at, line_at};
 ghost use Rattle.rga_lines.specs.declared.fault.LineFault.TheVariants.{Memory, Long};
+ghost use Rattle.rga_lines.specs.declared.reading.Line.TheVariants.{Run as RunLine};
 
 use crate::fault::LineFault;
 use crate::members::by_members;
 use crate::parts::{element, element_or_root, only_char};
+use crate::run::{MAX_RUN, Run};
 use crate::spelled::spelled;
+use crate::spelled_run::spelled_run;
 use rga_ops::{Id, Op};
 use serde_json::Value;
 use std::alloc::Global;
@@ -17,11 +21,18 @@ use std::alloc::Global;
 /// The most bytes of a line, its newline left out.
 pub const MAX_LINE: usize = 65536;
 
+/// The version of the lines that the head of an exchange names.
+const VERSION: u64 = 2;
+
 /// What a line says.
-#[derive(Clone, Copy, Debug, PartialEq, Eq)]
+#[derive(Drop, Debug)]
 pub enum Line {
     /// An operation.
     One(Op),
+    /// A run of insertions.
+    Run(Run),
+    /// The head of an exchange.
+    Head,
     /// The end of an exchange of so many operations.
     Last(u64),
 }
@@ -32,8 +43,13 @@ pub enum Line {
 /// ```text
 /// {"char":"a","id":[1,2],"op":"ins","parent":[0,0]}
 /// {"id":[1,2],"op":"del"}
+/// {"id":[1,2],"op":"run","parent":[0,0],"text":"hello"}
+/// {"op":"head","version":2}
 /// {"count":2,"op":"end"}
 /// ```
+///
+/// A run stands for insertions of rising counters, each after the one before it: here of (1,2)
+/// after the root to (5,2) after (4,2). The head names the version of the lines, which is 2.
 ///
 /// Where a member is named twice its last value counts. The faults are answered in the order that
 /// `LineFault` tells. `Long` takes no memory.
@@ -50,8 +66,11 @@ pub fn read_any(alloc: Global, bytes: &[u8]) -> Result<Line, LineFault>
     if let Some(op) = by_members(bytes) {
         return Ok(Line::One(op));
     }
+    if let Some(run) = spelled_run(alloc, bytes)? {
+        return Ok(Line::Run(run));
+    }
     match Value::from_slice(alloc, bytes) {
-        Ok(value) => line_of(&value),
+        Ok(value) => line_of(alloc, &value),
         Err(e) => {
             if e.is_memory() {
                 Err(LineFault::Memory)
@@ -63,21 +82,28 @@ pub fn read_any(alloc: Global, bytes: &[u8]) -> Result<Line, LineFault>
 }
 
 /// The operation that a line says, given without its newline: what `read_any` gives, but `Kind`
-/// for the end of an exchange.
+/// for a run and for the head and the end of an exchange.
 pub fn read_line(alloc: Global, bytes: &[u8]) -> Result<Op, LineFault>
     ensures exact { result ≢ Err Memory → result ≡ line_at bytes.now }
     ensures long { MAX_LINE < length bytes.now → result ≡ Err Long }
 {
-    match read_any(alloc, bytes) {
-        Ok(Line::One(op)) => Ok(op),
-        Ok(Line::Last(_)) => Err(LineFault::Kind),
-        Err(e) => Err(e),
+    let line = read_any(alloc, bytes)?;
+    alone(&line)
+}
+
+/// The operation that the line is, where one alone may stand.
+fn alone(line: &Line) -> Result<Op, LineFault>
+    ensures { result ≡ operation_alone (Ok line.now) }
+{
+    match line {
+        Line::One(op) => Ok(*op),
+        Line::Run(_) | Line::Head | Line::Last(_) => Err(LineFault::Kind),
     }
 }
 
 #[tactic(auto, unfolding(crate::specs::Table::value_line))]
-fn line_of(value: &Value) -> Result<Line, LineFault>
-    ensures { result ≡ value_line (view value.now) }
+fn line_of(alloc: Global, value: &Value) -> Result<Line, LineFault>
+    ensures { result ≢ Err Memory → result ≡ value_line (view value.now) }
 {
     let Some(count) = count(value) else {
         return Err(LineFault::Kind);
@@ -92,6 +118,10 @@ fn line_of(value: &Value) -> Result<Line, LineFault>
         Ok(Line::One(insertion(count, value)?))
     } else if name == "del" {
         Ok(Line::One(deletion(count, value)?))
+    } else if name == "run" {
+        Ok(Line::Run(run(alloc, count, value)?))
+    } else if name == "head" {
+        heading(count, value)
     } else if name == "end" {
         Ok(Line::Last(ending(count, value)?))
     } else {
@@ -151,6 +181,67 @@ fn deletion(count: usize, value: &Value) -> Result<Op, LineFault>
     match element_of(id) {
         Some(id) => Ok(Op::Delete { id }),
         None => Err(LineFault::Id),
+    }
+}
+
+/// A run, by an object of so many members.
+fn run(alloc: Global, members: usize, value: &Value) -> Result<Run, LineFault>
+    ensures ok { IfOk result (λ r. run members (view value.now) ≡ Ok (RunLine r)) }
+    ensures fault { IfErr result (λ e. e ≢ Memory → run members (view value.now) ≡ Err e) }
+{
+    if members != 4 {
+        return Err(LineFault::Member);
+    }
+    let (Some(id), Some(parent), Some(text)) = (
+        value.get("id"),
+        value.get("parent"),
+        value.get("text"),
+    ) else {
+        return Err(LineFault::Member);
+    };
+    let (Some(text), Some(id), Some(parent)) = (text.as_str(), id.as_array(), parent.as_array())
+    else {
+        return Err(LineFault::Kind);
+    };
+    let (Some(id), Some(parent)) = (element_of(id), parent_of(parent)) else {
+        return Err(LineFault::Id);
+    };
+    let chars = characters(alloc, text)?;
+    let count = chars.len();
+    if id.counter() + count as u64 > Id::MAX_COUNTER + 1 {
+        return Err(LineFault::Id);
+    }
+    if count == 0 || count > MAX_RUN {
+        return Err(LineFault::Char);
+    }
+    if parent.counter() < id.counter() {
+        Ok(Run { id, parent, chars })
+    } else {
+        Err(LineFault::Order)
+    }
+}
+
+/// The characters of a text.
+fn characters(alloc: Global, text: &str) -> Result<Vec<char>, LineFault>
+    ensures ok { IfOk result (λ v. v.items ≡ chars text.now) }
+    ensures fault { IfErr result (λ e. e ≡ Memory) }
+{
+    Ok(text.chars().collect(alloc)?)
+}
+
+/// The head of an exchange, by an object of so many members.
+fn heading(members: usize, value: &Value) -> Result<Line, LineFault>
+    ensures { result ≡ heading members (view value.now) }
+{
+    if members != 2 {
+        return Err(LineFault::Member);
+    }
+    let Some(version) = value.get("version") else {
+        return Err(LineFault::Member);
+    };
+    match version.as_u64() {
+        Some(VERSION) => Ok(Line::Head),
+        _ => Err(LineFault::Kind),
     }
 }
 

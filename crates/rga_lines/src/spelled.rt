@@ -67,7 +67,7 @@ fn deletion(bytes: &[u8]) -> Option<Op>
 }
 
 /// Two numbers between brackets, and what stands behind them.
-fn pair(bytes: &[u8]) -> Option<(u64, u16, &[u8])>
+pub(crate) fn pair(bytes: &[u8]) -> Option<(u64, u16, &[u8])>
     ensures { IfSome result (λ p. bytes.now ≡ pair_text (identifier p.0 p.1) ++ p.2.now) }
 {
     let (counter, rest) = number(after(bytes, b"[")?)?;

@@ -1,13 +1,18 @@
-//! Lines written: the one spelling of an operation, and of the end of an exchange.
+//! Lines written: the one spelling of an operation, of a run, and of the head and the end of an
+//! exchange.
 ghost use Rattle.std.specs.Prelude.{◌≡◌, ◌++◌, ◌<◌, Ok, IfOk, IfErr, OnOk, string_bytes};
-ghost use Rattle.std.specs.Char.{digit_char};
+ghost use Rattle.std.specs.Char.{digit_char, IsScalar};
 ghost use Rattle.rga_ops.specs.Operation.{checked};
 ghost use Rattle.rga_ops.specs.declared.op.Op.TheVariants.{Insert, Delete};
-ghost use Rattle.rga_lines.specs.Spelling.{code_escape, escaped, pair_text, line, end_line};
+ghost use Rattle.std.specs.List.{flat_map, AllByRecursion};
+ghost use Rattle.rga_lines.specs.Runs.{IsRun};
+ghost use Rattle.rga_lines.specs.Spelling.{code_escape, escaped, pair_text, line, run_line, head_line, end_line};
+ghost use Rattle.rga_lines.specs.Spelling.{IsWritableRun};
 ghost use Rattle.rga_lines.specs.Spelling.{IsElementOrRoot, IsWritable};
 ghost use Rattle.rga_lines.specs.declared.fault.LineFault.TheVariants.{Memory};
 
 use crate::fault::LineFault;
+use crate::run::Run;
 use itoa::Buffer;
 use rga_ops::{Id, Op};
 use std::alloc::{AllocError, Global};
@@ -29,6 +34,54 @@ pub fn write_line(alloc: Global, op: &Op) -> Result<String, LineFault>
         Op::Insert { id, parent, ch } => Ok(insertion(alloc, id, parent, *ch)?),
         Op::Delete { id } => Ok(deletion(alloc, id)?),
     }
+}
+
+/// The line of a run without its newline, as `run_line` of `specs/Spelling.antt` has it. The caller
+/// sees to it that it is one that `read_any` gives: 1 to 4096 characters, a last counter in range,
+/// a counter above the parent's. `Memory` is the only refusal.
+#[tactic(auto, unfolding(crate::specs::Spelling::run_line))]
+pub fn write_run(alloc: Global, run: &Run) -> Result<String, LineFault>
+    requires { IsRun run.now }
+    ensures ok { IfOk result (λ s. string_bytes s ≡ run_line run.now) }
+    ensures memory { IfErr result (λ e. e ≡ Memory) }
+    // What is written can be read back.
+    ensures writable { OnOk result (IsWritableRun run.now) }
+{
+    let mut text = String::with_capacity(alloc, ROOM + run.chars.len())?;
+    text.push_str("{\"id\":")?;
+    push_pair(&mut text, &run.id)?;
+    text.push_str(",\"op\":\"run\",\"parent\":")?;
+    push_pair(&mut text, &run.parent)?;
+    text.push_str(",\"text\":\"")?;
+    push_all(&mut text, &run.chars)?;
+    text.push_str("\"}")?;
+    Ok(text)
+}
+
+/// Characters as they stand between quotes.
+fn push_all(text: &mut String, chars: &[char]) -> Result<(), AllocError>
+    ensures ok { OnOk result
+        (string_bytes text.new ≡ string_bytes text.old ++ flat_map escaped chars.now) }
+    ensures scalars { OnOk result (AllByRecursion IsScalar chars.now) }
+{
+    let mut rest = chars;
+    'chars: while let Some((ch, behind)) = rest.split_first() {
+        push_escaped(text, *ch)?;
+        rest = behind;
+    }
+    Ok(())
+}
+
+/// The line that begins an exchange, without its newline: it names the version of the lines.
+/// `Memory` is the only refusal.
+#[tactic(auto, unfolding(crate::specs::Spelling::head_line))]
+pub fn write_head(alloc: Global) -> Result<String, LineFault>
+    ensures ok { IfOk result (λ s. string_bytes s ≡ head_line) }
+    ensures memory { IfErr result (λ e. e ≡ Memory) }
+{
+    let mut text = String::with_capacity(alloc, ROOM)?;
+    text.push_str("{\"op\":\"head\",\"version\":2}")?;
+    Ok(text)
 }
 
 /// The line that ends an exchange of so many operations, without its newline. `Memory` is the only

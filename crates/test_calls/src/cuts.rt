@@ -13,6 +13,14 @@ const ABC: &str = r#"{"char":"a","id":[1,1],"op":"ins","parent":[0,0]}
 {"count":3,"op":"end"}
 "#;
 
+/// The same behind the head, a line of 26.
+const HEAD_ABC: &str = r#"{"op":"head","version":2}
+{"char":"a","id":[1,1],"op":"ins","parent":[0,0]}
+{"char":"b","id":[2,1],"op":"ins","parent":[1,1]}
+{"char":"c","id":[3,1],"op":"ins","parent":[2,1]}
+{"count":3,"op":"end"}
+"#;
+
 /// A reader of bytes that gives at most 40 in a read.
 #[derive(Drop)]
 struct Pieces {
@@ -27,13 +35,17 @@ impl Read for Pieces {
 }
 
 /// What is answered to the exchange by a reader that fails behind so many reads.
-fn answered(alloc: Global, store: &mut TreeStore, reads: u64) -> Result<u64, ReceiveFault> {
-    let bytes = ABC.as_bytes();
+fn answered(
+    alloc: Global,
+    store: &mut TreeStore,
+    bytes: &'static [u8],
+    reads: u64,
+) -> Result<u64, ReceiveFault> {
     let mut reader = Counted::new(Fuse::new(Pieces { bytes }, reads));
     receive(alloc, store, &mut reader)
 }
 
-fn shows(alloc: Global, store: &TreeStore, text: &str) -> bool {
+pub(crate) fn shows(alloc: Global, store: &TreeStore, text: &str) -> bool {
     match store.text(alloc) {
         Ok(chars) => spells(&chars, text),
         Err(_) => false,
@@ -42,18 +54,30 @@ fn shows(alloc: Global, store: &TreeStore, text: &str) -> bool {
 
 /// Whether so many reads lead to this text and, if not all is read, to a fault of the device; and
 /// then the same bytes from the start to the whole text.
-fn goes_on(alloc: Global, reads: u64, text: &str) -> bool {
+fn goes_on(alloc: Global, exchange: &'static str, reads: u64, text: &str) -> bool {
+    let bytes = exchange.as_bytes();
     let Ok(mut store) = TreeStore::new(alloc, 10) else {
         return false;
     };
-    let first = answered(alloc, &mut store, reads);
+    let first = answered(alloc, &mut store, bytes, reads);
     let begun = first == Err(ReceiveFault::Read) && shows(alloc, &store, text);
-    begun && answered(alloc, &mut store, 5) == Ok(3) && shows(alloc, &store, "abc")
+    begun && answered(alloc, &mut store, bytes, 5) == Ok(3) && shows(alloc, &store, "abc")
 }
 
 #[test]
 fn what_is_received_again_changes_nothing(rt: HostRuntime) {
-    for (reads, text) in [(0, ""), (1, ""), (2, "a"), (3, "ab"), (4, "abc")] {
-        assert!(rt; goes_on(rt.alloc(), reads, text), "{reads}");
+    for (exchange, reads, text) in [
+        (ABC, 0, ""),
+        (ABC, 1, ""),
+        (ABC, 2, "a"),
+        (ABC, 3, "ab"),
+        (ABC, 4, "abc"),
+        (HEAD_ABC, 0, ""),
+        (HEAD_ABC, 1, ""),
+        (HEAD_ABC, 2, "a"),
+        (HEAD_ABC, 3, "a"),
+        (HEAD_ABC, 4, "ab"),
+    ] {
+        assert!(rt; goes_on(rt.alloc(), exchange, reads, text), "{reads}");
     }
 }

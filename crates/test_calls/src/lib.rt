@@ -1,9 +1,12 @@
 //! Calls of libraries that no program shows: devices that are counted, exchanges that are cut off,
-//! lines that are lent, writes in blocks, plans that no key leads to, values of settings, cursors
-//! that no window shows, frames and texts that are not flushed, saves over a port that refuses, and
-//! files over a disk that fails. Nothing stands on this crate, so nothing waits for its proof.
+//! lines that are lent, runs at stores that are nearly full, writes in blocks, plans that no key
+//! leads to, values of settings, cursors that no window shows, frames and texts that are not
+//! flushed, saves over a port that refuses, files over a disk that fails, and stores and logs that
+//! are compacted. Nothing stands on this crate, so nothing waits for its proof.
 #![tactic(auto)]
 
+#[cfg(test)]
+mod compactions;
 #[cfg(test)]
 mod cuts;
 #[cfg(test)]
@@ -14,6 +17,8 @@ mod disks;
 mod lines;
 #[cfg(test)]
 mod plans;
+#[cfg(test)]
+mod runs;
 #[cfg(test)]
 mod saves;
 #[cfg(test)]

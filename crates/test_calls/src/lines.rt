@@ -1,5 +1,5 @@
 //! Lines that are lent, and what no line says.
-use rga_lines::{LineFault, MAX_LINE, Splitter, write_end, write_line};
+use rga_lines::{Line, LineFault, MAX_LINE, Splitter, read_any, write_end, write_head, write_line};
 use std::alloc::Global;
 use test_fixtures::op_of;
 
@@ -105,4 +105,19 @@ fn ends_of_more_operations_than_a_note_has_are_written(rt: HostRuntime) {
     ] {
         assert!(rt; is_end_of(rt.alloc(), count, line), "{line}");
     }
+}
+
+/// Whether this is the line that begins an exchange, and is read as that.
+fn is_head(alloc: Global, line: &str) -> bool {
+    match write_head(alloc) {
+        Ok(written) => {
+            written.as_str() == line && matches!(read_any(alloc, line.as_bytes()), Ok(Line::Head))
+        }
+        Err(_) => false,
+    }
+}
+
+#[test]
+fn the_head_of_an_exchange_is_read_as_it_is_written(rt: HostRuntime) {
+    assert!(rt; is_head(rt.alloc(), r#"{"op":"head","version":2}"#));
 }

@@ -72,7 +72,8 @@ def run(stage, about):
     person = stage.person
     words = [text_of(it) for it in about.split()]
     person.has_begun = True
-    person.job = Job([stage.mgr, *words], person.folder, person.input, person.room, person.most, person.memory)
+    command = [*person.under, stage.mgr, *words]
+    person.job = Job(command, person.folder, person.input, person.room, person.most, person.memory)
     person.await_job()
 
 

@@ -49,7 +49,7 @@ def disk(stage, about):
 
 @word
 def fails(stage, about):
-    """`fails CALL FAULT`: from here on that call of the system fails so in what `edit` begins.
+    """`fails CALL FAULT`: from here on that call of the system fails so in what `edit` or `run` begins.
 
     Where the fault is a number the call does nothing, and answers that. With `:when=N` behind it the Nth of
     these calls alone fails.
@@ -61,7 +61,7 @@ def fails(stage, about):
 
 @word
 def notes(stage, about):
-    """`notes calls`: from here on the calls by which a session changes files are noted."""
+    """`notes calls`: from here on the calls by which a session or a job changes files are noted."""
     if about != "calls":
         raise Unreadable(f"{about} are not noted")
     if not makes_calls_fail():
@@ -72,14 +72,15 @@ def notes(stage, about):
 
 @word
 def calls(stage, about):
-    """All that the session did to files so far: `calls write NAME, sync NAME, rename OLD NEW, link OLD NEW`."""
-    seen(stage)
+    """All that the session or the job did to files so far: `calls write NAME, sync NAME, rename OLD NEW, link OLD NEW`."""
+    if stage.person.session:
+        seen(stage)
     stage.compare(about, ", ".join(noted(stage.person.noted, stage.person.folder)))
 
 
 @word
 def ordinary(stage, about):
-    """From here on sessions are an ordinary user's, whom rights bind, and so are the files that are there."""
+    """From here on sessions and jobs are an ordinary user's, whom rights bind, and so are the files that are there."""
     if os.getuid():
         return
     if not ends_well((*AS_NOBODY, str(stage.mgr), "--version")):

@@ -9,16 +9,16 @@ use Rattle.rga_exchange.proofs.sending.send.Goals as goal
 
 pub returns-in_err-push_lines-clause-begun : goal.returns-in_err-push_lines-clause-begun
 returns-in_err-push_lines-clause-begun g c =
-    stream_front _ _ _ (g.S.Taker.content c.args.store.now) c.deref.result.now c.in_ok-block.block (c.deref.ensures.value ∙ c.in-Ok.ensures.ok) c.in_ok-block.ensures c.in_err-push_lines.ensures.begun
+    stream_front _ _ _ (g.S.Taker.content c.args.store.now) c.deref.result.now c.in_ok-block.block (c.deref.ensures.value ∙ c.in-Ok.ensures.ok) c.in_ok-block.ensures.ok c.in_err-push_lines.ensures.begun
 
 pub returns-in_err-push-clause-begun : goal.returns-in_err-push-clause-begun
 returns-in_err-push-clause-begun g c =
-    stream_front _ _ _ (g.S.Taker.content c.args.store.now) c.deref.result.now c.in_ok-block.block (c.deref.ensures.value ∙ c.in-Ok.ensures.ok) c.in_ok-block.ensures c.in_ok-push_lines.ensures.begun
+    stream_front _ _ _ (g.S.Taker.content c.args.store.now) c.deref.result.now c.in_ok-block.block (c.deref.ensures.value ∙ c.in-Ok.ensures.ok) c.in_ok-block.ensures.ok c.in_ok-push_lines.ensures.begun
 
 pub returns-in_err-finish-clause-begun : goal.returns-in_err-finish-clause-begun
 returns-in_err-finish-clause-begun g c =
     begun_left _ _ _ _ _ _ (stream_begun _ _ _ (g.S.Taker.content c.args.store.now) c.deref.result.now c.in_ok-block.block c.push_lines.new.block c.len-number.result c.deref-2.result.now _
-    (c.deref.ensures.value ∙ c.in-Ok.ensures.ok) c.in_ok-block.ensures (omega (arith, c.deref.ensures.len)) (c.deref-2.ensures ∙ c.in-Ok-write_end.ensures.ok) c.in_ok-push.ensures c.in_ok-push_lines.ensures.ok) c.in_err-finish.ensures.begun
+    (c.deref.ensures.value ∙ c.in-Ok.ensures.ok) c.in_ok-block.ensures.ok (omega (arith, c.deref.ensures.len)) (c.deref-2.ensures ∙ c.in-Ok-write_end.ensures.ok) c.in_ok-push.ensures c.in_ok-push_lines.ensures.ok) c.in_err-finish.ensures.begun
 
 -- the operations that are written are the store's, and the number that is told is theirs
 are : (g : _) (c : goal.After-drop-ops-2 g) → c.deref.result.now ≡ operations (g.S.Taker.content c.args.store.now)
@@ -30,7 +30,7 @@ number g c = omega (arith, c.deref.ensures.len)
 -- what is left to be written at the end
 left : (g : _) (c : goal.After-drop-ops-2 g) (a b : Calls g.row.W.Denot) → WritesAllBut g.W.Write.contents a b (c.in_ok-block.block ++ log_text c.deref.result.now) c.push_lines.new.block → WritesAllBut g.W.Write.contents a b (stream_text (g.S.Taker.content c.args.store.now)) c.push.new.self
 left g c a b = stream_begun g.W.Write.contents a b (g.S.Taker.content c.args.store.now) c.deref.result.now c.in_ok-block.block c.push_lines.new.block c.len-number.result c.deref-2.result.now c.push.new.self
-    (are g c) c.in_ok-block.ensures (number g c) (c.deref-2.ensures ∙ c.in-Ok-write_end.ensures.ok) c.in_ok-push.ensures
+    (are g c) c.in_ok-block.ensures.ok (number g c) (c.deref-2.ensures ∙ c.in-Ok-write_end.ensures.ok) c.in_ok-push.ensures
 
 pub returns-clause-written : goal.returns-clause-written
 returns-clause-written g c = begun_whole _ c.args.writer.now c.push_lines.new.writer c.finish.new.writer _ _ (left g c _ _ c.in_ok-push_lines.ensures.ok) c.in_ok-finish.ensures.ok

@@ -5,8 +5,7 @@ use Rattle.std.proofs.lemmas.List.{length-take}
 use Rattle.rga_lines.specs.Counting.{IsReadToEnd}
 use Rattle.rga_lines.specs.Stream.{Splitting, holds}
 use Rattle.rga_lines.proofs.SplitterLemmas.{fed_holds}
-use Rattle.rga_exchange.specs.Taking.{AtEnd}
-use Rattle.rga_exchange.proofs.ReadLaws.{read_nothing, read_lines, read_piece, read_all, read_stop, read_fault, whole_lines, all_but_rest, first_lines, first_of_whole}
+use Rattle.rga_exchange.proofs.ReadLaws.{read_nothing, read_lines, read_piece, read_all, read_end, read_fault, whole_lines, all_but_rest, first_lines, first_of_whole}
 use Rattle.rga_exchange.proofs.taking.take_stream.Goals as goal
 
 pub reads-init : goal.reads-init
@@ -18,7 +17,8 @@ reads-init g c =
       room = rw waits (omega arith);
       limit = refl;
       same_failures = refl;
-      read = rw waits (read_nothing _ _ _ _ g.T.Taker.follows_nothing _ _);
+      read = rw waits (read_nothing _ _ _ _ _ g.T.Taker.follows_nothing _ _);
+      few = omega arith;
     }
 
 pub returns-in_err-number-clause-fault : goal.returns-in_err-number-clause-fault
@@ -26,37 +26,37 @@ returns-in_err-number-clause-fault g c =
     let p = err_from_is_err_and c.from_residual.result c.from_residual.ensures.1 in
     let e = c.in_err-number.field-0.0 in
     rw (p.1, p.2) (λ read memory.
-    read_fault _ _ _ _ _ _ _ _ _ _ _ _ e c.reads.invariant.limit c.reads.invariant.read (c.in_err-number.ensures.fault memory))
+    read_fault _ _ _ _ _ _ _ _ _ _ _ _ _ _ e c.reads.invariant.limit c.reads.invariant.read (c.in_err-number.ensures.fault memory))
 
 pub returns-in_err-number-clause-lines : goal.returns-in_err-number-clause-lines
 returns-in_err-number-clause-lines g c =
-    first_lines _ _ _ _ _ _ _ _ _ _ (read_lines _ _ _ _ g.T.Taker.follows_on _ _ _ _ _ _ c.take_lines.new.lines _ _ c.reads.invariant.limit c.reads.invariant.read c.in_err-number.ensures.taken.1)
+    first_lines _ _ _ _ _ _ _ _ _ _ _ _ (read_lines _ _ _ _ _ g.T.Taker.follows_on _ _ _ _ _ _ c.take_lines.new.lines _ c.take_lines.new.operations _ _ c.reads.invariant.limit c.reads.invariant.read c.in_err-number.ensures.taken.1)
 
 pub returns-in-Some-clause-end : goal.returns-in-Some-clause-end
 returns-in-Some-clause-end g c =
-    read_stop _ _ _ _ _ _ _ _ _ _ _ _ (AtEnd c.in-Some.number) c.reads.invariant.limit c.reads.invariant.read
-    (c.in_ok-number.ensures.end c.in-Some.number (ap Ok c.in-Some.is))
+    read_end _ _ _ _ _ g.T.Taker.follows_on _ _ _ _ _ _ _ _ _ _ _ c.in-Some.number c.reads.invariant.limit c.reads.invariant.read
+    c.in_ok-number.ensures.taken.1 (c.in_ok-number.ensures.end c.in-Some.number (ap Ok c.in-Some.is))
 
 pub returns-in_default-read-clause-lines : goal.returns-in_default-read-clause-lines
 returns-in_default-read-clause-lines g c =
-    let tracks = read_lines _ _ _ _ g.T.Taker.follows_on c.args.reader.now c.reads.reader c.args.taker.now c.reads.taker c.take_lines.new.taker c.reads.lines c.take_lines.new.lines c.reads.splitter.waiting c.take_lines.new.splitter.waiting c.reads.invariant.limit c.reads.invariant.read (c.in_ok-number.ensures.all cc) in
-    first_of_whole _ _ _ _ _ _ _ _ (whole_lines _ _ _ _ c.args.reader.now c.reads.reader c.read.new.self c.args.taker.now c.take_lines.new.taker c.take_lines.new.lines c.take_lines.new.splitter.waiting tracks c.in_default-read.ensures.bytes (c.in_ok-number.ensures.none_left cc).0)
+    let tracks = read_lines _ _ _ _ _ g.T.Taker.follows_on c.args.reader.now c.reads.reader c.args.taker.now c.reads.taker c.take_lines.new.taker c.reads.lines c.take_lines.new.lines c.reads.operations c.take_lines.new.operations c.reads.splitter.waiting c.take_lines.new.splitter.waiting c.reads.invariant.limit c.reads.invariant.read (c.in_ok-number.ensures.all cc) in
+    first_of_whole _ _ _ _ _ _ _ _ _ (whole_lines _ _ _ _ _ c.args.reader.now c.reads.reader c.read.new.self c.args.taker.now c.take_lines.new.taker c.take_lines.new.lines c.take_lines.new.operations c.take_lines.new.splitter.waiting tracks c.in_default-read.ensures.bytes (c.in_ok-number.ensures.none_left cc).0)
 
 pub returns-in_default-read-clause-whole_lines : goal.returns-in_default-read-clause-whole_lines
 returns-in_default-read-clause-whole_lines g c =
-    let tracks = read_lines _ _ _ _ g.T.Taker.follows_on c.args.reader.now c.reads.reader c.args.taker.now c.reads.taker c.take_lines.new.taker c.reads.lines c.take_lines.new.lines c.reads.splitter.waiting c.take_lines.new.splitter.waiting c.reads.invariant.limit c.reads.invariant.read (c.in_ok-number.ensures.all cc) in
-    λ _. whole_lines _ _ _ _ c.args.reader.now c.reads.reader c.read.new.self c.args.taker.now c.take_lines.new.taker c.take_lines.new.lines c.take_lines.new.splitter.waiting tracks c.in_default-read.ensures.bytes (c.in_ok-number.ensures.none_left cc).0
+    let tracks = read_lines _ _ _ _ _ g.T.Taker.follows_on c.args.reader.now c.reads.reader c.args.taker.now c.reads.taker c.take_lines.new.taker c.reads.lines c.take_lines.new.lines c.reads.operations c.take_lines.new.operations c.reads.splitter.waiting c.take_lines.new.splitter.waiting c.reads.invariant.limit c.reads.invariant.read (c.in_ok-number.ensures.all cc) in
+    λ _. whole_lines _ _ _ _ _ c.args.reader.now c.reads.reader c.read.new.self c.args.taker.now c.take_lines.new.taker c.take_lines.new.lines c.take_lines.new.operations c.take_lines.new.splitter.waiting tracks c.in_default-read.ensures.bytes (c.in_ok-number.ensures.none_left cc).0
 
 pub returns-then-count-eq0-clause-end : goal.returns-then-count-eq0-clause-end
 returns-then-count-eq0-clause-end g c =
-    let tracks = read_lines _ _ _ _ g.T.Taker.follows_on c.args.reader.now c.reads.reader c.args.taker.now c.reads.taker c.take_lines.new.taker c.reads.lines c.take_lines.new.lines c.reads.splitter.waiting c.take_lines.new.splitter.waiting c.reads.invariant.limit c.reads.invariant.read (c.in_ok-number.ensures.all cc) in
+    let tracks = read_lines _ _ _ _ _ g.T.Taker.follows_on c.args.reader.now c.reads.reader c.args.taker.now c.reads.taker c.take_lines.new.taker c.reads.lines c.take_lines.new.lines c.reads.operations c.take_lines.new.operations c.reads.splitter.waiting c.take_lines.new.splitter.waiting c.reads.invariant.limit c.reads.invariant.read (c.in_ok-number.ensures.all cc) in
     let read = rw c.if-count-eq0.true at c.in-Ok.ensures.bytes in
     let none = c.in_ok-number.ensures.none_left cc in
-    read_all _ _ _ _ c.args.reader.now c.reads.reader c.read.new.self c.args.taker.now c.take_lines.new.taker c.take_lines.new.lines c.take_lines.new.splitter.waiting c.finish.result.items tracks read.0 (read.1 refl (omega arith)) none.0 none.1 c.finish.ensures.rest
+    read_all _ _ _ _ _ c.args.reader.now c.reads.reader c.read.new.self c.args.taker.now c.take_lines.new.taker c.take_lines.new.lines c.take_lines.new.operations c.take_lines.new.splitter.waiting c.finish.result.items tracks read.0 (read.1 refl (omega arith)) none.0 none.1 c.finish.ensures.rest
 
 pub reads-preserved : goal.reads-preserved
 reads-preserved g c =
-    let tracks = read_lines _ _ _ _ g.T.Taker.follows_on c.args.reader.now c.reads.reader c.args.taker.now c.reads.taker c.take_lines.new.taker c.reads.lines c.take_lines.new.lines c.reads.splitter.waiting c.take_lines.new.splitter.waiting c.reads.invariant.limit c.reads.invariant.read (c.in_ok-number.ensures.all cc) in
+    let tracks = read_lines _ _ _ _ _ g.T.Taker.follows_on c.args.reader.now c.reads.reader c.args.taker.now c.reads.taker c.take_lines.new.taker c.reads.lines c.take_lines.new.lines c.reads.operations c.take_lines.new.operations c.reads.splitter.waiting c.take_lines.new.splitter.waiting c.reads.invariant.limit c.reads.invariant.read (c.in_ok-number.ensures.all cc) in
     let none = c.in_ok-number.ensures.none_left cc in
     let room = c.in_ok-number.ensures.room cc in
     let piece = take c.in-Ok.count c.read.new.buf in
@@ -68,32 +68,33 @@ reads-preserved g c =
       whole = ap (λ (s : Splitting). s.broken) now;
       room = rw waits (omega (arith, k, m, c.in-Ok.ensures.bound, c.in-Ok.ensures.calls.0, c.in-Ok.ensures.calls.1, room, c.reads.invariant.room));
       limit = c.in_ok-number.ensures.limit ∙ c.reads.invariant.limit;
+      few = c.in_ok-number.ensures.few;
       same_failures = c.in-Ok.ensures.device ∙ c.reads.invariant.same_failures;
-      read = rw waits (read_piece _ _ _ _ c.args.reader.now c.reads.reader c.read.new.self c.args.taker.now c.take_lines.new.taker c.take_lines.new.lines c.take_lines.new.splitter.waiting piece tracks none.0 c.in-Ok.ensures.bytes.0 (omega (arith, m, c.in-Ok.ensures.bound)));
+      read = rw waits (read_piece _ _ _ _ _ c.args.reader.now c.reads.reader c.read.new.self c.args.taker.now c.take_lines.new.taker c.take_lines.new.lines c.take_lines.new.operations c.take_lines.new.splitter.waiting piece tracks none.0 c.in-Ok.ensures.bytes.0 (omega (arith, m, c.in-Ok.ensures.bound)));
     }
 
 pub returns-in_default-feed-clause-lines : goal.returns-in_default-feed-clause-lines
 returns-in_default-feed-clause-lines g c =
-    let tracks = read_lines _ _ _ _ g.T.Taker.follows_on c.args.reader.now c.reads.reader c.args.taker.now c.reads.taker c.take_lines.new.taker c.reads.lines c.take_lines.new.lines c.reads.splitter.waiting c.take_lines.new.splitter.waiting c.reads.invariant.limit c.reads.invariant.read (c.in_ok-number.ensures.all cc) in
+    let tracks = read_lines _ _ _ _ _ g.T.Taker.follows_on c.args.reader.now c.reads.reader c.args.taker.now c.reads.taker c.take_lines.new.taker c.reads.lines c.take_lines.new.lines c.reads.operations c.take_lines.new.operations c.reads.splitter.waiting c.take_lines.new.splitter.waiting c.reads.invariant.limit c.reads.invariant.read (c.in_ok-number.ensures.all cc) in
     let none = c.in_ok-number.ensures.none_left cc in
     let piece = take c.in-Ok.count c.read.new.buf in
     let m = length-take c.in-Ok.count c.read.new.buf in
-    first_lines _ _ _ _ _ _ _ _ _ _ (read_piece _ _ _ _ c.args.reader.now c.reads.reader c.read.new.self c.args.taker.now c.take_lines.new.taker c.take_lines.new.lines c.take_lines.new.splitter.waiting piece tracks none.0 c.in-Ok.ensures.bytes.0 (omega (arith, m, c.in-Ok.ensures.bound)))
+    first_lines _ _ _ _ _ _ _ _ _ _ _ _ (read_piece _ _ _ _ _ c.args.reader.now c.reads.reader c.read.new.self c.args.taker.now c.take_lines.new.taker c.take_lines.new.lines c.take_lines.new.operations c.take_lines.new.splitter.waiting piece tracks none.0 c.in-Ok.ensures.bytes.0 (omega (arith, m, c.in-Ok.ensures.bound)))
 
 pub returns-in-Some-clause-lines : goal.returns-in-Some-clause-lines
 returns-in-Some-clause-lines g c =
-    first_lines _ _ _ _ _ _ _ _ _ _ (read_lines _ _ _ _ g.T.Taker.follows_on _ _ _ _ _ _ c.take_lines.new.lines _ _ c.reads.invariant.limit c.reads.invariant.read c.in_ok-number.ensures.taken.1)
+    first_lines _ _ _ _ _ _ _ _ _ _ _ _ (read_lines _ _ _ _ _ g.T.Taker.follows_on _ _ _ _ _ _ c.take_lines.new.lines _ c.take_lines.new.operations _ _ c.reads.invariant.limit c.reads.invariant.read c.in_ok-number.ensures.taken.1)
 
 pub returns-then-count-eq0-clause-lines : goal.returns-then-count-eq0-clause-lines
 returns-then-count-eq0-clause-lines g c =
-    let tracks = read_lines _ _ _ _ g.T.Taker.follows_on c.args.reader.now c.reads.reader c.args.taker.now c.reads.taker c.take_lines.new.taker c.reads.lines c.take_lines.new.lines c.reads.splitter.waiting c.take_lines.new.splitter.waiting c.reads.invariant.limit c.reads.invariant.read (c.in_ok-number.ensures.all cc) in
+    let tracks = read_lines _ _ _ _ _ g.T.Taker.follows_on c.args.reader.now c.reads.reader c.args.taker.now c.reads.taker c.take_lines.new.taker c.reads.lines c.take_lines.new.lines c.reads.operations c.take_lines.new.operations c.reads.splitter.waiting c.take_lines.new.splitter.waiting c.reads.invariant.limit c.reads.invariant.read (c.in_ok-number.ensures.all cc) in
     let read = rw c.if-count-eq0.true at c.in-Ok.ensures.bytes in
-    first_lines _ _ _ _ _ _ _ _ _ _ (read_piece _ _ _ _ c.args.reader.now c.reads.reader c.read.new.self c.args.taker.now c.take_lines.new.taker c.take_lines.new.lines c.take_lines.new.splitter.waiting _ tracks (c.in_ok-number.ensures.none_left cc).0 read.0 (omega arith))
+    first_lines _ _ _ _ _ _ _ _ _ _ _ _ (read_piece _ _ _ _ _ c.args.reader.now c.reads.reader c.read.new.self c.args.taker.now c.take_lines.new.taker c.take_lines.new.lines c.take_lines.new.operations c.take_lines.new.splitter.waiting _ tracks (c.in_ok-number.ensures.none_left cc).0 read.0 (omega arith))
 
 pub returns-then-count-eq0-clause-rest : goal.returns-then-count-eq0-clause-rest
 returns-then-count-eq0-clause-rest g c =
-    let tracks = read_lines _ _ _ _ g.T.Taker.follows_on c.args.reader.now c.reads.reader c.args.taker.now c.reads.taker c.take_lines.new.taker c.reads.lines c.take_lines.new.lines c.reads.splitter.waiting c.take_lines.new.splitter.waiting c.reads.invariant.limit c.reads.invariant.read (c.in_ok-number.ensures.all cc) in
+    let tracks = read_lines _ _ _ _ _ g.T.Taker.follows_on c.args.reader.now c.reads.reader c.args.taker.now c.reads.taker c.take_lines.new.taker c.reads.lines c.take_lines.new.lines c.reads.operations c.take_lines.new.operations c.reads.splitter.waiting c.take_lines.new.splitter.waiting c.reads.invariant.limit c.reads.invariant.read (c.in_ok-number.ensures.all cc) in
     let read = rw c.if-count-eq0.true at c.in-Ok.ensures.bytes in
     let none = c.in_ok-number.ensures.none_left cc in
     let end : IsReadToEnd g.R.Read.remaining c.read.new.self = record { last_read = (rw c.if-count-eq0.true at c.in-Ok.ensures.end) ∙ lt-ltb 0 (length c.read.new.buf) (omega arith); none_left = read.1 refl (omega arith) } in
-    all_but_rest _ _ _ _ c.args.reader.now c.reads.reader c.read.new.self c.args.taker.now c.take_lines.new.taker c.take_lines.new.lines c.take_lines.new.splitter.waiting c.finish.result.items tracks read.0 end none.0 none.1 c.finish.ensures.rest
+    all_but_rest _ _ _ _ _ c.args.reader.now c.reads.reader c.read.new.self c.args.taker.now c.take_lines.new.taker c.take_lines.new.lines c.take_lines.new.operations c.take_lines.new.splitter.waiting c.finish.result.items tracks read.0 end none.0 none.1 c.finish.ensures.rest

@@ -1,4 +1,5 @@
 use Rattle.std.proofs.Common.{◌≡◌, ◌+◌, ◌*◌, ◌≤◌, min, length, false}
+use Rattle.rga_lines.specs.declared.run.TheConstants.{MAX_RUN}
 use Rattle.rga_lines.specs.declared.counted.TheConstants.{MAX_CALLS}
 use Rattle.rga_exchange.specs.declared.block.TheConstants.{BLOCK}
 use Rattle.rga_exchange.specs.Parts.{HasTakenOfRead}
@@ -10,7 +11,8 @@ invariant-reads g l = record {
   room : l.lines + length l.splitter.waiting + BLOCK * min l.reader.left MAX_CALLS ≤ BLOCK * MAX_CALLS;
   limit : g.T.Taker.limit l.taker ≡ g.T.Taker.limit l.fn.taker;
   same_failures : l.reader.failures ≡ l.fn.reader.failures;
-  read : HasTakenOfRead g.R.Read.remaining g.T.Taker.limit g.T.Taker.content g.T.Taker.follows l.fn.reader l.reader l.fn.taker l.taker l.lines l.splitter.waiting;
+  read : HasTakenOfRead l.fn.form g.R.Read.remaining g.T.Taker.limit g.T.Taker.content g.T.Taker.follows l.fn.reader l.reader l.fn.taker l.taker l.lines l.operations l.splitter.waiting;
+  few : l.operations ≤ MAX_RUN * l.lines;
 }
 
 abbrev pub decreases-reads : goal.decreases-reads

@@ -1,0 +1,57 @@
+//! A log in as few lines as runs allow.
+ghost use Rattle.std.specs.Prelude.{◌≡◌, ◌≢◌, ◌⊎◌, true, Ok, Err, OnOk, OnErr, IfErr};
+ghost use Rattle.rga_ops.specs.Prelude.{Content, nothing};
+ghost use Rattle.rga_store.specs.declared.text_store.TheConstants.{MAX_LIMIT};
+ghost use Rattle.rga_lines.specs.Counting.{CountsAs, OnBytes, WritesNothing};
+ghost use Rattle.rga_exchange.specs.Taking.{HasTakenWholeLines};
+ghost use Rattle.rga_exchange.specs.declared.taking.Form.TheVariants.{Log};
+ghost use Rattle.mgr_show.specs.Log.{log_of};
+ghost use Rattle.mgr_show.specs.Shown.{IsOfInput};
+ghost use Rattle.mgr_show.specs.Compacted.{Compacts, BeginsToCompact};
+
+use crate::fault::ShowFault;
+use crate::show::take_whole_log;
+use rga_exchange::compact;
+use rga_lines::Counted;
+use rga_store::{MAX_LIMIT, TextStore, TreeStore};
+use std::alloc::Global;
+use std::io::{Read, Write};
+
+/// Reads operation lines to the end of the input, and writes what they make in as few lines as runs
+/// allow: a log that stands for the same content, and nothing else. A last line without newline
+/// counts where it is an operation.
+///
+/// Faults of the input as of `show_ops`. Nothing is written before the whole input was taken. Where
+/// `Write` or `Memory` is answered then, a beginning of the lines was written.
+pub fn compact_log<R: Read, W: Write>(
+    alloc: Global,
+    reader: &mut Counted<R>,
+    writer: &mut Counted<W>,
+) -> Result<(), ShowFault>
+    ensures compacted { OnOk result (OnBytes R.remaining reader.old
+        (λ bytes. Compacts W.contents writer.old writer.new bytes)) }
+
+    // A fault of the input is the first one of its bytes, however the reads cut them.
+    ensures refused { IfErr result (λ e. IsOfInput e → OnBytes R.remaining reader.old
+        (λ bytes. log_of MAX_LIMIT bytes ≡ Err e)) }
+    ensures unwritten { IfErr result (λ e. e ≢ ShowFault.Write → e ≢ ShowFault.Memory
+        → writer.new ≡ writer.old) }
+    // Whatever fails, nothing was written or a beginning of the lines of an accepted log.
+    ensures begun { OnErr result (OnBytes R.remaining reader.old (λ bytes.
+        WritesNothing W.contents writer.old writer.new
+        ⊎ BeginsToCompact W.contents writer.old writer.new bytes)) }
+    ensures flushed { OnOk result (writer.new.flushed ≡ true) }
+
+    ensures whole_lines { result ≡ Err ShowFault.Read → (c : Content) × HasTakenWholeLines Log
+        R.remaining (λ _. MAX_LIMIT) (λ held. held) (λ _ _ _. Unit {0})
+        reader.old reader.new nothing c }
+    ensures reads { CountsAs ShowFault.Read result reader.old reader.new }
+    ensures writes { CountsAs ShowFault.Write result writer.old writer.new }
+{
+    let Ok(mut store) = TreeStore::new(alloc, MAX_LIMIT) else {
+        return Err(ShowFault::Memory);
+    };
+    take_whole_log(alloc, &mut store, reader)?;
+    compact(alloc, &store, writer)?;
+    Ok(())
+}

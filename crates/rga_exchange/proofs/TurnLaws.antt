@@ -1,0 +1,158 @@
+-- Operation by operation come the compacted lines.
+use Rattle.std.proofs.Common.{◌≡◌, ℕ, ◌+◌, ◌<◌, ◌≤◌, Bool, true, false, cond, ◌&&◌, ◌||◌, ◌==◌, nat_le, nat_lt, List, [], ◌∷◌, ◌++◌, map, length, drop, get_or, Option, Ok, append_assoc, refl, sym, ap, ◌∙◌, subst, T, le-leb, le-ltb, arith}
+use Rattle.std.specs.Prelude.{Contains}
+use Rattle.std.specs.List.{AllByRecursion}
+use Rattle.std.specs.Ordering.{nat_cmp, is_lt, ordering_then}
+use Rattle.std.specs.declared.cmp.Ordering.TheVariants.{Less, Equal, Greater}
+use Rattle.std.specs.FinMap as finite_map
+use Rattle.std.specs.FinSet as finite_set
+use Rattle.std.specs.FinMap.{is_sorted}
+use Rattle.std.specs.FinMap.Entries.{below_all}
+use Rattle.std.proofs.Math.Bool.{or-false}
+use Rattle.std.proofs.lemmas.Bool.{eqb-true, ltb-true, ltb-false}
+use Rattle.std.proofs.lemmas.List.{drop_more, length-append}
+use Rattle.std.proofs.lemmas.List.Concat.{flat_map-append}
+use Rattle.rga_ops.specs.Identifier.{Identifier, id_cmp}
+use Rattle.rga_ops.specs.Content.{Element, element, Content, IsSound}
+use Rattle.rga_ops.specs.Operations.{insertion_of, rising, operations}
+use Rattle.rga_ops.specs.declared.op.Op.{Op}
+use Rattle.rga_ops.specs.declared.op.Op.TheVariants.{Insert, Delete}
+use Rattle.rga_ops.specs.Operation.{checked}
+use Rattle.rga_ops.specs.ListAnswer.{AreWellFormed}
+use Rattle.rga_ops.proofs.OperationsLaws.{operations_hold}
+use Rattle.rga_ops.proofs.SortedLaws.{both_so}
+use Rattle.rga_lines.specs.Runs.{Stretch}
+use Rattle.rga_lines.specs.Spelling.{line}
+use Rattle.rga_lines.specs.Counting.{Calls, WritesAllBut}
+use Rattle.rga_lines.specs.Stream.{newline, bytes_of_lines}
+use Rattle.rga_exchange.proofs.BegunLemmas.{begun_next}
+use Rattle.rga_exchange.specs.Compacting.{run_of, is_in_some, runs_behind, stretch_line, compact_lines}
+use Rattle.rga_exchange.specs.Turns.{covers, ends_with, ends_behind, lines_at, lines_from}
+
+-- the ends tell of each of these insertions whether it is in one of the runs
+abbrev Match : List Stretch → (ℕ → ℕ) → List (Identifier × Element) → Type 0
+Match runs ends es = AllByRecursion (λ (e : Identifier × Element). is_in_some runs e.0 ≡ covers ends e.0) es
+
+-- a larger identifier of the same replica has a larger counter
+larger_counter : (a b : Identifier) → T (is_lt (id_cmp a b)) → b.replica ≡ a.replica → a.counter < b.counter
+larger_counter a b h same = by_counter (nat_lt a.counter b.counter) refl h
+  where
+    not_below : (t : Bool) → nat_lt a.replica b.replica ≡ t → T (is_lt (cond t Less (cond (a.replica == b.replica) Equal Greater))) → a.counter < b.counter
+    not_below true is h = absurd (omega (arith, ltb-true a.replica b.replica is, same))
+    not_below false is h = by_replica (a.replica == b.replica) h
+      where
+        by_replica : (t : Bool) → T (is_lt (cond t Equal Greater)) → a.counter < b.counter
+        by_replica true h = absurd h
+        by_replica false h = absurd h
+
+    by_tie : (t : Bool) → T (is_lt (ordering_then (cond t Equal Greater) (nat_cmp a.replica b.replica))) → a.counter < b.counter
+    by_tie true h = not_below (nat_lt a.replica b.replica) refl h
+    by_tie false h = absurd h
+
+    by_counter : (t : Bool) → nat_lt a.counter b.counter ≡ t → T (is_lt (ordering_then (cond t Less (cond (a.counter == b.counter) Equal Greater)) (nat_cmp a.replica b.replica))) → a.counter < b.counter
+    by_counter true is h = ltb-true a.counter b.counter is
+    by_counter false is h = by_tie (a.counter == b.counter) h
+
+module _ (r : Stretch) (runs : List Stretch) (ends : ℕ → ℕ) (new : covers ends r.id ≡ false) where
+  -- an insertion behind the one that begins a run is in this run, or as before
+  matches : (id : Identifier) → T (is_lt (id_cmp r.id id)) → is_in_some runs id ≡ covers ends id → is_in_some (r ∷ runs) id ≡ covers (ends_with ends r) id
+  matches id behind before = by_replica (id.replica == r.id.replica) refl
+    where
+      by_replica : (b : Bool) → (id.replica == r.id.replica) ≡ b → ((b && (nat_le r.id.counter id.counter && nat_lt id.counter (r.id.counter + length r.chars))) || is_in_some runs id) ≡ nat_lt id.counter (cond b (r.id.counter + length r.chars) (ends id.replica))
+      by_replica true is =
+          let same : id.replica ≡ r.id.replica = eqb-true id.replica r.id.replica is in
+          let above : r.id.counter < id.counter = larger_counter r.id id behind same in
+          let past : ends r.id.replica ≤ r.id.counter = ltb-false r.id.counter (ends r.id.replica) new in
+          let last : ends id.replica ≤ id.counter = subst (λ q. ends q ≤ id.counter) (sym same) (omega (arith, above, past)) in
+          let out : is_in_some runs id ≡ false = before ∙ le-ltb id.counter (ends id.replica) last in
+          let from : nat_le r.id.counter id.counter ≡ true = le-leb r.id.counter id.counter (omega (arith, above)) in
+          (λ k. (from k && nat_lt id.counter (r.id.counter + length r.chars)) || out k) ∙ or-false (nat_lt id.counter (r.id.counter + length r.chars))
+      by_replica false is = before
+
+  matches_all : (es : List (Identifier × Element)) → T (below_all id_cmp r.id es) → Match runs ends es → Match (r ∷ runs) (ends_with ends r) es
+  matches_all [] below h = tt
+  matches_all (e ∷ es) below h =
+      let s : T (is_lt (id_cmp r.id e.0)) × T (below_all id_cmp r.id es) = both_so (is_lt (id_cmp r.id e.0)) (below_all id_cmp r.id es) below in
+      (matches e.0 s.0 h.0, matches_all es s.1 h.1)
+
+module _ (c : Content) where
+  deletions_in_turn : (ends : ℕ → ℕ) (ids : List Identifier) → lines_from c ends (map Delete ids) ≡ map line (map Delete ids)
+  deletions_in_turn ends [] = refl
+  deletions_in_turn ends (id ∷ ids) = ap (λ (ls : List (List ℕ)). line (Delete id) ∷ ls) (deletions_in_turn ends ids)
+
+  in_turn : (runs : List Stretch) (ends : ℕ → ℕ) (es : List (Identifier × Element)) (ids : List Identifier) → T (is_sorted id_cmp es) → Match runs ends es
+      → lines_from c ends (map insertion_of es ++ map Delete ids) ≡ map stretch_line (runs_behind c runs es) ++ map line (map Delete ids)
+  in_turn runs ends [] ids sorted h = deletions_in_turn ends ids
+  in_turn runs ends (e ∷ es) ids sorted h =
+      let s : T (below_all id_cmp e.0 es) × T (is_sorted id_cmp es) = both_so (below_all id_cmp e.0 es) (is_sorted id_cmp es) sorted in
+      by_choice (covers ends e.0) refl (is_in_some runs e.0) h.0 (in_turn runs ends es ids s.1 h.1) (λ new. in_turn (run_of c e ∷ runs) (ends_with ends (run_of c e)) es ids s.1 (matches_all (run_of c e) runs ends new es s.0 h.1))
+    where
+      later : List Op
+      later = map insertion_of es ++ map Delete ids
+
+      deleted : List (List ℕ)
+      deleted = map line (map Delete ids)
+
+      by_choice : (b : Bool) → covers ends e.0 ≡ b → (t : Bool) → t ≡ covers ends e.0 → lines_from c ends later ≡ map stretch_line (runs_behind c runs es) ++ deleted
+          → (covers ends e.0 ≡ false → lines_from c (ends_with ends (run_of c e)) later ≡ map stretch_line (runs_behind c (run_of c e ∷ runs) es) ++ deleted)
+          → cond b [] (stretch_line (run_of c e) ∷ []) ++ lines_from c (cond b ends (ends_with ends (run_of c e))) later ≡ map stretch_line (cond t (runs_behind c runs es) (run_of c e ∷ runs_behind c (run_of c e ∷ runs) es)) ++ deleted
+      by_choice true is true same with_it without = with_it
+      by_choice true is false same with_it without = absurd (let clash : false ≡ true = same ∙ is in cc)
+      by_choice false is true same with_it without = absurd (let clash : true ≡ false = same ∙ is in cc)
+      by_choice false is false same with_it without = ap (λ (ls : List (List ℕ)). stretch_line (run_of c e) ∷ ls) (without is)
+
+  none_matches : (es : List (Identifier × Element)) → Match [] (λ _. 0) es
+  none_matches [] = tt
+  none_matches (e ∷ es) = (sym (le-ltb e.0.counter 0 (omega arith)), none_matches es)
+
+  -- where no run is noted yet
+  pub all_in_turn : (ends : ℕ → ℕ) → ((replica : ℕ) → ends replica ≡ 0) → lines_from c ends (operations c) ≡ compact_lines c
+  all_in_turn ends none =
+      ap (λ (f : ℕ → ℕ). lines_from c f (operations c)) (λ k replica. none replica k)
+      ∙ in_turn [] (λ _. 0) (finite_map.entries c.inserted) (rising (finite_set.items c.deleted)) (finite_map.entries_sorted c.inserted) (none_matches (finite_map.entries c.inserted))
+
+-- one line at most comes for an operation
+pub one_at_most : (c : Content) (ends : ℕ → ℕ) (op : Op) → length (lines_at c ends op) ≤ 1
+one_at_most c ends (Insert id parent ch) = by_choice (covers ends id)
+  where
+    by_choice : (b : Bool) → length (cond b [] (stretch_line (run_of c (id, element parent ch)) ∷ [])) ≤ 1
+    by_choice true = omega arith
+    by_choice false = omega arith
+one_at_most c ends (Delete id) = omega arith
+
+-- ---- from an operation on
+
+pub lines_next : (c : Content) (ends next : ℕ → ℕ) (ops : List Op) (i : ℕ) (op : Op) → i < length ops → op ≡ get_or ops i op → ((replica : ℕ) → next replica ≡ ends_behind c ends op replica)
+    → lines_from c ends (drop i ops) ≡ lines_at c ends op ++ lines_from c next (drop (i + 1) ops)
+lines_next c ends next ops i op within at behind =
+    ap (λ (os : List Op). lines_from c ends os) (drop_more ops i op within)
+    ∙ ap (λ (o : Op). lines_at c ends o ++ lines_from c (ends_behind c ends o) (drop (i + 1) ops)) (sym at)
+    ∙ ap (λ (f : ℕ → ℕ). lines_at c ends op ++ lines_from c f (drop (i + 1) ops)) (λ k replica. sym (behind replica) k)
+
+module _ {W : Type 0} (contents : W → Option (List ℕ)) where
+  -- the lines that come for the next operation were added to the block
+  pub begun_turn : (a b d : Calls W) (text block left : List ℕ) (c : Content) (ends next : ℕ → ℕ) (ops : List Op) (i : ℕ) (op : Op) → i < length ops → op ≡ get_or ops i op → ((replica : ℕ) → next replica ≡ ends_behind c ends op replica)
+      → WritesAllBut contents a b text (block ++ bytes_of_lines (lines_from c ends (drop i ops))) → WritesAllBut contents b d (block ++ bytes_of_lines (lines_at c ends op)) left → WritesAllBut contents a d text (left ++ bytes_of_lines (lines_from c next (drop (i + 1) ops)))
+  begun_turn a b d text block left c ends next ops i op within at behind h k =
+      let first : List ℕ = block ++ bytes_of_lines (lines_at c ends op) in
+      let later : List ℕ = bytes_of_lines (lines_from c next (drop (i + 1) ops)) in
+      let split : block ++ bytes_of_lines (lines_from c ends (drop i ops)) ≡ first ++ later =
+      ap (λ (ls : List (List ℕ)). block ++ bytes_of_lines ls) (lines_next c ends next ops i op within at behind)
+      ∙ ap (λ (l : List ℕ). block ++ l) (flat_map-append (λ (l : List ℕ). l ++ newline ∷ []) (lines_at c ends op) (lines_from c next (drop (i + 1) ops)))
+      ∙ sym (append_assoc block (bytes_of_lines (lines_at c ends op)) later) in
+      begun_next contents a b d text first later left (subst (WritesAllBut contents a b text) split h) k
+
+-- how many lines are still to come
+pub fewer_left : (c : Content) (ends next : ℕ → ℕ) (ops : List Op) (i : ℕ) (op : Op) (lines number all : ℕ) → i < length ops → op ≡ get_or ops i op → ((replica : ℕ) → next replica ≡ ends_behind c ends op replica)
+    → number ≡ length (lines_at c ends op) → lines + length (lines_from c ends (drop i ops)) ≡ all → lines + number + length (lines_from c next (drop (i + 1) ops)) ≡ all
+fewer_left c ends next ops i op lines number all within at behind count h =
+    let both : length (lines_from c ends (drop i ops)) ≡ length (lines_at c ends op) + length (lines_from c next (drop (i + 1) ops)) =
+    ap length (lines_next c ends next ops i op within at behind) ∙ length-append (lines_at c ends op) (lines_from c next (drop (i + 1) ops)) in
+    omega (arith, both, count, h)
+
+-- what stands in a sound content is well-formed
+pub operation_well_formed : (c : Content) (ops : List Op) (i : ℕ) (op : Op) → IsSound c → ops ≡ operations c → i < length ops → op ≡ get_or ops i op → checked op ≡ Ok tt
+operation_well_formed c ops i op sound are within at = sound op (operations_hold c op (subst (λ (os : List Op). Contains os op) are (i, within, sym at)))
+
+pub operations_well_formed : (c : Content) (ops : List Op) → IsSound c → ops ≡ operations c → AreWellFormed ops
+operations_well_formed c ops sound are op m = sound op (operations_hold c op (subst (λ (os : List Op). Contains os op) are m))

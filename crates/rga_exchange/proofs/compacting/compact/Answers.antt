@@ -1,0 +1,25 @@
+use Rattle.std.proofs.Common.{◌∙◌, subst}
+use Rattle.rga_ops.specs.Operations.{operations}
+use Rattle.rga_exchange.specs.Sending.{AreWritable}
+use Rattle.rga_exchange.proofs.BegunLemmas.{begun_left}
+use Rattle.rga_exchange.proofs.CompactLaws.{compact_stands}
+use Rattle.rga_exchange.proofs.LogTextLemmas.{log_begun}
+use Rattle.rga_exchange.proofs.compacting.compact.Goals as goal
+
+pub returns-in_err-finish-clause-begun : goal.returns-in_err-finish-clause-begun
+returns-in_err-finish-clause-begun g c =
+    begun_left _ _ _ _ _ _ (log_begun _ _ _ _ _ _ c.in_ok-block.ensures c.in_ok-lines.ensures.ok) c.in_err-finish.ensures.begun
+
+-- each operation of the store can be written
+writable : (g : _) (c : goal.After-drop-ops-2 g) → AreWritable (operations (g.S.Taker.content c.args.store.now))
+writable g c = subst AreWritable (c.deref.ensures.value ∙ c.in_ok-ops.ensures.ok) c.in_ok-lines.ensures.writable
+
+pub returns-clause-stands : goal.returns-clause-stands
+returns-clause-stands g c = (compact_stands (g.S.Taker.content c.args.store.now) c.in_ok-ops.ensures.sound (writable g c)).0
+
+pub returns-clause-ended : goal.returns-clause-ended
+returns-clause-ended g c = (compact_stands (g.S.Taker.content c.args.store.now) c.in_ok-ops.ensures.sound (writable g c)).1
+
+pub returns-clause-begun : goal.returns-clause-begun
+returns-clause-begun g c =
+    begun_left _ _ _ _ _ _ (log_begun _ _ _ _ _ _ c.in_ok-block.ensures c.in_ok-lines.ensures.ok) c.in_ok-finish.ensures.begun

@@ -1,0 +1,293 @@
+//! Logs in as few lines as runs allow.
+ghost use Rattle.std.specs.Prelude.{◌≡◌, ℕ, ◌+◌, ◌++◌, ◌∷◌, [], length, slice_index, true, false, Ok, IfOk, IfErr, OnOk, string_bytes};
+ghost use Rattle.std.specs.Option.{option_map, option_map_or};
+ghost use Rattle.rga_ops.specs.Prelude.{checked, operations, IsSound};
+ghost use Rattle.rga_ops.specs.Content.{element};
+ghost use Rattle.rga_ops.specs.Identifier.{is_in_range};
+ghost use Rattle.rga_ops.specs.declared.op.Op.TheVariants.{Insert};
+ghost use Rattle.rga_lines.specs.Counting.{CountsAs, Writes, WritesFront, WritesAllBut};
+ghost use Rattle.rga_lines.specs.Runs.{IsRun, next};
+ghost use Rattle.rga_lines.specs.Spelling.{IsWritable, IsElementOrRoot};
+ghost use Rattle.rga_lines.specs.Stream.{newline, bytes_of_lines, rest_of};
+ghost use Rattle.rga_exchange.specs.Compacting.{compact_lines, compact_text, next_character, run_of, stretch_line};
+ghost use Rattle.rga_exchange.specs.Sending.{AreWritable, StandsFor};
+ghost use Rattle.rga_exchange.specs.Turns.{covers, ends_with, ends_behind, lines_at, lines_from};
+
+use crate::block::Block;
+use crate::fault::SendFault;
+use crate::sending::finish;
+use rga_lines::{Counted, LineFault, MAX_RUN, Run, write_line, write_run};
+use rga_ops::{Id, Op};
+use rga_store::TextStore;
+use std::alloc::{AllocError, Global};
+use std::io::Write;
+use std::marker::Model;
+
+/// Writes all that a store holds in as few lines as runs allow, each with its newline: the runs by
+/// rising first identifier, a run of one as an insertion, and then the deletions by rising
+/// identifier. Answers how many lines there are.
+///
+/// Beside the list of the operations one block of some 64 KiB is held, one run, and a table of
+/// 512 KiB. The device is used as by `send`.
+pub fn compact<S: TextStore, W: Write>(
+    alloc: Global,
+    store: &S,
+    writer: &mut Counted<W>,
+) -> Result<u64, SendFault>
+    ensures number { IfOk result (λ n. n ≡ length (compact_lines (S.content store.now))) }
+    ensures written { OnOk result (Writes W.contents writer.old writer.new
+        (compact_text (S.content store.now))) }
+    // These lines stand for the content, and the last one too ends in a newline.
+    ensures stands { OnOk result (StandsFor (compact_text (S.content store.now))
+        (S.content store.now)) }
+    ensures ended { OnOk result (rest_of (compact_text (S.content store.now)) ≡ []) }
+    ensures begun { WritesFront W.contents writer.old writer.new
+        (compact_text (S.content store.now)) }
+    ensures flushed { OnOk result (writer.new.flushed ≡ true) }
+    ensures device { CountsAs SendFault.Write result writer.old writer.new }
+{
+    let ops = sound_ops(store)?;
+    let mut block = Block::new(alloc)?;
+    let lines = push_compacted(alloc, store, &ops, &mut block, writer)?;
+    finish(block, writer)?;
+    Ok(lines)
+}
+
+/// The operations of a store.
+fn sound_ops<S: TextStore>(store: &S) -> Result<Vec<Op>, SendFault>
+    ensures ok { IfOk result (λ ops. ops.items ≡ operations (S.content store.now)) }
+    ensures sound { IsSound (S.content store.now) }
+    ensures memory { IfErr result (λ e. e ≡ SendFault.Memory) }
+{
+    // What is known is told with the fact that each operation is well-formed.
+    let _known = store.known();
+    let Ok(ops) = store.ops() else {
+        return Err(SendFault::Memory);
+    };
+    Ok(ops)
+}
+
+/// Adds the lines of the operations of a store to the block, which is written whenever it is full,
+/// and answers how many lines there are.
+fn push_compacted<S: TextStore, W: Write>(
+    alloc: Global,
+    store: &S,
+    ops: &[Op],
+    block: &mut Block,
+    writer: &mut Counted<W>,
+) -> Result<u64, SendFault>
+    requires all { ops.now ≡ operations (S.content store.now) }
+    requires sound { IsSound (S.content store.now) }
+    ensures number { IfOk result (λ n. n ≡ length (compact_lines (S.content store.now))) }
+    ensures ok { OnOk result (WritesAllBut W.contents writer.old writer.new
+        (block.old ++ compact_text (S.content store.now)) block.new) }
+    ensures writable { OnOk result (AreWritable ops.now) }
+    ensures begun { WritesFront W.contents writer.old writer.new
+        (block.old ++ compact_text (S.content store.now)) }
+    ensures device { CountsAs SendFault.Write result writer.old writer.new }
+{
+    let mut ends = RunEnds::new(alloc)?;
+    let mut lines = 0u64;
+    for op in ops {
+        lines += push_operation(alloc, store, op, &mut ends, block, writer)?;
+    }
+    Ok(lines)
+}
+
+/// Adds the line that comes for an operation, where one does, and answers how many there are.
+fn push_operation<S: TextStore, W: Write>(
+    alloc: Global,
+    store: &S,
+    op: &Op,
+    ends: &mut RunEnds,
+    block: &mut Block,
+    writer: &mut Counted<W>,
+) -> Result<u64, SendFault>
+    requires { checked op.now ≡ Ok tt }
+    ensures number { IfOk result (λ n. n ≡ length (lines_at (S.content store.now)
+        (slice_index ends.old) op.now)) }
+    ensures ok { OnOk result (WritesAllBut W.contents writer.old writer.new
+        (block.old ++ bytes_of_lines (lines_at (S.content store.now) (slice_index ends.old) op.now))
+        block.new) }
+    ensures ends { OnOk result ((replica : ℕ) → slice_index ends.new replica
+        ≡ ends_behind (S.content store.now) (slice_index ends.old) op.now replica) }
+    ensures writable { OnOk result (IsWritable op.now) }
+    ensures begun { WritesFront W.contents writer.old writer.new block.old }
+    ensures device { CountsAs SendFault.Write result writer.old writer.new }
+{
+    let Some(line) = next_line(alloc, store, op, ends)? else {
+        return Ok(0);
+    };
+    block.take_line(&line, writer)?;
+    Ok(1)
+}
+
+/// The line that comes for an operation, if one does: an insertion that is in the last run of its
+/// replica has none.
+fn next_line<S: TextStore>(
+    alloc: Global,
+    store: &S,
+    op: &Op,
+    ends: &mut RunEnds,
+) -> Result<Option<String>, SendFault>
+    requires { checked op.now ≡ Ok tt }
+    ensures line { IfOk result (λ line. option_map_or (λ text. string_bytes text ∷ []) line []
+        ≡ lines_at (S.content store.now) (slice_index ends.old) op.now) }
+    ensures ends { OnOk result ((replica : ℕ) → slice_index ends.new replica
+        ≡ ends_behind (S.content store.now) (slice_index ends.old) op.now replica) }
+    ensures writable { OnOk result (IsWritable op.now) }
+    ensures memory { IfErr result (λ e. e ≡ SendFault.Memory) }
+{
+    match op {
+        Op::Insert { id, parent, ch } => run_line(alloc, store, *id, *parent, *ch, ends),
+        Op::Delete { .. } => {
+            let Ok(deletion) = write_line(alloc, op) else {
+                return Err(SendFault::Memory);
+            };
+            Ok(Some(deletion))
+        }
+    }
+}
+
+/// The same for an insertion: the line of the run that it begins, unless it is in one.
+fn run_line<S: TextStore>(
+    alloc: Global,
+    store: &S,
+    id: Id,
+    parent: Id,
+    ch: char,
+    ends: &mut RunEnds,
+) -> Result<Option<String>, SendFault>
+    requires { checked (Insert id parent ch) ≡ Ok tt }
+    ensures line { IfOk result (λ line. option_map_or (λ text. string_bytes text ∷ []) line []
+        ≡ lines_at (S.content store.now) (slice_index ends.old) (Insert id parent ch)) }
+    ensures ends { OnOk result ((replica : ℕ) → slice_index ends.new replica
+        ≡ ends_behind (S.content store.now) (slice_index ends.old) (Insert id parent ch) replica) }
+    ensures writable { OnOk result (IsWritable (Insert id parent ch)) }
+    ensures memory { IfErr result (λ e. e ≡ SendFault.Memory) }
+{
+    let rises = parent.counter() < id.counter();
+    prove!(rises);
+    if ends.covers(id) {
+        return Ok(None);
+    }
+    let run = run_from(alloc, store, id, parent, ch)?;
+    ends.note(&run);
+    let Ok(line) = shortest_line(alloc, &run) else {
+        return Err(SendFault::Memory);
+    };
+    Ok(Some(line))
+}
+
+/// The run that begins with an insertion: with those that go on behind it, up to `MAX_RUN`
+/// characters.
+fn run_from<S: TextStore>(
+    alloc: Global,
+    store: &S,
+    id: Id,
+    parent: Id,
+    ch: char,
+) -> Result<Run, AllocError>
+    requires rising { checked (Insert id parent ch) ≡ Ok tt }
+    requires within { is_in_range id.counter id.replica ≡ true }
+    ensures run { IfOk result (λ r. r ≡ run_of (S.content store.now) (id, element parent ch)) }
+    ensures whole { IfOk result (λ r. IsRun r) }
+{
+    let mut chars = Vec::new(alloc);
+    let Ok(()) = chars.push(ch) else {
+        return Err(AllocError);
+    };
+    let mut last = id;
+    'chars: while chars.len() < MAX_RUN {
+        let Some((next, ch)) = next_in_run(store, last) else {
+            break;
+        };
+        let Ok(()) = chars.push(ch) else {
+            return Err(AllocError);
+        };
+        last = next;
+    }
+    Ok(Run { id, parent, chars })
+}
+
+/// The insertion that goes on with a run behind its last identifier: its own, and its character.
+fn next_in_run<S: TextStore>(store: &S, last: Id) -> Option<(Id, char)>
+    requires { is_in_range last.counter last.replica ≡ true }
+    ensures { result ≡ option_map (λ ch. (next last, ch))
+        (next_character (S.content store.now) last) }
+{
+    let Ok(next) = Id::new(last.counter() + 1, last.replica()) else {
+        return None;
+    };
+    let (parent, ch) = store.get(next)?;
+    if parent == last {
+        Some((next, ch))
+    } else {
+        None
+    }
+}
+
+/// The line of a run, or of an insertion where it is a run of one.
+fn shortest_line(alloc: Global, run: &Run) -> Result<String, LineFault>
+    requires { IsRun run.now }
+    ensures { IfOk result (λ s. string_bytes s ≡ stretch_line run.now) }
+{
+    let chars = run.chars.as_slice();
+    if chars.len() == 1 {
+        let op = Op::Insert {
+            id: run.id,
+            parent: run.parent,
+            ch: chars[0],
+        };
+        write_line(alloc, &op)
+    } else {
+        write_run(alloc, run)
+    }
+}
+
+/// The counter behind the last run of each replica, by its number; 0 where there is none.
+#[derive(Drop)]
+struct RunEnds {
+    counters: Vec<u64>,
+}
+
+impl Model for RunEnds {
+    ghost use Rattle.std.specs.Prelude.{◌≡◌, ℕ, List, length};
+
+    ghost Value = { List ℕ };
+
+    ghost view = { λ ends. ends.counters.items };
+
+    ghost invariant = { λ ends. length ends.counters.items ≡ 65536 };
+}
+
+impl RunEnds {
+    ghost use Rattle.std.specs.Prelude.{◌≡◌, ℕ, slice_index, IfOk};
+    ghost use Rattle.rga_lines.specs.Runs.{IsRun};
+    ghost use Rattle.rga_exchange.specs.Turns.{covers, ends_with};
+
+    /// No run yet.
+    fn new(alloc: Global) -> Result<Self, AllocError>
+        ensures { IfOk result (λ ends. (replica : ℕ) → slice_index ends replica ≡ 0) }
+    {
+        let counters = vec![in alloc; 0u64; 65536]?;
+        Ok(RunEnds { counters })
+    }
+
+    /// Whether an identifier that is behind all that begin a run is in the last run of its replica.
+    fn covers(&self, id: Id) -> bool
+        ensures { result ≡ covers (slice_index self.now) id }
+    {
+        id.counter() < self.counters[usize::from(id.replica())]
+    }
+
+    /// Notes the last run of its replica.
+    fn note(&mut self, run: &Run)
+        requires { IsRun run.now }
+        ensures { (replica : ℕ) → slice_index self.new replica
+            ≡ ends_with (slice_index self.old) run.now replica }
+    {
+        let end = run.id.counter() + run.chars.len() as u64;
+        self.counters[usize::from(run.id.replica())] = end;
+    }
+}

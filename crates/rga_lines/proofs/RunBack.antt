@@ -1,0 +1,99 @@
+-- The line of a run is read back.
+use Rattle.std.proofs.Common.{◌≡◌, ℕ, ◌+◌, ◌*◌, ◌<◌, ◌≤◌, Bool, true, false, List, [], ◌∷◌, ◌++◌, length, codes, Some, Ok, refl, sym, ap, ap₂, subst, ◌∙◌, arith, append_assoc, append-nil, length-append, lit≤, lt-ltb, le-ltb, ne_eqb, leb, eqb, ltb, ◌&&◌, ◌||◌}
+use Rattle.std.specs.Char.{encode_utf8, IsScalar}
+use Rattle.std.specs.List.{flat_map, AllByRecursion}
+use Rattle.std.specs.Str.{IsUtf8, chars}
+use Rattle.std.proofs.Math.Utf8.{encodes}
+use lib.Utf8.{scalar, scalars}
+use Rattle.std.proofs.lemmas.Bool.{lt-leb}
+use Rattle.std.proofs.lemmas.Str.{chars-encodes, IsUtf8-append}
+use Rattle.json.specs.Print.{escape, escape_byte}
+use Rattle.json.specs.Tree as tree
+use Rattle.json.proofs.Printed.Utf8.{IsUtf8-are_ascii, IsUtf8-quoted}
+use Rattle.serde_json.specs.Data.{Data, string, object, member, no_members}
+use Rattle.serde_json.specs.Read.{of_json}
+use Rattle.serde_json.specs.Written.{compact_text, outline}
+use Rattle.serde_json.proofs.OnLiterals.{serde_json_on_literals}
+use Rattle.rga_ops.specs.Identifier.{Identifier, is_root, is_in_range}
+use Rattle.rga_lines.specs.declared.reading.Line.TheVariants.{Run}
+use Rattle.rga_lines.specs.Members.{pair_data}
+use Rattle.rga_ops.specs.declared.id.TheConstants.Id.{MAX_COUNTER}
+use Rattle.rga_lines.specs.declared.run.TheConstants.{MAX_RUN}
+use Rattle.rga_lines.specs.declared.reading.TheConstants.{MAX_LINE}
+use Rattle.rga_lines.specs.Runs.{Stretch, stretch}
+use Rattle.rga_lines.specs.Spelling.{escaped, pair_text, run_line, IsWritableRun}
+use Rattle.rga_lines.specs.Table.{value_line, any_line_at}
+use Rattle.rga_lines.proofs.SpellingLemmas.{escape-encode}
+use Rattle.rga_lines.proofs.ReadBack.{InBounds, within, in_bounds, pair_text-length, IsUtf8-pair_text, pair-numbers, pair-json, escaped-length, back}
+
+abbrev run_data : List ℕ → Identifier → Identifier → Data
+run_data text id parent = object (member (codes "id") (pair_data id) (member (codes "op") (string (codes "run")) (member (codes "parent") (pair_data parent) (member (codes "text") (string text) no_members))))
+
+abbrev run_text : List ℕ → Identifier → Identifier → List ℕ
+run_text inside id parent = codes "{\"id\":" ++ (pair_text id ++ (codes ",\"op\":\"run\",\"parent\":" ++ (pair_text parent ++ (codes ",\"text\":\"" ++ (inside ++ codes "\"}")))))
+
+compact_run : (text : List ℕ) (id parent : Identifier) → compact_text (run_data text id parent) ≡ run_text (escape text) id parent
+unfolding serde_json_on_literals
+compact_run text id parent =
+    ap (λ (l : List ℕ). codes "{\"id\":" ++ (pair_text id ++ (codes ",\"op\":\"run\",\"parent\":" ++ (pair_text parent ++ (codes ",\"text\":\"" ++ l))))) (append_assoc (escape text) (34 ∷ []) (codes "}"))
+
+escape-append : (xs ys : List ℕ) → escape (xs ++ ys) ≡ escape xs ++ escape ys
+escape-append [] ys = refl
+escape-append (x ∷ xs) ys = ap (λ (l : List ℕ). escape_byte x ++ l) (escape-append xs ys) ∙ sym (append_assoc (escape_byte x) (escape xs) (escape ys))
+
+escape-encodes : (cs : List ℕ) → escape (encodes cs) ≡ flat_map escaped cs
+escape-encodes [] = refl
+escape-encodes (c ∷ cs) = escape-append (encode_utf8 c) (encodes cs) ∙ ap₂ (λ (x y : List ℕ). x ++ y) (escape-encode c) (escape-encodes cs)
+
+all_scalars : (cs : List ℕ) → AllByRecursion IsScalar cs → scalars cs ≡ true
+all_scalars [] h = refl
+all_scalars (c ∷ cs) h = rw (h.0, all_scalars cs h.1)
+
+escaped_all-length : (cs : List ℕ) → length (flat_map escaped cs) ≤ 6 * length cs
+escaped_all-length [] = omega arith
+escaped_all-length (c ∷ cs) = omega (arith, escaped-length c, escaped_all-length cs, length-append (escaped c) (flat_map escaped cs))
+
+run-length : (inside : List ℕ) (id parent : Identifier) → length inside ≤ 24576 → InBounds id → InBounds parent → length (run_text inside id parent) ≤ MAX_LINE
+run-length inside id parent small h k =
+    let after = codes ",\"text\":\"" ++ (inside ++ codes "\"}") in
+    omega (
+      arith,
+      length-append inside (codes "\"}"),
+      length-append (pair_text parent) after,
+      length-append (pair_text id) (codes ",\"op\":\"run\",\"parent\":" ++ (pair_text parent ++ after)),
+      pair_text-length id h,
+      pair_text-length parent k,
+    )
+
+run-utf8 : (text : List ℕ) (id parent : Identifier) → IsUtf8 text → InBounds id → InBounds parent → IsUtf8 (compact_text (run_data text id parent))
+unfolding serde_json_on_literals
+run-utf8 text id parent u h k =
+    IsUtf8-append (codes "{\"id\":") _ (IsUtf8-are_ascii _ refl)
+    (IsUtf8-append _ _ (IsUtf8-pair_text id h)
+    (IsUtf8-append (codes ",\"op\":\"run\",\"parent\":") _ (IsUtf8-are_ascii _ refl)
+    (IsUtf8-append _ _ (IsUtf8-pair_text parent k)
+    (IsUtf8-append (codes ",\"text\":") _ (IsUtf8-are_ascii _ refl) (IsUtf8-append _ _ (IsUtf8-quoted text u) (IsUtf8-are_ascii (codes "}") refl))))))
+
+run-json : (text : List ℕ) (id parent : Identifier) → InBounds id → InBounds parent → of_json (outline (run_data text id parent)) ≡ Some (run_data text id parent)
+run-json text id parent h k = rw (pair-json id h, pair-json parent k)
+
+module _ (r : Stretch) (h : IsWritableRun r) where
+  run-value : (text : List ℕ) → chars text ≡ r.chars → value_line (run_data text r.id r.parent) ≡ Ok (Run r)
+  unfolding value_line
+  run-value text e = rw (h.id, h.parent, e, le-ltb _ _ h.run.end, ne_eqb (length r.chars) 0 (λ z. omega (arith, h.run.some)), le-ltb _ _ h.run.few, lt-leb _ _ h.run.rising)
+
+  pub run_back : any_line_at (run_line r) ≡ Ok (Run r)
+  unfolding run_line
+  run_back =
+      let f = within r.id h.id in
+      let g = in_bounds r.parent h.parent in
+      let text = encodes r.chars in
+      let good = all_scalars r.chars h.scalars in
+      let written : compact_text (run_data text r.id r.parent) ≡ run_line r = compact_run text r.id r.parent ∙ ap (λ (inside : List ℕ). run_text inside r.id r.parent) (escape-encodes r.chars) in
+      back (run_data text r.id r.parent) (run_line r) (Run r) written
+      (run-length (flat_map escaped r.chars) r.id r.parent (omega (arith, escaped_all-length r.chars, h.run.few)) f g)
+      (subst IsUtf8 written (run-utf8 text r.id r.parent (r.chars, (good, refl)) f g))
+      (pair-numbers r.id f, (tt, (pair-numbers r.parent g, (tt, tt))))
+      (lit≤ tt)
+      (run-json text r.id r.parent f g)
+      (run-value text (chars-encodes r.chars good))

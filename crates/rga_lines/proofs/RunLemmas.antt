@@ -1,0 +1,64 @@
+-- The characters of a run's line, one after another.
+use Rattle.std.proofs.Common.{◌≡◌, ℕ, ◌+◌, ◌<◌, Ok, ne_eqb, List, [], ◌∷◌, ◌++◌, length, refl, sym, ap, ◌∙◌, arith, append_assoc, append-nil, length-append, codes}
+use Rattle.std.specs.Char.{IsScalar, encode_utf8}
+use Rattle.std.specs.List.{flat_map, AllByRecursion}
+use Rattle.std.proofs.lemmas.Str.{length-encode, len_utf8_bounds}
+use Rattle.rga_ops.specs.Identifier.{Identifier}
+use Rattle.rga_ops.specs.Operation.{checked}
+use Rattle.rga_ops.specs.declared.op.Op.{Op}
+use Rattle.rga_lines.specs.Runs.{Stretch, IsRun, next, run_operations, stretch_operations}
+use Rattle.rga_lines.specs.Spelling.{escaped, BeginsWithCharacters}
+use Rattle.std.proofs.lemmas.Bool.{lt-leb}
+use Rattle.rga_lines.proofs.SpellingLemmas.{escaped_all}
+
+flat-push : (xs : List ℕ) (c : ℕ) (rest : List ℕ) → flat_map escaped (xs ++ c ∷ []) ++ rest ≡ flat_map escaped xs ++ (escaped c ++ rest)
+flat-push [] c rest = ap (λ (l : List ℕ). l ++ rest) (append-nil (escaped c))
+flat-push (x ∷ xs) c rest =
+    append_assoc (escaped x) (flat_map escaped (xs ++ c ∷ [])) rest ∙ ap (λ (l : List ℕ). escaped x ++ l) (flat-push xs c rest) ∙ sym (append_assoc (escaped x) (flat_map escaped xs) (escaped c ++ rest))
+
+scalars-push : (xs : List ℕ) (c : ℕ) → AllByRecursion IsScalar xs → IsScalar c → AllByRecursion IsScalar (xs ++ c ∷ [])
+scalars-push [] c h k = (k, tt)
+scalars-push (x ∷ xs) c h k = (h.0, scalars-push xs c h.1 k)
+
+pub read_one : (bytes chars rest behind : List ℕ) (c : ℕ) → BeginsWithCharacters bytes chars rest → rest ≡ escaped c ++ behind → IsScalar c → BeginsWithCharacters bytes (chars ++ c ∷ []) behind
+read_one bytes chars rest behind c h e k = record {
+  parts = h.parts ∙ ap (λ (l : List ℕ). flat_map escaped chars ++ l) e ∙ sym (flat-push chars c behind);
+  scalars = scalars-push chars c h.scalars k;
+}
+
+escaped-some : (c : ℕ) → 0 < length (escaped c)
+escaped-some c = escaped_all (λ (l : List ℕ). 0 < length l) c (omega arith) (omega arith) (omega arith) (omega arith) (omega arith) (omega arith) (omega arith) (omega (arith, length-encode c, len_utf8_bounds c))
+
+pub shorter : (rest behind : List ℕ) (c : ℕ) → rest ≡ escaped c ++ behind → length behind < length rest
+shorter rest behind c e = omega (arith, ap length e, length-append (escaped c) behind, escaped-some c)
+
+-- seven parts written one behind another, the first behind nothing
+pub seven_parts : (a b c d e f g t₀ t₁ t₂ t₃ t₄ t₅ t₆ t₇ : List ℕ) → t₀ ≡ [] → t₁ ≡ t₀ ++ a → t₂ ≡ t₁ ++ b → t₃ ≡ t₂ ++ c → t₄ ≡ t₃ ++ d → t₅ ≡ t₄ ++ e → t₆ ≡ t₅ ++ f → t₇ ≡ t₆ ++ g
+    → t₇ ≡ a ++ (b ++ (c ++ (d ++ (e ++ (f ++ g)))))
+seven_parts a b c d e f g t₀ t₁ t₂ t₃ t₄ t₅ t₆ t₇ h₀ h₁ h₂ h₃ h₄ h₅ h₆ h₇ =
+    let one : t₁ ≡ a = h₁ ∙ ap (λ l. l ++ a) h₀ in
+    let two : t₂ ≡ a ++ b = h₂ ∙ ap (λ l. l ++ b) one in
+    let three : t₃ ≡ (a ++ b) ++ c = h₃ ∙ ap (λ l. l ++ c) two in
+    let four : t₄ ≡ ((a ++ b) ++ c) ++ d = h₄ ∙ ap (λ l. l ++ d) three in
+    let five : t₅ ≡ (((a ++ b) ++ c) ++ d) ++ e = h₅ ∙ ap (λ l. l ++ e) four in
+    let six : t₆ ≡ ((((a ++ b) ++ c) ++ d) ++ e) ++ f = h₆ ∙ ap (λ l. l ++ f) five in
+    h₇ ∙ ap (λ l. l ++ g) six
+    ∙ append_assoc ((((a ++ b) ++ c) ++ d) ++ e) f g
+    ∙ append_assoc (((a ++ b) ++ c) ++ d) e (f ++ g)
+    ∙ append_assoc ((a ++ b) ++ c) d (e ++ (f ++ g))
+    ∙ append_assoc (a ++ b) c (d ++ (e ++ (f ++ g)))
+    ∙ append_assoc a b (c ++ (d ++ (e ++ (f ++ g))))
+
+-- ---- the insertions of a run
+
+pub run_operations-length : (id parent : Identifier) (chars : List ℕ) → length (run_operations id parent chars) ≡ length chars
+run_operations-length id parent [] = refl
+run_operations-length id parent (c ∷ chars) = omega (arith, run_operations-length (next id) id chars)
+
+operations_checked : (id parent : Identifier) (chars : List ℕ) → parent.counter < id.counter → AllByRecursion (λ (op : Op). checked op ≡ Ok tt) (run_operations id parent chars)
+operations_checked id parent [] h = tt
+operations_checked id parent (c ∷ chars) h = (rw (ne_eqb id.counter 0 (λ z. omega (arith, h)), lt-leb id.counter parent.counter h), operations_checked (next id) id chars (omega arith))
+
+-- they are well-formed
+pub run_checked : (r : Stretch) → IsRun r → AllByRecursion (λ (op : Op). checked op ≡ Ok tt) (stretch_operations r)
+run_checked r h = operations_checked r.id r.parent r.chars h.rising

@@ -1,0 +1,19 @@
+-- Bytes that are spelled as the line of a run say that run.
+use Rattle.std.proofs.Common.{◌≡◌, ℕ, ◌+◌, ◌<◌, ◌≤◌, List, ◌++◌, length, codes, Ok, true, ◌||◌, sym, ap, ◌∙◌}
+use Rattle.rga_ops.specs.Identifier.{Identifier, is_root, is_in_range}
+use Rattle.rga_lines.specs.declared.reading.Line.TheVariants.{Run}
+use Rattle.rga_ops.specs.declared.id.TheConstants.Id.{MAX_COUNTER}
+use Rattle.rga_lines.specs.declared.run.TheConstants.{MAX_RUN}
+use Rattle.rga_lines.specs.Runs.{Stretch, stretch}
+use Rattle.rga_lines.specs.Spelling.{run_from, run_line, IsWritableRun, BeginsWithCharacters}
+use Rattle.rga_lines.specs.Table.{any_line_at}
+use Rattle.rga_lines.proofs.RunBack.{run_back}
+
+pub spelled_run_says : (rest : List ℕ) (id parent : Identifier) (chars : List ℕ)
+    → is_in_range id.counter id.replica ≡ true → is_root parent || is_in_range parent.counter parent.replica ≡ true
+    → BeginsWithCharacters rest chars (codes "\"}") → 0 < length chars → length chars ≤ MAX_RUN → id.counter + length chars ≤ MAX_COUNTER + 1 → parent.counter < id.counter
+    → any_line_at (run_from id parent rest) ≡ Ok (Run (stretch id parent chars))
+unfolding run_line
+spelled_run_says rest id parent chars h k read some few end rising =
+    ap any_line_at (ap (run_from id parent) read.parts)
+    ∙ run_back (stretch id parent chars) (record { id = h; parent = k; scalars = read.scalars; run = record { some = some; few = few; end = end; rising = rising } })

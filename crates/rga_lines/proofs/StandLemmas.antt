@@ -1,0 +1,71 @@
+-- What a line stands for: the operations of a log and of a stream.
+use Rattle.std.proofs.Common.{◌≡◌, ℕ, ◌<◌, ◌^◌, List, [], ◌∷◌, ◌++◌, length, Result, Ok, Err, refl, sym, ap, ◌∙◌, arith}
+use Rattle.std.specs.List.{AllByRecursion}
+use Rattle.rga_ops.specs.Operation.{checked}
+use Rattle.rga_ops.specs.declared.op.Op.{Op}
+use Rattle.rga_lines.specs.declared.reading.Line.TheVariants.{One, Run, Head, Last}
+use Rattle.rga_lines.specs.declared.reading.TheConstants.{MAX_LINE}
+use Rattle.rga_lines.specs.declared.fault.LineFault.{LineFault}
+use Rattle.rga_lines.specs.declared.fault.LineFault.TheVariants as fault
+use Rattle.rga_lines.specs.Runs.{Stretch, stretch_operations}
+use Rattle.rga_lines.specs.Spelling.{line, run_line, end_line, IsWritable, IsWritableRun}
+use Rattle.rga_lines.specs.Table.{AnyReading, any_line_at}
+use Rattle.rga_lines.specs.Log.{operations_in, operations_at}
+use Rattle.rga_lines.proofs.ReadingLemmas.{too_long, refused, any_well_formed, any_run}
+use Rattle.rga_lines.proofs.RunLemmas.{run_checked}
+use Rattle.rga_lines.proofs.RunBack.{run_back}
+use Rattle.rga_lines.proofs.ReadBack.{line_back, end_back}
+use Rattle.rga_lines.proofs.BeginningLemmas.{beginning_refused}
+use Rattle.serde_json.proofs.OnLiterals.{serde_json_on_literals}
+
+abbrev pub AreChecked : List Op → Type 0
+AreChecked ops = AllByRecursion (λ op. checked op ≡ Ok tt) ops
+
+abbrev pub stands_for : List Op → Result (List Op) LineFault
+stands_for ops = Ok ops
+
+abbrev pub stands_for_none : LineFault → Result (List Op) LineFault
+stands_for_none e = Err e
+
+pub stands : (bytes : List ℕ) (r : AnyReading) → any_line_at bytes ≡ r → operations_at bytes ≡ operations_in r
+unfolding operations_at
+stands bytes r e = ap operations_in e
+
+-- the operations that a line stands for are well-formed
+pub stand_checked : (bytes : List ℕ) (ops : List Op) → operations_at bytes ≡ Ok ops → AreChecked ops
+stand_checked bytes ops h = by_reading (any_line_at bytes) refl
+  where
+    same : (others : List Op) → stands_for others ≡ stands_for ops → AreChecked others → AreChecked ops
+    same others e all = let is : others ≡ ops = cc in rw is at all
+
+    by_reading : (r : AnyReading) → any_line_at bytes ≡ r → AreChecked ops
+    by_reading (Ok (One op)) says = same (op ∷ []) (sym (stands bytes (Ok (One op)) says) ∙ h) (any_well_formed bytes op says, tt)
+    by_reading (Ok (Run r)) says = same (stretch_operations r) (sym (stands bytes (Ok (Run r)) says) ∙ h) (run_checked r (any_run bytes r says))
+    by_reading (Ok Head) says = let clash : stands_for_none fault.Kind ≡ stands_for ops = sym (stands bytes (Ok Head) says) ∙ h in absurd cc
+    by_reading (Ok (Last number)) says = let clash : stands_for_none fault.Kind ≡ stands_for ops = sym (stands bytes (Ok (Last number)) says) ∙ h in absurd cc
+    by_reading (Err e) says = let clash : stands_for_none e ≡ stands_for ops = sym (stands bytes (Err e) says) ∙ h in absurd cc
+
+pub long_stands : (bytes : List ℕ) → MAX_LINE < length bytes → operations_at bytes ≡ Err fault.Long
+long_stands bytes h = stands bytes (Err fault.Long) (too_long bytes h)
+
+-- no bytes stand for no operations
+pub nothing_says : any_line_at [] ≡ Err fault.Json
+unfolding serde_json_on_literals
+nothing_says = refused [] (omega arith) (λ _. refl)
+
+pub nothing_stands : operations_at [] ≡ Err fault.Json
+nothing_stands = stands [] (Err fault.Json) nothing_says
+
+pub line_stands : (op : Op) → IsWritable op → checked op ≡ Ok tt → operations_at (line op) ≡ Ok (op ∷ [])
+line_stands op h e = stands (line op) (Ok (One op)) (line_back op h e)
+
+pub run_stands : (r : Stretch) → IsWritableRun r → operations_at (run_line r) ≡ Ok (stretch_operations r)
+run_stands r h = stands (run_line r) (Ok (Run r)) (run_back r h)
+
+pub end_stands : (operations : ℕ) → operations < 2 ^ 64 → operations_at (end_line operations) ≡ Err fault.Kind
+end_stands operations h = stands (end_line operations) (Ok (Last operations)) (end_back operations h)
+
+pub beginning_stands : (op : Op) (front : List ℕ) (b : ℕ) (back : List ℕ) → IsWritable op → line op ≡ front ++ b ∷ back → (e : LineFault) × (operations_at front ≡ Err e)
+beginning_stands op front b back h e =
+    let refused = beginning_refused op front b back h e in
+    (refused.0, stands front (Err refused.0) refused.1)

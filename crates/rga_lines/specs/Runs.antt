@@ -1,0 +1,43 @@
+-- Runs: insertions of one replica with rising counters, each after the one before it.
+use Rattle.std.specs.Prelude.{ℕ, ◌+◌, ◌<◌, ◌≤◌, List, [], ◌∷◌, length, refl}
+use Rattle.std.specs.Coded.{Coded, code_by, coded×, coded_list, coded_ℕ}
+use Rattle.rga_ops.specs.Identifier.{Identifier, identifier, identifier_code}
+use Rattle.rga_ops.specs.declared.id.TheConstants.Id.{MAX_COUNTER}
+use Rattle.rga_ops.specs.declared.op.Op.{Op}
+use Rattle.rga_ops.specs.declared.op.Op.TheVariants.{Insert}
+use Rattle.rga_lines.specs.declared.run.TheConstants.{MAX_RUN}
+
+-- what contracts see of a run: the identifier and the parent of its first character, and the characters
+pub record Stretch : Type 0 where
+  pub id : Identifier
+  pub parent : Identifier
+  pub chars : List ℕ
+
+abbrev pub stretch : Identifier → Identifier → List ℕ → Stretch
+stretch id parent chars = record { id = id; parent = parent; chars = chars }
+
+abbrev pub stretch_code : Coded Stretch
+stretch_code =
+    code_by (Identifier × (Identifier × List ℕ)) (coded× identifier_code (coded× identifier_code (coded_list coded_ℕ)))
+    (λ r. (r.id, (r.parent, r.chars)))
+    (λ p. stretch p.0 p.1.0 p.1.1)
+    (λ _. refl)
+
+-- the next identifier of the same replica
+abbrev pub next : Identifier → Identifier
+next id = identifier (id.counter + 1) id.replica
+
+abbrev pub run_operations : Identifier → Identifier → List ℕ → List Op
+run_operations id parent [] = []
+run_operations id parent (ch ∷ chars) = Insert id parent ch ∷ run_operations (next id) id chars
+
+-- what a run stands for
+abbrev pub stretch_operations : Stretch → List Op
+stretch_operations r = run_operations r.id r.parent r.chars
+
+-- There are 1 to 4096 characters, the last counter too is in range, and the first is above the parent's.
+pub record IsRun (r : Stretch) : Type 0 where
+  pub some : 0 < length r.chars
+  pub few : length r.chars ≤ MAX_RUN
+  pub end : r.id.counter + length r.chars ≤ MAX_COUNTER + 1
+  pub rising : r.parent.counter < r.id.counter

@@ -1,0 +1,229 @@
+//! Stores and logs that are compacted, to devices that fail, and logs that are written anew by a
+//! disk of which a step fails.
+use mgr_compact::compact_note;
+use mgr_show::{ShowFault, compact_log};
+use rga_exchange::{SendFault, compact};
+use rga_lines::Counted;
+use rga_ops::Refusal;
+use rga_store::{Taker, TextStore, TreeStore};
+use std::alloc::{AllocError, Global};
+use std::process::Abort;
+use test_fixtures::{Narrow, id, insertion, ops_of};
+use test_ports::MemoryLogs;
+
+/// Two runs and a deletion.
+const THREE: &str = r#"{"id":[1,1],"op":"run","parent":[0,0],"text":"abc"}
+{"id":[1,2],"op":"run","parent":[0,0],"text":"xy"}
+{"id":[2,1],"op":"del"}
+"#;
+
+/// An insertion behind which the counter has a gap, and another replica's.
+const ALONE: &str = r#"{"char":"a","id":[1,1],"op":"ins","parent":[0,0]}
+{"char":"b","id":[3,1],"op":"ins","parent":[1,1]}
+{"char":"c","id":[4,2],"op":"ins","parent":[3,1]}
+"#;
+
+/// A store of these operations.
+fn holding(alloc: Global, words: &str) -> Result<TreeStore, Refusal> {
+    let mut store = TreeStore::new(alloc, 10000)?;
+    store.apply_all(&ops_of(alloc, words)?)?;
+    Ok(store)
+}
+
+/// Whether a store is compacted to so many lines, of this text.
+fn compacts(alloc: Global, store: &TreeStore, lines: u64, text: &str) -> bool {
+    let mut writer = Counted::new(Vec::new(alloc));
+    let answer = compact(alloc, store, &mut writer);
+    answer == Ok(lines) && writer.into_inner().as_slice() == text.as_bytes()
+}
+
+#[test]
+fn a_store_is_compacted_to_runs_and_deletions(rt: HostRuntime) {
+    for (words, lines, text) in [
+        ("", 0, ""),
+        (
+            "a1.1<0.0 b2.1<1.1 c3.1<2.1 x1.2<0.0 y2.2<1.2 -2.1",
+            3,
+            THREE,
+        ),
+        (
+            "y2.2<1.2 -2.1 c3.1<2.1 x1.2<0.0 b2.1<1.1 a1.1<0.0",
+            3,
+            THREE,
+        ),
+        ("a1.1<0.0 b3.1<1.1 c4.2<3.1", 3, ALONE),
+    ] {
+        let store = holding(rt.alloc(), words).expect(&rt, "a store");
+        assert!(rt; compacts(rt.alloc(), &store, lines, text), "{words}");
+    }
+}
+
+/// A store of so many insertions, each behind the last.
+fn chain(alloc: Global, count: u64) -> Result<TreeStore, Refusal> {
+    let mut store = TreeStore::new(alloc, 10000)?;
+    for k in 0..count {
+        store.apply(insertion((k.saturating_add(1), 7), (k, 7), 'z')?)?;
+    }
+    Ok(store)
+}
+
+/// How many lines and bytes a chain of so many is compacted to.
+fn sizes(alloc: Global, count: u64) -> Option<(u64, usize)> {
+    let store = chain(alloc, count).ok()?;
+    let mut writer = Counted::new(Vec::new(alloc));
+    let lines = compact(alloc, &store, &mut writer).ok()?;
+    Some((lines, writer.into_inner().len()))
+}
+
+#[test]
+fn a_run_has_4096_characters_at_most(rt: HostRuntime) {
+    for (count, lines, bytes) in [(1, 1, 50), (4096, 1, 4145), (4097, 2, 4201)] {
+        assert!(rt; sizes(rt.alloc(), count) == Some((lines, bytes)), "{count}");
+    }
+}
+
+/// A device that has room for so many bytes, and takes few of them in a write.
+fn device(alloc: Global, room: usize, flushes: bool) -> Narrow {
+    Narrow {
+        taken: Vec::new(alloc),
+        room,
+        most: 7,
+        writes: 0,
+        flushes,
+    }
+}
+
+/// Whether this is answered where a store is compacted to the device, which counts as failed where
+/// that is a fault, and takes as much of the text as it has room for.
+fn fills(
+    alloc: Global,
+    store: &TreeStore,
+    device: Narrow,
+    answer: Result<u64, SendFault>,
+    text: &str,
+) -> bool {
+    let room = device.room;
+    let mut writer = Counted::new(device);
+    let answered = compact(alloc, store, &mut writer) == answer;
+    let counted = writer.failures() == u64::from(answer.is_err());
+    let taken = writer.into_inner().taken;
+    answered && counted && taken.len() == room && text.as_bytes().starts_with(&taken)
+}
+
+fn fill(rt: &impl Abort, alloc: Global, store: &TreeStore) {
+    let all = THREE.len();
+    for (room, flushes, answer) in [
+        (all, true, Ok(3)),
+        (all, false, Err(SendFault::Write)),
+        (all.saturating_sub(1), true, Err(SendFault::Write)),
+        (0, true, Err(SendFault::Write)),
+    ] {
+        let device = device(alloc, room, flushes);
+        assert!(rt; fills(alloc, store, device, answer, THREE), "{room}");
+    }
+}
+
+#[test]
+fn devices_that_fail_have_a_beginning_of_the_lines(rt: HostRuntime) {
+    let words = "a1.1<0.0 b2.1<1.1 c3.1<2.1 x1.2<0.0 y2.2<1.2 -2.1";
+    let store = holding(rt.alloc(), words).expect(&rt, "a store");
+    fill(&rt, rt.alloc(), &store);
+}
+
+/// Lines of which two stand twice, and the last has no newline.
+const LOG: &str = r#"{"id":[2,1],"op":"del"}
+{"id":[1,1],"op":"run","parent":[0,0],"text":"ab"}
+{"id":[2,1],"op":"del"}
+{"char":"y","id":[2,2],"op":"ins","parent":[1,2]}
+{"char":"c","id":[3,1],"op":"ins","parent":[2,1]}
+{"char":"a","id":[1,1],"op":"ins","parent":[0,0]}
+{"char":"x","id":[1,2],"op":"ins","parent":[0,0]}"#;
+
+/// A log whose last line is refused.
+const REFUSED: &str = r#"{"char":"a","id":[1,1],"op":"ins","parent":[0,0]}
+{"id":[1,1],"op":"run","parent":[0,0],"text":"bc"}
+"#;
+
+/// Whether this is answered to a log, and this written.
+fn log_compacts(alloc: Global, log: &str, answer: Result<(), ShowFault>, text: &str) -> bool {
+    let mut reader = Counted::new(log.as_bytes());
+    let mut writer = Counted::new(Vec::new(alloc));
+    let answered = compact_log(alloc, &mut reader, &mut writer);
+    answered == answer && writer.into_inner().as_slice() == text.as_bytes()
+}
+
+#[test]
+fn a_log_is_compacted_where_it_is_accepted(rt: HostRuntime) {
+    for (log, answer, text) in [
+        ("", Ok(()), ""),
+        (LOG, Ok(()), THREE),
+        (THREE, Ok(()), THREE),
+        (ALONE, Ok(()), ALONE),
+        (REFUSED, conflict(), ""),
+        (&LOG[..20], Err(ShowFault::Torn(1)), ""),
+    ] {
+        assert!(rt; log_compacts(rt.alloc(), log, answer, text), "{log}");
+    }
+}
+
+/// What is answered to the log that is refused.
+fn conflict() -> Result<(), ShowFault> {
+    match id(1, 1) {
+        Ok(id) => Err(ShowFault::Refused(2, Refusal::Conflict(id))),
+        Err(_) => Ok(()),
+    }
+}
+
+/// What is answered where a log is written anew by a disk that makes so many steps, and the steps,
+/// in words; and what the log is then.
+fn rewritten(
+    alloc: Global,
+    log: &str,
+    left: usize,
+) -> Result<(Result<(), ShowFault>, String, Vec<u8>), AllocError> {
+    let log = Vec::from_slice(alloc, log.as_bytes())?;
+    let mut logs = MemoryLogs::new(alloc, log, left);
+    let answer = compact_note(alloc, &mut logs, "note");
+    let mut line = String::new(alloc);
+    logs.disk.push_steps(&mut line)?;
+    Ok((answer, line, logs.log))
+}
+
+fn rewrites(
+    alloc: Global,
+    log: &str,
+    left: usize,
+    answer: Result<(), ShowFault>,
+    line: &str,
+    text: &str,
+) -> bool {
+    match rewritten(alloc, log, left) {
+        Ok((answered, steps, bytes)) => {
+            answered == answer && steps.as_str() == line && bytes.as_slice() == text.as_bytes()
+        }
+        Err(_) => false,
+    }
+}
+
+#[test]
+fn a_log_that_is_written_anew_is_the_old_one_or_the_new_one(rt: HostRuntime) {
+    for (log, left, answer, line, text) in [
+        (LOG, 0, Err(ShowFault::Write), "", LOG),
+        (LOG, 1, Err(ShowFault::Write), " empty", LOG),
+        (LOG, 2, Err(ShowFault::Write), " empty write", LOG),
+        (LOG, 3, Err(ShowFault::Write), " empty write sync", LOG),
+        (LOG, 4, Err(ShowFault::Write), " empty write sync keep", LOG),
+        (
+            LOG,
+            5,
+            Err(ShowFault::Write),
+            " empty write sync keep name",
+            THREE,
+        ),
+        (LOG, 6, Ok(()), " empty write sync keep name folder", THREE),
+        (REFUSED, 6, conflict(), "", REFUSED),
+    ] {
+        let alloc = rt.alloc();
+        assert!(rt; rewrites(alloc, log, left, answer, line, text), "{left}");
+    }
+}
