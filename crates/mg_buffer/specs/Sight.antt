@@ -7,6 +7,7 @@ use Rattle.rga_ops.specs.Order.{text}
 use Rattle.rga_ops.specs.Places.{place}
 use Rattle.mg_plain.specs.declared.view.Kind.{Kind}
 use Rattle.mg_plain.specs.Effect.{Effect}
+use Rattle.mg_plain.specs.Kills.{kill_after}
 use Rattle.mg_plain.specs.Situation.{Situation}
 use Rattle.mg_buffer.specs.State.{State}
 
@@ -18,7 +19,7 @@ pub record Notes : Type 0 where
 
 -- those that an effect leaves
 abbrev pub notes_after : Notes → Effect → Notes
-notes_after notes e = record { kill = unwrap_or e.kill notes.kill; kind = e.kind; goal = e.goal }
+notes_after notes e = record { kill = kill_after notes.kind notes.kill e.kind e.kill; kind = e.kind; goal = e.goal }
 
 -- the place of an element that has one
 abbrev pub place_of : Content → Identifier → ℕ

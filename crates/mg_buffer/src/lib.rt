@@ -12,6 +12,7 @@
 mod buffer;
 mod fault;
 mod group;
+mod kill_buffer;
 pub mod laws;
 mod memo;
 mod room;

@@ -1,6 +1,5 @@
 //! What the editor keeps between commands.
-ghost use Rattle.std.specs.Prelude.{◌≡◌, [], ◌∷◌};
-ghost use Rattle.std.specs.Option.{option_map, unwrap_or};
+ghost use Rattle.std.specs.Prelude.{◌≡◌, []};
 ghost use Rattle.mg_plain.specs.declared.view.Kind.TheVariants.{Plain};
 
 use mg_plain::Kind;
@@ -35,17 +34,5 @@ impl Memo {
             kind: Kind::Plain,
             goal: 0,
         }
-    }
-
-    /// Keeps what a command left; the kill buffer where there is another.
-    pub(crate) fn keep(&mut self, kill: Option<Vec<char>>, kind: Kind, goal: usize)
-        ensures { let new_kill = unwrap_or (option_map (λ k. k.items) kill) self.old.kill in
-            self.new ≡ record { kill = new_kill; kind = kind; goal = goal } }
-    {
-        if let Some(kill) = kill {
-            self.kill = kill;
-        }
-        self.kind = kind;
-        self.goal = goal;
     }
 }

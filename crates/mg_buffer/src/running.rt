@@ -14,6 +14,7 @@ ghost use Rattle.mg_buffer.specs.declared.fault.BufferFault.TheVariants.{Store};
 use crate::buffer::Buffer;
 use crate::fault::BufferFault;
 use crate::group::Group;
+use crate::kill_buffer::{make_room, put_in};
 use crate::memo::Memo;
 use crate::room::{add_all, add_group};
 use crate::spot::{mark_at, spot_at};
@@ -54,8 +55,11 @@ impl<S: TextStore> Buffer<S> {
             goal,
             kind,
         } = plan;
+        make_room(&mut memo.kill, memo.kind, kind, &kill)?;
         self.edit(&splices, point, mark)?;
-        memo.keep(kill, kind, goal);
+        put_in(&mut memo.kill, memo.kind, kind, kill);
+        memo.kind = kind;
+        memo.goal = goal;
         Ok(())
     }
 

@@ -15,13 +15,14 @@ use Rattle.mg_plain.specs.declared.outcome.Notice.TheVariants.{NoMark, SearchFai
 use Rattle.mg_plain.specs.declared.steps.Direction.{Direction}
 use Rattle.mg_plain.specs.declared.steps.Direction.TheVariants.{Backward, Forward}
 use Rattle.mg_plain.specs.declared.steps.Piece.TheVariants.{Line, Word}
+use Rattle.mg_plain.specs.declared.view.Kind.TheVariants.{Killing}
 use Rattle.mg_plain.specs.Cases.{character_splices, first_word_character, recased_char, recasing, recasing_up_to}
 use Rattle.mg_plain.specs.Characters.{is_newline, newline}
 use Rattle.mg_plain.specs.Commands.{effect}
 use Rattle.mg_plain.specs.Effect.{Effect, IsWithin, edit_effect, motion, one_splice, removed_characters, splice}
 use Rattle.mg_plain.specs.Filling.{alters, columns, filling, gaps}
 use Rattle.mg_plain.specs.Insertions.{indentation, insert, insertion, newline_and_indent, open_line, typing, yank}
-use Rattle.mg_plain.specs.Kills.{deletion, kill_effect, kill_region, kill_so_far, kill_up_to}
+use Rattle.mg_plain.specs.Kills.{deletion, kill_after, kill_effect, kill_region, kill_so_far, kill_up_to}
 use Rattle.mg_plain.specs.Lines.{at_goal, begins_line, line_begin, line_end}
 use Rattle.mg_plain.specs.Matches.{first_match, last_match, match_at, matches, next_match, stands_at}
 use Rattle.mg_plain.specs.Motions.{by_lines, by_words, end_notice, goal_of, scroll, to_line, vertical_motion}
@@ -344,25 +345,29 @@ effect-within command n s column e seen h =
 
 -- ---- what kills take, and what case keeps
 
-kill-takes : (s : Situation) (lo hi : ℕ) → (kill_effect s lo hi).kill ≡ Some (kill_so_far s.last s.kill ++ removed_characters s.text (one_splice lo hi []))
-kill-takes s lo hi = elim (nat_eq lo hi && nat_eq (length {A = ℕ} []) 0) as (λ b. (nat_eq lo hi && nat_eq (length {A = ℕ} []) 0) ≡ b → Some (kill_so_far s.last s.kill ++ slice_range s.text lo hi) ≡ Some (kill_so_far s.last s.kill ++ removed_characters s.text (if b then [] else splice lo hi [] ∷ []))) [
+-- what the kill buffer holds after a kill: what was there, if the command before killed, and what was taken
+abbrev Takes : Situation → Effect → Type 0
+Takes s e = kill_after s.last s.kill e.kind e.kill ≡ kill_so_far s.last s.kill Killing ++ removed_characters s.text e.splices
+
+kill-takes : (s : Situation) (lo hi : ℕ) → Takes s (kill_effect s lo hi)
+kill-takes s lo hi = elim (nat_eq lo hi && nat_eq (length {A = ℕ} []) 0) as (λ b. (nat_eq lo hi && nat_eq (length {A = ℕ} []) 0) ≡ b → (kill_so_far s.last s.kill Killing ++ slice_range s.text lo hi) ≡ (kill_so_far s.last s.kill Killing ++ removed_characters s.text (if b then [] else splice lo hi [] ∷ []))) [
   | true ↦ λ h.
       let same : lo ≡ hi = eqb-true lo hi (and_parts (nat_eq lo hi) true h).0 in
       let none : hi - lo ≡ 0 = omega (arith, same) in
-      ap (λ k. Some (kill_so_far s.last s.kill ++ take k (drop lo s.text))) none
+      ap (λ k. kill_so_far s.last s.kill Killing ++ take k (drop lo s.text)) none
   | false ↦ λ h. refl
 ] refl
 
-pub kill_up_to-takes : (s : Situation) (hi : ℕ) (e : Effect) → kill_up_to s hi ≡ Ok e → e.kill ≡ Some (kill_so_far s.last s.kill ++ removed_characters s.text e.splices)
-kill_up_to-takes s hi e h = elim (nat_lt s.point (length s.text)) as (λ b. ◌≡◌ {A = Result Effect Notice} (if b then Ok (kill_effect s s.point hi) else Err EndOfBuffer) (Ok e) → e.kill ≡ Some (kill_so_far s.last s.kill ++ removed_characters s.text e.splices)) [
-  | true ↦ λ g. subst (λ (x : Effect). x.kill ≡ Some (kill_so_far s.last s.kill ++ removed_characters s.text x.splices)) (ok_is g) (kill-takes s s.point hi)
+pub kill_up_to-takes : (s : Situation) (hi : ℕ) (e : Effect) → kill_up_to s hi ≡ Ok e → Takes s e
+kill_up_to-takes s hi e h = elim (nat_lt s.point (length s.text)) as (λ b. ◌≡◌ {A = Result Effect Notice} (if b then Ok (kill_effect s s.point hi) else Err EndOfBuffer) (Ok e) → Takes s e) [
+  | true ↦ λ g. subst (Takes s) (ok_is g) (kill-takes s s.point hi)
   | false ↦ λ g. absurd (err_ok g)
 ] h
 
-pub kill_region-takes : (s : Situation) (e : Effect) → kill_region s ≡ Ok e → e.kill ≡ Some (kill_so_far s.last s.kill ++ removed_characters s.text e.splices)
-kill_region-takes s e h = elim s.mark as (λ o. ◌≡◌ {A = Result Effect Notice} (elim o [ None ↦ Err NoMark | Some m ↦ Ok (kill_effect s (min s.point m) (max s.point m)) ]) (Ok e) → e.kill ≡ Some (kill_so_far s.last s.kill ++ removed_characters s.text e.splices)) [
+pub kill_region-takes : (s : Situation) (e : Effect) → kill_region s ≡ Ok e → Takes s e
+kill_region-takes s e h = elim s.mark as (λ o. ◌≡◌ {A = Result Effect Notice} (elim o [ None ↦ Err NoMark | Some m ↦ Ok (kill_effect s (min s.point m) (max s.point m)) ]) (Ok e) → Takes s e) [
   | None ↦ λ g. absurd (err_ok g)
-  | Some m ↦ λ g. subst (λ (x : Effect). x.kill ≡ Some (kill_so_far s.last s.kill ++ removed_characters s.text x.splices)) (ok_is g) (kill-takes s (min s.point m) (max s.point m))
+  | Some m ↦ λ g. subst (Takes s) (ok_is g) (kill-takes s (min s.point m) (max s.point m))
 ] h
 
 pub recasing-keeps : (casing : Casing) (s : Situation) (e : Effect) → IsView s → recasing casing s ≡ Ok e → length (text_after s.text e.splices) ≡ length s.text

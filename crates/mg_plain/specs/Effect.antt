@@ -7,7 +7,7 @@ use Rattle.mg_plain.specs.declared.view.Kind.{Kind}
 use Rattle.mg_plain.specs.declared.view.Kind.TheVariants.{Plain}
 use Rattle.mg_plain.specs.Situation.{Situation}
 
--- the splices, falling; point and mark in the new text; the new kill buffer, if it is another; goal and kind
+-- the splices, falling; point and mark in the new text; what goes into the kill buffer, if anything does; goal and kind
 pub record Effect : Type 0 where
   pub splices : List Splice
   pub point : ℕ

@@ -6,6 +6,7 @@ use Rattle.mg_plain.specs.declared.outcome.Notice.{Notice}
 use Rattle.mg_plain.specs.Situation.{Situation}
 use Rattle.mg_plain.specs.Characters.{newline}
 use Rattle.mg_plain.specs.Effect.{Effect, motion}
+use Rattle.mg_plain.specs.Kills.{kill_after}
 
 abbrev pub plain_view : List ℕ → ℕ → Situation
 plain_view text point = record { text = text; point = point; mark = None; kill = []; goal = 0; last = Plain }
@@ -29,6 +30,11 @@ point_of (Err n) = Err n
 -- the mark is at point, and the command before killed
 abbrev pub after_kill : Situation → List ℕ → Situation
 after_kill s kill = record s { mark = Some s.point; kill = kill; last = Killing }
+
+-- the kill buffer that an effect leaves
+abbrev pub kill_buffer : Situation → Result Effect Notice → Result (List ℕ) Notice
+kill_buffer s (Ok e) = Ok (kill_after s.last s.kill e.kind e.kill)
+kill_buffer s (Err n) = Err n
 
 -- a kill from point on: the mark is at point too
 abbrev pub kill_of : Situation → Splice → List ℕ → Effect

@@ -1,5 +1,6 @@
 -- Deletions, and kills, which keep what they take.
-use Rattle.std.specs.Prelude.{ℕ, ◌+◌, ◌-◌, List, [], ◌++◌, length, min, max, Some, None, Result, Ok, Err, if◌then◌else◌, nat_le, nat_lt}
+use Rattle.std.specs.Prelude.{ℕ, ◌+◌, ◌-◌, ◌&&◌, Bool, true, false, List, [], ◌++◌, length, min, max, Option, Some, None, Result, Ok, Err, if◌then◌else◌, nat_le, nat_lt}
+use Rattle.std.specs.Option.{option_map_or}
 use Rattle.std.specs.List.{slice_range}
 use Rattle.mg_plain.specs.declared.view.Kind.{Kind}
 use Rattle.mg_plain.specs.declared.view.Kind.TheVariants.{Plain, Killing, Vertical}
@@ -19,14 +20,8 @@ delete_char n s = if nat_le (s.point + n) (length s.text) then Ok (deletion s s.
 abbrev pub delete_backward_char : ℕ → Situation → Result Effect Notice
 delete_backward_char n s = if nat_le n s.point then Ok (deletion s (s.point - n) s.point) else Err BeginningOfBuffer
 
--- what a kill goes behind: the kill buffer, where the command before killed too
-abbrev pub kill_so_far : Kind → List ℕ → List ℕ
-kill_so_far Killing kill = kill
-kill_so_far Plain kill = []
-kill_so_far Vertical kill = []
-
 abbrev pub kill_effect : Situation → ℕ → ℕ → Effect
-kill_effect s lo hi = record (deletion s lo hi) { kill = Some (kill_so_far s.last s.kill ++ slice_range s.text lo hi); kind = Killing }
+kill_effect s lo hi = record (deletion s lo hi) { kill = Some (slice_range s.text lo hi); kind = Killing }
 
 -- from point to a place behind it, of which there is none at the end of the text
 abbrev pub kill_up_to : Situation → ℕ → Result Effect Notice
@@ -41,3 +36,19 @@ kill_word s = kill_up_to s (word_end s.text s.point)
 
 abbrev pub kill_region : Situation → Result Effect Notice
 kill_region s = elim s.mark [ None ↦ Err NoMark | Some m ↦ Ok (kill_effect s (min s.point m) (max s.point m)) ]
+
+-- ---- the kill buffer
+
+abbrev pub is_kill : Kind → Bool
+is_kill Killing = true
+is_kill Plain = false
+is_kill Vertical = false
+
+-- what a command of this kind leaves of the kill buffer before what it puts in: all, where the command before killed too
+-- and this one does
+abbrev pub kill_so_far : Kind → List ℕ → Kind → List ℕ
+kill_so_far last kill kind = if is_kill last && is_kill kind then kill else []
+
+-- the kill buffer after a command of this kind that puts in these characters, if any
+abbrev pub kill_after : Kind → List ℕ → Kind → Option (List ℕ) → List ℕ
+kill_after last kill kind chars = option_map_or (λ cs. kill_so_far last kill kind ++ cs) chars kill

@@ -1,10 +1,10 @@
-//! Deletions, and kills, which keep what they take.
-ghost use Rattle.std.specs.Prelude.{◌≡◌, ◌≤◌, ◌++◌, length, IfOk};
-ghost use Rattle.std.specs.List.{slice_range};
+//! Deletions, and kills, which keep what they take. What is killed is copied once: it does not matter how
+//! much the kill buffer holds that it goes behind.
+ghost use Rattle.std.specs.Prelude.{◌≡◌, ◌≤◌, length, IfOk};
 ghost use Rattle.mg_plain.specs.Answer.{IsAnswer};
 ghost use Rattle.mg_plain.specs.Kills as spec;
 
-use crate::edit::change;
+use crate::edit::{change, copy};
 use crate::lines::line_end;
 use crate::outcome::{Notice, Plan};
 use crate::view::{Kind, View};
@@ -35,32 +35,12 @@ pub(crate) fn delete_backward_char(alloc: Global, view: &View<'_>, n: u16) -> Re
     Ok(delete(alloc, view, view.point - usize::from(n), view.point)?)
 }
 
-/// The new kill buffer: behind the old one, where the command before killed too.
-fn kill_buffer(
-    alloc: Global,
-    view: &View<'_>,
-    lo: usize,
-    hi: usize,
-) -> Result<Vec<char>, AllocError>
-    requires order { lo ≤ hi }
-    requires within { hi ≤ length view.now.text }
-    ensures { IfOk result (λ v. v.items
-        ≡ spec.kill_so_far view.now.last view.now.kill ++ slice_range view.now.text lo hi) }
-{
-    let mut chars = Vec::new(alloc);
-    if view.last == Kind::Killing {
-        chars.extend_from_slice(view.kill)?;
-    }
-    chars.extend_from_slice(&view.text[lo..hi])?;
-    Ok(chars)
-}
-
 fn kill(alloc: Global, view: &View<'_>, lo: usize, hi: usize) -> Result<Plan, AllocError>
     requires order { lo ≤ hi }
     requires within { hi ≤ length view.now.text }
     ensures { IfOk result (λ p. p ≡ spec.kill_effect view.now lo hi) }
 {
-    let chars = kill_buffer(alloc, view, lo, hi)?;
+    let chars = copy(alloc, &view.text[lo..hi])?;
     let plan = delete(alloc, view, lo, hi)?;
     Ok(Plan {
         kill: Some(chars),

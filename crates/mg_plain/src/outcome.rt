@@ -17,7 +17,8 @@ pub struct Plan {
     pub point: usize,
     /// Where the mark goes, in the new text.
     pub mark: Option<usize>,
-    /// The new kill buffer; `None` where it stays.
+    /// What goes into the kill buffer: behind what is there, where this command and the one before
+    /// kill, else in its place; `None` where the kill buffer stays.
     pub kill: Option<Vec<char>>,
     pub goal: usize,
     pub kind: Kind,

@@ -1,12 +1,13 @@
 //! What every command keeps.
-ghost use Rattle.std.specs.Prelude.{◌≡◌, ◌++◌, ℕ, length, Some, Ok};
+ghost use Rattle.std.specs.Prelude.{◌≡◌, ◌++◌, ℕ, length, Ok};
 ghost use Rattle.rga_ops.specs.Splice.{text_after};
 ghost use Rattle.mg_plain.specs.declared.cases.Casing.{Casing};
 ghost use Rattle.mg_plain.specs.declared.command.Command.{Command};
+ghost use Rattle.mg_plain.specs.declared.view.Kind.TheVariants.{Killing};
 ghost use Rattle.mg_plain.specs.Cases.{recasing};
 ghost use Rattle.mg_plain.specs.Commands.{effect};
 ghost use Rattle.mg_plain.specs.Effect.{Effect, IsWithin, removed_characters};
-ghost use Rattle.mg_plain.specs.Kills.{kill_line, kill_region, kill_so_far, kill_word};
+ghost use Rattle.mg_plain.specs.Kills.{kill_after, kill_line, kill_region, kill_so_far, kill_word};
 ghost use Rattle.mg_plain.specs.Situation.{Situation, IsView};
 
 /// What a command does stays within the text: its splices fall and keep apart, so that a document
@@ -20,11 +21,14 @@ pub fn effects_stay_within_the_text()
 /// killed too.
 pub fn kills_keep_what_they_take()
     ensures line { (s : Situation) (e : Effect) → kill_line s ≡ Ok e →
-        e.kill ≡ Some (kill_so_far s.last s.kill ++ removed_characters s.text e.splices) }
+        kill_after s.last s.kill e.kind e.kill
+        ≡ kill_so_far s.last s.kill Killing ++ removed_characters s.text e.splices }
     ensures word { (s : Situation) (e : Effect) → kill_word s ≡ Ok e →
-        e.kill ≡ Some (kill_so_far s.last s.kill ++ removed_characters s.text e.splices) }
+        kill_after s.last s.kill e.kind e.kill
+        ≡ kill_so_far s.last s.kill Killing ++ removed_characters s.text e.splices }
     ensures region { (s : Situation) (e : Effect) → kill_region s ≡ Ok e →
-        e.kill ≡ Some (kill_so_far s.last s.kill ++ removed_characters s.text e.splices) }
+        kill_after s.last s.kill e.kind e.kill
+        ≡ kill_so_far s.last s.kill Killing ++ removed_characters s.text e.splices }
 {}
 
 /// A change of case keeps the length of the text.

@@ -1,12 +1,12 @@
 //! Worked examples of commands, computed.
 ghost use Rattle.std.specs.Prelude.{◌≡◌, ℕ, List, [], ◌∷◌, ◌++◌, Some, Ok, Err, codes};
-ghost use Rattle.mg_plain.specs.declared.command.Command.TheVariants.{ForwardWord, BackwardWord, ForwardChar, NextLine, TransposeChars, CapitalizeWord, NewlineAndIndent, KillRegion, KillLine, Yank, ScrollUp};
+ghost use Rattle.mg_plain.specs.declared.command.Command.TheVariants.{ForwardWord, BackwardWord, ForwardChar, NextLine, TransposeChars, CapitalizeWord, NewlineAndIndent, KillRegion, CopyRegionAsKill, KillLine, Yank, ScrollUp};
 ghost use Rattle.mg_plain.specs.declared.outcome.Notice.TheVariants.{BeginningOfBuffer, EndOfBuffer, SearchFailed};
 ghost use Rattle.mg_plain.specs.declared.view.Kind.TheVariants.{Vertical};
 ghost use Rattle.mg_plain.specs.Characters.{newline};
 ghost use Rattle.mg_plain.specs.Commands.{effect};
 ghost use Rattle.mg_plain.specs.Effect.{splice, edit_effect, motion};
-ghost use Rattle.mg_plain.specs.Examples.{plain_view, text_and_point, outcome, point_of, kill_of, after_kill, five_lines, short_line};
+ghost use Rattle.mg_plain.specs.Examples.{plain_view, text_and_point, outcome, point_of, kill_buffer, kill_of, after_kill, five_lines, short_line};
 ghost use Rattle.mg_plain.specs.Filling.{fill_paragraph};
 ghost use Rattle.mg_plain.specs.Replacement.{search_forward, search_backward, replace_all};
 
@@ -59,12 +59,17 @@ pub fn edits_of_a_line()
         ≡ Ok (text_and_point (codes " " ++ newline ∷ codes "  ab") 3) }
 {}
 
-/// Kills, one behind the other, and a yank of both.
+/// Kills, one behind the other, a copy that takes their place, and a yank of both.
 pub fn kills_and_yanks()
     ensures region { let s = record (plain_view (codes "abcdef") 1) { mark = Some 4 } in
         effect KillRegion 1 s 70 ≡ Ok (kill_of s (splice 1 4 []) (codes "bcd")) }
     ensures line { let s = after_kill (plain_view (codes "aef") 1) (codes "bcd") in
-        effect KillLine 1 s 70 ≡ Ok (kill_of s (splice 1 3 []) (codes "bcdef")) }
+        effect KillLine 1 s 70 ≡ Ok (kill_of s (splice 1 3 []) (codes "ef")) }
+    ensures joined { let s = after_kill (plain_view (codes "aef") 1) (codes "bcd") in
+        kill_buffer s (effect KillLine 1 s 70) ≡ Ok (codes "bcdef") }
+    ensures copied { let s = after_kill (plain_view (codes "aef") 1) (codes "bcd") in
+        let t = record s { mark = Some 3 } in
+        kill_buffer t (effect CopyRegionAsKill 1 t 70) ≡ Ok (codes "ef") }
     ensures yank { let s = record (plain_view (codes "a") 1) { kill = codes "bcdef" } in
         effect Yank 1 s 70
         ≡ Ok (record (motion s 6) { splices = splice 1 1 (codes "bcdef") ∷ []; mark = Some 1 }) }
