@@ -1,5 +1,5 @@
 -- Groups: which one an undo takes, that each can be reverted, and that point keeps a place over an undo.
-use Rattle.std.proofs.Common.{◌≡◌, ℕ, zero, suc, ◌-◌, ◌<◌, ◌≤◌, true, false, cond, ◌&&◌, is_some, List, [], ◌∷◌, map, filter, get_or, length, refl, sym, ap, ◌∙◌, arith}
+use Rattle.std.proofs.Common.{◌≡◌, ℕ, zero, suc, ◌-◌, ◌<◌, ◌≤◌, true, false, cond, ◌&&◌, is_some, List, [], ◌∷◌, filter, get_or, length, refl, sym, ap, ◌∙◌, arith}
 use Rattle.std.specs.Prelude.{Option, Some, None, Ok}
 use Rattle.std.specs.Option.{option_map, option_map_or}
 use Rattle.std.specs.List.{slice_get, list_all}
@@ -74,7 +74,7 @@ index_taken groups (suc k) other within = by (slice_get groups k) refl
     by (Some g) e = let same : suc k - 1 ≡ k = omega arith in ap Some same
 
 -- the group at an index is the one that is read there
-pub group_is : (groups : List Past) (i : ℕ) (x g : Past) → x ≡ get_or groups i x → i < length groups → slice_get groups i ≡ Some g → g ≡ x
+pub group_is : {A : Type 0} (groups : List A) (i : ℕ) (x g : A) → x ≡ get_or groups i x → i < length groups → slice_get groups i ≡ Some g → g ≡ x
 group_is groups i x g is within at = same_Some g (get_or groups i x) (sym at ∙ slice_get-get_or groups i x within) ∙ sym is
 
 -- ---- every group can be reverted
@@ -157,17 +157,3 @@ module _ (limit replica : ℕ) (c : Content) (gone : List Identifier) (back : Li
 pub mark_stands_still : (c x : Content) (mark : Option Spot) → option_map_or (stands c) mark true ≡ true → option_map_or (stands (join c x)) mark true ≡ true
 mark_stands_still c x None h = h
 mark_stands_still c x (Some s) h = stands_still c x s.element h
-
--- ---- nothing in the place of anything
-
-pub all_themselves : (f : Identifier → Identifier) → ((q : Identifier) → f q ≡ q) → (groups : List Past) → all_substituted f groups ≡ groups
-all_themselves f same [] = refl
-all_themselves f same (g ∷ groups) = λ k. record { inserted = ids g.inserted k; deleted = pairs g.deleted k } ∷ all_themselves f same groups k
-  where
-    ids : (xs : List Identifier) → map f xs ≡ xs
-    ids [] = refl
-    ids (x ∷ xs) = λ k. same x k ∷ ids xs k
-
-    pairs : (xs : List (Identifier × ℕ)) → map (λ (b : Identifier × ℕ). (f b.0, b.1)) xs ≡ xs
-    pairs [] = refl
-    pairs (x ∷ xs) = λ k. (same x.0 k, x.1) ∷ pairs xs k

@@ -1,6 +1,11 @@
 pub mod PlaceLaws
 pub mod RestorableLaws
 pub mod GroupLaws
+pub mod SlotLaws
+pub mod StandInLaws
+pub mod OldLaws
+pub mod HistoryLaws
 pub mod FaultLaws
 pub mod TakingLaws
+pub mod UndoneLaws
 pub mod UndoLaws

@@ -20,25 +20,25 @@ use Rattle.rga_doc.proofs.RevertedLaws.{restorable_if, reverted_complete}
 use Rattle.rga_doc.proofs.PlaceLaws.{complete_still}
 use Rattle.mg_buffer.specs.Groups.{Past, stand_in, substituted}
 
-abbrev among : Identifier → List (Identifier × ℕ) → Bool
+abbrev pub among : Identifier → List (Identifier × ℕ) → Bool
 among id back = list_any (λ (x : Identifier × ℕ). is_id x.0 id) back
 
 denied : (b : Bool) → not b ≡ true → b ≡ false
 denied true h = absurd (true≢false (sym h))
 denied false h = refl
 
-record Parts (c : Content) (b : Identifier × ℕ) (back : List (Identifier × ℕ)) : Type 0 where
-  complete : is_complete c b.0 ≡ true
-  apart : among b.0 back ≡ false
-  rest : are_restorable c back ≡ true
+pub record Parts (c : Content) (b : Identifier × ℕ) (back : List (Identifier × ℕ)) : Type 0 where
+  pub complete : is_complete c b.0 ≡ true
+  pub apart : among b.0 back ≡ false
+  pub rest : are_restorable c back ≡ true
 
-parts_of : (c : Content) (b : Identifier × ℕ) (back : List (Identifier × ℕ)) → are_restorable c (b ∷ back) ≡ true → Parts c b back
+pub parts_of : (c : Content) (b : Identifier × ℕ) (back : List (Identifier × ℕ)) → are_restorable c (b ∷ back) ≡ true → Parts c b back
 parts_of c b back h =
     let two = and_parts (is_complete c b.0 && not (among b.0 back)) (are_restorable c back) h in
     let first = and_parts (is_complete c b.0) (not (among b.0 back)) two.0 in
     record { complete = first.0; apart = denied (among b.0 back) first.1; rest = two.1 }
 
-complete_within : (c : Content) (id : Identifier) → is_complete c id ≡ true → id.counter ≤ clock_of c
+pub complete_within : (c : Content) (id : Identifier) → is_complete c id ≡ true → id.counter ≤ clock_of c
 complete_within c id h = root_or_complete_within c id (or_right (is_root id) (is_complete c id) h)
 
 -- under every join
@@ -110,7 +110,7 @@ standing_restorable back c e replica (b ∷ deleted) all able there =
     (λ k. (stand_complete back e replica (clock_of c) b.0 all q.complete k && not (none_standing back c replica b.0 deleted (complete_within c b.0 p.complete) p.rest p.apart k))
     && standing_restorable back c e replica deleted all p.rest q.rest k)
 
-stand_in-deletions_first : (ids : List Identifier) (ops : List Op) → stand_in (map Delete ids ++ ops) ≡ stand_in ops
+pub stand_in-deletions_first : (ids : List Identifier) (ops : List Op) → stand_in (map Delete ids ++ ops) ≡ stand_in ops
 stand_in-deletions_first [] ops = refl
 stand_in-deletions_first (id ∷ ids) ops = stand_in-deletions_first ids ops
 

@@ -23,7 +23,7 @@ abbrev pub past_of : Content → List Op → Past
 past_of c ops = record { inserted = inserted_elements ops; deleted = element_characters c (deleted_elements ops) }
 
 -- one group more, unless there was no operation
-abbrev pub with_group : List Past → Past → List Op → List Past
+abbrev pub with_group : {A : Type 0} → List A → A → List Op → List A
 with_group groups g [] = groups
 with_group groups g (op ∷ ops) = groups ++ g ∷ []
 

@@ -2,10 +2,12 @@
 use Rattle.std.specs.Prelude.{◌≡◌, Bool, true, List, Option, Some, is_some}
 use Rattle.std.specs.Option.{option_map_or, IfSome}
 use Rattle.rga_ops.specs.Content.{Content}
+use Rattle.rga_ops.specs.Identifier.{Identifier}
 use Rattle.rga_ops.specs.Places.{place}
 use Rattle.rga_doc.specs.Document.{Document}
 use Rattle.mg_buffer.specs.declared.spot.Spot.{Spot}
-use Rattle.mg_buffer.specs.Groups.{Past, are_revertible}
+use Rattle.mg_buffer.specs.Groups.{are_revertible}
+use Rattle.mg_buffer.specs.Slots.{Slotted, AreFilled, AreOld, pasts_by}
 
 -- the element has a place
 abbrev pub stands : Content → Spot → Bool
@@ -21,9 +23,12 @@ pub record IsAtHand (d : Document) (point : Spot) (mark : Option Spot) : Type 0 
   pub place_of_point : IsPlaced d.content point
   pub place_of_mark : IfSome mark (IsPlaced d.content)
 
--- point and mark have places, every group can be reverted, and what is listed is at hand
-pub record IsKept (d : Document) (point : Spot) (mark : Option Spot) (groups : List Past) (listed : Bool) : Type 0 where
+-- point and mark have places; there are elements in the slots of the groups, none newer than the clock, by which every
+-- group can be reverted; and what is listed is at hand
+pub record IsKept (d : Document) (point : Spot) (mark : Option Spot) (elements : List Identifier) (groups : List Slotted) (listed : Bool) : Type 0 where
   pub point_stands : stands d.content point ≡ true
   pub mark_stands : option_map_or (stands d.content) mark true ≡ true
-  pub revertible : are_revertible d.content groups ≡ true
+  pub filled : AreFilled elements groups
+  pub old : AreOld d.content elements
+  pub revertible : are_revertible d.content (pasts_by elements groups) ≡ true
   pub at_hand : listed ≡ true → IsAtHand d point mark

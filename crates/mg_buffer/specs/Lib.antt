@@ -1,8 +1,9 @@
 pub mod Groups
+pub mod Slots
+pub mod Room
 pub mod State
 pub mod Kept
 pub mod Sight
-pub mod StandIns
 pub mod Faults
 pub mod Ran
 pub mod Undid

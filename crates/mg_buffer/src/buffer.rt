@@ -8,7 +8,7 @@ ghost use Rattle.mg_plain.specs.declared.view.Kind.TheVariants.{Plain};
 ghost use Rattle.mg_buffer.specs.Sight.{situation_of};
 ghost use Rattle.mg_buffer.specs.State.{state};
 
-use crate::group::Group;
+use crate::history::History;
 use crate::memo::Memo;
 use crate::spot::{Spot, find, find_mark, mark_place};
 use mg_plain::{Kind, View};
@@ -30,7 +30,7 @@ pub struct Buffer<S: TextStore> {
     pub(crate) name: String,
     pub(crate) point: Spot,
     pub(crate) mark: Option<Spot>,
-    pub(crate) groups: Vec<Group>,
+    pub(crate) history: History,
     /// In a run of undos, the index of the group that was undone last.
     pub(crate) undone: Option<usize>,
     pub(crate) unsaved: Vec<Op>,
@@ -42,15 +42,19 @@ impl<S: TextStore> Model for Buffer<S> {
     ghost use Rattle.std.specs.String.{string_bytes};
     ghost use Rattle.mg_buffer.specs.State.{State, state_code, state};
     ghost use Rattle.mg_buffer.specs.Kept.{IsKept};
+    ghost use Rattle.mg_buffer.specs.Slots.{pasts_by};
 
     ghost Value = { State };
 
     ghost coded = { state_code };
 
     ghost view = { λ b. state b.doc (string_bytes b.name) b.point.element
-        (option_map (λ m. m.element) b.mark) b.groups.items b.undone b.unsaved.items b.listed };
+        (option_map (λ m. m.element) b.mark)
+        (pasts_by b.history.elements.keys b.history.groups.items)
+        b.undone b.unsaved.items b.listed };
 
-    ghost invariant = { λ b. IsKept b.doc b.point b.mark b.groups.items b.listed };
+    ghost invariant = { λ b. IsKept b.doc b.point b.mark
+        b.history.elements.keys b.history.groups.items b.listed };
 }
 
 impl<S: TextStore> Buffer<S> {
@@ -68,7 +72,7 @@ impl<S: TextStore> Buffer<S> {
                 place: 0,
             },
             mark: None,
-            groups: Vec::new(alloc),
+            history: History::new(alloc),
             undone: None,
             unsaved: own,
             listed: false,

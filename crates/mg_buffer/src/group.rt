@@ -1,98 +1,71 @@
 //! Undo groups.
-ghost use Rattle.std.specs.Prelude.{◌≡◌, IfOk, IfErr};
-ghost use Rattle.std.specs.Option.{unwrap_or};
-ghost use Rattle.rga_ops.specs.Places.{character};
-ghost use Rattle.mg_buffer.specs.Groups.{past_of, substituted, all_substituted, point_after};
-ghost use Rattle.mg_buffer.specs.StandIns.{stand_in_by};
+ghost use Rattle.std.specs.Prelude.{◌≡◌, ◌<◌, length, map, IfOk, IfErr};
+ghost use Rattle.std.specs.List.{AllByRecursion};
+ghost use Rattle.mg_buffer.specs.Slots.{IsFilled, deleted_by, element_in, past_by};
 
-use crate::stand_ins::stand_in;
-use indexmap::IndexMap;
-use rga_ops::{Id, Op, Refusal};
-use rga_store::TextStore;
+use crate::change::Change;
+use rga_ops::{Id, Refusal};
 use std::alloc::Global;
 use std::marker::Model;
 
-/// What one command or one undo did: the elements that it inserted, and those that it deleted, with
-/// their characters.
+/// What one command or one undo did, by the slots of its elements.
 #[derive(Drop)]
 pub(crate) struct Group {
-    pub(crate) inserted: Vec<Id>,
-    pub(crate) deleted: Vec<(Id, char)>,
+    pub(crate) inserted: Vec<usize>,
+    pub(crate) deleted: Vec<(usize, char)>,
 }
 
 impl Model for Group {
-    ghost use Rattle.mg_buffer.specs.Groups.{Past, past_code};
+    ghost use Rattle.mg_buffer.specs.Slots.{Slotted, slotted_code};
 
-    ghost Value = { Past };
+    ghost Value = { Slotted };
 
-    ghost coded = { past_code };
+    ghost coded = { slotted_code };
 
     ghost view = { λ g. record { inserted = g.inserted.items; deleted = g.deleted.items } };
 }
 
 impl Group {
-    /// What operations do to what a store holds. `Memory` alone.
-    pub(crate) fn of<S: TextStore>(alloc: Global, store: &S, ops: &[Op]) -> Result<Group, Refusal>
-        ensures ok { IfOk result (λ g. g ≡ past_of (S.content store.now) ops.now) }
+    /// The same by the elements that are in the slots. `Memory` alone.
+    pub(crate) fn change(&self, alloc: Global, elements: &[Id]) -> Result<Change, Refusal>
+        requires { IsFilled elements.now self.now }
+        ensures ok { IfOk result (λ change. change ≡ past_by elements.now self.now) }
         ensures memory { IfErr result (λ e. e ≡ Refusal.Memory) }
     {
-        let mut inserted = Vec::new(alloc);
-        let mut deleted = Vec::new(alloc);
-        for op in ops {
-            match op {
-                Op::Insert { id, .. } => inserted.push(*id)?,
-                Op::Delete { id } => deleted.push((*id, character_of(store, *id)))?,
-            }
-        }
-        Ok(Group { inserted, deleted })
-    }
-
-    /// The element that point is behind after an undo that did this.
-    pub(crate) fn point_after(&self, point: Id) -> Id
-        ensures { result ≡ point_after point self.now }
-    {
-        let mut element = match self.deleted.first() {
-            Some(first) => first.0,
-            None => point,
-        };
-        for id in &self.inserted {
-            element = *id;
-        }
-        element
-    }
-
-    /// Puts what stands for an element in its place. Takes no memory.
-    fn substitute(&mut self, stand_ins: &IndexMap<Id, Id>)
-        ensures { self.new ≡ substituted (stand_in_by stand_ins.now) self.old }
-    {
-        for id in self.inserted.iter_mut() {
-            *id = stand_in(stand_ins, *id);
-        }
-        for element in self.deleted.iter_mut() {
-            element.0 = stand_in(stand_ins, element.0);
-        }
+        Ok(Change {
+            inserted: elements_in(alloc, elements, &self.inserted)?,
+            deleted: deleted_in(alloc, elements, &self.deleted)?,
+        })
     }
 }
 
-/// Puts what stands for an element in its place, in every group. Takes no memory.
-pub(crate) fn substitute_all(groups: &mut Vec<Group>, stand_ins: &IndexMap<Id, Id>)
-    ensures { groups.new.items ≡ all_substituted (stand_in_by stand_ins.now) groups.old.items }
+/// The elements in slots. `Memory` alone.
+fn elements_in(alloc: Global, elements: &[Id], slots: &[usize]) -> Result<Vec<Id>, Refusal>
+    requires { AllByRecursion (λ s. s < length elements.now) slots.now }
+    ensures ok { IfOk result (λ ids. ids.items ≡ map (element_in elements.now) slots.now) }
+    ensures memory { IfErr result (λ e. e ≡ Refusal.Memory) }
 {
-    // Mostly nothing was restored, and there are many groups.
-    if stand_ins.is_empty() {
-        return;
+    let mut ids = Vec::new(alloc);
+    for slot in slots {
+        ids.push(elements[*slot])?;
     }
-    for group in groups.iter_mut() {
-        group.substitute(stand_ins);
-    }
+    Ok(ids)
 }
 
-/// The character of an element that is inserted.
-fn character_of<S: TextStore>(store: &S, id: Id) -> char
-    ensures { result ≡ unwrap_or (character (S.content store.now) id) 0 }
+/// The elements in slots, with the characters beside these. `Memory` alone.
+fn deleted_in(
+    alloc: Global,
+    elements: &[Id],
+    slots: &[(usize, char)],
+) -> Result<Vec<(Id, char)>, Refusal>
+    requires { AllByRecursion (λ b. b.0 < length elements.now) slots.now }
+    ensures ok { IfOk result
+        (λ deleted. deleted.items ≡ map (deleted_by elements.now) slots.now) }
+    ensures memory { IfErr result (λ e. e ≡ Refusal.Memory) }
 {
-    match store.get(id) {
-        Some((_, ch)) => ch,
-        None => '\0',
+    let mut deleted = Vec::new(alloc);
+    for (slot, ch) in slots {
+        deleted.push((elements[*slot], *ch))?;
     }
+    Ok(deleted)
 }

@@ -10,15 +10,17 @@
 #![tactic(auto)]
 
 mod buffer;
+mod change;
 mod fault;
 mod group;
+mod history;
 mod kill_buffer;
 pub mod laws;
 mod memo;
 mod room;
 mod running;
+mod slots;
 mod spot;
-mod stand_ins;
 mod taking;
 mod undoing;
 

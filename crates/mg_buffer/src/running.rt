@@ -12,11 +12,11 @@ ghost use Rattle.rga_ops.specs.declared.refusal.Refusal.TheVariants.{Memory};
 ghost use Rattle.mg_buffer.specs.declared.fault.BufferFault.TheVariants.{Store};
 
 use crate::buffer::Buffer;
+use crate::change::Change;
 use crate::fault::BufferFault;
-use crate::group::Group;
 use crate::kill_buffer::{make_room, put_in};
 use crate::memo::Memo;
-use crate::room::{add_all, add_group};
+use crate::room::add_all;
 use crate::spot::{mark_at, spot_at};
 use mg_plain::{Command, Plan, plan};
 use rga_ops::{Refusal, Splice};
@@ -77,13 +77,13 @@ impl<S: TextStore> Buffer<S> {
     {
         self.listed = false;
         let ops = self.doc.draft(splices)?;
-        let group = Group::of(self.alloc, self.doc.store(), &ops)?;
-        self.groups.reserve(1)?;
+        let change = Change::of(self.alloc, self.doc.store(), &ops)?;
+        let room = self.history.room_for(self.alloc, &change)?;
         self.unsaved.reserve(ops.len())?;
         self.doc.take(splices, &ops)?;
         self.point = spot_at(&self.doc, point);
         self.mark = mark_at(&self.doc, mark);
-        add_group(&mut self.groups, group, &ops);
+        self.history.add(room, &change, &ops);
         add_all(&mut self.unsaved, &ops);
         self.undone = None;
         self.listed = true;

@@ -10,12 +10,11 @@ ghost use Rattle.rga_ops.specs.declared.refusal.Refusal.TheVariants.{Memory};
 ghost use Rattle.mg_buffer.specs.declared.fault.BufferFault.TheVariants.{Store};
 
 use crate::buffer::Buffer;
+use crate::change::Change;
 use crate::fault::BufferFault;
-use crate::group::{Group, substitute_all};
 use crate::memo::Memo;
-use crate::room::{add_all, add_group};
+use crate::room::add_all;
 use crate::spot::Spot;
-use crate::stand_ins::stand_ins_of;
 use mg_plain::{Kind, Notice};
 use rga_ops::Refusal;
 use rga_store::TextStore;
@@ -51,8 +50,8 @@ impl<S: TextStore> Buffer<S> {
         ensures { result
             ≡ option_map (λ p. p.0) (group_to_undo self.now.groups self.now.undone) }
     {
-        let count = self.undone.unwrap_or(self.groups.as_slice().len());
-        if count == 0 || count > self.groups.as_slice().len() {
+        let count = self.undone.unwrap_or(self.history.groups.as_slice().len());
+        if count == 0 || count > self.history.groups.as_slice().len() {
             return None;
         }
         Some(count - 1)
@@ -67,20 +66,18 @@ impl<S: TextStore> Buffer<S> {
             Reverted index g self.old self.new) }
         ensures same { OnErr result (self.new ≡ self.old) }
     {
-        let group = &self.groups[index];
-        let ops = self.doc.draft_revert(&group.inserted, &group.deleted)?;
-        let done = Group::of(self.alloc, self.doc.store(), &ops)?;
-        let stand_ins = stand_ins_of(self.alloc, &ops)?;
-        self.groups.reserve(1)?;
+        let undone = self.history.change_at(self.alloc, index)?;
+        let ops = self.doc.draft_revert(&undone.inserted, &undone.deleted)?;
+        let done = Change::of(self.alloc, self.doc.store(), &ops)?;
+        let room = self.history.room_for(self.alloc, &done)?;
         self.unsaved.reserve(ops.len())?;
-        let group = &self.groups[index];
-        self.doc.take_revert(&group.inserted, &group.deleted, &ops)?;
+        self.doc
+            .take_revert(&undone.inserted, &undone.deleted, &ops)?;
         self.point = Spot {
             element: done.point_after(self.point.element),
             place: 0,
         };
-        add_group(&mut self.groups, done, &ops);
-        substitute_all(&mut self.groups, &stand_ins);
+        self.history.add_undo(index, room, &done, &ops);
         add_all(&mut self.unsaved, &ops);
         self.undone = Some(index);
         self.listed = false;

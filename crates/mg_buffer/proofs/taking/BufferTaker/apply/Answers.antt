@@ -1,4 +1,4 @@
-use Rattle.std.proofs.Common.{rules, ◌≡◌, List, [], ◌∷◌, ◌++◌, true, false, sym, ap, ◌∙◌, true≢false}
+use Rattle.std.proofs.Common.{rules, ◌≡◌, List, [], ◌∷◌, ◌++◌, true, false, sym, ap, ◌∙◌, subst, true≢false}
 use Rattle.std.specs.Prelude.{Ok}
 use Rattle.std.specs.Option.{option_map, option_map_or}
 use Rattle.std.specs.String.{string_bytes}
@@ -11,11 +11,13 @@ use Rattle.rga_ops.proofs.NewLaws.{new_if_new}
 use Rattle.rga_doc.specs.Document.{Document, document}
 use Rattle.rga_doc.proofs.PlaceLaws.{stands_still}
 use Rattle.mg_buffer.specs.declared.spot.Spot.{Spot}
-use Rattle.mg_buffer.specs.Groups.{are_revertible}
+use Rattle.mg_buffer.specs.Groups.{Past, are_revertible}
+use Rattle.mg_buffer.specs.Slots.{AreOld, pasts_by}
 use Rattle.mg_buffer.specs.Kept.{stands}
 use Rattle.mg_buffer.specs.State.{State, state}
 use Rattle.mg_buffer.specs.Following.{follows_nothing}
 use Rattle.mg_buffer.proofs.GroupLaws.{still_revertible, mark_stands_still}
+use Rattle.mg_buffer.proofs.OldLaws.{still_old}
 use Rattle.mg_buffer.proofs.TakingLaws.{match_err, follows_same, follows_known}
 use Rattle.mg_buffer.proofs.taking.BufferTaker.apply.Goals as goal
 
@@ -31,7 +33,7 @@ pub returns-in_err-reserve-clause-follows : goal.returns-in_err-reserve-clause-f
 returns-in_err-reserve-clause-follows g c =
     match_err _ _ c.from_residual-in_err-reserve.result c.from_residual-in_err-reserve.ensures.0
     (follows_same c.args.self.now _
-    (ap (λ (xs : List Op). state c.self.inside.doc (string_bytes c.self.inside.name) c.self.inside.point.element (option_map (λ (m : Spot). m.element) c.self.inside.mark) c.self.inside.groups.items c.self.inside.undone xs c.self.inside.listed) c.reserve.ensures.items
+    (ap (λ (xs : List Op). state c.self.inside.doc (string_bytes c.self.inside.name) c.self.inside.point.element (option_map (λ (m : Spot). m.element) c.self.inside.mark) (pasts_by c.self.inside.history.elements.keys c.self.inside.history.groups.items) c.self.inside.undone xs c.self.inside.listed) c.reserve.ensures.items
     ∙ c.self.view_is))
 
 pub returns-in_err-apply-clause-follows : goal.returns-in_err-apply-clause-follows
@@ -39,17 +41,20 @@ returns-in_err-apply-clause-follows g c =
     let doc : c.apply.new.self ≡ c.self.inside.doc = search rules in
     match_err _ _ c.from_residual-in_err-apply.result c.from_residual-in_err-apply.ensures.0
     (follows_same c.args.self.now _
-    ((λ k. state (doc k) (string_bytes c.self.inside.name) c.self.inside.point.element (option_map (λ (m : Spot). m.element) c.self.inside.mark) c.self.inside.groups.items c.self.inside.undone (c.reserve.ensures.items k) c.self.inside.listed)
+    ((λ k. state (doc k) (string_bytes c.self.inside.name) c.self.inside.point.element (option_map (λ (m : Spot). m.element) c.self.inside.mark) (pasts_by c.self.inside.history.elements.keys c.self.inside.history.groups.items) c.self.inside.undone (c.reserve.ensures.items k) c.self.inside.listed)
     ∙ c.self.view_is))
 
 pub invariant_of-self-2 : goal.invariant_of-self-2
 invariant_of-self-2 g c =
     let content : Content = c.self.inside.doc.content in
+    let pasts : List Past = pasts_by c.self.inside.history.elements.keys c.self.inside.history.groups.items in
     let whole : c.apply.new.self.content ≡ join content (single c.args.op) = search rules in
     record {
       point_stands = ap (λ d. stands d c.self.inside.point) whole ∙ stands_still content (single c.args.op) c.self.inside.point.element c.self.invariant.point_stands;
       mark_stands = ap (λ d. option_map_or (stands d) c.self.inside.mark true) whole ∙ mark_stands_still content (single c.args.op) c.self.inside.mark c.self.invariant.mark_stands;
-      revertible = ap (λ d. are_revertible d c.self.inside.groups.items) whole ∙ still_revertible content (single c.args.op) c.self.inside.groups.items c.self.invariant.revertible;
+      filled = c.self.invariant.filled;
+      old = subst (λ d. AreOld d c.self.inside.history.elements.keys) (sym whole) (still_old content (single c.args.op) c.self.inside.history.elements.keys c.self.invariant.old);
+      revertible = ap (λ d. are_revertible d pasts) whole ∙ still_revertible content (single c.args.op) pasts c.self.invariant.revertible;
       at_hand = λ h. absurd (true≢false (sym h));
     }
 

@@ -10,11 +10,13 @@ use Rattle.rga_ops.proofs.ContentLaws.{join_nothing}
 use Rattle.rga_doc.specs.Following.{Follows}
 use Rattle.rga_doc.proofs.PlaceLaws.{stands_still}
 use Rattle.mg_buffer.specs.declared.spot.Spot.{Spot}
-use Rattle.mg_buffer.specs.Groups.{are_revertible}
+use Rattle.mg_buffer.specs.Groups.{Past, are_revertible}
+use Rattle.mg_buffer.specs.Slots.{AreOld, pasts_by}
 use Rattle.mg_buffer.specs.Kept.{stands, IsAtHand}
 use Rattle.mg_buffer.specs.State.{State, state}
 use Rattle.mg_buffer.specs.Following.{follows_nothing}
 use Rattle.mg_buffer.proofs.GroupLaws.{still_revertible, mark_stands_still}
+use Rattle.mg_buffer.proofs.OldLaws.{still_old}
 use Rattle.mg_buffer.proofs.TakingLaws.{match_err, follows_same, same_document, list_without_memory}
 use Rattle.mg_buffer.proofs.taking.BufferTaker.apply_all.Goals as goal
 
@@ -38,7 +40,7 @@ pub returns-in_err-reserve-clause-follows : goal.returns-in_err-reserve-clause-f
 returns-in_err-reserve-clause-follows g c =
     match_err _ _ c.from_residual-in_err-reserve.result c.from_residual-in_err-reserve.ensures.0
     (follows_same c.args.self.now _
-    (ap (λ (xs : List Op). state c.self.inside.doc (string_bytes c.self.inside.name) c.self.inside.point.element (option_map (λ (m : Spot). m.element) c.self.inside.mark) c.self.inside.groups.items c.self.inside.undone xs c.self.inside.listed) c.reserve.ensures.items
+    (ap (λ (xs : List Op). state c.self.inside.doc (string_bytes c.self.inside.name) c.self.inside.point.element (option_map (λ (m : Spot). m.element) c.self.inside.mark) (pasts_by c.self.inside.history.elements.keys c.self.inside.history.groups.items) c.self.inside.undone xs c.self.inside.listed) c.reserve.ensures.items
     ∙ c.self.view_is))
 
 pub returns-in_err-apply_all-clause-follows : goal.returns-in_err-apply_all-clause-follows
@@ -48,19 +50,22 @@ returns-in_err-apply_all-clause-follows g c =
     let doc : c.apply_all.new.self ≡ c.self.inside.doc = same_document c.self.inside.doc c.apply_all.new.self stays c.apply_all.ensures.limit follows in
     match_err _ _ c.from_residual-in_err-apply_all.result c.from_residual-in_err-apply_all.ensures.0
     (follows_same c.args.self.now _
-    ((λ k. state (doc k) (string_bytes c.self.inside.name) c.self.inside.point.element (option_map (λ (m : Spot). m.element) c.self.inside.mark) c.self.inside.groups.items c.self.inside.undone (c.reserve.ensures.items k) c.self.inside.listed)
+    ((λ k. state (doc k) (string_bytes c.self.inside.name) c.self.inside.point.element (option_map (λ (m : Spot). m.element) c.self.inside.mark) (pasts_by c.self.inside.history.elements.keys c.self.inside.history.groups.items) c.self.inside.undone (c.reserve.ensures.items k) c.self.inside.listed)
     ∙ c.self.view_is))
 
 pub invariant_of-self-2 : goal.invariant_of-self-2
 invariant_of-self-2 g c =
     let content : Content = c.self.inside.doc.content in
+    let pasts : List Past = pasts_by c.self.inside.history.elements.keys c.self.inside.history.groups.items in
     let ops : List Op = c.args.ops.now in
     let whole : c.apply_all.new.self.content ≡ join content (content_of ops) = c.in_ok-apply_all.ensures.whole refl in
     let follows : Follows c.self.inside.doc ops c.apply_all.new.self = c.in_ok-apply_all.ensures.follows in
     record {
       point_stands = ap (λ d. stands d c.self.inside.point) whole ∙ stands_still content (content_of ops) c.self.inside.point.element c.self.invariant.point_stands;
       mark_stands = ap (λ d. option_map_or (stands d) c.self.inside.mark true) whole ∙ mark_stands_still content (content_of ops) c.self.inside.mark c.self.invariant.mark_stands;
-      revertible = ap (λ d. are_revertible d c.self.inside.groups.items) whole ∙ still_revertible content (content_of ops) c.self.inside.groups.items c.self.invariant.revertible;
+      filled = c.self.invariant.filled;
+      old = subst (λ d. AreOld d c.self.inside.history.elements.keys) (sym whole) (still_old content (content_of ops) c.self.inside.history.elements.keys c.self.invariant.old);
+      revertible = ap (λ d. are_revertible d pasts) whole ∙ still_revertible content (content_of ops) pasts c.self.invariant.revertible;
       at_hand = λ h.
           let none : ops ≡ [] = c.stays_listed-self-inside.ensures.none h in
           let same : c.apply_all.new.self ≡ c.self.inside.doc =

@@ -1,6 +1,6 @@
 use Rattle.std.proofs.Common.{◌≡◌, drop}
 use Rattle.mg_buffer.specs.Groups.{last_of}
-use Rattle.mg_buffer.proofs.group.Group.point_after.Given as goal
+use Rattle.mg_buffer.proofs.change.Change.point_after.Given as goal
 
 -- the last of those that are left is the last of all
 abbrev pub invariant-loop-id : goal.invariant-loop-id

@@ -1,6 +1,6 @@
 use Rattle.std.proofs.Common.{◌≡◌, ◌++◌, drop}
 use Rattle.rga_doc.specs.UndoGroup.{inserted_elements, deleted_elements, element_characters}
-use Rattle.mg_buffer.proofs.group.Group.of.Given as goal
+use Rattle.mg_buffer.proofs.change.Change.of.Given as goal
 
 -- the elements so far, and those of the operations that are left, are all
 abbrev pub invariant-loop-op : goal.invariant-loop-op

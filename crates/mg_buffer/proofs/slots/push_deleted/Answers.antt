@@ -1,0 +1,28 @@
+use Rattle.std.proofs.Common.{rules, ◌≡◌, ◌+◌, ℕ, List, ◌∷◌, [], ◌++◌, take, drop, ap, ◌∙◌, sym, subst, arith}
+use Rattle.rga_ops.specs.Identifier.{Identifier}
+use Rattle.rga_doc.proofs.RevertSets.{from}
+use Rattle.mg_buffer.specs.Slots.{AreDeletedIn, deleted_ones, with_elements}
+use Rattle.mg_buffer.proofs.SlotLaws.{Grows, grows_one, deleted_more, taken_more}
+use Rattle.mg_buffer.proofs.slots.push_deleted.Goals as goal
+
+pub loop-id-preserved : goal.loop-id-preserved
+loop-id-preserved c =
+    let deleted : List (Identifier × ℕ) = c.args.deleted.now in
+    let i : ℕ = c.loop-id.id-index in
+    let d : Identifier × ℕ = c.loop-id-item.result in
+    let old : List Identifier = c.loop-id.elements.keys in
+    let new : List Identifier = c.slot_of.new.elements.keys in
+    let grows : Grows old new = subst (Grows old) (sym c.slot_of.ensures.elements) (grows_one old d.0) in
+    let items : c.push.new.self.items ≡ c.loop-id.slots.items ++ (c.slot_of.result, d.1) ∷ [] = search rules in
+    record {
+      slots =
+          subst (λ xs. AreDeletedIn new xs (take (i + 1) deleted)) (sym items)
+          (subst (AreDeletedIn new (c.loop-id.slots.items ++ (c.slot_of.result, d.1) ∷ [])) (sym (taken_more deleted i d c.loop-id-test.true c.loop-id-item.is))
+          (deleted_more old new grows c.loop-id.slots.items (take i deleted) c.slot_of.result d c.loop-id.invariant.slots c.slot_of.ensures.slot));
+      elements =
+          ap (λ xs. with_elements xs (deleted_ones (drop (i + 1) deleted))) c.slot_of.ensures.elements
+          ∙ ap (λ xs. with_elements old (deleted_ones xs)) (sym (from deleted i d c.loop-id-test.true c.loop-id-item.is)) ∙ c.loop-id.invariant.elements;
+      spare = omega (arith, c.loop-id.invariant.spare, c.slot_of.ensures.spare);
+      len = search rules;
+      capacity = search rules;
+    }

@@ -1,0 +1,28 @@
+use Rattle.std.proofs.Common.{rules, ◌≡◌, ◌+◌, ℕ, List, ◌∷◌, [], ◌++◌, take, drop, ap, ◌∙◌, sym, subst, arith}
+use Rattle.rga_ops.specs.Identifier.{Identifier}
+use Rattle.rga_doc.proofs.RevertSets.{from}
+use Rattle.mg_buffer.specs.Slots.{AreIn, with_elements}
+use Rattle.mg_buffer.proofs.SlotLaws.{Grows, grows_one, slots_more, taken_more}
+use Rattle.mg_buffer.proofs.slots.push_slots.Goals as goal
+
+pub loop-id-preserved : goal.loop-id-preserved
+loop-id-preserved c =
+    let ids : List Identifier = c.args.ids.now in
+    let i : ℕ = c.loop-id.id-index in
+    let id : Identifier = c.id-item.result in
+    let old : List Identifier = c.loop-id.elements.keys in
+    let new : List Identifier = c.slot_of.new.elements.keys in
+    let grows : Grows old new = subst (Grows old) (sym c.slot_of.ensures.elements) (grows_one old id) in
+    let items : c.push.new.self.items ≡ c.loop-id.slots.items ++ c.slot_of.result ∷ [] = search rules in
+    record {
+      slots =
+          subst (λ xs. AreIn new xs (take (i + 1) ids)) (sym items)
+          (subst (AreIn new (c.loop-id.slots.items ++ c.slot_of.result ∷ [])) (sym (taken_more ids i id c.loop-id-test.true c.id-item.is))
+          (slots_more old new grows c.loop-id.slots.items (take i ids) c.slot_of.result id c.loop-id.invariant.slots c.slot_of.ensures.slot));
+      elements =
+          ap (λ xs. with_elements xs (drop (i + 1) ids)) c.slot_of.ensures.elements
+          ∙ ap (with_elements old) (sym (from ids i id c.loop-id-test.true c.id-item.is)) ∙ c.loop-id.invariant.elements;
+      spare = omega (arith, c.loop-id.invariant.spare, c.slot_of.ensures.spare);
+      len = search rules;
+      capacity = search rules;
+    }

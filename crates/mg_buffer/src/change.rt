@@ -1,0 +1,70 @@
+//! What commands and undos did.
+ghost use Rattle.std.specs.Prelude.{◌≡◌, IfOk, IfErr};
+ghost use Rattle.std.specs.Option.{unwrap_or};
+ghost use Rattle.rga_ops.specs.Places.{character};
+ghost use Rattle.mg_buffer.specs.Groups.{past_of, point_after};
+
+use rga_ops::{Id, Op, Refusal};
+use rga_store::TextStore;
+use std::alloc::Global;
+use std::marker::Model;
+
+/// What one command or one undo did: the elements that it inserted, and those that it deleted, with
+/// their characters.
+#[derive(Drop)]
+pub(crate) struct Change {
+    pub(crate) inserted: Vec<Id>,
+    pub(crate) deleted: Vec<(Id, char)>,
+}
+
+impl Model for Change {
+    ghost use Rattle.mg_buffer.specs.Groups.{Past, past_code};
+
+    ghost Value = { Past };
+
+    ghost coded = { past_code };
+
+    ghost view = { λ g. record { inserted = g.inserted.items; deleted = g.deleted.items } };
+}
+
+impl Change {
+    /// What operations do to what a store holds. `Memory` alone.
+    pub(crate) fn of<S: TextStore>(alloc: Global, store: &S, ops: &[Op]) -> Result<Change, Refusal>
+        ensures ok { IfOk result (λ g. g ≡ past_of (S.content store.now) ops.now) }
+        ensures memory { IfErr result (λ e. e ≡ Refusal.Memory) }
+    {
+        let mut inserted = Vec::new(alloc);
+        let mut deleted = Vec::new(alloc);
+        for op in ops {
+            match op {
+                Op::Insert { id, .. } => inserted.push(*id)?,
+                Op::Delete { id } => deleted.push((*id, character_of(store, *id)))?,
+            }
+        }
+        Ok(Change { inserted, deleted })
+    }
+
+    /// The element that point is behind after an undo that did this.
+    pub(crate) fn point_after(&self, point: Id) -> Id
+        ensures { result ≡ point_after point self.now }
+    {
+        let mut element = match self.deleted.first() {
+            Some(first) => first.0,
+            None => point,
+        };
+        for id in &self.inserted {
+            element = *id;
+        }
+        element
+    }
+}
+
+/// The character of an element that is inserted.
+fn character_of<S: TextStore>(store: &S, id: Id) -> char
+    ensures { result ≡ unwrap_or (character (S.content store.now) id) 0 }
+{
+    match store.get(id) {
+        Some((_, ch)) => ch,
+        None => '\0',
+    }
+}

@@ -1,0 +1,132 @@
+//! What commands and undos did, oldest first.
+ghost use Rattle.std.specs.Prelude.{◌≡◌, ◌<◌, ◌≤◌, ◌+◌, [], map, length, Some, IfOk, IfErr};
+ghost use Rattle.std.specs.List.{slice_get};
+ghost use Rattle.std.specs.Vec.{vec_len, vec_capacity};
+ghost use Rattle.rga_doc.specs.UndoGroup.{inserted_elements};
+ghost use Rattle.mg_buffer.specs.Groups.{all_substituted, stand_in, with_group};
+ghost use Rattle.mg_buffer.specs.Room.{HasRoom};
+ghost use Rattle.mg_buffer.specs.Slots.{AreFilled, AreStandIns, Slotted, deleted_ones, past_by, pasts_by, with_elements, with_past};
+
+use crate::change::Change;
+use crate::group::Group;
+use crate::slots::{push_deleted, push_same, push_slots, replace_all};
+use indexmap::IndexSet;
+use rga_ops::{Id, Op, Refusal};
+use std::alloc::Global;
+
+/// The undo groups. A group names its elements by slots: what restores an element takes its slot,
+/// and so stands for it in every group.
+#[derive(Drop)]
+pub(crate) struct History {
+    pub(crate) groups: Vec<Group>,
+    /// The elements in the slots.
+    pub(crate) elements: IndexSet<Id>,
+}
+
+/// The slots of a group that is still empty.
+#[derive(Drop)]
+pub(crate) struct Room {
+    pub(crate) inserted: Vec<usize>,
+    pub(crate) deleted: Vec<(usize, char)>,
+}
+
+impl History {
+    /// No group.
+    pub(crate) fn new(alloc: Global) -> History
+        ensures groups { result.groups.items ≡ [] }
+        ensures elements { result.elements.keys ≡ [] }
+    {
+        History {
+            groups: Vec::new(alloc),
+            elements: IndexSet::new(alloc),
+        }
+    }
+
+    /// What the group at an index did, by the elements that are in its slots now. `Memory` alone.
+    pub(crate) fn change_at(&self, alloc: Global, index: usize) -> Result<Change, Refusal>
+        requires within { index < length self.now.groups.items }
+        requires filled { AreFilled self.now.elements.keys self.now.groups.items }
+        ensures ok { IfOk result (λ change. slice_get
+            (pasts_by self.now.elements.keys self.now.groups.items) index ≡ Some change) }
+        ensures memory { IfErr result (λ e. e ≡ Refusal.Memory) }
+    {
+        self.groups[index].change(alloc, self.elements.as_slice())
+    }
+
+    /// Makes room for the group of a change. `Memory` alone; groups and elements stay.
+    pub(crate) fn room_for(&mut self, alloc: Global, change: &Change) -> Result<Room, Refusal>
+        ensures room { IfOk result (λ room. HasRoom self.new room change.now) }
+        ensures groups { self.new.groups.items ≡ self.old.groups.items }
+        ensures elements { self.new.elements.keys ≡ self.old.elements.keys }
+        ensures memory { IfErr result (λ e. e ≡ Refusal.Memory) }
+    {
+        let inserted = change.inserted.as_slice().len();
+        let deleted = change.deleted.as_slice().len();
+        self.groups.reserve(1)?;
+        self.elements.reserve(inserted + deleted)?;
+        Ok(Room {
+            inserted: Vec::with_capacity(alloc, inserted)?,
+            deleted: Vec::with_capacity(alloc, deleted)?,
+        })
+    }
+
+    /// Adds the group of what a command did, unless there was no operation. There is room.
+    pub(crate) fn add(&mut self, room: Room, change: &Change, ops: &[Op])
+        requires room { HasRoom self.old room change.now }
+        requires filled { AreFilled self.old.elements.keys self.old.groups.items }
+        ensures pasts { pasts_by self.new.elements.keys self.new.groups.items
+            ≡ with_group (pasts_by self.old.elements.keys self.old.groups.items) change.now ops.now }
+        ensures elements { self.new.elements.keys
+            ≡ with_past self.old.elements.keys change.now }
+        ensures filled { AreFilled self.new.elements.keys self.new.groups.items }
+    {
+        let Room {
+            mut inserted,
+            mut deleted,
+        } = room;
+        push_slots(&mut inserted, &mut self.elements, &change.inserted);
+        push_deleted(&mut deleted, &mut self.elements, &change.deleted);
+        add_group(&mut self.groups, Group { inserted, deleted }, ops);
+    }
+
+    /// Adds the group of an undo of the one at an index, unless there was no operation. What the
+    /// operations restore takes the slots of what that one deleted. There is room.
+    pub(crate) fn add_undo(&mut self, index: usize, room: Room, change: &Change, ops: &[Op])
+        requires within { index < length self.old.groups.items }
+        requires room { HasRoom self.old room change.now }
+        requires filled { AreFilled self.old.elements.keys self.old.groups.items }
+        requires restored { (g : Slotted) → slice_get self.old.groups.items index ≡ Some g →
+            length g.deleted ≡ length change.now.inserted }
+        requires inserted { inserted_elements ops.now ≡ change.now.inserted }
+        requires stand_ins { AreStandIns
+            (with_elements self.old.elements.keys (deleted_ones change.now.deleted)) ops.now }
+        ensures pasts { (g : Slotted) → slice_get self.old.groups.items index ≡ Some g →
+            let old = self.old.elements.keys in
+            let restored = deleted_ones (past_by old g).deleted in
+            pasts_by self.new.elements.keys self.new.groups.items
+            ≡ all_substituted (stand_in ops.now) (with_group (pasts_by old self.old.groups.items)
+            (record { inserted = restored; deleted = change.now.deleted }) ops.now) }
+        ensures elements { self.new.elements.keys ≡ map (stand_in ops.now)
+            (with_elements self.old.elements.keys (deleted_ones change.now.deleted)) }
+        ensures filled { AreFilled self.new.elements.keys self.new.groups.items }
+    {
+        let Room {
+            mut inserted,
+            mut deleted,
+        } = room;
+        push_same(&mut inserted, &self.groups[index].deleted);
+        push_deleted(&mut deleted, &mut self.elements, &change.deleted);
+        replace_all(&mut self.elements, ops);
+        add_group(&mut self.groups, Group { inserted, deleted }, ops);
+    }
+}
+
+/// Adds a group, unless there was no operation. Takes no memory.
+fn add_group(groups: &mut Vec<Group>, group: Group, ops: &[Op])
+    requires { vec_len groups.old + 1 ≤ vec_capacity groups.old }
+    ensures { groups.new.items ≡ with_group groups.old.items group ops.now }
+{
+    if !ops.is_empty() {
+        let _ = groups.push(group);
+    }
+}
