@@ -353,21 +353,15 @@ class KeyTrial(Trial):
 # ---- a job
 
 
-class JobTrial:
-    """A job, and what it does without refusals."""
+class RunTrial:
+    """What is run to its end, and what it does without refusals."""
 
-    def __init__(self, stage, job):
-        self.stage, self.job = stage, job
+    def __init__(self, stage):
+        self.stage = stage
         self.wanted = self._run()
 
     def places(self):
         return [(0, "the job")]
-
-    def _run(self):
-        library, given = self.stage.library, self.job.given
-        words = [*library.under(), self.stage.mgr, *self.job.words]
-        ran = subprocess.run(words, cwd=library.folder, input=given, capture_output=True, timeout=SECONDS)
-        return ran.returncode, ran.stdout, ran.stderr
 
     def refuse(self, _, first, on):
         self.stage.library.refuse(first, on)
@@ -377,19 +371,33 @@ class JobTrial:
         if came == self.wanted:
             return WENT_ON
         expect("the end", WANT, (came[0], came[2]))
-        expect("the output", self.wanted[1][: len(came[1])], came[1])
+        self._compare(came)
         return ENDED
 
 
-class CompactionTrial:
-    """A log that is compacted, and the files that this leaves without refusals."""
+class JobTrial(RunTrial):
+    """A job between its input and its output."""
+
+    def __init__(self, stage, job):
+        self.job = job
+        super().__init__(stage)
+
+    def _run(self):
+        library, given = self.stage.library, self.job.given
+        words = [*library.under(), self.stage.mgr, *self.job.words]
+        ran = subprocess.run(words, cwd=library.folder, input=given, capture_output=True, timeout=SECONDS)
+        return ran.returncode, ran.stdout, ran.stderr
+
+    def _compare(self, came):
+        expect("the output", self.wanted[1][: len(came[1])], came[1])
+
+
+class CompactionTrial(RunTrial):
+    """A log that is compacted, and the files that this leaves."""
 
     def __init__(self, stage, compaction):
-        self.stage, self.files = stage, compaction.files
-        self.wanted = self._run()
-
-    def places(self):
-        return [(0, "the job")]
+        self.files = compaction.files
+        super().__init__(stage)
 
     def _run(self):
         library, folder = self.stage.library, self.stage.folders[0]
@@ -400,16 +408,8 @@ class CompactionTrial:
         files = {path.name: path.read_bytes() for path in folder.iterdir() if path.name != "note.ops.new"}
         return ran.returncode, ran.stdout, ran.stderr, files
 
-    def refuse(self, _, first, on):
-        self.stage.library.refuse(first, on)
-        came = self._run()
-        if not self.stage.library.end():
-            return None
-        if came == self.wanted:
-            return WENT_ON
-        expect("the end", (WANT[0], b"", WANT[1]), came[:3])
-        expect("the files", self.files, came[3])
-        return ENDED
+    def _compare(self, came):
+        expect("the files", (b"", self.files), (came[1], came[3]))
 
 
 # ---- an exchange

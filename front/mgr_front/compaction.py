@@ -3,8 +3,9 @@
 import os
 import subprocess
 
+from mgr_front.asking import choice
 from mgr_front.notes import Note, read
-from mgr_front.saying import FAILED, stop, tell
+from mgr_front.saying import tell
 
 # A log is large where it has more bytes than this, and so many times those of the text.
 LEAST_BYTES, TIMES = 1_000_000, 20
@@ -35,21 +36,9 @@ def offer(mgr: str, note: Note) -> None:
     if not (note.has_log and os.path.isfile(note.name)):
         return
     log, text = os.path.getsize(note.log), os.path.getsize(note.name)
-    if is_large(log, text) and has_single_lines(read(note.log)) and _is_wanted(question(note, log, text)):
-        compact(mgr, note)
-
-
-def _is_wanted(question: str) -> bool:
-    """Asks until it is said; ends the program where the answers end."""
-    print(question, end="")
-    while True:
-        try:
-            answer = input("y or n? ").strip().lower()
-        except (EOFError, KeyboardInterrupt):
-            print()
-            stop("nothing was done", FAILED)
-        if answer in ("y", "n"):
-            return answer == "y"
+    if is_large(log, text) and has_single_lines(read(note.log)):
+        if choice(question(note, log, text), "y", "n") == "y":
+            compact(mgr, note)
 
 
 def compact(mgr: str, note: Note) -> None:

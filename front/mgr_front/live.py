@@ -6,6 +6,7 @@ import tempfile
 from collections.abc import Sequence
 from dataclasses import dataclass
 
+from mgr_front.asking import choice
 from mgr_front.compaction import offer
 from mgr_front.editor import LEAST_ROWS, MOST_ROWS, Editor
 from mgr_front.ending import finish
@@ -14,12 +15,12 @@ from mgr_front.last_texts import is_merged, remember
 from mgr_front.live_exchange import LiveExchange
 from mgr_front.notes import Note, Refused, read
 from mgr_front.numbers import number_of
-from mgr_front.opening import Difference, difference
+from mgr_front.opening import difference
 from mgr_front.options import Options, read as read_options
 from mgr_front.program import explained, find, text_of_log
 from mgr_front.relay import Relay
 from mgr_front.saving import Autosave, current
-from mgr_front.saying import FAILED, REFUSED, stop, tell
+from mgr_front.saying import REFUSED, stop, tell
 from mgr_front.screen import Screen
 from mgr_front.session import Session
 from mgr_front.signals import Signals
@@ -58,7 +59,7 @@ def settle(mgr: str, note: Note, number: int, options: Options) -> str | None:
     found = difference(mgr, note, number)
     if found is None:
         return None
-    if options.takes_file or not keeps_file(note, options) and asks_for_file(found):
+    if options.takes_file or not keeps_file(note, options) and choice(found.question(), "f", "l") == "f":
         found.take_file(mgr, number)
         return None
     return found.keep_file()
@@ -67,19 +68,6 @@ def settle(mgr: str, note: Note, number: int, options: Options) -> str | None:
 def keeps_file(note: Note, options: Options) -> bool:
     """Whether the file is to be kept without a question."""
     return options.keeps_file or is_merged(note.name, read(note.name), read(note.log))
-
-
-def asks_for_file(found: Difference) -> bool:
-    """Asks which to go on with, until it is said; ends the program where the answers end."""
-    print(found.question(), end="")
-    while True:
-        try:
-            answer = input("f or l? ").strip().lower()
-        except (EOFError, KeyboardInterrupt):
-            print()
-            stop("nothing was done", FAILED)
-        if answer in ("f", "l"):
-            return answer == "f"
 
 
 def words_for_mgr(options: Options, number: int, port: int | None) -> list[str]:
