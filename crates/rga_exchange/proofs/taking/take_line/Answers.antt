@@ -43,7 +43,7 @@ take_deletions-requires g c = any_deletions c.args.line.now c.in-Ok-Deletions.ru
 pub returns-in_ok-deleted-in-Ok-Deletions-clause-count : goal.returns-in_ok-deleted-in-Ok-Deletions-clause-count
 returns-in_ok-deleted-in-Ok-Deletions-clause-count g c = λ _.
     let says = sym (c.in-Ok-Deletions.ensures.exact (λ e. absurd cc)) ∙ ap Ok c.in-Ok-Deletions.field-0-is in
-    ap (λ n. c.args.operations.now + n) (c.from.ensures ∙ c.in_ok-deleted-in-Ok-Deletions.ensures.count)
+    ap (λ n. c.args.operations.now + n) (c.from-in-Ok-Deletions.ensures ∙ c.in_ok-deleted-in-Ok-Deletions.ensures.count)
     ∙ ap (λ ops. c.args.operations.now + length ops) (sym (deletions_alone c.args.line.now c.in-Ok-Deletions.run' says))
 
 pub returns-in_ok-deleted-in-Ok-Deletions-clause-follows : goal.returns-in_ok-deleted-in-Ok-Deletions-clause-follows
