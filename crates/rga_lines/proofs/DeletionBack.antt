@@ -1,6 +1,5 @@
 -- The line of a run of deletions is read back.
-use Rattle.std.proofs.Common.{◌≡◌, ℕ, ◌+◌, ◌<◌, ◌≤◌, ◌^◌, true, List, ◌∷◌, ◌++◌, length, codes, decimal, Some, Ok, Err, refl, sym, ap, subst, ◌∙◌, arith, length-append, lit≤, le-ltb, ne_eqb}
-use Rattle.std.specs.Str.{IsUtf8}
+use Rattle.std.proofs.Common.{◌≡◌, ◌<◌, ◌^◌, ◌++◌, codes, decimal, Some, Ok, Err, refl, arith, length-append, lit≤, le-ltb, ne_eqb}
 use Rattle.std.proofs.lemmas.Str.{IsUtf8-append}
 use Rattle.std.proofs.lemmas.Fmt.{length-decimal-le}
 use Rattle.json.proofs.Printed.Decimals.{IsNumber-decimal}
@@ -10,16 +9,15 @@ use Rattle.serde_json.specs.Read.{of_json}
 use Rattle.serde_json.specs.Written.{compact_text, outline}
 use Rattle.serde_json.proofs.Numbers.{number_of-decimal}
 use Rattle.serde_json.proofs.OnLiterals.{serde_json_on_literals}
-use Rattle.rga_ops.specs.Identifier.{Identifier}
 use Rattle.rga_lines.specs.declared.reading.Line.TheVariants.{Deletions}
 use Rattle.rga_lines.specs.declared.fault.LineFault.TheVariants.{Kind}
 use Rattle.rga_lines.specs.declared.deletion_run.DeletionRun.{DeletionRun}
 use Rattle.rga_lines.specs.Members.{pair_data}
-use Rattle.rga_lines.specs.Runs.{deletion_run, IsDeletionRun}
+use Rattle.rga_lines.specs.Runs.{IsDeletionRun}
 use Rattle.rga_lines.specs.Spelling.{pair_text, deletion_run_line}
 use Rattle.rga_lines.specs.Table.{value_line, any_line_at, line_at}
 use Rattle.rga_lines.proofs.ReadingLemmas.{alone}
-use Rattle.rga_lines.proofs.ReadBack.{InBounds, within, pair_text-length, IsUtf8-decimal, IsUtf8-pair_text, pair-numbers, pair-json, back}
+use Rattle.rga_lines.proofs.ReadBack.{within, pair_text-length, IsUtf8-decimal, IsUtf8-pair_text, pair-numbers, pair-json, back}
 
 abbrev deletions_data : DeletionRun → Data
 deletions_data r = object (member (codes "count") (number (unsigned r.count)) (member (codes "id") (pair_data r.id) (member (codes "op") (string (codes "dels")) no_members)))
