@@ -22,6 +22,8 @@ OPERATION = re.compile(r"(?:(\\x[0-9a-f]{2}|\\u\{[0-9a-f]+\}|\\.|.)(\d+)\.(\d+)<
 
 RUN = re.compile(r"run:(\d+)\.(\d+)<(\d+)\.(\d+):(.*)$")
 
+DELETIONS = re.compile(r"-(\d+)\.(\d+)\*(\d+)$")
+
 END = re.compile(r"end:(\d+)$")
 
 HEAD = b'{"op":"head","version":2}\n'
@@ -88,7 +90,7 @@ def _key(word):
 def lines_of(written):
     """Returns the bytes of lines: `a1.1<0.0` inserts, `-1.1` deletes, `run:1.1<0.0:ab` is a run.
 
-    `head` begins an exchange, and `end:2` ends one.
+    `-1.1*3` is a run of three deletions, `head` begins an exchange, and `end:2` ends one.
 
     A word in quotes stands for itself, and a point takes away the last byte, as the newline of a line.
     """
@@ -110,6 +112,10 @@ def _line(word):
     if run:
         text = json.dumps(text_of(run[5]).decode(), ensure_ascii=False).encode()
         return b'{"id":[%d,%d],"op":"run","parent":[%d,%d],"text":%s}\n' % (*map(int, run.groups()[:4]), text)
+    deletions = DELETIONS.match(word)
+    if deletions:
+        counter, replica, count = map(int, deletions.groups())
+        return b'{"count":%d,"id":[%d,%d],"op":"dels"}\n' % (count, counter, replica)
     operation = OPERATION.match(word)
     if not operation:
         raise Unreadable(f"no line is written {word}")
@@ -141,5 +147,9 @@ def _word(line):
     if run:
         text = written_of(json.loads(run[5]).encode()).replace(" ", "\\s")
         return "run:%s.%s<%s.%s:%s" % (*map(bytes.decode, run.groups()[:4]), text)
+    deletions = re.match(rb'\{"count":(\d+),"id":\[(\d+),(\d+)\],"op":"dels"\}\n$', line)
+    if deletions:
+        count, counter, replica = map(bytes.decode, deletions.groups())
+        return f"-{counter}.{replica}*{count}"
     end = re.match(rb'\{"count":(\d+),"op":"end"\}\n$', line)
     return f"end:{end[1].decode()}" if end else f"'{written_of(line)}'"

@@ -16,9 +16,9 @@ use Rattle.rga_doc.specs.LocalEdit.{splice_answer}
 use Rattle.rga_doc.proofs.EditLaws.{splice_taken}
 use Rattle.rga_ops.proofs.ContentLaws.{nothing_join, join_nothing}
 use Rattle.rga_ops.proofs.AgreeLaws.{joinable_nothing}
-use Rattle.rga_lines.specs.Runs.{stretch_operations}
+use Rattle.rga_lines.specs.Runs.{stretch_operations, run_deletions}
 use Rattle.rga_lines.specs.Table.{AnyReading, any_line_at}
-use Rattle.rga_lines.specs.declared.reading.Line.TheVariants.{One, Run, Head, Last}
+use Rattle.rga_lines.specs.declared.reading.Line.TheVariants.{One, Run, Deletions, Head, Last}
 use Rattle.rga_lines.specs.Stream.{rest_of}
 use Rattle.rga_lines.specs.Log.{log_operations}
 use Rattle.rga_exchange.specs.declared.log.LogEnd.{LogEnd}
@@ -61,6 +61,7 @@ ends_whole limit n c d read (b ∷ bytes) h e = by_reading (any_line_at (b ∷ b
     by_reading : (r : AnyReading) → after_bare_line limit n c (length (b ∷ bytes)) r ≡ (d, Ok read) → (b ∷ bytes) ≡ []
     by_reading (Ok (One op)) g = by_taken (taken limit c op) g
     by_reading (Ok (Run r)) g = by_taken (taken_whole limit c (stretch_operations r)) g
+    by_reading (Ok (Deletions r)) g = by_taken (taken_whole limit c (run_deletions r)) g
     by_reading (Ok Head) g = no_open c (Torn (length (b ∷ bytes))) refl g
     by_reading (Ok (Last number)) g = no_open c (Torn (length (b ∷ bytes))) refl g
     by_reading (Err x) g = no_open c (Torn (length (b ∷ bytes))) refl g

@@ -5,10 +5,10 @@ use Rattle.std.proofs.lemmas.Bool.{ne_eqb, eq-eqb, eqb-true}
 use Rattle.rga_ops.specs.Content.{Content}
 use Rattle.rga_ops.specs.Answer.{taken}
 use Rattle.rga_ops.specs.declared.refusal.Refusal.{Refusal}
-use Rattle.rga_lines.specs.Runs.{stretch_operations}
+use Rattle.rga_lines.specs.Runs.{stretch_operations, run_deletions}
 use Rattle.rga_lines.specs.Table.{AnyReading, any_line_at}
 use Rattle.rga_lines.specs.Log.{operations_of, then_operations, is_head, behind_head}
-use Rattle.rga_lines.specs.declared.reading.Line.TheVariants.{One, Run, Head, Last}
+use Rattle.rga_lines.specs.declared.reading.Line.TheVariants.{One, Run, Deletions, Head, Last}
 use Rattle.rga_lines.specs.declared.fault.LineFault.TheVariants as line_fault
 use Rattle.rga_lines.proofs.StandLemmas.{stands}
 use Rattle.rga_exchange.specs.declared.taking.Form.{Form}
@@ -40,6 +40,7 @@ head-iff Exchange n = (λ e. (refl, eqb-true n 1 e), λ p. eq-eqb n 1 p.1)
 says_head : (r : AnyReading) → is_head r ≡ true → r ≡ Ok Head
 says_head (Ok (One op)) e = absurd cc
 says_head (Ok (Run r)) e = absurd cc
+says_head (Ok (Deletions r)) e = absurd cc
 says_head (Ok Head) e = refl
 says_head (Ok (Last number)) e = absurd cc
 says_head (Err x) e = absurd cc
@@ -57,6 +58,7 @@ head_elsewhere form limit n c line lines says none =
 none_may_be : (form : Form) (limit n : ℕ) (c : Content) (r : AnyReading) → may_be_head form n ≡ false → after_line form limit n c r ≡ after_line Log limit n c r
 none_may_be form limit n c (Ok (One op)) none = refl
 none_may_be form limit n c (Ok (Run r)) none = refl
+none_may_be form limit n c (Ok (Deletions r)) none = refl
 none_may_be form limit n c (Ok Head) none = ap (λ b. cond b (on c) (no_head_at n)) none
 none_may_be form limit n c (Ok (Last number)) none = refl
 none_may_be form limit n c (Err e) none = refl
@@ -64,6 +66,7 @@ none_may_be form limit n c (Err e) none = refl
 none_is : (form : Form) (limit n : ℕ) (c : Content) (r : AnyReading) → is_head r ≡ false → after_line form limit n c r ≡ after_line Log limit n c r
 none_is form limit n c (Ok (One op)) none = refl
 none_is form limit n c (Ok (Run r)) none = refl
+none_is form limit n c (Ok (Deletions r)) none = refl
 none_is form limit n c (Ok Head) none = absurd cc
 none_is form limit n c (Ok (Last number)) none = refl
 none_is form limit n c (Err e) none = refl
@@ -167,6 +170,7 @@ lines_further limit n c (line ∷ lines) =
     by_reading : (r : AnyReading) → after_line Log limit (n + 1 + 1) c r ≡ further (after_line Log limit (n + 1) c r)
     by_reading (Ok (One op)) = by_refusal (taken limit c op)
     by_reading (Ok (Run r)) = by_refusal (taken_whole limit c (stretch_operations r))
+    by_reading (Ok (Deletions r)) = by_refusal (taken_whole limit c (run_deletions r))
     by_reading (Ok Head) = refl
     by_reading (Ok (Last number)) = refl
     by_reading (Err e) = refl

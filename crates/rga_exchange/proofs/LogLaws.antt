@@ -14,8 +14,8 @@ use Rattle.rga_ops.proofs.OperationLaws.{Contains-nil, Contains-cases, Contains-
 use Rattle.rga_ops.proofs.TakenLaws.{took}
 use Rattle.rga_ops.proofs.KnownLaws.{takeable_is_taken, taken_list_within}
 use Rattle.rga_ops.proofs.ListAnswerLaws.{one_by_one_list, list_taken-iff}
-use Rattle.rga_lines.specs.Runs.{stretch_operations}
-use Rattle.rga_lines.specs.declared.reading.Line.TheVariants.{One, Run, Head, Last}
+use Rattle.rga_lines.specs.Runs.{stretch_operations, run_deletions}
+use Rattle.rga_lines.specs.declared.reading.Line.TheVariants.{One, Run, Deletions, Head, Last}
 use Rattle.rga_lines.specs.Table.{AnyReading, any_line_at}
 use Rattle.rga_lines.specs.declared.reading.TheConstants.{MAX_LINE}
 use Rattle.rga_lines.specs.Stream.{lines_of, rest_of}
@@ -71,6 +71,7 @@ rest_tells limit n c d read (b ∷ bytes) h = by_reading (any_line_at (b ∷ byt
     by_reading : (r : AnyReading) → any_line_at (b ∷ bytes) ≡ r → after_bare_line limit n c (length (b ∷ bytes)) r ≡ (d, Ok read) → Tells n read (b ∷ bytes)
     by_reading (Ok (One op)) says g = by_taken (op ∷ []) (taken limit c op) (stands (b ∷ bytes) (Ok (One op)) says) g
     by_reading (Ok (Run r)) says g = by_taken (stretch_operations r) (taken_whole limit c (stretch_operations r)) (stands (b ∷ bytes) (Ok (Run r)) says) g
+    by_reading (Ok (Deletions r)) says g = by_taken (run_deletions r) (taken_whole limit c (run_deletions r)) (stands (b ∷ bytes) (Ok (Deletions r)) says) g
     by_reading (Ok Head) says g = tells n c d (Torn (length (b ∷ bytes))) read (b ∷ bytes) g (λ torn. absurd torn)
     by_reading (Ok (Last number)) says g = tells n c d (Torn (length (b ∷ bytes))) read (b ∷ bytes) g (λ torn. absurd torn)
     by_reading (Err e) says g = tells n c d (Torn (length (b ∷ bytes))) read (b ∷ bytes) g (λ torn. absurd torn)
@@ -164,6 +165,8 @@ rest_read limit n c d (b ∷ bytes) within h = by_reading (any_line_at (b ∷ by
         bare (Ok (One op)) says (ap (after_bare_operation n c) (one_taken limit c d op (all (op ∷ []) (stands (b ∷ bytes) (Ok (One op)) says))))
     by_reading (Ok (Run r)) says =
         bare (Ok (Run r)) says (ap (after_bare_operation n c) (one_by_one_taken_whole limit c d (stretch_operations r) within (all (stretch_operations r) (stands (b ∷ bytes) (Ok (Run r)) says))))
+    by_reading (Ok (Deletions r)) says =
+        bare (Ok (Deletions r)) says (ap (after_bare_operation n c) (one_by_one_taken_whole limit c d (run_deletions r) within (all (run_deletions r) (stands (b ∷ bytes) (Ok (Deletions r)) says))))
     by_reading (Ok Head) says = torn (Ok Head) line_fault.Kind says (stands (b ∷ bytes) (Ok Head) says) refl
     by_reading (Ok (Last number)) says = torn (Ok (Last number)) line_fault.Kind says (stands (b ∷ bytes) (Ok (Last number)) says) refl
     by_reading (Err e) says = torn (Err e) e says (stands (b ∷ bytes) (Err e) says) refl

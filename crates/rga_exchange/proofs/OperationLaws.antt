@@ -7,12 +7,12 @@ use Rattle.rga_ops.specs.Answer.{taken, and_take, taken_one_by_one}
 use Rattle.rga_ops.specs.declared.op.Op.{Op}
 use Rattle.rga_ops.specs.declared.refusal.Refusal.{Refusal}
 use Rattle.rga_ops.proofs.TakenLaws.{taken_list_is}
-use Rattle.rga_lines.specs.Runs.{stretch_operations}
+use Rattle.rga_lines.specs.Runs.{stretch_operations, run_deletions}
 use Rattle.rga_lines.specs.Table.{AnyReading, any_line_at}
 use Rattle.rga_lines.specs.declared.reading.TheConstants.{MAX_LINE}
 use Rattle.rga_lines.specs.Stream.{lines_of, rest_of}
 use Rattle.rga_lines.specs.Log.{operations_of, operations_at, stream_operations, log_operations, then_operations}
-use Rattle.rga_lines.specs.declared.reading.Line.TheVariants.{One, Run, Head, Last}
+use Rattle.rga_lines.specs.declared.reading.Line.TheVariants.{One, Run, Deletions, Head, Last}
 use Rattle.rga_lines.specs.declared.fault.LineFault.TheVariants as line_fault
 use Rattle.rga_lines.proofs.StandLemmas.{stands, nothing_stands}
 use Rattle.rga_exchange.specs.declared.fault.LogFault.{LogFault}
@@ -42,6 +42,7 @@ end_line_stands limit n c line number h = by_reading (any_line_at line) refl h
     by_reading : (r : AnyReading) → any_line_at line ≡ r → after_line Log limit n c r ≡ Err (AtEnd number) → operations_at line ≡ Err line_fault.Kind
     by_reading (Ok (One op)) says g = absurd (not_refused (taken limit c op) g)
     by_reading (Ok (Run r)) says g = absurd (not_refused (taken_whole limit c (stretch_operations r)) g)
+    by_reading (Ok (Deletions r)) says g = absurd (not_refused (taken_whole limit c (run_deletions r)) g)
     by_reading (Ok Head) says g = let clash : halt (AtFault (fault.Line n line_fault.Kind)) ≡ halt (AtEnd number) = g in absurd cc
     by_reading (Ok (Last k)) says g = stands line (Ok (Last k)) says
     by_reading (Err e) says g = let clash : halt (AtFault (fault.Line n e)) ≡ halt (AtEnd number) = g in absurd cc
@@ -157,6 +158,8 @@ rest_taken limit n c d read (b ∷ bytes) h = by_reading (any_line_at (b ∷ byt
     by_reading (Ok (One op)) says g = by_taken (op ∷ []) (taken limit c op) (stands (b ∷ bytes) (Ok (One op)) says) (λ e was. ap (λ r. and_take r (λ f. Ok f)) was) g
     by_reading (Ok (Run r)) says g =
         by_taken (stretch_operations r) (taken_whole limit c (stretch_operations r)) (stands (b ∷ bytes) (Ok (Run r)) says) (λ e was. taken_whole_one_by_one limit c e (stretch_operations r) was) g
+    by_reading (Ok (Deletions r)) says g =
+        by_taken (run_deletions r) (taken_whole limit c (run_deletions r)) (stands (b ∷ bytes) (Ok (Deletions r)) says) (λ e was. taken_whole_one_by_one limit c e (run_deletions r) was) g
     by_reading (Ok Head) says g =
         ap (λ r. taken_one_by_one limit c (then_operations r [])) (stands (b ∷ bytes) (Ok Head) says) ∙ ap Ok (ap (λ (o : LogOutcome). o.0) g)
     by_reading (Ok (Last number)) says g =

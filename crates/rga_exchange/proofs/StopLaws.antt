@@ -10,13 +10,13 @@ use Rattle.rga_ops.specs.declared.op.Op.{Op}
 use Rattle.rga_ops.specs.declared.refusal.Refusal.{Refusal}
 use Rattle.rga_ops.proofs.TakenLaws.{took, refused}
 use Rattle.rga_ops.proofs.KnownLaws.{taken_list_within}
-use Rattle.rga_lines.specs.Runs.{stretch_operations}
+use Rattle.rga_lines.specs.Runs.{stretch_operations, run_deletions}
 use Rattle.rga_lines.specs.Table.{AnyReading, any_line_at}
 use Rattle.rga_lines.specs.declared.reading.TheConstants.{MAX_LINE}
 use Rattle.rga_lines.specs.Stream.{lines_of, rest_of}
 use Rattle.rga_lines.specs.Log.{operations_of, operations_at, then_operations, IsOperation}
 use Rattle.rga_lines.specs.declared.reading.Line.{Line}
-use Rattle.rga_lines.specs.declared.reading.Line.TheVariants.{One, Run, Head, Last}
+use Rattle.rga_lines.specs.declared.reading.Line.TheVariants.{One, Run, Deletions, Head, Last}
 use Rattle.rga_lines.specs.declared.fault.LineFault.{LineFault}
 use Rattle.rga_lines.specs.declared.fault.LineFault.TheVariants as line_fault
 use Rattle.rga_lines.proofs.ReadingLemmas.{too_long}
@@ -56,6 +56,7 @@ halting_line form limit n c line lines stop h = by_reading (any_line_at line) re
     by_reading : (r : AnyReading) → any_line_at line ≡ r → after_line form limit (n + 1) c r ≡ Err stop → GoesOnWith form limit n c (line ∷ lines) stop
     by_reading (Ok (One op)) says g = by_taken (One op) (taken limit c op) says refl g
     by_reading (Ok (Run r)) says g = by_taken (Run r) (taken_whole limit c (stretch_operations r)) says refl g
+    by_reading (Ok (Deletions r)) says g = by_taken (Deletions r) (taken_whole limit c (run_deletions r)) says refl g
     by_reading (Ok Head) says g = by_place (may_be_head form (n + 1)) refl says g
     by_reading (Ok (Last number)) says g = so (AtEnd number) g (record { line = line; later = lines; split = refl; says = says })
     by_reading (Err e) says g = wrong e (ap (fault_in form (n + 1)) says) g
@@ -132,12 +133,14 @@ said_next form limit n c lines later line r split says =
 refused_so : (form : Form) (limit n : ℕ) (c : Content) (said : Line) (e : Refusal) → taken_of_line limit c said ≡ Err e → after_line form limit n c (Ok said) ≡ Err (AtFault (fault.Refused n e))
 refused_so form limit n c (One op) e h = ap (refused_at n) h
 refused_so form limit n c (Run r) e h = ap (refused_at n) h
+refused_so form limit n c (Deletions r) e h = ap (refused_at n) h
 refused_so form limit n c Head e h = let clash : took c ≡ refused e = h in absurd cc
 refused_so form limit n c (Last number) e h = let clash : took c ≡ refused e = h in absurd cc
 
 fault_so : (form : Form) (limit n : ℕ) (c : Content) (r : AnyReading) (e : LineFault) → fault_in form n r ≡ Some e → after_line form limit n c r ≡ Err (AtFault (fault.Line n e))
 fault_so form limit n c (Ok (One op)) e h = let clash : no_fault ≡ some_fault e = h in absurd cc
 fault_so form limit n c (Ok (Run r)) e h = let clash : no_fault ≡ some_fault e = h in absurd cc
+fault_so form limit n c (Ok (Deletions r)) e h = let clash : no_fault ≡ some_fault e = h in absurd cc
 fault_so form limit n c (Ok Head) e h = by_place (may_be_head form n) h
   where
     by_place : (may : Bool) → cond may no_fault (some_fault line_fault.Kind) ≡ some_fault e → cond may (on c) (halt (AtFault (fault.Line n line_fault.Kind))) ≡ halt (AtFault (fault.Line n e))

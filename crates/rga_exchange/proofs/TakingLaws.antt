@@ -10,13 +10,14 @@ use Rattle.rga_ops.specs.declared.op.Op.{Op}
 use Rattle.rga_ops.specs.declared.refusal.Refusal.{Refusal}
 use Rattle.rga_ops.proofs.TakenLaws.{took, refused, taken_list_is}
 use Rattle.rga_ops.proofs.ListAnswerLaws.{list_one_by_one, one_by_one_list}
-use Rattle.rga_lines.specs.Runs.{Stretch, stretch_operations}
+use Rattle.rga_lines.specs.Runs.{Stretch, stretch_operations, run_deletions}
 use Rattle.rga_lines.proofs.RunLemmas.{run_operations-length}
+use Rattle.rga_lines.specs.declared.deletion_run.DeletionRun.{DeletionRun}
 use Rattle.rga_lines.specs.Table.{AnyReading, any_line_at}
 use Rattle.rga_lines.specs.declared.reading.TheConstants.{MAX_LINE}
 use Rattle.rga_lines.specs.Stream.{lines_of, rest_of, BeginsLong, Splitting}
 use Rattle.rga_lines.specs.Log.{operations_of, operations_at, then_operations, IsOperation}
-use Rattle.rga_lines.specs.declared.reading.Line.TheVariants.{One, Run, Head, Last}
+use Rattle.rga_lines.specs.declared.reading.Line.TheVariants.{One, Run, Deletions, Head, Last}
 use Rattle.rga_lines.specs.declared.fault.LineFault.{LineFault}
 use Rattle.rga_lines.specs.declared.fault.LineFault.TheVariants as line_fault
 use Rattle.rga_lines.proofs.ReadingLemmas.{too_long}
@@ -46,6 +47,7 @@ refusal_halts n d m (Err e) stop h is = let same : halt (AtFault (fault.Refused 
 halts : (form : Form) (limit n : ℕ) (c d : Content) (m : ℕ) (r : AnyReading) (stop : Stop) → after_line form limit n c r ≡ Err stop → progress m d stop ≡ progress m d AllTaken → ⊥
 halts form limit n c d m (Ok (One op)) stop h is = refusal_halts n d m (taken limit c op) stop h is
 halts form limit n c d m (Ok (Run r)) stop h is = refusal_halts n d m (taken_whole limit c (stretch_operations r)) stop h is
+halts form limit n c d m (Ok (Deletions r)) stop h is = refusal_halts n d m (taken_whole limit c (run_deletions r)) stop h is
 halts form limit n c d m (Ok Head) stop h is = by_place (may_be_head form n) h
   where
     by_place : (may : Bool) → cond may (on c) (halt (AtFault (fault.Line n line_fault.Kind))) ≡ halt stop → ⊥
@@ -190,6 +192,7 @@ line_taken limit n c d line h = by_reading (any_line_at line) refl h
     by_reading : (r : AnyReading) → any_line_at line ≡ r → after_line Log limit n c r ≡ Ok d → (ops : List Op) × (operations_at line ≡ Ok ops) × (taken_one_by_one limit c ops ≡ Ok d)
     by_reading (Ok (One op)) says h = (op ∷ [], stands line (Ok (One op)) says, ap (λ r. and_take r (λ e. Ok e)) (by_taken (taken limit c op) h))
     by_reading (Ok (Run r)) says h = (stretch_operations r, stands line (Ok (Run r)) says, taken_whole_one_by_one limit c d (stretch_operations r) (by_taken (taken_whole limit c (stretch_operations r)) h))
+    by_reading (Ok (Deletions r)) says h = (run_deletions r, stands line (Ok (Deletions r)) says, taken_whole_one_by_one limit c d (run_deletions r) (by_taken (taken_whole limit c (run_deletions r)) h))
     by_reading (Ok Head) says h = let clash : halt (AtFault (fault.Line n line_fault.Kind)) ≡ on d = h in absurd cc
     by_reading (Ok (Last number)) says h = let clash : halt (AtEnd number) ≡ on d = h in absurd cc
     by_reading (Err e) says h = let clash : halt (AtFault (fault.Line n e)) ≡ on d = h in absurd cc
@@ -214,6 +217,10 @@ line_is_taken limit n c d line ops within reads h = by_reading (any_line_at line
         let same : stands_for (stretch_operations r) ≡ stands_for ops = sym (stands line (Ok (Run r)) says) ∙ reads in
         let is : stretch_operations r ≡ ops = cc in
         ap (refused_at n) (one_by_one_taken_whole limit c d (stretch_operations r) within (ap (taken_one_by_one limit c) is ∙ h))
+    by_reading (Ok (Deletions r)) says =
+        let same : stands_for (run_deletions r) ≡ stands_for ops = sym (stands line (Ok (Deletions r)) says) ∙ reads in
+        let is : run_deletions r ≡ ops = cc in
+        ap (refused_at n) (one_by_one_taken_whole limit c d (run_deletions r) within (ap (taken_one_by_one limit c) is ∙ h))
     by_reading (Ok Head) says = let clash : stands_for_none line_fault.Kind ≡ stands_for ops = sym (stands line (Ok Head) says) ∙ reads in absurd cc
     by_reading (Ok (Last number)) says = let clash : stands_for_none line_fault.Kind ≡ stands_for ops = sym (stands line (Ok (Last number)) says) ∙ reads in absurd cc
     by_reading (Err e) says = let clash : stands_for_none e ≡ stands_for ops = sym (stands line (Err e) says) ∙ reads in absurd cc
@@ -228,6 +235,9 @@ run_alone line r says = ap (λ r. then_operations r []) (stands line (Ok (Run r)
 
 pub run_alone-length : (line : List ℕ) (r : Stretch) → any_line_at line ≡ Ok (Run r) → length (operations_of (line ∷ [])) ≡ length r.chars
 run_alone-length line r says = ap (λ (ops : List Op). length ops) (run_alone line r says) ∙ run_operations-length r.id r.parent r.chars
+
+pub deletions_alone : (line : List ℕ) (r : DeletionRun) → any_line_at line ≡ Ok (Deletions r) → operations_of (line ∷ []) ≡ run_deletions r
+deletions_alone line r says = ap (λ r. then_operations r []) (stands line (Ok (Deletions r)) says) ∙ append-nil (run_deletions r)
 
 pub head_alone : (line : List ℕ) → any_line_at line ≡ Ok Head → operations_of (line ∷ []) ≡ []
 head_alone line says = ap (λ r. then_operations r []) (stands line (Ok Head) says)

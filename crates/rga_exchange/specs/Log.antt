@@ -7,9 +7,9 @@ use Rattle.rga_ops.specs.declared.op.Op.{Op}
 use Rattle.rga_ops.specs.declared.refusal.Refusal.{Refusal}
 use Rattle.rga_lines.specs.Counting.{Calls, IsReadToEnd, OnBytes}
 use Rattle.rga_lines.specs.Log.{log_operations}
-use Rattle.rga_lines.specs.Runs.{stretch_operations}
+use Rattle.rga_lines.specs.Runs.{stretch_operations, run_deletions}
 use Rattle.rga_lines.specs.Table.{AnyReading, any_line_at}
-use Rattle.rga_lines.specs.declared.reading.Line.TheVariants.{One, Run, Head, Last}
+use Rattle.rga_lines.specs.declared.reading.Line.TheVariants.{One, Run, Deletions, Head, Last}
 use Rattle.rga_lines.specs.Stream.{rest_of}
 use Rattle.rga_lines.specs.declared.fault.LineFault.TheVariants as line_fault
 use Rattle.rga_exchange.specs.declared.taking.Form.TheVariants as form
@@ -37,6 +37,7 @@ after_bare_operation n c (Err e) = (c, Err (fault.Refused (n + 1) e))
 abbrev pub after_bare_line : ℕ → ℕ → Content → ℕ → AnyReading → LogOutcome
 after_bare_line limit n c bytes (Ok (One op)) = after_bare_operation n c (taken limit c op)
 after_bare_line limit n c bytes (Ok (Run r)) = after_bare_operation n c (taken_whole limit c (stretch_operations r))
+after_bare_line limit n c bytes (Ok (Deletions r)) = after_bare_operation n c (taken_whole limit c (run_deletions r))
 after_bare_line limit n c bytes (Ok Head) = end_outcome n c (Torn bytes)
 after_bare_line limit n c bytes (Ok (Last number)) = end_outcome n c (Torn bytes)
 after_bare_line limit n c bytes (Err e) = end_outcome n c (Torn bytes)

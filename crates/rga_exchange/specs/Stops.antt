@@ -6,9 +6,9 @@ use Rattle.rga_ops.specs.declared.refusal.Refusal.{Refusal}
 use Rattle.rga_lines.specs.Table.{AnyReading, any_line_at}
 use Rattle.rga_lines.specs.declared.reading.TheConstants.{MAX_LINE}
 use Rattle.rga_lines.specs.Stream.{lines_of, rest_of}
-use Rattle.rga_lines.specs.Runs.{stretch_operations}
+use Rattle.rga_lines.specs.Runs.{stretch_operations, run_deletions}
 use Rattle.rga_lines.specs.declared.reading.Line.{Line}
-use Rattle.rga_lines.specs.declared.reading.Line.TheVariants.{One, Run, Head, Last}
+use Rattle.rga_lines.specs.declared.reading.Line.TheVariants.{One, Run, Deletions, Head, Last}
 use Rattle.rga_lines.specs.declared.fault.LineFault.{LineFault}
 use Rattle.rga_lines.specs.declared.fault.LineFault.TheVariants as line_fault
 use Rattle.rga_exchange.specs.declared.taking.Form.{Form}
@@ -29,6 +29,7 @@ pub record StartsWithEnd (lines : List (List ℕ)) (number : ℕ) : Type 0 where
 abbrev pub fault_in : Form → ℕ → AnyReading → Option LineFault
 fault_in form n (Ok (One op)) = None
 fault_in form n (Ok (Run r)) = None
+fault_in form n (Ok (Deletions r)) = None
 fault_in form n (Ok Head) = if may_be_head form n then None else Some line_fault.Kind
 fault_in form n (Ok (Last number)) = None
 fault_in form n (Err e) = Some e
@@ -44,6 +45,7 @@ pub record StartsAtFault (form : Form) (n : ℕ) (lines : List (List ℕ)) (e : 
 abbrev pub taken_of_line : ℕ → Content → Line → Result Content Refusal
 taken_of_line limit c (One op) = taken limit c op
 taken_of_line limit c (Run r) = taken_whole limit c (stretch_operations r)
+taken_of_line limit c (Deletions r) = taken_whole limit c (run_deletions r)
 taken_of_line limit c Head = Ok c
 taken_of_line limit c (Last number) = Ok c
 

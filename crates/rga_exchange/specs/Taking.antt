@@ -8,12 +8,12 @@ use Rattle.rga_ops.specs.ListAnswer.{Verdict, list_answer}
 use Rattle.rga_ops.specs.declared.op.Op.{Op}
 use Rattle.rga_ops.specs.declared.refusal.Refusal.{Refusal}
 use Rattle.rga_lines.specs.Counting.{Calls}
-use Rattle.rga_lines.specs.Runs.{stretch_operations}
+use Rattle.rga_lines.specs.Runs.{stretch_operations, run_deletions}
 use Rattle.rga_lines.specs.Table.{AnyReading, any_line_at}
 use Rattle.rga_lines.specs.declared.reading.TheConstants.{MAX_LINE}
 use Rattle.rga_lines.specs.Stream.{lines_of, rest_of}
 use Rattle.rga_lines.specs.Log.{operations_of, behind_head, IsOperation}
-use Rattle.rga_lines.specs.declared.reading.Line.TheVariants.{One, Run, Head, Last}
+use Rattle.rga_lines.specs.declared.reading.Line.TheVariants.{One, Run, Deletions, Head, Last}
 use Rattle.rga_lines.specs.declared.fault.LineFault.TheVariants as line_fault
 use Rattle.rga_exchange.specs.declared.block.TheConstants.{BLOCK}
 use Rattle.rga_exchange.specs.declared.taking.Form.{Form}
@@ -77,6 +77,7 @@ after_head form n c = if may_be_head form n then Ok c else Err (AtFault (fault.L
 abbrev pub after_line : Form → ℕ → ℕ → Content → AnyReading → Result Content Stop
 after_line form limit n c (Ok (One op)) = refused_at n (taken limit c op)
 after_line form limit n c (Ok (Run r)) = refused_at n (taken_whole limit c (stretch_operations r))
+after_line form limit n c (Ok (Deletions r)) = refused_at n (taken_whole limit c (run_deletions r))
 after_line form limit n c (Ok Head) = after_head form n c
 after_line form limit n c (Ok (Last number)) = Err (AtEnd number)
 after_line form limit n c (Err e) = Err (AtFault (fault.Line n e))

@@ -6,7 +6,7 @@ ghost use Rattle.rga_exchange.specs.Log.{TakesLog, log_end, rest_outcome, end_ou
 ghost use Rattle.rga_exchange.specs.declared.fault.LogFault.TheVariants.{Memory as NoMemory, Read as ReadFailed};
 
 use crate::fault::{LogFault, ReceiveFault};
-use crate::taking::{Form, Stream, StreamEnd, take, take_run, take_stream};
+use crate::taking::{Form, Stream, StreamEnd, take, take_deletions, take_run, take_stream};
 use rga_lines::{Counted, Line, LineFault, read_any};
 use rga_store::Taker;
 use std::alloc::Global;
@@ -95,6 +95,10 @@ fn take_rest<T: Taker>(
         }
         Ok(Line::Run(run)) => {
             take_run(alloc, taker, lines + 1, &run)?;
+            Ok(LogEnd::Bare)
+        }
+        Ok(Line::Deletions(run)) => {
+            take_deletions(alloc, taker, lines + 1, &run)?;
             Ok(LogEnd::Bare)
         }
         Err(LineFault::Memory) => Err(LogFault::Memory),

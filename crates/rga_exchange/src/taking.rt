@@ -3,7 +3,7 @@ ghost use Rattle.std.specs.Prelude.{◌≡◌, ◌≢◌, ◌+◌, ◌*◌, ◌^
 ghost use Rattle.rga_ops.specs.Prelude.{taken};
 ghost use Rattle.rga_lines.specs.Counting.{CountsAs, OnBytes};
 ghost use Rattle.rga_lines.specs.Log.{operations_of};
-ghost use Rattle.rga_lines.specs.Runs.{stretch_operations, IsRun};
+ghost use Rattle.rga_lines.specs.Runs.{stretch_operations, run_deletions, IsRun, IsDeletionRun};
 ghost use Rattle.rga_lines.specs.declared.run.TheConstants.{MAX_RUN};
 ghost use Rattle.rga_lines.specs.Stream.{lines_of};
 ghost use Rattle.rga_lines.specs.declared.reading.TheConstants.{MAX_LINE};
@@ -15,7 +15,7 @@ ghost use Rattle.rga_exchange.specs.declared.fault.LogFault.TheVariants.{Memory,
 
 use crate::block::BLOCK;
 use crate::fault::LogFault;
-use rga_lines::{Counted, Line, LineFault, Run, Splitter, read_any};
+use rga_lines::{Counted, DeletionRun, Line, LineFault, Run, Splitter, read_any};
 use rga_ops::{Op, Refusal};
 use rga_store::Taker;
 use std::alloc::Global;
@@ -206,6 +206,11 @@ fn take_line<T: Taker>(
             *operations += u128::from(count);
             Ok(None)
         }
+        Ok(Line::Deletions(run)) => {
+            let deleted = take_deletions(alloc, taker, number, &run)?;
+            *operations += u128::from(deleted);
+            Ok(None)
+        }
         Ok(Line::Head) => {
             pass_head(form, number)?;
             Ok(None)
@@ -271,7 +276,51 @@ pub(crate) fn take_run<T: Taker>(
     let Ok(ops) = run.ops(alloc) else {
         return Err(LogFault::Memory);
     };
-    match taker.apply_all(&ops) {
+    take_all(taker, number, &ops)
+}
+
+/// Takes the deletions of the run of the line with this number, all or none, and answers how many
+/// they are.
+pub(crate) fn take_deletions<T: Taker>(
+    alloc: Global,
+    taker: &mut T,
+    number: u64,
+    run: &DeletionRun,
+) -> Result<u64, LogFault>
+    requires { IsDeletionRun run.now }
+    ensures count { IfOk result (λ count. count ≡ length (run_deletions run.now)) }
+    ensures ok { OnOk result (taken_whole (T.limit taker.old) (T.content taker.old)
+        (run_deletions run.now) ≡ Ok (T.content taker.new)) }
+    ensures fault { IfErr result (λ e. e ≢ Memory → refused_at number (taken_whole
+        (T.limit taker.old) (T.content taker.old) (run_deletions run.now)) ≡ Err (AtFault e)) }
+    ensures device { IfErr result (λ e. e ≢ ReadFailed) }
+    ensures same { OnErr result (T.content taker.new ≡ T.content taker.old) }
+    ensures limit { T.limit taker.new ≡ T.limit taker.old }
+    ensures follows { MatchResult result
+        (λ _. T.follows taker.old (run_deletions run.now) taker.new)
+        (λ _. T.follows taker.old [] taker.new) }
+{
+    let Ok(ops) = run.ops(alloc) else {
+        return Err(LogFault::Memory);
+    };
+    take_all(taker, number, &ops)
+}
+
+/// Takes the operations that the line with this number stands for, all or none, and answers how
+/// many they are.
+fn take_all<T: Taker>(taker: &mut T, number: u64, ops: &[Op]) -> Result<u64, LogFault>
+    ensures count { IfOk result (λ count. count ≡ length ops.now) }
+    ensures ok { OnOk result (taken_whole (T.limit taker.old) (T.content taker.old) ops.now
+        ≡ Ok (T.content taker.new)) }
+    ensures fault { IfErr result (λ e. e ≢ Memory → refused_at number (taken_whole
+        (T.limit taker.old) (T.content taker.old) ops.now) ≡ Err (AtFault e)) }
+    ensures device { IfErr result (λ e. e ≢ ReadFailed) }
+    ensures same { OnErr result (T.content taker.new ≡ T.content taker.old) }
+    ensures limit { T.limit taker.new ≡ T.limit taker.old }
+    ensures follows { MatchResult result
+        (λ _. T.follows taker.old ops.now taker.new) (λ _. T.follows taker.old [] taker.new) }
+{
+    match taker.apply_all(ops) {
         Ok(()) => Ok(ops.len() as u64),
         Err(Refusal::Memory) => Err(LogFault::Memory),
         Err(fault) => Err(LogFault::Refused(number, fault)),

@@ -13,5 +13,7 @@ pub mod WritableLemmas
 pub mod BeginningLemmas
 pub mod RunBack
 pub mod RunLemmas
+pub mod DeletionLemmas
+pub mod DeletionBack
 pub mod SpelledRun
 pub mod StandLemmas

@@ -9,8 +9,9 @@ use Rattle.rga_ops.specs.Identifier.{Identifier}
 use Rattle.rga_ops.specs.declared.op.Op.{Op}
 use Rattle.rga_ops.specs.declared.op.Op.TheVariants.{Insert, Delete}
 use Rattle.std.specs.List.{flat_map}
-use Rattle.rga_lines.specs.Runs.{Stretch}
-use Rattle.rga_lines.specs.Spelling.{escaped, pair_text, line, run_line, head_line, end_line, IsWritable, IsWritableRun}
+use Rattle.rga_lines.specs.declared.deletion_run.DeletionRun.{DeletionRun}
+use Rattle.rga_lines.specs.Runs.{Stretch, IsDeletionRun}
+use Rattle.rga_lines.specs.Spelling.{escaped, pair_text, line, run_line, deletion_run_line, head_line, end_line, IsWritable, IsWritableRun}
 use Rattle.rga_lines.specs.Stream.{newline, HasNoNewline}
 use Rattle.rga_lines.proofs.SpellingLemmas.{escaped_all, Plain, Plain-encode}
 use Rattle.rga_lines.proofs.ReadBack.{InBounds, within, in_bounds}
@@ -93,6 +94,11 @@ clear_run r h =
     let text : Clear (flat_map escaped r.chars) = record { all = HasNo-all r.chars } in
     clear (codes "{\"id\":") refl then (clear_pair r.id (within r.id h.id) then (clear (codes ",\"op\":\"run\",\"parent\":") refl then (clear_pair r.parent (in_bounds r.parent h.parent) then (clear (codes ",\"text\":\"") refl then (text then clear (codes "\"}") refl)))))
 
+clear_deletions : (r : DeletionRun) → IsDeletionRun r → Clear (deletion_run_line r)
+unfolding deletion_run_line
+clear_deletions r h =
+    clear (codes "{\"count\":") refl then (clear_decimal r.count (omega (arith, h.few)) then (clear (codes ",\"id\":") refl then (clear_pair r.id (within r.id h.element) then clear (codes ",\"op\":\"dels\"}") refl)))
+
 clear_end : (operations : ℕ) → operations < 2 ^ 64 → Clear (end_line operations)
 unfolding end_line
 clear_end operations h = clear (codes "{\"count\":") refl then (clear_decimal operations h then clear (codes ",\"op\":\"end\"}") refl)
@@ -108,6 +114,9 @@ line_has_none op h = by_index (line op) (clear_line op h).all
 
 pub run_has_none : (r : Stretch) → IsWritableRun r → HasNoNewline (run_line r)
 run_has_none r h = by_index (run_line r) (clear_run r h).all
+
+pub deletions_have_none : (r : DeletionRun) → IsDeletionRun r → HasNoNewline (deletion_run_line r)
+deletions_have_none r h = by_index (deletion_run_line r) (clear_deletions r h).all
 
 pub head_has_none : HasNoNewline head_line
 unfolding head_line

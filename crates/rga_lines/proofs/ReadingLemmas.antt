@@ -16,12 +16,13 @@ use Rattle.rga_ops.specs.declared.id.TheConstants.Id.{MAX_COUNTER}
 use Rattle.rga_ops.specs.Operation.{checked}
 use Rattle.rga_ops.specs.declared.op.Op.{Op}
 use Rattle.rga_ops.specs.declared.op.Op.TheVariants.{Insert}
-use Rattle.rga_lines.specs.declared.reading.Line.TheVariants.{One, Run, Head, Last}
-use Rattle.rga_lines.specs.Runs.{Stretch, stretch, IsRun}
+use Rattle.rga_lines.specs.declared.reading.Line.TheVariants.{One, Run, Deletions, Head, Last}
+use Rattle.rga_lines.specs.declared.deletion_run.DeletionRun.{DeletionRun}
+use Rattle.rga_lines.specs.Runs.{Stretch, stretch, IsRun, deletion_run, IsDeletionRun}
 use Rattle.rga_lines.specs.declared.run.TheConstants.{MAX_RUN}
 use Rattle.rga_lines.specs.declared.fault.LineFault.{LineFault}
 use Rattle.rga_lines.specs.declared.reading.TheConstants.{MAX_LINE}
-use Rattle.rga_lines.specs.Table.{Reading, AnyReading, only_char, two_numbers, if_in_range, element_of, parent_of, with_order, with_char, with_identifiers, with_types, insertion, with_identifier, with_type, deletion, with_run_order, with_run_chars, with_run_end, with_run_identifiers, with_run_types, run, with_version, heading, number_at, ending, one, last, of_kind, with_name, with_op, with_count, count_of, text_at, array_at, has, value_line, text_line, any_line_at, operation_alone, line_at}
+use Rattle.rga_lines.specs.Table.{Reading, AnyReading, only_char, two_numbers, if_in_range, element_of, parent_of, with_order, with_char, with_identifiers, with_types, insertion, with_identifier, with_type, deletion, with_run_order, with_run_chars, with_run_end, with_run_identifiers, with_run_types, run, with_deletion_count, with_deletion_end, with_deletion_identifier, with_deletion_types, deletions, with_version, heading, number_at, ending, one, run_of_deletions, last, of_kind, with_name, with_op, with_count, count_of, text_at, array_at, has, value_line, text_line, any_line_at, operation_alone, line_at}
 use Rattle.rga_lines.specs.declared.fault.LineFault.TheVariants as fault
 
 -- ---- one character
@@ -149,6 +150,7 @@ sound_deletion count d = sound_if ((count == 2) && has (codes "id") d) (with_typ
 abbrev IsSoundLine : AnyReading → Type 0
 IsSoundLine (Ok (One op)) = checked op ≡ Ok tt
 IsSoundLine (Ok (Run r)) = IsRun r
+IsSoundLine (Ok (Deletions r)) = IsDeletionRun r
 IsSoundLine (Ok Head) = ⊤
 IsSoundLine (Ok (Last operations)) = ⊤
 IsSoundLine (Err e) = ⊤
@@ -170,6 +172,14 @@ sound_unless : (b : Bool) (r q : AnyReading) → IsSoundLine r → (b ≡ false 
 sound_unless true r q first second = first
 sound_unless false r q first second = second refl
 
+or_none : (a b : Bool) → a || b ≡ false → (a ≡ false) × (b ≡ false)
+or_none true b h = absurd cc
+or_none false b h = (refl, h)
+
+not_zero : (n : ℕ) → (n == 0) ≡ false → 0 < n
+not_zero zero h = absurd cc
+not_zero (suc n) h = omega arith
+
 sound_run_end : (id parent : Identifier) (chars : List ℕ) → IsSoundLine (with_run_end id parent chars)
 sound_run_end id parent chars =
     sound_unless (nat_lt (MAX_COUNTER + 1) (id.counter + length chars)) (Err fault.Id) (with_run_chars id parent chars) tt (λ end.
@@ -181,14 +191,6 @@ sound_run_end id parent chars =
       end = ltb-false (MAX_COUNTER + 1) (id.counter + length chars) end;
       rising = leb-false id.counter parent.counter order;
     })))
-  where
-    or_none : (a b : Bool) → a || b ≡ false → (a ≡ false) × (b ≡ false)
-    or_none true b h = absurd cc
-    or_none false b h = (refl, h)
-
-    not_zero : (n : ℕ) → (n == 0) ≡ false → 0 < n
-    not_zero zero h = absurd cc
-    not_zero (suc n) h = omega arith
 
 sound_run_types : (text : Option (List ℕ)) (id parent : Option Items) → IsSoundLine (with_run_types text id parent)
 sound_run_types (Some text) (Some id) (Some parent) = by_identifiers (element_of id) (parent_of parent)
@@ -204,6 +206,51 @@ sound_run_types None id parent = tt
 sound_run : (count : ℕ) (d : Data) → IsSoundLine (run count d)
 sound_run count d = sound_line_if _ (with_run_types (text_at (codes "text") d) (array_at (codes "id") d) (array_at (codes "parent") d)) (Err fault.Member) (sound_run_types (text_at (codes "text") d) (array_at (codes "id") d) (array_at (codes "parent") d)) tt
 
+-- the identifier of an element is in the ranges
+abbrev IsInRange : Option Identifier → Type 0
+IsInRange (Some id) = is_in_range id.counter id.replica ≡ true
+IsInRange None = ⊤
+
+range_if : (within : Bool) (id : Identifier) → (within ≡ true → is_in_range id.counter id.replica ≡ true) → IsInRange (cond within (Some id) None)
+range_if true id e = e refl
+range_if false id e = tt
+
+element_is_in_range : (p : Option (ℕ × ℕ)) → IsInRange (option_and_then if_in_range p)
+element_is_in_range None = tt
+element_is_in_range (Some p) = range_if (is_in_range p.0 p.1) (identifier p.0 p.1) (λ e. e)
+
+sound_deletion_end : (id : Identifier) (count : ℕ) → is_in_range id.counter id.replica ≡ true → IsSoundLine (run_of_deletions (with_deletion_end id count))
+sound_deletion_end id count element = by_end (nat_lt (MAX_COUNTER + 1) (id.counter + count)) refl
+  where
+    by_count : (t : Bool) → id.counter + count ≤ MAX_COUNTER + 1 → (count == 0) || nat_lt MAX_RUN count ≡ t → IsSoundLine (run_of_deletions (cond t (Err fault.Char) (Ok (deletion_run id count))))
+    by_count true end is = tt
+    by_count false end is = let p = or_none (count == 0) (nat_lt MAX_RUN count) is in record {
+      element = element;
+      some = not_zero count p.0;
+      few = ltb-false MAX_RUN count p.1;
+      end = end;
+    }
+
+    by_end : (t : Bool) → nat_lt (MAX_COUNTER + 1) (id.counter + count) ≡ t → IsSoundLine (run_of_deletions (cond t (Err fault.Id) (with_deletion_count id count)))
+    by_end true is = tt
+    by_end false is = by_count ((count == 0) || nat_lt MAX_RUN count) (ltb-false (MAX_COUNTER + 1) (id.counter + count) is) refl
+
+sound_deletion_types : (count : Option ℕ) (id : Option Items) → IsSoundLine (run_of_deletions (with_deletion_types count id))
+sound_deletion_types (Some count) (Some id) = by_identifier (element_of id) (element_is_in_range (two_numbers id))
+  where
+    by_identifier : (id : Option Identifier) → IsInRange id → IsSoundLine (run_of_deletions (with_deletion_identifier id count))
+    by_identifier (Some id) element = sound_deletion_end id count element
+    by_identifier None element = tt
+sound_deletion_types (Some count) None = tt
+sound_deletion_types None id = tt
+
+sound_deletions : (count : ℕ) (d : Data) → IsSoundLine (run_of_deletions (deletions count d))
+sound_deletions count d = by_members ((count == 3) && (has (codes "count") d && has (codes "id") d))
+  where
+    by_members : (t : Bool) → IsSoundLine (run_of_deletions (cond t (with_deletion_types (number_at (codes "count") d) (array_at (codes "id") d)) (Err fault.Member)))
+    by_members true = sound_deletion_types (number_at (codes "count") d) (array_at (codes "id") d)
+    by_members false = tt
+
 sound_heading : (count : ℕ) (d : Data) → IsSoundLine (heading count d)
 sound_heading count d = sound_line_if ((count == 2) && has (codes "version") d) (with_version (number_at (codes "version") d)) (Err fault.Member) (by_version (number_at (codes "version") d)) tt
   where
@@ -215,12 +262,14 @@ sound_kind : (count : ℕ) (d : Data) (name : List ℕ) → IsSoundLine (of_kind
 sound_kind count d name =
     let ends : AnyReading = cond (bytes_eq name (codes "end")) (last (ending count d)) (Err fault.Kind) in
     let heads : AnyReading = cond (bytes_eq name (codes "head")) (heading count d) ends in
-    let runs : AnyReading = cond (bytes_eq name (codes "run")) (run count d) heads in
+    let dels : AnyReading = cond (bytes_eq name (codes "dels")) (run_of_deletions (deletions count d)) heads in
+    let runs : AnyReading = cond (bytes_eq name (codes "run")) (run count d) dels in
     sound_line_if (bytes_eq name (codes "ins")) (one (insertion count d)) (cond (bytes_eq name (codes "del")) (one (deletion count d)) runs) (sound_one (insertion count d) (sound_insertion count d))
     (sound_line_if (bytes_eq name (codes "del")) (one (deletion count d)) runs (sound_one (deletion count d) (sound_deletion count d))
-    (sound_line_if (bytes_eq name (codes "run")) (run count d) heads (sound_run count d)
+    (sound_line_if (bytes_eq name (codes "run")) (run count d) dels (sound_run count d)
+    (sound_line_if (bytes_eq name (codes "dels")) (run_of_deletions (deletions count d)) heads (sound_deletions count d)
     (sound_line_if (bytes_eq name (codes "head")) (heading count d) ends (sound_heading count d)
-    (sound_line_if (bytes_eq name (codes "end")) (last (ending count d)) (Err fault.Kind) (sound_last (ending count d)) tt))))
+    (sound_line_if (bytes_eq name (codes "end")) (last (ending count d)) (Err fault.Kind) (sound_last (ending count d)) tt)))))
 
 sound_name : (count : ℕ) (d : Data) (name : Option (List ℕ)) → IsSoundLine (with_name count d name)
 sound_name count d (Some name) = sound_kind count d name
@@ -251,12 +300,17 @@ sound_line bytes = sound_line_if (nat_lt MAX_LINE (length bytes)) (Err fault.Lon
 pub any_run : (bytes : List ℕ) (r : Stretch) → any_line_at bytes ≡ Ok (Run r) → IsRun r
 any_run bytes r e = let sound : IsSoundLine (Ok (Run r)) = rw e at (sound_line bytes) in sound
 
+-- and a run of deletions
+pub any_deletions : (bytes : List ℕ) (r : DeletionRun) → any_line_at bytes ≡ Ok (Deletions r) → IsDeletionRun r
+any_deletions bytes r e = let sound : IsSoundLine (Ok (Deletions r)) = rw e at (sound_line bytes) in sound
+
 pub any_well_formed : (bytes : List ℕ) (op : Op) → any_line_at bytes ≡ Ok (One op) → checked op ≡ Ok tt
 any_well_formed bytes op e = let sound : IsSoundLine (Ok (One op)) = rw e at (sound_line bytes) in sound
 
 sound_alone : (r : AnyReading) → IsSoundLine r → IsSound (operation_alone r)
 sound_alone (Ok (One op)) sound = sound
 sound_alone (Ok (Run r)) sound = tt
+sound_alone (Ok (Deletions r)) sound = tt
 sound_alone (Ok Head) sound = tt
 sound_alone (Ok (Last operations)) sound = tt
 sound_alone (Err e) sound = tt

@@ -3,17 +3,20 @@ use Rattle.std.proofs.Common.{◌≡◌, ℕ, ◌<◌, ◌^◌, List, [], ◌∷
 use Rattle.std.specs.List.{AllByRecursion}
 use Rattle.rga_ops.specs.Operation.{checked}
 use Rattle.rga_ops.specs.declared.op.Op.{Op}
-use Rattle.rga_lines.specs.declared.reading.Line.TheVariants.{One, Run, Head, Last}
+use Rattle.rga_lines.specs.declared.reading.Line.TheVariants.{One, Run, Deletions, Head, Last}
 use Rattle.rga_lines.specs.declared.reading.TheConstants.{MAX_LINE}
 use Rattle.rga_lines.specs.declared.fault.LineFault.{LineFault}
 use Rattle.rga_lines.specs.declared.fault.LineFault.TheVariants as fault
-use Rattle.rga_lines.specs.Runs.{Stretch, stretch_operations}
-use Rattle.rga_lines.specs.Spelling.{line, run_line, end_line, IsWritable, IsWritableRun}
+use Rattle.rga_lines.specs.declared.deletion_run.DeletionRun.{DeletionRun}
+use Rattle.rga_lines.specs.Runs.{Stretch, stretch_operations, run_deletions, IsDeletionRun}
+use Rattle.rga_lines.specs.Spelling.{line, run_line, deletion_run_line, end_line, IsWritable, IsWritableRun}
 use Rattle.rga_lines.specs.Table.{AnyReading, any_line_at}
 use Rattle.rga_lines.specs.Log.{operations_in, operations_at}
-use Rattle.rga_lines.proofs.ReadingLemmas.{too_long, refused, any_well_formed, any_run}
+use Rattle.rga_lines.proofs.ReadingLemmas.{too_long, refused, any_well_formed, any_run, any_deletions}
 use Rattle.rga_lines.proofs.RunLemmas.{run_checked}
+use Rattle.rga_lines.proofs.DeletionLemmas.{run_deletions_checked}
 use Rattle.rga_lines.proofs.RunBack.{run_back}
+use Rattle.rga_lines.proofs.DeletionBack.{deletions_back}
 use Rattle.rga_lines.proofs.ReadBack.{line_back, end_back}
 use Rattle.rga_lines.proofs.BeginningLemmas.{beginning_refused}
 use Rattle.serde_json.proofs.OnLiterals.{serde_json_on_literals}
@@ -41,6 +44,7 @@ stand_checked bytes ops h = by_reading (any_line_at bytes) refl
     by_reading : (r : AnyReading) → any_line_at bytes ≡ r → AreChecked ops
     by_reading (Ok (One op)) says = same (op ∷ []) (sym (stands bytes (Ok (One op)) says) ∙ h) (any_well_formed bytes op says, tt)
     by_reading (Ok (Run r)) says = same (stretch_operations r) (sym (stands bytes (Ok (Run r)) says) ∙ h) (run_checked r (any_run bytes r says))
+    by_reading (Ok (Deletions r)) says = same (run_deletions r) (sym (stands bytes (Ok (Deletions r)) says) ∙ h) (run_deletions_checked r (any_deletions bytes r says))
     by_reading (Ok Head) says = let clash : stands_for_none fault.Kind ≡ stands_for ops = sym (stands bytes (Ok Head) says) ∙ h in absurd cc
     by_reading (Ok (Last number)) says = let clash : stands_for_none fault.Kind ≡ stands_for ops = sym (stands bytes (Ok (Last number)) says) ∙ h in absurd cc
     by_reading (Err e) says = let clash : stands_for_none e ≡ stands_for ops = sym (stands bytes (Err e) says) ∙ h in absurd cc
@@ -61,6 +65,9 @@ line_stands op h e = stands (line op) (Ok (One op)) (line_back op h e)
 
 pub run_stands : (r : Stretch) → IsWritableRun r → operations_at (run_line r) ≡ Ok (stretch_operations r)
 run_stands r h = stands (run_line r) (Ok (Run r)) (run_back r h)
+
+pub deletions_stand : (r : DeletionRun) → IsDeletionRun r → operations_at (deletion_run_line r) ≡ Ok (run_deletions r)
+deletions_stand r h = stands (deletion_run_line r) (Ok (Deletions r)) (deletions_back r h)
 
 pub end_stands : (operations : ℕ) → operations < 2 ^ 64 → operations_at (end_line operations) ≡ Err fault.Kind
 end_stands operations h = stands (end_line operations) (Ok (Last operations)) (end_back operations h)

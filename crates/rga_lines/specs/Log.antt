@@ -2,8 +2,8 @@
 use Rattle.std.specs.Prelude.{◌≡◌, ◌⊎◌, ℕ, Bool, true, false, if◌then◌else◌, List, [], ◌∷◌, ◌++◌, Result, Ok, Err}
 use Rattle.std.specs.List.{AllByRecursion}
 use Rattle.rga_ops.specs.declared.op.Op.{Op}
-use Rattle.rga_lines.specs.Runs.{stretch_operations}
-use Rattle.rga_lines.specs.declared.reading.Line.TheVariants.{One, Run, Head, Last}
+use Rattle.rga_lines.specs.Runs.{stretch_operations, run_deletions}
+use Rattle.rga_lines.specs.declared.reading.Line.TheVariants.{One, Run, Deletions, Head, Last}
 use Rattle.rga_lines.specs.declared.fault.LineFault.{LineFault}
 use Rattle.rga_lines.specs.declared.fault.LineFault.TheVariants.{Kind}
 use Rattle.rga_lines.specs.Table.{AnyReading, any_line_at}
@@ -13,6 +13,7 @@ use Rattle.rga_lines.specs.Stream.{lines_of, rest_of}
 abbrev pub operations_in : AnyReading → Result (List Op) LineFault
 operations_in (Ok (One op)) = Ok (op ∷ [])
 operations_in (Ok (Run r)) = Ok (stretch_operations r)
+operations_in (Ok (Deletions r)) = Ok (run_deletions r)
 operations_in (Ok Head) = Err Kind
 operations_in (Ok (Last number)) = Err Kind
 operations_in (Err e) = Err e
@@ -34,6 +35,7 @@ operations_of (line ∷ lines) = then_operations (operations_at line) (operation
 abbrev pub is_head : AnyReading → Bool
 is_head (Ok (One op)) = false
 is_head (Ok (Run r)) = false
+is_head (Ok (Deletions r)) = false
 is_head (Ok Head) = true
 is_head (Ok (Last number)) = false
 is_head (Err e) = false

@@ -1,11 +1,13 @@
--- Runs: insertions of one replica with rising counters, each after the one before it.
-use Rattle.std.specs.Prelude.{ℕ, ◌+◌, ◌<◌, ◌≤◌, List, [], ◌∷◌, length, refl}
+-- Runs: insertions of one replica with rising counters, each after the one before it, and deletions of elements of one
+-- replica with rising counters.
+use Rattle.std.specs.Prelude.{◌≡◌, ℕ, zero, suc, ◌+◌, ◌<◌, ◌≤◌, true, List, [], ◌∷◌, length, refl}
 use Rattle.std.specs.Coded.{Coded, code_by, coded×, coded_list, coded_ℕ}
-use Rattle.rga_ops.specs.Identifier.{Identifier, identifier, identifier_code}
+use Rattle.rga_ops.specs.Identifier.{Identifier, identifier, identifier_code, is_in_range}
 use Rattle.rga_ops.specs.declared.id.TheConstants.Id.{MAX_COUNTER}
 use Rattle.rga_ops.specs.declared.op.Op.{Op}
-use Rattle.rga_ops.specs.declared.op.Op.TheVariants.{Insert}
+use Rattle.rga_ops.specs.declared.op.Op.TheVariants.{Insert, Delete}
 use Rattle.rga_lines.specs.declared.run.TheConstants.{MAX_RUN}
+use Rattle.rga_lines.specs.declared.deletion_run.DeletionRun.{DeletionRun}
 
 -- what contracts see of a run: the identifier and the parent of its first character, and the characters
 pub record Stretch : Type 0 where
@@ -41,3 +43,24 @@ pub record IsRun (r : Stretch) : Type 0 where
   pub few : length r.chars ≤ MAX_RUN
   pub end : r.id.counter + length r.chars ≤ MAX_COUNTER + 1
   pub rising : r.parent.counter < r.id.counter
+
+-- ---- runs of deletions
+
+abbrev pub deletion_run : Identifier → ℕ → DeletionRun
+deletion_run id count = record { id = id; count = count }
+
+-- the deletions of so many elements, of which this is the first
+abbrev pub deletions_from : Identifier → ℕ → List Op
+deletions_from id zero = []
+deletions_from id (suc count) = Delete id ∷ deletions_from (next id) count
+
+-- what a run of deletions stands for
+abbrev pub run_deletions : DeletionRun → List Op
+run_deletions r = deletions_from r.id r.count
+
+-- There are 1 to 4096 deletions, the first one is of an element, and the last counter too is in range.
+pub record IsDeletionRun (r : DeletionRun) : Type 0 where
+  pub element : is_in_range r.id.counter r.id.replica ≡ true
+  pub some : 0 < r.count
+  pub few : r.count ≤ MAX_RUN
+  pub end : r.id.counter + r.count ≤ MAX_COUNTER + 1

@@ -7,6 +7,7 @@ use Rattle.rga_ops.specs.Identifier.{Identifier, is_root, is_in_range}
 use Rattle.rga_ops.specs.declared.op.Op.{Op}
 use Rattle.rga_ops.specs.declared.op.Op.TheVariants.{Insert, Delete}
 use Rattle.rga_lines.specs.Runs.{Stretch, IsRun}
+use Rattle.rga_lines.specs.declared.deletion_run.DeletionRun.{DeletionRun}
 
 -- a character below a space by four hexadecimal digits
 abbrev pub code_escape : ℕ → List ℕ
@@ -88,3 +89,8 @@ pub record IsWritableRun (r : Stretch) : Type 0 where
 pub record BeginsWithCharacters (bytes chars rest : List ℕ) : Type 0 where
   pub parts : bytes ≡ flat_map escaped chars ++ rest
   pub scalars : AllByRecursion IsScalar chars
+
+-- the line of a run of deletions, without its newline
+unfoldable pub deletion_run_line : DeletionRun → List ℕ
+deletion_run_line r =
+    codes "{\"count\":" ++ (decimal r.count ++ (codes ",\"id\":" ++ (pair_text r.id ++ codes ",\"op\":\"dels\"}")))

@@ -11,9 +11,10 @@ use Rattle.rga_ops.specs.declared.op.Op.{Op}
 use Rattle.rga_ops.specs.declared.op.Op.TheVariants.{Insert, Delete}
 use Rattle.rga_lines.specs.declared.reading.TheConstants.{MAX_LINE, VERSION}
 use Rattle.rga_lines.specs.declared.reading.Line.{Line}
-use Rattle.rga_lines.specs.declared.reading.Line.TheVariants.{One, Run, Head, Last}
+use Rattle.rga_lines.specs.declared.reading.Line.TheVariants.{One, Run, Deletions, Head, Last}
 use Rattle.rga_lines.specs.declared.run.TheConstants.{MAX_RUN}
-use Rattle.rga_lines.specs.Runs.{stretch}
+use Rattle.rga_lines.specs.declared.deletion_run.DeletionRun.{DeletionRun}
+use Rattle.rga_lines.specs.Runs.{stretch, deletion_run}
 use Rattle.rga_lines.specs.declared.fault.LineFault.{LineFault}
 use Rattle.rga_lines.specs.declared.fault.LineFault.TheVariants as fault
 
@@ -154,6 +155,32 @@ run count d =
     with_run_types (text_at (codes "text") d) (array_at (codes "id") d) (array_at (codes "parent") d)
     else Err fault.Member
 
+-- ---- a run of deletions
+
+abbrev pub with_deletion_count : Identifier → ℕ → Result DeletionRun LineFault
+with_deletion_count id count =
+    if (count == 0) || nat_lt MAX_RUN count then Err fault.Char else Ok (deletion_run id count)
+
+-- the last element's counter is within the range, too
+abbrev pub with_deletion_end : Identifier → ℕ → Result DeletionRun LineFault
+with_deletion_end id count =
+    if nat_lt (MAX_COUNTER + 1) (id.counter + count) then Err fault.Id else with_deletion_count id count
+
+abbrev pub with_deletion_identifier : Option Identifier → ℕ → Result DeletionRun LineFault
+with_deletion_identifier (Some id) count = with_deletion_end id count
+with_deletion_identifier None count = Err fault.Id
+
+abbrev pub with_deletion_types : Option ℕ → Option Items → Result DeletionRun LineFault
+with_deletion_types (Some count) (Some id) = with_deletion_identifier (element_of id) count
+with_deletion_types _ _ = Err fault.Kind
+
+-- The members are these three: there are three, and each of the other two is there.
+abbrev pub deletions : ℕ → Data → Result DeletionRun LineFault
+deletions members d =
+    if (members == 3) && (has (codes "count") d && has (codes "id") d) then
+    with_deletion_types (number_at (codes "count") d) (array_at (codes "id") d)
+    else Err fault.Member
+
 -- ---- the head of an exchange
 
 abbrev pub with_version : Option ℕ → AnyReading
@@ -179,6 +206,10 @@ abbrev pub one : Reading → AnyReading
 one (Ok op) = Ok (One op)
 one (Err e) = Err e
 
+abbrev pub run_of_deletions : Result DeletionRun LineFault → AnyReading
+run_of_deletions (Ok r) = Ok (Deletions r)
+run_of_deletions (Err e) = Err e
+
 abbrev pub last : Result ℕ LineFault → AnyReading
 last (Ok operations) = Ok (Last operations)
 last (Err e) = Err e
@@ -188,9 +219,10 @@ of_kind count d name =
     if bytes_eq name (codes "ins") then one (insertion count d)
     else (if bytes_eq name (codes "del") then one (deletion count d)
     else (if bytes_eq name (codes "run") then run count d
+    else (if bytes_eq name (codes "dels") then run_of_deletions (deletions count d)
     else (if bytes_eq name (codes "head") then heading count d
     else (if bytes_eq name (codes "end") then last (ending count d)
-    else Err fault.Kind))))
+    else Err fault.Kind)))))
 
 abbrev pub with_name : ℕ → Data → Option (List ℕ) → AnyReading
 with_name count d (Some name) = of_kind count d name
@@ -220,10 +252,11 @@ any_line_at bytes =
     if nat_lt MAX_LINE (length bytes) then Err fault.Long
     else text_line (is_utf8 bytes) (read bytes)
 
--- where one operation alone may stand, a run, the head and the end of an exchange are lines of another kind
+-- where one operation alone may stand, a run of either kind, the head and the end of an exchange are lines of another kind
 abbrev pub operation_alone : AnyReading → Reading
 operation_alone (Ok (One op)) = Ok op
 operation_alone (Ok (Run r)) = Err fault.Kind
+operation_alone (Ok (Deletions r)) = Err fault.Kind
 operation_alone (Ok Head) = Err fault.Kind
 operation_alone (Ok (Last operations)) = Err fault.Kind
 operation_alone (Err e) = Err e

@@ -25,9 +25,11 @@ pub enum LineFault {
     /// be read.
     Kind,
     /// An `id` or a `parent` that is not exactly two whole numbers in the ranges of an identifier.
-    /// A `parent` may be the root, [0,0]. Also a run whose last counter is above the greatest.
+    /// A `parent` may be the root, [0,0]. Also a run, of insertions or deletions, whose last counter
+    /// is above the greatest.
     Id,
-    /// A `char` that is not exactly one character, or a `text` that is not 1 to 4096 of them.
+    /// A `char` that is not exactly one character, a `text` that is not 1 to 4096 of them, or a
+    /// `count` of deletions that is not 1 to 4096.
     Char,
     /// An insertion, or a run, whose counter is not above its parent's.
     Order,

@@ -4,11 +4,13 @@ ghost use Rattle.std.specs.Prelude.{◌≡◌, ℕ, ◌<◌, ◌^◌, ◌++◌, 
 ghost use Rattle.rga_ops.specs.Operation.{checked};
 ghost use Rattle.rga_ops.specs.declared.op.Op.{Op};
 ghost use Rattle.rga_lines.specs.Table.{any_line_at, line_at};
-ghost use Rattle.rga_lines.specs.Runs.{Stretch, IsRun};
-ghost use Rattle.rga_lines.specs.Spelling.{line, end_line, head_line, run_line, IsWritable, IsWritableRun};
+ghost use Rattle.rga_lines.specs.Runs.{Stretch, IsRun, IsDeletionRun};
+ghost use Rattle.rga_lines.specs.declared.deletion_run.DeletionRun.{DeletionRun};
+ghost use Rattle.rga_lines.specs.Spelling.{line, end_line, head_line, run_line, deletion_run_line};
+ghost use Rattle.rga_lines.specs.Spelling.{IsWritable, IsWritableRun};
 ghost use Rattle.rga_lines.specs.Stream.{HasNoNewline, lines_of, rest_of, IsCut, BeginsLong};
 ghost use Rattle.rga_lines.specs.Stream.{Call, holds, after_calls, lines_given, bytes_fed};
-ghost use Rattle.rga_lines.specs.declared.reading.Line.TheVariants.{One, Run as RunLine, Head, Last};
+ghost use Rattle.rga_lines.specs.declared.reading.Line.TheVariants.{One, Run as RunLine, Deletions, Head, Last};
 ghost use Rattle.rga_lines.specs.declared.fault.LineFault.{LineFault};
 ghost use Rattle.rga_lines.specs.declared.fault.LineFault.TheVariants.{Kind};
 
@@ -35,6 +37,18 @@ pub fn runs_read_back()
     ensures written { (r : Stretch) → IsWritableRun r → any_line_at (run_line r) ≡ Ok (RunLine r) }
 {}
 
+/// The run of deletions that a line says is of 1 to 4096 elements, of which the last one's counter
+/// is in range; and the line of such a run says that run. Where operations alone may stand it is a
+/// line of another kind.
+pub fn runs_of_deletions_read_back()
+    ensures run { (bytes : List ℕ) (r : DeletionRun)
+        → any_line_at bytes ≡ Ok (Deletions r) → IsDeletionRun r }
+    ensures written { (r : DeletionRun) → IsDeletionRun r
+        → any_line_at (deletion_run_line r) ≡ Ok (Deletions r) }
+    ensures operation { (r : DeletionRun) → IsDeletionRun r
+        → line_at (deletion_run_line r) ≡ Err Kind }
+{}
+
 /// The line that ends an exchange of so many operations says their number. Where operations alone
 /// may stand it is a line of another kind.
 pub fn written_ends_read_back()
@@ -55,6 +69,7 @@ pub fn written_heads_read_back()
 pub fn written_lines_have_no_newline()
     ensures operation { (op : Op) → IsWritable op → HasNoNewline (line op) }
     ensures run { (r : Stretch) → IsWritableRun r → HasNoNewline (run_line r) }
+    ensures deletions { (r : DeletionRun) → IsDeletionRun r → HasNoNewline (deletion_run_line r) }
     ensures head { HasNoNewline head_line }
     ensures end { (operations : ℕ) → operations < 2 ^ 64 → HasNoNewline (end_line operations) }
 {}

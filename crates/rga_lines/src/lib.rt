@@ -3,9 +3,9 @@
 //! A log or an exchange is a stream of bytes with an operation, or a run of them, a line, each a
 //! JSON object (RFC 8259) of a few members; an exchange has a line more in front, its head, which
 //! may be absent, and one that ends it. This crate says what a line means (`read_any`,
-//! `read_line`), writes lines (`write_line`, `write_run`, `write_head`, `write_end`), cuts a stream
-//! into its lines in whatever pieces it comes (`Splitter`), bounds what a device is asked
-//! (`Counted`), and has a device fail on purpose (`Fuse`). It stands on `rga_ops` for the
+//! `read_line`), writes lines (`write_line`, `write_run`, `write_deletion_run`, `write_head`,
+//! `write_end`), cuts a stream into its lines in whatever pieces it comes (`Splitter`), bounds what a
+//! device is asked (`Counted`), and has a device fail on purpose (`Fuse`). It stands on `rga_ops` for the
 //! operations, on `serde_json` and `json` for the JSON, on `itoa` for the digits and on `memchr`
 //! for the ends of lines.
 //!
@@ -17,6 +17,7 @@
 #![tactic(auto)]
 
 mod counted;
+mod deletion_run;
 mod fault;
 mod fuse;
 pub mod laws;
@@ -31,9 +32,10 @@ mod splitter;
 mod writing;
 
 pub use counted::{Counted, MAX_CALLS};
+pub use deletion_run::DeletionRun;
 pub use fault::LineFault;
 pub use fuse::Fuse;
 pub use reading::{Line, MAX_LINE, read_any, read_line};
 pub use run::{MAX_RUN, Run};
 pub use splitter::Splitter;
-pub use writing::{write_end, write_head, write_line, write_run};
+pub use writing::{write_deletion_run, write_end, write_head, write_line, write_run};

@@ -3,16 +3,18 @@ ghost use Rattle.std.specs.Prelude.{◌≡◌, ◌≢◌, ◌<◌, length, IfOk,
 ghost use Rattle.std.specs.Str.{chars};
 ghost use Rattle.serde_json.specs.View.{view, items_view};
 ghost use Rattle.rga_lines.specs.Table.{count_of, two_numbers, element_of, parent_of};
-ghost use Rattle.rga_lines.specs.Table.{insertion, deletion, run, heading, ending, operation_alone};
+ghost use Rattle.rga_lines.specs.Table.{insertion, deletion, run, deletions, heading, ending};
+ghost use Rattle.rga_lines.specs.Table.{operation_alone};
 ghost use Rattle.rga_lines.specs.Table.{value_line, any_line_at, line_at};
 ghost use Rattle.rga_lines.specs.declared.fault.LineFault.TheVariants.{Memory, Long};
 ghost use Rattle.rga_lines.specs.declared.reading.Line.TheVariants.{Run as RunLine};
 
+use crate::deletion_run::DeletionRun;
 use crate::fault::LineFault;
 use crate::members::by_members;
 use crate::parts::{element, element_or_root, only_char};
 use crate::run::{MAX_RUN, Run};
-use crate::spelled::spelled;
+use crate::spelled::{spelled, spelled_deletions};
 use crate::spelled_run::spelled_run;
 use rga_ops::{Id, Op};
 use serde_json::Value;
@@ -31,6 +33,8 @@ pub enum Line {
     One(Op),
     /// A run of insertions.
     Run(Run),
+    /// A run of deletions.
+    Deletions(DeletionRun),
     /// The head of an exchange.
     Head,
     /// The end of an exchange of so many operations.
@@ -44,12 +48,14 @@ pub enum Line {
 /// {"char":"a","id":[1,2],"op":"ins","parent":[0,0]}
 /// {"id":[1,2],"op":"del"}
 /// {"id":[1,2],"op":"run","parent":[0,0],"text":"hello"}
+/// {"count":5,"id":[1,2],"op":"dels"}
 /// {"op":"head","version":2}
 /// {"count":2,"op":"end"}
 /// ```
 ///
 /// A run stands for insertions of rising counters, each after the one before it: here of (1,2)
-/// after the root to (5,2) after (4,2). The head names the version of the lines, which is 2.
+/// after the root to (5,2) after (4,2). A run of deletions stands for those of so many elements with
+/// rising counters: here of (1,2) to (5,2). The head names the version of the lines, which is 2.
 ///
 /// Where a member is named twice its last value counts. The faults are answered in the order that
 /// `LineFault` tells. `Long` takes no memory.
@@ -69,6 +75,9 @@ pub fn read_any(alloc: Global, bytes: &[u8]) -> Result<Line, LineFault>
     if let Some(run) = spelled_run(alloc, bytes)? {
         return Ok(Line::Run(run));
     }
+    if let Some(run) = spelled_deletions(bytes) {
+        return Ok(Line::Deletions(run));
+    }
     match Value::from_slice(alloc, bytes) {
         Ok(value) => line_of(alloc, &value),
         Err(e) => {
@@ -82,7 +91,7 @@ pub fn read_any(alloc: Global, bytes: &[u8]) -> Result<Line, LineFault>
 }
 
 /// The operation that a line says, given without its newline: what `read_any` gives, but `Kind`
-/// for a run and for the head and the end of an exchange.
+/// for a run of either kind and for the head and the end of an exchange.
 pub fn read_line(alloc: Global, bytes: &[u8]) -> Result<Op, LineFault>
     ensures exact { result ≢ Err Memory → result ≡ line_at bytes.now }
     ensures long { MAX_LINE < length bytes.now → result ≡ Err Long }
@@ -97,7 +106,7 @@ fn alone(line: &Line) -> Result<Op, LineFault>
 {
     match line {
         Line::One(op) => Ok(*op),
-        Line::Run(_) | Line::Head | Line::Last(_) => Err(LineFault::Kind),
+        Line::Run(_) | Line::Deletions(_) | Line::Head | Line::Last(_) => Err(LineFault::Kind),
     }
 }
 
@@ -120,6 +129,8 @@ fn line_of(alloc: Global, value: &Value) -> Result<Line, LineFault>
         Ok(Line::One(deletion(count, value)?))
     } else if name == "run" {
         Ok(Line::Run(run(alloc, count, value)?))
+    } else if name == "dels" {
+        Ok(Line::Deletions(deletions(count, value)?))
     } else if name == "head" {
         heading(count, value)
     } else if name == "end" {
@@ -227,6 +238,31 @@ fn characters(alloc: Global, text: &str) -> Result<Vec<char>, LineFault>
     ensures fault { IfErr result (λ e. e ≡ Memory) }
 {
     Ok(text.chars().collect(alloc)?)
+}
+
+/// A run of deletions, by an object of so many members.
+fn deletions(members: usize, value: &Value) -> Result<DeletionRun, LineFault>
+    ensures { result ≡ deletions members (view value.now) }
+{
+    if members != 3 {
+        return Err(LineFault::Member);
+    }
+    let (Some(count), Some(id)) = (value.get("count"), value.get("id")) else {
+        return Err(LineFault::Member);
+    };
+    let (Some(count), Some(id)) = (count.as_u64(), id.as_array()) else {
+        return Err(LineFault::Kind);
+    };
+    let Some(id) = element_of(id) else {
+        return Err(LineFault::Id);
+    };
+    if u128::from(id.counter()) + u128::from(count) > u128::from(Id::MAX_COUNTER + 1) {
+        return Err(LineFault::Id);
+    }
+    if count == 0 || count > MAX_RUN as u64 {
+        return Err(LineFault::Char);
+    }
+    Ok(DeletionRun { id, count })
 }
 
 /// The head of an exchange, by an object of so many members.

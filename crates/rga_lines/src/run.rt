@@ -8,7 +8,7 @@ use rga_ops::{Id, Op};
 use std::alloc::Global;
 use std::marker::Model;
 
-/// The most characters of a run.
+/// The most operations of a run: the characters of one of insertions, or deletions.
 pub const MAX_RUN: usize = 4096;
 
 /// Insertions of one replica with rising counters, each after the one before it: the first one's

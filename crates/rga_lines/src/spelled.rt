@@ -1,12 +1,14 @@
 //! Lines that are spelled in one way, read with no value of JSON in between.
 ghost use Rattle.std.specs.Prelude.{◌≡◌, ◌++◌, IfSome, Ok};
 ghost use Rattle.rga_ops.specs.Identifier.{identifier};
-ghost use Rattle.rga_lines.specs.Spelling.{pair_text, IsLineOf};
+ghost use Rattle.rga_lines.specs.Spelling.{pair_text, deletion_run_line, IsElement, IsLineOf};
 ghost use Rattle.rga_lines.specs.Table.{any_line_at};
-ghost use Rattle.rga_lines.specs.declared.reading.Line.TheVariants.{One};
+ghost use Rattle.rga_lines.specs.declared.reading.Line.TheVariants.{One, Deletions};
 
+use crate::deletion_run::DeletionRun;
 use crate::parts::{after, character, element, element_or_root, number};
-use rga_ops::Op;
+use crate::run::MAX_RUN;
+use rga_ops::{Id, Op};
 
 /// The operation that the bytes of a line say, where they are spelled as `line` of
 /// `specs/Spelling.antt` has it: no blanks, and the members by their names. `None` says nothing of
@@ -61,6 +63,40 @@ fn deletion(bytes: &[u8]) -> Option<Op>
     let rest = after(rest, b",\"op\":\"del\"}")?;
     if rest.is_empty() {
         Some(Op::Delete { id })
+    } else {
+        None
+    }
+}
+
+/// The run of deletions that the bytes of a line say, where they are spelled as `deletion_run_line`
+/// of `specs/Spelling.antt` has it. `None` says nothing of the line.
+pub(crate) fn spelled_deletions(bytes: &[u8]) -> Option<DeletionRun>
+    ensures { IfSome result (λ run. any_line_at bytes.now ≡ Ok (Deletions run)) }
+{
+    let run = written_deletions(bytes)?;
+    if run.count == 0
+        || run.count > MAX_RUN as u64
+        || run.id.counter() + run.count > Id::MAX_COUNTER + 1
+    {
+        return None;
+    }
+    Some(run)
+}
+
+/// The run of deletions that `deletion_run_line` spells as these bytes, of any count.
+#[tactic(auto, unfolding(crate::specs::Spelling::deletion_run_line))]
+fn written_deletions(bytes: &[u8]) -> Option<DeletionRun>
+    ensures { IfSome result
+        (λ run. (bytes.now ≡ deletion_run_line run) × IsElement run.id) }
+{
+    let rest = after(bytes, b"{\"count\":")?;
+    let (count, rest) = number(rest)?;
+    let rest = after(rest, b",\"id\":")?;
+    let (counter, replica, rest) = pair(rest)?;
+    let id = element(counter, replica)?;
+    let rest = after(rest, b",\"op\":\"dels\"}")?;
+    if rest.is_empty() {
+        Some(DeletionRun { id, count })
     } else {
         None
     }

@@ -1,16 +1,18 @@
-//! Lines written: the one spelling of an operation, of a run, and of the head and the end of an
-//! exchange.
+//! Lines written: the one spelling of an operation, of a run of either kind, and of the head and the
+//! end of an exchange.
 ghost use Rattle.std.specs.Prelude.{◌≡◌, ◌++◌, ◌<◌, Ok, IfOk, IfErr, OnOk, string_bytes};
 ghost use Rattle.std.specs.Char.{digit_char, IsScalar};
 ghost use Rattle.rga_ops.specs.Operation.{checked};
 ghost use Rattle.rga_ops.specs.declared.op.Op.TheVariants.{Insert, Delete};
 ghost use Rattle.std.specs.List.{flat_map, AllByRecursion};
 ghost use Rattle.rga_lines.specs.Runs.{IsRun};
-ghost use Rattle.rga_lines.specs.Spelling.{code_escape, escaped, pair_text, line, run_line, head_line, end_line};
+ghost use Rattle.rga_lines.specs.Spelling.{code_escape, escaped, pair_text, line, run_line};
+ghost use Rattle.rga_lines.specs.Spelling.{deletion_run_line, head_line, end_line};
 ghost use Rattle.rga_lines.specs.Spelling.{IsWritableRun};
 ghost use Rattle.rga_lines.specs.Spelling.{IsElementOrRoot, IsWritable};
 ghost use Rattle.rga_lines.specs.declared.fault.LineFault.TheVariants.{Memory};
 
+use crate::deletion_run::DeletionRun;
 use crate::fault::LineFault;
 use crate::run::Run;
 use itoa::Buffer;
@@ -55,6 +57,24 @@ pub fn write_run(alloc: Global, run: &Run) -> Result<String, LineFault>
     text.push_str(",\"text\":\"")?;
     push_all(&mut text, &run.chars)?;
     text.push_str("\"}")?;
+    Ok(text)
+}
+
+/// The line of a run of deletions without its newline, as `deletion_run_line` of
+/// `specs/Spelling.antt` has it. `read_any` gives back any that it gives. `Memory` is the only
+/// refusal.
+#[tactic(auto, unfolding(crate::specs::Spelling::deletion_run_line))]
+pub fn write_deletion_run(alloc: Global, run: &DeletionRun) -> Result<String, LineFault>
+    ensures ok { IfOk result (λ s. string_bytes s ≡ deletion_run_line run.now) }
+    ensures memory { IfErr result (λ e. e ≡ Memory) }
+{
+    let mut text = String::with_capacity(alloc, ROOM)?;
+    let mut digits = Buffer::new();
+    text.push_str("{\"count\":")?;
+    text.push_str(digits.format(run.count))?;
+    text.push_str(",\"id\":")?;
+    push_pair(&mut text, &run.id)?;
+    text.push_str(",\"op\":\"dels\"}")?;
     Ok(text)
 }
 

@@ -6,8 +6,8 @@ use Rattle.rga_lines.proofs.StandLemmas.{nothing_stands}
 use Rattle.std.proofs.lemmas.Result.{err_from_is_err_and}
 use Rattle.rga_ops.specs.Answer.{taken}
 use Rattle.rga_lines.specs.declared.reading.Line.TheVariants.{One}
-use Rattle.rga_lines.proofs.ReadingLemmas.{any_run}
-use Rattle.rga_exchange.proofs.TakingLaws.{one_alone, run_alone, head_alone, last_alone, none_alone}
+use Rattle.rga_lines.proofs.ReadingLemmas.{any_run, any_deletions}
+use Rattle.rga_exchange.proofs.TakingLaws.{one_alone, run_alone, deletions_alone, head_alone, last_alone, none_alone}
 use Rattle.rga_exchange.proofs.OperationLaws.{rest_says, bare_refused}
 use Rattle.rga_exchange.proofs.log.take_rest.Goals as goal
 
@@ -40,6 +40,14 @@ pub returns-in_ok-take_run-in-Ok-Run-clause-follows : goal.returns-in_ok-take_ru
 returns-in_ok-take_run-in-Ok-Run-clause-follows g c =
     let says = sym (c.in-Ok-Run.ensures.exact (λ e. absurd cc)) ∙ ap Ok c.in-Ok-Run.field-0-is in
     subst (λ ops. g.T.Taker.follows c.args.taker.now ops c.take_run.new.taker) (sym (run_alone c.args.rest.now c.in-Ok-Run.run' says)) c.in_ok-take_run-in-Ok-Run.ensures.follows
+
+pub take_deletions-requires : goal.take_deletions-requires
+take_deletions-requires g c = any_deletions c.args.rest.now c.in-Ok-Deletions.run' (sym (c.in-Ok-Deletions.ensures.exact (λ e. absurd cc)) ∙ ap Ok c.in-Ok-Deletions.field-0-is)
+
+pub returns-in_ok-take_deletions-in-Ok-Deletions-clause-follows : goal.returns-in_ok-take_deletions-in-Ok-Deletions-clause-follows
+returns-in_ok-take_deletions-in-Ok-Deletions-clause-follows g c =
+    let says = sym (c.in-Ok-Deletions.ensures.exact (λ e. absurd cc)) ∙ ap Ok c.in-Ok-Deletions.field-0-is in
+    subst (λ ops. g.T.Taker.follows c.args.taker.now ops c.take_deletions.new.taker) (sym (deletions_alone c.args.rest.now c.in-Ok-Deletions.run' says)) c.in_ok-take_deletions-in-Ok-Deletions.ensures.follows
 
 pub returns-in-Ok-Head-clause-follows : goal.returns-in-Ok-Head-clause-follows
 returns-in-Ok-Head-clause-follows g c =

@@ -1,0 +1,59 @@
+-- The deletions of a run, one after another.
+use Rattle.std.proofs.Common.{◌≡◌, ℕ, zero, suc, ◌+◌, ◌-◌, ◌<◌, ◌≤◌, ◌&&◌, nat_le, Ok, ne_eqb, List, [], ◌∷◌, ◌++◌, length, refl, sym, ap, ◌∙◌, arith, append_assoc, true}
+use Rattle.std.specs.List.{AllByRecursion}
+use Rattle.std.proofs.lemmas.Bool.{and_parts, leb-true}
+use Rattle.rga_ops.specs.Identifier.{Identifier, identifier, is_in_range}
+use Rattle.rga_ops.specs.Operation.{checked}
+use Rattle.rga_ops.specs.declared.id.TheConstants.Id.{MAX_COUNTER}
+use Rattle.rga_ops.specs.declared.op.Op.{Op}
+use Rattle.rga_ops.specs.declared.op.Op.TheVariants.{Delete}
+use Rattle.rga_lines.specs.declared.deletion_run.DeletionRun.{DeletionRun}
+use Rattle.rga_lines.specs.Runs.{next, deletions_from, run_deletions, IsDeletionRun}
+
+pub deletions_from-length : (id : Identifier) (count : ℕ) → length (deletions_from id count) ≡ count
+deletions_from-length id zero = refl
+deletions_from-length id (suc count) = omega (arith, deletions_from-length (next id) count)
+
+-- one deletion more behind those before it
+pub next_deletion : (before : List Op) (id : Identifier) (count : ℕ) → 0 < count → before ++ deletions_from id count ≡ (before ++ Delete id ∷ []) ++ deletions_from (next id) (count - 1)
+next_deletion before id zero some = absurd (omega (arith, some))
+next_deletion before id (suc count) some =
+    let same : count ≡ suc count - 1 = omega arith in
+    sym (append_assoc before (Delete id ∷ []) (deletions_from (next id) count))
+    ∙ ap (λ n. (before ++ Delete id ∷ []) ++ deletions_from (next id) n) same
+
+-- one deletion more at the end
+pub one_more : (id : Identifier) (count : ℕ) → deletions_from id (suc count) ≡ deletions_from id count ++ Delete (identifier (id.counter + count) id.replica) ∷ []
+one_more id zero = let same : id.counter ≡ id.counter + 0 = omega arith in λ k. Delete (identifier (same k) id.replica) ∷ []
+one_more id (suc count) =
+    let same : id.counter + 1 + count ≡ id.counter + suc count = omega arith in
+    ap (λ (ops : List Op). Delete id ∷ ops) (one_more (next id) count)
+    ∙ (λ k. Delete id ∷ (deletions_from (next id) count ++ Delete (identifier (same k) id.replica) ∷ []))
+
+-- the identifier of an element is not the root
+pub above_root : (id : Identifier) → is_in_range id.counter id.replica ≡ true → 0 < id.counter
+above_root id e =
+    let counters = and_parts (nat_le 1 id.counter && nat_le id.counter MAX_COUNTER) (nat_le 1 id.replica && nat_le id.replica 65535) e in
+    let least = and_parts (nat_le 1 id.counter) (nat_le id.counter MAX_COUNTER) counters.0 in
+    let above : 1 ≤ id.counter = leb-true 1 id.counter least.0 in
+    omega (arith, above)
+
+pub deletions_checked : (id : Identifier) (count : ℕ) → 0 < id.counter → AllByRecursion (λ (op : Op). checked op ≡ Ok tt) (deletions_from id count)
+deletions_checked id zero h = tt
+deletions_checked id (suc count) h = (rw (ne_eqb id.counter 0 (λ z. omega (arith, h))), deletions_checked (next id) count (omega arith))
+
+-- they are well-formed
+pub run_deletions_checked : (r : DeletionRun) → IsDeletionRun r → AllByRecursion (λ (op : Op). checked op ≡ Ok tt) (run_deletions r)
+run_deletions_checked r h = deletions_checked r.id r.count (above_root r.id h.element)
+
+-- five parts written one behind another, the first behind nothing
+pub five_parts : (a b c d e t₀ t₁ t₂ t₃ t₄ t₅ : List ℕ) → t₀ ≡ [] → t₁ ≡ t₀ ++ a → t₂ ≡ t₁ ++ b → t₃ ≡ t₂ ++ c → t₄ ≡ t₃ ++ d → t₅ ≡ t₄ ++ e → t₅ ≡ a ++ (b ++ (c ++ (d ++ e)))
+five_parts a b c d e t₀ t₁ t₂ t₃ t₄ t₅ h₀ h₁ h₂ h₃ h₄ h₅ =
+    let one : t₁ ≡ a = h₁ ∙ ap (λ l. l ++ a) h₀ in
+    let two : t₂ ≡ a ++ b = h₂ ∙ ap (λ l. l ++ b) one in
+    let three : t₃ ≡ (a ++ b) ++ c = h₃ ∙ ap (λ l. l ++ c) two in
+    let four : t₄ ≡ ((a ++ b) ++ c) ++ d = h₄ ∙ ap (λ l. l ++ d) three in
+    h₅ ∙ ap (λ l. l ++ e) four
+    ∙ append_assoc ((a ++ b) ++ c) d e
+    ∙ append_assoc (a ++ b) c (d ++ e)
+    ∙ append_assoc a b (c ++ (d ++ e))
