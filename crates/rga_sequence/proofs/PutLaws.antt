@@ -1,0 +1,221 @@
+-- Blocks into which an entry comes or from which one goes: what stands in them, apart and in no empty block.
+use Rattle.std.proofs.Common.{◌≡◌, ℕ, ◌+◌, ◌-◌, ◌<◌, ◌≤◌, suc, zero, Bool, true, false, cond, not, ◌||◌, List, [], ◌∷◌, ◌++◌, filter, map, length, take, drop, slice_index_or, refl, sym, ap, ◌∙◌, subst, arith, true≢false, append_assoc}
+use Rattle.std.specs.Prelude.{insert, remove, slice_set, Result, Ok, Err, OnOk, OnErr}
+use Rattle.std.specs.List.{list_any, AllByRecursion, IsDistinct}
+use Rattle.std.proofs.lemmas.List.Folds.{list_any-append}
+use Rattle.rga_ops.specs.Identifier.{Identifier, is_id, is_root}
+use Rattle.rga_ops.proofs.IdentifierLaws.{is_id-itself}
+use Rattle.rga_sequence.specs.declared.entry.Entry.{Entry}
+use Rattle.rga_sequence.specs.Entries.{has, without_entry, as_deleted, delete_entry, put_entry, AreApart, IsPart}
+use Rattle.rga_sequence.specs.Blocks.{Blocks, flat, before, behind, cut_in, delete_at_index, IsPlace, Stands, AreFilled}
+use Rattle.rga_sequence.proofs.PlaceLaws.{parted, other_place}
+use Rattle.rga_sequence.proofs.StandLaws.{id_swap}
+
+-- ---- apart
+
+all_put : (P : Entry → Type 0) (front : List Entry) (e : Entry) (back : List Entry) → P e → AllByRecursion P (front ++ back) → AllByRecursion P (front ++ e ∷ back)
+all_put P [] e back h all = (h, all)
+all_put P (x ∷ front) e back h all = (all.0, all_put P front e back h all.1)
+
+all_other : (e : Entry) (xs : List Entry) → has e.id xs ≡ false → AllByRecursion (λ y. is_id e.id y.id ≡ false) xs
+all_other e [] h = tt
+all_other e (x ∷ xs) h =
+    elim (is_id x.id e.id) as (λ b. is_id x.id e.id ≡ b → (b || has e.id xs) ≡ false → AllByRecursion (λ y. is_id e.id y.id ≡ false) (x ∷ xs)) [
+      | true ↦ λ t k. absurd (true≢false k)
+      | false ↦ λ f k. (id_swap x.id e.id f, all_other e xs k)
+    ] refl h
+
+pub apart_put : (front : List Entry) (e : Entry) (back : List Entry) → has e.id (front ++ back) ≡ false → AreApart (front ++ back) → AreApart (front ++ e ∷ back)
+unfolding IsDistinct
+apart_put [] e back h apart = (all_other e back h, apart)
+apart_put (x ∷ front) e back h apart =
+    elim (is_id x.id e.id) as (λ b. is_id x.id e.id ≡ b → (b || has e.id (front ++ back)) ≡ false → AreApart (x ∷ front ++ e ∷ back)) [
+      | true ↦ λ t k. absurd (true≢false k)
+      | false ↦ λ f k. (all_put (λ y. is_id x.id y.id ≡ false) front e back f apart.0, apart_put front e back k apart.1)
+    ] refl h
+
+all_kept : (P : Entry → Type 0) (id : Identifier) (xs : List Entry) → AllByRecursion P xs → AllByRecursion P (without_entry id xs)
+all_kept P id [] all = tt
+all_kept P id (x ∷ xs) all =
+    elim (is_id x.id id) as (λ b. AllByRecursion P (cond (not b) (x ∷ without_entry id xs) (without_entry id xs))) [
+      | true ↦ all_kept P id xs all.1
+      | false ↦ (all.0, all_kept P id xs all.1)
+    ]
+
+pub apart_without : (id : Identifier) (xs : List Entry) → AreApart xs → AreApart (without_entry id xs)
+unfolding IsDistinct
+apart_without id [] apart = tt
+apart_without id (x ∷ xs) apart =
+    elim (is_id x.id id) as (λ b. AreApart (cond (not b) (x ∷ without_entry id xs) (without_entry id xs))) [
+      | true ↦ apart_without id xs apart.1
+      | false ↦ (all_kept (λ y. is_id x.id y.id ≡ false) id xs apart.0, apart_without id xs apart.1)
+    ]
+
+same_id : (id : Identifier) (x : Entry) → (cond (is_id x.id id) (as_deleted x) x).id ≡ x.id
+same_id id x = elim (is_id x.id id) as (λ b. (cond b (as_deleted x) x).id ≡ x.id) [ true ↦ refl | false ↦ refl ]
+
+all_deleted : (id y : Identifier) (xs : List Entry) → AllByRecursion (λ q. is_id y q.id ≡ false) xs → AllByRecursion (λ q. is_id y q.id ≡ false) (delete_entry id xs)
+all_deleted id y [] all = tt
+all_deleted id y (x ∷ xs) all = (ap (is_id y) (same_id id x) ∙ all.0, all_deleted id y xs all.1)
+
+pub apart_deleted : (id : Identifier) (xs : List Entry) → AreApart xs → AreApart (delete_entry id xs)
+unfolding IsDistinct
+apart_deleted id [] apart = tt
+apart_deleted id (x ∷ xs) apart =
+    (subst (λ y. AllByRecursion (λ q. is_id y q.id ≡ false) (delete_entry id xs)) (sym (same_id id x)) (all_deleted id x.id xs apart.0), apart_deleted id xs apart.1)
+
+pub apart_none : AreApart []
+unfolding IsDistinct
+apart_none = tt
+
+-- ---- no block is empty
+
+pub filled_set : (bs : Blocks) (b : ℕ) (y : List Entry) → AreFilled bs → 0 < length y → AreFilled (slice_set bs b y)
+filled_set [] b y f h = f
+filled_set (x ∷ xs) zero y f h = (h, f.1)
+filled_set (x ∷ xs) (suc b) y f h = (f.0, filled_set xs b y f.1 h)
+
+pub filled_insert : (bs : Blocks) (b : ℕ) (y : List Entry) → AreFilled bs → 0 < length y → AreFilled (insert bs b y)
+filled_insert bs zero y f h = (h, f)
+filled_insert [] (suc b) y f h = (h, tt)
+filled_insert (x ∷ xs) (suc b) y f h = (f.0, filled_insert xs b y f.1 h)
+
+pub filled_remove : (bs : Blocks) (b : ℕ) → AreFilled bs → AreFilled (remove bs b)
+filled_remove [] zero f = tt
+filled_remove [] (suc b) f = tt
+filled_remove (x ∷ xs) zero f = f.1
+filled_remove (x ∷ xs) (suc b) f = (f.0, filled_remove xs b f.1)
+
+pub filled_cut : (bs : Blocks) (b cut : ℕ) (d : List Entry) → AreFilled bs → 0 < cut → cut < length (slice_index_or bs b d) → AreFilled (cut_in bs b cut)
+filled_cut [] b cut d f h w = tt
+filled_cut (x ∷ xs) zero cut d f h w = (front cut x h w, (back cut x w, f.1))
+  where
+    front : (n : ℕ) (y : List Entry) → 0 < n → n < length y → 0 < length (take n y)
+    front zero y h w = absurd (omega arith)
+    front (suc n) [] h w = absurd (omega arith)
+    front (suc n) (z ∷ y) h w = omega arith
+
+    back : (n : ℕ) (y : List Entry) → n < length y → 0 < length (drop n y)
+    back zero y w = w
+    back (suc n) [] w = absurd (omega arith)
+    back (suc n) (z ∷ y) w = back n y (omega arith)
+filled_cut (x ∷ xs) (suc b) cut d f h w = (f.0, filled_cut xs b cut d f.1 h w)
+
+-- ---- what stands in blocks that change
+
+pub own_there : (bs : Blocks) (b : ℕ) (e : Entry) (d : List Entry) → b < length bs → flat (insert bs (suc b) (e ∷ [])) ≡ before bs b (length (slice_index_or bs b d)) ++ e ∷ behind bs b (length (slice_index_or bs b d))
+own_there [] b e d w = absurd (omega arith)
+own_there (x ∷ xs) zero e d w = (λ k. all x k ++ e ∷ (none x k ++ flat xs))
+  where
+    all : (y : List Entry) → y ≡ take (length y) y
+    all [] = refl
+    all (z ∷ y) = ap (λ r. z ∷ r) (all y)
+
+    none : (y : List Entry) → [] ≡ drop (length y) y
+    none [] = refl
+    none (z ∷ y) = none y
+own_there (x ∷ xs) (suc b) e d w =
+    ap (λ r. x ++ r) (own_there xs b e d (omega arith))
+    ∙ sym (append_assoc x (before xs b (length (slice_index_or xs b d))) (e ∷ behind xs b (length (slice_index_or xs b d))))
+
+pub removed_there : (bs : Blocks) (b i : ℕ) (d : List Entry) → b < length bs → flat (slice_set bs b (remove (slice_index_or bs b d) i)) ≡ before bs b i ++ behind bs b (suc i)
+removed_there [] b i d w = absurd (omega arith)
+removed_there (x ∷ xs) zero i d w = append_assoc (take i x) (drop (suc i) x) (flat xs)
+removed_there (x ∷ xs) (suc b) i d w = ap (λ r. x ++ r) (removed_there xs b i d (omega arith)) ∙ sym (append_assoc x (before xs b i) (behind xs b (suc i)))
+
+-- a block of one entry goes with it
+pub block_gone : (bs : Blocks) (b i : ℕ) (d : List Entry) → b < length bs → length (slice_index_or bs b d) ≡ 1 → i < 1 → flat (remove bs b) ≡ before bs b i ++ behind bs b (suc i)
+block_gone [] b i d w one h = absurd (omega arith)
+block_gone (x ∷ xs) zero i d w one h = go x i one h
+  where
+    go : (y : List Entry) (i : ℕ) → length y ≡ 1 → i < 1 → flat xs ≡ take i y ++ (drop (suc i) y ++ flat xs)
+    go [] i one h = absurd (omega arith)
+    go (z ∷ []) zero one h = refl
+    go (z ∷ []) (suc i) one h = absurd (omega arith)
+    go (z ∷ u ∷ y) i one h = absurd (omega arith)
+block_gone (x ∷ xs) (suc b) i d w one h = ap (λ r. x ++ r) (block_gone xs b i d (omega arith) one h) ∙ sym (append_assoc x (before xs b i) (behind xs b (suc i)))
+
+-- ---- with numbers as code has them
+
+one_up : (n : ℕ) → suc n ≡ n + 1
+one_up n = omega arith
+
+pub own_at : (bs : Blocks) (b : ℕ) (e : Entry) (d : List Entry) → b < length bs → flat (insert bs (b + 1) (e ∷ [])) ≡ before bs b (length (slice_index_or bs b d)) ++ e ∷ behind bs b (length (slice_index_or bs b d))
+own_at bs b e d w = ap (λ n. flat (insert bs n (e ∷ []))) (sym (one_up b)) ∙ own_there bs b e d w
+
+-- ---- both blocks of a cut one have room
+
+length_take : (n : ℕ) (xs : List Entry) → length (take n xs) ≤ n
+length_take zero xs = omega arith
+length_take (suc n) [] = omega arith
+length_take (suc n) (x ∷ xs) = let rest : length (take n xs) ≤ n = length_take n xs in omega arith
+
+length_less : (n : ℕ) (xs : List Entry) → length (drop n xs) ≤ length xs
+length_less zero xs = omega arith
+length_less (suc n) [] = omega arith
+length_less (suc n) (x ∷ xs) = let rest : length (drop n xs) ≤ length xs = length_less n xs in omega arith
+
+pub room_first : (bs : Blocks) (b cut most : ℕ) → length (slice_index_or bs b []) ≡ most → cut < most → length (slice_index_or (cut_in bs b cut) b []) < most
+room_first [] b cut most e h = absurd (omega (arith, e, h))
+room_first (x ∷ xs) zero cut most e h = let few : length (take cut x) ≤ cut = length_take cut x in omega arith
+room_first (x ∷ xs) (suc b) cut most e h = room_first xs b cut most e h
+
+less : (n : ℕ) (y : List Entry) → 0 < n → 0 < length y → length (drop n y) < length y
+less zero y h k = absurd (omega arith)
+less (suc n) [] h k = absurd (omega arith)
+less (suc n) (z ∷ y) h k = let rest : length (drop n y) ≤ length y = length_less n y in omega arith
+
+room_next : (bs : Blocks) (b cut most : ℕ) → length (slice_index_or bs b []) ≡ most → 0 < cut → 0 < most → length (slice_index_or (cut_in bs b cut) (suc b) []) < most
+room_next [] b cut most e h k = absurd (omega (arith, e, k))
+room_next (x ∷ xs) zero cut most e h k = let few : length (drop cut x) < length x = less cut x h (omega (arith, e, k)) in omega arith
+room_next (x ∷ xs) (suc b) cut most e h k = room_next xs b cut most e h k
+
+pub room_second : (bs : Blocks) (b cut most : ℕ) → length (slice_index_or bs b []) ≡ most → 0 < cut → 0 < most → length (slice_index_or (cut_in bs b cut) (b + 1) []) < most
+room_second bs b cut most e h k = subst (λ n. length (slice_index_or (cut_in bs b cut) n []) < most) (one_up b) (room_next bs b cut most e h k)
+
+pub filled_at : (bs : Blocks) (b : ℕ) (d : List Entry) → AreFilled bs → b < length bs → 0 < length (slice_index_or bs b d)
+filled_at [] b d f w = absurd (omega arith)
+filled_at (x ∷ xs) zero d f w = f.0
+filled_at (x ∷ xs) (suc b) d f w = filled_at xs b d f.1 (omega arith)
+
+-- ---- what holds whether a call was answered or refused
+
+pub either_way : {T E X : Type 0} (P : X → Type 0) (r : Result T E) (new x y : X) → OnOk r (new ≡ x) → OnErr r (new ≡ y) → P x → P y → P new
+either_way P (Ok t) new x y ok err h k = subst P (sym ok) h
+either_way P (Err t) new x y ok err h k = subst P (sym err) k
+
+-- ---- a block is a part of all
+
+pub part_of : (bs : Blocks) (i : ℕ) (d : List Entry) → i < length bs → IsPart (slice_index_or bs i d) (flat bs)
+part_of [] i d w = absurd (omega arith)
+part_of (x ∷ xs) zero d w = ([], flat xs, refl)
+part_of (x ∷ xs) (suc i) d w =
+    let rest : IsPart (slice_index_or xs i d) (flat xs) = part_of xs i d (omega arith) in
+    (x ++ rest.0, rest.1, ap (λ r. x ++ r) rest.2 ∙ sym (append_assoc x (rest.0 ++ slice_index_or xs i d) rest.1) ∙ ap (λ r. r ++ rest.1) (sym (append_assoc x rest.0 (slice_index_or xs i d))))
+
+-- ---- an entry behind its parent
+
+pub put_in_none : (parent : Identifier) (e : Entry) → (is_root parent || false) ≡ true → e ∷ [] ≡ put_entry parent e []
+put_in_none parent e =
+    elim (is_root parent) as (λ b. (b || false) ≡ true → e ∷ [] ≡ cond b (e ∷ []) []) [
+      | true ↦ λ h. refl
+      | false ↦ λ h. absurd (true≢false (sym h))
+    ]
+
+pub apart_there : (bs : Blocks) (b i : ℕ) (e : Entry) → IsPlace bs b i → has e.id (flat bs) ≡ false → AreApart (flat bs) → AreApart (before bs b i ++ e ∷ behind bs b i)
+apart_there bs b i e p h apart =
+    let parts : flat bs ≡ before bs b i ++ behind bs b i = parted bs b i p in
+    apart_put (before bs b i) e (behind bs b i) (subst (λ xs. has e.id xs ≡ false) parts h) (subst AreApart parts apart)
+
+pub apart_one : (e : Entry) → AreApart (e ∷ [])
+unfolding IsDistinct
+apart_one e = (tt, tt)
+
+pub none_in : (bs : Blocks) → length bs ≡ 0 → bs ≡ []
+none_in [] h = refl
+none_in (x ∷ xs) h = absurd (omega (arith, h))
+
+-- ---- a place in a block that is full
+
+pub half_place : (bs : Blocks) (b i cut most : ℕ) → IsPlace bs b i → length (slice_index_or bs b []) ≡ most → cut ≤ most → IsPlace bs b cut
+half_place bs b i cut most p full h = other_place bs b i cut [] p (omega (arith, full))

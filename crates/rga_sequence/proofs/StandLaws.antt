@@ -1,0 +1,266 @@
+-- What stands where an identifier does: one entry, with no other of that identifier before or behind it.
+use Rattle.std.proofs.Common.{◌≡◌, ℕ, ◌+◌, ◌<◌, ◌≤◌, suc, zero, Bool, true, false, cond, not, ◌||◌, List, [], ◌∷◌, ◌++◌, filter, map, length, take, drop, slice_index_or, refl, sym, ap, ◌∙◌, subst, arith, true≢false, append_assoc}
+use Rattle.std.specs.Prelude.{Option, Some, None, slice_set}
+use Rattle.std.specs.List.{slice_get, list_any, AllByRecursion, IsDistinct}
+use Rattle.std.proofs.lemmas.Option.{same_Some, none-some}
+use Rattle.std.proofs.lemmas.List.Folds.{list_any-append}
+use Rattle.rga_ops.specs.Identifier.{Identifier, id_cmp, is_id, is_root}
+use Rattle.rga_ops.proofs.IdentifierLaws.{is_swap, is_id-same, is_id-itself}
+use Rattle.rga_sequence.specs.declared.entry.Entry.{Entry}
+use Rattle.rga_sequence.specs.Entries.{ids, has, entry_of, up_to, visible_count, change_after, change_behind, without_entry, as_deleted, delete_entry, AreApart}
+use Rattle.rga_sequence.specs.Blocks.{Blocks, flat, before, behind, delete_at_index, IsPlace, Stands}
+use Rattle.rga_sequence.proofs.PlaceLaws.{parted}
+
+one_up : (n : ℕ) → suc n ≡ n + 1
+one_up n = omega arith
+
+pub id_swap : (a b : Identifier) → is_id a b ≡ false → is_id b a ≡ false
+id_swap a b h = is_id-same b a ∙ is_swap a b ∙ sym (is_id-same a b) ∙ h
+
+-- ---- an entry between others
+
+-- the change comes behind the entry
+pub change_between : (id : Identifier) (f : List Entry → List Entry) (front : List Entry) (e : Entry) (back : List Entry) → is_id e.id id ≡ true → has id front ≡ false → change_after id f (front ++ e ∷ back) ≡ front ++ e ∷ f back
+change_between id f [] e back named h = ap (λ b. cond b (e ∷ f back) (e ∷ change_after id f back)) named
+change_between id f (x ∷ front) e back named h =
+    elim (is_id x.id id) as (λ b. (b || has id front) ≡ false → cond b (x ∷ f (front ++ e ∷ back)) (x ∷ change_after id f (front ++ e ∷ back)) ≡ x ∷ front ++ e ∷ f back) [
+      | true ↦ λ h. absurd (true≢false h)
+      | false ↦ λ h. ap (λ r. x ∷ r) (change_between id f front e back named h)
+    ] h
+
+pub without_absent : (id : Identifier) (xs : List Entry) → has id xs ≡ false → without_entry id xs ≡ xs
+without_absent id [] h = refl
+without_absent id (x ∷ xs) h =
+    elim (is_id x.id id) as (λ b. (b || has id xs) ≡ false → cond (not b) (x ∷ without_entry id xs) (without_entry id xs) ≡ x ∷ xs) [
+      | true ↦ λ h. absurd (true≢false h)
+      | false ↦ λ h. ap (λ r. x ∷ r) (without_absent id xs h)
+    ] h
+
+pub without_between : (id : Identifier) (front : List Entry) (e : Entry) (back : List Entry) → is_id e.id id ≡ true → has id front ≡ false → has id back ≡ false → without_entry id (front ++ e ∷ back) ≡ front ++ back
+without_between id [] e back named h k = ap (λ b. cond (not b) (e ∷ without_entry id back) (without_entry id back)) named ∙ without_absent id back k
+without_between id (x ∷ front) e back named h k =
+    elim (is_id x.id id) as (λ b. (b || has id front) ≡ false → cond (not b) (x ∷ without_entry id (front ++ e ∷ back)) (without_entry id (front ++ e ∷ back)) ≡ x ∷ front ++ back) [
+      | true ↦ λ h. absurd (true≢false h)
+      | false ↦ λ h. ap (λ r. x ∷ r) (without_between id front e back named h k)
+    ] h
+
+pub delete_absent : (id : Identifier) (xs : List Entry) → has id xs ≡ false → delete_entry id xs ≡ xs
+delete_absent id [] h = refl
+delete_absent id (x ∷ xs) h =
+    elim (is_id x.id id) as (λ b. (b || has id xs) ≡ false → cond b (as_deleted x) x ∷ delete_entry id xs ≡ x ∷ xs) [
+      | true ↦ λ h. absurd (true≢false h)
+      | false ↦ λ h. ap (λ r. x ∷ r) (delete_absent id xs h)
+    ] h
+
+pub delete_between : (id : Identifier) (front : List Entry) (e : Entry) (back : List Entry) → is_id e.id id ≡ true → has id front ≡ false → has id back ≡ false → delete_entry id (front ++ e ∷ back) ≡ front ++ as_deleted e ∷ back
+delete_between id [] e back named h k = (λ j. cond (named j) (as_deleted e) e ∷ delete_absent id back k j)
+delete_between id (x ∷ front) e back named h k =
+    elim (is_id x.id id) as (λ b. (b || has id front) ≡ false → cond b (as_deleted x) x ∷ delete_entry id (front ++ e ∷ back) ≡ x ∷ front ++ as_deleted e ∷ back) [
+      | true ↦ λ h. absurd (true≢false h)
+      | false ↦ λ h. ap (λ r. x ∷ r) (delete_between id front e back named h k)
+    ] h
+
+pub up_to_between : (id : Identifier) (front : List Entry) (e : Entry) (back : List Entry) → is_id e.id id ≡ true → has id front ≡ false → up_to id (front ++ e ∷ back) ≡ front ++ e ∷ []
+up_to_between id [] e back named h = ap (λ b. cond b (e ∷ []) (e ∷ up_to id back)) named
+up_to_between id (x ∷ front) e back named h =
+    elim (is_id x.id id) as (λ b. (b || has id front) ≡ false → cond b (x ∷ []) (x ∷ up_to id (front ++ e ∷ back)) ≡ x ∷ front ++ e ∷ []) [
+      | true ↦ λ h. absurd (true≢false h)
+      | false ↦ λ h. ap (λ r. x ∷ r) (up_to_between id front e back named h)
+    ] h
+
+pub entry_between : (id : Identifier) (front : List Entry) (e : Entry) (back : List Entry) → is_id e.id id ≡ true → has id front ≡ false → entry_of id (front ++ e ∷ back) ≡ Some e
+entry_between id [] e back named h = ap (λ b. cond b (Some e) (entry_of id back)) named
+entry_between id (x ∷ front) e back named h =
+    elim (is_id x.id id) as (λ b. (b || has id front) ≡ false → cond b (Some x) (entry_of id (front ++ e ∷ back)) ≡ Some e) [
+      | true ↦ λ h. absurd (true≢false h)
+      | false ↦ λ h. entry_between id front e back named h
+    ] h
+
+pub entry_absent : (id : Identifier) (xs : List Entry) → has id xs ≡ false → entry_of id xs ≡ None
+entry_absent id [] h = refl
+entry_absent id (x ∷ xs) h =
+    elim (is_id x.id id) as (λ b. (b || has id xs) ≡ false → cond b (Some x) (entry_of id xs) ≡ None) [
+      | true ↦ λ h. absurd (true≢false h)
+      | false ↦ λ h. entry_absent id xs h
+    ] h
+
+pub has_between : (id : Identifier) (front : List Entry) (e : Entry) (back : List Entry) → is_id e.id id ≡ true → has id (front ++ e ∷ back) ≡ true
+has_between id [] e back named = ap (λ b. b || has id back) named
+has_between id (x ∷ front) e back named =
+    elim (is_id x.id id) as (λ b. (b || has id (front ++ e ∷ back)) ≡ true) [
+      | true ↦ refl
+      | false ↦ has_between id front e back named
+    ]
+
+-- ---- no other of that identifier
+
+pub none_like : (e : Entry) (xs : List Entry) → AllByRecursion (λ y. is_id e.id y.id ≡ false) xs → has e.id xs ≡ false
+none_like e [] h = refl
+none_like e (x ∷ xs) h = ap (λ b. b || has e.id xs) (id_swap e.id x.id h.0) ∙ none_like e xs h.1
+
+middle : (P : Entry → Type 0) (front : List Entry) (e : Entry) (back : List Entry) → AllByRecursion P (front ++ e ∷ back) → P e
+middle P [] e back h = h.0
+middle P (x ∷ front) e back h = middle P front e back h.1
+
+pub apart_front : (front : List Entry) (e : Entry) (back : List Entry) → AreApart (front ++ e ∷ back) → has e.id front ≡ false
+unfolding IsDistinct
+apart_front [] e back h = refl
+apart_front (x ∷ front) e back h = ap (λ b. b || has e.id front) (middle (λ y. is_id x.id y.id ≡ false) front e back h.0) ∙ apart_front front e back h.1
+
+pub apart_back : (front : List Entry) (e : Entry) (back : List Entry) → AreApart (front ++ e ∷ back) → has e.id back ≡ false
+unfolding IsDistinct
+apart_back [] e back h = none_like e back h.0
+apart_back (x ∷ front) e back h = apart_back front e back h.1
+
+-- ---- in one block
+
+record Found (xs : List Entry) (i : ℕ) (id : Identifier) : Type 0 where
+  pub entry : Entry
+  pub named : entry.id ≡ id
+  pub rest : drop i xs ≡ entry ∷ drop (suc i) xs
+  pub front : take (suc i) xs ≡ take i xs ++ entry ∷ []
+  pub got : slice_get xs i ≡ Some entry
+  pub deleted : delete_at_index i xs ≡ take i xs ++ as_deleted entry ∷ drop (suc i) xs
+
+found : (xs : List Entry) (i : ℕ) (id : Identifier) → slice_get (ids xs) i ≡ Some id → Found xs i id
+found [] i id h = absurd (none-some id h)
+found (x ∷ xs) zero id h = record { entry = x; named = same_Some x.id id h; rest = refl; front = refl; got = refl; deleted = refl }
+found (x ∷ xs) (suc i) id h =
+    let f : Found xs i id = found xs i id h in
+    record { entry = f.entry; named = f.named; rest = f.rest; front = ap (λ r. x ∷ r) f.front; got = f.got; deleted = ap (λ r. x ∷ r) f.deleted }
+
+-- ---- in blocks
+
+pub record At (bs : Blocks) (b i : ℕ) (id : Identifier) : Type 0 where
+  pub entry : Entry
+  pub named : entry.id ≡ id
+  pub rest : behind bs b i ≡ entry ∷ behind bs b (suc i)
+  pub front : before bs b (suc i) ≡ before bs b i ++ entry ∷ []
+  pub got : (d : List Entry) → slice_get (slice_index_or bs b d) i ≡ Some entry
+  pub deleted : (d : List Entry) → flat (slice_set bs b (delete_at_index i (slice_index_or bs b d))) ≡ before bs b i ++ as_deleted entry ∷ behind bs b (suc i)
+
+pub at : (bs : Blocks) (b i : ℕ) (id : Identifier) → Stands bs b i id → At bs b i id
+at [] b i id h = absurd h
+at (x ∷ xs) zero i id h =
+    let f : Found x i id = found x i id h in
+    record { entry = f.entry; named = f.named; rest = ap (λ r. r ++ flat xs) f.rest; front = f.front; got = λ d. f.got; deleted = λ d. ap (λ r. r ++ flat xs) f.deleted ∙ append_assoc (take i x) (as_deleted f.entry ∷ drop (suc i) x) (flat xs) }
+at (x ∷ xs) (suc b) i id h =
+    let f : At xs b i id = at xs b i id h in
+    record { entry = f.entry; named = f.named; rest = f.rest; front = ap (λ r. x ++ r) f.front ∙ sym (append_assoc x (before xs b i) (f.entry ∷ [])); got = f.got; deleted = λ d. ap (λ r. x ++ r) (f.deleted d) ∙ sym (append_assoc x (before xs b i) (as_deleted f.entry ∷ behind xs b (suc i))) }
+
+within : (xs : List Entry) (i : ℕ) (id : Identifier) → slice_get (ids xs) i ≡ Some id → i < length xs
+within [] i id h = absurd (none-some id h)
+within (x ∷ xs) zero id h = omega arith
+within (x ∷ xs) (suc i) id h = let l : i < length xs = within xs i id h in omega arith
+
+pub index_there : (bs : Blocks) (b i : ℕ) (id : Identifier) (d : List Entry) → Stands bs b i id → i < length (slice_index_or bs b d)
+index_there [] b i id d h = absurd h
+index_there (x ∷ xs) zero i id d h = within x i id h
+index_there (x ∷ xs) (suc b) i id d h = index_there xs b i id d h
+
+pub place_there : (bs : Blocks) (b i : ℕ) (id : Identifier) → Stands bs b i id → IsPlace bs b i
+place_there [] b i id h = absurd h
+place_there (x ∷ xs) zero i id h = let l : i < length x = within x i id h in omega arith
+place_there (x ∷ xs) (suc b) i id h = place_there xs b i id h
+
+behind_place : (bs : Blocks) (b i : ℕ) (id : Identifier) → Stands bs b i id → IsPlace bs b (suc i)
+behind_place [] b i id h = absurd h
+behind_place (x ∷ xs) zero i id h = let l : i < length x = within x i id h in omega arith
+behind_place (x ∷ xs) (suc b) i id h = behind_place xs b i id h
+
+pub place_behind : (bs : Blocks) (b i : ℕ) (id : Identifier) → Stands bs b i id → IsPlace bs b (i + 1)
+place_behind bs b i id h = subst (λ n. IsPlace bs b n) (one_up i) (behind_place bs b i id h)
+
+pub stands_in : (bs : Blocks) (b i : ℕ) (id : Identifier) (d : List Entry) → b < length bs → slice_get (ids (slice_index_or bs b d)) i ≡ Some id → Stands bs b i id
+stands_in [] b i id d w e = absurd (omega arith)
+stands_in (x ∷ xs) zero i id d w e = e
+stands_in (x ∷ xs) (suc b) i id d w e = stands_in xs b i id d (omega arith) e
+
+-- the list is what stands before, the entry, and what stands behind
+pub record Standing (bs : Blocks) (b i : ℕ) (id : Identifier) : Type 0 where
+  pub entry : Entry
+  pub named : is_id entry.id id ≡ true
+  pub whole : flat bs ≡ before bs b i ++ entry ∷ behind bs b (suc i)
+  pub front : before bs b (suc i) ≡ before bs b i ++ entry ∷ []
+  pub rest : behind bs b i ≡ entry ∷ behind bs b (suc i)
+  pub got : (d : List Entry) → slice_get (slice_index_or bs b d) i ≡ Some entry
+  pub deleted : (d : List Entry) → flat (slice_set bs b (delete_at_index i (slice_index_or bs b d))) ≡ before bs b i ++ as_deleted entry ∷ behind bs b (suc i)
+  pub none_before : has id (before bs b i) ≡ false
+  pub none_behind : has id (behind bs b (suc i)) ≡ false
+
+pub standing : (bs : Blocks) (b i : ℕ) (id : Identifier) → AreApart (flat bs) → Stands bs b i id → Standing bs b i id
+standing bs b i id apart h =
+    let f : At bs b i id = at bs b i id h in
+    let whole : flat bs ≡ before bs b i ++ f.entry ∷ behind bs b (suc i) = parted bs b i (place_there bs b i id h) ∙ ap (λ r. before bs b i ++ r) f.rest in
+    let apart_there : AreApart (before bs b i ++ f.entry ∷ behind bs b (suc i)) = subst AreApart whole apart in
+    record {
+      entry = f.entry;
+      named = ap (λ y. is_id y id) f.named ∙ is_id-itself id;
+      whole = whole;
+      front = f.front;
+      rest = f.rest;
+      got = f.got;
+      deleted = f.deleted;
+      none_before = subst (λ y. has y (before bs b i) ≡ false) f.named (apart_front (before bs b i) f.entry (behind bs b (suc i)) apart_there);
+      none_behind = subst (λ y. has y (behind bs b (suc i)) ≡ false) f.named (apart_back (before bs b i) f.entry (behind bs b (suc i)) apart_there);
+    }
+
+pub change_there : (id : Identifier) (f : List Entry → List Entry) (bs : Blocks) (b i : ℕ) → is_root id ≡ false → AreApart (flat bs) → Stands bs b i id → change_behind id f (flat bs) ≡ before bs b (i + 1) ++ f (behind bs b (i + 1))
+change_there id f bs b i other apart h =
+    let s : Standing bs b i id = standing bs b i id apart h in
+    ap (λ t. cond t (f (flat bs)) (change_after id f (flat bs))) other
+    ∙ ap (change_after id f) s.whole
+    ∙ change_between id f (before bs b i) s.entry (behind bs b (suc i)) s.named s.none_before
+    ∙ sym (append_assoc (before bs b i) (s.entry ∷ []) (f (behind bs b (suc i))))
+    ∙ ap (λ r. r ++ f (behind bs b (suc i))) (sym s.front)
+    ∙ ap (λ n. before bs b n ++ f (behind bs b n)) (one_up i)
+
+pub change_at_front : (id : Identifier) (f : List Entry → List Entry) (bs : Blocks) → is_root id ≡ true → 0 < length bs → change_behind id f (flat bs) ≡ before bs 0 0 ++ f (behind bs 0 0)
+change_at_front id f [] root w = absurd (omega arith)
+change_at_front id f (x ∷ xs) root w = ap (λ t. cond t (f (x ++ flat xs)) (change_after id f (x ++ flat xs))) root
+
+pub has_there : (id : Identifier) (bs : Blocks) (b i : ℕ) → Stands bs b i id → has id (flat bs) ≡ true
+has_there id bs b i h =
+    let f : At bs b i id = at bs b i id h in
+    ap (has id) (parted bs b i (place_there bs b i id h) ∙ ap (λ r. before bs b i ++ r) f.rest)
+    ∙ has_between id (before bs b i) f.entry (behind bs b (suc i)) (ap (λ y. is_id y id) f.named ∙ is_id-itself id)
+
+pub without_there : (id : Identifier) (bs : Blocks) (b i : ℕ) → AreApart (flat bs) → Stands bs b i id → before bs b i ++ behind bs b (suc i) ≡ without_entry id (flat bs)
+without_there id bs b i apart h =
+    let s : Standing bs b i id = standing bs b i id apart h in
+    sym (ap (without_entry id) s.whole ∙ without_between id (before bs b i) s.entry (behind bs b (suc i)) s.named s.none_before s.none_behind)
+
+pub deleted_there : (id : Identifier) (bs : Blocks) (b i : ℕ) (d : List Entry) → AreApart (flat bs) → Stands bs b i id → flat (slice_set bs b (delete_at_index i (slice_index_or bs b d))) ≡ delete_entry id (flat bs)
+deleted_there id bs b i d apart h =
+    let s : Standing bs b i id = standing bs b i id apart h in
+    s.deleted d
+    ∙ sym (ap (delete_entry id) s.whole ∙ delete_between id (before bs b i) s.entry (behind bs b (suc i)) s.named s.none_before s.none_behind)
+
+pub entry_there : (id : Identifier) (bs : Blocks) (b i : ℕ) (d : List Entry) → AreApart (flat bs) → Stands bs b i id → slice_get (slice_index_or bs b d) i ≡ entry_of id (flat bs)
+entry_there id bs b i d apart h =
+    let s : Standing bs b i id = standing bs b i id apart h in
+    s.got d ∙ sym (ap (entry_of id) s.whole ∙ entry_between id (before bs b i) s.entry (behind bs b (suc i)) s.named s.none_before)
+
+pub up_to_there : (id : Identifier) (bs : Blocks) (b i : ℕ) → AreApart (flat bs) → Stands bs b i id → up_to id (flat bs) ≡ before bs b (i + 1)
+up_to_there id bs b i apart h =
+    let s : Standing bs b i id = standing bs b i id apart h in
+    ap (up_to id) s.whole
+    ∙ up_to_between id (before bs b i) s.entry (behind bs b (suc i)) s.named s.none_before
+    ∙ sym s.front
+    ∙ ap (before bs b) (one_up i)
+
+-- ---- what is not found
+
+pub none_in_blocks : (id : Identifier) (bs : Blocks) (b : ℕ) (d : List Entry) → b < length bs → has id (flat (take b bs)) ≡ false → has id (slice_index_or bs b d) ≡ false → has id (flat (take (suc b) bs)) ≡ false
+none_in_blocks id [] b d w none other = absurd (omega arith)
+none_in_blocks id (x ∷ xs) zero d w none other = list_any-append (λ y. is_id y.id id) x [] ∙ ap (λ b. b || false) other
+none_in_blocks id (x ∷ xs) (suc b) d w none other =
+    let here : (has id x || has id (flat (take b xs))) ≡ false = sym (list_any-append (λ y. is_id y.id id) x (flat (take b xs))) ∙ none in
+    list_any-append (λ y. is_id y.id id) x (flat (take (suc b) xs))
+    ∙ (elim (has id x) as (λ a. (a || has id (flat (take b xs))) ≡ false → (a || has id (flat (take (suc b) xs))) ≡ false) [
+      | true ↦ λ h. absurd (true≢false h)
+      | false ↦ λ h. none_in_blocks id xs b d (omega arith) h other
+    ] here)
+
+pub none_one_more : (id : Identifier) (bs : Blocks) (b : ℕ) (d : List Entry) → b < length bs → has id (flat (take b bs)) ≡ false → has id (slice_index_or bs b d) ≡ false → has id (flat (take (b + 1) bs)) ≡ false
+none_one_more id bs b d w none other = ap (λ n. has id (flat (take n bs))) (sym (one_up b)) ∙ none_in_blocks id bs b d w none other

@@ -1,0 +1,19 @@
+use Rattle.std.proofs.Common.{◌≡◌, ◌<◌, length, List, sym, ap, ◌∙◌, subst, slice_index_or}
+use Rattle.std.specs.Prelude.{vec_len}
+use Rattle.std.specs.List.{slice_get}
+use Rattle.rga_sequence.specs.Entries.{ids}
+use Rattle.rga_sequence.proofs.StandLaws.{stands_in, has_there}
+use Rattle.rga_sequence.proofs.finding.find_in.Goals as goal
+
+pub returns-in-Some-clause-some : goal.returns-in-Some-clause-some
+returns-in-Some-clause-some c =
+    stands_in c.args.blocks.now.items c.args.block c.in-Some.index c.args.id c.index.result.now
+    (subst (λ n. c.args.block < n) c.args.blocks.now.ok.0 (subst (λ n. c.args.block < n) c.len.ensures c.if-block-len.false))
+    (ap (λ xs. slice_get (ids xs) c.in-Some.index) (sym c.index.ensures) ∙ c.in-Some.ensures.some)
+
+pub returns-in-Some-clause-there : goal.returns-in-Some-clause-there
+returns-in-Some-clause-there c =
+    has_there c.args.id c.args.blocks.now.items c.args.block c.in-Some.index
+    (stands_in c.args.blocks.now.items c.args.block c.in-Some.index c.args.id c.index.result.now
+    (subst (λ n. c.args.block < n) c.args.blocks.now.ok.0 (subst (λ n. c.args.block < n) c.len.ensures c.if-block-len.false))
+    (ap (λ xs. slice_get (ids xs) c.in-Some.index) (sym c.index.ensures) ∙ c.in-Some.ensures.some))

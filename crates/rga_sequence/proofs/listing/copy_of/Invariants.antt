@@ -1,0 +1,5 @@
+use Rattle.std.proofs.Common.{◌≡◌, ◌≤◌, ◌+◌, ◌-◌, ◌++◌, false, take, drop, length}
+use Rattle.rga_sequence.proofs.listing.copy_of.Given as goal
+
+abbrev pub invariant-loop-block : goal.invariant-loop-block
+invariant-loop-block l = l.copy.items ++ drop l.block-index l.blocks.items ≡ l.blocks.items

@@ -1,0 +1,85 @@
+-- Entries in blocks, and the places in these.
+use Rattle.std.specs.Prelude.{◌≡◌, ◌≤◌, ◌<◌, ℕ, false, zero, suc, List, [], ◌∷◌, ◌++◌, length, take, drop, slice_index_or, Some, if◌then◌else◌}
+use Rattle.std.specs.Ordering.{is_gt}
+use Rattle.std.specs.List.{slice_get, AllByRecursion}
+use Rattle.rga_ops.specs.Identifier.{Identifier, id_cmp}
+use Rattle.rga_sequence.specs.declared.entry.Entry.{Entry}
+use Rattle.rga_sequence.specs.Entries.{ids, visible_count, put_past_larger, as_deleted, AreApart}
+use Rattle.rga_sequence.specs.declared.block.TheConstants.{MOST}
+
+abbrev pub Blocks : Type 0
+Blocks = List (List Entry)
+
+-- the blocks one after another
+abbrev pub flat : Blocks → List Entry
+flat [] = []
+flat (b ∷ bs) = b ++ flat bs
+
+-- ---- one block
+
+-- how many at the front have a larger identifier
+abbrev pub larger_at_front : Identifier → List Entry → ℕ
+larger_at_front id [] = 0
+larger_at_front id (e ∷ es) = if is_gt (id_cmp e.id id) then suc (larger_at_front id es) else 0
+
+-- no identifier is less
+abbrev pub AreFrom : Identifier → List Entry → Type 0
+AreFrom least es = AllByRecursion (λ e. is_gt (id_cmp least e.id) ≡ false) es
+
+-- the entry at an index is deleted
+abbrev pub delete_at_index : ℕ → List Entry → List Entry
+delete_at_index index [] = []
+delete_at_index zero (e ∷ es) = as_deleted e ∷ es
+delete_at_index (suc index) (e ∷ es) = e ∷ delete_at_index index es
+
+-- what a block keeps of its entries
+pub record IsBlock (visible : ℕ) (least : Identifier) (es : List Entry) : Type 0 where
+  pub counted : visible ≡ visible_count es
+  pub from_least : AreFrom least es
+  pub room : length es ≤ MOST
+
+-- ---- places
+
+-- what stands before an index in a block
+abbrev pub before : Blocks → ℕ → ℕ → List Entry
+before [] block index = []
+before (b ∷ bs) zero index = take index b
+before (b ∷ bs) (suc block) index = b ++ before bs block index
+
+-- what stands from an index in a block on
+abbrev pub behind : Blocks → ℕ → ℕ → List Entry
+behind [] block index = []
+behind (b ∷ bs) zero index = drop index b ++ flat bs
+behind (b ∷ bs) (suc block) index = behind bs block index
+
+-- there is such a block, and the index is within it
+abbrev pub IsPlace : Blocks → ℕ → ℕ → Type 0
+IsPlace [] block index = ⊥
+IsPlace (b ∷ bs) zero index = index ≤ length b
+IsPlace (b ∷ bs) (suc block) index = IsPlace bs block index
+
+-- where the index is not the end of its block, an entry goes there
+abbrev pub Stops : Blocks → ℕ → ℕ → Entry → Type 0
+Stops bs block index e = index < length (slice_index_or bs block []) →
+    put_past_larger e (behind bs block index) ≡ e ∷ behind bs block index
+
+-- a block is two
+abbrev pub cut_in : Blocks → ℕ → ℕ → Blocks
+cut_in [] block cut = []
+cut_in (b ∷ bs) zero cut = take cut b ∷ drop cut b ∷ bs
+cut_in (b ∷ bs) (suc block) cut = b ∷ cut_in bs block cut
+
+-- an identifier stands at an index of a block
+abbrev pub Stands : Blocks → ℕ → ℕ → Identifier → Type 0
+Stands [] block index id = ⊥
+Stands (b ∷ bs) zero index id = slice_get (ids b) index ≡ Some id
+Stands (b ∷ bs) (suc block) index id = Stands bs block index id
+
+-- no block is empty
+abbrev pub AreFilled : Blocks → Type 0
+AreFilled bs = AllByRecursion (λ b. 0 < length b) bs
+
+-- what a sequence keeps of its blocks
+pub record IsSequence (bs : Blocks) : Type 0 where
+  pub apart : AreApart (flat bs)
+  pub filled : AreFilled bs

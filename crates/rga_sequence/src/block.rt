@@ -1,0 +1,249 @@
+//! Some entries in a row.
+ghost use Rattle.std.specs.Prelude.{◌≡◌, ◌≤◌, ◌<◌, ◌+◌, ◌∷◌, [], length, vec_len, slice_get, None, Some, IfSome, true, false, take, drop, insert, remove, IfOk, IfErr, OnOk, OnErr};
+ghost use Rattle.std.specs.Ordering.{is_gt};
+ghost use Rattle.rga_ops.specs.Identifier.{id_cmp};
+ghost use Rattle.rga_sequence.specs.Entries.{ids, has, visible_count};
+ghost use Rattle.rga_sequence.specs.Blocks.{larger_at_front, delete_at_index, AreFrom};
+
+use crate::entry::Entry;
+use crate::scans::{count_one, count_visible, index_of, is_at, is_larger, least_of, past_larger};
+use rga_ops::{Id, Refusal};
+use std::alloc::Global;
+use std::marker::Model;
+
+/// How many entries a block has at most.
+pub(crate) const MOST: usize = 256;
+
+/// Some entries in a row. It knows how many of them are visible, and an identifier that none of
+/// theirs is less than. By its name it is found wherever it stands.
+#[derive(Drop)]
+pub(crate) struct Block {
+    entries: Vec<Entry>,
+    visible: usize,
+    least: Id,
+    name: usize,
+}
+
+impl Model for Block {
+    ghost use Rattle.std.specs.Prelude.{List};
+    ghost use Rattle.rga_sequence.specs.declared.entry.Entry.{Entry};
+    ghost use Rattle.rga_sequence.specs.Blocks.{IsBlock};
+
+    ghost Value = { List Entry };
+
+    ghost view = { λ b. b.entries.items };
+
+    ghost invariant = { λ b. IsBlock b.visible b.least b.entries.items };
+}
+
+fn insert_into(entries: &mut Vec<Entry>, index: usize, entry: Entry) -> Result<(), Refusal>
+    requires { index ≤ vec_len entries.old }
+    ensures ok { OnOk result (entries.new.items ≡ insert entries.old.items index entry) }
+    ensures err { OnErr result (entries.new.items ≡ entries.old.items) }
+    ensures memory { IfErr result (λ e. e ≡ Refusal.Memory) }
+{
+    if entries.insert(index, entry).is_err() {
+        return Err(Refusal::Memory);
+    }
+    Ok(())
+}
+
+/// What none is less than, once an identifier is there too: as large as it can be where there was
+/// none.
+fn new_least(entries: &[Entry], least: Id, id: Id) -> Id
+    requires { AreFrom least entries.now }
+    ensures old { AreFrom result entries.now }
+    ensures new { is_gt (id_cmp result id) ≡ false }
+{
+    if entries.len() == 0 {
+        return id;
+    }
+    if is_larger(least, id) {
+        return id;
+    }
+    least
+}
+
+/// The entries from an index on, in room for as many as a block has at most.
+fn copy_from(alloc: Global, entries: &[Entry], from: usize) -> Result<Vec<Entry>, Refusal>
+    requires { from ≤ length entries.now }
+    ensures ok { IfOk result (λ copy. copy.items ≡ drop from entries.now) }
+    ensures memory { IfErr result (λ e. e ≡ Refusal.Memory) }
+{
+    let mut copy = Vec::with_capacity(alloc, MOST)?;
+    copy.extend_from_slice(&entries[from..])?;
+    Ok(copy)
+}
+
+/// The entry at an index is deleted.
+fn mark(entries: &mut Vec<Entry>, index: usize)
+    requires { index < vec_len entries.old }
+    ensures { entries.new.items ≡ delete_at_index index entries.old.items }
+{
+    entries[index].deleted = true;
+}
+
+impl Block {
+    /// A block of these entries.
+    fn of(entries: Vec<Entry>, name: usize) -> Block
+        requires { length entries.items ≤ MOST }
+        ensures { result ≡ entries.items }
+    {
+        let visible = count_visible(entries.as_slice());
+        let least = least_of(entries.as_slice());
+        Block {
+            entries,
+            visible,
+            least,
+            name,
+        }
+    }
+
+    /// A block of one entry. `Memory` alone.
+    pub(crate) fn of_one(alloc: Global, name: usize, entry: Entry) -> Result<Block, Refusal>
+        ensures ok { IfOk result (λ b. b ≡ entry ∷ []) }
+        ensures memory { IfErr result (λ e. e ≡ Refusal.Memory) }
+    {
+        let mut entries = Vec::new(alloc);
+        entries.push(entry)?;
+        Ok(Block::of(entries, name))
+    }
+
+    /// The block's name.
+    pub(crate) fn name(&self) -> usize {
+        self.name
+    }
+
+    pub(crate) fn len(&self) -> usize
+        ensures len { result ≡ length self.now }
+        ensures most { result ≤ MOST }
+    {
+        self.entries.as_slice().len()
+    }
+
+    /// How many entries are visible.
+    pub(crate) fn visible_len(&self) -> usize
+        ensures { result ≡ visible_count self.now }
+    {
+        self.visible
+    }
+
+    /// How many of the entries before an index are visible.
+    pub(crate) fn visible_before(&self, index: usize) -> usize
+        requires { index ≤ length self.now }
+        ensures { result ≡ visible_count (take index self.now) }
+    {
+        count_visible(&self.entries.as_slice()[..index])
+    }
+
+    /// The entries.
+    pub(crate) fn entries(&self) -> &[Entry]
+        ensures { result.now ≡ self.now }
+    {
+        self.entries.as_slice()
+    }
+
+    /// The entry at an index.
+    pub(crate) fn entry(&self, index: usize) -> Entry
+        requires { index < length self.now }
+        ensures { slice_get self.now index ≡ Some result }
+    {
+        self.entries[index]
+    }
+
+    /// The first index from `from` on where no identifier larger than `id` stands.
+    pub(crate) fn past_larger(&self, from: usize, id: Id) -> usize
+        requires { from ≤ length self.now }
+        ensures index { result ≡ from + larger_at_front id (drop from self.now) }
+        ensures within { result ≤ length self.now }
+    {
+        if is_larger(self.least, id) {
+            return self.entries.as_slice().len();
+        }
+        past_larger(self.entries.as_slice(), from, id)
+    }
+
+    /// Where an identifier stands.
+    pub(crate) fn find(&self, id: Id) -> Option<usize>
+        ensures some { IfSome result (λ i. slice_get (ids self.now) i ≡ Some id) }
+        ensures within { IfSome result (λ i. i < MOST) }
+        ensures none { result ≡ None → has id self.now ≡ false }
+    {
+        index_of(self.entries.as_slice(), id)
+    }
+
+    /// Whether an identifier stands at an index.
+    pub(crate) fn stands_at(&self, index: usize, id: Id) -> bool
+        ensures there { result ≡ true → slice_get (ids self.now) index ≡ Some id }
+        ensures within { result ≡ true → index < MOST }
+    {
+        is_at(self.entries.as_slice(), index, id)
+    }
+
+    /// An entry comes in at an index. `Memory` alone.
+    pub(crate) fn put(&mut self, index: usize, entry: &Entry) -> Result<(), Refusal>
+        requires index { index ≤ length self.old }
+        requires room { length self.old < MOST }
+        ensures ok { OnOk result (self.new ≡ insert self.old index entry.now) }
+        ensures err { OnErr result (self.new ≡ self.old) }
+        ensures memory { IfErr result (λ e. e ≡ Refusal.Memory) }
+    {
+        let least = new_least(self.entries.as_slice(), self.least, entry.id);
+        let visible = self.visible + count_one(*entry);
+        insert_into(&mut self.entries, index, *entry)?;
+        self.least = least;
+        self.visible = visible;
+        Ok(())
+    }
+
+    /// What stands from an index on, as a block of its own. `Memory` alone.
+    pub(crate) fn tail(&self, alloc: Global, from: usize, name: usize) -> Result<Block, Refusal>
+        requires { from ≤ length self.now }
+        ensures ok { IfOk result (λ b. b ≡ drop from self.now) }
+        ensures memory { IfErr result (λ e. e ≡ Refusal.Memory) }
+    {
+        let entries = copy_from(alloc, self.entries.as_slice(), from)?;
+        Ok(Block::of(entries, name))
+    }
+
+    /// What stands from an index on goes.
+    pub(crate) fn cut(&mut self, at: usize)
+        ensures { self.new ≡ take at self.old }
+    {
+        self.entries.truncate(at);
+        self.visible = count_visible(self.entries.as_slice());
+        self.least = least_of(self.entries.as_slice());
+    }
+
+    /// The entry at an index goes. Takes no memory.
+    pub(crate) fn remove(&mut self, index: usize)
+        requires { index < length self.old }
+        ensures { self.new ≡ remove self.old index }
+    {
+        let entry = self.entries.remove(index);
+        self.visible -= count_one(entry);
+    }
+
+    /// The entry at an index is deleted. Takes no memory.
+    pub(crate) fn delete(&mut self, index: usize)
+        requires { index < length self.old }
+        ensures { self.new ≡ delete_at_index index self.old }
+    {
+        self.visible -= count_one(self.entries[index]);
+        mark(&mut self.entries, index);
+    }
+
+    /// A block of the same entries and of the same name. `Memory` alone.
+    pub(crate) fn copy(&self, alloc: Global) -> Result<Block, Refusal>
+        ensures ok { IfOk result (λ b. b ≡ self.now) }
+        ensures memory { IfErr result (λ e. e ≡ Refusal.Memory) }
+    {
+        let entries = copy_from(alloc, self.entries.as_slice(), 0)?;
+        Ok(Block {
+            entries,
+            visible: self.visible,
+            least: self.least,
+            name: self.name,
+        })
+    }
+}

@@ -1,0 +1,166 @@
+//! What blocks have: how many entries, which are visible, and their text.
+ghost use Rattle.std.specs.Prelude.{◌≡◌, ◌≤◌, ◌<◌, ◌+◌, ◌^◌, ◌++◌, ◌∷◌, [], length, slice_get, slice_index_or, vec_len, take, drop, Some, IfOk, IfErr, OnOk};
+ghost use Rattle.rga_sequence.specs.Entries.{ids, up_to, visible_count, visible_ids, visible_text};
+ghost use Rattle.rga_sequence.specs.Blocks.{flat, before, IsPlace, Stands, IsSequence};
+
+use crate::block::{Block, MOST};
+use crate::place::Place;
+use crate::scans::{push_ids, push_text, push_visible, visible_at};
+use rga_ops::{Id, Refusal};
+use std::alloc::Global;
+
+/// How many entries there are.
+pub(crate) fn len(blocks: &Vec<Block>) -> usize
+    requires { length (flat blocks.now.items) < 2 ^ 64 }
+    ensures { result ≡ length (flat blocks.now.items) }
+{
+    let mut count = 0;
+    for block in blocks {
+        count += block.len();
+    }
+    count
+}
+
+/// How many entries are visible.
+pub(crate) fn visible_len(blocks: &Vec<Block>) -> usize
+    requires { length (flat blocks.now.items) < 2 ^ 64 }
+    ensures { result ≡ visible_count (flat blocks.now.items) }
+{
+    let mut count = 0;
+    for block in blocks {
+        count += block.visible_len();
+    }
+    count
+}
+
+/// How many entries before a place are visible.
+pub(crate) fn visible_before(blocks: &Vec<Block>, at: Place) -> usize
+    requires fits { length (flat blocks.now.items) < 2 ^ 64 }
+    requires block { at.block < vec_len blocks.now }
+    requires place { IsPlace blocks.now.items at.block at.index }
+    ensures { result ≡ visible_count (before blocks.now.items at.block at.index) }
+{
+    let mut count = 0;
+    let mut block = 0;
+    while block < at.block {
+        count += blocks[block].visible_len();
+        block += 1;
+    }
+    count + blocks[at.block].visible_before(at.index)
+}
+
+/// How many visible entries are that at a place or stand before it.
+pub(crate) fn place_at(blocks: &Vec<Block>, at: Place, id: Id) -> usize
+    requires fits { length (flat blocks.now.items) < 2 ^ 64 }
+    requires block { at.block < vec_len blocks.now }
+    requires within { at.index < MOST }
+    requires stands { Stands blocks.now.items at.block at.index id }
+    requires kept { IsSequence blocks.now.items }
+    ensures { result ≡ visible_count (up_to id (flat blocks.now.items)) }
+{
+    visible_before(
+        blocks,
+        Place {
+            block: at.block,
+            index: at.index + 1,
+        },
+    )
+}
+
+/// The k-th visible entry.
+pub(crate) fn element_at(blocks: &Vec<Block>, k: usize) -> Option<Id>
+    ensures { result ≡ slice_get (visible_ids (flat blocks.now.items)) k }
+{
+    let mut left = k;
+    for block in blocks {
+        let count = block.visible_len();
+        if left < count {
+            return visible_at(block.entries(), left);
+        }
+        left -= count;
+    }
+    None
+}
+
+/// A block's visible entries from the lo-th to the one before the hi-th go behind a list.
+fn push_part(list: &mut Vec<Id>, block: &Block, lo: usize, hi: usize) -> Result<(), Refusal>
+    ensures ok { OnOk result (list.new.items
+        ≡ list.old.items ++ drop lo (take hi (visible_ids block.now))) }
+    ensures memory { IfErr result (λ e. e ≡ Refusal.Memory) }
+{
+    if lo >= block.visible_len() {
+        return Ok(());
+    }
+    push_visible(list, block.entries(), lo, hi)
+}
+
+/// The visible entries from the lo-th to the one before the hi-th.
+pub(crate) fn elements(
+    alloc: Global,
+    blocks: &Vec<Block>,
+    lo: usize,
+    hi: usize,
+) -> Result<Vec<Id>, Refusal>
+    ensures ok { IfOk result (λ list.
+        list.items ≡ drop lo (take hi (visible_ids (flat blocks.now.items)))) }
+    ensures memory { IfErr result (λ e. e ≡ Refusal.Memory) }
+{
+    let mut list = Vec::new(alloc);
+    let mut skip = lo;
+    let mut end = hi;
+    for block in blocks {
+        if end == 0 {
+            return Ok(list);
+        }
+        push_part(&mut list, block, skip, end)?;
+        skip = skip.saturating_sub(block.visible_len());
+        end = end.saturating_sub(block.visible_len());
+    }
+    Ok(list)
+}
+
+/// The identifiers.
+pub(crate) fn list_ids(alloc: Global, blocks: &Vec<Block>) -> Result<Vec<Id>, Refusal>
+    ensures ok { IfOk result (λ list. list.items ≡ ids (flat blocks.now.items)) }
+    ensures memory { IfErr result (λ e. e ≡ Refusal.Memory) }
+{
+    let mut list = Vec::new(alloc);
+    for block in blocks {
+        push_ids(&mut list, block.entries())?;
+    }
+    Ok(list)
+}
+
+/// The characters of the visible entries.
+pub(crate) fn text(alloc: Global, blocks: &Vec<Block>) -> Result<Vec<char>, Refusal>
+    ensures ok { IfOk result (λ chars. chars.items ≡ visible_text (flat blocks.now.items)) }
+    ensures memory { IfErr result (λ e. e ≡ Refusal.Memory) }
+{
+    let mut chars = Vec::new(alloc);
+    for block in blocks {
+        push_text(&mut chars, block.entries())?;
+    }
+    Ok(chars)
+}
+
+/// The same blocks.
+pub(crate) fn copy_of(alloc: Global, blocks: &Vec<Block>) -> Result<Vec<Block>, Refusal>
+    ensures ok { IfOk result (λ copy. copy.items ≡ blocks.now.items) }
+    ensures memory { IfErr result (λ e. e ≡ Refusal.Memory) }
+{
+    let mut copy = Vec::new(alloc);
+    for block in blocks {
+        push_block(&mut copy, block.copy(alloc)?)?;
+    }
+    Ok(copy)
+}
+
+fn push_block(blocks: &mut Vec<Block>, block: Block) -> Result<(), Refusal>
+    ensures ok { OnOk result (blocks.new.items ≡ blocks.old.items ++ block ∷ []) }
+    ensures memory { IfErr result (λ e. e ≡ Refusal.Memory) }
+{
+    if blocks.push(block).is_err() {
+        return Err(Refusal::Memory);
+    }
+    Ok(())
+}

@@ -1,0 +1,60 @@
+//! Names of blocks: by its name a block is found wherever it stands.
+ghost use Rattle.std.specs.Prelude.{◌≡◌, vec_len, IfErr};
+
+use crate::block::Block;
+use crate::finding::Hints;
+use crate::place::Place;
+use rga_ops::Refusal;
+use std::alloc::Global;
+
+/// Where the entries of the block of a name are looked for first.
+pub(crate) fn hints_of(names: &Vec<usize>, last: Place, name: usize) -> Hints {
+    match names.get(name) {
+        Some(block) => Hints {
+            last,
+            block: *block,
+        },
+        None => Hints { last, block: 0 },
+    }
+}
+
+/// The name of the block at an index, if there is one.
+pub(crate) fn name_at(blocks: &Vec<Block>, index: usize) -> usize {
+    match blocks.get(index) {
+        Some(block) => block.name(),
+        None => 0,
+    }
+}
+
+/// A further name. Where there is no room its block is looked for among all.
+pub(crate) fn add_name(names: &mut Vec<usize>) {
+    let _room = names.push(0);
+}
+
+/// The same names.
+pub(crate) fn copy_names(alloc: Global, names: &Vec<usize>) -> Result<Vec<usize>, Refusal>
+    ensures { IfErr result (λ e. e ≡ Refusal.Memory) }
+{
+    let copy = Vec::from_slice(alloc, names.as_slice())?;
+    Ok(copy)
+}
+
+/// The blocks from an index on stand where they stand now.
+pub(crate) fn renumber(names: &mut Vec<usize>, blocks: &Vec<Block>, from: usize)
+    ensures { vec_len names.new ≡ vec_len names.old }
+{
+    let mut index = from;
+    while index < blocks.as_slice().len() {
+        note(names, blocks[index].name(), index);
+        index += 1;
+    }
+}
+
+/// Where the block of a name stands.
+fn note(names: &mut Vec<usize>, name: usize, index: usize)
+    ensures { vec_len names.new ≡ vec_len names.old }
+{
+    if name < names.as_slice().len() {
+        names[name] = index;
+    }
+}

@@ -1,0 +1,8 @@
+//! Places in blocks.
+
+/// An index in a block.
+#[derive(Clone, Copy, Debug)]
+pub(crate) struct Place {
+    pub(crate) block: usize,
+    pub(crate) index: usize,
+}

@@ -1,0 +1,34 @@
+//! The entry at a place goes, or is deleted.
+ghost use Rattle.std.specs.Prelude.{◌≡◌, ◌<◌, vec_len};
+ghost use Rattle.rga_sequence.specs.Entries.{without_entry, delete_entry};
+ghost use Rattle.rga_sequence.specs.Blocks.{flat, Stands, IsSequence};
+
+use crate::block::Block;
+use crate::place::Place;
+use rga_ops::Id;
+
+/// The entry at a place goes, and its block where it was the only one there.
+pub(crate) fn remove_at(blocks: &mut Vec<Block>, at: Place, id: Id)
+    requires block { at.block < vec_len blocks.old }
+    requires stands { Stands blocks.old.items at.block at.index id }
+    requires kept { IsSequence blocks.old.items }
+    ensures gone { flat blocks.new.items ≡ without_entry id (flat blocks.old.items) }
+    ensures kept { IsSequence blocks.new.items }
+{
+    if blocks[at.block].len() == 1 {
+        blocks.remove(at.block);
+        return;
+    }
+    blocks[at.block].remove(at.index);
+}
+
+/// The entry at a place is deleted.
+pub(crate) fn delete_at(blocks: &mut Vec<Block>, at: Place, id: Id)
+    requires block { at.block < vec_len blocks.old }
+    requires stands { Stands blocks.old.items at.block at.index id }
+    requires kept { IsSequence blocks.old.items }
+    ensures deleted { flat blocks.new.items ≡ delete_entry id (flat blocks.old.items) }
+    ensures kept { IsSequence blocks.new.items }
+{
+    blocks[at.block].delete(at.index);
+}

@@ -1,0 +1,233 @@
+//! A sequence of entries.
+ghost use Rattle.std.specs.Prelude.{◌≡◌, ◌<◌, ◌^◌, ◌||◌, [], length, slice_get, take, drop, true, false, IfSome, IfOk, IfErr, OnOk, OnErr};
+ghost use Rattle.rga_ops.specs.Identifier.{is_root};
+ghost use Rattle.rga_sequence.specs.Entries.{ids, has, entry_of, place_in, put_entry, without_entry, delete_entry, visible_count, visible_ids, visible_text, IsPart};
+
+use crate::block::Block;
+use crate::entry::Entry;
+use crate::finding::{entries_of, entry_at, find};
+use crate::listing;
+use crate::names::{add_name, copy_names, hints_of, name_at, renumber};
+use crate::place::Place;
+use crate::putting::put_behind;
+use crate::removing::{delete_at, remove_at};
+use rga_ops::{Id, Refusal};
+use std::alloc::Global;
+use std::marker::Model;
+
+/// Where an entry was put, for whoever finds entries by the names of their blocks.
+#[derive(Clone, Copy, Debug)]
+pub struct Put {
+    /// The name of the block in which it stands.
+    pub name: usize,
+    /// The name of the block that is new, if there is one: all its entries have that name now.
+    pub new_block: Option<usize>,
+}
+
+/// Entries in a row, in blocks of at most 256. No two have one identifier.
+///
+/// An entry is found in its block, and that by its name. The names are for speed alone: whatever
+/// name is given, the answer is the same, but behind a wrong one all blocks are looked through.
+#[derive(Drop)]
+pub struct Sequence {
+    alloc: Global,
+    blocks: Vec<Block>,
+    // Where the block of each name stands, and where an entry was looked for last.
+    names: Vec<usize>,
+    last: Place,
+}
+
+impl Model for Sequence {
+    ghost use Rattle.std.specs.Prelude.{List};
+    ghost use Rattle.rga_sequence.specs.declared.entry.Entry.{Entry};
+    ghost use Rattle.rga_sequence.specs.Blocks.{flat, IsSequence};
+
+    ghost Value = { List Entry };
+
+    ghost view = { λ s. flat s.blocks.items };
+
+    ghost invariant = { λ s. IsSequence s.blocks.items };
+}
+
+impl Sequence {
+    /// No entries. Takes no memory.
+    pub fn new(alloc: Global) -> Sequence
+        ensures { result ≡ [] }
+    {
+        Sequence {
+            alloc,
+            blocks: Vec::new(alloc),
+            names: Vec::new(alloc),
+            last: Place { block: 0, index: 0 },
+        }
+    }
+
+    /// An entry goes behind its parent, past those of larger identifiers that stand there: so a
+    /// Replicated Growable Array that is one sequence takes an insertion (Roh and others 2011).
+    /// `name` is that of the parent's block. `Memory` alone, and then nothing is changed.
+    pub fn put(&mut self, parent: Id, name: usize, entry: Entry) -> Result<Put, Refusal>
+        requires parent { is_root parent || has parent self.old ≡ true }
+        requires absent { has entry.id self.old ≡ false }
+        ensures ok { OnOk result (self.new ≡ put_entry parent entry self.old) }
+        ensures err { OnErr result (self.new ≡ self.old) }
+        ensures memory { IfErr result (λ e. e ≡ Refusal.Memory) }
+    {
+        self.names.reserve(1)?;
+        let count = self.blocks.as_slice().len();
+        let hints = hints_of(&self.names, self.last, name);
+        let new_name = self.names.as_slice().len();
+        let at = put_behind(
+            self.alloc,
+            &mut self.blocks,
+            hints,
+            parent,
+            new_name,
+            &entry,
+        )?;
+        self.last = at;
+        if self.blocks.as_slice().len() == count {
+            return Ok(Put {
+                name: name_at(&self.blocks, at.block),
+                new_block: None,
+            });
+        }
+        add_name(&mut self.names);
+        renumber(&mut self.names, &self.blocks, at.block);
+        Ok(Put {
+            name: name_at(&self.blocks, at.block),
+            new_block: Some(new_name),
+        })
+    }
+
+    /// The entry of an identifier goes, if there is one. Takes no memory.
+    pub fn take_out(&mut self, id: Id, name: usize)
+        ensures { self.new ≡ without_entry id self.old }
+    {
+        let hints = hints_of(&self.names, self.last, name);
+        let count = self.blocks.as_slice().len();
+        if let Some(at) = find(&self.blocks, hints, id) {
+            remove_at(&mut self.blocks, at, id);
+            if self.blocks.as_slice().len() < count {
+                renumber(&mut self.names, &self.blocks, at.block);
+            }
+        }
+    }
+
+    /// The entry of an identifier is deleted, if there is one. Takes no memory.
+    pub fn delete(&mut self, id: Id, name: usize)
+        ensures { self.new ≡ delete_entry id self.old }
+    {
+        let hints = hints_of(&self.names, self.last, name);
+        if let Some(at) = find(&self.blocks, hints, id) {
+            delete_at(&mut self.blocks, at, id);
+            self.last = at;
+        }
+    }
+
+    /// The entry of an identifier. Takes no memory.
+    pub fn find(&self, id: Id, name: usize) -> Option<Entry>
+        ensures { result ≡ entry_of id self.now }
+    {
+        let hints = hints_of(&self.names, self.last, name);
+        match find(&self.blocks, hints, id) {
+            Some(at) => entry_at(&self.blocks, at, id),
+            None => None,
+        }
+    }
+
+    /// Whether there is an entry of an identifier. Takes no memory.
+    pub fn contains(&self, id: Id, name: usize) -> bool
+        ensures { result ≡ has id self.now }
+    {
+        let hints = hints_of(&self.names, self.last, name);
+        match find(&self.blocks, hints, id) {
+            Some(_) => true,
+            None => false,
+        }
+    }
+
+    /// How many entries there are. Takes no memory.
+    pub fn len(&self) -> usize
+        requires { length self.now < 2 ^ 64 }
+        ensures { result ≡ length self.now }
+    {
+        listing::len(&self.blocks)
+    }
+
+    /// How many entries are visible. Takes no memory.
+    pub fn visible_len(&self) -> usize
+        requires { length self.now < 2 ^ 64 }
+        ensures { result ≡ visible_count self.now }
+    {
+        listing::visible_len(&self.blocks)
+    }
+
+    /// The k-th visible entry, from 0. Takes no memory.
+    pub fn element_at(&self, k: usize) -> Option<Id>
+        ensures { result ≡ slice_get (visible_ids self.now) k }
+    {
+        listing::element_at(&self.blocks, k)
+    }
+
+    /// The visible entries from the lo-th to the one before the hi-th. `Memory` alone.
+    pub fn elements(&self, alloc: Global, lo: usize, hi: usize) -> Result<Vec<Id>, Refusal>
+        ensures ok { IfOk result (λ list.
+            list.items ≡ drop lo (take hi (visible_ids self.now))) }
+        ensures memory { IfErr result (λ e. e ≡ Refusal.Memory) }
+    {
+        listing::elements(alloc, &self.blocks, lo, hi)
+    }
+
+    /// How many visible entries are that of an identifier or stand before it, if there is one.
+    /// Takes no memory.
+    pub fn place_of(&self, id: Id, name: usize) -> Option<usize>
+        requires { length self.now < 2 ^ 64 }
+        ensures { result ≡ place_in id self.now }
+    {
+        let hints = hints_of(&self.names, self.last, name);
+        match find(&self.blocks, hints, id) {
+            Some(at) => Some(listing::place_at(&self.blocks, at, id)),
+            None => None,
+        }
+    }
+
+    /// The identifiers, deleted entries' too. `Memory` alone.
+    pub fn ids(&self, alloc: Global) -> Result<Vec<Id>, Refusal>
+        ensures ok { IfOk result (λ list. list.items ≡ ids self.now) }
+        ensures memory { IfErr result (λ e. e ≡ Refusal.Memory) }
+    {
+        listing::list_ids(alloc, &self.blocks)
+    }
+
+    /// The characters of the visible entries. `Memory` alone.
+    pub fn text(&self, alloc: Global) -> Result<Vec<char>, Refusal>
+        ensures ok { IfOk result (λ chars. chars.items ≡ visible_text self.now) }
+        ensures memory { IfErr result (λ e. e ≡ Refusal.Memory) }
+    {
+        listing::text(alloc, &self.blocks)
+    }
+
+    /// A sequence of the same entries. `Memory` alone.
+    pub fn copy(&self, alloc: Global) -> Result<Sequence, Refusal>
+        ensures ok { IfOk result (λ s. s ≡ self.now) }
+        ensures memory { IfErr result (λ e. e ≡ Refusal.Memory) }
+    {
+        let names = copy_names(alloc, &self.names)?;
+        let blocks = listing::copy_of(alloc, &self.blocks)?;
+        Ok(Sequence {
+            alloc,
+            blocks,
+            names,
+            last: self.last,
+        })
+    }
+
+    /// The entries of the block of a name that was answered: those that have that name. Takes no
+    /// memory.
+    pub fn block(&self, name: usize) -> Option<&[Entry]>
+        ensures { IfSome result (λ es. IsPart es.now self.now) }
+    {
+        let hints = hints_of(&self.names, self.last, name);
+        entries_of(&self.blocks, hints.block)
+    }
+}

@@ -1,0 +1,86 @@
+//! Where a new entry goes: behind its parent, past the larger ones.
+ghost use Rattle.std.specs.Prelude.{◌≡◌, ◌≢◌, ◌<◌, ◌+◌, ◌++◌, ◌∷◌, ◌||◌, List, vec_len, true, false, None, IfSome};
+ghost use Rattle.rga_ops.specs.Identifier.{is_root};
+ghost use Rattle.rga_sequence.specs.declared.entry.Entry.{Entry};
+ghost use Rattle.rga_sequence.specs.Entries.{has, change_behind, put_past_larger};
+ghost use Rattle.rga_sequence.specs.Blocks.{flat, before, behind, IsPlace, Stops, IsSequence};
+
+use crate::block::Block;
+use crate::entry::Entry;
+use crate::finding::{Hints, find};
+use crate::place::Place;
+use rga_ops::Id;
+
+/// The place directly behind a parent.
+pub(crate) fn behind_parent(blocks: &Vec<Block>, hints: Hints, parent: Id) -> Option<Place>
+    requires some { 0 < vec_len blocks.now }
+    requires kept { IsSequence blocks.now.items }
+    requires parent { is_root parent || has parent (flat blocks.now.items) ≡ true }
+    ensures found { result ≢ None }
+    ensures block { IfSome result (λ p. p.block < vec_len blocks.now) }
+    ensures place { IfSome result (λ p. IsPlace blocks.now.items p.block p.index) }
+    ensures behind { IfSome result (λ p. (f : List Entry → List Entry) →
+        change_behind parent f (flat blocks.now.items)
+        ≡ before blocks.now.items p.block p.index ++ f (behind blocks.now.items p.block p.index)) }
+{
+    if parent == Id::ROOT {
+        return Some(Place { block: 0, index: 0 });
+    }
+    let Place { block, index } = find(blocks, hints, parent)?;
+    Some(Place {
+        block,
+        index: index + 1,
+    })
+}
+
+/// The index in the same block behind the identifiers larger than an entry's.
+fn past_in_block(blocks: &Vec<Block>, at: Place, entry: &Entry) -> usize
+    requires block { at.block < vec_len blocks.now }
+    requires place { IsPlace blocks.now.items at.block at.index }
+    ensures place { IsPlace blocks.now.items at.block result }
+    ensures stops { Stops blocks.now.items at.block result entry.now }
+    ensures past { let bs = blocks.now.items in
+        before bs at.block at.index ++ put_past_larger entry.now (behind bs at.block at.index)
+        ≡ before bs at.block result ++ put_past_larger entry.now (behind bs at.block result) }
+{
+    blocks[at.block].past_larger(at.index, entry.id)
+}
+
+/// Whether an index is the end of its block, and another block follows.
+fn goes_on(blocks: &Vec<Block>, block: usize, index: usize) -> bool
+    requires block { block < vec_len blocks.now }
+    requires place { IsPlace blocks.now.items block index }
+    ensures next { result ≡ true → block + 1 < vec_len blocks.now }
+    ensures front { result ≡ true → IsPlace blocks.now.items (block + 1) 0 }
+    ensures before { result ≡ true →
+        before blocks.now.items block index ≡ before blocks.now.items (block + 1) 0 }
+    ensures behind { result ≡ true →
+        behind blocks.now.items block index ≡ behind blocks.now.items (block + 1) 0 }
+    ensures end { (e : Entry) → result ≡ false → Stops blocks.now.items block index e →
+        put_past_larger e (behind blocks.now.items block index)
+        ≡ e ∷ behind blocks.now.items block index }
+{
+    if index < blocks[block].len() {
+        return false;
+    }
+    block + 1 < blocks.as_slice().len()
+}
+
+/// The place behind `from` and the identifiers larger than an entry's that stand there.
+pub(crate) fn skip(blocks: &Vec<Block>, from: Place, entry: &Entry) -> Place
+    requires block { from.block < vec_len blocks.now }
+    requires place { IsPlace blocks.now.items from.block from.index }
+    ensures block { result.block < vec_len blocks.now }
+    ensures place { IsPlace blocks.now.items result.block result.index }
+    ensures skipped { let bs = blocks.now.items in
+        before bs from.block from.index ++ put_past_larger entry.now (behind bs from.block from.index)
+        ≡ before bs result.block result.index ++ entry.now ∷ behind bs result.block result.index }
+{
+    let mut block = from.block;
+    let mut index = past_in_block(blocks, from, entry);
+    while goes_on(blocks, block, index) {
+        block += 1;
+        index = past_in_block(blocks, Place { block, index: 0 }, entry);
+    }
+    Place { block, index }
+}
