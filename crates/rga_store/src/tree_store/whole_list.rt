@@ -42,7 +42,7 @@ impl TreeStore {
         ensures same { OnErr result (self.new.content ≡ self.old.content) }
         ensures limit { self.new.limit ≡ self.old.limit }
     {
-        let mut steps = Vec::new(self.alloc);
+        let mut steps = Vec::with_capacity(self.alloc, ops.len())?;
         for op in ops {
             if let Err(refusal) = self.take_noted(op, &mut steps) {
                 self.go_back(steps);
