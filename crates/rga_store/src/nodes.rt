@@ -5,13 +5,14 @@ ghost use Rattle.std.specs.FinSet as finite_set;
 ghost use Rattle.std.specs.Map.{lookup};
 ghost use Rattle.std.specs.Option.{option_copied};
 ghost use Rattle.rga_ops.specs.Prelude.{is_id, join, single};
+ghost use Rattle.rga_ops.specs.Found.{facts_of};
 ghost use Rattle.rga_store.specs.Children.{children_in, has_child};
 ghost use Rattle.rga_store.specs.Nodes.{content_of_nodes, children_of, KeepsChildren, AddsChildUnder, RemovesChildUnder, AreRising, AreApart, StandsAt, KeepsIndexes};
 ghost use Rattle.rga_store.specs.Back.{without_insertion, without_deletion};
 
 use crate::child_list::ChildList;
 use indexmap::IndexMap;
-use rga_ops::{Id, Op, Refusal};
+use rga_ops::{Found, Id, Op, Refusal};
 use std::alloc::Global;
 
 /// What is kept of an identifier. A node may come before its element: for a deletion that came
@@ -101,6 +102,32 @@ pub(crate) fn add_child(
     ensures memory { IfErr result (λ e. e ≡ Refusal.Memory) }
 {
     nodes[index].children.put(alloc, id)
+}
+
+/// What is known of an identifier that has a node, and of the room that is left.
+pub(crate) fn found_at(
+    nodes: &IndexMap<Id, Node>,
+    index: usize,
+    id: Id,
+    known: usize,
+    limit: usize,
+) -> Found
+    requires apart { AreApart nodes.now.entries }
+    requires index { StandsAt nodes.now.entries index id }
+    ensures found { (facts_of result).found
+        ≡ finite_map.get (content_of_nodes nodes.now.entries).inserted id }
+    ensures deleted { result.deleted
+        ≡ finite_set.contains (content_of_nodes nodes.now.entries).deleted id }
+    ensures known { result.known ≡ known }
+    ensures limit { result.limit ≡ limit }
+{
+    let node = &nodes[index];
+    Found {
+        element: node.element,
+        deleted: node.deleted,
+        known,
+        limit,
+    }
 }
 
 /// A node gets its element. Says whether its identifier is deleted already.

@@ -1,5 +1,5 @@
 //! A store as a tree: a node for each identifier, and under it its children.
-ghost use Rattle.std.specs.Prelude.{◌≡◌, ◌≤◌, ◌+◌, ◌⊎◌, ◌↔◌, if◌then◌else◌, [], length, Ok, Err, OnOk, OnErr, IfOk, IfErr, true, false, max};
+ghost use Rattle.std.specs.Prelude.{◌≡◌, ◌≢◌, ◌≤◌, ◌+◌, ◌⊎◌, ◌↔◌, if◌then◌else◌, [], length, Ok, Err, OnOk, OnErr, IfOk, IfErr, true, false, max};
 ghost use Rattle.std.specs.FinMap as finite_map;
 ghost use Rattle.std.specs.FinSet as finite_set;
 ghost use Rattle.rga_ops.specs.Content.{element_at, join, single, known_count, IsSound};
@@ -13,7 +13,7 @@ mod whole_list;
 
 use crate::list_answer::answer_to_list;
 use crate::merging::{count_unknown, least_conflict};
-use crate::nodes::{Node, add_child, ensure_node, mark, set_element};
+use crate::nodes::{Node, add_child, ensure_node, found_at, mark, set_element};
 use crate::operations::operations_of;
 use crate::preceding::last_visible;
 use crate::taker::Taker;
@@ -84,8 +84,13 @@ impl Taker for TreeStore {
     }
 
     fn apply_all(&mut self, ops: &[Op]) -> Result<(), Refusal> {
-        answer_to_list(self.alloc, self, ops)?;
-        self.take_whole(ops)
+        let alloc = self.alloc;
+        if self.take_whole(ops).is_ok() {
+            return Ok(());
+        }
+        // Which refusal comes first depends on the whole list, so it is looked for only now.
+        answer_to_list(alloc, self, ops)?;
+        Err(Refusal::Memory)
     }
 }
 
@@ -176,18 +181,24 @@ impl TreeStore {
         self.known
     }
 
-    /// A new insertion stands among its siblings. Until it has its element, a refusal for want of
-    /// memory leaves no more than nodes that mean nothing.
+    /// Takes an insertion by one search for its identifier, and a new one stands among its siblings.
+    /// Memory may be wanting before any other answer is found. Until the element is there, a refusal
+    /// leaves no more than nodes that mean nothing.
     fn insert(&mut self, id: Id, parent: Id, ch: char) -> Result<Taken, Refusal>
-        requires { answer self.old.limit self.old.content (Op.Insert id parent ch) ≡ Ok Taken.New }
-        ensures ok { OnOk result
-            (self.new.content ≡ join self.old.content (single (Op.Insert id parent ch))) }
-        ensures same { OnErr result (self.new.content ≡ self.old.content) }
-        ensures answer { (result ≡ Ok Taken.New) ⊎ (result ≡ Err Refusal.Memory) }
+        ensures exact { result ≢ Err Refusal.Memory →
+            result ≡ answer self.old.limit self.old.content (Op.Insert id parent ch) }
+        ensures new { result ≡ Ok Taken.New →
+            self.new.content ≡ join self.old.content (single (Op.Insert id parent ch)) }
+        ensures same { result ≢ Ok Taken.New → self.new.content ≡ self.old.content }
         ensures limit { self.new.limit ≡ self.old.limit }
     {
         let above = ensure_node(self.alloc, &mut self.nodes, parent)?;
         let index = ensure_node(self.alloc, &mut self.nodes, id)?;
+        let found = found_at(&self.nodes, index, id, self.known, self.limit);
+        let answer = answer_to(Op::Insert { id, parent, ch }, found);
+        if answer != Ok(Taken::New) {
+            return answer;
+        }
         add_child(self.alloc, &mut self.nodes, above, parent, id)?;
         let deleted = set_element(&mut self.nodes, index, id, parent, ch);
         self.inserted += 1;

@@ -1,12 +1,14 @@
-use Rattle.std.proofs.Common.{◌≡◌, ◌≤◌, ◌+◌, cond, ◌&&◌, ◌||◌, sym, ap, ◌∙◌, subst, arith}
+use Rattle.std.proofs.Common.{rules, ◌≡◌, ◌≤◌, ◌+◌, cond, ◌&&◌, ◌||◌, sym, ap, ◌∙◌, subst, arith}
 use Rattle.std.specs.Prelude.{Ok, max}
+use Rattle.std.specs.FinMap as finite_map
 use Rattle.std.specs.FinSet as finite_set
 use Rattle.rga_ops.specs.Identifier.{Identifier, is_id}
 use Rattle.rga_ops.specs.Content.{Content, join, single}
-use Rattle.rga_ops.specs.Answer.{answer}
+use Rattle.rga_ops.specs.Answer.{facts, answer, answer_from}
+use Rattle.rga_ops.specs.Found.{facts_of}
+use Rattle.rga_ops.proofs.AnswerLaws.{ok}
 use Rattle.rga_ops.specs.declared.op.Op.TheVariants.{Insert}
 use Rattle.rga_ops.specs.declared.refusal.Taken.TheVariants.{New}
-use Rattle.rga_store.specs.Kept.{Kept}
 use Rattle.rga_store.specs.Children.{has_child, IsRising}
 use Rattle.rga_store.specs.Nodes.{content_of_nodes, children_of}
 use Rattle.rga_store.proofs.TreeLaws.{few_inserted, tree_insertion}
@@ -26,11 +28,26 @@ children c p k =
     ap (λ ks. has_child ks k) (c.set_element-deleted.ensures.children p) ∙ c.in_ok-add_child.ensures.added p k
     ∙ ap (λ ks. has_child ks k || (is_id c.args.parent p && is_id c.args.id k)) (c.in_ok-index.ensures.children p ∙ c.in_ok-above.ensures.children p)
 
+-- what is found of the identifier is what the store knows
+found : (c : goal.After-raise) → facts_of c.found_at-found.result ≡ facts c.self.inside.limit (content_of_nodes c.self.inside.nodes.entries) c.args.id
+found c =
+    λ k. record {
+      found = (c.found_at-found.ensures.found ∙ ap (λ (d : Content). finite_map.get d.inserted c.args.id) (c.in_ok-index.ensures.content ∙ c.in_ok-above.ensures.content)) k;
+      deleted = (c.found_at-found.ensures.deleted ∙ ap (λ (d : Content). finite_set.contains d.deleted c.args.id) (c.in_ok-index.ensures.content ∙ c.in_ok-above.ensures.content)) k;
+      known = (c.found_at-found.ensures.known ∙ c.self.invariant.counted.known) k;
+      limit = c.found_at-found.ensures.limit k;
+    }
+
+answered : (c : goal.After-raise) → answer c.self.inside.limit (content_of_nodes c.self.inside.nodes.entries) (Insert c.args.id c.args.parent c.args.ch) ≡ Ok New
+answered c =
+    let is_new : c.answer_to-answer.result ≡ ok New = search rules in
+    ap (answer_from (Insert c.args.id c.args.parent c.args.ch)) (sym (found c)) ∙ sym c.answer_to-answer.ensures ∙ is_new
+
 pub invariant_of-self-2 : goal.invariant_of-self-2
 invariant_of-self-2 c =
     tree_insertion c.self.inside.nodes.entries c.set_element-deleted.new.nodes.entries c.self.inside.clock c.self.inside.inserted c.self.inside.known c.self.inside.limit c.self.invariant
     c.set_element-deleted.ensures.apart c.args.id c.args.parent c.args.ch c.raise.new.clock c.count_unless.new.count
-    (subst (λ (v : Kept). answer v.limit v.content (Insert c.args.id c.args.parent c.args.ch) ≡ Ok New) (sym c.self.view_is) c.requires)
+    (answered c)
     (c.set_element-deleted.ensures.content ∙ ap (λ d. join d (single (Insert c.args.id c.args.parent c.args.ch))) (before c))
     (children c)
     (λ p. subst (λ ks. IsRising ks) (sym (c.set_element-deleted.ensures.children p)) (c.in_ok-add_child.ensures.rising p))

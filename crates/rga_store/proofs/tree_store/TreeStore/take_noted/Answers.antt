@@ -16,13 +16,13 @@ was_new limit c op r new exact = sym (exact (λ k. let clash : ok New ≡ err Me
 
 pub note-requires : goal.note-requires
 note-requires c =
-    let is_new : c.apply.result ≡ ok New = c.in_ok-apply.was ∙ ap ok c.in-New.is in
-    let answered = was_new c.args.self.now.limit c.args.self.now.content c.args.op.now c.apply.result is_new c.apply.ensures.exact in
-    last_taken c.args.self.now.limit c.args.self.now.content c.apply.new.self.content c.args.op.now answered (c.apply.ensures.new is_new) c.args.steps.now.items c.self.inside.clock
-    (c.self.invariant.counted.clocked ∙ ap (λ (v : Kept). clock_of v.content) c.self.view_is) c.requires.steps
+    let is_new : c.take.result ≡ ok New = c.in_ok-take.was ∙ ap ok c.in-New.is in
+    let answered = was_new c.args.self.now.limit c.args.self.now.content c.args.op.now c.take.result is_new c.take.ensures.exact in
+    last_taken c.args.self.now.limit c.args.self.now.content c.take.new.self.content c.args.op.now answered (c.take.ensures.new is_new) c.args.steps.now.items c.self.inside.clock
+    (c.self.invariant.counted.clocked ∙ ap (λ (v : Kept). clock_of v.content) c.self.view_is) c.requires
 
 pub returns-in-New-clause-start : goal.returns-in-New-clause-start
 returns-in-New-clause-start c =
-    let is_new : c.apply.result ≡ ok New = c.in_ok-apply.was ∙ ap ok c.in-New.is in
-    let answered = was_new c.args.self.now.limit c.args.self.now.content c.args.op.now c.apply.result is_new c.apply.ensures.exact in
-    c.note.ensures.start ∙ ap (gone_back c.args.steps.now.items) (without_taken c.args.self.now.limit c.args.self.now.content c.apply.new.self.content c.args.op.now answered (c.apply.ensures.new is_new))
+    let is_new : c.take.result ≡ ok New = c.in_ok-take.was ∙ ap ok c.in-New.is in
+    let answered = was_new c.args.self.now.limit c.args.self.now.content c.args.op.now c.take.result is_new c.take.ensures.exact in
+    c.note.ensures.start ∙ ap (gone_back c.args.steps.now.items) (without_taken c.args.self.now.limit c.args.self.now.content c.take.new.self.content c.args.op.now answered (c.take.ensures.new is_new))
