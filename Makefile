@@ -19,7 +19,7 @@ NEED_RT = command -v rt >/dev/null || { \
 
 NEED_PYTHON = command -v python3 >/dev/null || { echo "python3 is not installed" >&2; exit 1; }
 
-.PHONY: build try scenes test-front try-live try-hub try-exchange try-sharing crash hostile files test wrong-bodies contracts bench install clean help
+.PHONY: build try scenes test-front try-live try-hub try-exchange try-sharing crash hostile files test wrong-bodies contracts bench bench-growth install clean help
 
 build: build/mgr
 	@echo "build/mgr is up to date"
@@ -93,6 +93,16 @@ contracts:
 bench:
 	@bench/run.sh
 
+# How what works cost grows with their size, with the mgr that make built. It takes some five minutes.
+bench-growth: build/mgr build/generate
+	@$(NEED_PYTHON)
+	@bench/growth.py
+
+build/generate build/native: build/%: bench/%.rs
+	@command -v rustc >/dev/null || { echo "rustc is not installed" >&2; exit 1; }
+	@mkdir -p build
+	@rustc --edition 2021 -O -o $@ $<
+
 install: build/mgr
 	mkdir -p "$(DESTDIR)$(BINDIR)" "$(DESTDIR)$(MANDIR)/man1" "$(DESTDIR)$(DATADIR)/mgr_front" \
 		"$(DESTDIR)$(DOCDIR)" "$(DESTDIR)$(COMPDIR)"
@@ -143,6 +153,9 @@ help:
 	@echo "make files     does to a note's files what other programs do while it is edited, and looks for each word"
 	@echo "               (needs python3)"
 	@echo "make bench     measures mgr beside a native program (needs python3 and rustc)"
+	@echo "make bench-growth"
+	@echo "               runs mgr on 22 works, each at three sizes, and says which grow faster than they should (needs"
+	@echo "               python3 and rustc)"
 	@echo "make install   copies mgr, mgr-live and mgr-hub to BINDIR, their parts to DATADIR, their manuals to MANDIR/man1,"
 	@echo "               the guide and the list of commands to DOCDIR, and completions for bash to COMPDIR"
 	@echo "               (BINDIR=$(BINDIR), DATADIR=$(DATADIR), MANDIR=$(MANDIR),"

@@ -11,6 +11,7 @@ measurements counts. A call by hand may name another mgr, and fewer characters a
 """
 
 import argparse
+import collections
 import os
 import pathlib
 import random
@@ -34,8 +35,11 @@ begin = time.monotonic()
 status = subprocess.call(sys.argv[1:], stdout=subprocess.DEVNULL)
 wall = time.monotonic() - begin
 usage = resource.getrusage(resource.RUSAGE_CHILDREN)
-print(status, usage.ru_utime, wall, usage.ru_maxrss)
+print(status, usage.ru_utime, usage.ru_utime + usage.ru_stime, wall, usage.ru_maxrss)
 """
+
+# The least user time, the least of user and system, the least by the clock, and the peak.
+Cost = collections.namedtuple("Cost", "user processor wall kilobytes")
 
 WORDS = "a be can down ever from green house island jumps kindly letters moments nowhere".split()
 MOTIONS = [b"\x02", b"\x06", b"\x0e", b"\x10", b"\x01", b"\x05", b"\x1bf", b"\x1bb"]
@@ -91,31 +95,38 @@ def writing(size, count):
 
 
 class Editor:
-    """An mgr, which is run on files of its own."""
+    """An mgr, which is run on files of its own, in a new folder."""
 
-    def __init__(self, program):
-        self.program = program
+    def __init__(self, program, folder):
+        self.program, self.folder = program, folder
+        shutil.rmtree(folder, ignore_errors=True)
+        folder.mkdir(parents=True)
 
-    def cost(self, words, given, files):
-        """Returns the least user time, the least time by the clock and the peak in kilobytes."""
-        (FOLDER / "given").write_bytes(given) if isinstance(given, bytes) else shutil.copy(given, FOLDER / "given")
+    def cost(self, words, given, files, times=MEASUREMENTS):
+        """Returns the least that the program takes, of so many runs with these words, input and files."""
+        self.put("given", given)
         runs = []
-        for _ in range(MEASUREMENTS):
-            for path in FOLDER.glob("text*"):
+        for _ in range(times):
+            for path in self.folder.glob("text*"):
                 path.unlink()
             for name, data in files.items():
-                shutil.copy(data, FOLDER / name) if isinstance(data, pathlib.Path) else (FOLDER / name).write_bytes(data)
-            with open(FOLDER / "given", "rb") as given_file:
+                self.put(name, data)
+            with open(self.folder / "given", "rb") as given_file:
                 said = subprocess.check_output(
-                    [sys.executable, "-c", USAGE, self.program, *words], stdin=given_file, cwd=FOLDER
+                    [sys.executable, "-c", USAGE, self.program, *words], stdin=given_file, cwd=self.folder
                 ).split()
             if said[0] != b"0":
                 sys.exit(f"mgr ended with status {said[0].decode()}: {' '.join(words)}")
             runs.append([float(word) for word in said[1:]])
-        return [min(run) for run in zip(*runs)]
+        return Cost(*map(min, zip(*runs)))
 
-    def edit(self, keys, files, *words):
-        return self.cost(["edit", "text", "--replica", "1", *words], keys, files)
+    def put(self, name, data):
+        """Writes a file, of these bytes or as that other file."""
+        path = self.folder / name
+        path.write_bytes(data) if isinstance(data, bytes) else shutil.copy(data, path)
+
+    def edit(self, keys, files, *words, times=MEASUREMENTS):
+        return self.cost(["edit", "text", "--replica", "1", *words], keys, files, times)
 
 
 def print_row(what, figure, unit, wanted):
@@ -126,37 +137,37 @@ def print_row(what, figure, unit, wanted):
 def measure_keys(editor, size, count):
     files = {"text": text_of(size).encode()}
     keys = editing(count)
-    idle = editor.edit(b"", files)[0]
-    plain = (editor.edit(keys, files)[0] - idle) / len(keys)
+    idle = editor.edit(b"", files).user
+    plain = (editor.edit(keys, files).user - idle) / len(keys)
     print_row(f"a key in {size:,} characters, of {len(keys):,}", plain * 1e6, "us", 60)
     keys = keys[: max(1, count // TRACED)]
-    traced = (editor.edit(keys, files, "--trace")[0] - idle) / len(keys)
+    traced = (editor.edit(keys, files, "--trace").user - idle) / len(keys)
     print_row(f"the same with a frame each, of {len(keys):,}", traced * 1e3, "ms", 1.2)
 
 
 def measure_writing(editor, size, count):
     keys = writing(size, count)
-    user = editor.edit(keys, {})[0]
+    user = editor.edit(keys, {}).user
     print_row(f"{len(keys):,} keys that write {size:,} characters", user, "s", 10)
 
 
 def measure_loading(editor, size):
     log = generated("typing", size)
-    loads = editor.edit(b"", {"text.ops": log})[0]
-    shows = editor.cost(["show"], log, {})[0]
+    loads = editor.edit(b"", {"text.ops": log}).user
+    shows = editor.cost(["show"], log, {}).user
     print_row(f"a log of {size:,} operations, over mgr show", loads / shows, "times", 1.3)
 
 
 def measure_text(editor, size):
     """A text of so many characters, of which one is then deleted, so that all fit in a store."""
     files, keys = {"text": text_of(size).encode()}, b"\x04"
-    user, wall, peak = editor.edit(keys, files)
-    print_row(f"a text of {size:,} characters without a log", user, "s", 2)
+    loaded = editor.edit(keys, files)
+    print_row(f"a text of {size:,} characters without a log", loaded.user, "s", 2)
     saved = editor.edit(keys + SAVE, files)
     written = b"".join((FOLDER / name).read_bytes() for name in ("text.ops", "text"))
-    seconds, alone = saved[1] - wall, time_of_writing(written)
+    seconds, alone = saved.wall - loaded.wall, time_of_writing(written)
     print_row(f"a save of it, over the {alone:.2f} s of writing its {len(written):,} bytes", seconds / alone, "times", 1.5)
-    print_row("peak memory of it, unsaved and saved", max(peak, saved[2]) / 1024, "MiB", 400)
+    print_row("peak memory of it, unsaved and saved", max(loaded.kilobytes, saved.kilobytes) / 1024, "MiB", 400)
 
 
 def time_of_writing(data):
@@ -179,9 +190,7 @@ def main():
     parser.add_argument("--mgr", metavar="PATH", default=BUILD / "mgr", help="another mgr")
     parser.add_argument("--part", metavar="N", type=int, default=1, help="an Nth of all characters and keys")
     given = parser.parse_args()
-    shutil.rmtree(FOLDER, ignore_errors=True)
-    FOLDER.mkdir(parents=True)
-    editor, part = Editor(os.path.abspath(given.mgr)), given.part
+    editor, part = Editor(os.path.abspath(given.mgr), FOLDER), given.part
     print(f"{'':<62} {'figure':>9} {'':<6} {'wanted':>7}")
     measure_keys(editor, 100_000 // part, 100_000 // part)
     measure_writing(editor, 100_000 // part, 260_000 // part)

@@ -21,10 +21,7 @@ for program in python3 rustc; do
     }
 done
 
-make build
-for program in generate native; do
-    rustc --edition 2021 -O -o "build/$program" "bench/$program.rs"
-done
+make build build/generate build/native
 (cd crates/bench_tasks && rt run -- edits order 1 1 </dev/null >/dev/null)
 cp crates/bench_tasks/out/bench_tasks build/bench_tasks
 (cd crates/test_simulation && rt run -- 1 1 </dev/null >/dev/null)

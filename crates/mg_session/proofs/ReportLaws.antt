@@ -1,7 +1,11 @@
 -- What bytes lead to, one after the other.
-use Rattle.std.proofs.Common.{◌≡◌, ℕ, ◌+◌, ◌<◌, List, [], ◌∷◌, ◌++◌, length, get_or, take, drop, refl, sym, ap, ◌∙◌, append_assoc, append-nil}
+use Rattle.std.proofs.Common.{◌≡◌, ℕ, ◌+◌, ◌<◌, true, false, true≢false, arith, length-append, List, [], ◌∷◌, ◌++◌, length, get_or, take, drop, refl, sym, ap, ◌∙◌, append_assoc, append-nil}
 use Rattle.std.proofs.lemmas.List.{take_more, take-append-drop}
-use Rattle.mg_session.specs.Reports.{Reports, read, events, after}
+use Rattle.std.proofs.lemmas.List.Folds.{concat-append}
+use Rattle.std.specs.List.{concat}
+use Rattle.std.specs.Prelude.{nat_eq}
+use Rattle.std.proofs.lemmas.Bool.{eqb-true}
+use Rattle.mg_session.specs.Reports.{block_end, keys, Reports, read, events, after, block_events, read_events, after_reads, held_events}
 
 pub events_more : (r : Reports) (xs ys : List ℕ) → events r (xs ++ ys) ≡ events r xs ++ events (after r xs) ys
 events_more r [] ys = refl
@@ -33,3 +37,32 @@ after_next r now left bytes i d inside before is =
 -- the bytes behind it
 pub events_behind : (r : Reports) (bytes : List ℕ) (i : ℕ) → events r bytes ≡ events r (take i bytes) ++ events (after r (take i bytes)) (drop i bytes)
 events_behind r bytes i = ap (events r) (sym (take-append-drop i bytes)) ∙ events_more r (take i bytes) (drop i bytes)
+
+-- ---- blocks
+
+pub read_more : (r : Reports) (blocks : List (List ℕ)) (block : List ℕ)
+    → read_events r (blocks ++ block ∷ []) ≡ read_events r blocks ++ block_events (after_reads r blocks) block
+read_more r [] block = append-nil (block_events r block)
+read_more r (x ∷ xs) block =
+    let one = block_events r x in
+    let left = after r x in
+    ap (λ es. one ++ es) (read_more left xs block) ∙ sym (append_assoc one (read_events left xs) (block_events (after_reads left xs) block))
+
+pub after_more_reads : (r : Reports) (blocks : List (List ℕ)) (block : List ℕ) → after_reads r (blocks ++ block ∷ []) ≡ after (after_reads r blocks) block
+after_more_reads r [] block = refl
+after_more_reads r (x ∷ xs) block = after_more_reads (after r x) xs block
+
+pub length_more : (blocks : List (List ℕ)) (block : List ℕ) → length (blocks ++ block ∷ []) ≡ length blocks + 1
+length_more blocks block = length-append blocks (block ∷ [])
+
+pub concat_more : (blocks : List (List ℕ)) (block : List ℕ) → concat (blocks ++ block ∷ []) ≡ concat blocks ++ block
+concat_more blocks block = concat-append blocks (block ∷ []) ∙ ap (λ bs. concat blocks ++ bs) (append-nil block)
+
+-- what is held is a block of its own
+pub held_some : (held : List ℕ) → nat_eq (length held) 0 ≡ false → held_events held ≡ keys held ++ block_end ∷ []
+held_some [] some = absurd (true≢false some)
+held_some (b ∷ bs) some = refl
+
+pub held_none : (held : List ℕ) → nat_eq (length held) 0 ≡ true → held_events held ≡ []
+held_none [] none = refl
+held_none (b ∷ bs) none = absurd (omega (arith, eqb-true _ _ none))

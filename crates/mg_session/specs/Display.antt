@@ -1,14 +1,31 @@
 -- Frames, as they are written.
-use Rattle.std.specs.Prelude.{◌≡◌, ℕ, Bool, true, false, List, [], ◌∷◌, ◌++◌, Option, Some, None, map, string_bytes, codes, if◌then◌else◌}
+use Rattle.std.specs.Prelude.{◌≡◌, ℕ, Bool, true, false, List, [], ◌∷◌, ◌++◌, ◌&&◌, Option, Some, None, map, string_bytes, codes, if◌then◌else◌}
 use Rattle.std.specs.Fmt.{decimal}
 use Rattle.std.specs.declared.alloc.Global.{Global}
 use Rattle.std.specs.declared.string.String.{String}
 use Rattle.rga_lines.specs.Stream.{bytes_of_lines}
 use Rattle.mg_screen.specs.declared.screen.Position.{Position}
+use Rattle.mg_settings.specs.Settings.{Values}
 use Rattle.mg_editor.specs.Editors.{Editor}
 use Rattle.mg_editor.specs.Frames.{IsPlaced, ShowsRows, ShowsCursor}
 use Rattle.mg_session.specs.declared.fault.SessionFault.{SessionFault}
 use Rattle.mg_session.specs.declared.fault.SessionFault.TheVariants.{Load, File, Keys, Screen, Memory}
+use Rattle.mg_session.specs.declared.showing.Showing.{Showing}
+
+-- ---- which frames are written
+
+abbrev pub showing_of : Values → Showing
+showing_of v = record { trace = v.trace; newest = v.newest; cursor = v.cursor }
+
+-- one behind a step: each where steps are traced, but of the newest alone that behind which the session ends
+abbrev pub follows_step : Showing → Bool → Bool
+follows_step how ends = if how.newest then how.trace && ends else how.trace
+
+-- one behind a block of keys
+abbrev pub follows_block : Showing → Bool
+follows_block how = how.trace && how.newest
+
+-- ---- a frame
 
 -- the row and the column
 abbrev pub position_text : Position → List ℕ

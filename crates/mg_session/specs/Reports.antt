@@ -9,10 +9,12 @@ use Rattle.mg_session.specs.declared.reports.Progress.TheVariants.{Begun, Whole,
 use Rattle.mg_session.specs.declared.reports.Meaning.{Meaning}
 use Rattle.mg_session.specs.declared.reports.Meaning.TheVariants.{Keys, Size}
 
--- what bytes lead to: a key that is pressed, or rows and columns that the screen takes
+-- what bytes lead to: a key that is pressed, rows and columns that the screen takes, or the end of those that one read
+-- gave
 pub data Event : Type 0 where
   key : ℕ → Event
   size : ℕ → ℕ → Event
+  block_end : Event
 
 -- all as keys
 abbrev pub keys : List ℕ → List Event
@@ -99,9 +101,29 @@ abbrev pub after : Reports → List ℕ → Reports
 after r [] = r
 after r (b ∷ bs) = after (read r b).left bs
 
--- the events of all bytes: what is held at their end is no report
-abbrev pub all_events : Reports → List ℕ → List Event
-all_events r bs = events r bs ++ keys (after r bs).held
+-- ---- blocks of bytes, each of one read
+
+-- the events of a block
+abbrev pub block_events : Reports → List ℕ → List Event
+block_events r block = events r block ++ block_end ∷ []
+
+-- the events of blocks, one after the other, and what they leave held
+abbrev pub read_events : Reports → List (List ℕ) → List Event
+read_events r [] = []
+read_events r (block ∷ rest) = block_events r block ++ read_events (after r block) rest
+
+abbrev pub after_reads : Reports → List (List ℕ) → Reports
+after_reads r [] = r
+after_reads r (block ∷ rest) = after_reads (after r block) rest
+
+-- bytes that are held at the end of all are keys, and a block of their own
+abbrev pub held_events : List ℕ → List Event
+held_events [] = []
+held_events (b ∷ bs) = keys (b ∷ bs) ++ block_end ∷ []
+
+-- the events of all blocks: what is held at their end is no report
+abbrev pub all_events : Reports → List (List ℕ) → List Event
+all_events r blocks = read_events r blocks ++ held_events (after_reads r blocks).held
 
 -- ---- of the code
 

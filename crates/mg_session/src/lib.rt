@@ -13,6 +13,7 @@ mod fault;
 mod keys;
 mod reports;
 mod session;
+mod showing;
 
 pub use fault::SessionFault;
 pub use session::run_keys;

@@ -3,6 +3,7 @@ ghost use Rattle.std.specs.Prelude.{◌≡◌, ◌≢◌, ◌⊎◌, ◌↔◌, 
 ghost use Rattle.rga_lines.specs.Counting.{CountsAs, StaysFlushed, Writes, one_more};
 ghost use Rattle.mg_files.specs.declared.fault.LoadFault.TheVariants.{Memory as NoMemory};
 ghost use Rattle.mg_keys.specs.Begun.{HasBegun};
+ghost use Rattle.mg_session.specs.Display as frames;
 ghost use Rattle.mg_session.specs.Display.{ShowsIf, BeginsIf};
 ghost use Rattle.mg_session.specs.Faults as spec;
 ghost use Rattle.mg_session.specs.Reports as report;
@@ -13,6 +14,7 @@ use crate::display::show;
 use crate::fault::SessionFault;
 use crate::keys::take_key;
 use crate::reports::{Meaning, Reports};
+use crate::showing::{Showing, follows_block, follows_step};
 use mg_editor::Editor;
 use mg_files::Port;
 use mg_screen::{MAX_COLUMNS, MAX_ROWS, MIN_COLUMNS, MIN_ROWS};
@@ -32,10 +34,8 @@ struct Session<S: TextStore> {
     editor: Editor<S>,
     /// What the bytes of the keys mean.
     reports: Reports,
-    /// Whether a frame follows each step.
-    trace: bool,
-    /// Whether a line with the cursor's row and column follows each frame.
-    cursor: bool,
+    /// Which frames are written.
+    showing: Showing,
 }
 
 /// Runs a session: loads what is there under the name of the settings, which is its first call of the
@@ -43,8 +43,11 @@ struct Session<S: TextStore> {
 /// the keys.
 ///
 /// Where steps are traced a frame is written at the start and behind each byte whose step is not
-/// pending; else one at the end. Each row of a frame has a newline behind it. What is written is
-/// flushed before the next read.
+/// pending; else one at the end. Where of those the newest alone are asked for, one is written behind
+/// each block of bytes that a read gave, whatever they are, behind those that were held at the end of
+/// the keys, and behind the byte that ends the session, in place of one behind each step; between two
+/// of them keys do what they do where steps are not traced. Each row of a frame has a newline behind
+/// it. What is written is flushed before the next read.
 ///
 /// Where the settings say that the screen is resizable, `ESC [ 8 ; ROWS ; COLUMNS t` among the keys,
 /// with one to four decimal digits for each number, is no key: the screen takes that size, brought
@@ -104,7 +107,7 @@ fn open<S: TextStore, P: Port>(
     settings: &Settings,
 ) -> Result<Session<S>, SessionFault>
     ensures opened { IfOk result (λ session. running.IsOpened settings.now (P.calls port.old)
-        (P.calls port.new) session.reports session.trace session.cursor session.editor) }
+        (P.calls port.new) session.reports session.showing session.editor) }
     ensures failed { IfErr result
         (running.FailsToOpen settings.now (P.calls port.old) (P.calls port.new)) }
     ensures fault { IfErr result (λ e. (e ≢ Keys) × (e ≢ Screen) × (e ≢ Load NoMemory)) }
@@ -116,8 +119,11 @@ fn open<S: TextStore, P: Port>(
         alloc,
         editor: Editor::new(alloc, settings, found)?,
         reports: Reports::new(values.resizable),
-        trace: values.trace,
-        cursor: values.cursor,
+        showing: Showing {
+            trace: values.trace,
+            newest: values.newest,
+            cursor: values.cursor,
+        },
     })
 }
 
@@ -130,22 +136,22 @@ impl<S: TextStore> Session<S> {
         port: &mut P,
     ) -> Result<(), SessionFault>
         ensures ran { OnOk result (running.Ran R.remaining W.contents self.old.reports
-            self.old.trace self.old.cursor keys.old keys.new (P.calls port.old) (P.calls port.new)
+            self.old.showing keys.old keys.new (P.calls port.old) (P.calls port.new)
             self.old.editor screen.old screen.new) }
         ensures broken { result ≡ Err Keys → running.BrokeOff R.remaining W.contents
-            self.old.reports self.old.trace self.old.cursor keys.old keys.new (P.calls port.old)
+            self.old.reports self.old.showing keys.old keys.new (P.calls port.old)
             (P.calls port.new) self.old.editor screen.old screen.new }
         ensures begun { IfErr result (λ e. e ≢ Keys → running.Stops R.remaining W.contents
-            self.old.reports self.old.trace self.old.cursor e keys.old keys.new
+            self.old.reports self.old.showing e keys.old keys.new
             (P.calls port.old) (P.calls port.new) self.old.editor screen.old screen.new) }
         ensures fault { IfErr result (λ e. ¬ (spec.IsOfLoad e)) }
         ensures keys { CountsAs Keys result keys.old keys.new }
         ensures flushed { StaysFlushed Screen result screen.old screen.new }
         ensures screen { CountsAs Screen result screen.old screen.new }
     {
-        self.show_if(self.trace, screen)?;
+        self.show_if(self.showing.trace, screen)?;
         self.take_blocks(keys, screen, port)?;
-        self.show_if(!self.trace, screen)
+        self.show_if(!self.showing.trace, screen)
     }
 
     /// Writes a frame, where one is asked for.
@@ -155,30 +161,31 @@ impl<S: TextStore> Session<S> {
         screen: &mut Counted<W>,
     ) -> Result<(), SessionFault>
         ensures shown { OnOk result ((text : List ℕ)
-            × ShowsIf is_asked self.old.cursor self.old.editor self.new.editor text
+            × ShowsIf is_asked self.old.showing.cursor self.old.editor self.new.editor text
             × Writes W.contents screen.old screen.new text) }
         ensures begun { IfErr result (λ e. (part : List ℕ)
-            × BeginsIf is_asked e self.old.cursor self.old.editor part
+            × BeginsIf is_asked e self.old.showing.cursor self.old.editor part
             × Writes W.contents screen.old screen.new part) }
-        ensures kept { (self.new.trace ≡ self.old.trace) × (self.new.cursor ≡ self.old.cursor) }
+        ensures kept { self.new.showing ≡ self.old.showing }
         ensures reports { self.new.reports ≡ self.old.reports }
         ensures fault { IfErr result (λ e. (e ≡ Screen) ⊎ (e ≡ Memory)) }
         ensures flushed { StaysFlushed Screen result screen.old screen.new }
         ensures device { CountsAs Screen result screen.old screen.new }
     {
         if is_asked {
-            return show(self.alloc, &mut self.editor, self.cursor, screen);
+            return show(self.alloc, &mut self.editor, self.showing.cursor, screen);
         }
         Ok(())
     }
 
-    /// Whether a frame follows the last byte that was pressed.
-    fn is_traced(&self) -> bool
+    /// Whether a frame follows the last byte that was pressed, behind which the session ends or goes
+    /// on.
+    fn is_traced(&self, ends: bool) -> bool
         ensures { (amid : Bool) × ((amid ≡ false) ↔ HasBegun self.now.editor.talk.keys [])
-            × (result ≡ (self.now.trace && not amid)) }
+            × (result ≡ (frames.follows_step self.now.showing ends && not amid)) }
     {
         let is_amid = self.editor.is_amid_keys();
-        self.trace && !is_amid
+        follows_step(self.showing, ends) && !is_amid
     }
 
     /// Presses a key, and answers whether the session ends.
@@ -189,19 +196,19 @@ impl<S: TextStore> Session<S> {
         port: &mut P,
     ) -> Result<bool, SessionFault>
         ensures taken { IfOk result (λ ends. running.TakesOnto W.contents
-            self.old.trace self.old.cursor (report.key key ∷ []) (P.calls port.old)
+            self.old.showing (report.key key ∷ []) (P.calls port.old)
             (P.calls port.new) self.old.editor self.new.editor ends screen.old screen.new) }
         ensures begun { IfErr result (λ e. running.StopsOnto W.contents
-            self.old.trace self.old.cursor e (report.key key ∷ []) (P.calls port.old)
+            self.old.showing e (report.key key ∷ []) (P.calls port.old)
             (P.calls port.new) self.old.editor screen.old screen.new) }
-        ensures kept { (self.new.trace ≡ self.old.trace) × (self.new.cursor ≡ self.old.cursor) }
+        ensures kept { self.new.showing ≡ self.old.showing }
         ensures reports { self.new.reports ≡ self.old.reports }
         ensures fault { IfErr result (λ e. (e ≡ Screen) ⊎ (e ≡ Memory)) }
         ensures flushed { StaysFlushed Screen result screen.old screen.new }
         ensures device { CountsAs Screen result screen.old screen.new }
     {
         let ends = take_key(&mut self.editor, key, port);
-        self.show_if(self.is_traced(), screen)?;
+        self.show_if(self.is_traced(ends), screen)?;
         Ok(ends)
     }
 
@@ -213,12 +220,12 @@ impl<S: TextStore> Session<S> {
         port: &mut P,
     ) -> Result<bool, SessionFault>
         ensures taken { IfOk result (λ quits. running.TakesOnto W.contents
-            self.old.trace self.old.cursor (report.keys keys.now) (P.calls port.old)
+            self.old.showing (report.keys keys.now) (P.calls port.old)
             (P.calls port.new) self.old.editor self.new.editor quits screen.old screen.new) }
         ensures begun { IfErr result (λ e. running.StopsOnto W.contents
-            self.old.trace self.old.cursor e (report.keys keys.now) (P.calls port.old)
+            self.old.showing e (report.keys keys.now) (P.calls port.old)
             (P.calls port.new) self.old.editor screen.old screen.new) }
-        ensures kept { (self.new.trace ≡ self.old.trace) × (self.new.cursor ≡ self.old.cursor) }
+        ensures kept { self.new.showing ≡ self.old.showing }
         ensures reports { self.new.reports ≡ self.old.reports }
         ensures fault { IfErr result (λ e. (e ≡ Screen) ⊎ (e ≡ Memory)) }
         ensures flushed { StaysFlushed Screen result screen.old screen.new }
@@ -241,12 +248,12 @@ impl<S: TextStore> Session<S> {
         screen: &mut Counted<W>,
     ) -> Result<(), SessionFault>
         ensures taken { (calls : running.Told) → OnOk result (running.TakesOnto W.contents
-            self.old.trace self.old.cursor (report.size rows columns ∷ []) calls calls
+            self.old.showing (report.size rows columns ∷ []) calls calls
             self.old.editor self.new.editor false screen.old screen.new) }
         ensures begun { (calls : running.Told) → IfErr result (λ e. running.StopsOnto W.contents
-            self.old.trace self.old.cursor e (report.size rows columns ∷ []) calls calls
+            self.old.showing e (report.size rows columns ∷ []) calls calls
             self.old.editor screen.old screen.new) }
-        ensures kept { (self.new.trace ≡ self.old.trace) × (self.new.cursor ≡ self.old.cursor) }
+        ensures kept { self.new.showing ≡ self.old.showing }
         ensures reports { self.new.reports ≡ self.old.reports }
         ensures fault { IfErr result (λ e. (e ≡ Screen) ⊎ (e ≡ Memory)) }
         ensures flushed { StaysFlushed Screen result screen.old screen.new }
@@ -256,7 +263,24 @@ impl<S: TextStore> Session<S> {
             rows.max(MIN_ROWS).min(MAX_ROWS),
             columns.max(MIN_COLUMNS).min(MAX_COLUMNS),
         );
-        self.show_if(self.trace, screen)
+        self.show_if(follows_step(self.showing, false), screen)
+    }
+
+    /// A block of keys ended.
+    fn end_block<W: Write>(&mut self, screen: &mut Counted<W>) -> Result<(), SessionFault>
+        ensures taken { (calls : running.Told) → OnOk result (running.TakesOnto W.contents
+            self.old.showing (report.block_end ∷ []) calls calls
+            self.old.editor self.new.editor false screen.old screen.new) }
+        ensures begun { (calls : running.Told) → IfErr result (λ e. running.StopsOnto W.contents
+            self.old.showing e (report.block_end ∷ []) calls calls
+            self.old.editor screen.old screen.new) }
+        ensures kept { self.new.showing ≡ self.old.showing }
+        ensures reports { self.new.reports ≡ self.old.reports }
+        ensures fault { IfErr result (λ e. (e ≡ Screen) ⊎ (e ≡ Memory)) }
+        ensures flushed { StaysFlushed Screen result screen.old screen.new }
+        ensures device { CountsAs Screen result screen.old screen.new }
+    {
+        self.show_if(follows_block(self.showing), screen)
     }
 
     /// Takes what a byte leads to, and answers whether the session ends.
@@ -268,14 +292,14 @@ impl<S: TextStore> Session<S> {
     ) -> Result<bool, SessionFault>
         ensures taken { let read = report.read self.old.reports byte in
             IfOk result (λ quits. running.TakesOnto W.contents
-            self.old.trace self.old.cursor read.events (P.calls port.old) (P.calls port.new)
+            self.old.showing read.events (P.calls port.old) (P.calls port.new)
             self.old.editor self.new.editor quits screen.old screen.new) }
         ensures begun { let read = report.read self.old.reports byte in
             IfErr result (λ e. running.StopsOnto W.contents
-            self.old.trace self.old.cursor e read.events (P.calls port.old) (P.calls port.new)
+            self.old.showing e read.events (P.calls port.old) (P.calls port.new)
             self.old.editor screen.old screen.new) }
         ensures left { self.new.reports ≡ (report.read self.old.reports byte).left }
-        ensures kept { (self.new.trace ≡ self.old.trace) × (self.new.cursor ≡ self.old.cursor) }
+        ensures kept { self.new.showing ≡ self.old.showing }
         ensures fault { IfErr result (λ e. (e ≡ Screen) ⊎ (e ≡ Memory)) }
         ensures flushed { StaysFlushed Screen result screen.old screen.new }
         ensures device { CountsAs Screen result screen.old screen.new }
@@ -297,15 +321,15 @@ impl<S: TextStore> Session<S> {
         port: &mut P,
     ) -> Result<bool, SessionFault>
         ensures taken { IfOk result (λ quits. running.TakesOnto W.contents
-            self.old.trace self.old.cursor (report.events self.old.reports bytes.now)
+            self.old.showing (report.events self.old.reports bytes.now)
             (P.calls port.old) (P.calls port.new)
             self.old.editor self.new.editor quits screen.old screen.new) }
         ensures begun { IfErr result (λ e. running.StopsOnto W.contents
-            self.old.trace self.old.cursor e (report.events self.old.reports bytes.now)
+            self.old.showing e (report.events self.old.reports bytes.now)
             (P.calls port.old) (P.calls port.new) self.old.editor screen.old screen.new) }
         ensures left { IfOk result (λ quits. quits ≡ false →
             self.new.reports ≡ report.after self.old.reports bytes.now) }
-        ensures kept { (self.new.trace ≡ self.old.trace) × (self.new.cursor ≡ self.old.cursor) }
+        ensures kept { self.new.showing ≡ self.old.showing }
         ensures fault { IfErr result (λ e. (e ≡ Screen) ⊎ (e ≡ Memory)) }
         ensures flushed { StaysFlushed Screen result screen.old screen.new }
         ensures device { CountsAs Screen result screen.old screen.new }
@@ -319,6 +343,66 @@ impl<S: TextStore> Session<S> {
         Ok(false)
     }
 
+    /// Takes what the bytes of a read lead to, up to a key that quits, and answers whether there is
+    /// one.
+    fn take_block<W: Write, P: Port>(
+        &mut self,
+        block: &[u8],
+        screen: &mut Counted<W>,
+        port: &mut P,
+    ) -> Result<bool, SessionFault>
+        ensures taken { IfOk result (λ quits. running.TakesOnto W.contents
+            self.old.showing (report.block_events self.old.reports block.now)
+            (P.calls port.old) (P.calls port.new)
+            self.old.editor self.new.editor quits screen.old screen.new) }
+        ensures begun { IfErr result (λ e. running.StopsOnto W.contents
+            self.old.showing e (report.block_events self.old.reports block.now)
+            (P.calls port.old) (P.calls port.new) self.old.editor screen.old screen.new) }
+        ensures left { IfOk result (λ quits. quits ≡ false →
+            self.new.reports ≡ report.after self.old.reports block.now) }
+        ensures kept { self.new.showing ≡ self.old.showing }
+        ensures fault { IfErr result (λ e. (e ≡ Screen) ⊎ (e ≡ Memory)) }
+        ensures flushed { StaysFlushed Screen result screen.old screen.new }
+        ensures device { CountsAs Screen result screen.old screen.new }
+    {
+        let ends = self.take_all(block, screen, port)?;
+        if ends {
+            return Ok(true);
+        }
+        self.end_block(screen)?;
+        Ok(false)
+    }
+
+    /// Presses the bytes that are held at the end of all keys, up to one that quits, and answers
+    /// whether there is one.
+    fn press_held<W: Write, P: Port>(
+        &mut self,
+        held: &[u8],
+        screen: &mut Counted<W>,
+        port: &mut P,
+    ) -> Result<bool, SessionFault>
+        ensures taken { IfOk result (λ quits. running.TakesOnto W.contents
+            self.old.showing (report.held_events held.now) (P.calls port.old)
+            (P.calls port.new) self.old.editor self.new.editor quits screen.old screen.new) }
+        ensures begun { IfErr result (λ e. running.StopsOnto W.contents
+            self.old.showing e (report.held_events held.now) (P.calls port.old)
+            (P.calls port.new) self.old.editor screen.old screen.new) }
+        ensures kept { self.new.showing ≡ self.old.showing }
+        ensures fault { IfErr result (λ e. (e ≡ Screen) ⊎ (e ≡ Memory)) }
+        ensures flushed { StaysFlushed Screen result screen.old screen.new }
+        ensures device { CountsAs Screen result screen.old screen.new }
+    {
+        if held.is_empty() {
+            return Ok(false);
+        }
+        let ends = self.press_all(held, screen, port)?;
+        if ends {
+            return Ok(true);
+        }
+        self.end_block(screen)?;
+        Ok(false)
+    }
+
     /// Takes what the keys mean, block by block, up to one that quits. At their end the bytes that
     /// are held are pressed.
     fn take_blocks<R: Read, W: Write, P: Port>(
@@ -328,18 +412,18 @@ impl<S: TextStore> Session<S> {
         port: &mut P,
     ) -> Result<(), SessionFault>
         ensures taken { OnOk result (running.TakesKeys (report.all_events self.old.reports)
-            R.remaining W.contents self.old.trace self.old.cursor keys.old keys.new
+            R.remaining W.contents self.old.showing keys.old keys.new
             (P.calls port.old) (P.calls port.new) self.old.editor self.new.editor
             screen.old screen.new) }
-        ensures broken { result ≡ Err Keys → running.TakesRead (report.events self.old.reports)
-            R.remaining W.contents self.old.trace self.old.cursor keys.old keys.new
+        ensures broken { result ≡ Err Keys → running.TakesRead (report.read_events self.old.reports)
+            R.remaining W.contents self.old.showing keys.old keys.new
             (P.calls port.old) (P.calls port.new) self.old.editor self.new.editor false
             screen.old screen.new }
         ensures begun { IfErr result (λ e. e ≢ Keys → running.StopsRead
-            (report.all_events self.old.reports) R.remaining W.contents self.old.trace
-            self.old.cursor e keys.old keys.new (P.calls port.old) (P.calls port.new)
+            (report.all_events self.old.reports) R.remaining W.contents self.old.showing
+            e keys.old keys.new (P.calls port.old) (P.calls port.new)
             self.old.editor screen.old screen.new) }
-        ensures kept { (self.new.trace ≡ self.old.trace) × (self.new.cursor ≡ self.old.cursor) }
+        ensures kept { self.new.showing ≡ self.old.showing }
         ensures fault { IfErr result (λ e. (e ≡ Keys) ⊎ (e ≡ Screen) ⊎ (e ≡ Memory)) }
         ensures keys { CountsAs Keys result keys.old keys.new }
         ensures flushed { StaysFlushed Screen result screen.old screen.new }
@@ -352,10 +436,10 @@ impl<S: TextStore> Session<S> {
             };
             if count == 0 {
                 let held = self.reports.take_held();
-                self.press_all(held.as_slice(), screen, port)?;
+                self.press_held(held.as_slice(), screen, port)?;
                 return Ok(());
             }
-            if self.take_all(&block[..count], screen, port)? {
+            if self.take_block(&block[..count], screen, port)? {
                 return Ok(());
             }
         }

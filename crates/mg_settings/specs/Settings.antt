@@ -13,6 +13,7 @@ pub record Values : Type 0 where
   pub fill : ℕ
   pub port : Option ℕ
   pub trace : Bool
+  pub newest : Bool
   pub cursor : Bool
   pub resizable : Bool
   pub limit : ℕ

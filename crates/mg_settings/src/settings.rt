@@ -26,6 +26,8 @@ pub struct Values {
     pub port: Option<u16>,
     /// Whether a frame follows each step.
     pub trace: bool,
+    /// Whether of the steps that one read of the keys leads to the last alone is followed by one.
+    pub newest: bool,
     /// Whether the row and the column of the cursor follow each frame.
     pub cursor: bool,
     /// Whether the screen follows the reports of its size among the keys.
@@ -48,6 +50,7 @@ impl Model for Values {
       fill = v.fill;
       port = v.port;
       trace = v.trace;
+      newest = v.newest;
       cursor = v.cursor;
       resizable = v.resizable;
       limit = v.limit;

@@ -34,7 +34,9 @@ abbrev pub number_rules : App → App
 number_rules app = with_rule (with_rule app (with_default (codes "70") (number (codes "fill") 1 9999))) (number (codes "port") 1 65535)
 
 abbrev pub flag_rules : App → App
-flag_rules app = with_rule (with_rule (with_rule app (flag (codes "trace"))) (flag (codes "cursor"))) (flag (codes "resizable"))
+flag_rules app =
+    let traced = with_rule (with_rule app (flag (codes "trace"))) (flag (codes "newest")) in
+    with_rule (with_rule traced (flag (codes "cursor"))) (flag (codes "resizable"))
 
 abbrev pub edit_app : App
 edit_app =
@@ -69,6 +71,7 @@ pub record GivesOptions (rows : List Row) (v : Values) : Type 0 where
   pub fill : GivesNumber rows (codes "fill") v.fill
   pub port : GivesNumberIf rows (codes "port") v.port
   pub trace : GivesFlag rows (codes "trace") v.trace
+  pub newest : GivesFlag rows (codes "newest") v.newest
   pub cursor : GivesFlag rows (codes "cursor") v.cursor
   pub resizable : GivesFlag rows (codes "resizable") v.resizable
   pub limit : v.limit ≡ MAX_LIMIT

@@ -116,6 +116,10 @@ fn with_flags<'a>(alloc: Global, command: Command<'a>) -> Result<Command<'a>, Al
     ensures plain { IfOk result (λ c. (fields_of c).has_globals ≡ false) }
 {
     let trace = described(flag(alloc, "trace"), "Write a frame behind each step");
+    let newest = described(
+        flag(alloc, "newest"),
+        "With --trace, write one behind all keys that are at hand",
+    );
     let cursor = described(
         flag(alloc, "cursor"),
         "Write the cursor's row and column behind each frame",
@@ -124,7 +128,10 @@ fn with_flags<'a>(alloc: Global, command: Command<'a>) -> Result<Command<'a>, Al
         flag(alloc, "resizable"),
         "Take reports of the screen's size among the keys",
     );
-    with(with(with(command, trace)?, cursor)?, resizable)
+    with(
+        with(with(with(command, trace)?, newest)?, cursor)?,
+        resizable,
+    )
 }
 
 /// `edit`, with the words of its help.

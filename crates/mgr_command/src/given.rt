@@ -55,6 +55,7 @@ fn values_of(name: String, found: &ArgMatches<'_>) -> Option<Values>
         fill: number(found, "fill")?,
         port: number(found, "port"),
         trace: found.get_flag("trace"),
+        newest: found.get_flag("newest"),
         cursor: found.get_flag("cursor"),
         resizable: found.get_flag("resizable"),
         limit: MAX_LIMIT,

@@ -18,6 +18,7 @@ fn values(alloc: Global, trace: bool) -> Result<Values, AllocError> {
         port: None,
         trace,
         cursor: false,
+        newest: false,
         resizable: false,
         limit: 1000,
     })

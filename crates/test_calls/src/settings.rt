@@ -13,6 +13,7 @@ fn values(alloc: Global, name: &str) -> Result<Values, AllocError> {
         port: None,
         trace: false,
         cursor: false,
+        newest: false,
         resizable: false,
         limit: 1000,
     })

@@ -12,7 +12,6 @@ returns-clause-opened g c =
       load = subst (λ (n : List ℕ). IsFound (record c.args.settings.now { name = n }) c.in_ok-found.found (g.P.Port.calls c.args.port.now) (g.P.Port.calls c.load.new.self)) name c.in_ok-found.ensures.tells;
       opens = search rules;
       reported = search rules;
-      traced = search rules;
       shown = search rules;
     }
 

@@ -39,7 +39,8 @@ returns-clause-options c =
       fill = subst (GivesNumberIf found (codes "fill")) fill c.number-4.ensures;
       port = c.number-5.ensures;
       trace = flag_read (found_of c.args.found.now) (codes "trace") _ c.get_flag.ensures.none c.get_flag.ensures.value c.get_flag.ensures.other;
-      cursor = flag_read (found_of c.args.found.now) (codes "cursor") _ c.get_flag-2.ensures.none c.get_flag-2.ensures.value c.get_flag-2.ensures.other;
-      resizable = flag_read (found_of c.args.found.now) (codes "resizable") _ c.get_flag-3.ensures.none c.get_flag-3.ensures.value c.get_flag-3.ensures.other;
+      newest = flag_read (found_of c.args.found.now) (codes "newest") _ c.get_flag-2.ensures.none c.get_flag-2.ensures.value c.get_flag-2.ensures.other;
+      cursor = flag_read (found_of c.args.found.now) (codes "cursor") _ c.get_flag-3.ensures.none c.get_flag-3.ensures.value c.get_flag-3.ensures.other;
+      resizable = flag_read (found_of c.args.found.now) (codes "resizable") _ c.get_flag-4.ensures.none c.get_flag-4.ensures.value c.get_flag-4.ensures.other;
       limit = refl;
     }

@@ -12,16 +12,15 @@ returns-in_err-take_blocks-clause-broken g c = λ keys.
     let broken = rw c.in_ok-show_if.ensures.reports at here in
     record {
       ended = c.take_blocks.new.self.editor;
-      began = began_by _ _ _ c.in_ok-show_if.ensures.kept.0 c.in_ok-show_if.ensures.kept.1 _ _ _ _ _ _ _ _ _ _ _ c.in_ok-show_if.ensures.shown broken;
+      began = began_by _ _ c.in_ok-show_if.ensures.kept _ _ _ _ _ _ _ _ _ _ _ c.in_ok-show_if.ensures.shown broken;
     }
 
 pub returns-clause-ran : goal.returns-clause-ran
 returns-clause-ran g c =
     let taken = rw c.in_ok-show_if.ensures.reports at c.in_ok-take_blocks.ensures.taken in
-    let began = began_by _ _ _ c.in_ok-show_if.ensures.kept.0 c.in_ok-show_if.ensures.kept.1 _ _ _ _ _ _ _ _ _ _ _ c.in_ok-show_if.ensures.shown taken.taken in
-    let trace = c.in_ok-take_blocks.ensures.kept.0 ∙ c.in_ok-show_if.ensures.kept.0 in
-    let cursor = c.in_ok-take_blocks.ensures.kept.1 ∙ c.in_ok-show_if.ensures.kept.1 in
-    on_ok_map c.show_if-2.result _ _ (λ shown. ran_by c.args.self.now.reports _ _ trace cursor _ _ _ _ _ _ _ _ _ _ _ began taken.whole shown) c.show_if-2.ensures.shown
+    let began = began_by _ _ c.in_ok-show_if.ensures.kept _ _ _ _ _ _ _ _ _ _ _ c.in_ok-show_if.ensures.shown taken.taken in
+    let showing = c.in_ok-take_blocks.ensures.kept ∙ c.in_ok-show_if.ensures.kept in
+    on_ok_map c.show_if-2.result _ _ (λ shown. ran_by c.args.self.now.reports _ showing _ _ _ _ _ _ _ _ _ _ _ began taken.reads taken.whole shown) c.show_if-2.ensures.shown
 
 pub returns-in_err-show_if-clause-begun : goal.returns-in_err-show_if-clause-begun
 returns-in_err-show_if-clause-begun g c =
@@ -32,12 +31,11 @@ pub returns-in_err-take_blocks-clause-begun : goal.returns-in_err-take_blocks-cl
 returns-in_err-take_blocks-clause-begun g c =
     let p = err_from_is_err_and c.from_residual-in_err-take_blocks.result c.from_residual-in_err-take_blocks.ensures.1 in
     let stopped = rw c.in_ok-show_if.ensures.reports at c.in_err-take_blocks.ensures.begun in
-    rw (p.1, p.2) (λ other. event_stops c.args.self.now.reports _ _ c.in_ok-show_if.ensures.kept.0 c.in_ok-show_if.ensures.kept.1 _ _ _ _ _ _ _ _ _ c.in_ok-show_if.ensures.shown (stopped other))
+    rw (p.1, p.2) (λ other. event_stops c.args.self.now.reports _ c.in_ok-show_if.ensures.kept _ _ _ _ _ _ _ _ _ c.in_ok-show_if.ensures.shown (stopped other))
 
 pub returns-clause-begun : goal.returns-clause-begun
 returns-clause-begun g c =
     let taken = rw c.in_ok-show_if.ensures.reports at c.in_ok-take_blocks.ensures.taken in
-    let began = began_by _ _ _ c.in_ok-show_if.ensures.kept.0 c.in_ok-show_if.ensures.kept.1 _ _ _ _ _ _ _ _ _ _ _ c.in_ok-show_if.ensures.shown taken.taken in
-    let trace = c.in_ok-take_blocks.ensures.kept.0 ∙ c.in_ok-show_if.ensures.kept.0 in
-    let cursor = c.in_ok-take_blocks.ensures.kept.1 ∙ c.in_ok-show_if.ensures.kept.1 in
-    if_err_map c.show_if-2.result _ _ (λ e part _. end_stops c.args.self.now.reports _ _ trace cursor _ _ _ _ _ _ _ _ _ _ began taken.whole part) c.show_if-2.ensures.begun
+    let began = began_by _ _ c.in_ok-show_if.ensures.kept _ _ _ _ _ _ _ _ _ _ _ c.in_ok-show_if.ensures.shown taken.taken in
+    let showing = c.in_ok-take_blocks.ensures.kept ∙ c.in_ok-show_if.ensures.kept in
+    if_err_map c.show_if-2.result _ _ (λ e part _. end_stops c.args.self.now.reports _ showing _ _ _ _ _ _ _ _ _ _ began taken.reads taken.whole part) c.show_if-2.ensures.begun

@@ -4,9 +4,8 @@ use Rattle.mg_session.proofs.session.Session.take_blocks.Given as goal
 
 abbrev pub invariant-reads : goal.invariant-reads
 invariant-reads g l = record {
-  taken : ReadsOn g.R.Read.remaining g.W.Write.contents l.fn.self.trace l.fn.self.cursor l.fn.self.reports l.self.reports l.fn.keys l.keys (g.P.Port.calls l.fn.port) (g.P.Port.calls l.port) l.fn.self.editor l.self.editor l.fn.screen l.screen;
-  trace : l.self.trace ≡ l.fn.self.trace;
-  cursor : l.self.cursor ≡ l.fn.self.cursor;
+  taken : ReadsOn g.R.Read.remaining g.W.Write.contents l.fn.self.showing l.fn.self.reports l.self.reports l.fn.keys l.keys (g.P.Port.calls l.fn.port) (g.P.Port.calls l.port) l.fn.self.editor l.self.editor l.fn.screen l.screen;
+  showing : l.self.showing ≡ l.fn.self.showing;
   keys : l.keys.failures ≡ l.fn.keys.failures;
   screen : l.screen.failures ≡ l.fn.screen.failures;
   flushed : l.fn.screen.flushed ≡ true → l.screen.flushed ≡ true;
