@@ -2,7 +2,7 @@
 """Measures compaction: what `mgr compact` makes of logs, and what it and the reading cost.
 
 Prints a row for each log: its operations; its bytes and those of the compacted log, and how many times fewer
-these are; the microseconds that an operation takes in `mgr show` of the log, in `mgr compact`, and in `mgr show`
+these are, without `--dels` and with it; the microseconds that an operation takes in `mgr show` of the log, in `mgr compact`, and in `mgr show`
 of what that wrote; and both over the first. Times are of user and system together, the least of three. That
 text and size are right is tested first: `mgr show` has to write the same of both.
 """
@@ -40,16 +40,16 @@ def shown(log):
     return min(seconds_of([MGR, "show"], log) for _ in range(MEASUREMENTS))
 
 
-def compacted(log):
+def compacted(log, *switches):
     """Compacts a copy of the log some times, and returns the least time; the last copy stays."""
-    return min(compacted_once(log) for _ in range(MEASUREMENTS))
+    return min(compacted_once(log, *switches) for _ in range(MEASUREMENTS))
 
 
-def compacted_once(log):
+def compacted_once(log, *switches):
     shutil.rmtree(FOLDER, ignore_errors=True)
     FOLDER.mkdir(parents=True)
     shutil.copyfile(log, NOTE)
-    return seconds_of([MGR, "compact", "note"])
+    return seconds_of([MGR, "compact", *switches, "note"])
 
 
 def text_of(log):
@@ -58,19 +58,24 @@ def text_of(log):
 
 
 def main():
-    print("                                   bytes of:           fewer     us/op of:                   over show:")
-    print("log        operations         log   compacted      times    show  compact    again   compact    again")
+    print("                                          bytes of:           fewer     us/op of:                   over show:")
+    print("log               operations         log   compacted      times    show  compact    again   compact    again")
     for shape, count in ROWS:
         log = generated(shape, count)
-        times = [compacted(log)]
-        if text_of(log) != text_of(NOTE):
-            sys.exit(f"{log} and {NOTE} differ in their texts")
-        times = [shown(log), *times, shown(NOTE)]
-        sizes = os.path.getsize(log), os.path.getsize(NOTE)
-        each = " ".join(f"{seconds * 1e6 / count:>8.2f}" for seconds in times)
-        ratios = " ".join(f"{seconds / times[0]:>8.2f}" for seconds in times[1:])
-        bytes_ = f"{sizes[0]:>11,} {sizes[1]:>11,} {sizes[0] / sizes[1]:>10.1f}"
-        print(f"{shape:<8} {count:>12,} {bytes_} {each} {ratios}", flush=True)
+        for switches in ((), ("--dels",)):
+            print_row(shape, count, log, switches)
+
+
+def print_row(shape, count, log, switches):
+    times = [compacted(log, *switches)]
+    if text_of(log) != text_of(NOTE):
+        sys.exit(f"{log} and {NOTE} differ in their texts")
+    times = [shown(log), *times, shown(NOTE)]
+    sizes = os.path.getsize(log), os.path.getsize(NOTE)
+    each = " ".join(f"{seconds * 1e6 / count:>8.2f}" for seconds in times)
+    ratios = " ".join(f"{seconds / times[0]:>8.2f}" for seconds in times[1:])
+    bytes_ = f"{sizes[0]:>11,} {sizes[1]:>11,} {sizes[0] / sizes[1]:>10.1f}"
+    print(f"{' '.join([shape, *switches]):<15} {count:>12,} {bytes_} {each} {ratios}", flush=True)
 
 
 if __name__ == "__main__":

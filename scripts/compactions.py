@@ -6,7 +6,7 @@ with counters left out, of elements that wait for a parent and of some that neve
 a run may be; deletions, also of what is not there yet; lines that stand twice; in any order. Behind
 `mgr compact` the log has to be the lines that its operations have by the rule, byte for byte: runs by rising
 identifier, then deletions; what it replaced has to be kept beside it; and `mgr show` and a frame of `mgr edit`
-have to be as before. Of each tenth log, besides: a session has to send the same bytes as before, and a note
+have to be as before. So it has to be behind `mgr compact --dels` then, with deletions in a row as runs. Of each tenth log, besides: a session has to send the same bytes as before, and a note
 with nothing that hears the compacted lines from a peer has to save each operation of the log once.
 `make hostile` calls it. It ends with an error where one is not so.
 """
@@ -84,7 +84,8 @@ class Notes:
         known = sorted(self.inserted) or [(1, 1)]
         for _ in range(self.random.randint(1, 6)):
             counter, replica = self.random.choice(known)
-            self.delete((min(GREATEST, counter + self.random.choice((0, 0, 0, 1))), replica))
+            for further in range(self.random.choice((1, 1, 2, 5))):
+                self.delete((min(GREATEST, counter + further + self.random.choice((0, 0, 0, 1))), replica))
 
     def insert(self, element, parent):
         sign = self.random.choice(SIGNS)
@@ -110,6 +111,18 @@ class Notes:
                 runs.append(run([self.inserted[it] for it in elements], element))
         return runs + [deletion(element) for element in sorted(self.deleted)]
 
+    def compacted_with_dels(self):
+        """Returns the lines by the rule, where deletions are in runs too."""
+        runs = []
+        for element in sorted(self.deleted):
+            first, count = runs[-1] if runs else ((0, 0), 0)
+            if count < MOST and element == (first[0] + count, first[1]):
+                runs[-1] = first, count + 1
+            else:
+                runs.append((element, 1))
+        insertions = self.compacted()[: -len(self.deleted) or None]
+        return insertions + [deletions(first, count) for first, count in runs]
+
     def run_from(self, element):
         elements = [element]
         while len(elements) < MOST:
@@ -131,6 +144,12 @@ def insertion(element, parent, sign):
 
 def deletion(element):
     return f'{{"id":[{element[0]},{element[1]}],"op":"del"}}\n'
+
+
+def deletions(element, count):
+    if count == 1:
+        return deletion(element)
+    return f'{{"count":{count},"id":[{element[0]},{element[1]}],"op":"dels"}}\n'
 
 
 def run(insertions, element):
@@ -191,20 +210,31 @@ def exchanged(mgr, folder, said):
 NOTHING = b'{"count":0,"op":"end"}\n'
 
 
+def compacted(mgr, folder, lines, before, *switches):
+    """Returns what the log is compacted to, which has to be these lines."""
+    log = folder / "note.ops"
+    old = log.read_bytes()
+    ran(folder, mgr, "compact", *switches, "note")
+    new, wanted = log.read_bytes(), "".join(lines).encode()
+    if new != wanted:
+        raise Unexpected(f"the log is {new[:300]!r}, and not {wanted[:300]!r}")
+    kept = folder / "note.ops~"
+    if kept.read_bytes() != old:
+        raise Unexpected("what was replaced is not kept")
+    kept.unlink()
+    if seen(mgr, folder, new) != before:
+        raise Unexpected("text or frame is not as before")
+    return new
+
+
 def tried(mgr, folder, notes, thoroughly):
     old = "".join(notes.lines).encode()
     log = folder / "note.ops"
     log.write_bytes(old)
     before = seen(mgr, folder, old)
     sent = exchanged(mgr, folder, NOTHING) if thoroughly else None
-    ran(folder, mgr, "compact", "note")
-    new, wanted = log.read_bytes(), "".join(notes.compacted()).encode()
-    if new != wanted:
-        raise Unexpected(f"the log is {new[:300]!r}, and not {wanted[:300]!r}")
-    if (folder / "note.ops~").read_bytes() != old:
-        raise Unexpected("what was replaced is not kept")
-    if seen(mgr, folder, new) != before:
-        raise Unexpected("text or frame is not as before")
+    compacted(mgr, folder, notes.compacted(), before)
+    new = compacted(mgr, folder, notes.compacted_with_dels(), before, "--dels")
     if thoroughly:
         if exchanged(mgr, folder, NOTHING) != sent:
             raise Unexpected("what is sent is not as before")

@@ -21,7 +21,7 @@ use Rattle.clap.specs.declared.error.kind.ErrorKind.TheVariants as kind
 use Rattle.clap.proofs.FaultLemmas.{stopped_fault}
 use Rattle.clap.proofs.WalkLemmas.{walk_stopped}
 use Rattle.clap.proofs.OnLiterals.{clap_on_literals}
-use Rattle.mgr_command.specs.Job.{FindsName, FindsSettings, IsChosen, IsFaultBehind, IsFaultOf, IsFaultOfKind, IsJobOf, IsNotChosen, kinds_behind}
+use Rattle.mgr_command.specs.Job.{FindsCompaction, FindsSettings, IsChosen, IsFaultBehind, IsFaultOf, IsFaultOfKind, IsJobOf, IsNotChosen, kinds_behind}
 use Rattle.mgr_command.specs.declared.job.Job.{Job}
 use Rattle.mgr_command.specs.declared.job.Job.TheVariants.{Show, Edit, Compact}
 use Rattle.mgr_command.specs.declared.job.JobFault.{JobFault}
@@ -518,7 +518,7 @@ fault_of_kind : (on : Topic) (wish : Wish) (k : ErrorKind) (fault : JobFault) �
 fault_of_kind on wish k Memory of is = memory_of wish
 fault_of_kind on showing k fault of is = absurd of
 fault_of_kind on (editing words) k fault of is = fault_behind on topic.Edit (kinds_behind (codes "edit") words) (FindsSettings words None) k fault of.0 of.1 is
-fault_of_kind on (compacting words) k fault of is = fault_behind on topic.Compact (kinds_behind (codes "compact") words) (FindsName words None) k fault of.0 of.1 is
+fault_of_kind on (compacting words) k fault of is = fault_behind on topic.Compact (kinds_behind (codes "compact") words) (FindsCompaction words None) k fault of.0 of.1 is
 fault_of_kind on (help asked) k (Help t text) of is = ap help (of.0 ∙ sym is.1)
 fault_of_kind on (help asked) k (Version text) of is = absurd (let clash : kind.DisplayHelp ≡ kind.DisplayVersion = sym of.1 ∙ is in cc)
 fault_of_kind on (help asked) k (Usage text) of is = absurd (is.0 of.1)

@@ -1,5 +1,5 @@
 -- What `job_of` answers.
-use Rattle.std.specs.Prelude.{◌≡◌, ◌≢◌, ◌⊎◌, ℕ, List, [], ◌∷◌, codes, Option, Some, None, option_map, string_bytes}
+use Rattle.std.specs.Prelude.{◌≡◌, ◌≢◌, ◌⊎◌, ℕ, List, [], ◌∷◌, codes, Option, Some, None, option_map}
 use Rattle.clap.specs.Faults.{fault_of}
 use Rattle.clap.specs.Kinds.{IsAmong, Kinds}
 use Rattle.clap.specs.Simple.{subcommand_of, subcommand_rows_of}
@@ -10,8 +10,9 @@ use Rattle.clap.specs.declared.error.kind.ErrorKind.TheVariants.{DisplayHelp, Di
 use Rattle.clap.specs.declared.error.kind.ErrorKind.TheVariants.{OutOfMemory}
 use Rattle.mgr_command.specs.CommandLine.{Text, Wish, command_line, compacting, editing, help, mistake, showing, version}
 use Rattle.mg_settings.specs.Settings.{Values}
-use Rattle.mgr_command.specs.Compact.{GivesName}
+use Rattle.mgr_command.specs.Compact.{GivesCompaction}
 use Rattle.mgr_command.specs.Edit.{GivesSettings}
+use Rattle.mgr_command.specs.declared.given.Compaction.{Compaction}
 use Rattle.mgr_command.specs.declared.job.Job.{Job}
 use Rattle.mgr_command.specs.declared.job.Job.TheVariants.{Show, Edit, Compact}
 use Rattle.mgr_command.specs.declared.job.JobFault.{JobFault}
@@ -39,12 +40,12 @@ GivesAll gives (Some rows) answer = gives rows answer
 abbrev pub Finds : {A : Type 0} → (List Row → Option A → Type 0) → Text → List Text → Option A → Type 0
 Finds gives job words answer = (kinds_behind job words ≡ []) × GivesAll gives (rows_behind_job job words) answer
 
--- these settings behind `edit`, and this name behind `compact`
+-- these settings behind `edit`, and this compaction behind `compact`
 abbrev pub FindsSettings : List Text → Option Values → Type 0
 FindsSettings words settings = Finds GivesSettings (codes "edit") words settings
 
-abbrev pub FindsName : List Text → Option (List ℕ) → Type 0
-FindsName words name = Finds GivesName (codes "compact") words name
+abbrev pub FindsCompaction : List Text → Option Compaction → Type 0
+FindsCompaction words compaction = Finds GivesCompaction (codes "compact") words compaction
 
 -- a kind of error that is no answer to a question for help or the version
 abbrev pub HasMistake : Kinds → Type 0
@@ -56,7 +57,7 @@ HasMistake kinds = (k : ErrorKind) × (k ≢ DisplayHelp) × (k ≢ DisplayVersi
 abbrev pub IsJobOf : Wish → Job → Type 0
 IsJobOf wish Show = wish ≡ showing
 IsJobOf wish (Edit settings) = (words : List Text) × (wish ≡ editing words) × FindsSettings words (Some settings)
-IsJobOf wish (Compact name) = (words : List Text) × (wish ≡ compacting words) × FindsName words (Some (string_bytes name))
+IsJobOf wish (Compact compaction) = (words : List Text) × (wish ≡ compacting words) × FindsCompaction words (Some compaction)
 
 -- why clap gives none behind the word of a job: one of these kinds, or it finds nothing that is allowed
 abbrev pub IsFaultBehind : Topic → Kinds → Type 0 → JobFault → Type 0
@@ -68,7 +69,7 @@ IsFaultBehind topic kinds Nothing Memory = Unit {0}
 -- why such a wish gives no job; memory may be wanting at any
 abbrev pub IsFaultOf : Wish → JobFault → Type 0
 IsFaultOf (editing words) fault = IsFaultBehind topic.Edit (kinds_behind (codes "edit") words) (FindsSettings words None) fault
-IsFaultOf (compacting words) fault = IsFaultBehind topic.Compact (kinds_behind (codes "compact") words) (FindsName words None) fault
+IsFaultOf (compacting words) fault = IsFaultBehind topic.Compact (kinds_behind (codes "compact") words) (FindsCompaction words None) fault
 IsFaultOf wish (Help on text) = wish ≡ help on
 IsFaultOf wish (Version text) = wish ≡ version
 IsFaultOf wish (Usage text) = wish ≡ mistake
@@ -90,14 +91,14 @@ rows_behind matches = option_map (λ p. p.1) (subcommand_rows_of matches)
 abbrev pub IsChosen : Topic → Option (List Row) → Job → Type 0
 IsChosen topic.Edit found (Edit settings) = GivesAll GivesSettings found (Some settings)
 IsChosen topic.Edit found _ = ⊥
-IsChosen topic.Compact found (Compact name) = GivesAll GivesName found (Some (string_bytes name))
+IsChosen topic.Compact found (Compact compaction) = GivesAll GivesCompaction found (Some compaction)
 IsChosen topic.Compact found _ = ⊥
 IsChosen _ found Show = Unit {0}
 IsChosen _ found _ = ⊥
 
 abbrev pub IsNotChosen : Topic → Option (List Row) → JobFault → Type 0
 IsNotChosen topic.Edit found (Usage text) = GivesAll GivesSettings found None
-IsNotChosen topic.Compact found (Usage text) = GivesAll GivesName found None
+IsNotChosen topic.Compact found (Usage text) = GivesAll GivesCompaction found None
 IsNotChosen on found Memory = Unit {0}
 IsNotChosen on found fault = ⊥
 

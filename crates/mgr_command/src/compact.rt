@@ -4,7 +4,7 @@ ghost use Rattle.clap.specs.Simple.{app_of};
 ghost use Rattle.clap.specs.declared.builder.command.Command.TheViews.{out-Command as fields_of};
 ghost use Rattle.mgr_command.specs.Compact.{compact_app};
 
-use crate::edit::{name, with};
+use crate::edit::{described, flag, name, with};
 use clap::Command;
 use std::alloc::{AllocError, Global};
 
@@ -13,7 +13,7 @@ const COMPACT_HELP: &str =
 
     mgr compact notes
 
-An mgr without `compact` does not read it.";
+An mgr without `compact` does not read it, nor one without `--dels` what that wrote.";
 
 /// `compact`, with the words of its help.
 pub(crate) fn compact<'a>(alloc: Global) -> Result<Command<'a>, AllocError>
@@ -21,6 +21,8 @@ pub(crate) fn compact<'a>(alloc: Global) -> Result<Command<'a>, AllocError>
     ensures plain { IfOk result (λ c. (fields_of c).has_globals ≡ false) }
 {
     let compact = with(Command::new(alloc, "compact"), name(alloc))?;
+    let dels = described(flag(alloc, "dels"), "Write deletions in runs, too");
+    let compact = with(compact, dels)?;
     Ok(
         compact
             .about("Write the log of a text anew, in fewer lines")

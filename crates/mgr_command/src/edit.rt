@@ -48,7 +48,7 @@ fn with_default<'a>(arg: Arg<'a>, value: &'a str) -> Arg<'a>
 }
 
 /// The same argument with the words of its help.
-fn described<'a>(arg: Arg<'a>, help: &'a str) -> Arg<'a>
+pub(crate) fn described<'a>(arg: Arg<'a>, help: &'a str) -> Arg<'a>
     requires { arg.global ≡ false }
     ensures rule { rule_of result ≡ rule_of arg.entry }
     ensures local { result.global ≡ false }
@@ -57,7 +57,7 @@ fn described<'a>(arg: Arg<'a>, help: &'a str) -> Arg<'a>
 }
 
 /// A flag `--id`.
-fn flag<'a>(alloc: Global, id: &'a str) -> Arg<'a>
+pub(crate) fn flag<'a>(alloc: Global, id: &'a str) -> Arg<'a>
     ensures rule { rule_of result ≡ spec.flag id.entry.now }
     ensures local { result.global ≡ false }
 {

@@ -1,9 +1,9 @@
 //! What `edit` and `compact` were given.
-ghost use Rattle.std.specs.Prelude.{◌≡◌, None, IfOk, IfSome, option_map, string_bytes};
+ghost use Rattle.std.specs.Prelude.{◌≡◌, None, IfOk, IfSome, string_bytes};
 ghost use Rattle.clap.specs.Matches.{found_of};
 ghost use Rattle.clap.specs.Walk.{rows_of};
 ghost use Rattle.mg_settings.specs.Settings.{Values};
-ghost use Rattle.mgr_command.specs.Compact.{GivesName};
+ghost use Rattle.mgr_command.specs.Compact.{GivesCompaction};
 ghost use Rattle.mgr_command.specs.Edit.{GivesNumberIf, GivesFlag, GivesOptions, GivesSettings};
 
 use clap::ArgMatches;
@@ -27,10 +27,21 @@ pub(crate) fn settings_of(
     Ok(Settings::new(values))
 }
 
-/// The name that clap's matches give; none where it is empty.
-pub(crate) fn name_of(alloc: Global, found: &ArgMatches<'_>) -> Result<Option<String>, AllocError>
-    ensures { IfOk result (λ name.
-        GivesName (rows_of (found_of found.now)) (option_map string_bytes name)) }
+/// A log that is to be compacted.
+#[derive(Drop)]
+pub struct Compaction {
+    /// The note whose log it is.
+    pub name: String,
+    /// Whether deletions too are written in runs.
+    pub dels: bool,
+}
+
+/// What clap's matches give to compact; none where the name is empty.
+pub(crate) fn compaction_of(
+    alloc: Global,
+    found: &ArgMatches<'_>,
+) -> Result<Option<Compaction>, AllocError>
+    ensures { IfOk result (GivesCompaction (rows_of (found_of found.now))) }
 {
     let Some(name) = found.get_str("name") else {
         return Ok(None);
@@ -38,7 +49,10 @@ pub(crate) fn name_of(alloc: Global, found: &ArgMatches<'_>) -> Result<Option<St
     if name.is_empty() {
         return Ok(None);
     }
-    Ok(Some(String::from_str(alloc, name)?))
+    Ok(Some(Compaction {
+        name: String::from_str(alloc, name)?,
+        dels: found.get_flag("dels"),
+    }))
 }
 
 /// What stands there, under a name; none where a number is no number.

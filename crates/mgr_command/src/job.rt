@@ -7,7 +7,7 @@ ghost use Rattle.mgr_command.specs.Job.{IsChosen, IsNotChosen, IsFaultOf, IsFaul
 ghost use Rattle.mgr_command.specs.declared.job.JobFault.TheVariants.{Memory};
 
 use crate::command::command;
-use crate::given::{name_of, settings_of};
+use crate::given::{Compaction, compaction_of, settings_of};
 use clap::error::ErrorKind;
 use clap::{ArgMatches, Error};
 use mg_settings::Settings;
@@ -20,8 +20,8 @@ pub enum Job {
     Show,
     /// Keys in, frames out.
     Edit(Settings),
-    /// The log of this note, written anew.
-    Compact(String),
+    /// A log, written anew.
+    Compact(Compaction),
 }
 
 /// What help is on.
@@ -75,7 +75,7 @@ pub fn job_status(fault: &JobFault) -> u8
 ///
 /// `show` alone is `Job::Show`; a `--` may end its flags. `edit` is followed by what clap reads: a
 /// name, `--replica N`, and the other options, each at most once and within its limits, `compact` by
-/// a name. `Help` is on the program where the first word behind its name is `--help`, or `-h` with
+/// a name, and `--dels` or not. `Help` is on the program where the first word behind its name is `--help`, or `-h` with
 /// anything behind it, on `show` where the first word behind `show` is, and on `edit` and `compact`
 /// where clap finds it there. `Version`
 /// where the first word is `--version`, or `-V` with anything behind it. `help` in front is `--help`
@@ -128,8 +128,8 @@ fn compact_of(alloc: Global, matches: &ArgMatches<'_>) -> Result<Job, JobFault>
     let Some((_, found)) = matches.subcommand() else {
         return Err(mistake(alloc, "nothing is to be compacted"));
     };
-    match name_of(alloc, found)? {
-        Some(name) => Ok(Job::Compact(name)),
+    match compaction_of(alloc, found)? {
+        Some(compaction) => Ok(Job::Compact(compaction)),
         None => Err(mistake(alloc, "the name is empty")),
     }
 }

@@ -15,4 +15,5 @@ mod job;
 
 pub use arguments::words;
 pub use command::VERSION;
+pub use given::Compaction;
 pub use job::{Job, JobFault, Topic, fault_of_bytes, job_of, job_status};

@@ -8,28 +8,33 @@ ghost use Rattle.mgr_show.specs.declared.fault.ShowFault.TheVariants.{Memory};
 ghost use Rattle.mgr_files.specs.Disk.{Tells, StopsBefore, whole_steps};
 
 use mgr_files::{Logs, Named};
-use mgr_show::{ShowFault, compact_log};
+use mgr_show::{ShowFault, compact_log_with};
 use rga_lines::Counted;
 use std::alloc::Global;
 use std::io;
 use std::io::ErrorKind;
 
 /// Writes the log of a note anew, in as few lines as runs allow, beside it, and then gives that its
-/// name. The old log is kept.
+/// name. With `dels` deletions too are written in runs. The old log is kept.
 ///
 /// Faults of the log as of `compact_log`; `Read` too where it can't be had, and `Write` where it is
 /// not as it was read.
-pub fn compact_note<L: Logs>(alloc: Global, logs: &mut L, name: &str) -> Result<(), ShowFault>
+pub fn compact_note<L: Logs>(
+    alloc: Global,
+    logs: &mut L,
+    name: &str,
+    dels: bool,
+) -> Result<(), ShowFault>
     // All steps were made, and the new log stands for the content of the old one.
     ensures compacted { OnOk result (IfSome (L.standing logs.old name.now)
-        (λ bytes. KeepsContent bytes × Tells (L.steps logs.old) (L.steps logs.new)
-        (whole_steps true (compacted bytes)))) }
+        (λ bytes. KeepsContent dels bytes × Tells (L.steps logs.old) (L.steps logs.new)
+        (whole_steps true (compacted dels bytes)))) }
     ensures refused { IfErr result (λ e. IsOfInput e → IfSome (L.standing logs.old name.now)
         (λ bytes. log_of MAX_LIMIT bytes ≡ Err e)) }
     // Whatever fails, a beginning of the steps was made; and none where the log is at fault.
     ensures begun { OnErr result (IfSome (L.standing logs.old name.now)
         (λ bytes. StopsBefore (L.steps logs.old) (L.steps logs.new)
-        (whole_steps true (compacted bytes)))) }
+        (whole_steps true (compacted dels bytes)))) }
     ensures untouched { IfErr result (λ e. e ≢ ShowFault.Write → e ≢ ShowFault.Memory
         → L.steps logs.new ≡ L.steps logs.old) }
 {
@@ -43,7 +48,7 @@ pub fn compact_note<L: Logs>(alloc: Global, logs: &mut L, name: &str) -> Result<
     };
     let mut reader = Counted::new(log);
     let mut writer = Counted::new(next);
-    let answer = compact_log(alloc, &mut reader, &mut writer);
+    let answer = compact_log_with(alloc, dels, &mut reader, &mut writer);
     let next = writer.into_inner();
     match answer {
         Ok(()) => give_name(logs, name, &reader.into_inner(), next),

@@ -8,5 +8,5 @@ use Rattle.mgr_command.specs.declared.job.JobFault.{JobFault}
 abbrev pub port_number : Result Job JobFault → Option ℕ
 port_number (Ok Show) = None
 port_number (Ok (Edit settings)) = settings.port
-port_number (Ok (Compact name)) = None
+port_number (Ok (Compact compaction)) = None
 port_number (Err fault) = None

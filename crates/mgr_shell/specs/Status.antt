@@ -1,5 +1,5 @@
 -- The exit status of the program.
-use Rattle.std.specs.Prelude.{◌≡◌, ◌≢◌, ◌⊎◌, ℕ, true, List, [], ◌∷◌, Option, Result, Err, IfSome, codes, OnOk, OnErr, IfErr, string_bytes}
+use Rattle.std.specs.Prelude.{◌≡◌, ◌≢◌, ◌⊎◌, ℕ, Bool, true, List, [], ◌∷◌, Option, Result, Err, IfSome, codes, OnOk, OnErr, IfErr, string_bytes}
 use Rattle.rga_ops.specs.Content.{Content, nothing as no_content}
 use Rattle.rga_store.specs.declared.text_store.TheConstants.{MAX_LIMIT}
 use Rattle.rga_lines.specs.Counting.{Calls, CountsAs, StaysFlushed, OnBytes, WritesNothing, one_more}
@@ -45,13 +45,13 @@ module _ {R W : Type 0} (remaining : R → Option (List ℕ)) (contents : W → 
 module _ {P : Type 0} (standing : P → List ℕ → Option (List ℕ)) (steps : P → Option (List Step)) where
   -- The status is that of an answer to `compact` of a name, which says what became of its log, where that is told, and
   -- what is told.
-  pub record IsStatusOfCompact (name : List ℕ) (status : ℕ) (before after : P) (told telling : Told) : Type 0 where
+  pub record IsStatusOfCompact (name : List ℕ) (dels : Bool) (status : ℕ) (before after : P) (told telling : Told) : Type 0 where
     pub answer : Result (Unit {0}) ShowFault
     pub exact : status ≡ shown_status answer
     pub told_line : Tells told telling (shown_telling answer)
-    pub keeps : OnOk answer (IfSome (standing before name) (λ bytes. KeepsContent bytes × Made (steps before) (steps after) (whole_steps true (compacted bytes))))
+    pub keeps : OnOk answer (IfSome (standing before name) (λ bytes. KeepsContent dels bytes × Made (steps before) (steps after) (whole_steps true (compacted dels bytes))))
     pub refused : IfErr answer (λ e. IsOfInput e → IfSome (standing before name) (λ bytes. log_of MAX_LIMIT bytes ≡ Err e))
-    pub begun : OnErr answer (IfSome (standing before name) (λ bytes. StopsBefore (steps before) (steps after) (whole_steps true (compacted bytes))))
+    pub begun : OnErr answer (IfSome (standing before name) (λ bytes. StopsBefore (steps before) (steps after) (whole_steps true (compacted dels bytes))))
     pub untouched : IfErr answer (λ e. e ≢ fault.Write → e ≢ fault.Memory → steps after ≡ steps before)
 
 module _ {R W P : Type 0} (remaining : R → Option (List ℕ)) (contents : W → Option (List ℕ)) (calls : P → Option (List Call)) (failures : P → ℕ) where
@@ -79,7 +79,7 @@ module _ {R W P : Type 0} (remaining : R → Option (List ℕ)) (contents : W �
   abbrev pub IsStatusOfJob : Job → ℕ → Calls R → Calls R → Calls W → Calls W → P → P → Told → Told → Type 0
   IsStatusOfJob Show status r s old new before after told telling = IsStatusOfShow remaining contents status r s old new told telling × (after ≡ before)
   IsStatusOfJob (Edit settings) status r s old new before after told telling = IsStatusOfEdit remaining contents calls failures settings status r s old new before after told telling
-  IsStatusOfJob (Compact name) status r s old new before after told telling = IsStatusOfCompact standing steps (string_bytes name) status before after told telling × (s ≡ r) × (new ≡ old)
+  IsStatusOfJob (Compact c) status r s old new before after told telling = IsStatusOfCompact standing steps (string_bytes c.name) c.dels status before after told telling × (s ≡ r) × (new ≡ old)
 
 module _ {W : Type 0} where
   -- A text that was asked for was printed, or not: 3 exactly where standard output failed, and else 0, or 4 where

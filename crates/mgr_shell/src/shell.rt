@@ -79,7 +79,7 @@ pub fn do_job<R: Read, W: Write, P: Port + Logs, T: Tell>(
     match job {
         Ok(Job::Show) => show(alloc, reader, writer, errors),
         Ok(Job::Edit(settings)) => edit(alloc, settings, reader, writer, port, errors),
-        Ok(Job::Compact(name)) => compact(alloc, name.as_str(), port, errors),
+        Ok(Job::Compact(log)) => compact(alloc, log.name.as_str(), log.dels, port, errors),
         Err(fault) => refuse(alloc, fault, writer, errors),
     }
 }
@@ -119,12 +119,18 @@ fn edit<R: Read, W: Write, P: Port, T: Tell>(
     }
 }
 
-fn compact<P: Logs, T: Tell>(alloc: Global, name: &str, port: &mut P, errors: &mut T) -> u8
-    ensures status { IsStatusOfCompact P.standing P.steps name.now result port.old port.new
+fn compact<P: Logs, T: Tell>(
+    alloc: Global,
+    name: &str,
+    dels: bool,
+    port: &mut P,
+    errors: &mut T,
+) -> u8
+    ensures status { IsStatusOfCompact P.standing P.steps name.now dels result port.old port.new
         (T.told errors.old) (T.told errors.new) }
     ensures bound { result ≤ 4 }
 {
-    match compact_note(alloc, port, name) {
+    match compact_note(alloc, port, name, dels) {
         Ok(()) => 0,
         Err(fault) => told(errors, Report::of_show(&fault)),
     }

@@ -1,5 +1,5 @@
 -- What `compact_log` writes.
-use Rattle.std.specs.Prelude.{◌≡◌, ℕ, List, [], Option}
+use Rattle.std.specs.Prelude.{◌≡◌, ℕ, Bool, List, [], Option}
 use Rattle.rga_lines.specs.Counting.{Calls, Writes, WritesFront}
 use Rattle.rga_lines.specs.Stream.{rest_of}
 use Rattle.rga_exchange.specs.Compacting.{compact_text}
@@ -14,23 +14,23 @@ abbrev pub send_fault : SendFault → ShowFault
 send_fault send.Write = fault.Write
 send_fault send.Memory = fault.Memory
 
--- the compacted lines of a log
-abbrev pub compacted : List ℕ → List ℕ
-compacted bytes = compact_text (log_content bytes)
+-- the compacted lines of a log, with runs of deletions or without
+abbrev pub compacted : Bool → List ℕ → List ℕ
+compacted dels bytes = compact_text dels (log_content bytes)
 
 -- they stand for the same content, and the last one too ends in a newline
-pub record KeepsContent (bytes : List ℕ) : Type 0 where
+pub record KeepsContent (dels : Bool) (bytes : List ℕ) : Type 0 where
   pub accepted : IsAccepted bytes
-  pub stands : StandsFor (compacted bytes) (log_content bytes)
-  pub ended : rest_of (compacted bytes) ≡ []
+  pub stands : StandsFor (compacted dels bytes) (log_content bytes)
+  pub ended : rest_of (compacted dels bytes) ≡ []
 
 module _ {W : Type 0} (contents : W → Option (List ℕ)) (old new : Calls W) where
   -- the compacted lines of an accepted log were written
-  pub record Compacts (bytes : List ℕ) : Type 0 where
-    pub keeps : KeepsContent bytes
-    pub written : Writes contents old new (compacted bytes)
+  pub record Compacts (dels : Bool) (bytes : List ℕ) : Type 0 where
+    pub keeps : KeepsContent dels bytes
+    pub written : Writes contents old new (compacted dels bytes)
 
   -- a beginning of them was written
-  pub record BeginsToCompact (bytes : List ℕ) : Type 0 where
+  pub record BeginsToCompact (dels : Bool) (bytes : List ℕ) : Type 0 where
     pub accepted : IsAccepted bytes
-    pub begun : WritesFront contents old new (compacted bytes)
+    pub begun : WritesFront contents old new (compacted dels bytes)

@@ -1,5 +1,5 @@
 //! A log in as few lines as runs allow.
-ghost use Rattle.std.specs.Prelude.{◌≡◌, ◌≢◌, ◌⊎◌, true, Ok, Err, OnOk, OnErr, IfErr};
+ghost use Rattle.std.specs.Prelude.{◌≡◌, ◌≢◌, ◌⊎◌, true, false, Ok, Err, OnOk, OnErr, IfErr};
 ghost use Rattle.rga_ops.specs.Prelude.{Content, nothing};
 ghost use Rattle.rga_store.specs.declared.text_store.TheConstants.{MAX_LIMIT};
 ghost use Rattle.rga_lines.specs.Counting.{CountsAs, OnBytes, WritesNothing};
@@ -11,7 +11,7 @@ ghost use Rattle.mgr_show.specs.Compacted.{Compacts, BeginsToCompact};
 
 use crate::fault::ShowFault;
 use crate::show::take_whole_log;
-use rga_exchange::compact;
+use rga_exchange::compact_with;
 use rga_lines::Counted;
 use rga_store::{MAX_LIMIT, TextStore, TreeStore};
 use std::alloc::Global;
@@ -29,7 +29,7 @@ pub fn compact_log<R: Read, W: Write>(
     writer: &mut Counted<W>,
 ) -> Result<(), ShowFault>
     ensures compacted { OnOk result (OnBytes R.remaining reader.old
-        (λ bytes. Compacts W.contents writer.old writer.new bytes)) }
+        (λ bytes. Compacts W.contents writer.old writer.new false bytes)) }
 
     // A fault of the input is the first one of its bytes, however the reads cut them.
     ensures refused { IfErr result (λ e. IsOfInput e → OnBytes R.remaining reader.old
@@ -39,7 +39,37 @@ pub fn compact_log<R: Read, W: Write>(
     // Whatever fails, nothing was written or a beginning of the lines of an accepted log.
     ensures begun { OnErr result (OnBytes R.remaining reader.old (λ bytes.
         WritesNothing W.contents writer.old writer.new
-        ⊎ BeginsToCompact W.contents writer.old writer.new bytes)) }
+        ⊎ BeginsToCompact W.contents writer.old writer.new false bytes)) }
+    ensures flushed { OnOk result (writer.new.flushed ≡ true) }
+
+    ensures whole_lines { result ≡ Err ShowFault.Read → (c : Content) × HasTakenWholeLines Log
+        R.remaining (λ _. MAX_LIMIT) (λ held. held) (λ _ _ _. Unit {0})
+        reader.old reader.new nothing c }
+    ensures reads { CountsAs ShowFault.Read result reader.old reader.new }
+    ensures writes { CountsAs ShowFault.Write result writer.old writer.new }
+{
+    compact_log_with(alloc, false, reader, writer)
+}
+
+/// Does what `compact_log` does; with `dels` deletions too are written in runs, as by `compact_with`.
+pub fn compact_log_with<R: Read, W: Write>(
+    alloc: Global,
+    dels: bool,
+    reader: &mut Counted<R>,
+    writer: &mut Counted<W>,
+) -> Result<(), ShowFault>
+    ensures compacted { OnOk result (OnBytes R.remaining reader.old
+        (λ bytes. Compacts W.contents writer.old writer.new dels bytes)) }
+
+    // A fault of the input is the first one of its bytes, however the reads cut them.
+    ensures refused { IfErr result (λ e. IsOfInput e → OnBytes R.remaining reader.old
+        (λ bytes. log_of MAX_LIMIT bytes ≡ Err e)) }
+    ensures unwritten { IfErr result (λ e. e ≢ ShowFault.Write → e ≢ ShowFault.Memory
+        → writer.new ≡ writer.old) }
+    // Whatever fails, nothing was written or a beginning of the lines of an accepted log.
+    ensures begun { OnErr result (OnBytes R.remaining reader.old (λ bytes.
+        WritesNothing W.contents writer.old writer.new
+        ⊎ BeginsToCompact W.contents writer.old writer.new dels bytes)) }
     ensures flushed { OnOk result (writer.new.flushed ≡ true) }
 
     ensures whole_lines { result ≡ Err ShowFault.Read → (c : Content) × HasTakenWholeLines Log
@@ -52,6 +82,6 @@ pub fn compact_log<R: Read, W: Write>(
         return Err(ShowFault::Memory);
     };
     take_whole_log(alloc, &mut store, reader)?;
-    compact(alloc, &store, writer)?;
+    compact_with(alloc, &store, dels, writer)?;
     Ok(())
 }

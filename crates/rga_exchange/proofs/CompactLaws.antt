@@ -8,9 +8,10 @@ use Rattle.std.specs.FinMap as finite_map
 use Rattle.std.specs.FinSet as finite_set
 use Rattle.std.proofs.lemmas.Bool.{and_parts, eqb-true, leb-true, ltb-true, leb-false, cases_eq}
 use Rattle.std.proofs.lemmas.List.Elements.{All-nil, All-cons, Contains-append_left, Contains-append_right}
-use Rattle.rga_ops.specs.Identifier.{Identifier, identifier}
+use Rattle.rga_ops.specs.Identifier.{Identifier, identifier, is_id}
 use Rattle.rga_ops.specs.Content.{Element, element, Content, content_of, Holds, IsSound, IsAgreed, HasSameOperations}
-use Rattle.rga_ops.specs.Operations.{insertion_of, insertions, deletions, operations}
+use Rattle.rga_ops.specs.Operations.{insertion_of, insertions, rising, deletions, operations}
+use Rattle.rga_ops.proofs.IdentifierLaws.{is_id-is}
 use Rattle.rga_ops.specs.declared.id.TheConstants.Id.{MAX_COUNTER}
 use Rattle.rga_ops.specs.declared.op.Op.{Op}
 use Rattle.rga_ops.specs.declared.op.Op.TheVariants.{Insert, Delete}
@@ -19,17 +20,51 @@ use Rattle.rga_ops.proofs.OperationLaws.{Contains-first, Contains-later, Contain
 use Rattle.rga_ops.proofs.OperationsLaws.{content_of-operations, operations_agree, operations_hold}
 use Rattle.rga_lines.specs.declared.reading.TheConstants.{MAX_LINE}
 use Rattle.rga_lines.specs.declared.run.TheConstants.{MAX_RUN}
-use Rattle.rga_lines.specs.Runs.{Stretch, stretch, next, run_operations, stretch_operations}
-use Rattle.rga_lines.specs.Spelling.{line, run_line, IsWritableRun}
+use Rattle.rga_lines.specs.declared.deletion_run.DeletionRun.{DeletionRun}
+use Rattle.rga_lines.specs.Runs.{Stretch, stretch, next, run_operations, stretch_operations, deletion_run, deletions_from, run_deletions, IsDeletionRun}
+use Rattle.rga_lines.specs.Spelling.{line, run_line, deletion_run_line, IsElement, IsWritableRun}
 use Rattle.rga_lines.specs.Stream.{lines_of, rest_of, HasNoNewline}
 use Rattle.rga_lines.specs.Log.{operations_of, operations_at, then_operations, IsOperation}
-use Rattle.rga_lines.proofs.NewlineLemmas.{line_has_none, run_has_none}
+use Rattle.rga_lines.proofs.NewlineLemmas.{line_has_none, run_has_none, deletions_have_none}
+use Rattle.rga_lines.proofs.DeletionLemmas.{one_more, above_root, deletions_checked}
 use Rattle.rga_lines.proofs.ReadBack.{within}
-use Rattle.rga_lines.proofs.StandLemmas.{line_stands, run_stands}
-use Rattle.rga_exchange.specs.Compacting.{next_character, going_on, run_of, is_in_run, is_in_some, runs_behind, runs_of, compact_operations, shortest_line, stretch_line, compact_lines, compact_text}
+use Rattle.rga_lines.proofs.StandLemmas.{line_stands, run_stands, deletions_stand}
+use Rattle.rga_exchange.specs.Compacting.{next_character, going_on, run_of, is_in_run, is_in_some, runs_behind, runs_of, behind_run, goes_on_with, one_longer, deletion_runs_behind, deletion_runs, compact_operations, shortest_line, stretch_line, deletion_line, deletion_lines, compact_lines, compact_text}
 use Rattle.rga_exchange.specs.Sending.{AreWritable, StandsFor}
 use Rattle.rga_exchange.proofs.GoingOnLemmas.{next_is, length-going_on}
 use Rattle.rga_exchange.proofs.AppendedLaws.{cut_again, operations_ended}
+
+-- a run of one deletion
+one_deletion : (id : Identifier) → IsElement id → IsDeletionRun (deletion_run id 1)
+one_deletion id element = record { element = element; some = omega arith; few = lit≤ tt; end = omega (arith, (within id element).counter) }
+
+-- what goes on with a run is of the identifier behind it, and the run has room
+record GoesOn (r : DeletionRun) (id : Identifier) : Type 0 where
+  is : id ≡ behind_run r
+  room : r.count < MAX_RUN
+
+does_go_on : (r : DeletionRun) (id : Identifier) → goes_on_with r id ≡ true → GoesOn r id
+does_go_on r id h =
+    let p = and_parts (nat_lt r.count MAX_RUN) (is_id id (behind_run r)) h in
+    record { is = is_id-is id (behind_run r) p.1; room = ltb-true r.count MAX_RUN p.0 }
+
+longer_run : (r : DeletionRun) (id : Identifier) → IsDeletionRun r → IsElement id → GoesOn r id → IsDeletionRun (one_longer r)
+longer_run r id h element g =
+    let counter : id.counter ≡ r.id.counter + r.count = ap (λ (i : Identifier). i.counter) g.is in
+    record {
+      element = h.element;
+      some = omega arith;
+      few = omega (arith, g.room);
+      end = omega (arith, counter, (within id element).counter);
+    }
+
+longer_deletions : (r : DeletionRun) (id : Identifier) (ops : List Op) → GoesOn r id → run_deletions (one_longer r) ++ ops ≡ run_deletions r ++ Delete id ∷ ops
+longer_deletions r id ops g =
+    let count : r.count + 1 ≡ suc r.count = omega arith in
+    ap (λ n. deletions_from r.id n ++ ops) count
+    ∙ ap (λ (os : List Op). os ++ ops) (one_more r.id r.count)
+    ∙ append_assoc (run_deletions r) (Delete (behind_run r) ∷ []) ops
+    ∙ ap (λ (i : Identifier). run_deletions r ++ Delete i ∷ ops) (sym g.is)
 
 abbrev all_of : List Stretch → List Op
 all_of rs = flat_map stretch_operations rs
@@ -211,11 +246,11 @@ module _ (c : Content) where
       all : AllByRecursion IsOperation lines
       none : All HasNoNewline lines
 
-    deletions_stand : (ops : List Op) → AreHeld ops → Stand (map line ops) ops
-    deletions_stand [] h = record { operations = refl; all = tt; none = All-nil HasNoNewline }
-    deletions_stand (op ∷ ops) h =
+    each_stands : (ops : List Op) → AreHeld ops → Stand (map line ops) ops
+    each_stands [] h = record { operations = refl; all = tt; none = All-nil HasNoNewline }
+    each_stands (op ∷ ops) h =
         let can = writable op (held_is_had op h.0) in
-        let w = deletions_stand ops h.1 in
+        let w = each_stands ops h.1 in
         let says = line_stands op can (sound op h.0) in
         record {
           operations = ap (λ r. then_operations r (operations_of (map line ops))) says ∙ ap (λ (os : List Op). op ∷ os) w.operations;
@@ -223,12 +258,61 @@ module _ (c : Content) where
           none = All-cons HasNoNewline (line op) (map line ops) (line_has_none op can) w.none;
         }
 
-    lines_stand : (rs : List Stretch) (ops : List Op) → AreHeldRuns rs → AreHeld ops → Stand (map stretch_line rs ++ map line ops) (all_of rs ++ ops)
-    lines_stand [] ops held h = deletions_stand ops h
-    lines_stand (r ∷ rs) ops held h =
+    deletion_stands : (r : DeletionRun) → IsDeletionRun r → (operations_at (deletion_line r) ≡ Ok (run_deletions r)) × HasNoNewline (deletion_line r)
+    deletion_stands r h = by_count (r.count == 1) refl
+      where
+        by_count : (b : Bool) → (r.count == 1) ≡ b → (operations_at (cond b (line (Delete r.id)) (deletion_run_line r)) ≡ Ok (run_deletions r)) × HasNoNewline (cond b (line (Delete r.id)) (deletion_run_line r))
+        by_count true is =
+            let one : 1 ≡ r.count = sym (eqb-true r.count 1 is) in
+            (line_stands (Delete r.id) h.element (deletions_checked r.id 1 (above_root r.id h.element)).0 ∙ ap (λ n. Ok (deletions_from r.id n)) one, line_has_none (Delete r.id) h.element)
+        by_count false is = (deletions_stand r h, deletions_have_none r h)
+
+    deletions_behind_stand : (r : DeletionRun) (ids : List Identifier) → IsDeletionRun r → AreHeld (map Delete ids) → Stand (map deletion_line (deletion_runs_behind r ids)) (run_deletions r ++ map Delete ids)
+    deletions_behind_stand r [] h held =
+        let first = deletion_stands r h in
+        record {
+          operations = ap (λ o. then_operations o []) first.0;
+          all = ((run_deletions r, first.0), tt);
+          none = All-cons HasNoNewline (deletion_line r) [] first.1 (All-nil HasNoNewline);
+        }
+    deletions_behind_stand r (id ∷ ids) h held =
+        let element : IsElement id = writable (Delete id) (held_is_had (Delete id) held.0) in
+        by_choice (goes_on_with r id) refl
+        (λ g. deletions_behind_stand (one_longer r) ids (longer_run r id h element g) held.1)
+        (deletions_behind_stand (deletion_run id 1) ids (one_deletion id element) held.1)
+      where
+        others : List (List ℕ)
+        others = map deletion_line (deletion_runs_behind (deletion_run id 1) ids)
+
+        by_choice : (b : Bool) → goes_on_with r id ≡ b
+            → (GoesOn r id → Stand (map deletion_line (deletion_runs_behind (one_longer r) ids)) (run_deletions (one_longer r) ++ map Delete ids))
+            → Stand others (Delete id ∷ map Delete ids)
+            → Stand (map deletion_line (cond b (deletion_runs_behind (one_longer r) ids) (r ∷ deletion_runs_behind (deletion_run id 1) ids))) (run_deletions r ++ Delete id ∷ map Delete ids)
+        by_choice true is with_it without =
+            let g = does_go_on r id is in
+            subst (Stand (map deletion_line (deletion_runs_behind (one_longer r) ids))) (longer_deletions r id (map Delete ids) g) (with_it g)
+        by_choice false is with_it without =
+            let first = deletion_stands r h in
+            record {
+              operations = ap (λ o. then_operations o (operations_of others)) first.0 ∙ ap (λ (os : List Op). run_deletions r ++ os) without.operations;
+              all = ((run_deletions r, first.0), without.all);
+              none = All-cons HasNoNewline (deletion_line r) others first.1 without.none;
+            }
+
+    runs_stand : (ids : List Identifier) → AreHeld (map Delete ids) → Stand (map deletion_line (deletion_runs ids)) (map Delete ids)
+    runs_stand [] held = record { operations = refl; all = tt; none = All-nil HasNoNewline }
+    runs_stand (id ∷ ids) held = deletions_behind_stand (deletion_run id 1) ids (one_deletion id (writable (Delete id) (held_is_had (Delete id) held.0))) held.1
+
+    deletion_lines_stand : (dels : Bool) (ids : List Identifier) → AreHeld (map Delete ids) → Stand (deletion_lines dels ids) (map Delete ids)
+    deletion_lines_stand true ids held = runs_stand ids held
+    deletion_lines_stand false ids held = each_stands (map Delete ids) held
+
+    lines_stand : (rs : List Stretch) (more : List (List ℕ)) (ops : List Op) → AreHeldRuns rs → Stand more ops → Stand (map stretch_line rs ++ more) (all_of rs ++ ops)
+    lines_stand [] more ops held h = h
+    lines_stand (r ∷ rs) more ops held h =
         let first = run_line_stands r.id r.parent r.chars held.0 in
-        let w = lines_stand rs ops held.1 h in
-        let others : List (List ℕ) = map stretch_line rs ++ map line ops in
+        let w = lines_stand rs more ops held.1 h in
+        let others : List (List ℕ) = map stretch_line rs ++ more in
         record {
           operations = ap (λ o. then_operations o (operations_of others)) first.0
               ∙ ap (λ (os : List Op). stretch_operations r ++ os) w.operations
@@ -241,21 +325,24 @@ module _ (c : Content) where
     list_held [] h = tt
     list_held (op ∷ ops) h = (h op (Contains-first op ops), list_held ops (λ o m. h o (Contains-later op o ops m)))
 
-    all_stand : Stand (compact_lines c) (compact_operations c)
-    all_stand = lines_stand (runs_of c) (deletions c) all_runs (list_held (deletions c) (λ op m. operations_hold c op (Contains-append_right (insertions c) (deletions c) op m)))
+    all_stand : (dels : Bool) → Stand (compact_lines dels c) (compact_operations c)
+    all_stand dels =
+        let ids = rising (finite_set.items c.deleted) in
+        lines_stand (runs_of c) (deletion_lines dels ids) (deletions c) all_runs (deletion_lines_stand dels ids (list_held (deletions c) (λ op m. operations_hold c op (Contains-append_right (insertions c) (deletions c) op m))))
 
-    pub compact_cut : (compact_lines c ≡ lines_of (compact_text c)) × ([] ≡ rest_of (compact_text c))
-    compact_cut = cut_again (compact_lines c) all_stand.none
+    pub compact_cut : (dels : Bool) → (compact_lines dels c ≡ lines_of (compact_text dels c)) × ([] ≡ rest_of (compact_text dels c))
+    compact_cut dels = cut_again (compact_lines dels c) (all_stand dels).none
 
     -- the compacted lines stand for the content, and end in a newline
-    pub compact_stands : StandsFor (compact_text c) c × (rest_of (compact_text c) ≡ [])
-    compact_stands =
-        let ended = sym compact_cut.1 in
-        let all = subst (AllByRecursion IsOperation) compact_cut.0 all_stand.all in
-        let said = operations_ended (compact_text c) ended all ∙ ap operations_of (sym compact_cut.0) ∙ all_stand.operations in (
+    pub compact_stands : (dels : Bool) → StandsFor (compact_text dels c) c × (rest_of (compact_text dels c) ≡ [])
+    compact_stands dels =
+        let cut = compact_cut dels in
+        let ended = sym cut.1 in
+        let all = subst (AllByRecursion IsOperation) cut.0 (all_stand dels).all in
+        let said = operations_ended (compact_text dels c) ended all ∙ ap operations_of (sym cut.0) ∙ (all_stand dels).operations in (
           record {
             lines = all;
-            short = subst (λ (rest : List ℕ). length rest ≤ MAX_LINE) compact_cut.1 (lit≤ tt);
+            short = subst (λ (rest : List ℕ). length rest ≤ MAX_LINE) cut.1 (lit≤ tt);
             agreed = subst IsAgreed (sym said) compact_agree;
             content = sym (ap content_of said ∙ compact_content);
           },

@@ -1,17 +1,19 @@
 -- A content in as few lines as runs allow.
-use Rattle.std.specs.Prelude.{ℕ, zero, suc, ◌+◌, ◌-◌, ◌&&◌, ◌==◌, Bool, nat_le, nat_lt, if◌then◌else◌, List, [], ◌∷◌, ◌++◌, map, length, Option, Some, None, option_and_then}
+use Rattle.std.specs.Prelude.{ℕ, zero, suc, ◌+◌, ◌-◌, ◌&&◌, ◌==◌, Bool, true, false, nat_le, nat_lt, if◌then◌else◌, List, [], ◌∷◌, ◌++◌, map, length, Option, Some, None, option_and_then}
 use Rattle.std.specs.List.{flat_map, list_any}
 use Rattle.std.specs.Option.{option_map_or}
 use Rattle.std.specs.FinMap as finite_map
-use Rattle.rga_ops.specs.Identifier.{Identifier, is_id}
+use Rattle.std.specs.FinSet as finite_set
+use Rattle.rga_ops.specs.Identifier.{Identifier, identifier, is_id}
 use Rattle.rga_ops.specs.Content.{Element, Content}
-use Rattle.rga_ops.specs.Operations.{deletions}
+use Rattle.rga_ops.specs.Operations.{rising, deletions}
 use Rattle.rga_ops.specs.declared.id.TheConstants.Id.{MAX_COUNTER}
 use Rattle.rga_ops.specs.declared.op.Op.{Op}
-use Rattle.rga_ops.specs.declared.op.Op.TheVariants.{Insert}
+use Rattle.rga_ops.specs.declared.op.Op.TheVariants.{Insert, Delete}
 use Rattle.rga_lines.specs.declared.run.TheConstants.{MAX_RUN}
-use Rattle.rga_lines.specs.Runs.{Stretch, stretch, next, stretch_operations}
-use Rattle.rga_lines.specs.Spelling.{line, run_line}
+use Rattle.rga_lines.specs.declared.deletion_run.DeletionRun.{DeletionRun}
+use Rattle.rga_lines.specs.Runs.{Stretch, stretch, next, stretch_operations, deletion_run}
+use Rattle.rga_lines.specs.Spelling.{line, run_line, deletion_run_line}
 use Rattle.rga_lines.specs.Stream.{bytes_of_lines}
 
 -- ---- runs
@@ -50,6 +52,31 @@ runs_behind c runs (e ∷ es) = if is_in_some runs e.0 then runs_behind c runs e
 abbrev pub runs_of : Content → List Stretch
 runs_of c = runs_behind c [] (finite_map.entries c.inserted)
 
+-- ---- runs of deletions
+
+-- the identifier behind the last one of a run
+abbrev pub behind_run : DeletionRun → Identifier
+behind_run r = identifier (r.id.counter + r.count) r.id.replica
+
+-- whether a deletion goes on with a run: it is of the identifier behind the last one, and the run has room
+abbrev pub goes_on_with : DeletionRun → Identifier → Bool
+goes_on_with r id = nat_lt r.count MAX_RUN && is_id id (behind_run r)
+
+abbrev pub one_longer : DeletionRun → DeletionRun
+one_longer r = deletion_run r.id (r.count + 1)
+
+-- the runs of deletions behind those of a run: each goes on with the run before it, or begins one
+abbrev pub deletion_runs_behind : DeletionRun → List Identifier → List DeletionRun
+deletion_runs_behind r [] = r ∷ []
+deletion_runs_behind r (id ∷ ids) = if goes_on_with r id then deletion_runs_behind (one_longer r) ids else r ∷ deletion_runs_behind (deletion_run id 1) ids
+
+-- the runs of deletions in a row
+abbrev pub deletion_runs : List Identifier → List DeletionRun
+deletion_runs [] = []
+deletion_runs (id ∷ ids) = deletion_runs_behind (deletion_run id 1) ids
+
+-- ---- operations
+
 -- the operations of a content, by runs
 abbrev pub compact_operations : Content → List Op
 compact_operations c = flat_map stretch_operations (runs_of c) ++ deletions c
@@ -65,10 +92,19 @@ shortest_line id parent (ch ∷ d ∷ chars) = run_line (stretch id parent (ch �
 abbrev pub stretch_line : Stretch → List ℕ
 stretch_line r = shortest_line r.id r.parent r.chars
 
--- the lines of the runs, and then those of the deletions by rising identifier
-abbrev pub compact_lines : Content → List (List ℕ)
-compact_lines c = map stretch_line (runs_of c) ++ map line (deletions c)
+-- and so is a run of one deletion
+abbrev pub deletion_line : DeletionRun → List ℕ
+deletion_line r = if r.count == 1 then line (Delete r.id) else deletion_run_line r
+
+-- the lines of deletions in a row: by their runs where these are asked for, and else each by itself
+abbrev pub deletion_lines : Bool → List Identifier → List (List ℕ)
+deletion_lines true ids = map deletion_line (deletion_runs ids)
+deletion_lines false ids = map line (map Delete ids)
+
+-- the lines of the runs, and then those of the deletions by rising identifier, in runs too or each by itself
+abbrev pub compact_lines : Bool → Content → List (List ℕ)
+compact_lines dels c = map stretch_line (runs_of c) ++ deletion_lines dels (rising (finite_set.items c.deleted))
 
 -- these lines, each with its newline
-abbrev pub compact_text : Content → List ℕ
-compact_text c = bytes_of_lines (compact_lines c)
+abbrev pub compact_text : Bool → Content → List ℕ
+compact_text dels c = bytes_of_lines (compact_lines dels c)

@@ -1,22 +1,26 @@
 //! Logs in as few lines as runs allow.
-ghost use Rattle.std.specs.Prelude.{◌≡◌, ℕ, ◌+◌, ◌++◌, ◌∷◌, [], length, slice_index, true, false, Ok, IfOk, IfErr, OnOk, string_bytes};
+ghost use Rattle.std.specs.Prelude.{◌≡◌, ℕ, ◌+◌, ◌≤◌, ◌++◌, ◌∷◌, [], length, slice_index, true, false, Ok, Some, None, IfOk, IfErr, OnOk, string_bytes};
 ghost use Rattle.std.specs.Option.{option_map, option_map_or};
 ghost use Rattle.rga_ops.specs.Prelude.{checked, operations, IsSound};
 ghost use Rattle.rga_ops.specs.Content.{element};
 ghost use Rattle.rga_ops.specs.Identifier.{is_in_range};
-ghost use Rattle.rga_ops.specs.declared.op.Op.TheVariants.{Insert};
+ghost use Rattle.rga_ops.specs.declared.op.Op.TheVariants.{Insert, Delete};
 ghost use Rattle.rga_lines.specs.Counting.{CountsAs, Writes, WritesFront, WritesAllBut};
-ghost use Rattle.rga_lines.specs.Runs.{IsRun, next};
+ghost use Rattle.rga_lines.specs.Runs.{IsRun, next, deletion_run};
 ghost use Rattle.rga_lines.specs.Spelling.{IsWritable, IsElementOrRoot};
 ghost use Rattle.rga_lines.specs.Stream.{newline, bytes_of_lines, rest_of};
 ghost use Rattle.rga_exchange.specs.Compacting.{compact_lines, compact_text, next_character, run_of, stretch_line};
+ghost use Rattle.rga_exchange.specs.Compacting.{deletion_line, goes_on_with};
 ghost use Rattle.rga_exchange.specs.Sending.{AreWritable, StandsFor};
-ghost use Rattle.rga_exchange.specs.Turns.{covers, ends_with, ends_behind, lines_at, lines_from};
+ghost use Rattle.rga_exchange.specs.Turns.{covers, ends_with, ends_behind, lines_at};
+ghost use Rattle.rga_exchange.specs.Turns.{run_with, last_behind, last_line, ended_line};
 
 use crate::block::Block;
 use crate::fault::SendFault;
 use crate::sending::finish;
-use rga_lines::{Counted, LineFault, MAX_RUN, Run, write_line, write_run};
+use rga_lines::{
+    Counted, DeletionRun, LineFault, MAX_RUN, Run, write_deletion_run, write_line, write_run,
+};
 use rga_ops::{Id, Op};
 use rga_store::TextStore;
 use std::alloc::{AllocError, Global};
@@ -34,21 +38,45 @@ pub fn compact<S: TextStore, W: Write>(
     store: &S,
     writer: &mut Counted<W>,
 ) -> Result<u64, SendFault>
-    ensures number { IfOk result (λ n. n ≡ length (compact_lines (S.content store.now))) }
+    ensures number { IfOk result (λ n. n ≡ length (compact_lines false (S.content store.now))) }
     ensures written { OnOk result (Writes W.contents writer.old writer.new
-        (compact_text (S.content store.now))) }
+        (compact_text false (S.content store.now))) }
     // These lines stand for the content, and the last one too ends in a newline.
-    ensures stands { OnOk result (StandsFor (compact_text (S.content store.now))
+    ensures stands { OnOk result (StandsFor (compact_text false (S.content store.now))
         (S.content store.now)) }
-    ensures ended { OnOk result (rest_of (compact_text (S.content store.now)) ≡ []) }
+    ensures ended { OnOk result (rest_of (compact_text false (S.content store.now)) ≡ []) }
     ensures begun { WritesFront W.contents writer.old writer.new
-        (compact_text (S.content store.now)) }
+        (compact_text false (S.content store.now)) }
+    ensures flushed { OnOk result (writer.new.flushed ≡ true) }
+    ensures device { CountsAs SendFault.Write result writer.old writer.new }
+{
+    compact_with(alloc, store, false, writer)
+}
+
+/// Does what `compact` does; with `dels` deletions that follow one another, of one replica with
+/// counters that rise by one, are written as runs of at most `MAX_RUN`, and a run of one as a
+/// deletion.
+pub fn compact_with<S: TextStore, W: Write>(
+    alloc: Global,
+    store: &S,
+    dels: bool,
+    writer: &mut Counted<W>,
+) -> Result<u64, SendFault>
+    ensures number { IfOk result (λ n. n ≡ length (compact_lines dels (S.content store.now))) }
+    ensures written { OnOk result (Writes W.contents writer.old writer.new
+        (compact_text dels (S.content store.now))) }
+    // These lines stand for the content, and the last one too ends in a newline.
+    ensures stands { OnOk result (StandsFor (compact_text dels (S.content store.now))
+        (S.content store.now)) }
+    ensures ended { OnOk result (rest_of (compact_text dels (S.content store.now)) ≡ []) }
+    ensures begun { WritesFront W.contents writer.old writer.new
+        (compact_text dels (S.content store.now)) }
     ensures flushed { OnOk result (writer.new.flushed ≡ true) }
     ensures device { CountsAs SendFault.Write result writer.old writer.new }
 {
     let ops = sound_ops(store)?;
     let mut block = Block::new(alloc)?;
-    let lines = push_compacted(alloc, store, &ops, &mut block, writer)?;
+    let lines = push_compacted(alloc, store, dels, &ops, &mut block, writer)?;
     finish(block, writer)?;
     Ok(lines)
 }
@@ -72,50 +100,80 @@ fn sound_ops<S: TextStore>(store: &S) -> Result<Vec<Op>, SendFault>
 fn push_compacted<S: TextStore, W: Write>(
     alloc: Global,
     store: &S,
+    dels: bool,
     ops: &[Op],
     block: &mut Block,
     writer: &mut Counted<W>,
 ) -> Result<u64, SendFault>
     requires all { ops.now ≡ operations (S.content store.now) }
     requires sound { IsSound (S.content store.now) }
-    ensures number { IfOk result (λ n. n ≡ length (compact_lines (S.content store.now))) }
+    ensures number { IfOk result (λ n. n ≡ length (compact_lines dels (S.content store.now))) }
     ensures ok { OnOk result (WritesAllBut W.contents writer.old writer.new
-        (block.old ++ compact_text (S.content store.now)) block.new) }
+        (block.old ++ compact_text dels (S.content store.now)) block.new) }
     ensures writable { OnOk result (AreWritable ops.now) }
     ensures begun { WritesFront W.contents writer.old writer.new
-        (block.old ++ compact_text (S.content store.now)) }
+        (block.old ++ compact_text dels (S.content store.now)) }
     ensures device { CountsAs SendFault.Write result writer.old writer.new }
 {
     let mut ends = RunEnds::new(alloc)?;
+    let mut last = None;
     let mut lines = 0u64;
     for op in ops {
-        lines += push_operation(alloc, store, op, &mut ends, block, writer)?;
+        lines += push_operation(alloc, store, dels, op, &mut ends, &mut last, block, writer)?;
     }
-    Ok(lines)
+    let rest = push_last(alloc, last, block, writer)?;
+    Ok(lines + rest)
+}
+
+/// Adds the line of the last run of deletions, where there is one, and answers how many there are.
+fn push_last<W: Write>(
+    alloc: Global,
+    last: Option<DeletionRun>,
+    block: &mut Block,
+    writer: &mut Counted<W>,
+) -> Result<u64, SendFault>
+    ensures number { IfOk result (λ n. n ≡ length (last_line last)) }
+    ensures few { IfOk result (λ n. n ≤ 1) }
+    ensures ok { OnOk result (WritesAllBut W.contents writer.old writer.new
+        (block.old ++ bytes_of_lines (last_line last)) block.new) }
+    ensures begun { WritesFront W.contents writer.old writer.new block.old }
+    ensures device { CountsAs SendFault.Write result writer.old writer.new }
+{
+    let Some(run) = last else {
+        return Ok(0);
+    };
+    let Ok(line) = deletion_line(alloc, &run) else {
+        return Err(SendFault::Memory);
+    };
+    block.take_line(&line, writer)?;
+    Ok(1)
 }
 
 /// Adds the line that comes for an operation, where one does, and answers how many there are.
 fn push_operation<S: TextStore, W: Write>(
     alloc: Global,
     store: &S,
+    dels: bool,
     op: &Op,
     ends: &mut RunEnds,
+    last: &mut Option<DeletionRun>,
     block: &mut Block,
     writer: &mut Counted<W>,
 ) -> Result<u64, SendFault>
     requires { checked op.now ≡ Ok tt }
-    ensures number { IfOk result (λ n. n ≡ length (lines_at (S.content store.now)
-        (slice_index ends.old) op.now)) }
+    ensures number { IfOk result (λ n. n ≡ length (lines_at dels (S.content store.now)
+        (slice_index ends.old) last.old op.now)) }
     ensures ok { OnOk result (WritesAllBut W.contents writer.old writer.new
-        (block.old ++ bytes_of_lines (lines_at (S.content store.now) (slice_index ends.old) op.now))
-        block.new) }
+        (block.old ++ bytes_of_lines (lines_at dels (S.content store.now)
+        (slice_index ends.old) last.old op.now)) block.new) }
+    ensures last { OnOk result (last.new ≡ last_behind dels last.old op.now) }
     ensures ends { OnOk result ((replica : ℕ) → slice_index ends.new replica
         ≡ ends_behind (S.content store.now) (slice_index ends.old) op.now replica) }
     ensures writable { OnOk result (IsWritable op.now) }
     ensures begun { WritesFront W.contents writer.old writer.new block.old }
     ensures device { CountsAs SendFault.Write result writer.old writer.new }
 {
-    let Some(line) = next_line(alloc, store, op, ends)? else {
+    let Some(line) = next_line(alloc, store, dels, op, ends, last)? else {
         return Ok(0);
     };
     block.take_line(&line, writer)?;
@@ -123,16 +181,20 @@ fn push_operation<S: TextStore, W: Write>(
 }
 
 /// The line that comes for an operation, if one does: an insertion that is in the last run of its
-/// replica has none.
+/// replica has none, and where deletions are written in runs each ends the run before it or goes on
+/// with it.
 fn next_line<S: TextStore>(
     alloc: Global,
     store: &S,
+    dels: bool,
     op: &Op,
     ends: &mut RunEnds,
+    last: &mut Option<DeletionRun>,
 ) -> Result<Option<String>, SendFault>
     requires { checked op.now ≡ Ok tt }
     ensures line { IfOk result (λ line. option_map_or (λ text. string_bytes text ∷ []) line []
-        ≡ lines_at (S.content store.now) (slice_index ends.old) op.now) }
+        ≡ lines_at dels (S.content store.now) (slice_index ends.old) last.old op.now) }
+    ensures last { OnOk result (last.new ≡ last_behind dels last.old op.now) }
     ensures ends { OnOk result ((replica : ℕ) → slice_index ends.new replica
         ≡ ends_behind (S.content store.now) (slice_index ends.old) op.now replica) }
     ensures writable { OnOk result (IsWritable op.now) }
@@ -140,12 +202,79 @@ fn next_line<S: TextStore>(
 {
     match op {
         Op::Insert { id, parent, ch } => run_line(alloc, store, *id, *parent, *ch, ends),
-        Op::Delete { .. } => {
+        Op::Delete { id } => {
+            if dels {
+                return line_of_ended(alloc, *id, last);
+            }
             let Ok(deletion) = write_line(alloc, op) else {
                 return Err(SendFault::Memory);
             };
             Ok(Some(deletion))
         }
+    }
+}
+
+/// Takes a deletion into the last run of deletions, or begins one with it. The line of the run that
+/// it ends, if it ends one.
+fn line_of_ended(
+    alloc: Global,
+    id: Id,
+    last: &mut Option<DeletionRun>,
+) -> Result<Option<String>, SendFault>
+    requires { checked (Delete id) ≡ Ok tt }
+    ensures line { IfOk result (λ line. option_map_or (λ text. string_bytes text ∷ []) line []
+        ≡ ended_line last.old id) }
+    ensures last { OnOk result (last.new ≡ Some (run_with last.old id)) }
+    ensures writable { OnOk result (IsWritable (Delete id)) }
+    ensures memory { IfErr result (λ e. e ≡ SendFault.Memory) }
+{
+    let single = single_deletion(id);
+    let Some(run) = *last else {
+        *last = Some(single);
+        return Ok(None);
+    };
+    if goes_on(&run, id) {
+        *last = Some(DeletionRun {
+            id: run.id,
+            count: run.count + 1,
+        });
+        return Ok(None);
+    }
+    let Ok(line) = deletion_line(alloc, &run) else {
+        return Err(SendFault::Memory);
+    };
+    *last = Some(single);
+    Ok(Some(line))
+}
+
+/// The run of one deletion.
+#[tactic(auto, using(rga_lines::proofs::WritableLemmas::deletion_writable))]
+fn single_deletion(id: Id) -> DeletionRun
+    requires { checked (Delete id) ≡ Ok tt }
+    ensures run { result ≡ deletion_run id 1 }
+    ensures writable { IsWritable (Delete id) }
+{
+    // What an identifier may be is told with its counter.
+    let _counter = id.counter();
+    DeletionRun { id, count: 1 }
+}
+
+/// Whether a deletion goes on with a run.
+fn goes_on(run: &DeletionRun, id: Id) -> bool
+    ensures { result ≡ goes_on_with run.now id }
+{
+    run.count < MAX_RUN as u64
+        && (id.counter() == run.id.counter() + run.count && id.replica() == run.id.replica())
+}
+
+/// The line of a run of deletions, or of a deletion where it is a run of one.
+fn deletion_line(alloc: Global, run: &DeletionRun) -> Result<String, LineFault>
+    ensures { IfOk result (λ s. string_bytes s ≡ deletion_line run.now) }
+{
+    if run.count == 1 {
+        write_line(alloc, &Op::Delete { id: run.id })
+    } else {
+        write_deletion_run(alloc, run)
     }
 }
 
@@ -160,7 +289,7 @@ fn run_line<S: TextStore>(
 ) -> Result<Option<String>, SendFault>
     requires { checked (Insert id parent ch) ≡ Ok tt }
     ensures line { IfOk result (λ line. option_map_or (λ text. string_bytes text ∷ []) line []
-        ≡ lines_at (S.content store.now) (slice_index ends.old) (Insert id parent ch)) }
+        ≡ lines_at false (S.content store.now) (slice_index ends.old) None (Insert id parent ch)) }
     ensures ends { OnOk result ((replica : ℕ) → slice_index ends.new replica
         ≡ ends_behind (S.content store.now) (slice_index ends.old) (Insert id parent ch) replica) }
     ensures writable { OnOk result (IsWritable (Insert id parent ch)) }

@@ -1,5 +1,5 @@
 //! Theorems about logs and exchanges. Each function does nothing: its contract is the theorem.
-ghost use Rattle.std.specs.Prelude.{◌≡◌, ◌↔◌, ℕ, ◌+◌, ◌<◌, ◌≤◌, ◌^◌, true, false, List, [], ◌∷◌, ◌++◌, length, Ok};
+ghost use Rattle.std.specs.Prelude.{◌≡◌, ◌↔◌, ℕ, ◌+◌, ◌<◌, ◌≤◌, ◌^◌, Bool, true, false, List, [], ◌∷◌, ◌++◌, length, Ok};
 ghost use Rattle.rga_ops.specs.Content.{Content, Agree, join, content_of, known_count, IsSound};
 ghost use Rattle.rga_ops.specs.ListAnswer.{AreWellFormed, IsJoinable};
 ghost use Rattle.rga_ops.specs.Operations.{operations};
@@ -50,8 +50,8 @@ pub fn cut_logs_stand_for_their_first_operations()
 /// The compacted lines of a content whose operations are well-formed and can be written stand for
 /// that content, and end in a newline, so that further lines may follow.
 pub fn compacted_lines_stand_for_the_content()
-    ensures { (c : Content) → IsSound c → AreWritable (operations c)
-        → StandsFor (compact_text c) c × (rest_of (compact_text c) ≡ []) }
+    ensures { (c : Content) (dels : Bool) → IsSound c → AreWritable (operations c)
+        → StandsFor (compact_text dels c) c × (rest_of (compact_text dels c) ≡ []) }
 {}
 
 /// What is sent of a content is cut into the lines that were written, with nothing behind them; the

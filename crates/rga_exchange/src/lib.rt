@@ -24,7 +24,7 @@ mod receiving;
 mod sending;
 mod taking;
 
-pub use compacting::compact;
+pub use compacting::{compact, compact_with};
 pub use fault::{LogFault, ReceiveFault, SendFault};
 pub use log::{LogEnd, LogRead, read_log, take_log};
 pub use receiving::receive;

@@ -183,7 +183,7 @@ fn rewritten(
 ) -> Result<(Result<(), ShowFault>, String, Vec<u8>), AllocError> {
     let log = Vec::from_slice(alloc, log.as_bytes())?;
     let mut logs = MemoryLogs::new(alloc, log, left);
-    let answer = compact_note(alloc, &mut logs, "note");
+    let answer = compact_note(alloc, &mut logs, "note", false);
     let mut line = String::new(alloc);
     logs.disk.push_steps(&mut line)?;
     Ok((answer, line, logs.log))

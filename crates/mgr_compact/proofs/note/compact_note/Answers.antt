@@ -14,9 +14,9 @@ returns-in-Ok-answer-clause-begun g c =
     let starts = ap (λ (w : Calls g.row.L-Next.Denot). g.L.Next.Write.contents w.inner) c.new-writer.ensures in
     let ends = ap g.L.Next.Write.contents c.into_inner-next.ensures in
     on_err_weaker c.give_name.result (λ stops.
-    stops_written (g.L.Logs.standing c.args.logs.now c.args.name.now) (g.L.Logs.steps c.args.logs.now) (g.L.Logs.steps c.make_next.new.self) (g.L.Logs.steps c.give_name.new.logs)
+    stops_written c.args.dels (g.L.Logs.standing c.args.logs.now c.args.name.now) (g.L.Logs.steps c.args.logs.now) (g.L.Logs.steps c.make_next.new.self) (g.L.Logs.steps c.give_name.new.logs)
     (g.L.Next.Write.contents c.in-Ok-make_next.next) (g.L.Next.Write.contents c.into_inner-next.result)
     (c.make_next.ensures.steps ∙ c.open_log.ensures.steps)
     (subst (λ o. IfSome o (λ _. g.L.Next.Write.contents c.in-Ok-make_next.next ≡ Some [])) c.open_log.ensures.steps c.in-Ok-make_next.ensures.empty)
-    (appended g.L.Next.Write.contents _ _ _ _ _ _ reads starts ends c.in-Ok-answer.ensures.compacted)
+    (appended g.L.Next.Write.contents _ _ _ _ _ _ _ reads starts ends c.in-Ok-answer.ensures.compacted)
     stops) c.give_name.ensures.begun

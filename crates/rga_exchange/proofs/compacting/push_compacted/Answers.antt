@@ -1,4 +1,4 @@
-use Rattle.std.proofs.Common.{◌≡◌, List, ℕ, ◌++◌, ◌∙◌, length, slice_index, refl, sym, ap, subst, true≢false, arith}
+use Rattle.std.proofs.Common.{◌≡◌, List, ℕ, ◌++◌, ◌∙◌, length, slice_index, refl, sym, ap, subst, true≢false, arith, None}
 use Rattle.std.specs.Result.{is_ok}
 use Rattle.rga_ops.specs.declared.op.Op.{Op}
 use Rattle.rga_exchange.specs.Turns.{lines_from}
@@ -7,17 +7,17 @@ use Rattle.rga_lines.specs.Stream.{bytes_of_lines}
 use Rattle.rga_exchange.specs.Compacting.{compact_lines, compact_text}
 use Rattle.rga_lines.proofs.WrittenLemmas.{begun_start}
 use Rattle.rga_exchange.proofs.BegunLemmas.{begun_part}
-use Rattle.rga_exchange.proofs.TurnLaws.{all_in_turn, one_at_most, begun_turn, fewer_left, operation_well_formed, operations_well_formed}
+use Rattle.rga_exchange.proofs.TurnLaws.{all_in_turn, one_at_most, Leaves, begun_turn, begun_last, fewer_left, none_left, operation_well_formed, operations_well_formed}
 use Rattle.rga_exchange.proofs.WritableLaws.{writable_next, writable_all}
 use Rattle.rga_exchange.proofs.compacting.push_compacted.Goals as goal
 
 pub loop-op-init : goal.loop-op-init
 loop-op-init g c =
-    let turns : lines_from (g.S.Taker.content c.args.store.now) (slice_index c.in_ok-ends.ends) c.args.ops.now ≡ compact_lines (g.S.Taker.content c.args.store.now) =
-    ap (λ (ops : List Op). lines_from (g.S.Taker.content c.args.store.now) (slice_index c.in_ok-ends.ends) ops) c.requires.all ∙ all_in_turn (g.S.Taker.content c.args.store.now) (slice_index c.in_ok-ends.ends) c.in_ok-ends.ensures in
+    let turns : lines_from c.args.dels (g.S.Taker.content c.args.store.now) (slice_index c.in_ok-ends.ends) None c.args.ops.now ≡ compact_lines c.args.dels (g.S.Taker.content c.args.store.now) =
+    ap (λ (ops : List Op). lines_from c.args.dels (g.S.Taker.content c.args.store.now) (slice_index c.in_ok-ends.ends) None ops) c.requires.all ∙ all_in_turn (g.S.Taker.content c.args.store.now) c.args.dels (slice_index c.in_ok-ends.ends) c.in_ok-ends.ensures in
     record {
-      begun = subst (λ (ls : List (List ℕ)). WritesAllBut g.W.Write.contents c.args.writer.now c.args.writer.now (c.args.block.now ++ compact_text (g.S.Taker.content c.args.store.now)) (c.args.block.now ++ bytes_of_lines ls)) (sym turns)
-          (begun_start g.W.Write.contents c.args.writer.now (c.args.block.now ++ compact_text (g.S.Taker.content c.args.store.now)));
+      begun = subst (λ (ls : List (List ℕ)). WritesAllBut g.W.Write.contents c.args.writer.now c.args.writer.now (c.args.block.now ++ compact_text c.args.dels (g.S.Taker.content c.args.store.now)) (c.args.block.now ++ bytes_of_lines ls)) (sym turns)
+          (begun_start g.W.Write.contents c.args.writer.now (c.args.block.now ++ compact_text c.args.dels (g.S.Taker.content c.args.store.now)));
       number = omega (arith, ap length turns);
       few = omega arith;
       writable = λ j op below. absurd (omega (arith, below));
@@ -29,10 +29,12 @@ push_operation-requires g c = operation_well_formed (g.S.Taker.content c.args.st
 
 pub loop-op-preserved : goal.loop-op-preserved
 loop-op-preserved g c =
-    let one = one_at_most (g.S.Taker.content c.args.store.now) (slice_index c.loop-op.ends) c.op-item.result in
+    let one = one_at_most c.args.dels (g.S.Taker.content c.args.store.now) (slice_index c.loop-op.ends) c.loop-op.last c.op-item.result in
+    let leaves : Leaves c.args.dels (g.S.Taker.content c.args.store.now) (slice_index c.loop-op.ends) (slice_index c.push_operation.new.ends) c.loop-op.last c.push_operation.new.last c.op-item.result =
+    record { next_is = c.in_ok-lines.ensures.ends; later_is = c.in_ok-lines.ensures.last } in
     record {
-      begun = begun_turn _ _ _ _ _ _ _ (g.S.Taker.content c.args.store.now) (slice_index c.loop-op.ends) (slice_index c.push_operation.new.ends) c.args.ops.now c.loop-op.op-index c.op-item.result c.loop-op-test.true c.op-item.is c.in_ok-lines.ensures.ends c.loop-op.invariant.begun c.in_ok-lines.ensures.ok;
-      number = fewer_left (g.S.Taker.content c.args.store.now) (slice_index c.loop-op.ends) (slice_index c.push_operation.new.ends) c.args.ops.now c.loop-op.op-index c.op-item.result c.loop-op.lines c.in_ok-lines.field-0 _ c.loop-op-test.true c.op-item.is c.in_ok-lines.ensures.ends c.in_ok-lines.ensures.number c.loop-op.invariant.number;
+      begun = begun_turn _ _ _ _ _ _ _ c.args.dels (g.S.Taker.content c.args.store.now) (slice_index c.loop-op.ends) (slice_index c.push_operation.new.ends) c.loop-op.last c.push_operation.new.last c.args.ops.now c.loop-op.op-index c.op-item.result c.loop-op-test.true c.op-item.is leaves c.loop-op.invariant.begun c.in_ok-lines.ensures.ok;
+      number = fewer_left c.args.dels (g.S.Taker.content c.args.store.now) (slice_index c.loop-op.ends) (slice_index c.push_operation.new.ends) c.loop-op.last c.push_operation.new.last c.args.ops.now c.loop-op.op-index c.op-item.result c.loop-op.lines c.in_ok-lines.field-0 _ c.loop-op-test.true c.op-item.is leaves c.in_ok-lines.ensures.number c.loop-op.invariant.number;
       few = omega (arith, one, c.in_ok-lines.ensures.number, c.loop-op.invariant.few);
       writable = writable_next c.args.ops.now c.loop-op.op-index c.op-item.result c.loop-op-test.true c.op-item.is c.loop-op.invariant.writable (λ _. c.in_ok-lines.ensures.writable);
       unfailed = c.in_ok-lines.ensures.device.unfailed (λ e. true≢false (ap is_ok e)) ∙ c.loop-op.invariant.unfailed;
@@ -43,3 +45,17 @@ returns-in_err-lines-clause-begun g c = begun_part _ _ _ _ _ _ _ c.loop-op.invar
 
 pub returns-clause-writable : goal.returns-clause-writable
 returns-clause-writable g c = writable_all c.args.ops.now c.loop-op.op-index (omega arith) c.loop-op.invariant.writable (operations_well_formed (g.S.Taker.content c.args.store.now) c.args.ops.now c.requires.sound c.requires.all)
+
+pub returns-in_err-rest-clause-begun : goal.returns-in_err-rest-clause-begun
+returns-in_err-rest-clause-begun g c = begun_part _ _ _ _ _ _ _ c.loop-op.invariant.begun c.in_err-rest.ensures.begun
+
+pub returns-clause-begun : goal.returns-clause-begun
+returns-clause-begun g c = begun_part _ _ _ _ _ _ _ c.loop-op.invariant.begun c.in_ok-rest.ensures.begun
+
+pub returns-clause-ok : goal.returns-clause-ok
+returns-clause-ok g c =
+    begun_last _ _ _ _ _ _ _ c.args.dels (g.S.Taker.content c.args.store.now) (slice_index c.loop-op.ends) c.loop-op.last c.args.ops.now c.loop-op.op-index (omega arith) c.loop-op.invariant.begun c.in_ok-rest.ensures.ok
+
+pub returns-clause-number : goal.returns-clause-number
+returns-clause-number g c =
+    none_left c.args.dels (g.S.Taker.content c.args.store.now) (slice_index c.loop-op.ends) c.loop-op.last c.args.ops.now c.loop-op.op-index c.loop-op.lines c.in_ok-rest.rest _ (omega arith) c.in_ok-rest.ensures.number c.loop-op.invariant.number

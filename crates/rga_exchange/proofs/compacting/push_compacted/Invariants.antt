@@ -9,9 +9,9 @@ use Rattle.rga_exchange.proofs.compacting.push_compacted.Given as goal
 abbrev pub invariant-loop-op : goal.invariant-loop-op
 invariant-loop-op g l = record {
   begun : WritesAllBut g.W.Write.contents l.initial.writer l.writer
-      (l.initial.block ++ compact_text (g.S.Taker.content l.store))
-      (l.block ++ bytes_of_lines (lines_from (g.S.Taker.content l.store) (slice_index l.ends) (drop l.op-index l.ops)));
-  number : l.lines + length (lines_from (g.S.Taker.content l.store) (slice_index l.ends) (drop l.op-index l.ops)) ≡ length (compact_lines (g.S.Taker.content l.store));
+      (l.initial.block ++ compact_text l.dels (g.S.Taker.content l.store))
+      (l.block ++ bytes_of_lines (lines_from l.dels (g.S.Taker.content l.store) (slice_index l.ends) l.last (drop l.op-index l.ops)));
+  number : l.lines + length (lines_from l.dels (g.S.Taker.content l.store) (slice_index l.ends) l.last (drop l.op-index l.ops)) ≡ length (compact_lines l.dels (g.S.Taker.content l.store));
   few : l.lines ≤ l.op-index;
   writable : AreWritableUpTo l.op-index l.ops;
   unfailed : l.writer.failures ≡ l.initial.writer.failures;

@@ -2,8 +2,8 @@ use Rattle.std.proofs.Common.{rules, ◌≡◌, ◌∙◌, ◌≤◌, List, ℕ,
 use Rattle.std.proofs.lemmas.Bool.{eqb-true, eqb-false}
 use Rattle.clap.specs.Matches.{first_value, found_of}
 use Rattle.clap.proofs.WalkLemmas.{first_value-rows}
-use Rattle.mgr_command.proofs.GivenLemmas.{same_some}
-use Rattle.mgr_command.proofs.given.name_of.Goals as goal
+use Rattle.mgr_command.proofs.GivenLemmas.{same_some, flag_read}
+use Rattle.mgr_command.proofs.given.compaction_of.Goals as goal
 
 pub returns-in_default : goal.returns-in_default
 returns-in_default c = λ name given some.
@@ -20,7 +20,9 @@ returns-then-is_empty c = λ name given some.
 
 pub returns : goal.returns
 returns c =
-    let some = eqb-false _ _ (sym c.if-is_empty.ensures) in (
-      sym (first_value-rows (found_of c.args.found.now) (codes "name")) ∙ sym c.in-Some.ensures ∙ ap Some (sym c.in_ok-from_str.ensures.ok),
-      subst (λ (l : List ℕ). 1 ≤ length l) (sym c.in_ok-from_str.ensures.ok) (omega (arith, some)),
-    )
+    let some = eqb-false _ _ (sym c.if-is_empty.ensures) in
+    record {
+      name = sym (first_value-rows (found_of c.args.found.now) (codes "name")) ∙ sym c.in-Some.ensures ∙ ap Some (sym c.in_ok-from_str.ensures.ok);
+      some = subst (λ (l : List ℕ). 1 ≤ length l) (sym c.in_ok-from_str.ensures.ok) (omega (arith, some));
+      dels = flag_read (found_of c.args.found.now) (codes "dels") _ c.get_flag.ensures.none c.get_flag.ensures.value c.get_flag.ensures.other;
+    }

@@ -4,19 +4,19 @@ use Rattle.mgr_show.specs.declared.fault.ShowFault.{ShowFault}
 use Rattle.mgr_show.specs.declared.fault.ShowFault.TheVariants.{Read}
 use Rattle.mgr_show.proofs.ShownLaws.{content_of_input, whole_from}
 use Rattle.mgr_show.proofs.CompactedLaws.{compacts, begins_to_compact, on_err}
-use Rattle.mgr_show.proofs.compact.compact_log.Goals as goal
+use Rattle.mgr_show.proofs.compact.compact_log_with.Goals as goal
 
 pub returns-clause-compacted : goal.returns-clause-compacted
 returns-clause-compacted g c =
     let made = c.in-Ok.ensures.made refl in
     let content = content_of_input _ _ _ _ made.1 made.0 c.in_ok-take_whole_log.ensures.ok in
-    compacts _ _ _ _ _ content c.in_ok-compact.ensures.stands c.in_ok-compact.ensures.ended c.in_ok-compact.ensures.written
+    compacts _ _ _ _ _ _ content c.in_ok-compact_with.ensures.stands c.in_ok-compact_with.ensures.ended c.in_ok-compact_with.ensures.written
 
-pub returns-in_err-compact-clause-begun : goal.returns-in_err-compact-clause-begun
-returns-in_err-compact-clause-begun g c =
+pub returns-in_err-compact_with-clause-begun : goal.returns-in_err-compact_with-clause-begun
+returns-in_err-compact_with-clause-begun g c =
     let made = c.in-Ok.ensures.made refl in
     let content = content_of_input _ _ _ _ made.1 made.0 c.in_ok-take_whole_log.ensures.ok in
-    on_err c.from_residual-in_err-compact.result (begins_to_compact _ _ _ _ _ content c.in_err-compact.ensures.begun)
+    on_err c.from_residual-in_err-compact_with.result (begins_to_compact _ _ _ _ _ _ content c.in_err-compact_with.ensures.begun)
 
 abbrev failed : ShowFault → Result (Unit {0}) ShowFault
 failed e = Err e

@@ -4,7 +4,7 @@ use Rattle.rga_exchange.specs.Sending.{AreWritable}
 use Rattle.rga_exchange.proofs.BegunLemmas.{begun_left}
 use Rattle.rga_exchange.proofs.CompactLaws.{compact_stands}
 use Rattle.rga_exchange.proofs.LogTextLemmas.{log_begun}
-use Rattle.rga_exchange.proofs.compacting.compact.Goals as goal
+use Rattle.rga_exchange.proofs.compacting.compact_with.Goals as goal
 
 pub returns-in_err-finish-clause-begun : goal.returns-in_err-finish-clause-begun
 returns-in_err-finish-clause-begun g c =
@@ -15,10 +15,10 @@ writable : (g : _) (c : goal.After-drop-ops-2 g) → AreWritable (operations (g.
 writable g c = subst AreWritable (c.deref.ensures.value ∙ c.in_ok-ops.ensures.ok) c.in_ok-lines.ensures.writable
 
 pub returns-clause-stands : goal.returns-clause-stands
-returns-clause-stands g c = (compact_stands (g.S.Taker.content c.args.store.now) c.in_ok-ops.ensures.sound (writable g c)).0
+returns-clause-stands g c = (compact_stands (g.S.Taker.content c.args.store.now) c.in_ok-ops.ensures.sound (writable g c) c.args.dels).0
 
 pub returns-clause-ended : goal.returns-clause-ended
-returns-clause-ended g c = (compact_stands (g.S.Taker.content c.args.store.now) c.in_ok-ops.ensures.sound (writable g c)).1
+returns-clause-ended g c = (compact_stands (g.S.Taker.content c.args.store.now) c.in_ok-ops.ensures.sound (writable g c) c.args.dels).1
 
 pub returns-clause-begun : goal.returns-clause-begun
 returns-clause-begun g c =
