@@ -75,12 +75,11 @@ pub fn job_status(fault: &JobFault) -> u8
 ///
 /// `show` alone is `Job::Show`; a `--` may end its flags. `edit` is followed by what clap reads: a
 /// name, `--replica N`, and the other options, each at most once and within its limits, `compact` by
-/// a name, and `--dels` or not. `Help` is on the program where the first word behind its name is `--help`, or `-h` with
-/// anything behind it, on `show` where the first word behind `show` is, and on `edit` and `compact`
-/// where clap finds it there. `Version`
-/// where the first word is `--version`, or `-V` with anything behind it. `help` in front is `--help`
-/// behind: `mgr help show` asks for what `mgr show --help` does. `Usage` at any other command line,
-/// and `Memory`.
+/// a name, and `--dels` or not. `Help` is on the program where the first word behind its name is
+/// `--help`, or `-h` with anything behind it, on `show` where the first word behind `show` is, and
+/// on `edit` and `compact` where clap finds it there. `Version` where the first word is `--version`,
+/// or `-V` with anything behind it. `help` in front is `--help` behind: `mgr help show` asks for
+/// what `mgr show --help` does. `Usage` at any other command line, and `Memory`.
 pub fn job_of(alloc: Global, words: &[String]) -> Result<Job, JobFault>
     ensures job { IfOk result (IsJobOf (wish_of (map string_bytes words.now))) }
     ensures fault { IfErr result (IsFaultOf (wish_of (map string_bytes words.now))) }
