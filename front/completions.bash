@@ -45,7 +45,7 @@ _mgr() {
             elif [[ ${COMP_WORDS[1]} == edit ]]; then
                 _mgr_word "$word" --replica --rows --cols --fill --port --trace --newest --cursor --resizable --help
             elif [[ ${COMP_WORDS[1]} == compact ]]; then
-                _mgr_word "$word" --help
+                _mgr_word "$word" --dels --help
             fi
             ;;
     esac

@@ -84,8 +84,7 @@ class Notes:
         known = sorted(self.inserted) or [(1, 1)]
         for _ in range(self.random.randint(1, 6)):
             counter, replica = self.random.choice(known)
-            for further in range(self.random.choice((1, 1, 2, 5))):
-                self.delete((min(GREATEST, counter + further + self.random.choice((0, 0, 0, 1))), replica))
+            self.delete((min(GREATEST, counter + self.random.choice((0, 0, 0, 1))), replica))
 
     def insert(self, element, parent):
         sign = self.random.choice(SIGNS)

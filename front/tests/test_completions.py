@@ -37,13 +37,13 @@ class TestCompletions(unittest.TestCase):
         self.assertEqual(completed("mgr-live", "--"), options_of(parser()))
         self.assertEqual(completed("mgr-hub", "note", "--"), options_of(hub_parser()))
         told = {f"--{name}" for name in re.findall(r"Fl -(\w+)", MANUAL.read_text())}
-        self.assertEqual(completed("/usr/bin/mgr", "edit", "note", "--"), sorted(told | {"--help"}))
+        self.assertEqual(completed("/usr/bin/mgr", "edit", "note", "--"), sorted(told - {"--dels"} | {"--help"}))
         self.assertEqual(completed("mgr-live", "--t"), ["--take-file"])
 
     def test_jobs(self) -> None:
         self.assertEqual(completed("mgr", "e"), ["edit"])
         self.assertEqual(completed("mgr", "c"), ["compact"])
-        self.assertEqual(completed("mgr", "compact", "--"), ["--help"])
+        self.assertEqual(completed("mgr", "compact", "--"), ["--dels", "--help"])
         self.assertEqual(completed("mgr", "show", ""), [])
 
     def test_values(self) -> None:
