@@ -92,19 +92,10 @@ pub lesser_from : (least less : Identifier) (xs : List Entry) → is_gt (id_cmp 
 lesser_from least less [] h from = tt
 lesser_from least less (x ∷ xs) h from = (not_larger less least x.id h from.0, lesser_from least less xs h from.1)
 
-pub from_take : (least : Identifier) (xs : List Entry) (i : ℕ) → AreFrom least xs → AreFrom least (take i xs)
-from_take least xs zero from = tt
-from_take least [] (suc i) from = tt
-from_take least (x ∷ xs) (suc i) from = (from.0, from_take least xs i from.1)
-
 pub from_drop : (least : Identifier) (xs : List Entry) (i : ℕ) → AreFrom least xs → AreFrom least (drop i xs)
 from_drop least xs zero from = from
 from_drop least [] (suc i) from = tt
 from_drop least (x ∷ xs) (suc i) from = from_drop least xs i from.1
-
-pub from_nothing : (id : Identifier) (xs : List Entry) → length xs ≡ 0 → AreFrom id xs
-from_nothing id [] h = tt
-from_nothing id (x ∷ xs) h = absurd (omega (arith, h))
 
 -- ---- one more of a list
 

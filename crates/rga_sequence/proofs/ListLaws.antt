@@ -63,14 +63,6 @@ length_drop (suc i) (x ∷ xs) h = sym (one_more i (length (drop i xs))) ∙ ap 
 
 -- ---- the larger ones at the front
 
-pub larger_within : (id : Identifier) (xs : List Entry) → larger_at_front id xs ≤ length xs
-larger_within id [] = omega arith
-larger_within id (x ∷ xs) =
-    elim (is_gt (id_cmp x.id id)) as (λ b. cond b (suc (larger_at_front id xs)) 0 ≤ suc (length xs)) [
-      | true ↦ let rest : larger_at_front id xs ≤ length xs = larger_within id xs in omega arith
-      | false ↦ omega arith
-    ]
-
 pub passed : (entry : Entry) (xs rest : List Entry) → put_past_larger entry (xs ++ rest) ≡ take (larger_at_front entry.id xs) xs ++ put_past_larger entry (drop (larger_at_front entry.id xs) xs ++ rest)
 passed entry [] rest = refl
 passed entry (x ∷ xs) rest =
@@ -96,7 +88,3 @@ on_ok_map (Err y) f h = h
 pub on_err_always : {T E P : Type 0} (r : Result T E) → P → OnErr r P
 on_err_always (Ok x) h = tt
 on_err_always (Err y) h = h
-
-pub on_err_map : {T E P Q : Type 0} (r : Result T E) → (P → Q) → OnErr r P → OnErr r Q
-on_err_map (Ok x) f h = h
-on_err_map (Err y) f h = f h

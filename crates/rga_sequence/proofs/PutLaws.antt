@@ -195,13 +195,6 @@ part_of (x ∷ xs) (suc i) d w =
 
 -- ---- an entry behind its parent
 
-pub put_in_none : (parent : Identifier) (e : Entry) → (is_root parent || false) ≡ true → e ∷ [] ≡ put_entry parent e []
-put_in_none parent e =
-    elim (is_root parent) as (λ b. (b || false) ≡ true → e ∷ [] ≡ cond b (e ∷ []) []) [
-      | true ↦ λ h. refl
-      | false ↦ λ h. absurd (true≢false (sym h))
-    ]
-
 pub apart_there : (bs : Blocks) (b i : ℕ) (e : Entry) → IsPlace bs b i → has e.id (flat bs) ≡ false → AreApart (flat bs) → AreApart (before bs b i ++ e ∷ behind bs b i)
 apart_there bs b i e p h apart =
     let parts : flat bs ≡ before bs b i ++ behind bs b i = parted bs b i p in
@@ -210,10 +203,6 @@ apart_there bs b i e p h apart =
 pub apart_one : (e : Entry) → AreApart (e ∷ [])
 unfolding IsDistinct
 apart_one e = (tt, tt)
-
-pub none_in : (bs : Blocks) → length bs ≡ 0 → bs ≡ []
-none_in [] h = refl
-none_in (x ∷ xs) h = absurd (omega (arith, h))
 
 -- ---- a place in a block that is full
 

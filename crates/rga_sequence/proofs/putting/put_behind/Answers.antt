@@ -4,7 +4,7 @@ use Rattle.rga_sequence.specs.declared.entry.Entry.{Entry}
 use Rattle.rga_sequence.specs.Entries.{has, put_past_larger, put_entry, AreApart}
 use Rattle.rga_sequence.specs.Blocks.{Blocks, flat, before, behind, IsSequence}
 use Rattle.rga_sequence.proofs.ListLaws.{on_ok_map}
-use Rattle.rga_sequence.proofs.PutLaws.{put_in_none, apart_there, apart_one, none_in, either_way}
+use Rattle.rga_sequence.proofs.PutLaws.{apart_there, apart_one, either_way}
 use Rattle.rga_sequence.proofs.putting.put_behind.Goals as goal
 
 pub returns-then-as_slice-eq0-clause-kept : goal.returns-then-as_slice-eq0-clause-kept
