@@ -1,10 +1,11 @@
 #!/usr/bin/env python3
 """Measures compaction: what `mgr compact` makes of logs, and what it and the reading cost.
 
-Prints a row for each log: its operations; its bytes and those of the compacted log, and how many times fewer
-these are, without `--dels` and with it; the microseconds that an operation takes in `mgr show` of the log, in `mgr compact`, and in `mgr show`
-of what that wrote; and both over the first. Times are of user and system together, the least of three. That
-text and size are right is tested first: `mgr show` has to write the same of both.
+Prints a row for each log, without `--dels` and with it: its operations; its bytes and those of the
+compacted log, and how many times fewer these are; the microseconds that an operation takes in `mgr show`
+of the log, in `mgr compact`, and in `mgr show` of what that wrote; and both over the first. Times are of
+user and system together, the least of three. That text and size are right is tested first: `mgr show` has
+to write the same of both.
 """
 
 import os
