@@ -128,6 +128,9 @@ class Session:
             if time.monotonic() > end:
                 raise Unexpected(f"mgr goes on for {SECONDS} seconds")
             self._read(0.001)
+        if self.has_ended():
+            while self._read(0):
+                pass
 
     def _settle(self):
         self.settle(lambda: self.has_ended() or self._has_read_all() and self._sleeps())
@@ -170,11 +173,12 @@ class Session:
         return self.process.poll() is not None
 
     def _read(self, seconds):
-        """Takes what is shown, if anything is within these seconds."""
-        if self.process.stdout.closed:
-            return
-        if select.select([self.process.stdout], [], [], seconds)[0]:
-            self.shown += os.read(self.process.stdout.fileno(), 1 << 20)
+        """Takes what is shown, if anything is within these seconds, and returns that."""
+        if self.process.stdout.closed or not select.select([self.process.stdout], [], [], seconds)[0]:
+            return b""
+        more = os.read(self.process.stdout.fileno(), 1 << 20)
+        self.shown += more
+        return more
 
     def close(self):
         """Ends the keys, and waits for the end; returns the status."""
