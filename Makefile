@@ -25,8 +25,8 @@ build: build/mgr
 	@echo "build/mgr is up to date"
 
 build/mgr: $(SOURCES)
-	@$(NEED_RT)
-	@scripts/build.sh
+	@$(NEED_RT); $(NEED_PYTHON)
+	@scripts/build.py
 
 # The program, where it was built from these sources: then it is proved.
 BUILT = $(shell $(MAKE) -q build/mgr && echo build/mgr)

@@ -1,0 +1,79 @@
+#!/usr/bin/env python3
+"""Proves mgr and the crates below it, and leaves the program at build/mgr.
+
+`rt ci` does the work, in a copy that has these crates alone, without wrong bodies: it proves side
+by side what does not wait for one another, and what it proves the gate need not prove again. The
+prover's own words go to build/prove.log, whose end is shown where a crate fails.
+"""
+
+import os
+import pathlib
+import re
+import shutil
+import subprocess
+import sys
+import tempfile
+
+TOP = pathlib.Path(__file__).resolve().parent.parent
+BUILD = TOP / "build"
+LOG = BUILD / "prove.log"
+PROGRAM = "mgr"
+
+LEFT_OUT = shutil.ignore_patterns("out", "must-fail", "wrong")
+TOLD = re.compile(r"rt: (\w+) (?:is kept|proved|NOT PROVED)")
+
+
+def lines_below(name):
+    """Returns the lines of crates.txt of a crate and of those below it, each by its crate."""
+    lines = [line.partition("#")[0].strip() for line in (TOP / "crates.txt").read_text().splitlines()]
+    listed = {line.partition(":")[0].split()[0]: line for line in lines if line}
+    found, left = {}, [name]
+    while left:
+        crate = left.pop()
+        if crate in listed and crate not in found:
+            found[crate] = listed[crate]
+            left += listed[crate].partition(":")[2].split()
+    return found
+
+
+def copy(lines, to):
+    (to / "crates.txt").write_text("".join(f"{line}\n" for line in lines.values()))
+    shutil.copy(TOP / "HANDLES", to)
+    for crate in lines:
+        shutil.copytree(TOP / "crates" / crate, to / "crates" / crate, ignore=LEFT_OUT)
+
+
+def prove(tree, count):
+    """Proves what stands in a folder, and says of each of its crates when it is done; returns whether all went well."""
+    done = 0
+    how = {"stdin": subprocess.DEVNULL, "stdout": subprocess.PIPE, "stderr": subprocess.STDOUT}
+    with LOG.open("w") as log, subprocess.Popen(["rt", "ci"], cwd=tree, text=True, errors="replace", **how) as gate:
+        for line in gate.stdout:
+            log.write(line)
+            if told := TOLD.match(line):
+                done += 1
+                print(f"{done} of {count}: {told[0].removeprefix('rt: ')}", flush=True)
+    return gate.returncode == 0
+
+
+def main():
+    BUILD.mkdir(exist_ok=True)
+    # It is dated from before the build, so that an edit made meanwhile is built the next time.
+    begun = BUILD / "begun"
+    begun.touch()
+    with tempfile.TemporaryDirectory(prefix="mgr-build-") as folder:
+        tree, lines = pathlib.Path(folder), lines_below(PROGRAM)
+        copy(lines, tree)
+        if not prove(tree, len(lines)):
+            print(*LOG.read_text().splitlines()[-30:], sep="\n", file=sys.stderr)
+            sys.exit(f"{PROGRAM} is not proved: these are the last lines of {LOG.relative_to(TOP)}")
+        # Moved into place, so that a program that runs goes on.
+        new = BUILD / "mgr.new"
+        shutil.copy(tree / "crates" / PROGRAM / "out" / PROGRAM, new)
+        at = begun.stat().st_mtime
+        os.utime(new, (at, at))
+        os.replace(new, BUILD / PROGRAM)
+
+
+if __name__ == "__main__":
+    main()
