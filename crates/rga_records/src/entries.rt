@@ -1,5 +1,13 @@
-//! Records under their identifiers.
-use rga_ops::Id;
+//! Records under their identifiers: look-ups, and changes of one record.
+ghost use Rattle.std.specs.Prelude.{◌≡◌, IfOk, OnOk, OnErr, IfErr, None, false};
+ghost use Rattle.std.specs.FinMap as finite_map;
+ghost use Rattle.std.specs.FinSet as finite_set;
+ghost use Rattle.rga_ops.specs.Prelude.{element_at, join, known_ids, single};
+ghost use Rattle.rga_store.specs.Back.{without_insertion, without_deletion};
+ghost use Rattle.rga_records.specs.Records.{content_of_records, is_meaningful, AreOrdered};
+
+use rga_ops::{Id, Refusal};
+use std::collections::BTreeMap;
 
 /// What is known of an identifier. A record may come before its element, for a deletion that came
 /// early.
@@ -10,4 +18,155 @@ pub(crate) struct Record {
     pub(crate) deleted: bool,
     /// The name of the block in which the element may stand.
     pub(crate) block: usize,
+}
+
+impl Record {
+    /// A record that means nothing yet.
+    fn new() -> Record
+        ensures element { result.element ≡ None }
+        ensures unmarked { result.deleted ≡ false }
+    {
+        Record {
+            element: None,
+            deleted: false,
+            block: 0,
+        }
+    }
+
+    /// Whether a record means anything.
+    pub(crate) fn is_known(&self) -> bool
+        ensures { result ≡ is_meaningful self.now }
+    {
+        self.element.is_some() || self.deleted
+    }
+}
+
+/// The parent and the character of an element that is inserted.
+pub(crate) fn find_element(entries: &BTreeMap<Id, Record>, id: Id) -> Option<(Id, char)>
+    requires { AreOrdered entries.now.entries }
+    ensures { result ≡ element_at (content_of_records entries.now.entries) id }
+{
+    entries.get(&id)?.element
+}
+
+/// Whether an identifier is deleted.
+pub(crate) fn is_marked(entries: &BTreeMap<Id, Record>, id: Id) -> bool
+    requires { AreOrdered entries.now.entries }
+    ensures { result ≡ finite_set.contains (content_of_records entries.now.entries).deleted id }
+{
+    match entries.get(&id) {
+        Some(record) => record.deleted,
+        None => false,
+    }
+}
+
+/// Whether an identifier is inserted, deleted or both.
+pub(crate) fn is_known(entries: &BTreeMap<Id, Record>, id: Id) -> bool
+    requires { AreOrdered entries.now.entries }
+    ensures { let content = content_of_records entries.now.entries in
+        result ≡ finite_set.contains (known_ids content) id }
+{
+    match entries.get(&id) {
+        Some(record) => record.is_known(),
+        None => false,
+    }
+}
+
+/// An identifier gets its element, by one search. Says whether it is deleted already.
+pub(crate) fn set_element(
+    entries: &mut BTreeMap<Id, Record>,
+    id: Id,
+    parent: Id,
+    ch: char,
+) -> Result<bool, Refusal>
+    requires absent { finite_map.get (content_of_records entries.old.entries).inserted id ≡ None }
+    ensures deleted { let content = content_of_records entries.old.entries in
+        IfOk result (λ deleted. deleted ≡ finite_set.contains content.deleted id) }
+    ensures content { OnOk result (content_of_records entries.new.entries
+        ≡ join (content_of_records entries.old.entries) (single (Op.Insert id parent ch))) }
+    ensures same { OnErr result
+        (content_of_records entries.new.entries ≡ content_of_records entries.old.entries) }
+    ensures ordered { AreOrdered entries.new.entries }
+    ensures memory { IfErr result (λ e. e ≡ Refusal.Memory) }
+{
+    let record = entries.entry(id)?.or_insert(Record::new());
+    record.element = Some((parent, ch));
+    Ok(record.deleted)
+}
+
+/// An identifier gets its mark, by one search. Says whether it is inserted already. `Memory` only
+/// where it is not.
+pub(crate) fn mark(entries: &mut BTreeMap<Id, Record>, id: Id) -> Result<bool, Refusal>
+    ensures inserted { let content = content_of_records entries.old.entries in
+        IfOk result (λ inserted. inserted ≡ finite_map.contains_key content.inserted id) }
+    ensures content { OnOk result (content_of_records entries.new.entries
+        ≡ join (content_of_records entries.old.entries) (single (Op.Delete id))) }
+    ensures same { OnErr result
+        (content_of_records entries.new.entries ≡ content_of_records entries.old.entries) }
+    ensures growth { let content = content_of_records entries.old.entries in
+        OnErr result (finite_map.contains_key content.inserted id ≡ false) }
+    ensures ordered { AreOrdered entries.new.entries }
+    ensures memory { IfErr result (λ e. e ≡ Refusal.Memory) }
+{
+    let record = entries.entry(id)?.or_insert(Record::new());
+    record.deleted = true;
+    Ok(record.element.is_some())
+}
+
+/// The element of an identifier goes, and with it a record that has no mark. Says whether the
+/// identifier is deleted.
+pub(crate) fn clear_element(entries: &mut BTreeMap<Id, Record>, id: Id) -> bool
+    requires { AreOrdered entries.old.entries }
+    ensures deleted { let content = content_of_records entries.old.entries in
+        result ≡ finite_set.contains content.deleted id }
+    ensures content { content_of_records entries.new.entries
+        ≡ without_insertion id (content_of_records entries.old.entries) }
+    ensures ordered { AreOrdered entries.new.entries }
+{
+    if !is_marked(entries, id) {
+        let _gone = entries.remove(&id);
+        return false;
+    }
+    if let Some(record) = entries.get_mut(&id) {
+        record.element = None;
+    }
+    true
+}
+
+/// The mark of an identifier goes, and with it a record that has no element. Says whether the
+/// identifier is inserted.
+pub(crate) fn clear_mark(entries: &mut BTreeMap<Id, Record>, id: Id) -> bool
+    requires { AreOrdered entries.old.entries }
+    ensures inserted { let content = content_of_records entries.old.entries in
+        result ≡ finite_map.contains_key content.inserted id }
+    ensures content { content_of_records entries.new.entries
+        ≡ without_deletion id (content_of_records entries.old.entries) }
+    ensures ordered { AreOrdered entries.new.entries }
+{
+    if find_element(entries, id).is_none() {
+        let _gone = entries.remove(&id);
+        return false;
+    }
+    if let Some(record) = entries.get_mut(&id) {
+        record.deleted = false;
+    }
+    true
+}
+
+/// The name of the block of an identifier's record; 0 where there is none.
+pub(crate) fn block_of(entries: &BTreeMap<Id, Record>, id: Id) -> usize {
+    match entries.get(&id) {
+        Some(record) => record.block,
+        None => 0,
+    }
+}
+
+/// The record of an identifier, if there is one, gets the name of a block.
+pub(crate) fn set_block(entries: &mut BTreeMap<Id, Record>, id: Id, block: usize)
+    ensures content { content_of_records entries.new.entries ≡ content_of_records entries.old.entries }
+    ensures ordered { AreOrdered entries.new.entries }
+{
+    if let Some(record) = entries.get_mut(&id) {
+        record.block = block;
+    }
 }

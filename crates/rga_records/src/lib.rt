@@ -8,7 +8,11 @@
 //! `Records` as a content and a limit; the blocks serve speed alone and are no part of that value.
 #![tactic(auto)]
 
+mod counts;
 mod entries;
+mod list_answer;
+mod merging;
+mod operations;
 mod records_by_id;
 
 pub use records_by_id::Records;

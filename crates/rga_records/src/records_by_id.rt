@@ -2,16 +2,23 @@
 ghost use Rattle.std.specs.Prelude.{◌≡◌, ◌≢◌, ◌≤◌, ◌+◌, ◌↔◌, None, Ok, Err, OnOk, OnErr, IfOk, IfErr, true, false};
 ghost use Rattle.std.specs.FinMap as finite_map;
 ghost use Rattle.std.specs.FinSet as finite_set;
-ghost use Rattle.rga_ops.specs.Prelude.{all_checked, answer, clock_of, element_at, join, known_count, list_answer, nothing, operations, single, IsSound};
+ghost use Rattle.rga_ops.specs.Prelude.{all_checked, answer, clock_of, element_at, join, known_count, known_ids, list_answer, nothing, operations, single, IsSound};
 ghost use Rattle.rga_ops.specs.Answer.{facts};
 ghost use Rattle.rga_ops.specs.Content.{Holds};
 ghost use Rattle.rga_ops.specs.Found.{facts_of};
 ghost use Rattle.rga_ops.specs.ListAnswer.{early_conflict, least_conflict};
 ghost use Rattle.rga_ops.specs.declared.refusal.Taken.TheVariants.{New};
 ghost use Rattle.rga_store.specs.Limit.{is_limit};
-ghost use Rattle.rga_store.specs.Back.{without};
+ghost use Rattle.rga_store.specs.Back.{without, without_insertion, without_deletion};
 
-use crate::entries::Record;
+use crate::counts::{count_unless, raise, uncount_unless};
+use crate::entries::{
+    Record, block_of, clear_element, clear_mark, find_element, is_known, is_marked, mark,
+    set_block, set_element,
+};
+use crate::list_answer::answer_to_list;
+use crate::merging::{count_unknown, least_conflict};
+use crate::operations::operations_of;
 use rga_ops::{Found, Id, Op, Refusal};
 use rga_store::MAX_LIMIT;
 use std::alloc::Global;
@@ -56,7 +63,16 @@ impl Records {
         ensures made { is_limit limit ≡ true →
             result ≡ Ok (record { content = nothing; limit = limit }) }
     {
-        Err(Refusal::Range)
+        if limit < 1 || limit > MAX_LIMIT {
+            return Err(Refusal::Range);
+        }
+        Ok(Records {
+            entries: BTreeMap::new(alloc),
+            clock: 0,
+            inserted: 0,
+            known: 0,
+            limit,
+        })
     }
 
     /// What is known of an identifier, and of the room that is left, by one search. Takes no
@@ -64,11 +80,25 @@ impl Records {
     pub fn find(&self, id: Id) -> Found
         ensures { facts_of result ≡ facts self.now.limit self.now.content id }
     {
-        Found {
-            element: None,
-            deleted: false,
-            known: 0,
-            limit: 0,
+        let known = self.known;
+        let limit = self.limit;
+        match self.entries.get(&id) {
+            Some(record) => {
+                let element = record.element;
+                let deleted = record.deleted;
+                Found {
+                    element,
+                    deleted,
+                    known,
+                    limit,
+                }
+            }
+            None => Found {
+                element: None,
+                deleted: false,
+                known,
+                limit,
+            },
         }
     }
 
@@ -76,21 +106,34 @@ impl Records {
     pub fn element(&self, id: Id) -> Option<(Id, char)>
         ensures { result ≡ element_at self.now.content id }
     {
-        None
+        find_element(&self.entries, id)
     }
 
     /// Whether an identifier is deleted, be it inserted or not. Takes no memory.
     pub fn is_deleted(&self, id: Id) -> bool
         ensures { result ≡ finite_set.contains self.now.content.deleted id }
     {
-        false
+        is_marked(&self.entries, id)
+    }
+
+    /// Whether an identifier is inserted, deleted or both.
+    pub(crate) fn knows(&self, id: Id) -> bool
+        ensures { result ≡ finite_set.contains (known_ids self.now.content) id }
+    {
+        is_known(&self.entries, id)
     }
 
     /// Whether an operation is in the content. Takes no memory.
     pub fn contains(&self, op: &Op) -> bool
         ensures { (result ≡ true) ↔ Holds self.now.content op.now }
     {
-        false
+        match op {
+            Op::Insert { id, parent, ch } => match self.element(*id) {
+                Some(element) => element == (*parent, *ch),
+                None => false,
+            },
+            Op::Delete { id } => self.is_deleted(*id),
+        }
     }
 
     /// The greatest counter among the insertions, their parents and the deletions; 0 where there
@@ -128,14 +171,16 @@ impl Records {
     /// The name of the block in which the element of an identifier may stand; 0 where the
     /// identifier is not known. Takes no memory.
     pub fn block(&self, id: Id) -> usize {
-        0
+        block_of(&self.entries, id)
     }
 
     /// Notes the name of the block in which the element of an identifier may stand. Nothing is
     /// noted where the identifier is not known. Takes no memory.
     pub fn set_block(&mut self, id: Id, block: usize)
         ensures { self.new ≡ self.old }
-    {}
+    {
+        set_block(&mut self.entries, id, block);
+    }
 
     /// Takes an insertion that is new. `Memory` alone, which changes nothing.
     pub fn insert(&mut self, id: Id, parent: Id, ch: char) -> Result<(), Refusal>
@@ -146,7 +191,11 @@ impl Records {
         ensures memory { IfErr result (λ e. e ≡ Refusal.Memory) }
         ensures limit { self.new.limit ≡ self.old.limit }
     {
-        Err(Refusal::Memory)
+        let deleted = set_element(&mut self.entries, id, parent, ch)?;
+        self.inserted += 1;
+        count_unless(deleted, &mut self.known);
+        raise(&mut self.clock, id.counter());
+        Ok(())
     }
 
     /// Takes a deletion that is new. `Memory` alone, which changes nothing; never for an identifier
@@ -161,7 +210,10 @@ impl Records {
             (finite_map.contains_key self.old.content.inserted id ≡ false) }
         ensures limit { self.new.limit ≡ self.old.limit }
     {
-        Err(Refusal::Memory)
+        let inserted = mark(&mut self.entries, id)?;
+        count_unless(inserted, &mut self.known);
+        raise(&mut self.clock, id.counter());
+        Ok(())
     }
 
     /// Removes an operation, to the clock from before it. Takes no memory.
@@ -170,7 +222,37 @@ impl Records {
         requires clock { clock ≡ clock_of (without op.now self.old.content) }
         ensures content { self.new.content ≡ without op.now self.old.content }
         ensures limit { self.new.limit ≡ self.old.limit }
-    {}
+    {
+        match op {
+            Op::Insert { id, .. } => self.remove_insertion(*id, clock),
+            Op::Delete { id } => self.remove_deletion(*id, clock),
+        }
+    }
+
+    /// The element of an identifier goes.
+    fn remove_insertion(&mut self, id: Id, clock: u64)
+        requires inserted { finite_map.contains_key self.old.content.inserted id ≡ true }
+        requires clock { clock ≡ clock_of (without_insertion id self.old.content) }
+        ensures content { self.new.content ≡ without_insertion id self.old.content }
+        ensures limit { self.new.limit ≡ self.old.limit }
+    {
+        let deleted = clear_element(&mut self.entries, id);
+        self.inserted -= 1;
+        uncount_unless(deleted, &mut self.known);
+        self.clock = clock;
+    }
+
+    /// The mark of an identifier goes.
+    fn remove_deletion(&mut self, id: Id, clock: u64)
+        requires deleted { finite_set.contains self.old.content.deleted id ≡ true }
+        requires clock { clock ≡ clock_of (without_deletion id self.old.content) }
+        ensures content { self.new.content ≡ without_deletion id self.old.content }
+        ensures limit { self.new.limit ≡ self.old.limit }
+    {
+        let inserted = clear_mark(&mut self.entries, id);
+        uncount_unless(inserted, &mut self.known);
+        self.clock = clock;
+    }
 
     /// The content as operations: the insertions by rising identifier, and then the deletions by
     /// rising identifier. `Memory` alone.
@@ -178,14 +260,14 @@ impl Records {
         ensures ok { IfOk result (λ ops. ops.items ≡ operations self.now.content) }
         ensures memory { IfErr result (λ e. e ≡ Refusal.Memory) }
     {
-        Err(Refusal::Memory)
+        operations_of(alloc, &self.entries)
     }
 
     /// The least identifier that names two insertions, one in each. Takes no memory.
     pub fn least_conflict(&self, other: &Records) -> Option<Id>
         ensures { result ≡ least_conflict self.now.content other.now.content }
     {
-        None
+        least_conflict(&self.entries, &other.entries)
     }
 
     /// How many identifiers the other records know and these do not. Takes no memory.
@@ -193,7 +275,7 @@ impl Records {
         ensures { known_count self.now.content + result
             ≡ known_count (join self.now.content other.now.content) }
     {
-        0
+        count_unknown(&self.entries, &other.entries)
     }
 
     /// What is answered to a list that is taken whole or not at all.
@@ -210,6 +292,6 @@ impl Records {
         ensures early { result ≡ Err Refusal.Memory →
             early_conflict self.now.content ops.now ≡ None }
     {
-        Err(Refusal::Memory)
+        answer_to_list(alloc, self, ops)
     }
 }
