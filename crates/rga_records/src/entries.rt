@@ -3,6 +3,7 @@ ghost use Rattle.std.specs.Prelude.{◌≡◌, IfOk, OnOk, OnErr, IfErr, None, f
 ghost use Rattle.std.specs.FinMap as finite_map;
 ghost use Rattle.std.specs.FinSet as finite_set;
 ghost use Rattle.rga_ops.specs.Prelude.{element_at, join, known_ids, single};
+ghost use Rattle.rga_ops.specs.declared.op.Op.TheVariants.{Insert, Delete};
 ghost use Rattle.rga_store.specs.Back.{without_insertion, without_deletion};
 ghost use Rattle.rga_records.specs.Records.{content_of_records, is_meaningful, AreOrdered};
 
@@ -83,7 +84,7 @@ pub(crate) fn set_element(
     ensures deleted { let content = content_of_records entries.old.entries in
         IfOk result (λ deleted. deleted ≡ finite_set.contains content.deleted id) }
     ensures content { OnOk result (content_of_records entries.new.entries
-        ≡ join (content_of_records entries.old.entries) (single (Op.Insert id parent ch))) }
+        ≡ join (content_of_records entries.old.entries) (single (Insert id parent ch))) }
     ensures same { OnErr result
         (content_of_records entries.new.entries ≡ content_of_records entries.old.entries) }
     ensures ordered { AreOrdered entries.new.entries }
@@ -100,7 +101,7 @@ pub(crate) fn mark(entries: &mut BTreeMap<Id, Record>, id: Id) -> Result<bool, R
     ensures inserted { let content = content_of_records entries.old.entries in
         IfOk result (λ inserted. inserted ≡ finite_map.contains_key content.inserted id) }
     ensures content { OnOk result (content_of_records entries.new.entries
-        ≡ join (content_of_records entries.old.entries) (single (Op.Delete id))) }
+        ≡ join (content_of_records entries.old.entries) (single (Delete id))) }
     ensures same { OnErr result
         (content_of_records entries.new.entries ≡ content_of_records entries.old.entries) }
     ensures growth { let content = content_of_records entries.old.entries in
@@ -143,7 +144,7 @@ pub(crate) fn clear_mark(entries: &mut BTreeMap<Id, Record>, id: Id) -> bool
         ≡ without_deletion id (content_of_records entries.old.entries) }
     ensures ordered { AreOrdered entries.new.entries }
 {
-    if find_element(entries, id).is_none() {
+    if let None = find_element(entries, id) {
         let _gone = entries.remove(&id);
         return false;
     }

@@ -43,13 +43,13 @@ pub(crate) fn count_unknown(own: &BTreeMap<Id, Record>, others: &BTreeMap<Id, Re
     count
 }
 
-/// Whether the records insert another element than this one's under its identifier.
-fn conflicts(entries: &BTreeMap<Id, Record>, id: Id, record: &Record) -> bool
+/// Whether the records insert another element than the other record's under its identifier.
+fn conflicts(entries: &BTreeMap<Id, Record>, id: Id, other: &Record) -> bool
     requires { AreOrdered entries.now.entries }
     ensures { let content = content_of_records entries.now.entries in result
-        ≡ option_map_or (λ x. has_another content (Op.Insert id x.0 x.1)) record.now.element false }
+        ≡ option_map_or (λ x. has_another content (Op.Insert id x.0 x.1)) other.now.element false }
 {
-    match record.element {
+    match other.element {
         Some(element) => have_another(entries, id, element),
         None => false,
     }
