@@ -2,7 +2,7 @@
 use Rattle.std.proofs.Common.{◌≡◌, ℕ, Bool, true, false, cond, not, ◌&&◌, ◌||◌, [], ◌∷◌, filter, is_some, refl, sym, ap, ◌∙◌}
 use Rattle.std.specs.Prelude.{Option, Some, None}
 use Rattle.std.specs.Cmp.{eq_by_cmp_equiv}
-use Rattle.std.specs.Option.{option_map, option_and_then, option_map_or}
+use Rattle.std.specs.Option.{option_map, option_and_then, option_map_or, unwrap_or}
 use Rattle.std.specs.List.{list_any, filter_map, cons_option, IsDistinct}
 use Rattle.std.specs.Map.{lookup, keys_of}
 use Rattle.std.specs.FinMap as finite_map
@@ -32,6 +32,15 @@ element_of o = option_and_then element_in o
 
 abbrev pub mark_of : Option Record → Bool
 mark_of o = option_map_or (λ v. v.deleted) o false
+
+-- the record that is there, or else a new one, shows the same
+pub mark_or_new : (o : Option Record) (found new : Record) → found ≡ unwrap_or o new → new.deleted ≡ false → found.deleted ≡ mark_of o
+mark_or_new None found new same h = ap (λ (v : Record). v.deleted) same ∙ h
+mark_or_new (Some v) found new same h = ap (λ (v : Record). v.deleted) same
+
+pub element_or_new : (o : Option Record) (found new : Record) → found ≡ unwrap_or o new → new.element ≡ None → element_in found ≡ element_of o
+element_or_new None found new same h = ap element_in same ∙ ap (option_map (λ x. element x.0 x.1)) h
+element_or_new (Some v) found new same h = ap element_in same
 
 -- no identifier has two records
 abbrev pub AreApart : Entries → Type 0

@@ -30,8 +30,8 @@ returns-in-Some-clause-content c =
     content_undeleted c.args.entries.now.entries (after c) c.args.id (Some (written c)) c.requires (c.get_mut.follows.holds (written c)).4
     ((c.get_mut.follows.holds (written c)).3 (ap is_some (found c))).0 (sym (ap element_of (found c))) refl
 
-pub returns-in_default-clause-content : goal.returns-in_default-clause-content
-returns-in_default-clause-content c =
-    let none : lookup (is c.args.id) c.args.entries.now.entries ≡ None = sym c.get_mut.ensures.value ∙ ap option_copied_mut c.in_default.is in
+pub returns-in_default-get_mut-clause-content : goal.returns-in_default-get_mut-clause-content
+returns-in_default-get_mut-clause-content c =
+    let none : lookup (is c.args.id) c.args.entries.now.entries ≡ None = sym c.get_mut.ensures.value ∙ ap option_copied_mut c.in_default-get_mut.is in
     ap (λ m. content_of_records m.entries) c.get_mut.follows.holds-at-none
     ∙ content_undeleted c.args.entries.now.entries c.args.entries.now.entries c.args.id None c.requires c.requires (none_missed c.args.entries.now.entries c.args.id none) (sym (ap element_of none)) refl

@@ -14,11 +14,11 @@ returns-then-conflicts c =
     sym (conflict_there own c.in-Some.id.now (filter_map insertion_in c.next.new.self) c.in-Some.record.now.element (sym c.conflicts.ensures ∙ c.if-conflicts.true))
     ∙ ap (λ es. first_conflicting own (filter_map insertion_in es)) (sym more)
     ∙ c.loop-id.invariant
-    ∙ least_is_first own c.args.others.now.entries c.into_iter-id-iterator.ensures.5
+    ∙ least_is_first own c.args.others.now.entries c.into_iter-id-iterator.ensures.into_iter_gives.5
 
 pub returns : goal.returns
 returns c =
     let own : Content = content_of_records c.args.own.now.entries in
     ap (λ es. first_conflicting own (filter_map insertion_in es)) (sym (rest_all deref_pair c.loop-id.id-iterator c.next.new.self c.next.result c.in-None.is c.next.ensures.steps))
     ∙ c.loop-id.invariant
-    ∙ least_is_first own c.args.others.now.entries c.into_iter-id-iterator.ensures.5
+    ∙ least_is_first own c.args.others.now.entries c.into_iter-id-iterator.ensures.into_iter_gives.5
