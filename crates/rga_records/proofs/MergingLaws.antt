@@ -1,5 +1,5 @@
 -- What two sets of records know together, and where they conflict, record by record.
-use Rattle.std.proofs.Common.{◌≡◌, ℕ, ◌+◌, ◌≤◌, suc, Bool, true, false, cond, not, ◌&&◌, List, [], ◌∷◌, map, filter, length, is_some, refl, sym, ap, ◌∙◌, arith, true≢false}
+use Rattle.std.proofs.Common.{◌≡◌, ℕ, ◌+◌, ◌≤◌, Bool, true, false, cond, not, ◌&&◌, List, [], ◌∷◌, map, filter, length, refl, sym, ap, ◌∙◌, arith, true≢false}
 use Rattle.std.specs.Prelude.{Option, Some, None, find}
 use Rattle.std.specs.Option.{option_map, option_map_or}
 use Rattle.std.specs.List.{filter_map, cons_option, AllByRecursion}
@@ -11,7 +11,7 @@ use Rattle.rga_ops.specs.Identifier.{Identifier, id_cmp}
 use Rattle.rga_ops.specs.Content.{Element, element, Content, known_ids, join}
 use Rattle.rga_ops.specs.Operations.{insertion_of}
 use Rattle.rga_ops.specs.ListAnswer.{has_another, is_conflict, least_conflict}
-use Rattle.rga_ops.proofs.IdentifierLaws.{ids_total, is}
+use Rattle.rga_ops.proofs.IdentifierLaws.{ids_total}
 use Rattle.rga_ops.proofs.CountLaws.{len-known_join}
 use Rattle.rga_ops.proofs.MemberLaws.{all_map}
 use Rattle.rga_ops.proofs.MergeLaws.{least_conflict_swap}

@@ -13,7 +13,7 @@ use Rattle.std.proofs.lemmas.Map.Entries.{none_past_head}
 use Rattle.std.proofs.lemmas.Map.Keys.{IsDistinct-from_sorted, IsDistinct-tail}
 use Rattle.rga_ops.specs.Identifier.{Identifier, id_cmp}
 use Rattle.rga_ops.specs.Content.{Element, element, join, single, known_ids}
-use Rattle.rga_ops.proofs.IdentifierLaws.{ids_total, is, is_swap, is_itself, same_id}
+use Rattle.rga_ops.proofs.IdentifierLaws.{ids_total, is, is_swap, same_id}
 use Rattle.rga_ops.proofs.ContentLaws.{same_content}
 use Rattle.rga_ops.proofs.AnswerLaws.{contains-known}
 use Rattle.rga_ops.proofs.ListSteps.{get-insertion, get-deletion}

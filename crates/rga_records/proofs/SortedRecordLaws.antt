@@ -1,10 +1,10 @@
 -- Records stand in order: so what they stand for is listed as they stand.
-use Rattle.std.proofs.Common.{◌≡◌, ℕ, ◌+◌, Bool, true, false, cond, T, List, [], ◌∷◌, ◌++◌, map, filter, length, get_or, sym, ap, ◌∙◌, subst, arith}
+use Rattle.std.proofs.Common.{◌≡◌, ◌+◌, Bool, true, false, cond, T, List, [], ◌∷◌, ◌++◌, map, filter, get_or, sym, ap, ◌∙◌, subst, arith}
 use Rattle.std.specs.Prelude.{Option, Some, None}
 use Rattle.std.specs.Option.{option_map}
 use Rattle.std.specs.Ordering.{is_lt, ordering_reverse}
 use Rattle.std.specs.declared.cmp.Ordering.TheVariants.{Less}
-use Rattle.std.specs.List.{filter_map, cons_option, list_any, IsDistinct, AllByRecursion}
+use Rattle.std.specs.List.{filter_map, cons_option, IsDistinct, AllByRecursion}
 use Rattle.std.specs.List.Sorted.{IsSorted, IsStrictlySortedBy}
 use Rattle.std.specs.Map.{keys_of}
 use Rattle.std.specs.FinMap as finite_map
@@ -18,7 +18,6 @@ use Rattle.rga_ops.specs.Content.{Element}
 use Rattle.rga_ops.specs.Operations.{insertion_of, operations, rising}
 use Rattle.rga_ops.proofs.IdentifierLaws.{ids_total, ids_exact, is}
 use Rattle.rga_ops.proofs.SortedLaws.{both_hold}
-use Rattle.rga_ops.specs.declared.op.Op.{Op}
 use Rattle.rga_ops.specs.declared.op.Op.TheVariants.{Delete}
 use Rattle.rga_store.proofs.SortedIdLaws.{sorted_rising}
 use Rattle.rga_records.specs.declared.entries.Record.{Record}

@@ -1,5 +1,5 @@
 -- What is known of each identifier, and what that stands for.
-use Rattle.std.specs.Prelude.{◌≡◌, ◌||◌, ℕ, Bool, List, filter, is_some, Option}
+use Rattle.std.specs.Prelude.{◌||◌, ℕ, Bool, List, filter, is_some, Option}
 use Rattle.std.specs.List.{filter_map}
 use Rattle.std.specs.List.Sorted.{IsStrictlySortedBy}
 use Rattle.std.specs.Map.{keys_of}

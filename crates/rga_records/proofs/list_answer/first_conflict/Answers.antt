@@ -17,7 +17,7 @@ use Rattle.rga_ops.proofs.AnswerLaws.{is_element-is}
 use Rattle.rga_ops.proofs.ListAnswerLaws.{first_conflict_found}
 use Rattle.rga_ops.proofs.EarlyLaws.{first_none, no_early_behind_new}
 use Rattle.rga_ops.proofs.TakenLaws.{held_adds_nothing}
-use Rattle.rga_ops.proofs.ListSteps.{join_more, get-insertion, get-deletion, free_more}
+use Rattle.rga_ops.proofs.ListSteps.{get-insertion, get-deletion, free_more}
 use Rattle.rga_ops.specs.declared.op.Op.{Op}
 use Rattle.rga_ops.specs.declared.op.Op.TheVariants.{Insert}
 use Rattle.rga_store.proofs.EarlySteps as early

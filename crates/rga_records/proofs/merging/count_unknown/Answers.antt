@@ -1,10 +1,9 @@
 use Rattle.std.proofs.Common.{◌≡◌, ◌+◌, true, not, ◌∷◌, length, sym, ap, ◌∙◌, arith}
-use Rattle.std.specs.Prelude.{◌≤◌, Some}
 use Rattle.std.specs.FinSet as finite_set
 use Rattle.std.specs.Map.Iter.{deref_pair}
 use Rattle.std.proofs.lemmas.Map.Iter.{rest_more, rest_all}
 use Rattle.rga_ops.specs.Content.{Content, known_ids}
-use Rattle.rga_records.specs.Records.{Entries, content_of_records}
+use Rattle.rga_records.specs.Records.{content_of_records}
 use Rattle.rga_records.proofs.MergingLaws.{unknown_ids, unknown_more, unknown_within, unknown_counted}
 use Rattle.rga_records.proofs.merging.count_unknown.Goals as goal
 

@@ -1,4 +1,4 @@
-use Rattle.std.proofs.Common.{◌≡◌, [], ◌++◌, map, sym, ap, ◌∙◌}
+use Rattle.std.proofs.Common.{◌++◌, map, sym, ap, ◌∙◌}
 use Rattle.std.specs.List.{filter_map}
 use Rattle.rga_ops.specs.Operations.{insertion_of}
 use Rattle.rga_ops.specs.declared.op.Op.TheVariants.{Delete}
