@@ -1,7 +1,8 @@
 -- What records stand for, by look-ups: so what a change of one record changes.
-use Rattle.std.proofs.Common.{◌≡◌, ℕ, Bool, true, false, cond, not, ◌&&◌, ◌||◌, [], ◌∷◌, filter, is_some, refl, sym, ap, ◌∙◌}
+use Rattle.std.proofs.Common.{◌≡◌, ℕ, Bool, true, false, cond, not, ◌&&◌, ◌||◌, [], ◌∷◌, filter, is_some, refl, sym, ap, ◌∙◌, true≢false}
 use Rattle.std.specs.Prelude.{Option, Some, None}
 use Rattle.std.specs.Cmp.{eq_by_cmp_equiv}
+use Rattle.std.specs.Ordering.{is_lt}
 use Rattle.std.specs.Option.{option_map, option_and_then, option_map_or, unwrap_or}
 use Rattle.std.specs.List.{list_any, filter_map, cons_option, IsDistinct}
 use Rattle.std.specs.Map.{lookup, keys_of}
@@ -68,6 +69,14 @@ find_insertions q (e ∷ es) h =
     there : (o : Option Element) → is q e.0 ≡ false → find id_cmp q (cons_option (option_map (λ x. (e.0, x)) o) (filter_map insertion_in es)) ≡ find id_cmp q (filter_map insertion_in es)
     there None t = refl
     there (Some x) t = ap (λ b. cond b (Some x) (find id_cmp q (filter_map insertion_in es))) t
+
+-- what is above each identifier that has a record has none
+pub none_above : (es : Entries) (k id : Identifier) → ((q : Identifier) → is_some (lookup (is q) es) ≡ true → is_lt (id_cmp k q) ≡ false) → is_lt (id_cmp k id) ≡ true → None ≡ lookup (is id) es
+none_above es k id bound less =
+    elim (lookup (is id) es) as (λ o. lookup (is id) es ≡ o → None ≡ o) [
+      | None ↦ λ g. refl
+      | Some v ↦ λ g. absurd (true≢false (sym less ∙ bound id (ap is_some g)))
+    ] refl
 
 -- an identifier is inserted as its record says
 pub inserted_at : (es : Entries) → AreOrdered es → (q : Identifier) → finite_map.get (content_of_records es).inserted q ≡ element_of (lookup (is q) es)

@@ -1,7 +1,10 @@
 //! Records under their identifiers: look-ups, and changes of one record.
 ghost use Rattle.std.specs.Prelude.{◌≡◌, IfOk, OnOk, OnErr, IfErr, None, false};
+ghost use Rattle.std.specs.Option.{option_copied};
+ghost use Rattle.std.specs.BTreeMap.{get};
 ghost use Rattle.std.specs.FinMap as finite_map;
 ghost use Rattle.std.specs.FinSet as finite_set;
+ghost use Rattle.rga_ops.specs.Identifier.{id_cmp};
 ghost use Rattle.rga_ops.specs.Prelude.{element_at, join, known_ids, single};
 ghost use Rattle.rga_ops.specs.declared.op.Op.TheVariants.{Insert, Delete};
 ghost use Rattle.rga_store.specs.Back.{without_insertion, without_deletion};
@@ -42,12 +45,28 @@ impl Record {
     }
 }
 
+/// The record of an identifier. It is looked for at the end first, where the newest stand: so what
+/// rises costs no search.
+pub(crate) fn find_record<'a>(entries: &'a BTreeMap<Id, Record>, id: Id) -> Option<&'a Record>
+    ensures { option_copied result ≡ get id_cmp entries.now id }
+{
+    if let Some((last, record)) = entries.last_key_value() {
+        if *last == id {
+            return Some(record);
+        }
+        if *last < id {
+            return None;
+        }
+    }
+    entries.get(&id)
+}
+
 /// The parent and the character of an element that is inserted.
 pub(crate) fn find_element(entries: &BTreeMap<Id, Record>, id: Id) -> Option<(Id, char)>
     requires { AreOrdered entries.now.entries }
     ensures { result ≡ element_at (content_of_records entries.now.entries) id }
 {
-    entries.get(&id)?.element
+    find_record(entries, id)?.element
 }
 
 /// Whether an identifier is deleted.
@@ -55,7 +74,7 @@ pub(crate) fn is_marked(entries: &BTreeMap<Id, Record>, id: Id) -> bool
     requires { AreOrdered entries.now.entries }
     ensures { result ≡ finite_set.contains (content_of_records entries.now.entries).deleted id }
 {
-    match entries.get(&id) {
+    match find_record(entries, id) {
         Some(record) => record.deleted,
         None => false,
     }
@@ -67,7 +86,7 @@ pub(crate) fn is_known(entries: &BTreeMap<Id, Record>, id: Id) -> bool
     ensures { let content = content_of_records entries.now.entries in
         result ≡ finite_set.contains (known_ids content) id }
 {
-    match entries.get(&id) {
+    match find_record(entries, id) {
         Some(record) => record.is_known(),
         None => false,
     }
@@ -156,18 +175,42 @@ pub(crate) fn clear_mark(entries: &mut BTreeMap<Id, Record>, id: Id) -> bool
 
 /// The name of the block of an identifier's record; 0 where there is none.
 pub(crate) fn block_of(entries: &BTreeMap<Id, Record>, id: Id) -> usize {
-    match entries.get(&id) {
+    match find_record(entries, id) {
         Some(record) => record.block,
         None => 0,
     }
 }
 
-/// The record of an identifier, if there is one, gets the name of a block.
+/// The record of an identifier, if there is one, gets the name of a block. The last one costs no
+/// search.
 pub(crate) fn set_block(entries: &mut BTreeMap<Id, Record>, id: Id, block: usize)
+    requires { AreOrdered entries.old.entries }
     ensures content { content_of_records entries.new.entries ≡ content_of_records entries.old.entries }
     ensures ordered { AreOrdered entries.new.entries }
 {
+    if is_last(entries, id) {
+        return set_last_block(entries, block);
+    }
     if let Some(record) = entries.get_mut(&id) {
         record.block = block;
+    }
+}
+
+/// Whether the last record is an identifier's.
+fn is_last(entries: &BTreeMap<Id, Record>, id: Id) -> bool {
+    match entries.last_key_value() {
+        Some((last, _)) => *last == id,
+        None => false,
+    }
+}
+
+/// The last record, if there is one, gets the name of a block.
+fn set_last_block(entries: &mut BTreeMap<Id, Record>, block: usize)
+    requires { AreOrdered entries.old.entries }
+    ensures content { content_of_records entries.new.entries ≡ content_of_records entries.old.entries }
+    ensures ordered { AreOrdered entries.new.entries }
+{
+    if let Some(last) = entries.last_entry() {
+        last.into_mut().block = block;
     }
 }

@@ -13,8 +13,8 @@ ghost use Rattle.rga_store.specs.Back.{without, without_insertion, without_delet
 
 use crate::counts::{count_unless, raise, uncount_unless};
 use crate::entries::{
-    Record, block_of, clear_element, clear_mark, find_element, is_known, is_marked, mark,
-    set_block, set_element,
+    Record, block_of, clear_element, clear_mark, find_element, find_record, is_known, is_marked,
+    mark, set_block, set_element,
 };
 use crate::list_answer::answer_to_list;
 use crate::merging::{count_unknown, least_conflict};
@@ -36,6 +36,8 @@ pub struct Records {
     /// How many identifiers are inserted, deleted or both.
     known: usize,
     limit: usize,
+    /// The identifier whose block was noted last, and that block.
+    recent: (Id, usize),
 }
 
 impl Model for Records {
@@ -72,6 +74,7 @@ impl Records {
             inserted: 0,
             known: 0,
             limit,
+            recent: (Id::ROOT, 0),
         })
     }
 
@@ -82,7 +85,7 @@ impl Records {
     {
         let known = self.known;
         let limit = self.limit;
-        match self.entries.get(&id) {
+        match find_record(&self.entries, id) {
             Some(record) => {
                 let element = record.element;
                 let deleted = record.deleted;
@@ -168,18 +171,22 @@ impl Records {
         self.limit
     }
 
-    /// The name of the block in which the element of an identifier may stand; 0 where the
-    /// identifier is not known. Takes no memory.
+    /// The name of the block in which the element of an identifier may stand, as it was noted; 0
+    /// where nothing was. What was noted last costs no search. Takes no memory.
     pub fn block(&self, id: Id) -> usize {
+        if self.recent.0 == id {
+            return self.recent.1;
+        }
         block_of(&self.entries, id)
     }
 
-    /// Notes the name of the block in which the element of an identifier may stand. Nothing is
-    /// noted where the identifier is not known. Takes no memory.
+    /// Notes the name of the block in which the element of a known identifier may stand. Takes no
+    /// memory.
     pub fn set_block(&mut self, id: Id, block: usize)
         ensures { self.new ≡ self.old }
     {
         set_block(&mut self.entries, id, block);
+        self.recent = (id, block);
     }
 
     /// Takes an insertion that is new. `Memory` alone, which changes nothing.

@@ -7,10 +7,10 @@ use Rattle.rga_records.proofs.entries.is_known.Goals as goal
 pub returns-in-Some : goal.returns-in-Some
 returns-in-Some c =
     c.is_known.ensures
-    ∙ ap (λ o. option_map_or is_meaningful o false) (ap option_copied (sym c.in-Some.is) ∙ c.get.ensures.value)
+    ∙ ap (λ o. option_map_or is_meaningful o false) (ap option_copied (sym c.in-Some.is) ∙ c.find_record.ensures)
     ∙ sym (known_at c.args.entries.now.entries c.requires c.args.id)
 
 pub returns-in-None : goal.returns-in-None
 returns-in-None c =
-    ap (λ o. option_map_or is_meaningful o false) (ap option_copied (sym c.in-None.is) ∙ c.get.ensures.value)
+    ap (λ o. option_map_or is_meaningful o false) (ap option_copied (sym c.in-None.is) ∙ c.find_record.ensures)
     ∙ sym (known_at c.args.entries.now.entries c.requires c.args.id)
