@@ -1,0 +1,4 @@
+pub mod RecordLaws
+pub mod CountedLaws
+pub mod SortedRecordLaws
+pub mod MergingLaws

@@ -1,0 +1,195 @@
+-- What records stand for, by look-ups: so what a change of one record changes.
+use Rattle.std.proofs.Common.{◌≡◌, ℕ, Bool, true, false, cond, not, ◌&&◌, ◌||◌, [], ◌∷◌, filter, is_some, refl, sym, ap, ◌∙◌, true≢false}
+use Rattle.std.specs.Prelude.{Option, Some, None}
+use Rattle.std.specs.Cmp.{eq_by_cmp_equiv}
+use Rattle.std.specs.Ordering.{is_lt}
+use Rattle.std.specs.Option.{option_map, option_and_then, option_map_or, unwrap_or}
+use Rattle.std.specs.List.{list_any, filter_map, cons_option, IsDistinct}
+use Rattle.std.specs.Map.{lookup, keys_of}
+use Rattle.std.specs.FinMap as finite_map
+use Rattle.std.specs.FinMap.{find}
+use Rattle.std.specs.FinSet as finite_set
+use Rattle.std.proofs.lemmas.Map.{lookup-none}
+use Rattle.std.proofs.lemmas.Map.Entries.{none_past_head}
+use Rattle.std.proofs.lemmas.Map.Keys.{IsDistinct-from_sorted, IsDistinct-tail}
+use Rattle.rga_ops.specs.Identifier.{Identifier, id_cmp}
+use Rattle.rga_ops.specs.Content.{Element, element, join, single, known_ids}
+use Rattle.rga_ops.proofs.IdentifierLaws.{ids_total, is, is_swap, same_id}
+use Rattle.rga_ops.proofs.ContentLaws.{same_content}
+use Rattle.rga_ops.proofs.AnswerLaws.{contains-known}
+use Rattle.rga_ops.proofs.ListSteps.{get-insertion, get-deletion}
+use Rattle.rga_ops.specs.declared.op.Op.TheVariants.{Insert, Delete}
+use Rattle.rga_store.proofs.NodeLaws.{is_some-mapped}
+use Rattle.rga_store.proofs.StepLaws.{deleted_then, deleted_now}
+use Rattle.rga_store.proofs.ChildLaws.{true_where}
+use Rattle.rga_store.specs.Back.{without_insertion, without_deletion}
+use Rattle.rga_records.specs.declared.entries.Record.{Record}
+use Rattle.rga_records.specs.Records.{Entries, element_in, insertion_in, ids_where, marked_ids, is_meaningful, content_of_records, AreOrdered}
+
+-- ---- what is found at an identifier
+
+abbrev pub element_of : Option Record → Option Element
+element_of o = option_and_then element_in o
+
+abbrev pub mark_of : Option Record → Bool
+mark_of o = option_map_or (λ v. v.deleted) o false
+
+-- the record that is there, or else a new one, shows the same
+pub mark_or_new : (o : Option Record) (found new : Record) → found ≡ unwrap_or o new → new.deleted ≡ false → found.deleted ≡ mark_of o
+mark_or_new None found new same h = ap (λ (v : Record). v.deleted) same ∙ h
+mark_or_new (Some v) found new same h = ap (λ (v : Record). v.deleted) same
+
+pub element_or_new : (o : Option Record) (found new : Record) → found ≡ unwrap_or o new → new.element ≡ None → element_in found ≡ element_of o
+element_or_new None found new same h = ap element_in same ∙ ap (option_map (λ x. element x.0 x.1)) h
+element_or_new (Some v) found new same h = ap element_in same
+
+-- no identifier has two records
+abbrev pub AreApart : Entries → Type 0
+AreApart es = IsDistinct is (keys_of es)
+
+pub apart_of : (es : Entries) → AreOrdered es → AreApart es
+apart_of es h = IsDistinct-from_sorted id_cmp (keys_of es) h
+
+none_later : (q : Identifier) (e : Identifier × Record) (es : Entries) → AreApart (e ∷ es) → is q e.0 ≡ true → lookup (is q) es ≡ None
+none_later q e es h t = lookup-none (is q) es (none_past_head (eq_by_cmp_equiv ids_total) q e es h t)
+
+find_insertions : (q : Identifier) (es : Entries) → AreApart es → find id_cmp q (filter_map insertion_in es) ≡ element_of (lookup (is q) es)
+find_insertions q [] h = refl
+find_insertions q (e ∷ es) h =
+    let rest : find id_cmp q (filter_map insertion_in es) ≡ element_of (lookup (is q) es) = find_insertions q es (IsDistinct-tail is e.0 (keys_of es) h) in
+    elim (is q e.0) as (λ b. is q e.0 ≡ b → find id_cmp q (cons_option (insertion_in e) (filter_map insertion_in es)) ≡ element_of (cond b (Some e.1) (lookup (is q) es))) [
+      | true ↦ λ t. here (element_in e.1) t (rest ∙ ap element_of (none_later q e es h t))
+      | false ↦ λ t. there (element_in e.1) t ∙ rest
+    ] refl
+  where
+    here : (o : Option Element) → is q e.0 ≡ true → find id_cmp q (filter_map insertion_in es) ≡ None → find id_cmp q (cons_option (option_map (λ x. (e.0, x)) o) (filter_map insertion_in es)) ≡ o
+    here None t none = none
+    here (Some x) t none = ap (λ b. cond b (Some x) (find id_cmp q (filter_map insertion_in es))) t
+
+    there : (o : Option Element) → is q e.0 ≡ false → find id_cmp q (cons_option (option_map (λ x. (e.0, x)) o) (filter_map insertion_in es)) ≡ find id_cmp q (filter_map insertion_in es)
+    there None t = refl
+    there (Some x) t = ap (λ b. cond b (Some x) (find id_cmp q (filter_map insertion_in es))) t
+
+-- what is above each identifier that has a record has none
+pub none_above : (es : Entries) (k id : Identifier) → ((q : Identifier) → is_some (lookup (is q) es) ≡ true → is_lt (id_cmp k q) ≡ false) → is_lt (id_cmp k id) ≡ true → None ≡ lookup (is id) es
+none_above es k id bound less =
+    elim (lookup (is id) es) as (λ o. lookup (is id) es ≡ o → None ≡ o) [
+      | None ↦ λ g. refl
+      | Some v ↦ λ g. absurd (true≢false (sym less ∙ bound id (ap is_some g)))
+    ] refl
+
+-- an identifier is inserted as its record says
+pub inserted_at : (es : Entries) → AreOrdered es → (q : Identifier) → finite_map.get (content_of_records es).inserted q ≡ element_of (lookup (is q) es)
+inserted_at es h q = finite_map.get-from_entries ids_total (filter_map insertion_in es) q ∙ find_insertions q es (apart_of es h)
+
+-- an identifier is among those of the records that pass a test as its record says
+pub any_where : (test : Record → Bool) (q : Identifier) (es : Entries) → AreApart es → list_any (is q) (ids_where test es) ≡ option_map_or test (lookup (is q) es) false
+any_where test q [] h = refl
+any_where test q (e ∷ es) h =
+    let rest : list_any (is q) (ids_where test es) ≡ option_map_or test (lookup (is q) es) false = any_where test q es (IsDistinct-tail is e.0 (keys_of es) h) in
+    elim (is q e.0) as (λ b. is q e.0 ≡ b → list_any (is q) (ids_where test (e ∷ es)) ≡ option_map_or test (cond b (Some e.1) (lookup (is q) es)) false) [
+      | true ↦ λ t. here (test e.1) t (rest ∙ ap (λ o. option_map_or test o false) (none_later q e es h t))
+      | false ↦ λ t. there (test e.1) t ∙ rest
+    ] refl
+  where
+    here : (b : Bool) → is q e.0 ≡ true → list_any (is q) (ids_where test es) ≡ false → list_any (is q) (keys_of (cond b (e ∷ filter (λ d. test d.1) es) (filter (λ d. test d.1) es))) ≡ b
+    here true t none = ap (λ b. b || list_any (is q) (ids_where test es)) t
+    here false t none = none
+
+    there : (b : Bool) → is q e.0 ≡ false → list_any (is q) (keys_of (cond b (e ∷ filter (λ d. test d.1) es) (filter (λ d. test d.1) es))) ≡ list_any (is q) (ids_where test es)
+    there true t = ap (λ b. b || list_any (is q) (ids_where test es)) t
+    there false t = refl
+
+-- and deleted as its record says
+pub deleted_at : (es : Entries) → AreOrdered es → (q : Identifier) → finite_set.contains (content_of_records es).deleted q ≡ mark_of (lookup (is q) es)
+deleted_at es h q = finite_set.contains-from_list ids_total (marked_ids es) q ∙ any_where (λ v. v.deleted) q es (apart_of es h)
+
+-- and known as its record says
+pub known_at : (es : Entries) → AreOrdered es → (q : Identifier) → finite_set.contains (known_ids (content_of_records es)) q ≡ option_map_or is_meaningful (lookup (is q) es) false
+known_at es h q =
+    contains-known (content_of_records es) q
+    ∙ (λ k. is_some (inserted_at es h q k) || deleted_at es h q k)
+    ∙ shown (lookup (is q) es)
+  where
+    shown : (o : Option Record) → (is_some (element_of o) || mark_of o) ≡ option_map_or is_meaningful o false
+    shown None = refl
+    shown (Some v) = ap (λ b. b || v.deleted) (is_some-mapped v.element)
+
+-- ---- changes
+
+-- the records are as they were, but at the identifier
+abbrev pub IsChanged : Entries → Entries → Identifier → Option Record → Type 0
+IsChanged es fs id new = (q : Identifier) → lookup (is q) fs ≡ cond (is id q) new (lookup (is q) es)
+
+-- what is seen of the records is as it was, but at the identifier
+seen_now : {A : Type 0} (see : Option Record → A) (es fs : Entries) (id : Identifier) (new : Option Record) → IsChanged es fs id new → (q : Identifier) → see (lookup (is q) fs) ≡ cond (is q id) (see new) (see (lookup (is q) es))
+seen_now see es fs id new changed q = ap see (changed q) ∙ split (is id q) ∙ ap (λ b. cond b (see new) (see (lookup (is q) es))) (is_swap id q)
+  where
+    split : (b : Bool) → see (cond b new (lookup (is q) es)) ≡ cond b (see new) (see (lookup (is q) es))
+    split true = refl
+    split false = refl
+
+-- and at the identifier too, where it shows the same
+seen_same : {A : Type 0} (see : Option Record → A) (es fs : Entries) (id : Identifier) (new : Option Record) → IsChanged es fs id new → see new ≡ see (lookup (is id) es) → (q : Identifier) → see (lookup (is q) fs) ≡ see (lookup (is q) es)
+seen_same see es fs id new changed same q =
+    seen_now see es fs id new changed q
+    ∙ elim (is q id) as (λ b. is q id ≡ b → cond b (see new) (see (lookup (is q) es)) ≡ see (lookup (is q) es)) [
+      | true ↦ λ t. same ∙ ap (λ k. see (lookup (is k) es)) (sym (same_id q id t))
+      | false ↦ λ t. refl
+    ] refl
+
+-- where there is no record, none is missed
+pub none_missed : (es : Entries) (id : Identifier) → lookup (is id) es ≡ None → IsChanged es es id None
+none_missed es id none q =
+    elim (is id q) as (λ b. is id q ≡ b → lookup (is q) es ≡ cond b None (lookup (is q) es)) [
+      | true ↦ λ t. ap (λ k. lookup (is k) es) (sym (same_id id q t)) ∙ none
+      | false ↦ λ t. refl
+    ] refl
+
+module _ (es fs : Entries) (id : Identifier) (new : Option Record) (ordered : AreOrdered es) (ordered_now : AreOrdered fs) (changed : IsChanged es fs id new) where
+  -- neither the element nor the mark changes
+  pub content_kept : element_of new ≡ element_of (lookup (is id) es) → mark_of new ≡ mark_of (lookup (is id) es) → content_of_records fs ≡ content_of_records es
+  content_kept element mark = same_content _ _
+      (λ q. inserted_at fs ordered_now q ∙ seen_same element_of es fs id new changed element q ∙ sym (inserted_at es ordered q))
+      (λ q. deleted_at fs ordered_now q ∙ seen_same mark_of es fs id new changed mark q ∙ sym (deleted_at es ordered q))
+
+  -- an element comes
+  pub content_inserted : (parent : Identifier) (ch : ℕ) → element_of new ≡ Some (element parent ch) → mark_of new ≡ mark_of (lookup (is id) es)
+      → finite_map.get (content_of_records es).inserted id ≡ None → content_of_records fs ≡ join (content_of_records es) (single (Insert id parent ch))
+  content_inserted parent ch comes mark none = same_content _ _
+      (λ q. inserted_at fs ordered_now q ∙ seen_now element_of es fs id new changed q
+      ∙ (λ k. cond (is q id) (comes k) (sym (inserted_at es ordered q) k))
+      ∙ sym (get-insertion (content_of_records es) id parent ch q none))
+      (λ q. deleted_at fs ordered_now q ∙ seen_same mark_of es fs id new changed mark q ∙ sym (deleted_at es ordered q)
+      ∙ sym (deleted_then (content_of_records es) id parent ch q))
+
+  -- a mark comes
+  pub content_deleted : element_of new ≡ element_of (lookup (is id) es) → mark_of new ≡ true → content_of_records fs ≡ join (content_of_records es) (single (Delete id))
+  content_deleted element comes = same_content _ _
+      (λ q. inserted_at fs ordered_now q ∙ seen_same element_of es fs id new changed element q ∙ sym (inserted_at es ordered q)
+      ∙ sym (get-deletion (content_of_records es) id q))
+      (λ q. deleted_at fs ordered_now q ∙ seen_now mark_of es fs id new changed q
+      ∙ (λ k. cond (is q id) (comes k) (sym (deleted_at es ordered q) k))
+      ∙ true_where (is q id) (finite_set.contains (content_of_records es).deleted q)
+      ∙ sym (deleted_now (content_of_records es) id q))
+
+  -- the element goes
+  pub content_uninserted : element_of new ≡ None → mark_of new ≡ mark_of (lookup (is id) es) → content_of_records fs ≡ without_insertion id (content_of_records es)
+  content_uninserted goes mark = same_content _ _
+      (λ q. inserted_at fs ordered_now q ∙ seen_now element_of es fs id new changed q
+      ∙ (λ k. cond (is q id) (goes k) (sym (inserted_at es ordered q) k))
+      ∙ sym (finite_map.get-remove ids_total (content_of_records es).inserted id q))
+      (λ q. deleted_at fs ordered_now q ∙ seen_same mark_of es fs id new changed mark q ∙ sym (deleted_at es ordered q))
+
+  -- the mark goes
+  pub content_undeleted : element_of new ≡ element_of (lookup (is id) es) → mark_of new ≡ false → content_of_records fs ≡ without_deletion id (content_of_records es)
+  content_undeleted element goes = same_content _ _
+      (λ q. inserted_at fs ordered_now q ∙ seen_same element_of es fs id new changed element q ∙ sym (inserted_at es ordered q))
+      (λ q. deleted_at fs ordered_now q ∙ seen_now mark_of es fs id new changed q
+      ∙ (λ k. cond (is q id) (goes k) (sym (deleted_at es ordered q) k))
+      ∙ apart_then (is q id) (finite_set.contains (content_of_records es).deleted q)
+      ∙ sym (finite_set.contains-remove ids_total (content_of_records es).deleted id q))
+    where
+      apart_then : (here there : Bool) → cond here false there ≡ (not here && there)
+      apart_then true there = refl
+      apart_then false there = refl

@@ -1,0 +1,50 @@
+-- What is known of each identifier, and what that stands for.
+use Rattle.std.specs.Prelude.{◌||◌, ℕ, Bool, List, filter, is_some, Option}
+use Rattle.std.specs.List.{filter_map}
+use Rattle.std.specs.List.Sorted.{IsStrictlySortedBy}
+use Rattle.std.specs.Map.{keys_of}
+use Rattle.std.specs.Option.{option_map}
+use Rattle.std.specs.FinMap as finite_map
+use Rattle.std.specs.FinSet as finite_set
+use Rattle.rga_ops.specs.Identifier.{Identifier, id_cmp}
+use Rattle.rga_ops.specs.Content.{Element, element, Content}
+use Rattle.rga_store.specs.Tree.{IsCounted}
+use Rattle.rga_records.specs.declared.entries.Record.{Record}
+
+-- records under their identifiers
+abbrev pub Entries : Type 0
+Entries = List (Identifier × Record)
+
+-- the element of a record, if it has one
+abbrev pub element_in : Record → Option Element
+element_in v = option_map (λ x. element x.0 x.1) v.element
+
+abbrev pub insertion_in : Identifier × Record → Option (Identifier × Element)
+insertion_in e = option_map (λ x. (e.0, x)) (element_in e.1)
+
+-- the identifiers of the records that pass the test
+abbrev pub ids_where : (Record → Bool) → Entries → List Identifier
+ids_where test es = keys_of (filter (λ e. test e.1) es)
+
+abbrev pub marked_ids : Entries → List Identifier
+marked_ids = ids_where (λ v. v.deleted)
+
+-- a record that has an element, a mark or both
+abbrev pub is_meaningful : Record → Bool
+is_meaningful v = is_some v.element || v.deleted
+
+-- what the records stand for; the blocks are no part of it
+abbrev pub content_of_records : Entries → Content
+content_of_records es = record {
+  inserted = finite_map.from_entries (filter_map insertion_in es);
+  deleted = finite_set.from_list (marked_ids es);
+}
+
+-- the identifiers rise
+abbrev pub AreOrdered : Entries → Type 0
+AreOrdered es = IsStrictlySortedBy id_cmp (keys_of es)
+
+-- the identifiers rise, and the content is counted
+pub record AreRecords (es : Entries) (latest insertions identifiers limit : ℕ) : Type 0 where
+  pub ordered : AreOrdered es
+  pub counted : IsCounted (content_of_records es) latest insertions identifiers limit

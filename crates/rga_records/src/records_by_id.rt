@@ -1,0 +1,304 @@
+//! Records by identifier, with the clock and the counts of their content.
+ghost use Rattle.std.specs.Prelude.{◌≡◌, ◌≢◌, ◌≤◌, ◌+◌, ◌↔◌, None, Ok, Err, OnOk, OnErr, IfOk, IfErr, true, false};
+ghost use Rattle.std.specs.FinMap as finite_map;
+ghost use Rattle.std.specs.FinSet as finite_set;
+ghost use Rattle.rga_ops.specs.Prelude.{all_checked, answer, clock_of, element_at, join, known_count, known_ids, list_answer, nothing, operations, single, IsSound};
+ghost use Rattle.rga_ops.specs.Answer.{facts};
+ghost use Rattle.rga_ops.specs.Content.{Holds};
+ghost use Rattle.rga_ops.specs.Found.{facts_of};
+ghost use Rattle.rga_ops.specs.ListAnswer.{early_conflict, least_conflict};
+ghost use Rattle.rga_ops.specs.declared.refusal.Taken.TheVariants.{New};
+ghost use Rattle.rga_store.specs.Limit.{is_limit};
+ghost use Rattle.rga_store.specs.Back.{without, without_insertion, without_deletion};
+
+use crate::counts::{count_unless, raise, uncount_unless};
+use crate::entries::{
+    Record, block_of, clear_element, clear_mark, find_element, find_record, is_known, is_marked,
+    mark, set_block, set_element,
+};
+use crate::list_answer::answer_to_list;
+use crate::merging::{count_unknown, least_conflict};
+use crate::operations::operations_of;
+use rga_ops::{Found, Id, Op, Refusal};
+use rga_store::MAX_LIMIT;
+use std::alloc::Global;
+use std::collections::BTreeMap;
+use std::marker::Model;
+
+/// What is known of each identifier: a record for each that is inserted, deleted or both, and how
+/// many there may be. Callers see the content that the records stand for, and the limit.
+#[derive(Drop)]
+pub struct Records {
+    entries: BTreeMap<Id, Record>,
+    clock: u64,
+    /// How many identifiers are inserted.
+    inserted: usize,
+    /// How many identifiers are inserted, deleted or both.
+    known: usize,
+    limit: usize,
+    /// The identifier whose block was noted last, and that block.
+    recent: (Id, usize),
+}
+
+impl Model for Records {
+    ghost use Rattle.rga_store.specs.Kept.{Kept, kept_code};
+
+    ghost Value = { Kept };
+
+    ghost coded = { kept_code };
+
+    ghost use Rattle.rga_records.specs.Records.{content_of_records, AreRecords};
+
+    ghost view = { λ a. record {
+      content = content_of_records a.entries.entries;
+      limit = a.limit;
+    } };
+
+    ghost invariant = { λ a. AreRecords a.entries.entries a.clock a.inserted a.known a.limit };
+}
+
+impl Records {
+    /// Records of nothing, which may know `limit` identifiers. `Range` unless that is 1 to
+    /// `MAX_LIMIT`. Takes no memory.
+    pub fn new(alloc: Global, limit: usize) -> Result<Records, Refusal>
+        ensures range { is_limit limit ≡ false → result ≡ Err Refusal.Range }
+        ensures made { is_limit limit ≡ true →
+            result ≡ Ok (record { content = nothing; limit = limit }) }
+    {
+        if limit < 1 || limit > MAX_LIMIT {
+            return Err(Refusal::Range);
+        }
+        Ok(Records {
+            entries: BTreeMap::new(alloc),
+            clock: 0,
+            inserted: 0,
+            known: 0,
+            limit,
+            recent: (Id::ROOT, 0),
+        })
+    }
+
+    /// What is known of an identifier, and of the room that is left, by one search. Takes no
+    /// memory.
+    pub fn find(&self, id: Id) -> Found
+        ensures { facts_of result ≡ facts self.now.limit self.now.content id }
+    {
+        let known = self.known;
+        let limit = self.limit;
+        match find_record(&self.entries, id) {
+            Some(record) => {
+                let element = record.element;
+                let deleted = record.deleted;
+                Found {
+                    element,
+                    deleted,
+                    known,
+                    limit,
+                }
+            }
+            None => Found {
+                element: None,
+                deleted: false,
+                known,
+                limit,
+            },
+        }
+    }
+
+    /// The parent and the character of an element that is inserted. Takes no memory.
+    pub fn element(&self, id: Id) -> Option<(Id, char)>
+        ensures { result ≡ element_at self.now.content id }
+    {
+        find_element(&self.entries, id)
+    }
+
+    /// Whether an identifier is deleted, be it inserted or not. Takes no memory.
+    pub fn is_deleted(&self, id: Id) -> bool
+        ensures { result ≡ finite_set.contains self.now.content.deleted id }
+    {
+        is_marked(&self.entries, id)
+    }
+
+    /// Whether an identifier is inserted, deleted or both.
+    pub(crate) fn knows(&self, id: Id) -> bool
+        ensures { result ≡ finite_set.contains (known_ids self.now.content) id }
+    {
+        is_known(&self.entries, id)
+    }
+
+    /// Whether an operation is in the content. Takes no memory.
+    pub fn contains(&self, op: &Op) -> bool
+        ensures { (result ≡ true) ↔ Holds self.now.content op.now }
+    {
+        match op {
+            Op::Insert { id, parent, ch } => match self.element(*id) {
+                Some(element) => element == (*parent, *ch),
+                None => false,
+            },
+            Op::Delete { id } => self.is_deleted(*id),
+        }
+    }
+
+    /// The greatest counter among the insertions, their parents and the deletions; 0 where there
+    /// is none. Takes no memory.
+    pub fn clock(&self) -> u64
+        ensures { result ≡ clock_of self.now.content }
+    {
+        self.clock
+    }
+
+    /// How many identifiers are inserted, deleted or both. Takes no memory.
+    pub fn known(&self) -> usize
+        ensures known { result ≡ known_count self.now.content }
+        ensures within { result ≤ self.now.limit }
+        ensures sound { IsSound self.now.content }
+    {
+        self.known
+    }
+
+    /// How many identifiers are inserted. Takes no memory.
+    pub fn inserted(&self) -> usize
+        ensures { result ≡ finite_map.len self.now.content.inserted }
+    {
+        self.inserted
+    }
+
+    /// How many identifiers may be known. Takes no memory.
+    pub fn limit(&self) -> usize
+        ensures limit { result ≡ self.now.limit }
+        ensures range { is_limit result ≡ true }
+    {
+        self.limit
+    }
+
+    /// The name of the block in which the element of an identifier may stand, as it was noted; 0
+    /// where nothing was. What was noted last costs no search. Takes no memory.
+    pub fn block(&self, id: Id) -> usize {
+        if self.recent.0 == id {
+            return self.recent.1;
+        }
+        block_of(&self.entries, id)
+    }
+
+    /// Notes the name of the block in which the element of a known identifier may stand. Takes no
+    /// memory.
+    pub fn set_block(&mut self, id: Id, block: usize)
+        ensures { self.new ≡ self.old }
+    {
+        set_block(&mut self.entries, id, block);
+        self.recent = (id, block);
+    }
+
+    /// Takes an insertion that is new. `Memory` alone, which changes nothing.
+    pub fn insert(&mut self, id: Id, parent: Id, ch: char) -> Result<(), Refusal>
+        requires { answer self.old.limit self.old.content (Op.Insert id parent ch) ≡ Ok New }
+        ensures ok { OnOk result
+            (self.new.content ≡ join self.old.content (single (Op.Insert id parent ch))) }
+        ensures same { OnErr result (self.new.content ≡ self.old.content) }
+        ensures memory { IfErr result (λ e. e ≡ Refusal.Memory) }
+        ensures limit { self.new.limit ≡ self.old.limit }
+    {
+        let deleted = set_element(&mut self.entries, id, parent, ch)?;
+        self.inserted += 1;
+        count_unless(deleted, &mut self.known);
+        raise(&mut self.clock, id.counter());
+        Ok(())
+    }
+
+    /// Takes a deletion that is new. `Memory` alone, which changes nothing; never for an identifier
+    /// that is inserted.
+    pub fn delete(&mut self, id: Id) -> Result<(), Refusal>
+        requires { answer self.old.limit self.old.content (Op.Delete id) ≡ Ok New }
+        ensures ok { OnOk result
+            (self.new.content ≡ join self.old.content (single (Op.Delete id))) }
+        ensures same { OnErr result (self.new.content ≡ self.old.content) }
+        ensures memory { IfErr result (λ e. e ≡ Refusal.Memory) }
+        ensures growth { OnErr result
+            (finite_map.contains_key self.old.content.inserted id ≡ false) }
+        ensures limit { self.new.limit ≡ self.old.limit }
+    {
+        let inserted = mark(&mut self.entries, id)?;
+        count_unless(inserted, &mut self.known);
+        raise(&mut self.clock, id.counter());
+        Ok(())
+    }
+
+    /// Removes an operation, to the clock from before it. Takes no memory.
+    pub fn remove(&mut self, op: &Op, clock: u64)
+        requires held { Holds self.old.content op.now }
+        requires clock { clock ≡ clock_of (without op.now self.old.content) }
+        ensures content { self.new.content ≡ without op.now self.old.content }
+        ensures limit { self.new.limit ≡ self.old.limit }
+    {
+        match op {
+            Op::Insert { id, .. } => self.remove_insertion(*id, clock),
+            Op::Delete { id } => self.remove_deletion(*id, clock),
+        }
+    }
+
+    /// The element of an identifier goes.
+    fn remove_insertion(&mut self, id: Id, clock: u64)
+        requires inserted { finite_map.contains_key self.old.content.inserted id ≡ true }
+        requires clock { clock ≡ clock_of (without_insertion id self.old.content) }
+        ensures content { self.new.content ≡ without_insertion id self.old.content }
+        ensures limit { self.new.limit ≡ self.old.limit }
+    {
+        let deleted = clear_element(&mut self.entries, id);
+        self.inserted -= 1;
+        uncount_unless(deleted, &mut self.known);
+        self.clock = clock;
+    }
+
+    /// The mark of an identifier goes.
+    fn remove_deletion(&mut self, id: Id, clock: u64)
+        requires deleted { finite_set.contains self.old.content.deleted id ≡ true }
+        requires clock { clock ≡ clock_of (without_deletion id self.old.content) }
+        ensures content { self.new.content ≡ without_deletion id self.old.content }
+        ensures limit { self.new.limit ≡ self.old.limit }
+    {
+        let inserted = clear_mark(&mut self.entries, id);
+        uncount_unless(inserted, &mut self.known);
+        self.clock = clock;
+    }
+
+    /// The content as operations: the insertions by rising identifier, and then the deletions by
+    /// rising identifier. `Memory` alone.
+    pub fn ops(&self, alloc: Global) -> Result<Vec<Op>, Refusal>
+        ensures ok { IfOk result (λ ops. ops.items ≡ operations self.now.content) }
+        ensures memory { IfErr result (λ e. e ≡ Refusal.Memory) }
+    {
+        operations_of(alloc, &self.entries)
+    }
+
+    /// The least identifier that names two insertions, one in each. Takes no memory.
+    pub fn least_conflict(&self, other: &Records) -> Option<Id>
+        ensures { result ≡ least_conflict self.now.content other.now.content }
+    {
+        least_conflict(&self.entries, &other.entries)
+    }
+
+    /// How many identifiers the other records know and these do not. Takes no memory.
+    pub fn count_unknown(&self, other: &Records) -> usize
+        ensures { known_count self.now.content + result
+            ≡ known_count (join self.now.content other.now.content) }
+    {
+        count_unknown(&self.entries, &other.entries)
+    }
+
+    /// What is answered to a list that is taken whole or not at all.
+    ///
+    /// Refusals, in this order: `BadId` or `BadOrder` of the first operation that is ill-formed;
+    /// `Conflict` of the first that conflicts with the content or with one before it in the list;
+    /// `Full` where more identifiers would be known than the limit allows; `Memory`. An ill-formed
+    /// operation is found without memory, and so is a conflict in front of which nothing is
+    /// inserted anew.
+    pub fn answer_to_list(&self, alloc: Global, ops: &[Op]) -> Result<(), Refusal>
+        ensures exact { result ≢ Err Refusal.Memory →
+            result ≡ list_answer self.now.limit self.now.content ops.now }
+        ensures memory { result ≡ Err Refusal.Memory → all_checked ops.now ≡ Ok tt }
+        ensures early { result ≡ Err Refusal.Memory →
+            early_conflict self.now.content ops.now ≡ None }
+    {
+        answer_to_list(alloc, self, ops)
+    }
+}
