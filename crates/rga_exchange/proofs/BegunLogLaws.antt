@@ -1,28 +1,52 @@
 -- What is written of a log may be cut anywhere.
-use Rattle.std.proofs.Common.{◌≡◌, ℕ, suc, ◌≤◌, lit≤, List, [], ◌∷◌, ◌++◌, length, take, drop, get_or, Ok, Err, refl, sym, ap, ◌∙◌, subst, append_assoc, append-nil, length-append, inl, inr, ◌⊎◌, arith}
+use Rattle.std.proofs.Common.{◌≡◌, ℕ, ◌+◌, ◌≤◌, lit≤, List, [], ◌∷◌, ◌++◌, map, length, take, drop, get_or, Ok, Err, refl, sym, ap, ◌∙◌, subst, append_assoc, append-nil, length-append, inl, inr, ◌⊎◌, arith}
 use Rattle.std.specs.List.{AllByRecursion}
 use Rattle.std.proofs.lemmas.Bool.{cases_lt}
-use Rattle.std.proofs.lemmas.List.{take-append-drop, get_or_append_left}
+use Rattle.std.proofs.lemmas.List.{take-append-drop, take_all, get_or_append_left}
+use Rattle.std.proofs.Math.Seq.{take-append_seam, take-append-add}
+use Rattle.rga_ops.specs.Operation.{checked}
 use Rattle.rga_ops.specs.Content.{Content, join, content_of, IsAgreed}
 use Rattle.rga_ops.specs.ListAnswer.{AreWellFormed, IsJoinable}
 use Rattle.rga_ops.specs.declared.op.Op.{Op}
 use Rattle.rga_ops.proofs.OperationLaws.{Contains-first, content_of-append}
 use Rattle.rga_ops.proofs.ListAnswerLaws.{joinable_append}
 use Rattle.rga_lines.specs.declared.reading.TheConstants.{MAX_LINE}
-use Rattle.rga_lines.specs.declared.reading.Line.TheVariants.{One}
 use Rattle.rga_lines.specs.declared.fault.LineFault.{LineFault}
-use Rattle.rga_lines.specs.Table.{any_line_at}
-use Rattle.rga_lines.specs.Log.{then_operations, operations_of, log_operations, IsOperation}
-use Rattle.rga_lines.specs.Spelling.{line}
-use Rattle.rga_lines.specs.Stream.{newline, lines_of, rest_of, HasNoNewline}
+use Rattle.rga_lines.specs.Log.{operations_at, then_operations, operations_of, log_operations, IsOperation}
+use Rattle.rga_lines.specs.Spelling.{line, IsWritable}
+use Rattle.rga_lines.specs.Stream.{newline, lines_of, rest_of, bytes_of_lines, HasNoNewline}
 use Rattle.rga_lines.proofs.StreamLemmas.{lines-none, rest-none, lines-line, rest-line, lines-append_ended, rest-append_ended}
-use Rattle.rga_lines.proofs.ReadingLemmas.{too_long}
-use Rattle.rga_lines.proofs.StandLemmas.{nothing_stands, beginning_stands}
-use Rattle.rga_lines.proofs.ReadBack.{line_back}
+use Rattle.rga_lines.proofs.StandLemmas.{stands_for, stands_for_none, nothing_stands, long_stands, line_stands, beginning_stands}
 use Rattle.rga_lines.proofs.NewlineLemmas.{line_has_none}
 use Rattle.rga_exchange.specs.Sending.{log_text, AreWritable, StandsFor, GainsFirst}
 use Rattle.rga_exchange.proofs.TakingLaws.{operations_of-append}
-use Rattle.rga_exchange.proofs.AppendedLaws.{later_writable, later_well_formed, first_back, are_operations-append, operations_ended, agreed_append}
+use Rattle.rga_exchange.proofs.AppendedLaws.{later_writable, later_well_formed, are_operations-append, operations_ended, agreed_append}
+
+-- ---- lines that say operations
+
+-- a line that says these operations, and with anything cut off its end none
+pub record Says (text : List ℕ) (ops : List Op) : Type 0 where
+  pub none : HasNoNewline text
+  pub says : operations_at text ≡ Ok ops
+  pub cut : (front : List ℕ) (b : ℕ) (back : List ℕ) → text ≡ front ++ b ∷ back → (e : LineFault) × (operations_at front ≡ Err e)
+
+-- lines that say these operations in turn
+abbrev pub Say : List (List ℕ) → List Op → Type 0
+Say [] ops = ops ≡ []
+Say (text ∷ lines) ops = (own : List Op) × (later : List Op) × (ops ≡ own ++ later) × Says text own × Say lines later
+
+pub line_says : (op : Op) → IsWritable op → checked op ≡ Ok tt → Says (line op) (op ∷ [])
+line_says op can well = record { none = line_has_none op can; says = line_stands op can well; cut = λ front b back e. beginning_stands op front b back can e }
+
+pub lines_say : (ops : List Op) → AreWritable ops → AreWellFormed ops → Say (map line ops) ops
+lines_say [] writable well = refl
+lines_say (op ∷ ops) writable well = (
+  op ∷ [],
+  ops,
+  refl,
+  line_says op (writable op (Contains-first op ops)) (well op (Contains-first op ops)),
+  lines_say ops (later_writable op ops writable) (later_well_formed op ops well),
+)
 
 -- ---- a log of the first operations of a list
 
@@ -43,37 +67,33 @@ cut_in_two (x ∷ xs) (y ∷ front) rest ys b e =
       | inr past ↦ inr (past.0, λ k. heads k ∷ past.1 k, past.2)
     ]
 
-module _ (op : Op) (ops : List Op) (writable : AreWritable (op ∷ ops)) (well : AreWellFormed (op ∷ ops)) where
-  no_newline : HasNoNewline (line op)
-  no_newline = line_has_none op (writable op (Contains-first op ops))
-
-  said : any_line_at (line op) ≡ Ok (One op)
-  said = line_back op (writable op (Contains-first op ops)) (well op (Contains-first op ops))
-
-  -- a line that is too long is no operation
-  short_line : length (line op) ≤ MAX_LINE
-  short_line = elim (cases_lt MAX_LINE (length (line op))) [
-    | inl long ↦ let e : Err LineFault.Long ≡ Ok (One op) = sym (too_long (line op) long) ∙ said in absurd cc
+module _ (text : List ℕ) (own : List Op) (said : Says text own) (later : List Op) where
+  -- a line that is too long says none
+  short_line : length text ≤ MAX_LINE
+  short_line = elim (cases_lt MAX_LINE (length text)) [
+    | inl long ↦ let clash : stands_for_none LineFault.Long ≡ stands_for own = sym (long_stands text long) ∙ said.says in absurd cc
     | inr short ↦ short
   ]
 
   -- the log is within the first line
-  within_line : (front more : List ℕ) → line op ≡ front ++ more → (j : ℕ) × IsLogOf front (op ∷ ops) j
+  within_line : (front more : List ℕ) → text ≡ front ++ more → (j : ℕ) × IsLogOf front (own ++ later) j
   within_line front [] e =
-      let all : front ≡ line op = sym (append-nil front) ∙ sym e in (
-        1,
-        subst (λ (l : List ℕ). IsLogOf l (op ∷ ops) 1) (sym all) (record {
-          enough = omega arith;
-          operations = ap (λ (ls : List (List ℕ)). operations_of (ls ++ rest_of (line op) ∷ [])) (lines-none (line op) no_newline)
-              ∙ ap (λ (l : List ℕ). operations_of (l ∷ [])) (rest-none (line op) no_newline)
-              ∙ ap (λ r. then_operations r []) (first_back op ops writable well);
-          lines = subst (AllByRecursion IsOperation) (sym (lines-none (line op) no_newline)) tt;
-          short = subst (λ (l : List ℕ). length l ≤ MAX_LINE) (sym (rest-none (line op) no_newline)) short_line;
+      let all : front ≡ text = sym (append-nil front) ∙ sym e in (
+        length own,
+        subst (λ (l : List ℕ). IsLogOf l (own ++ later) (length own)) (sym all) (record {
+          enough = omega (arith, length-append own later);
+          operations = ap (λ (ls : List (List ℕ)). operations_of (ls ++ rest_of text ∷ [])) (lines-none text said.none)
+              ∙ ap (λ (l : List ℕ). operations_of (l ∷ [])) (rest-none text said.none)
+              ∙ ap (λ r. then_operations r []) said.says
+              ∙ append-nil own
+              ∙ sym (take-append_seam own later);
+          lines = subst (AllByRecursion IsOperation) (sym (lines-none text said.none)) tt;
+          short = subst (λ (l : List ℕ). length l ≤ MAX_LINE) (sym (rest-none text said.none)) short_line;
         }),
       )
   within_line front (b ∷ back) e =
-      let none : HasNoNewline front = λ k d h same. subst HasNoNewline e no_newline k d (omega (arith, length-append front (b ∷ back))) (get_or_append_left front (b ∷ back) d k h ∙ same) in
-      let refused = beginning_stands op front b back (writable op (Contains-first op ops)) e in (
+      let none : HasNoNewline front = λ k d h same. subst HasNoNewline e said.none k d (omega (arith, length-append front (b ∷ back))) (get_or_append_left front (b ∷ back) d k h ∙ same) in
+      let refused = said.cut front b back e in (
         0,
         record {
           enough = omega arith;
@@ -86,30 +106,52 @@ module _ (op : Op) (ops : List Op) (writable : AreWritable (op ∷ ops)) (well :
       )
 
   -- the log has the first line, and goes on behind it
-  past_line : (front more : List ℕ) (j : ℕ) → front ≡ line op ++ newline ∷ more → IsLogOf more ops j → IsLogOf front (op ∷ ops) (suc j)
-  past_line front more j e h = subst (λ (l : List ℕ). IsLogOf l (op ∷ ops) (suc j)) (sym e) (record {
-    enough = omega (arith, h.enough);
-    operations = (λ k. operations_of (lines-line (line op) more no_newline k ++ rest-line (line op) more no_newline k ∷ []))
-        ∙ ap (λ r. then_operations r (log_operations more)) (first_back op ops writable well)
-        ∙ ap (λ (os : List Op). op ∷ os) h.operations;
-    lines = subst (AllByRecursion IsOperation) (sym (lines-line (line op) more no_newline)) ((op ∷ [], first_back op ops writable well), h.lines);
-    short = subst (λ (l : List ℕ). length l ≤ MAX_LINE) (sym (rest-line (line op) more no_newline)) h.short;
+  past_line : (front more : List ℕ) (j : ℕ) → front ≡ text ++ newline ∷ more → IsLogOf more later j → IsLogOf front (own ++ later) (length own + j)
+  past_line front more j e h = subst (λ (l : List ℕ). IsLogOf l (own ++ later) (length own + j)) (sym e) (record {
+    enough = omega (arith, h.enough, length-append own later);
+    operations = (λ k. operations_of (lines-line text more said.none k ++ rest-line text more said.none k ∷ []))
+        ∙ ap (λ r. then_operations r (log_operations more)) said.says
+        ∙ ap (λ (os : List Op). own ++ os) h.operations
+        ∙ sym (take-append-add own later j);
+    lines = subst (AllByRecursion IsOperation) (sym (lines-line text more said.none)) ((own, said.says), h.lines);
+    short = subst (λ (l : List ℕ). length l ≤ MAX_LINE) (sym (rest-line text more said.none)) h.short;
   })
 
 no_bytes : (front rest : List ℕ) → front ++ rest ≡ [] → front ≡ []
 no_bytes [] rest e = refl
 no_bytes (x ∷ front) rest e = absurd (omega (arith, ap length e))
 
-begun : (ops : List Op) (front rest : List ℕ) → AreWritable ops → AreWellFormed ops → front ++ rest ≡ log_text ops → (j : ℕ) × IsLogOf front ops j
-begun [] front rest writable well e =
-    (0, subst (λ (l : List ℕ). IsLogOf l [] 0) (sym (no_bytes front rest e)) (record { enough = omega arith; operations = ap (λ r. then_operations r []) nothing_stands; lines = tt; short = lit≤ tt }))
-begun (op ∷ ops) front rest writable well e =
-    elim (cut_in_two (line op) front rest (log_text ops) newline (e ∙ append_assoc (line op) (newline ∷ []) (log_text ops))) [
-      | inl inside ↦ within_line op ops writable well front inside.0 inside.1
+log_of_none : IsLogOf [] [] 0
+log_of_none = record { enough = omega arith; operations = ap (λ r. then_operations r []) nothing_stands; lines = tt; short = lit≤ tt }
+
+-- a beginning of the lines
+begun : (lines : List (List ℕ)) (ops : List Op) (front rest : List ℕ) → Say lines ops → front ++ rest ≡ bytes_of_lines lines → (j : ℕ) × IsLogOf front ops j
+begun [] ops front rest none e =
+    (0, subst (λ (os : List Op). IsLogOf front os 0) (sym none) (subst (λ (l : List ℕ). IsLogOf l [] 0) (sym (no_bytes front rest e)) log_of_none))
+begun (text ∷ lines) ops front rest (own, later, parts, said, say) e =
+    subst (λ (os : List Op). (j : ℕ) × IsLogOf front os j) (sym parts)
+    (elim (cut_in_two text front rest (bytes_of_lines lines) newline (e ∙ append_assoc text (newline ∷ []) (bytes_of_lines lines))) [
+      | inl inside ↦ within_line text own said later front inside.0 inside.1
       | inr past ↦
-          let later = begun ops past.0 rest (later_writable op ops writable) (later_well_formed op ops well) past.2 in
-          (suc later.0, past_line op ops writable well front past.0 later.0 past.1 later.1)
-    ]
+          let more = begun lines later past.0 rest say past.2 in
+          (length own + more.0, past_line text own said later front past.0 more.0 past.1 more.1)
+    ])
+
+-- all of them
+record IsLogOfAll (text : List ℕ) (ops : List Op) : Type 0 where
+  log : IsLogOf text ops (length ops)
+  ended : rest_of text ≡ []
+
+all_lines : (lines : List (List ℕ)) (ops : List Op) → Say lines ops → IsLogOfAll (bytes_of_lines lines) ops
+all_lines [] ops none = subst (IsLogOfAll []) (sym none) (record { log = log_of_none; ended = refl })
+all_lines (text ∷ lines) ops (own, later, parts, said, say) =
+    let more = all_lines lines later say in
+    let behind : (text ++ newline ∷ []) ++ bytes_of_lines lines ≡ text ++ newline ∷ bytes_of_lines lines = append_assoc text (newline ∷ []) (bytes_of_lines lines) in
+    let count : length own + length later ≡ length (own ++ later) = sym (length-append own later) in
+    subst (IsLogOfAll (bytes_of_lines (text ∷ lines))) (sym parts) (record {
+      log = subst (IsLogOf (bytes_of_lines (text ∷ lines)) (own ++ later)) count (past_line text own said later (bytes_of_lines (text ∷ lines)) (bytes_of_lines lines) (length later) behind more.log);
+      ended = ap rest_of behind ∙ rest-line text (bytes_of_lines lines) said.none ∙ more.ended;
+    })
 
 -- ---- behind a log
 
@@ -130,20 +172,38 @@ module _ (bytes front : List ℕ) (ended : rest_of bytes ≡ []) where
 pub joinable_take : (c : Content) (ops : List Op) (j : ℕ) → IsJoinable c ops → IsJoinable c (take j ops)
 joinable_take c ops j h = ((joinable_append c (take j ops) (drop j ops)).0 (subst (IsJoinable c) (sym (take-append-drop j ops)) h)).0
 
--- behind a log that stands for a content, a beginning of the lines of operations leaves a log of the first of them
-pub stands_begun : (bytes : List ℕ) (c : Content) (ops : List Op) (front rest : List ℕ) → StandsFor bytes c → rest_of bytes ≡ [] → AreWritable ops → AreWellFormed ops → IsJoinable c ops → front ++ rest ≡ log_text ops → GainsFirst bytes front c ops
-stands_begun bytes c ops front rest stands ended writable well joinable e =
-    let log = begun ops front rest writable well e in
-    let first : List Op = take log.0 ops in
-    let both : log_operations (bytes ++ front) ≡ log_operations bytes ++ first = operations_behind bytes front ended stands.lines ∙ ap (λ (os : List Op). log_operations bytes ++ os) log.1.operations in
+module _ (bytes : List ℕ) (c : Content) (ops : List Op) (front : List ℕ) (j : ℕ) (stands : StandsFor bytes c) (ended : rest_of bytes ≡ []) (log : IsLogOf front ops j) (joinable : IsJoinable c ops) where
+  has_both : log_operations (bytes ++ front) ≡ log_operations bytes ++ take j ops
+  has_both = operations_behind bytes front ended stands.lines ∙ ap (λ (os : List Op). log_operations bytes ++ os) log.operations
+
+  stands_behind : StandsFor (bytes ++ front) (join c (content_of (take j ops)))
+  stands_behind = record {
+    lines = subst (AllByRecursion IsOperation) (sym (lines_behind bytes front ended)) (are_operations-append (lines_of bytes) (lines_of front) stands.lines log.lines);
+    short = subst (λ (l : List ℕ). length l ≤ MAX_LINE) (sym (rest_behind bytes front ended)) log.short;
+    agreed = subst IsAgreed (sym has_both) (agreed_append (log_operations bytes) (take j ops) stands.agreed (subst (λ d. IsJoinable d (take j ops)) stands.content (joinable_take c ops j joinable)));
+    content = ap (λ d. join d (content_of (take j ops))) stands.content ∙ sym (content_of-append (log_operations bytes) (take j ops)) ∙ ap content_of (sym has_both);
+  }
+
+-- behind a log that stands for a content, a beginning of lines that say operations leaves a log of the first of them
+pub say_begun : (bytes : List ℕ) (c : Content) (lines : List (List ℕ)) (ops : List Op) (front rest : List ℕ) → StandsFor bytes c → rest_of bytes ≡ [] → Say lines ops → IsJoinable c ops → front ++ rest ≡ bytes_of_lines lines → GainsFirst bytes front c ops
+say_begun bytes c lines ops front rest stands ended say joinable e =
+    let log = begun lines ops front rest say e in
     record {
       count = log.0;
       within = log.1.enough;
-      operations = both;
-      stands = record {
-        lines = subst (AllByRecursion IsOperation) (sym (lines_behind bytes front ended)) (are_operations-append (lines_of bytes) (lines_of front) stands.lines log.1.lines);
-        short = subst (λ (l : List ℕ). length l ≤ MAX_LINE) (sym (rest_behind bytes front ended)) log.1.short;
-        agreed = subst IsAgreed (sym both) (agreed_append (log_operations bytes) first stands.agreed (subst (λ d. IsJoinable d first) stands.content (joinable_take c ops log.0 joinable)));
-        content = ap (λ d. join d (content_of first)) stands.content ∙ sym (content_of-append (log_operations bytes) first) ∙ ap content_of (sym both);
-      };
+      operations = has_both bytes c ops front log.0 stands ended log.1 joinable;
+      stands = stands_behind bytes c ops front log.0 stands ended log.1 joinable;
     }
+
+-- and all of the lines leave one of all operations, which ends in a newline
+pub say_appended : (bytes : List ℕ) (c : Content) (lines : List (List ℕ)) (ops : List Op) → StandsFor bytes c → rest_of bytes ≡ [] → Say lines ops → IsJoinable c ops → StandsFor (bytes ++ bytes_of_lines lines) (join c (content_of ops))
+say_appended bytes c lines ops stands ended say joinable =
+    subst (λ (os : List Op). StandsFor (bytes ++ bytes_of_lines lines) (join c (content_of os))) (take_all (length ops) ops (omega arith))
+    (stands_behind bytes c ops (bytes_of_lines lines) (length ops) stands ended (all_lines lines ops say).log joinable)
+
+pub say_ended : (bytes : List ℕ) (lines : List (List ℕ)) (ops : List Op) → rest_of bytes ≡ [] → Say lines ops → rest_of (bytes ++ bytes_of_lines lines) ≡ []
+say_ended bytes lines ops ended say = rest_behind bytes (bytes_of_lines lines) ended ∙ (all_lines lines ops say).ended
+
+pub stands_begun : (bytes : List ℕ) (c : Content) (ops : List Op) (front rest : List ℕ) → StandsFor bytes c → rest_of bytes ≡ [] → AreWritable ops → AreWellFormed ops → IsJoinable c ops → front ++ rest ≡ log_text ops → GainsFirst bytes front c ops
+stands_begun bytes c ops front rest stands ended writable well joinable e =
+    say_begun bytes c (map line ops) ops front rest stands ended (lines_say ops writable well) joinable e

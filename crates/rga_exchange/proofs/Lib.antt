@@ -15,3 +15,4 @@ pub mod AgainLaws
 pub mod CompactLaws
 pub mod GoingOnLemmas
 pub mod TurnLaws
+pub mod RunLineLaws

@@ -6,3 +6,4 @@ pub mod Sending
 pub mod Stops
 pub mod Compacting
 pub mod Turns
+pub mod RunLines

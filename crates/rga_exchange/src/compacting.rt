@@ -1,5 +1,5 @@
 //! Logs in as few lines as runs allow.
-ghost use Rattle.std.specs.Prelude.{◌≡◌, ℕ, ◌+◌, ◌≤◌, ◌++◌, ◌∷◌, [], length, slice_index, true, false, Ok, Some, None, IfOk, IfErr, OnOk, string_bytes};
+ghost use Rattle.std.specs.Prelude.{◌≡◌, ℕ, ◌+◌, ◌<◌, ◌≤◌, ◌++◌, ◌∷◌, [], length, slice_index, true, false, Ok, Some, None, IfOk, IfErr, OnOk, string_bytes};
 ghost use Rattle.std.specs.Option.{option_map, option_map_or};
 ghost use Rattle.rga_ops.specs.Prelude.{checked, operations, IsSound};
 ghost use Rattle.rga_ops.specs.Content.{element};
@@ -357,8 +357,8 @@ fn next_in_run<S: TextStore>(store: &S, last: Id) -> Option<(Id, char)>
 }
 
 /// The line of a run, or of an insertion where it is a run of one.
-fn shortest_line(alloc: Global, run: &Run) -> Result<String, LineFault>
-    requires { IsRun run.now }
+pub(crate) fn shortest_line(alloc: Global, run: &Run) -> Result<String, LineFault>
+    requires { 0 < length run.now.chars }
     ensures { IfOk result (λ s. string_bytes s ≡ stretch_line run.now) }
 {
     let chars = run.chars.as_slice();

@@ -12,6 +12,7 @@ ghost use Rattle.rga_lines.specs.declared.fault.LineFault.TheVariants.{Kind};
 ghost use Rattle.rga_exchange.specs.Sending.{log_text, exchange_lines, stream_text};
 ghost use Rattle.rga_exchange.specs.Sending.{AreWritable, StandsFor, GainsFirst};
 ghost use Rattle.rga_exchange.specs.Compacting.{compact_text};
+ghost use Rattle.rga_exchange.specs.RunLines.{runs_text};
 ghost use Rattle.rga_exchange.specs.Taking.{may_be_head, Stop, AtFault, progress, lines_taken, stream_taken, AreTaken};
 ghost use Rattle.rga_exchange.specs.Log.{log_outcome};
 ghost use Rattle.rga_exchange.specs.Receiving.{exchange_outcome};
@@ -45,6 +46,24 @@ pub fn cut_logs_stand_for_their_first_operations()
     ensures { (bytes : List ℕ) (c : Content) (ops : List Operation) (front rest : List ℕ)
         → StandsFor bytes c → rest_of bytes ≡ [] → AreWritable ops → AreWellFormed ops
         → IsJoinable c ops → front ++ rest ≡ log_text ops → GainsFirst bytes front c ops }
+{}
+
+/// What `appended_lines_are_joined` says holds of the same operations in runs.
+pub fn appended_runs_are_joined()
+    ensures joined { (bytes : List ℕ) (c : Content) (ops : List Operation) → StandsFor bytes c
+        → rest_of bytes ≡ [] → AreWritable ops → AreWellFormed ops → IsJoinable c ops
+        → StandsFor (bytes ++ runs_text ops) (join c (content_of ops)) }
+    ensures ended { (bytes : List ℕ) (ops : List Operation) → rest_of bytes ≡ [] → AreWritable ops
+        → AreWellFormed ops → rest_of (bytes ++ runs_text ops) ≡ [] }
+{}
+
+/// And so does what `cut_logs_stand_for_their_first_operations` says: a log that is cut off there
+/// has the runs that are whole, and of the next one nothing, or all where only its newline is
+/// missing.
+pub fn cut_runs_stand_for_their_first_operations()
+    ensures { (bytes : List ℕ) (c : Content) (ops : List Operation) (front rest : List ℕ)
+        → StandsFor bytes c → rest_of bytes ≡ [] → AreWritable ops → AreWellFormed ops
+        → IsJoinable c ops → front ++ rest ≡ runs_text ops → GainsFirst bytes front c ops }
 {}
 
 /// The compacted lines of a content whose operations are well-formed and can be written stand for

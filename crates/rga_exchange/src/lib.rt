@@ -21,6 +21,7 @@ mod fault;
 pub mod laws;
 mod log;
 mod receiving;
+mod runs;
 mod sending;
 mod taking;
 
@@ -28,5 +29,6 @@ pub use compacting::{compact, compact_with};
 pub use fault::{LogFault, ReceiveFault, SendFault};
 pub use log::{LogEnd, LogRead, read_log, take_log};
 pub use receiving::receive;
+pub use runs::append_runs;
 pub use sending::{append_log, send};
 pub use taking::Form;

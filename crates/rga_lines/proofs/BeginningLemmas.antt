@@ -1,7 +1,9 @@
--- No proper beginning of the line of an operation is an operation: the bracket that closes its object is still missing.
+-- No proper beginning of the line of an operation, or of a run, is one of either: the bracket that closes its object is
+-- still missing.
 use Rattle.std.proofs.Common.{◌≡◌, ℕ, ◌<◌, ◌^◌, zero, suc, Bool, true, false, cond, ◌==◌, ◌-◌, take, nat_lt, if◌then◌else◌, List, [], ◌∷◌, ◌++◌, length, codes, decimal, Option, Some, None, option_map, option_and_then, Err, refl, sym, ap, ◌∙◌, subst, arith, append_assoc, length-append, drop, get_or}
 use Rattle.std.specs.Prelude.{⊤}
 use Rattle.std.specs.Str.{is_utf8}
+use Rattle.std.specs.List.{flat_map}
 use Rattle.json.specs.Token.{Token, begin_object, end_object, begin_array, end_array, key, string, number, boolean, null, bad}
 use Rattle.json.specs.Word.{word, head, ends_word, literal, number_before, after_number}
 use Rattle.json.specs.Ascii as ascii
@@ -20,11 +22,13 @@ use Rattle.rga_ops.specs.declared.op.Op.{Op}
 use Rattle.rga_ops.specs.declared.op.Op.TheVariants.{Insert, Delete}
 use Rattle.rga_lines.specs.declared.fault.LineFault.{LineFault}
 use Rattle.rga_lines.specs.declared.fault.LineFault.TheVariants as fault
-use Rattle.rga_lines.specs.Spelling.{escaped, pair_text, line, IsWritable}
+use Rattle.rga_lines.specs.Runs.{Stretch}
+use Rattle.rga_lines.specs.Spelling.{escaped, pair_text, line, run_from, run_line, IsWritable, IsWritableRun}
 use Rattle.rga_lines.specs.declared.reading.TheConstants.{MAX_LINE}
 use Rattle.rga_lines.specs.Table.{value_line, text_line, any_line_at}
 use Rattle.rga_lines.proofs.SpellingLemmas.{escape-encode}
 use Rattle.rga_lines.proofs.ReadBack.{InBounds, within, in_bounds}
+use Rattle.rga_lines.proofs.RunBack.{escape-encodes}
 
 -- ---- lexemes and tokens, none of which closes an object
 
@@ -333,8 +337,39 @@ within_init (x ∷ xs) (y ∷ front) back a b e =
     let later = within_init xs front back a b tails in
     (later.0, λ k. heads k ∷ later.1 k)
 
+-- a beginning of bytes that close nothing but by their last one, which it lacks
+cut_refused : (text before front back : List ℕ) (b : ℕ) → text ≡ before ++ 125 ∷ [] → OpenLexemes (lex between before) → text ≡ front ++ b ∷ back → IsRefused front
+cut_refused text before front back b closes opens e =
+    let inside = within_init before front back 125 b (sym closes ∙ e) in
+    open_refused front (front_open between front inside.0 (subst (λ (l : List ℕ). OpenLexemes (lex between l)) inside.1 opens))
+
 -- no proper beginning of an operation's line is an operation, or the end of an exchange
 pub beginning_refused : (op : Op) (front : List ℕ) (b : ℕ) (back : List ℕ) → IsWritable op → line op ≡ front ++ b ∷ back → IsRefused front
 beginning_refused op front b back h e =
-    let inside = within_init (before_last op []) front back 125 b (sym (before_last-append op (125 ∷ [])) ∙ sym (closed op) ∙ e) in
-    open_refused front (front_open between front inside.0 (subst (λ (l : List ℕ). OpenLexemes (lex between l)) inside.1 (open_line op h)))
+    cut_refused (line op) (before_last op []) front back b (closed op ∙ before_last-append op (125 ∷ [])) (open_line op h) e
+
+-- ---- the line of a run before its last bracket
+
+open_text : (cs more : List ℕ) → OpenLexemes (lex between more) → OpenLexemes (lex in_string (flat_map escaped cs ++ 34 ∷ more))
+open_text cs more on = subst OpenLexemes (sym (ap (λ (l : List ℕ). lex in_string (l ++ 34 ∷ more)) (sym (escape-encodes cs)) ∙ lex-escape _ more)) on
+
+-- the line without its last bracket, and then more
+abbrev run_before_last : Stretch → List ℕ → List ℕ
+run_before_last r more = run_from r.id r.parent (flat_map escaped r.chars ++ 34 ∷ more)
+
+open_run : (r : Stretch) → IsWritableRun r → OpenLexemes (lex between (run_before_last r []))
+unfolding lex content
+open_run r h =
+    (tt, (tt, (tt, open_pair r.id (within r.id h.id) _ (tt, (tt, (tt, (tt, (tt, (tt, (tt, open_pair r.parent (in_bounds r.parent h.parent) _ (tt, (tt, (tt, (string_stays _, open_text r.chars [] tt))))))))))))))
+
+run_closed : (r : Stretch) → run_line r ≡ run_before_last r (125 ∷ [])
+unfolding run_line
+run_closed r = refl
+
+run_before_last-append : (r : Stretch) (more : List ℕ) → run_before_last r more ≡ run_before_last r [] ++ more
+run_before_last-append r more = simp append_assoc
+
+-- nor is one of the line of a run
+pub run_beginning_refused : (r : Stretch) (front : List ℕ) (b : ℕ) (back : List ℕ) → IsWritableRun r → run_line r ≡ front ++ b ∷ back → IsRefused front
+run_beginning_refused r front b back h e =
+    cut_refused (run_line r) (run_before_last r []) front back b (run_closed r ∙ run_before_last-append r (125 ∷ [])) (open_run r h) e

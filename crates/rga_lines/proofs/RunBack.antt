@@ -41,7 +41,7 @@ escape-append : (xs ys : List ℕ) → escape (xs ++ ys) ≡ escape xs ++ escape
 escape-append [] ys = refl
 escape-append (x ∷ xs) ys = ap (λ (l : List ℕ). escape_byte x ++ l) (escape-append xs ys) ∙ sym (append_assoc (escape_byte x) (escape xs) (escape ys))
 
-escape-encodes : (cs : List ℕ) → escape (encodes cs) ≡ flat_map escaped cs
+pub escape-encodes : (cs : List ℕ) → escape (encodes cs) ≡ flat_map escaped cs
 escape-encodes [] = refl
 escape-encodes (c ∷ cs) = escape-append (encode_utf8 c) (encodes cs) ∙ ap₂ (λ (x y : List ℕ). x ++ y) (escape-encode c) (escape-encodes cs)
 

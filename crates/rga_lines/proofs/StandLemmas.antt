@@ -18,7 +18,7 @@ use Rattle.rga_lines.proofs.DeletionLemmas.{run_deletions_checked}
 use Rattle.rga_lines.proofs.RunBack.{run_back}
 use Rattle.rga_lines.proofs.DeletionBack.{deletions_back}
 use Rattle.rga_lines.proofs.ReadBack.{line_back, end_back}
-use Rattle.rga_lines.proofs.BeginningLemmas.{beginning_refused}
+use Rattle.rga_lines.proofs.BeginningLemmas.{beginning_refused, run_beginning_refused}
 use Rattle.serde_json.proofs.OnLiterals.{serde_json_on_literals}
 
 abbrev pub AreChecked : List Op → Type 0
@@ -75,4 +75,9 @@ end_stands operations h = stands (end_line operations) (Ok (Last operations)) (e
 pub beginning_stands : (op : Op) (front : List ℕ) (b : ℕ) (back : List ℕ) → IsWritable op → line op ≡ front ++ b ∷ back → (e : LineFault) × (operations_at front ≡ Err e)
 beginning_stands op front b back h e =
     let refused = beginning_refused op front b back h e in
+    (refused.0, stands front (Err refused.0) refused.1)
+
+pub run_beginning_stands : (r : Stretch) (front : List ℕ) (b : ℕ) (back : List ℕ) → IsWritableRun r → run_line r ≡ front ++ b ∷ back → (e : LineFault) × (operations_at front ≡ Err e)
+run_beginning_stands r front b back h e =
+    let refused = run_beginning_refused r front b back h e in
     (refused.0, stands front (Err refused.0) refused.1)

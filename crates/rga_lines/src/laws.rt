@@ -74,10 +74,14 @@ pub fn written_lines_have_no_newline()
     ensures end { (operations : ℕ) → operations < 2 ^ 64 → HasNoNewline (end_line operations) }
 {}
 
-/// No proper beginning of an operation's line is an operation or the end of an exchange.
+/// No proper beginning of the line of an operation or of a run is an operation, a run, or the end
+/// of an exchange.
 pub fn beginnings_of_lines_are_none()
-    ensures { (op : Op) (front : List ℕ) (b : ℕ) (back : List ℕ)
+    ensures operation { (op : Op) (front : List ℕ) (b : ℕ) (back : List ℕ)
         → IsWritable op → line op ≡ front ++ b ∷ back
+        → (e : LineFault) × (any_line_at front ≡ Err e) }
+    ensures run { (r : Stretch) (front : List ℕ) (b : ℕ) (back : List ℕ)
+        → IsWritableRun r → run_line r ≡ front ++ b ∷ back
         → (e : LineFault) × (any_line_at front ≡ Err e) }
 {}
 

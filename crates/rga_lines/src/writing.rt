@@ -38,16 +38,15 @@ pub fn write_line(alloc: Global, op: &Op) -> Result<String, LineFault>
     }
 }
 
-/// The line of a run without its newline, as `run_line` of `specs/Spelling.antt` has it. The caller
-/// sees to it that it is one that `read_any` gives: 1 to 4096 characters, a last counter in range,
-/// a counter above the parent's. `Memory` is the only refusal.
+/// The line of a run without its newline, as `run_line` of `specs/Spelling.antt` has it. `read_any`
+/// gives back any that it gives: of 1 to 4096 characters, with a last counter in range and a
+/// counter above the parent's. `Memory` is the only refusal.
 #[tactic(auto, unfolding(crate::specs::Spelling::run_line))]
 pub fn write_run(alloc: Global, run: &Run) -> Result<String, LineFault>
-    requires { IsRun run.now }
     ensures ok { IfOk result (λ s. string_bytes s ≡ run_line run.now) }
     ensures memory { IfErr result (λ e. e ≡ Memory) }
-    // What is written can be read back.
-    ensures writable { OnOk result (IsWritableRun run.now) }
+    // A run that `read_any` may give is written so that it can be read back.
+    ensures writable { OnOk result (IsRun run.now → IsWritableRun run.now) }
 {
     let mut text = String::with_capacity(alloc, ROOM + run.chars.len())?;
     text.push_str("{\"id\":")?;
