@@ -78,6 +78,7 @@ opened name replica limit l = record {
   buffer = state (document l.content limit replica false) name root None [] None l.unsaved false;
   whole = ends_open l.end;
   text_waits = false;
+  runs = false;
 }
 
 abbrev pub opened_and_end : List ℕ → ℕ → ℕ → Result Loaded LoadFault → Result (OpenState × LogEnd) LoadFault

@@ -1,8 +1,10 @@
 -- What a save does and what it leaves.
-use Rattle.std.specs.Prelude.{◌≡◌, ◌⊎◌, ◌||◌, Bool, true, false, List, [], ◌∷◌, ◌++◌, Option, Result, Ok, Err, if◌then◌else◌}
+use Rattle.std.specs.Prelude.{◌≡◌, ◌⊎◌, ℕ, ◌||◌, ◌&&◌, nat_lt, Bool, true, false, List, [], ◌∷◌, ◌++◌, length, Option, Result, Ok, Err, if◌then◌else◌}
 use Rattle.rga_ops.specs.Operations.{operations}
 use Rattle.rga_ops.specs.declared.op.Op.{Op}
+use Rattle.rga_exchange.specs.RunLines.{runs_text}
 use Rattle.rga_exchange.specs.Sending.{log_text}
+use Rattle.mg_files.specs.declared.lines.TheConstants.{MAX_SINGLE}
 use Rattle.mg_files.specs.declared.port.CallKind.TheVariants.{Append, Replace, PutText}
 use Rattle.mg_files.specs.declared.port.PortFault.{PortFault}
 use Rattle.mg_files.specs.Calls.{Call, call, refusals, Adds}
@@ -23,11 +25,16 @@ is_changed b = has_unsaved b || b.text_waits
 
 -- ---- the calls of a save that are answered `Ok`
 
+-- what is appended: a line an operation, but where runs are asked for and there are more than 32 operations, those in a
+-- row that are a run in one line
+abbrev pub appended_text : Bool → List Op → List ℕ
+appended_text runs ops = if runs && nat_lt MAX_SINGLE (length ops) then runs_text ops else log_text ops
+
 -- the call that brings the log up to date: the lines of all operations, where it is to be written whole
 abbrev pub log_call : OpenState → Call
 log_call b =
     if b.whole then call Replace b.buffer.name (log_text (operations b.buffer.content))
-    else call Append b.buffer.name (log_text b.buffer.unsaved)
+    else call Append b.buffer.name (appended_text b.runs b.buffer.unsaved)
 
 abbrev pub log_calls : OpenState → List Call
 log_calls b = if has_unsaved b then log_call b ∷ [] else []
@@ -43,7 +50,7 @@ save_calls b = if is_changed b then log_calls b ++ text_call b ∷ [] else []
 
 -- once the log was written: nothing is unsaved, and the text waits
 abbrev pub written : OpenState → OpenState
-written b = record { buffer = record b.buffer { unsaved = [] }; whole = false; text_waits = true }
+written b = record b { buffer = record b.buffer { unsaved = [] }; whole = false; text_waits = true }
 
 -- where there was something to write
 abbrev pub logged : OpenState → OpenState

@@ -18,5 +18,6 @@ mod port;
 mod saving;
 
 pub use fault::LoadFault;
+pub use lines::MAX_SINGLE;
 pub use opened::Opened;
 pub use port::{CallKind, Found, LinkFault, Port, PortFault};

@@ -2,6 +2,7 @@
 ghost use Rattle.std.specs.Prelude.{◌≡◌};
 ghost use Rattle.std.specs.Prelude.{false};
 ghost use Rattle.mg_files.specs.Loading.{ends_open};
+ghost use Rattle.mg_files.specs.OpenState.{with_runs};
 ghost use Rattle.mg_files.specs.Saving.{is_changed};
 
 use mg_buffer::Buffer;
@@ -20,6 +21,8 @@ pub struct Opened<S: TextStore> {
     pub(crate) whole: bool,
     /// The log has operations that were written since the text was put.
     pub(crate) text_waits: bool,
+    /// Whether a save of many operations appends them in runs.
+    pub(crate) runs: bool,
 }
 
 impl<S: TextStore> Model for Opened<S> {
@@ -30,21 +33,30 @@ impl<S: TextStore> Model for Opened<S> {
     ghost coded = { open_state_code };
 
     ghost view = { λ o.
-        record { buffer = o.buffer; whole = o.whole; text_waits = o.text_waits } };
+        record { buffer = o.buffer; whole = o.whole; text_waits = o.text_waits; runs = o.runs } };
 }
 
 impl<S: TextStore> Opened<S> {
-    /// A buffer as it was loaded, by how its log ends.
+    /// A buffer as it was loaded, by how its log ends. A save of it appends a line an operation.
     pub(crate) fn new(alloc: Global, buffer: Buffer<S>, end: LogEnd) -> Opened<S>
         ensures { result
-            ≡ record { buffer = buffer; whole = ends_open end; text_waits = false } }
+            ≡ record { buffer = buffer; whole = ends_open end; text_waits = false; runs = false } }
     {
         Opened {
             alloc,
             buffer,
             whole: end != LogEnd::Whole,
             text_waits: false,
+            runs: false,
         }
+    }
+
+    /// Whether a save that appends more than `MAX_SINGLE` operations puts those in a row that are a
+    /// run in one line. Takes no memory.
+    pub fn append_runs(&mut self, runs: bool)
+        ensures { self.new ≡ with_runs runs self.old }
+    {
+        self.runs = runs;
     }
 
     /// Whether there is something to save: operations are unsaved, or the text was not put since

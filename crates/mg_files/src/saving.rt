@@ -3,14 +3,15 @@ ghost use Rattle.std.specs.Prelude.{◌≡◌, false, IfOk, IfErr, OnOk, OnErr};
 ghost use Rattle.mg_files.specs.Calls.{Adds, told, failures_after};
 ghost use Rattle.mg_files.specs.Saving.{is_changed, log_call, log_calls, text_call, save_calls, logged, saved, unlogged, written, FailsAtLog, SaveFailed};
 
-use crate::lines::{all_lines_of, lines_of, text_of};
+use crate::lines::{all_lines_of, appended_lines_of, text_of};
 use crate::opened::Opened;
 use crate::port::{Port, PortFault};
 use rga_store::TextStore;
 
 impl<S: TextStore> Opened<S> {
-    /// Saves what is changed: the unsaved operations are appended to the log, or the whole log is
-    /// written where it may not end in a newline, and then the text is put. Answers whether there
+    /// Saves what is changed: the unsaved operations are appended to the log, in runs where
+    /// `append_runs` asked for these and they are more than `MAX_SINGLE`; or the whole log is
+    /// written where it may not end in a newline. Then the text is put. Answers whether there
     /// was something to save; where there was not, no call of the port is made.
     ///
     /// `File` where the port refused a call, which then is the last one made, and `Memory`. A fault
@@ -67,7 +68,7 @@ impl<S: TextStore> Opened<S> {
             let lines = all_lines_of(self.alloc, self.buffer.store())?;
             return port.replace(self.buffer.name(), &lines);
         }
-        let lines = lines_of(self.alloc, self.buffer.unsaved())?;
+        let lines = appended_lines_of(self.alloc, self.runs, self.buffer.unsaved())?;
         port.append(self.buffer.name(), &lines)
     }
 

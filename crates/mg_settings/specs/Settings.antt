@@ -16,6 +16,7 @@ pub record Values : Type 0 where
   pub newest : Bool
   pub cursor : Bool
   pub resizable : Bool
+  pub runs : Bool
   pub limit : ℕ
 
 -- each value is within its limits

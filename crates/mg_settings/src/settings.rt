@@ -32,6 +32,8 @@ pub struct Values {
     pub cursor: bool,
     /// Whether the screen follows the reports of its size among the keys.
     pub resizable: bool,
+    /// Whether a save of many operations appends them in runs.
+    pub runs: bool,
     /// How many identifiers the buffer may know.
     pub limit: usize,
 }
@@ -53,6 +55,7 @@ impl Model for Values {
       newest = v.newest;
       cursor = v.cursor;
       resizable = v.resizable;
+      runs = v.runs;
       limit = v.limit;
     } };
 }

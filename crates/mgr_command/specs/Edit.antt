@@ -33,10 +33,13 @@ screen_rules app = with_rule (with_rule app (with_default (codes "24") (number (
 abbrev pub number_rules : App → App
 number_rules app = with_rule (with_rule app (with_default (codes "70") (number (codes "fill") 1 9999))) (number (codes "port") 1 65535)
 
+-- what frames there are
+abbrev pub trace_rules : App → App
+trace_rules app = with_rule (with_rule app (flag (codes "trace"))) (flag (codes "newest"))
+
+-- what stands in them, and in the log
 abbrev pub flag_rules : App → App
-flag_rules app =
-    let traced = with_rule (with_rule app (flag (codes "trace"))) (flag (codes "newest")) in
-    with_rule (with_rule traced (flag (codes "cursor"))) (flag (codes "resizable"))
+flag_rules app = with_rule (with_rule (with_rule (trace_rules app) (flag (codes "cursor"))) (flag (codes "resizable"))) (flag (codes "runs"))
 
 abbrev pub edit_app : App
 edit_app =
@@ -74,6 +77,7 @@ pub record GivesOptions (rows : List Row) (v : Values) : Type 0 where
   pub newest : GivesFlag rows (codes "newest") v.newest
   pub cursor : GivesFlag rows (codes "cursor") v.cursor
   pub resizable : GivesFlag rows (codes "resizable") v.resizable
+  pub runs : GivesFlag rows (codes "runs") v.runs
   pub limit : v.limit ≡ MAX_LIMIT
 
 pub record GivesValues (rows : List Row) (v : Values) : Type 0 where

@@ -109,10 +109,10 @@ fn with_numbers<'a>(alloc: Global, command: Command<'a>) -> Result<Command<'a>, 
     with(command, described(port, "The port of exchanges"))
 }
 
-/// The same command with its flags.
-fn with_flags<'a>(alloc: Global, command: Command<'a>) -> Result<Command<'a>, AllocError>
+/// The same command with the flags of frames.
+fn with_trace<'a>(alloc: Global, command: Command<'a>) -> Result<Command<'a>, AllocError>
     requires { (fields_of command).has_globals ≡ false }
-    ensures app { IfOk result (λ c. app_of c ≡ spec.flag_rules (app_of command.entry)) }
+    ensures app { IfOk result (λ c. app_of c ≡ spec.trace_rules (app_of command.entry)) }
     ensures plain { IfOk result (λ c. (fields_of c).has_globals ≡ false) }
 {
     let trace = described(flag(alloc, "trace"), "Write a frame behind each step");
@@ -120,6 +120,16 @@ fn with_flags<'a>(alloc: Global, command: Command<'a>) -> Result<Command<'a>, Al
         flag(alloc, "newest"),
         "With --trace, write one behind all keys that are at hand",
     );
+    with(with(command, trace)?, newest)
+}
+
+/// The same command with all flags.
+fn with_flags<'a>(alloc: Global, command: Command<'a>) -> Result<Command<'a>, AllocError>
+    requires { (fields_of command).has_globals ≡ false }
+    ensures app { IfOk result (λ c. app_of c ≡ spec.flag_rules (app_of command.entry)) }
+    ensures plain { IfOk result (λ c. (fields_of c).has_globals ≡ false) }
+{
+    let command = with_trace(alloc, command)?;
     let cursor = described(
         flag(alloc, "cursor"),
         "Write the cursor's row and column behind each frame",
@@ -128,10 +138,11 @@ fn with_flags<'a>(alloc: Global, command: Command<'a>) -> Result<Command<'a>, Al
         flag(alloc, "resizable"),
         "Take reports of the screen's size among the keys",
     );
-    with(
-        with(with(with(command, trace)?, newest)?, cursor)?,
-        resizable,
-    )
+    let runs = described(
+        flag(alloc, "runs"),
+        "Append more than 32 operations to the log in runs",
+    );
+    with(with(with(command, cursor)?, resizable)?, runs)
 }
 
 /// `edit`, with the words of its help.

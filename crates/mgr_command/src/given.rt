@@ -72,6 +72,7 @@ fn values_of(name: String, found: &ArgMatches<'_>) -> Option<Values>
         newest: found.get_flag("newest"),
         cursor: found.get_flag("cursor"),
         resizable: found.get_flag("resizable"),
+        runs: found.get_flag("runs"),
         limit: MAX_LIMIT,
         name,
     })

@@ -20,6 +20,7 @@ fn values(alloc: Global, trace: bool) -> Result<Values, AllocError> {
         cursor: false,
         newest: false,
         resizable: false,
+        runs: false,
         limit: 1000,
     })
 }

@@ -15,6 +15,7 @@ fn values(alloc: Global, name: &str) -> Result<Values, AllocError> {
         cursor: false,
         newest: false,
         resizable: false,
+        runs: false,
         limit: 1000,
     })
 }
