@@ -1,5 +1,5 @@
 -- Logs that are written, beside the buffer that they are of.
-use Rattle.std.proofs.Common.{◌≡◌, ℕ, ◌≤◌, false, lit≤, List, [], ◌++◌, take, Option, Some, None, Ok, refl, sym, ap, subst, ◌∙◌, le_trans, inl, inr, true≢false}
+use Rattle.std.proofs.Common.{◌≡◌, ℕ, ◌≤◌, ◌&&◌, Bool, true, false, cond, nat_lt, lit≤, List, [], ◌++◌, length, take, Option, Some, None, Ok, refl, sym, ap, subst, ◌∙◌, le_trans, inl, inr, true≢false}
 use Rattle.std.specs.FinSet as finite_set
 use Rattle.std.proofs.lemmas.Option.{none-some}
 use Rattle.rga_ops.specs.Content.{Content, nothing, join, content_of, known_ids, IsSound, IsWithin}
@@ -16,14 +16,17 @@ use Rattle.rga_ops.specs.Content.{IsAgreed}
 use Rattle.rga_lines.specs.Stream.{rest_of}
 use Rattle.rga_lines.specs.Log.{then_operations, log_operations}
 use Rattle.rga_lines.proofs.StandLemmas.{nothing_stands}
+use Rattle.rga_exchange.specs.RunLines.{runs_text}
 use Rattle.rga_exchange.specs.Sending.{log_text, AreWritable, StandsFor, GainsFirst}
 use Rattle.rga_exchange.specs.Log.{log_end}
 use Rattle.rga_exchange.specs.declared.log.LogEnd.{LogEnd}
 use Rattle.rga_exchange.proofs.AppendedLaws.{rest_appended, stands_appended}
 use Rattle.rga_exchange.proofs.BegunLogLaws.{stands_begun}
 use Rattle.rga_exchange.proofs.LogLaws.{log_that_stands}
+use Rattle.rga_exchange.proofs.RunLineLaws.{runs_appended, runs_ended, runs_begun}
 use Rattle.mg_files.specs.OpenState.{OpenState}
-use Rattle.mg_files.specs.Saving.{unlogged, written}
+use Rattle.mg_files.specs.Saving.{appended_text, unlogged, written}
+use Rattle.mg_files.specs.declared.lines.TheConstants.{MAX_SINGLE}
 use Rattle.mg_files.specs.Loading.{loaded, of_log, log_loaded}
 use Rattle.mg_held.specs.Held.{log_bytes, BegunLog, EitherLog}
 use Rattle.mg_held.specs.Kept.{IsWritableWhole, IsLogged}
@@ -53,6 +56,29 @@ whole_stands c sound writable =
 pub whole_ended : (c : Content) → IsWritableWhole c → rest_of (log_text (operations c)) ≡ []
 whole_ended c writable = rest_appended [] (operations c) refl (λ op m. writable op (operations_hold c op m))
 
+-- ---- what is appended, in runs or a line an operation
+
+appended_stands : (runs : Bool) (bytes : List ℕ) (c : Content) (ops : List Op) → StandsFor bytes c → rest_of bytes ≡ [] → AreWritable ops → AreWellFormed ops → IsJoinable c ops → StandsFor (bytes ++ appended_text runs ops) (join c (content_of ops))
+appended_stands runs bytes c ops stands ended writable well joinable = by (runs && nat_lt MAX_SINGLE (length ops))
+  where
+    by : (many : Bool) → StandsFor (bytes ++ cond many (runs_text ops) (log_text ops)) (join c (content_of ops))
+    by true = runs_appended bytes c ops stands ended writable well joinable
+    by false = stands_appended bytes c ops stands ended writable well joinable
+
+appended_ended : (runs : Bool) (bytes : List ℕ) (ops : List Op) → rest_of bytes ≡ [] → AreWritable ops → AreWellFormed ops → rest_of (bytes ++ appended_text runs ops) ≡ []
+appended_ended runs bytes ops ended writable well = by (runs && nat_lt MAX_SINGLE (length ops))
+  where
+    by : (many : Bool) → rest_of (bytes ++ cond many (runs_text ops) (log_text ops)) ≡ []
+    by true = runs_ended bytes ops ended writable well
+    by false = rest_appended bytes ops ended writable
+
+appended_begun : (runs : Bool) (bytes : List ℕ) (c : Content) (ops : List Op) (front rest : List ℕ) → StandsFor bytes c → rest_of bytes ≡ [] → AreWritable ops → AreWellFormed ops → IsJoinable c ops → front ++ rest ≡ appended_text runs ops → GainsFirst bytes front c ops
+appended_begun runs bytes c ops front rest stands ended writable well joinable e = by (runs && nat_lt MAX_SINGLE (length ops)) e
+  where
+    by : (many : Bool) → front ++ rest ≡ cond many (runs_text ops) (log_text ops) → GainsFirst bytes front c ops
+    by true cut = runs_begun bytes c ops front rest stands ended writable well joinable cut
+    by false cut = stands_begun bytes c ops front rest stands ended writable well joinable cut
+
 -- ---- a log that was written
 
 -- it has all, and nothing is unsaved
@@ -69,14 +95,14 @@ now_all held b log bytes h stands ended = record {
   waits = λ _. (bytes, refl);
 }
 
-pub after_append : (held : Content) (b : OpenState) (log : Option (List ℕ)) → IsLogged held b log → b.whole ≡ false → IsLogged b.buffer.content (written b) (Some (log_bytes log ++ log_text b.buffer.unsaved))
+pub after_append : (held : Content) (b : OpenState) (log : Option (List ℕ)) → IsLogged held b log → b.whole ≡ false → IsLogged b.buffer.content (written b) (Some (log_bytes log ++ appended_text b.runs b.buffer.unsaved))
 after_append held b log h whole =
     let ops : List Op = b.buffer.unsaved in
     let writable : AreWritable ops = writable_all held b.buffer.content ops h.content h.joinable h.writable in
     let well : AreWellFormed ops = well_formed_all held b.buffer.content ops h.content h.joinable h.sound in
-    now_all held b log (log_bytes log ++ log_text ops) h
-    (subst (StandsFor (log_bytes log ++ log_text ops)) (sym h.content) (stands_appended (log_bytes log) held ops h.stands (h.ended whole) writable well h.joinable))
-    (rest_appended (log_bytes log) ops (h.ended whole) writable)
+    now_all held b log (log_bytes log ++ appended_text b.runs ops) h
+    (subst (StandsFor (log_bytes log ++ appended_text b.runs ops)) (sym h.content) (appended_stands b.runs (log_bytes log) held ops h.stands (h.ended whole) writable well h.joinable))
+    (appended_ended b.runs (log_bytes log) ops (h.ended whole) writable well)
 
 pub after_replace : (held : Content) (b : OpenState) (log : Option (List ℕ)) → IsLogged held b log → IsLogged b.buffer.content (written b) (Some (log_text (operations b.buffer.content)))
 after_replace held b log h =
@@ -137,14 +163,14 @@ after_refused_replace held b log new h (inl old) = subst (IsFurther held b) (sym
 after_refused_replace held b log new h (inr e) =
     subst (IsFurther held b) (sym e) (wholly held b log (log_text (operations b.buffer.content)) h (whole_stands b.buffer.content h.sound h.writable))
 
-pub after_refused_append : (held : Content) (b : OpenState) (log new : Option (List ℕ)) → IsLogged held b log → b.whole ≡ false → BegunLog log (log_text b.buffer.unsaved) new → IsFurther held b new
+pub after_refused_append : (held : Content) (b : OpenState) (log new : Option (List ℕ)) → IsLogged held b log → b.whole ≡ false → BegunLog log (appended_text b.runs b.buffer.unsaved) new → IsFurther held b new
 after_refused_append held b None new h whole (inl none) = subst (IsFurther held b) (sym none) (stays held b None h)
 after_refused_append held b None new h whole (inr e) =
     let log = after_append held b None h whole in
-    subst (IsFurther held b) (sym e) (wholly held b None (log_text b.buffer.unsaved) h log.stands)
+    subst (IsFurther held b) (sym e) (wholly held b None (appended_text b.runs b.buffer.unsaved) h log.stands)
 after_refused_append held b (Some old) new h whole begun =
     let ops : List Op = b.buffer.unsaved in
-    let gains : GainsFirst old begun.front held ops = stands_begun old held ops begun.front begun.rest h.stands (h.ended whole) (writable_all held b.buffer.content ops h.content h.joinable h.writable) (well_formed_all held b.buffer.content ops h.content h.joinable h.sound) h.joinable begun.cut in
+    let gains : GainsFirst old begun.front held ops = appended_begun b.runs old held ops begun.front begun.rest h.stands (h.ended whole) (writable_all held b.buffer.content ops h.content h.joinable h.writable) (well_formed_all held b.buffer.content ops h.content h.joinable h.sound) h.joinable begun.cut in
     subst (IsFurther held b) (sym begun.behind)
     (further held (join held (content_of (take gains.count ops))) b (Some old) (old ++ begun.front) h gains.stands
     (h.content ∙ joined_again held gains.count ops)

@@ -33,7 +33,7 @@ use Rattle.rga_exchange.proofs.OperationLaws.{IsRead, is_read, no_fault, log_joi
 use Rattle.rga_exchange.proofs.LogLaws.{log_stands}
 use Rattle.mg_files.specs.Files.{Files}
 use Rattle.mg_files.specs.Loading.{Loaded, loaded, of_log, log_loaded, insertions, text_loaded, either_loaded, files_loaded, opened, opened_and_end, opening_answer, after_opening, load_outcome, ends_open}
-use Rattle.mg_files.specs.OpenState.{OpenState}
+use Rattle.mg_files.specs.OpenState.{OpenState, with_runs}
 use Rattle.mg_files.specs.declared.fault.LoadFault.{LoadFault}
 use Rattle.mg_files.specs.declared.fault.LoadFault.TheVariants.{Log, NotText, Store}
 use Rattle.mg_files.proofs.LoadedLaws.{splice_of_nothing, limit_of}
@@ -199,8 +199,27 @@ files_read name replica limit (Some bytes) text l limited h is = log_read name r
 files_read name replica limit None (Some bytes) l limited h is = text_read name replica limit bytes l limited h is
 files_read name replica limit None None l limited h is = none_read name replica limit l h is
 
-pub opened_logged : (name : List ℕ) (replica limit : ℕ) (found : Files) (b : OpenState) (end : LogEnd) → load_outcome name replica limit found ≡ Ok (b, end) → IsBuffer b → IsLoggedBy b found.log
+opened_logged : (name : List ℕ) (replica limit : ℕ) (found : Files) (b : OpenState) (end : LogEnd) → load_outcome name replica limit found ≡ Ok (b, end) → IsBuffer b → IsLoggedBy b found.log
 opened_logged name replica limit found b end h is =
     let o = opened_by name replica limit found b end h in
     subst (λ x. IsLoggedBy x found.log) (sym o.is)
     (files_read name replica limit found.log found.text o.loaded (limit_of replica limit o.opening) o.files (subst IsBuffer o.is is))
+
+-- whether saves are to append runs changes nothing of what is kept
+pub opened_kept : (name : List ℕ) (replica limit : ℕ) (found : Files) (b : OpenState) (end : LogEnd) (runs : Bool) → load_outcome name replica limit found ≡ Ok (b, end) → IsBuffer b → IsLoggedBy (with_runs runs b) found.log
+opened_kept name replica limit found b end runs h is =
+    let l = opened_logged name replica limit found b end h is in
+    record {
+      held = l.held;
+      logged = record {
+        stands = l.logged.stands;
+        absent = l.logged.absent;
+        ended = l.logged.ended;
+        content = l.logged.content;
+        joinable = l.logged.joinable;
+        sound = l.logged.sound;
+        writable = l.logged.writable;
+        fits = l.logged.fits;
+        waits = l.logged.waits;
+      };
+    }

@@ -11,7 +11,7 @@ use Rattle.mg_files.specs.declared.port.PortFault.TheVariants.{File, Memory}
 use Rattle.mg_files.specs.Calls.{call, refused, refusals}
 use Rattle.mg_files.specs.Files.{Files, text_bytes}
 use Rattle.mg_files.specs.OpenState.{OpenState}
-use Rattle.mg_files.specs.Saving.{has_unsaved, is_changed, log_call, log_calls, text_call, save_calls, written, logged, saved}
+use Rattle.mg_files.specs.Saving.{appended_text, has_unsaved, is_changed, log_call, log_calls, text_call, save_calls, written, logged, saved}
 use Rattle.mg_held.specs.Held.{Held, MayLeave, MayLead}
 use Rattle.mg_held.specs.Kept.{IsLogged}
 use Rattle.mg_held.proofs.LogSteps.{after_append, after_replace, IsFurther, after_refused_append, after_refused_replace, stays}
@@ -25,14 +25,14 @@ own_log b s = (s b.buffer.name).log
 pub log_answered : (held : Content) (b : OpenState) (s t : Held) → IsLogged held b (own_log b s) → MayLeave (log_call b) s t → IsLogged b.buffer.content (written b) (own_log b t)
 log_answered held b s t h m = by b.whole refl m
   where
-    by : (w : Bool) → b.whole ≡ w → MayLeave (cond w (call Replace b.buffer.name (log_text (operations b.buffer.content))) (call Append b.buffer.name (log_text b.buffer.unsaved))) s t → IsLogged b.buffer.content (written b) (own_log b t)
+    by : (w : Bool) → b.whole ≡ w → MayLeave (cond w (call Replace b.buffer.name (log_text (operations b.buffer.content))) (call Append b.buffer.name (appended_text b.runs b.buffer.unsaved))) s t → IsLogged b.buffer.content (written b) (own_log b t)
     by true e m = subst (IsLogged b.buffer.content (written b)) (sym (ap (λ (f : Files). f.log) m.here)) (after_replace held b (own_log b s) h)
     by false e m = subst (IsLogged b.buffer.content (written b)) (sym (ap (λ (f : Files). f.log) m.here)) (after_append held b (own_log b s) h e)
 
 pub log_refused : (held : Content) (b : OpenState) (s t : Held) → IsLogged held b (own_log b s) → MayLeave (refused (log_call b)) s t → IsFurther held b (own_log b t)
 log_refused held b s t h m = by b.whole refl m
   where
-    by : (w : Bool) → b.whole ≡ w → MayLeave (refused (cond w (call Replace b.buffer.name (log_text (operations b.buffer.content))) (call Append b.buffer.name (log_text b.buffer.unsaved)))) s t → IsFurther held b (own_log b t)
+    by : (w : Bool) → b.whole ≡ w → MayLeave (refused (cond w (call Replace b.buffer.name (log_text (operations b.buffer.content))) (call Append b.buffer.name (appended_text b.runs b.buffer.unsaved)))) s t → IsFurther held b (own_log b t)
     by true e m = after_refused_replace held b (own_log b s) (own_log b t) h m.here.0
     by false e m = after_refused_append held b (own_log b s) (own_log b t) h e m.here.0
 

@@ -2,7 +2,7 @@
 use Rattle.std.specs.Prelude.{◌≡◌, ◌-◌, Bool, [], ◌∷◌, length, nat_le, Result, Ok, Err}
 use Rattle.rga_exchange.specs.declared.log.LogEnd.{LogEnd}
 use Rattle.mg_plain.specs.declared.view.Kind.TheVariants.{Plain}
-use Rattle.mg_files.specs.OpenState.{OpenState}
+use Rattle.mg_files.specs.OpenState.{OpenState, with_runs}
 use Rattle.mg_files.specs.declared.fault.LoadFault.{LoadFault}
 use Rattle.mg_screen.specs.Layout.{layout, window}
 use Rattle.mg_settings.specs.Settings.{Values}
@@ -14,22 +14,24 @@ use Rattle.mg_workspace.specs.Workspaces.{Workspace}
 -- one buffer in one window, from its first line on
 abbrev pub workspace : Values → OpenState → Workspace
 workspace v b = record {
-  buffers = record { all = b ∷ []; current = 0 };
+  buffers = record { all = with_runs v.runs b ∷ []; current = 0 };
   notes = record { kill = []; kind = Plain; goal = 0 };
   windows = layout (window (v.rows - 2) (excerpt 0 0) ∷ []) 0;
   fill = v.fill;
   columns = v.columns;
   replica = v.replica;
   limit = v.limit;
+  runs = v.runs;
 }
 
 -- as many buffers are open as may be
 abbrev pub is_full : Workspace → Bool
 is_full w = nat_le MAX_BUFFERS (length w.buffers.all)
 
--- one more buffer, which is current, and which the current window shows
+-- one more buffer, of which saves append runs or do not as of the first, and which is current and shown by the current
+-- window
 abbrev pub with_opened : OpenState → Workspace → Workspace
-with_opened b w = record w { buffers = with_buffer b w.buffers; windows = turned (length w.buffers.all) w.windows }
+with_opened b w = record w { buffers = with_buffer (with_runs w.runs b) w.buffers; windows = turned (length w.buffers.all) w.windows }
 
 -- as what was found is loaded, or its fault
 abbrev pub OpensBy : Result (OpenState × LogEnd) LoadFault → Workspace → Workspace → Result LogEnd LoadFault → Type 0

@@ -1,5 +1,5 @@
 -- What is worked on.
-use Rattle.std.specs.Prelude.{◌≡◌, ℕ, true, Some, slice_get}
+use Rattle.std.specs.Prelude.{◌≡◌, ℕ, Bool, true, Some, slice_get}
 use Rattle.rga_ops.specs.Order.{text}
 use Rattle.mg_buffer.specs.Sight.{Notes, place_of}
 use Rattle.mg_files.specs.OpenState.{OpenState}
@@ -10,7 +10,7 @@ use Rattle.mg_workspace.specs.Buffers as buffers
 use Rattle.mg_workspace.specs.Buffers.{are_changed, AtCurrent}
 
 -- the buffers, what commands leave for the next one, the windows with what they show, the fill column, the columns of the
--- screen, and the replica and the limit of buffers that are opened
+-- screen, the replica and the limit of buffers that are opened, and whether saves of these append runs
 pub record Workspace : Type 0 where
   pub buffers : buffers.Buffers
   pub notes : Notes
@@ -19,6 +19,7 @@ pub record Workspace : Type 0 where
   pub columns : ℕ
   pub replica : ℕ
   pub limit : ℕ
+  pub runs : Bool
 
 -- that buffer is current
 abbrev pub IsCurrent : Workspace → OpenState → Type 0

@@ -127,7 +127,7 @@ impl<S: TextStore> Workspace<S> {
     }
 
     /// Opens a buffer by what was found under its name, as `Opened::load` does, with the replica and
-    /// the limit of the workspace, and answers how its log ends. It is current then, and the current
+    /// the limit of the workspace, of which saves append runs where those of the first one do, and answers how its log ends. It is current then, and the current
     /// window shows it.
     ///
     /// Faults: those of `Opened::load`, and nothing changes then.
@@ -138,7 +138,8 @@ impl<S: TextStore> Workspace<S> {
             w self.new result }
         ensures same { OnErr result (self.new ≡ self.old) }
     {
-        let (opened, end) = Opened::load(self.alloc, name, self.replica, self.limit, found)?;
+        let (mut opened, end) = Opened::load(self.alloc, name, self.replica, self.limit, found)?;
+        opened.append_runs(self.runs);
         self.buffers.open(opened)?;
         turn(&mut self.windows, self.buffers.current_index());
         Ok(end)

@@ -41,6 +41,8 @@ pub struct Workspace<S: TextStore> {
     /// The replica and the limit of buffers that are opened.
     pub(crate) replica: u16,
     pub(crate) limit: usize,
+    /// Whether saves of them append runs.
+    pub(crate) runs: bool,
 }
 
 /// The first buffer, from its first line on.
@@ -70,6 +72,7 @@ impl<S: TextStore> Model for Workspace<S> {
       columns = w.columns;
       replica = w.replica;
       limit = w.limit;
+      runs = w.runs;
     } };
 
     ghost invariant = { λ w.
@@ -81,11 +84,12 @@ impl<S: TextStore> Workspace<S> {
     pub fn new(
         alloc: Global,
         settings: &Settings,
-        opened: Opened<S>,
+        mut opened: Opened<S>,
     ) -> Result<Workspace<S>, LoadFault>
         ensures exact { IfOk result (λ w. w ≡ workspace settings.now opened) }
         ensures memory { IfErr result (λ e. e ≡ Memory) }
     {
+        opened.append_runs(settings.values().runs);
         let buffers = Buffers::new(alloc, opened)?;
         let Ok(windows) = Windows::new(alloc, settings.rows(), BEGINNING) else {
             return Err(LoadFault::Memory);
@@ -99,6 +103,7 @@ impl<S: TextStore> Workspace<S> {
             columns: settings.columns(),
             replica: settings.values().replica,
             limit: settings.values().limit,
+            runs: settings.values().runs,
         })
     }
 

@@ -10,7 +10,7 @@ returns-clause-listed g c =
     let xs = c.self.inside.all.items in
     let i = c.self.inside.current in
     let b = c.behind-self.inside in
-    let x : OpenState = record { buffer = b.buffer; whole = b.whole; text_waits = b.text_waits } in
+    let x : OpenState = record { buffer = b.buffer; whole = b.whole; text_waits = b.text_waits; runs = b.runs } in
     let value : x ≡ get_or xs i x = search rules in
     let is : c.args.self.now ≡ record { all = xs; current = i } = search rules in
     on_ok_map c.list.result _ _ (λ listed. at_current spec.IsListed c.args.self.now xs i x c.list.new.self is c.self.invariant value listed) c.list.ensures.listed

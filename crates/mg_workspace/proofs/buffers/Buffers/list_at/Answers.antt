@@ -12,7 +12,7 @@ returns-clause-listed g c =
     let xs = c.self.inside.all.items in
     let i = c.args.index in
     let b = c.behind-self.inside in
-    let x : OpenState = record { buffer = b.buffer; whole = b.whole; text_waits = b.text_waits } in
+    let x : OpenState = record { buffer = b.buffer; whole = b.whole; text_waits = b.text_waits; runs = b.runs } in
     let value : x ≡ get_or xs i x = search rules in
     let is : c.args.self.now ≡ record { all = xs; current = c.self.inside.current } = search rules in
     let inside : i < length xs = subst (λ (bs : spec.Buffers). i < length bs.all) is c.requires in

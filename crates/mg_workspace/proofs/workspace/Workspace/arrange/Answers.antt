@@ -26,7 +26,7 @@ pub returns-then-lacks_memory-clause-arranged : goal.returns-then-lacks_memory-c
 returns-then-lacks_memory-clause-arranged g c =
     let s = c.self.inside in
     let w = c.args.self.now in
-    let was : Workspace = record { buffers = s.buffers; notes = s.memo; windows = s.windows; fill = s.fill; columns = s.columns; replica = s.replica; limit = s.limit } in
+    let was : Workspace = record { buffers = s.buffers; notes = s.memo; windows = s.windows; fill = s.fill; columns = s.columns; replica = s.replica; limit = s.limit; runs = s.runs } in
     let is : w ≡ was = search rules in
     let a = c.args.arrangement in
     let now : Workspace = record was { windows = c.change_windows-answer.new.windows } in
@@ -40,7 +40,7 @@ pub returns-clause-arranged : goal.returns-clause-arranged
 returns-clause-arranged g c =
     let s = c.self.inside in
     let w = c.args.self.now in
-    let was : Workspace = record { buffers = s.buffers; notes = s.memo; windows = s.windows; fill = s.fill; columns = s.columns; replica = s.replica; limit = s.limit } in
+    let was : Workspace = record { buffers = s.buffers; notes = s.memo; windows = s.windows; fill = s.fill; columns = s.columns; replica = s.replica; limit = s.limit; runs = s.runs } in
     let is : w ≡ was = search rules in
     let a = c.args.arrangement in
     let b : OpenState = c.current-opened.result.now in

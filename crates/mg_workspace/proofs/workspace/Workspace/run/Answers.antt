@@ -7,7 +7,7 @@ use Rattle.mg_workspace.proofs.workspace.Workspace.run.Goals as goal
 pub returns-clause-ran : goal.returns-clause-ran
 returns-clause-ran g c =
     let s = c.self.inside in
-    let was : Workspace = record { buffers = s.buffers; notes = s.memo; windows = s.windows; fill = s.fill; columns = s.columns; replica = s.replica; limit = s.limit } in
+    let was : Workspace = record { buffers = s.buffers; notes = s.memo; windows = s.windows; fill = s.fill; columns = s.columns; replica = s.replica; limit = s.limit; runs = s.runs } in
     let is : c.args.self.now ≡ was = search rules in
     let now : Workspace = record was { buffers = c.run-answer.new.self; notes = c.run-answer.new.memo } in
     let ran : Ran c.args.command.now c.args.argument c.args.self.now now c.of_buffer.result =
@@ -17,7 +17,7 @@ returns-clause-ran g c =
 pub returns-clause-kept : goal.returns-clause-kept
 returns-clause-kept g c memory =
     let s = c.self.inside in
-    let was : Workspace = record { buffers = s.buffers; notes = s.memo; windows = s.windows; fill = s.fill; columns = s.columns; replica = s.replica; limit = s.limit } in
+    let was : Workspace = record { buffers = s.buffers; notes = s.memo; windows = s.windows; fill = s.fill; columns = s.columns; replica = s.replica; limit = s.limit; runs = s.runs } in
     let is : c.args.self.now ≡ was = search rules in
     let now : Workspace = record was { buffers = c.run-answer.new.self; notes = c.run-answer.new.memo } in
     let ran : Ran c.args.command.now c.args.argument c.args.self.now now c.of_buffer.result =

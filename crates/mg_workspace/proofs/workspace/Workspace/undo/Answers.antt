@@ -7,7 +7,7 @@ use Rattle.mg_workspace.proofs.workspace.Workspace.undo.Goals as goal
 pub returns-clause-undid : goal.returns-clause-undid
 returns-clause-undid g c =
     let s = c.self.inside in
-    let was : Workspace = record { buffers = s.buffers; notes = s.memo; windows = s.windows; fill = s.fill; columns = s.columns; replica = s.replica; limit = s.limit } in
+    let was : Workspace = record { buffers = s.buffers; notes = s.memo; windows = s.windows; fill = s.fill; columns = s.columns; replica = s.replica; limit = s.limit; runs = s.runs } in
     let is : c.args.self.now ≡ was = search rules in
     let now : Workspace = record was { buffers = c.undo-answer.new.self; notes = c.undo-answer.new.memo } in
     let undid : Undid c.args.self.now now c.of_buffer.result =
@@ -17,7 +17,7 @@ returns-clause-undid g c =
 pub returns-clause-kept : goal.returns-clause-kept
 returns-clause-kept g c memory =
     let s = c.self.inside in
-    let was : Workspace = record { buffers = s.buffers; notes = s.memo; windows = s.windows; fill = s.fill; columns = s.columns; replica = s.replica; limit = s.limit } in
+    let was : Workspace = record { buffers = s.buffers; notes = s.memo; windows = s.windows; fill = s.fill; columns = s.columns; replica = s.replica; limit = s.limit; runs = s.runs } in
     let is : c.args.self.now ≡ was = search rules in
     let now : Workspace = record was { buffers = c.undo-answer.new.self; notes = c.undo-answer.new.memo } in
     let undid : Undid c.args.self.now now c.of_buffer.result =
