@@ -1,0 +1,5 @@
+pub mod Waiting
+pub mod Flat
+pub mod Placing
+pub mod Based
+pub mod Undo
