@@ -5,3 +5,4 @@ pub mod PlacingLaws
 pub mod FlatLaws
 pub mod ReadingLaws
 pub mod UndoLaws
+pub mod BackLaws

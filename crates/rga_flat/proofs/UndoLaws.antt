@@ -1,10 +1,12 @@
 -- The way back from a content to a base.
-use Rattle.std.proofs.Common.{◌≡◌, is_some, Bool, true, false, not, ◌&&◌, ◌||◌, ℕ, List, [], ◌∷◌, filter, refl, sym, ap, ◌∙◌, subst, true≢false, cond}
+use Rattle.std.proofs.Common.{◌≡◌, is_some, Bool, true, false, not, ◌&&◌, ◌||◌, ℕ, List, [], ◌∷◌, ◌++◌, filter, refl, sym, ap, ◌∙◌, subst, true≢false, cond}
 use Rattle.std.specs.Prelude.{Option, Some, None}
 use Rattle.std.specs.Option.{option_map_or}
 use Rattle.std.specs.List.{list_any, AllByRecursion, IsDistinct}
 use Rattle.std.specs.FinMap as finite_map
 use Rattle.std.specs.FinSet as finite_set
+use Rattle.std.proofs.Math.Bool.{or-false}
+use Rattle.std.proofs.lemmas.List.Folds.{list_any-append}
 use Rattle.std.proofs.lemmas.Option.{same_Some, none-some}
 use Rattle.rga_ops.specs.Identifier.{Identifier, is_id}
 use Rattle.rga_ops.specs.Content.{Element, element, Content, IsWithin}
@@ -82,6 +84,24 @@ has_filtered p k (x ∷ xs) =
     none : (b : Bool) → (b && false) ≡ false
     none true = refl
     none false = refl
+
+-- none is out at first, and then one more
+pub out_none : (es : List Entry) → es ≡ filter (λ e. not (list_any (is e.id) [])) es
+out_none [] = refl
+out_none (e ∷ es) = ap (λ r. e ∷ r) (out_none es)
+
+pub out_more : (ks : List Identifier) (k : Identifier) (es : List Entry) → without_entry k (filter (λ e. not (list_any (is e.id) ks)) es) ≡ filter (λ e. not (list_any (is e.id) (ks ++ k ∷ []))) es
+out_more ks k [] = refl
+out_more ks k (e ∷ es) =
+    let rest : without_entry k (filter (λ x. not (list_any (is x.id) ks)) es) ≡ filter (λ x. not (list_any (is x.id) (ks ++ k ∷ []))) es = out_more ks k es in
+    let more : list_any (is e.id) (ks ++ k ∷ []) ≡ (list_any (is e.id) ks || is_id e.id k) =
+    list_any-append (is e.id) ks (k ∷ []) ∙ ap (λ b. list_any (is e.id) ks || b) (or-false (is e.id k) ∙ is_swap e.id k ∙ sym (is_id-same e.id k)) in
+    elim (list_any (is e.id) ks) as (λ b. list_any (is e.id) (ks ++ k ∷ []) ≡ (b || is_id e.id k)
+    → without_entry k (cond (not b) (e ∷ filter (λ x. not (list_any (is x.id) ks)) es) (filter (λ x. not (list_any (is x.id) ks)) es))
+    ≡ cond (not (list_any (is e.id) (ks ++ k ∷ []))) (e ∷ filter (λ x. not (list_any (is x.id) (ks ++ k ∷ []))) es) (filter (λ x. not (list_any (is x.id) (ks ++ k ∷ []))) es)) [
+      | true ↦ λ h. rest ∙ sym (ap (λ b. cond (not b) (e ∷ filter (λ x. not (list_any (is x.id) (ks ++ k ∷ []))) es) (filter (λ x. not (list_any (is x.id) (ks ++ k ∷ []))) es)) h)
+      | false ↦ λ h. (λ i. cond (not (is_id e.id k)) (e ∷ rest i) (rest i)) ∙ sym (ap (λ b. cond (not b) (e ∷ filter (λ x. not (list_any (is x.id) (ks ++ k ∷ []))) es) (filter (λ x. not (list_any (is x.id) (ks ++ k ∷ []))) es)) h)
+    ] more
 
 -- ---- the first step: what has a list that was done with goes
 

@@ -1,5 +1,5 @@
 -- Lists under identifiers, one of which changes.
-use Rattle.std.proofs.Common.{◌≡◌, Bool, true, false, cond, not, ◌&&◌, ◌||◌, [], ◌∷◌, ◌++◌, is_some, refl, sym, ap, ◌∙◌, true≢false, inl, inr}
+use Rattle.std.proofs.Common.{◌≡◌, List, Bool, true, false, cond, not, ◌&&◌, ◌||◌, [], ◌∷◌, ◌++◌, is_some, refl, sym, ap, ◌∙◌, true≢false, inl, inr}
 use Rattle.std.specs.Prelude.{Option, Some, None, Vec}
 use Rattle.std.specs.declared.alloc.Global.{Global}
 use Rattle.std.specs.Option.{option_map_or, unwrap_or}
@@ -174,3 +174,18 @@ listed_none w done e p = sym (ap (λ b. has_list w p && not b) (none_done done e
 
 pub unlisted_done : (w : Waiting) (done : BTreeSet Identifier) (p : Identifier) → contains id_cmp done p ≡ true → is_listed w done p ≡ false
 unlisted_done w done p t = ap (λ b. has_list w p && not b) t ∙ and-false (has_list w p)
+
+-- a list that changes
+module _ (old new : Waiting) (id : Identifier) (v : Children) (changed : (q : Identifier) → get id_cmp new q ≡ cond (is id q) (Some v) (get id_cmp old q)) where
+  pub changed_under : (f : List Identifier → List Identifier) → v.items ≡ f (under old id) → (p : Identifier) → under new p ≡ cond (is id p) (f (under old p)) (under old p)
+  changed_under f e p = under_now old new id v changed p ∙ either (is id p)
+      (λ t. ap (λ b. cond b v.items (under old p)) t ∙ e ∙ ap (λ q. f (under old q)) (same_id id p t) ∙ sym (ap (λ b. cond b (f (under old p)) (under old p)) t))
+      (λ g. ap (λ b. cond b v.items (under old p)) g ∙ sym (ap (λ b. cond b (f (under old p)) (under old p)) g))
+
+  pub kept_list : has_list old id ≡ true → (p : Identifier) → has_list new p ≡ has_list old p
+  kept_list h p = list_now old new id v changed p ∙ either (is id p)
+      (λ t. ap (λ b. b || has_list old p) t ∙ sym (ap (has_list old) (sym (same_id id p t)) ∙ h))
+      (λ g. ap (λ b. b || has_list old p) g)
+
+abbrev pub list_items : Option Children → List Identifier
+list_items o = option_map_or (λ v. v.items) o []

@@ -3,3 +3,4 @@ pub mod Flat
 pub mod Placing
 pub mod Based
 pub mod Undo
+pub mod Back

@@ -1,20 +1,13 @@
 //! A store as records and one sequence.
-ghost use Rattle.std.specs.Prelude.{◌≡◌, ◌≢◌, ◌≤◌, ◌↔◌, length, Ok, Err, IfOk, IfErr, true, false, string_bytes, encode_utf8_all};
-ghost use Rattle.std.specs.FinSet as finite_set;
-ghost use Rattle.rga_ops.specs.Prelude.{answer, clock_of, element_at, is_root, join, known_count, nothing, operations, order, place, single, text, visible, IsSound};
-ghost use Rattle.rga_ops.specs.Content.{Holds};
-ghost use Rattle.rga_ops.specs.Order.{waiting};
-ghost use Rattle.rga_ops.specs.Places.{is_visible};
-ghost use Rattle.rga_ops.specs.RootPath.{is_complete};
-ghost use Rattle.rga_store.specs.Limit.{is_limit};
-ghost use Rattle.rga_store.specs.Growth.{NeedsRoom};
 
 use crate::reading::{count_inserted, last_of, string_of};
 use crate::taking::take;
 use crate::waiting::clear_lists;
+use crate::whole_list::take_whole;
 use rga_ops::{Id, Op, Refusal, Taken};
 use rga_records::Records;
 use rga_sequence::Sequence;
+use rga_store::{Taker, TextStore};
 use std::alloc::Global;
 use std::collections::{BTreeMap, BTreeSet};
 use std::marker::Model;
@@ -46,35 +39,23 @@ impl Model for FlatStore {
         IsFlat a.records.content a.sequence (under a.waiting) (has_list a.waiting) };
 }
 
-impl FlatStore {
-    /// An empty store that may know `limit` identifiers. `Range` unless that is 1 to `MAX_LIMIT`.
-    /// Takes no memory.
-    pub fn new(alloc: Global, limit: usize) -> Result<FlatStore, Refusal>
-        ensures range { is_limit limit ≡ false → result ≡ Err Refusal.Range }
-        ensures made { is_limit limit ≡ true →
-            result ≡ Ok (record { content = nothing; limit = limit }) }
-    {
-        let records = Records::new(alloc, limit)?;
-        Ok(FlatStore {
-            alloc,
-            records,
-            sequence: Sequence::new(alloc),
-            waiting: BTreeMap::new(alloc),
-        })
-    }
+impl Taker for FlatStore {
+    ghost use Rattle.std.specs.Prelude.{◌≡◌, Ok, Err, false};
+    ghost use Rattle.rga_store.specs.Growth.{NeedsRoom};
 
-    /// Takes an operation.
-    pub fn apply(&mut self, op: Op) -> Result<Taken, Refusal>
-        ensures exact { result ≢ Err Refusal.Memory →
-            result ≡ answer self.old.limit self.old.content op }
-        ensures memory { result ≡ Err Refusal.Memory →
-            answer self.old.limit self.old.content op ≡ Ok Taken.New }
-        ensures growth { result ≡ Err Refusal.Memory → NeedsRoom self.old.content op }
-        ensures new { result ≡ Ok Taken.New →
-            self.new.content ≡ join self.old.content (single op) }
-        ensures same { result ≢ Ok Taken.New → self.new.content ≡ self.old.content }
-        ensures limit { self.new.limit ≡ self.old.limit }
-    {
+    ghost content = { λ s. s.content };
+
+    ghost limit = { λ s. s.limit };
+
+    ghost may_grow = { λ s op. NeedsRoom s.content op };
+
+    ghost follows = { λ s ops t. Unit {0} };
+
+    ghost follows_nothing = { λ s. tt };
+
+    ghost follows_on = { λ s t u xs ys a b. tt };
+
+    fn apply(&mut self, op: Op) -> Result<Taken, Refusal> {
         let mut done = BTreeSet::new(self.alloc);
         let taken = take(
             self.alloc,
@@ -88,97 +69,84 @@ impl FlatStore {
         Ok(taken)
     }
 
-    /// The parent and the character of an element that is inserted. Takes no memory.
-    pub fn get(&self, id: Id) -> Option<(Id, char)>
-        ensures { result ≡ element_at self.now.content id }
-    {
+    fn apply_all(&mut self, ops: &[Op]) -> Result<(), Refusal> {
+        let _known = self.records.known();
+        let whole = take_whole(
+            self.alloc,
+            &mut self.records,
+            &mut self.sequence,
+            &mut self.waiting,
+            ops,
+        );
+        if whole.is_ok() {
+            return Ok(());
+        }
+        // Which refusal comes first depends on the whole list, so it is looked for only now.
+        self.records.answer_to_list(self.alloc, ops)?;
+        Err(Refusal::Memory)
+    }
+}
+
+impl TextStore for FlatStore {
+    ghost use Rattle.std.proofs.Common.{true≢false, sym, ◌∙◌};
+
+    ghost deletes_freely = { λ s id inserted grows. true≢false (sym inserted ∙ grows) };
+
+    fn new(alloc: Global, limit: usize) -> Result<FlatStore, Refusal> {
+        let records = Records::new(alloc, limit)?;
+        Ok(FlatStore {
+            alloc,
+            records,
+            sequence: Sequence::new(alloc),
+            waiting: BTreeMap::new(alloc),
+        })
+    }
+
+    fn get(&self, id: Id) -> Option<(Id, char)> {
         self.records.element(id)
     }
 
-    /// Whether an identifier is deleted, be it inserted or not. Takes no memory.
-    pub fn is_deleted(&self, id: Id) -> bool
-        ensures { result ≡ finite_set.contains self.now.content.deleted id }
-    {
+    fn is_deleted(&self, id: Id) -> bool {
         self.records.is_deleted(id)
     }
 
-    /// How many identifiers are inserted, deleted or both. Takes no memory.
-    pub fn known(&self) -> usize
-        ensures known { result ≡ known_count self.now.content }
-        ensures within { result ≤ self.now.limit }
-        ensures sound { IsSound self.now.content }
-    {
+    fn known(&self) -> usize {
         self.records.known()
     }
 
-    /// Whether an operation is in the content. Takes no memory.
-    pub fn contains(&self, op: &Op) -> bool
-        ensures { (result ≡ true) ↔ Holds self.now.content op.now }
-    {
+    fn contains(&self, op: &Op) -> bool {
         self.records.contains(op)
     }
 
-    /// The greatest counter among the insertions, their parents and the deletions; 0 where there
-    /// is none. Takes no memory.
-    pub fn clock(&self) -> u64
-        ensures { result ≡ clock_of self.now.content }
-    {
+    fn clock(&self) -> u64 {
         self.records.clock()
     }
 
-    /// How many identifiers it may know. Takes no memory.
-    pub fn limit(&self) -> usize
-        ensures limit { result ≡ self.now.limit }
-        ensures range { is_limit result ≡ true }
-    {
+    fn limit(&self) -> usize {
         self.records.limit()
     }
 
-    /// The complete elements, deleted ones too, in order. `Memory` alone.
-    pub fn order(&self) -> Result<Vec<Id>, Refusal>
-        ensures ok { IfOk result (λ ids. ids.items ≡ order self.now.content) }
-        ensures memory { IfErr result (λ e. e ≡ Refusal.Memory) }
-    {
+    fn order(&self) -> Result<Vec<Id>, Refusal> {
         self.sequence.ids(self.alloc)
     }
 
-    /// The characters of the visible elements, in order. `Memory` alone.
-    pub fn text(&self, alloc: Global) -> Result<Vec<char>, Refusal>
-        ensures ok { IfOk result (λ chars. chars.items ≡ text self.now.content) }
-        ensures memory { IfErr result (λ e. e ≡ Refusal.Memory) }
-    {
+    fn text(&self, alloc: Global) -> Result<Vec<char>, Refusal> {
         self.sequence.text(alloc)
     }
 
-    /// The same in UTF-8. `Memory` alone.
-    pub fn text_string(&self, alloc: Global) -> Result<String, Refusal>
-        ensures ok { IfOk result (λ string.
-            string_bytes string ≡ encode_utf8_all (text self.now.content)) }
-        ensures memory { IfErr result (λ e. e ≡ Refusal.Memory) }
-    {
+    fn text_string(&self, alloc: Global) -> Result<String, Refusal> {
         let chars = self.sequence.text(alloc)?;
         string_of(alloc, chars.as_slice())
     }
 
-    /// The visible elements, in order, and their characters. `Memory` alone.
-    pub fn visible(&self, alloc: Global) -> Result<(Vec<Id>, Vec<char>), Refusal>
-        ensures elements { IfOk result (λ p. p.0.items ≡ visible self.now.content) }
-        ensures characters { IfOk result (λ p. p.1.items ≡ text self.now.content) }
-        ensures memory { IfErr result (λ e. e ≡ Refusal.Memory) }
-    {
+    fn visible(&self, alloc: Global) -> Result<(Vec<Id>, Vec<char>), Refusal> {
         let count = count_inserted(&self.records);
         let ids = self.sequence.elements(alloc, 0, count)?;
         let chars = self.sequence.text(alloc)?;
         Ok((ids, chars))
     }
 
-    /// The last visible element that is a complete element or stands before it in the order; the
-    /// root where there is none. Takes no memory.
-    pub fn last_visible(&self, id: Id) -> Id
-        requires { is_complete self.now.content id ≡ true }
-        ensures place { place self.now.content result ≡ place self.now.content id }
-        ensures visible { is_root result ≡ false → is_visible self.now.content result ≡ true }
-    {
+    fn last_visible(&self, id: Id) -> Id {
         let _count = count_inserted(&self.records);
         let name = self.records.block(id);
         match self.sequence.place_of(id, name) {
@@ -187,22 +155,48 @@ impl FlatStore {
         }
     }
 
-    /// How many inserted elements wait for an ancestor, and so are not in the order. `Memory`
-    /// alone.
-    pub fn waiting_count(&self) -> Result<usize, Refusal>
-        ensures ok { IfOk result (λ count. count ≡ length (waiting self.now.content)) }
-        ensures memory { IfErr result (λ e. e ≡ Refusal.Memory) }
-    {
+    fn waiting_count(&self) -> Result<usize, Refusal> {
         let count = count_inserted(&self.records);
         Ok(count - self.sequence.len())
     }
 
-    /// The content as operations: the insertions by rising identifier, and then the deletions by
-    /// rising identifier. `Memory` alone.
-    pub fn ops(&self) -> Result<Vec<Op>, Refusal>
-        ensures ok { IfOk result (λ ops. ops.items ≡ operations self.now.content) }
-        ensures memory { IfErr result (λ e. e ≡ Refusal.Memory) }
-    {
+    fn ops(&self) -> Result<Vec<Op>, Refusal> {
         self.records.ops(self.alloc)
+    }
+
+    fn copy(&self) -> Result<FlatStore, Refusal> {
+        let _known = self.records.known();
+        let ops = self.records.ops(self.alloc)?;
+        let mut copy = FlatStore::new(self.alloc, self.records.limit())?;
+        let taken = take_whole(
+            copy.alloc,
+            &mut copy.records,
+            &mut copy.sequence,
+            &mut copy.waiting,
+            &ops,
+        );
+        if taken.is_err() {
+            return Err(Refusal::Memory);
+        }
+        Ok(copy)
+    }
+
+    fn merge(&mut self, other: &FlatStore) -> Result<(), Refusal> {
+        if let Some(id) = self.records.least_conflict(&other.records) {
+            return Err(Refusal::Conflict(id));
+        }
+        let room = self.records.limit() - self.records.known();
+        if self.records.count_unknown(&other.records) > room {
+            return Err(Refusal::Full);
+        }
+        let _known = other.records.known();
+        let ops = other.records.ops(self.alloc)?;
+        take_whole(
+            self.alloc,
+            &mut self.records,
+            &mut self.sequence,
+            &mut self.waiting,
+            &ops,
+        )
     }
 }

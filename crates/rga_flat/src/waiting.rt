@@ -4,6 +4,7 @@ ghost use Rattle.std.specs.Ordering.{eq_by_cmp};
 ghost use Rattle.std.specs.FinMap as finite_map;
 ghost use Rattle.rga_ops.specs.Identifier.{Identifier, id_cmp};
 ghost use Rattle.rga_ops.specs.Content.{Content};
+ghost use Rattle.rga_ops.specs.Placement.{without};
 ghost use Rattle.std.specs.BTreeSet.{contains};
 ghost use Rattle.rga_flat.specs.Waiting.{under, has_list, is_listed, KeepsUnder, KeepsLists, Settles, AreInserted};
 
@@ -133,4 +134,21 @@ pub(crate) fn clear_lists(waiting: &mut BTreeMap<Id, Vec<Id>>, done: &BTreeSet<I
     for id in done {
         clear_list(waiting, *id);
     }
+}
+
+/// A child leaves the list under its parent, if it is there. Takes no memory.
+pub(crate) fn remove_child(waiting: &mut BTreeMap<Id, Vec<Id>>, parent: Id, id: Id)
+    ensures under { (p : Identifier) → under waiting.new p ≡ (if eq_by_cmp id_cmp parent p
+        then without id (under waiting.old p) else under waiting.old p) }
+    ensures lists { (p : Identifier) → has_list waiting.new p ≡ has_list waiting.old p }
+{
+    if let Some(list) = waiting.get_mut(&parent) {
+        remove_from(list, id);
+    }
+}
+
+fn remove_from(list: &mut Vec<Id>, id: Id)
+    ensures { list.new.items ≡ without id list.old.items }
+{
+    list.retain_mut(|child| *child != id);
 }
