@@ -92,12 +92,14 @@ pub(crate) fn is_known(entries: &BTreeMap<Id, Record>, id: Id) -> bool
     }
 }
 
-/// An identifier gets its element, by one search. Says whether it is deleted already.
+/// An identifier gets its element and the name of a block, by one search. Says whether it is
+/// deleted already.
 pub(crate) fn set_element(
     entries: &mut BTreeMap<Id, Record>,
     id: Id,
     parent: Id,
     ch: char,
+    block: usize,
 ) -> Result<bool, Refusal>
     requires absent { finite_map.get (content_of_records entries.old.entries).inserted id ≡ None }
     ensures deleted { let content = content_of_records entries.old.entries in
@@ -111,6 +113,7 @@ pub(crate) fn set_element(
 {
     let record = entries.entry(id)?.or_insert(Record::new());
     record.element = Some((parent, ch));
+    record.block = block;
     Ok(record.deleted)
 }
 

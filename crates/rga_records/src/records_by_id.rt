@@ -189,8 +189,9 @@ impl Records {
         self.recent = (id, block);
     }
 
-    /// Takes an insertion that is new. `Memory` alone, which changes nothing.
-    pub fn insert(&mut self, id: Id, parent: Id, ch: char) -> Result<(), Refusal>
+    /// Takes an insertion that is new, and notes the name of the block in which the element may
+    /// come to stand. `Memory` alone, which changes nothing.
+    pub fn insert(&mut self, id: Id, parent: Id, ch: char, block: usize) -> Result<(), Refusal>
         requires { answer self.old.limit self.old.content (Op.Insert id parent ch) ≡ Ok New }
         ensures ok { OnOk result
             (self.new.content ≡ join self.old.content (single (Op.Insert id parent ch))) }
@@ -198,8 +199,9 @@ impl Records {
         ensures memory { IfErr result (λ e. e ≡ Refusal.Memory) }
         ensures limit { self.new.limit ≡ self.old.limit }
     {
-        let deleted = set_element(&mut self.entries, id, parent, ch)?;
+        let deleted = set_element(&mut self.entries, id, parent, ch, block)?;
         self.inserted += 1;
+        self.recent = (id, block);
         count_unless(deleted, &mut self.known);
         raise(&mut self.clock, id.counter());
         Ok(())

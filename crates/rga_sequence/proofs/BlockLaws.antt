@@ -9,7 +9,7 @@ use Rattle.std.proofs.lemmas.List.{take_more}
 use Rattle.rga_ops.specs.Identifier.{Identifier, id_cmp}
 use Rattle.rga_ops.proofs.IdentifierLaws.{ids_total, ids_exact}
 use Rattle.rga_sequence.specs.declared.entry.Entry.{Entry}
-use Rattle.rga_sequence.specs.Blocks.{AreFrom, larger_at_front, delete_at_index}
+use Rattle.rga_sequence.specs.Blocks.{AreFrom, larger_at_front, mark_at_index}
 
 greater : (o : Ordering) → is_gt o ≡ true → o ≡ Greater
 greater Less h = absurd (true≢false (sym h))
@@ -82,10 +82,10 @@ from_remove least [] (suc i) from = tt
 from_remove least (x ∷ xs) zero from = from.1
 from_remove least (x ∷ xs) (suc i) from = (from.0, from_remove least xs i from.1)
 
-pub from_deleted : (least : Identifier) (xs : List Entry) (i : ℕ) → AreFrom least xs → AreFrom least (delete_at_index i xs)
-from_deleted least [] i from = tt
-from_deleted least (x ∷ xs) zero from = from
-from_deleted least (x ∷ xs) (suc i) from = (from.0, from_deleted least xs i from.1)
+pub from_marked : (mark : Bool) (least : Identifier) (xs : List Entry) (i : ℕ) → AreFrom least xs → AreFrom least (mark_at_index mark i xs)
+from_marked mark least [] i from = tt
+from_marked mark least (x ∷ xs) zero from = from
+from_marked mark least (x ∷ xs) (suc i) from = (from.0, from_marked mark least xs i from.1)
 
 -- the lesser one of two
 pub lesser_from : (least less : Identifier) (xs : List Entry) → is_gt (id_cmp less least) ≡ false → AreFrom least xs → AreFrom less xs

@@ -7,7 +7,7 @@ use Rattle.std.proofs.lemmas.List.Elements.{filter-append}
 use Rattle.rga_ops.specs.Identifier.{Identifier}
 use Rattle.rga_sequence.specs.declared.entry.Entry.{Entry}
 use Rattle.rga_sequence.specs.Entries.{ids, visible_entries, visible_count, visible_ids, visible_text}
-use Rattle.rga_sequence.specs.Blocks.{Blocks, flat, before, delete_at_index}
+use Rattle.rga_sequence.specs.Blocks.{Blocks, flat, before, mark_at_index}
 
 pub visible_both : (xs ys : List Entry) → visible_entries (xs ++ ys) ≡ visible_entries xs ++ visible_entries ys
 visible_both xs ys = filter-append (λ e. not e.deleted) xs ys
@@ -72,22 +72,6 @@ count_remove (y ∷ xs) (suc i) x w is =
     step : (n m k : ℕ) → n + (m + k) ≡ (n + m) + k
     step n m k = omega arith
 
-pub count_deleted : (xs : List Entry) (i : ℕ) (x : Entry) → i < length xs → x ≡ slice_index_or xs i x → visible_count xs ≡ visible_count (delete_at_index i xs) + visible_count (x ∷ [])
-count_deleted [] i x w is = absurd (omega arith)
-count_deleted (y ∷ xs) zero x w is =
-    one_first y xs ∙ ap (λ e. visible_count (e ∷ []) + visible_count xs) (sym is) ∙ swap (visible_count (x ∷ [])) (visible_count xs)
-  where
-    swap : (n m : ℕ) → n + m ≡ m + n
-    swap n m = omega arith
-count_deleted (y ∷ xs) (suc i) x w is =
-    one_first y xs
-    ∙ ap (λ n. visible_count (y ∷ []) + n) (count_deleted xs i x (omega arith) is)
-    ∙ step (visible_count (y ∷ [])) (visible_count (delete_at_index i xs)) (visible_count (x ∷ []))
-    ∙ ap (λ n. n + visible_count (x ∷ [])) (sym (one_first y (delete_at_index i xs)))
-  where
-    step : (n m k : ℕ) → n + (m + k) ≡ (n + m) + k
-    step n m k = omega arith
-
 pub length_insert : (xs : List Entry) (i : ℕ) (e : Entry) → length (insert xs i e) ≡ length xs + 1
 length_insert xs zero e = omega arith
 length_insert [] (suc i) e = omega arith
@@ -98,10 +82,10 @@ length_remove [] i w = absurd (omega arith)
 length_remove (x ∷ xs) zero w = omega arith
 length_remove (x ∷ xs) (suc i) w = let rest : length (remove xs i) + 1 ≡ length xs = length_remove xs i (omega arith) in omega arith
 
-pub length_deleted : (xs : List Entry) (i : ℕ) → length (delete_at_index i xs) ≡ length xs
-length_deleted [] i = refl
-length_deleted (x ∷ xs) zero = refl
-length_deleted (x ∷ xs) (suc i) = ap (λ n. suc n) (length_deleted xs i)
+pub length_marked : (mark : Bool) (xs : List Entry) (i : ℕ) → length (mark_at_index mark i xs) ≡ length xs
+length_marked mark [] i = refl
+length_marked mark (x ∷ xs) zero = refl
+length_marked mark (x ∷ xs) (suc i) = ap (λ n. suc n) (length_marked mark xs i)
 
 -- ---- by index
 

@@ -5,7 +5,7 @@ use Rattle.rga_ops.specs.Identifier.{Identifier, id_cmp, is_id, is_root}
 use Rattle.rga_ops.specs.Placement.{put_by_skip_rule, without}
 use Rattle.rga_ops.specs.Placement as placement
 use Rattle.rga_sequence.specs.declared.entry.Entry.{Entry}
-use Rattle.rga_sequence.specs.Entries.{ids, put_past_larger, change_after, put_entry, without_entry, as_deleted, delete_entry}
+use Rattle.rga_sequence.specs.Entries.{ids, put_past_larger, change_after, put_entry, without_entry, as_marked, mark_entry}
 
 past : (e : Entry) (es : List Entry) → ids (put_past_larger e es) ≡ placement.put_past_larger e.id (ids es)
 past e [] = refl
@@ -38,9 +38,9 @@ ids_without id (x ∷ es) =
       | false ↦ ap (λ r. x.id ∷ r) (ids_without id es)
     ]
 
-one : (id : Identifier) (x : Entry) → (cond (is_id x.id id) (as_deleted x) x).id ≡ x.id
-one id x = elim (is_id x.id id) as (λ b. (cond b (as_deleted x) x).id ≡ x.id) [ true ↦ refl | false ↦ refl ]
+one : (mark : Bool) (id : Identifier) (x : Entry) → (cond (is_id x.id id) (as_marked mark x) x).id ≡ x.id
+one mark id x = elim (is_id x.id id) as (λ b. (cond b (as_marked mark x) x).id ≡ x.id) [ true ↦ refl | false ↦ refl ]
 
-pub ids_deleted : (id : Identifier) (es : List Entry) → ids (delete_entry id es) ≡ ids es
-ids_deleted id [] = refl
-ids_deleted id (x ∷ es) = (λ k. one id x k ∷ ids_deleted id es k)
+pub ids_marked : (mark : Bool) (id : Identifier) (es : List Entry) → ids (mark_entry mark id es) ≡ ids es
+ids_marked mark id [] = refl
+ids_marked mark id (x ∷ es) = (λ k. one mark id x k ∷ ids_marked mark id es k)

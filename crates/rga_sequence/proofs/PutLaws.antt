@@ -6,8 +6,8 @@ use Rattle.std.proofs.lemmas.List.Folds.{list_any-append}
 use Rattle.rga_ops.specs.Identifier.{Identifier, is_id, is_root}
 use Rattle.rga_ops.proofs.IdentifierLaws.{is_id-itself}
 use Rattle.rga_sequence.specs.declared.entry.Entry.{Entry}
-use Rattle.rga_sequence.specs.Entries.{has, without_entry, as_deleted, delete_entry, put_entry, AreApart, IsPart}
-use Rattle.rga_sequence.specs.Blocks.{Blocks, flat, before, behind, cut_in, delete_at_index, IsPlace, Stands, AreFilled}
+use Rattle.rga_sequence.specs.Entries.{has, without_entry, as_marked, mark_entry, put_entry, AreApart, IsPart}
+use Rattle.rga_sequence.specs.Blocks.{Blocks, flat, before, behind, cut_in, mark_at_index, IsPlace, Stands, AreFilled}
 use Rattle.rga_sequence.proofs.PlaceLaws.{parted, other_place}
 use Rattle.rga_sequence.proofs.StandLaws.{id_swap}
 
@@ -51,18 +51,18 @@ apart_without id (x ∷ xs) apart =
       | false ↦ (all_kept (λ y. is_id x.id y.id ≡ false) id xs apart.0, apart_without id xs apart.1)
     ]
 
-same_id : (id : Identifier) (x : Entry) → (cond (is_id x.id id) (as_deleted x) x).id ≡ x.id
-same_id id x = elim (is_id x.id id) as (λ b. (cond b (as_deleted x) x).id ≡ x.id) [ true ↦ refl | false ↦ refl ]
+same_id : (mark : Bool) (id : Identifier) (x : Entry) → (cond (is_id x.id id) (as_marked mark x) x).id ≡ x.id
+same_id mark id x = elim (is_id x.id id) as (λ b. (cond b (as_marked mark x) x).id ≡ x.id) [ true ↦ refl | false ↦ refl ]
 
-all_deleted : (id y : Identifier) (xs : List Entry) → AllByRecursion (λ q. is_id y q.id ≡ false) xs → AllByRecursion (λ q. is_id y q.id ≡ false) (delete_entry id xs)
-all_deleted id y [] all = tt
-all_deleted id y (x ∷ xs) all = (ap (is_id y) (same_id id x) ∙ all.0, all_deleted id y xs all.1)
+all_marked : (mark : Bool) (id y : Identifier) (xs : List Entry) → AllByRecursion (λ q. is_id y q.id ≡ false) xs → AllByRecursion (λ q. is_id y q.id ≡ false) (mark_entry mark id xs)
+all_marked mark id y [] all = tt
+all_marked mark id y (x ∷ xs) all = (ap (is_id y) (same_id mark id x) ∙ all.0, all_marked mark id y xs all.1)
 
-pub apart_deleted : (id : Identifier) (xs : List Entry) → AreApart xs → AreApart (delete_entry id xs)
+pub apart_marked : (mark : Bool) (id : Identifier) (xs : List Entry) → AreApart xs → AreApart (mark_entry mark id xs)
 unfolding IsDistinct
-apart_deleted id [] apart = tt
-apart_deleted id (x ∷ xs) apart =
-    (subst (λ y. AllByRecursion (λ q. is_id y q.id ≡ false) (delete_entry id xs)) (sym (same_id id x)) (all_deleted id x.id xs apart.0), apart_deleted id xs apart.1)
+apart_marked mark id [] apart = tt
+apart_marked mark id (x ∷ xs) apart =
+    (subst (λ y. AllByRecursion (λ q. is_id y q.id ≡ false) (mark_entry mark id xs)) (sym (same_id mark id x)) (all_marked mark id x.id xs apart.0), apart_marked mark id xs apart.1)
 
 pub apart_none : AreApart []
 unfolding IsDistinct

@@ -7,8 +7,8 @@ use Rattle.std.proofs.lemmas.List.Folds.{list_any-append}
 use Rattle.rga_ops.specs.Identifier.{Identifier, id_cmp, is_id, is_root}
 use Rattle.rga_ops.proofs.IdentifierLaws.{is_swap, is_id-same, is_id-itself}
 use Rattle.rga_sequence.specs.declared.entry.Entry.{Entry}
-use Rattle.rga_sequence.specs.Entries.{ids, has, entry_of, up_to, visible_count, change_after, change_behind, without_entry, as_deleted, delete_entry, AreApart}
-use Rattle.rga_sequence.specs.Blocks.{Blocks, flat, before, behind, delete_at_index, IsPlace, Stands}
+use Rattle.rga_sequence.specs.Entries.{ids, has, entry_of, up_to, visible_count, change_after, change_behind, without_entry, as_marked, mark_entry, AreApart}
+use Rattle.rga_sequence.specs.Blocks.{Blocks, flat, before, behind, mark_at_index, IsPlace, Stands}
 use Rattle.rga_sequence.proofs.PlaceLaws.{parted}
 
 one_up : (n : ℕ) → suc n ≡ n + 1
@@ -44,20 +44,20 @@ without_between id (x ∷ front) e back named h k =
       | false ↦ λ h. ap (λ r. x ∷ r) (without_between id front e back named h k)
     ] h
 
-pub delete_absent : (id : Identifier) (xs : List Entry) → has id xs ≡ false → delete_entry id xs ≡ xs
-delete_absent id [] h = refl
-delete_absent id (x ∷ xs) h =
-    elim (is_id x.id id) as (λ b. (b || has id xs) ≡ false → cond b (as_deleted x) x ∷ delete_entry id xs ≡ x ∷ xs) [
+pub mark_absent : (mark : Bool) (id : Identifier) (xs : List Entry) → has id xs ≡ false → mark_entry mark id xs ≡ xs
+mark_absent mark id [] h = refl
+mark_absent mark id (x ∷ xs) h =
+    elim (is_id x.id id) as (λ b. (b || has id xs) ≡ false → cond b (as_marked mark x) x ∷ mark_entry mark id xs ≡ x ∷ xs) [
       | true ↦ λ h. absurd (true≢false h)
-      | false ↦ λ h. ap (λ r. x ∷ r) (delete_absent id xs h)
+      | false ↦ λ h. ap (λ r. x ∷ r) (mark_absent mark id xs h)
     ] h
 
-pub delete_between : (id : Identifier) (front : List Entry) (e : Entry) (back : List Entry) → is_id e.id id ≡ true → has id front ≡ false → has id back ≡ false → delete_entry id (front ++ e ∷ back) ≡ front ++ as_deleted e ∷ back
-delete_between id [] e back named h k = (λ j. cond (named j) (as_deleted e) e ∷ delete_absent id back k j)
-delete_between id (x ∷ front) e back named h k =
-    elim (is_id x.id id) as (λ b. (b || has id front) ≡ false → cond b (as_deleted x) x ∷ delete_entry id (front ++ e ∷ back) ≡ x ∷ front ++ as_deleted e ∷ back) [
+pub mark_between : (mark : Bool) (id : Identifier) (front : List Entry) (e : Entry) (back : List Entry) → is_id e.id id ≡ true → has id front ≡ false → has id back ≡ false → mark_entry mark id (front ++ e ∷ back) ≡ front ++ as_marked mark e ∷ back
+mark_between mark id [] e back named h k = (λ j. cond (named j) (as_marked mark e) e ∷ mark_absent mark id back k j)
+mark_between mark id (x ∷ front) e back named h k =
+    elim (is_id x.id id) as (λ b. (b || has id front) ≡ false → cond b (as_marked mark x) x ∷ mark_entry mark id (front ++ e ∷ back) ≡ x ∷ front ++ as_marked mark e ∷ back) [
       | true ↦ λ h. absurd (true≢false h)
-      | false ↦ λ h. ap (λ r. x ∷ r) (delete_between id front e back named h k)
+      | false ↦ λ h. ap (λ r. x ∷ r) (mark_between mark id front e back named h k)
     ] h
 
 pub up_to_between : (id : Identifier) (front : List Entry) (e : Entry) (back : List Entry) → is_id e.id id ≡ true → has id front ≡ false → up_to id (front ++ e ∷ back) ≡ front ++ e ∷ []
@@ -120,14 +120,14 @@ record Found (xs : List Entry) (i : ℕ) (id : Identifier) : Type 0 where
   pub rest : drop i xs ≡ entry ∷ drop (suc i) xs
   pub front : take (suc i) xs ≡ take i xs ++ entry ∷ []
   pub got : slice_get xs i ≡ Some entry
-  pub deleted : delete_at_index i xs ≡ take i xs ++ as_deleted entry ∷ drop (suc i) xs
+  pub marked : (mark : Bool) → mark_at_index mark i xs ≡ take i xs ++ as_marked mark entry ∷ drop (suc i) xs
 
 found : (xs : List Entry) (i : ℕ) (id : Identifier) → slice_get (ids xs) i ≡ Some id → Found xs i id
 found [] i id h = absurd (none-some id h)
-found (x ∷ xs) zero id h = record { entry = x; named = same_Some x.id id h; rest = refl; front = refl; got = refl; deleted = refl }
+found (x ∷ xs) zero id h = record { entry = x; named = same_Some x.id id h; rest = refl; front = refl; got = refl; marked = λ mark. refl }
 found (x ∷ xs) (suc i) id h =
     let f : Found xs i id = found xs i id h in
-    record { entry = f.entry; named = f.named; rest = f.rest; front = ap (λ r. x ∷ r) f.front; got = f.got; deleted = ap (λ r. x ∷ r) f.deleted }
+    record { entry = f.entry; named = f.named; rest = f.rest; front = ap (λ r. x ∷ r) f.front; got = f.got; marked = λ mark. ap (λ r. x ∷ r) (f.marked mark) }
 
 -- ---- in blocks
 
@@ -137,16 +137,16 @@ pub record At (bs : Blocks) (b i : ℕ) (id : Identifier) : Type 0 where
   pub rest : behind bs b i ≡ entry ∷ behind bs b (suc i)
   pub front : before bs b (suc i) ≡ before bs b i ++ entry ∷ []
   pub got : (d : List Entry) → slice_get (slice_index_or bs b d) i ≡ Some entry
-  pub deleted : (d : List Entry) → flat (slice_set bs b (delete_at_index i (slice_index_or bs b d))) ≡ before bs b i ++ as_deleted entry ∷ behind bs b (suc i)
+  pub marked : (mark : Bool) (d : List Entry) → flat (slice_set bs b (mark_at_index mark i (slice_index_or bs b d))) ≡ before bs b i ++ as_marked mark entry ∷ behind bs b (suc i)
 
 pub at : (bs : Blocks) (b i : ℕ) (id : Identifier) → Stands bs b i id → At bs b i id
 at [] b i id h = absurd h
 at (x ∷ xs) zero i id h =
     let f : Found x i id = found x i id h in
-    record { entry = f.entry; named = f.named; rest = ap (λ r. r ++ flat xs) f.rest; front = f.front; got = λ d. f.got; deleted = λ d. ap (λ r. r ++ flat xs) f.deleted ∙ append_assoc (take i x) (as_deleted f.entry ∷ drop (suc i) x) (flat xs) }
+    record { entry = f.entry; named = f.named; rest = ap (λ r. r ++ flat xs) f.rest; front = f.front; got = λ d. f.got; marked = λ mark d. ap (λ r. r ++ flat xs) (f.marked mark) ∙ append_assoc (take i x) (as_marked mark f.entry ∷ drop (suc i) x) (flat xs) }
 at (x ∷ xs) (suc b) i id h =
     let f : At xs b i id = at xs b i id h in
-    record { entry = f.entry; named = f.named; rest = f.rest; front = ap (λ r. x ++ r) f.front ∙ sym (append_assoc x (before xs b i) (f.entry ∷ [])); got = f.got; deleted = λ d. ap (λ r. x ++ r) (f.deleted d) ∙ sym (append_assoc x (before xs b i) (as_deleted f.entry ∷ behind xs b (suc i))) }
+    record { entry = f.entry; named = f.named; rest = f.rest; front = ap (λ r. x ++ r) f.front ∙ sym (append_assoc x (before xs b i) (f.entry ∷ [])); got = f.got; marked = λ mark d. ap (λ r. x ++ r) (f.marked mark d) ∙ sym (append_assoc x (before xs b i) (as_marked mark f.entry ∷ behind xs b (suc i))) }
 
 within : (xs : List Entry) (i : ℕ) (id : Identifier) → slice_get (ids xs) i ≡ Some id → i < length xs
 within [] i id h = absurd (none-some id h)
@@ -184,7 +184,7 @@ pub record Standing (bs : Blocks) (b i : ℕ) (id : Identifier) : Type 0 where
   pub front : before bs b (suc i) ≡ before bs b i ++ entry ∷ []
   pub rest : behind bs b i ≡ entry ∷ behind bs b (suc i)
   pub got : (d : List Entry) → slice_get (slice_index_or bs b d) i ≡ Some entry
-  pub deleted : (d : List Entry) → flat (slice_set bs b (delete_at_index i (slice_index_or bs b d))) ≡ before bs b i ++ as_deleted entry ∷ behind bs b (suc i)
+  pub marked : (mark : Bool) (d : List Entry) → flat (slice_set bs b (mark_at_index mark i (slice_index_or bs b d))) ≡ before bs b i ++ as_marked mark entry ∷ behind bs b (suc i)
   pub none_before : has id (before bs b i) ≡ false
   pub none_behind : has id (behind bs b (suc i)) ≡ false
 
@@ -200,7 +200,7 @@ standing bs b i id apart h =
       front = f.front;
       rest = f.rest;
       got = f.got;
-      deleted = f.deleted;
+      marked = f.marked;
       none_before = subst (λ y. has y (before bs b i) ≡ false) f.named (apart_front (before bs b i) f.entry (behind bs b (suc i)) apart_there);
       none_behind = subst (λ y. has y (behind bs b (suc i)) ≡ false) f.named (apart_back (before bs b i) f.entry (behind bs b (suc i)) apart_there);
     }
@@ -230,11 +230,11 @@ without_there id bs b i apart h =
     let s : Standing bs b i id = standing bs b i id apart h in
     sym (ap (without_entry id) s.whole ∙ without_between id (before bs b i) s.entry (behind bs b (suc i)) s.named s.none_before s.none_behind)
 
-pub deleted_there : (id : Identifier) (bs : Blocks) (b i : ℕ) (d : List Entry) → AreApart (flat bs) → Stands bs b i id → flat (slice_set bs b (delete_at_index i (slice_index_or bs b d))) ≡ delete_entry id (flat bs)
-deleted_there id bs b i d apart h =
+pub marked_there : (mark : Bool) (id : Identifier) (bs : Blocks) (b i : ℕ) (d : List Entry) → AreApart (flat bs) → Stands bs b i id → flat (slice_set bs b (mark_at_index mark i (slice_index_or bs b d))) ≡ mark_entry mark id (flat bs)
+marked_there mark id bs b i d apart h =
     let s : Standing bs b i id = standing bs b i id apart h in
-    s.deleted d
-    ∙ sym (ap (delete_entry id) s.whole ∙ delete_between id (before bs b i) s.entry (behind bs b (suc i)) s.named s.none_before s.none_behind)
+    s.marked mark d
+    ∙ sym (ap (mark_entry mark id) s.whole ∙ mark_between mark id (before bs b i) s.entry (behind bs b (suc i)) s.named s.none_before s.none_behind)
 
 pub entry_there : (id : Identifier) (bs : Blocks) (b i : ℕ) (d : List Entry) → AreApart (flat bs) → Stands bs b i id → slice_get (slice_index_or bs b d) i ≡ entry_of id (flat bs)
 entry_there id bs b i d apart h =

@@ -1,10 +1,10 @@
 -- Entries in blocks, and the places in these.
-use Rattle.std.specs.Prelude.{◌≡◌, ◌≤◌, ◌<◌, ℕ, false, zero, suc, List, [], ◌∷◌, ◌++◌, length, take, drop, slice_index_or, Some, if◌then◌else◌}
+use Rattle.std.specs.Prelude.{◌≡◌, ◌≤◌, ◌<◌, ℕ, Bool, false, zero, suc, List, [], ◌∷◌, ◌++◌, length, take, drop, slice_index_or, Some, if◌then◌else◌}
 use Rattle.std.specs.Ordering.{is_gt}
 use Rattle.std.specs.List.{slice_get, AllByRecursion}
 use Rattle.rga_ops.specs.Identifier.{Identifier, id_cmp}
 use Rattle.rga_sequence.specs.declared.entry.Entry.{Entry}
-use Rattle.rga_sequence.specs.Entries.{ids, visible_count, put_past_larger, as_deleted, AreApart}
+use Rattle.rga_sequence.specs.Entries.{ids, visible_count, put_past_larger, as_marked, AreApart}
 use Rattle.rga_sequence.specs.declared.block.TheConstants.{MOST}
 
 abbrev pub Blocks : Type 0
@@ -26,11 +26,11 @@ larger_at_front id (e ∷ es) = if is_gt (id_cmp e.id id) then suc (larger_at_fr
 abbrev pub AreFrom : Identifier → List Entry → Type 0
 AreFrom least es = AllByRecursion (λ e. is_gt (id_cmp least e.id) ≡ false) es
 
--- the entry at an index is deleted
-abbrev pub delete_at_index : ℕ → List Entry → List Entry
-delete_at_index index [] = []
-delete_at_index zero (e ∷ es) = as_deleted e ∷ es
-delete_at_index (suc index) (e ∷ es) = e ∷ delete_at_index index es
+-- the entry at an index is deleted or not
+abbrev pub mark_at_index : Bool → ℕ → List Entry → List Entry
+mark_at_index mark index [] = []
+mark_at_index mark zero (e ∷ es) = as_marked mark e ∷ es
+mark_at_index mark (suc index) (e ∷ es) = e ∷ mark_at_index mark index es
 
 -- what a block keeps of its entries
 pub record IsBlock (visible : ℕ) (least : Identifier) (es : List Entry) : Type 0 where

@@ -69,12 +69,13 @@ put_entry parent e es = change_behind parent (put_past_larger e) es
 abbrev pub without_entry : Identifier → List Entry → List Entry
 without_entry id es = filter (λ e. not (is_id e.id id)) es
 
-abbrev pub as_deleted : Entry → Entry
-as_deleted e = record { id = e.id; ch = e.ch; deleted = true }
+-- the entry, deleted or not
+abbrev pub as_marked : Bool → Entry → Entry
+as_marked mark e = record { id = e.id; ch = e.ch; deleted = mark }
 
--- the entries with that of an identifier deleted
-abbrev pub delete_entry : Identifier → List Entry → List Entry
-delete_entry id es = map (λ e. if is_id e.id id then as_deleted e else e) es
+-- the entries with that of an identifier deleted or not
+abbrev pub mark_entry : Bool → Identifier → List Entry → List Entry
+mark_entry mark id es = map (λ e. if is_id e.id id then as_marked mark e else e) es
 
 -- a list stands in another in one piece
 abbrev pub IsPart : List Entry → List Entry → Type 0

@@ -3,7 +3,7 @@ ghost use Rattle.std.specs.Prelude.{◌≡◌, ◌≤◌, ◌<◌, ◌+◌, ◌�
 ghost use Rattle.std.specs.Ordering.{is_gt};
 ghost use Rattle.rga_ops.specs.Identifier.{id_cmp};
 ghost use Rattle.rga_sequence.specs.Entries.{ids, has, visible_count};
-ghost use Rattle.rga_sequence.specs.Blocks.{larger_at_front, delete_at_index, AreFrom};
+ghost use Rattle.rga_sequence.specs.Blocks.{larger_at_front, mark_at_index, AreFrom};
 
 use crate::entry::Entry;
 use crate::scans::{count_one, count_visible, index_of, is_at, is_larger, least_of, past_larger};
@@ -75,12 +75,12 @@ fn copy_from(alloc: Global, entries: &[Entry], from: usize) -> Result<Vec<Entry>
     Ok(copy)
 }
 
-/// The entry at an index is deleted.
-fn mark(entries: &mut Vec<Entry>, index: usize)
+/// The entry at an index is deleted or not.
+fn mark(entries: &mut Vec<Entry>, index: usize, deleted: bool)
     requires { index < vec_len entries.old }
-    ensures { entries.new.items ≡ delete_at_index index entries.old.items }
+    ensures { entries.new.items ≡ mark_at_index deleted index entries.old.items }
 {
-    entries[index].deleted = true;
+    entries[index].deleted = deleted;
 }
 
 impl Block {
@@ -224,13 +224,13 @@ impl Block {
         self.visible -= count_one(entry);
     }
 
-    /// The entry at an index is deleted. Takes no memory.
-    pub(crate) fn delete(&mut self, index: usize)
+    /// The entry at an index is deleted or not. Takes no memory.
+    pub(crate) fn mark(&mut self, index: usize, deleted: bool)
         requires { index < length self.old }
-        ensures { self.new ≡ delete_at_index index self.old }
+        ensures { self.new ≡ mark_at_index deleted index self.old }
     {
-        self.visible -= count_one(self.entries[index]);
-        mark(&mut self.entries, index);
+        mark(&mut self.entries, index, deleted);
+        self.visible = count_visible(self.entries.as_slice());
     }
 
     /// A block of the same entries and of the same name. `Memory` alone.

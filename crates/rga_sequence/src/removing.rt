@@ -1,6 +1,6 @@
-//! The entry at a place goes, or is deleted.
+//! The entry at a place goes, or is deleted or not.
 ghost use Rattle.std.specs.Prelude.{◌≡◌, ◌<◌, vec_len};
-ghost use Rattle.rga_sequence.specs.Entries.{without_entry, delete_entry};
+ghost use Rattle.rga_sequence.specs.Entries.{without_entry, mark_entry};
 ghost use Rattle.rga_sequence.specs.Blocks.{flat, Stands, IsSequence};
 
 use crate::block::Block;
@@ -22,13 +22,13 @@ pub(crate) fn remove_at(blocks: &mut Vec<Block>, at: Place, id: Id)
     blocks[at.block].remove(at.index);
 }
 
-/// The entry at a place is deleted.
-pub(crate) fn delete_at(blocks: &mut Vec<Block>, at: Place, id: Id)
+/// The entry at a place is deleted or not.
+pub(crate) fn mark_at(blocks: &mut Vec<Block>, at: Place, id: Id, deleted: bool)
     requires block { at.block < vec_len blocks.old }
     requires stands { Stands blocks.old.items at.block at.index id }
     requires kept { IsSequence blocks.old.items }
-    ensures deleted { flat blocks.new.items ≡ delete_entry id (flat blocks.old.items) }
+    ensures marked { flat blocks.new.items ≡ mark_entry deleted id (flat blocks.old.items) }
     ensures kept { IsSequence blocks.new.items }
 {
-    blocks[at.block].delete(at.index);
+    blocks[at.block].mark(at.index, deleted);
 }

@@ -1,7 +1,7 @@
 //! A sequence of entries.
 ghost use Rattle.std.specs.Prelude.{◌≡◌, ◌<◌, ◌^◌, ◌||◌, [], length, slice_get, take, drop, true, false, IfSome, IfOk, IfErr, OnOk, OnErr};
 ghost use Rattle.rga_ops.specs.Identifier.{is_root};
-ghost use Rattle.rga_sequence.specs.Entries.{ids, has, entry_of, place_in, put_entry, without_entry, delete_entry, visible_count, visible_ids, visible_text, IsPart};
+ghost use Rattle.rga_sequence.specs.Entries.{ids, has, entry_of, place_in, put_entry, without_entry, mark_entry, visible_count, visible_ids, visible_text, IsPart};
 
 use crate::block::Block;
 use crate::entry::Entry;
@@ -10,7 +10,7 @@ use crate::listing;
 use crate::names::{add_name, copy_names, hints_of, name_at, renumber};
 use crate::place::Place;
 use crate::putting::put_behind;
-use crate::removing::{delete_at, remove_at};
+use crate::removing::{mark_at, remove_at};
 use rga_ops::{Id, Refusal};
 use std::alloc::Global;
 use std::marker::Model;
@@ -113,13 +113,13 @@ impl Sequence {
         }
     }
 
-    /// The entry of an identifier is deleted, if there is one. Takes no memory.
-    pub fn delete(&mut self, id: Id, name: usize)
-        ensures { self.new ≡ delete_entry id self.old }
+    /// The entry of an identifier, if there is one, is deleted or not. Takes no memory.
+    pub fn mark(&mut self, id: Id, name: usize, deleted: bool)
+        ensures { self.new ≡ mark_entry deleted id self.old }
     {
         let hints = hints_of(&self.names, self.last, name);
         if let Some(at) = find(&self.blocks, hints, id) {
-            delete_at(&mut self.blocks, at, id);
+            mark_at(&mut self.blocks, at, id, deleted);
             self.last = at;
         }
     }

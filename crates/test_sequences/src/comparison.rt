@@ -102,7 +102,7 @@ fn step(
     let index = random.below(both.list.rows.len());
     if let Some(row) = both.list.at(index) {
         if kind < mixture.puts.saturating_add(mixture.deletions) {
-            both.sequence.delete(row.entry.id, row.name);
+            both.sequence.mark(row.entry.id, row.name, true);
             both.list.delete(index);
         } else {
             both.sequence.take_out(row.entry.id, row.name);

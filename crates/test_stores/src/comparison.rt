@@ -1,24 +1,25 @@
-//! The tree store answers and shows as the plain list does.
+//! Each store answers and shows as the plain list does.
 use crate::list_store::ListStore;
 use crate::random::Random;
 use crate::words::{last_visible_ones, same};
+use rga_flat::FlatStore;
 use rga_ops::{Op, Refusal};
 use rga_store::{Taker, TextStore, TreeStore};
 use std::alloc::Global;
 
 /// Both stores, which are given the same operations.
 #[derive(Drop)]
-struct Pair {
+struct Pair<S: TextStore> {
     alloc: Global,
-    tree: TreeStore,
+    store: S,
     list: ListStore,
 }
 
-impl Pair {
-    fn new(alloc: Global, limit: usize) -> Result<Pair, Refusal> {
+impl<S: TextStore> Pair<S> {
+    fn new(alloc: Global, limit: usize) -> Result<Pair<S>, Refusal> {
         Ok(Pair {
             alloc,
-            tree: TreeStore::new(alloc, limit)?,
+            store: S::new(alloc, limit)?,
             list: ListStore::new(alloc, limit),
         })
     }
@@ -32,25 +33,25 @@ impl Pair {
     }
 
     fn answers_alike(&mut self, op: Op) -> bool {
-        self.tree.apply(op) == self.list.apply(op)
-            && self.tree.known() == self.list.known()
-            && self.tree.is_deleted(op.id()) == self.list.is_deleted(op.id())
+        self.store.apply(op) == self.list.apply(op)
+            && self.store.known() == self.list.known()
+            && self.store.is_deleted(op.id()) == self.list.is_deleted(op.id())
     }
 
     fn shows_alike(&self) -> bool {
-        same(self.tree.order(), self.list.order())
-            && same(self.tree.text(self.alloc), self.list.text())
+        same(self.store.order(), self.list.order())
+            && same(self.store.text(self.alloc), self.list.text())
             && self.lists_alike()
             && same(
-                last_visible_ones(self.alloc, &self.tree),
+                last_visible_ones(self.alloc, &self.store),
                 self.list.last_visible_ones(),
             )
     }
 
-    /// Whether the tree store lists those of the plain list's elements that are not deleted, and
+    /// Whether the store lists those of the plain list's elements that are not deleted, and
     /// its text.
     fn lists_alike(&self) -> bool {
-        let Ok((ids, chars)) = self.tree.visible(self.alloc) else {
+        let Ok((ids, chars)) = self.store.visible(self.alloc) else {
             return false;
         };
         let Ok(mut order) = self.list.order() else {
@@ -62,7 +63,7 @@ impl Pair {
 }
 
 /// Whether both take 80 operations alike.
-fn takes_each_alike(pair: &mut Pair, random: &mut Random) -> bool {
+fn takes_each_alike<S: TextStore>(pair: &mut Pair<S>, random: &mut Random) -> bool {
     for _ in 0..80 {
         if !pair.takes_alike(random.op()) {
             return false;
@@ -72,18 +73,25 @@ fn takes_each_alike(pair: &mut Pair, random: &mut Random) -> bool {
 }
 
 /// Whether both stores with this limit take the operations of this seed alike.
-fn are_alike(alloc: Global, limit: usize, seed: u64) -> bool {
-    match Pair::new(alloc, limit) {
+fn are_alike<S: TextStore>(alloc: Global, limit: usize, seed: u64) -> bool {
+    match Pair::<S>::new(alloc, limit) {
         Ok(mut pair) => takes_each_alike(&mut pair, &mut Random::new(seed)),
         Err(_) => false,
     }
 }
 
 #[test]
-fn the_tree_answers_as_the_plain_list_does(rt: HostRuntime) {
+fn each_store_answers_as_the_plain_list_does(rt: HostRuntime) {
     for limit in &[3usize, 8, 20, 100] {
         for seed in 0..5 {
-            assert!(rt; are_alike(rt.alloc(), *limit, seed), "{limit} {seed}");
+            assert!(rt;
+                are_alike::<TreeStore>(rt.alloc(), *limit, seed),
+                "{limit} {seed}"
+            );
+            assert!(rt;
+                are_alike::<FlatStore>(rt.alloc(), *limit, seed),
+                "flat: {limit} {seed}"
+            );
         }
     }
 }

@@ -1,9 +1,9 @@
 //! Tests of operations and of stores.
 //!
-//! Identifiers and operations at the edges of their ranges; the worked examples of `TreeStore`, and
-//! of what is asked of it before it takes anything; and the tree beside a plain list: seeded random
-//! operations go into both, the list being searched from the front and comparing whole root paths,
-//! and after each both must answer and show the same. Nothing stands on this crate, so nothing
+//! Identifiers and operations at the edges of their ranges; the worked examples of `TreeStore` and
+//! of `FlatStore`, and of what is asked of a store before it takes anything; and each beside a plain
+//! list: seeded random operations go into both, the list being searched from the front and comparing
+//! whole root paths, and after each both must answer and show the same. Nothing stands on this crate, so nothing
 //! waits for its proof.
 #![tactic(auto)]
 

@@ -1,5 +1,6 @@
 //! Merges of small stores: answers, contents and orders.
 use crate::words::{alike, prints, store_of};
+use rga_flat::FlatStore;
 use rga_store::{TextStore, TreeStore};
 use std::alloc::Global;
 use std::test::Fail;
@@ -14,24 +15,31 @@ const THERE: &str = "x1.2<0.0 -2.1";
 const BOTH: &str = "a1.1<0.0 b2.1<1.1 x1.2<0.0 -2.1";
 
 /// Whether the store has the answer to a merge with one that took these operations.
-fn answers(alloc: Global, store: &mut TreeStore, other: &str, answer: &str) -> bool {
-    match store_of(alloc, 10, other) {
+fn answers<S: TextStore>(alloc: Global, store: &mut S, other: &str, answer: &str) -> bool {
+    match store_of::<S>(alloc, 10, other) {
         Ok(other) => prints(alloc, &store.merge(&other), answer),
         Err(_) => false,
     }
 }
 
 /// Whether the store has the operations and the order of one that took these.
-fn is_like(alloc: Global, store: &TreeStore, words: &str) -> bool {
-    match store_of(alloc, 10, words) {
+fn is_like<S: TextStore>(alloc: Global, store: &S, words: &str) -> bool {
+    match store_of::<S>(alloc, 10, words) {
         Ok(other) => alike(store, &other),
         Err(_) => false,
     }
 }
 
 /// Whether a merge of two stores has the answer, keeps the limit, and leaves what stands last.
-fn merges(alloc: Global, limit: usize, own: &str, other: &str, answer: &str, after: &str) -> bool {
-    match store_of(alloc, limit, own) {
+fn merges<S: TextStore>(
+    alloc: Global,
+    limit: usize,
+    own: &str,
+    other: &str,
+    answer: &str,
+    after: &str,
+) -> bool {
+    match store_of::<S>(alloc, limit, own) {
         Ok(mut store) => {
             answers(alloc, &mut store, other, answer)
                 && store.limit() == limit
@@ -44,7 +52,14 @@ fn merges(alloc: Global, limit: usize, own: &str, other: &str, answer: &str, aft
 #[test]
 fn a_merge_joins_either_way_round(rt: HostRuntime) {
     for (own, other) in &[(HERE, THERE), (THERE, HERE)] {
-        assert!(rt; merges(rt.alloc(), 3, own, other, "Ok(())", BOTH), "{own}");
+        assert!(rt;
+            merges::<TreeStore>(rt.alloc(), 3, own, other, "Ok(())", BOTH),
+            "{own}"
+        );
+        assert!(rt;
+            merges::<FlatStore>(rt.alloc(), 3, own, other, "Ok(())", BOTH),
+            "flat: {own}"
+        );
     }
 }
 
@@ -70,14 +85,18 @@ fn each_merge_has_its_answer(rt: HostRuntime) {
         ),
     ] {
         assert!(rt;
-            merges(rt.alloc(), *limit, HERE, there, answer, after),
+            merges::<TreeStore>(rt.alloc(), *limit, HERE, there, answer, after),
             "{name}"
+        );
+        assert!(rt;
+            merges::<FlatStore>(rt.alloc(), *limit, HERE, there, answer, after),
+            "flat: {name}"
         );
     }
 }
 
 /// Whether the store stays as it is when it is merged with its copy.
-fn keeps_itself(store: &mut TreeStore) -> bool {
+fn keeps_itself<S: TextStore>(store: &mut S) -> bool {
     match store.copy() {
         Ok(copy) => store.merge(&copy) == Ok(()) && alike(store, &copy),
         Err(_) => false,
@@ -86,7 +105,9 @@ fn keeps_itself(store: &mut TreeStore) -> bool {
 
 #[test]
 fn a_merge_with_its_own_copy_changes_nothing(rt: HostRuntime) -> Result<(), Fail> {
-    let mut store = store_of(rt.alloc(), 2, HERE)?;
-    assert!(rt; keeps_itself(&mut store));
+    let mut tree: TreeStore = store_of(rt.alloc(), 2, HERE)?;
+    assert!(rt; keeps_itself(&mut tree));
+    let mut flat: FlatStore = store_of(rt.alloc(), 2, HERE)?;
+    assert!(rt; keeps_itself(&mut flat));
     Ok(())
 }

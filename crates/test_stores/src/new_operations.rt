@@ -14,7 +14,7 @@ fn are_new_to(alloc: Global, store: &TreeStore, list: &str, new: &str) -> bool {
 
 /// Whether these operations of the list are new to a store that took the operations before.
 fn has_new(alloc: Global, before: &str, list: &str, new: &str) -> bool {
-    match store_of(alloc, 9, before) {
+    match store_of::<TreeStore>(alloc, 9, before) {
         Ok(store) => are_new_to(alloc, &store, list, new),
         Err(_) => false,
     }

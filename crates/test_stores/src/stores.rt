@@ -1,14 +1,15 @@
-//! The tree store on worked examples.
+//! Both stores on worked examples.
 use crate::words::{holds, last_visible_ones, prints, shows, spell, store_of};
+use rga_flat::FlatStore;
 use rga_ops::{Id, Refusal};
-use rga_store::{MAX_LIMIT, Taker, TextStore, TreeStore, answer_at};
+use rga_store::{MAX_LIMIT, TextStore, TreeStore, answer_at};
 use std::alloc::Global;
 use std::process::Abort;
 use test_fixtures::{id, insertion, ops_of};
 
 /// Whether a store that took these operations shows the text, and so many elements wait.
-fn tells(alloc: Global, words: &str, text: &str, waiting: usize) -> bool {
-    match store_of(alloc, 100, words) {
+fn tells<S: TextStore>(alloc: Global, words: &str, text: &str, waiting: usize) -> bool {
+    match store_of::<S>(alloc, 100, words) {
         Ok(store) => shows(alloc, &store, text) && store.waiting_count() == Ok(waiting),
         Err(_) => false,
     }
@@ -25,6 +26,14 @@ fn the_text_follows_the_root_paths(rt: HostRuntime) {
         ("the parent comes", "b2.1<1.1 a1.1<0.0", "ab", 0),
         ("deleted early", "-1.1 a1.1<0.0", "", 0),
         (
+            "behind its parent, past larger ones",
+            "a1.1<0.0 c3.1<1.1 d4.1<3.1 b2.2<1.1",
+            "acdb",
+            0,
+        ),
+        ("two wait", "c3.1<2.1 b2.1<1.1", "", 2),
+        ("both go on", "c3.1<2.1 b2.1<1.1 a1.1<0.0", "abc", 0),
+        (
             "two replicas",
             "a1.1<0.0 b2.1<1.1 c3.1<2.1 x1.2<0.0 y2.2<1.2",
             "xyabc",
@@ -37,13 +46,20 @@ fn the_text_follows_the_root_paths(rt: HostRuntime) {
             0,
         ),
     ] {
-        assert!(rt; tells(rt.alloc(), words, text, *waiting), "{name}");
+        assert!(rt;
+            tells::<TreeStore>(rt.alloc(), words, text, *waiting),
+            "{name}"
+        );
+        assert!(rt;
+            tells::<FlatStore>(rt.alloc(), words, text, *waiting),
+            "flat: {name}"
+        );
     }
 }
 
 /// The characters of the last visible elements up to each element of the order, in turn; the root
 /// has a dot.
-fn last_characters(alloc: Global, store: &TreeStore) -> Result<Vec<char>, Refusal> {
+fn last_characters<S: TextStore>(alloc: Global, store: &S) -> Result<Vec<char>, Refusal> {
     let mut chars = Vec::new(alloc);
     for id in &last_visible_ones(alloc, store)? {
         chars.push(store.get(*id).map_or('.', |(_, ch)| ch))?;
@@ -53,8 +69,8 @@ fn last_characters(alloc: Global, store: &TreeStore) -> Result<Vec<char>, Refusa
 
 /// Whether these are the characters of the last visible elements of a store that took these
 /// operations.
-fn leads_back(alloc: Global, words: &str, text: &str) -> bool {
-    match store_of(alloc, 100, words) {
+fn leads_back<S: TextStore>(alloc: Global, words: &str, text: &str) -> bool {
+    match store_of::<S>(alloc, 100, words) {
         Ok(store) => spell(last_characters(alloc, &store), text),
         Err(_) => false,
     }
@@ -98,7 +114,11 @@ fn the_last_visible_element_is_found(rt: HostRuntime) {
             "..",
         ),
     ] {
-        assert!(rt; leads_back(rt.alloc(), words, text), "{name}");
+        assert!(rt; leads_back::<TreeStore>(rt.alloc(), words, text), "{name}");
+        assert!(rt;
+            leads_back::<FlatStore>(rt.alloc(), words, text),
+            "flat: {name}"
+        );
     }
 }
 
@@ -114,7 +134,7 @@ fn answers<S: TextStore>(alloc: Global, store: &mut S, words: &str, answer: &str
 }
 
 /// Gives the operations to a store that may know three identifiers.
-fn ask(rt: &impl Abort, alloc: Global, store: &mut TreeStore) {
+fn ask<S: TextStore>(rt: &impl Abort, alloc: Global, store: &mut S) {
     for (words, answer) in &[
         ("a0.0<0.0", "Err(BadId)"),
         ("a1.1<1.2", "Err(BadOrder)"),
@@ -136,9 +156,12 @@ fn ask(rt: &impl Abort, alloc: Global, store: &mut TreeStore) {
 
 #[test]
 fn each_operation_has_its_answer(rt: HostRuntime) {
-    let mut store = TreeStore::new(rt.alloc(), 3).expect(&rt, "a store");
-    ask(&rt, rt.alloc(), &mut store);
-    assert!(rt; has_order_of_three(&store) == Ok(true));
+    let mut tree = TreeStore::new(rt.alloc(), 3).expect(&rt, "a store");
+    ask(&rt, rt.alloc(), &mut tree);
+    assert!(rt; has_order_of_three(&tree) == Ok(true));
+    let mut flat = FlatStore::new(rt.alloc(), 3).expect(&rt, "a store");
+    ask(&rt, rt.alloc(), &mut flat);
+    assert!(rt; has_order_of_three(&flat) == Ok(true));
 }
 
 /// Whether a store with room for three is filled by elements that wait: then it has no room for their
@@ -164,10 +187,14 @@ fn elements_that_wait_fill_a_store(rt: HostRuntime) {
         is_filled_by_waiting_ones::<TreeStore>(rt.alloc()),
         Ok(true)
     );
+    assert_eq!(rt;
+        is_filled_by_waiting_ones::<FlatStore>(rt.alloc()),
+        Ok(true)
+    );
 }
 
 /// Whether the elements of the store are (1, 1), (2, 1) and (3, 1), in this order.
-fn has_order_of_three(store: &TreeStore) -> Result<bool, Refusal> {
+fn has_order_of_three<S: TextStore>(store: &S) -> Result<bool, Refusal> {
     let order = [id(1, 1)?, id(2, 1)?, id(3, 1)?];
     Ok(store.order()?.as_slice() == order.as_slice())
 }
@@ -179,12 +206,12 @@ const TREE: &str = "a1.1<0.0 b2.2<1.1 c3.1<1.1 d4.1<3.1 -3.1 -7.2";
 const SHUFFLED: &str = "-7.2 a1.1<0.0 c3.1<1.1 -3.1 d4.1<3.1 b2.2<1.1";
 
 /// The clock of the store, how many identifiers it knows, and how many it may.
-fn numbers(store: &TreeStore) -> (u64, usize, usize) {
+fn numbers<S: TextStore>(store: &S) -> (u64, usize, usize) {
     (store.clock(), store.known(), store.limit())
 }
 
 /// Whether the store has an element, a deletion, an insertion, and another one in its place.
-fn facts(store: &TreeStore) -> Result<[bool; 4], Refusal> {
+fn facts<S: TextStore>(store: &S) -> Result<[bool; 4], Refusal> {
     let element = store.get(id(1, 1)?) == Some((Id::ROOT, 'a'));
     let deletion = store.is_deleted(id(7, 2)?);
     let insertion_of_c = store.contains(&insertion((3, 1), (1, 1), 'c')?);
@@ -193,8 +220,8 @@ fn facts(store: &TreeStore) -> Result<[bool; 4], Refusal> {
 }
 
 /// Whether a store of the small tree tells its numbers and the facts.
-fn tells_content(alloc: Global) -> bool {
-    match store_of(alloc, 7, SHUFFLED) {
+fn tells_content<S: TextStore>(alloc: Global) -> bool {
+    match store_of::<S>(alloc, 7, SHUFFLED) {
         Ok(store) => numbers(&store) == (7, 5, 7) && facts(&store) == Ok([true, true, true, false]),
         Err(_) => false,
     }
@@ -202,11 +229,12 @@ fn tells_content(alloc: Global) -> bool {
 
 #[test]
 fn a_store_tells_its_content(rt: HostRuntime) {
-    assert!(rt; tells_content(rt.alloc()));
+    assert!(rt; tells_content::<TreeStore>(rt.alloc()));
+    assert!(rt; tells_content::<FlatStore>(rt.alloc()));
 }
 
 /// Whether there is a store, and it has the limit, the text and the operations of the small tree.
-fn is_tree(alloc: Global, store: Result<TreeStore, Refusal>) -> bool {
+fn is_tree<S: TextStore>(alloc: Global, store: Result<S, Refusal>) -> bool {
     match store {
         Ok(store) => {
             store.limit() == 7 && shows(alloc, &store, "adb") && holds(alloc, &store, TREE)
@@ -217,21 +245,23 @@ fn is_tree(alloc: Global, store: Result<TreeStore, Refusal>) -> bool {
 
 #[test]
 fn operations_come_by_identifier(rt: HostRuntime) {
-    assert!(rt; is_tree(rt.alloc(), store_of(rt.alloc(), 7, SHUFFLED)));
+    assert!(rt; is_tree::<TreeStore>(rt.alloc(), store_of(rt.alloc(), 7, SHUFFLED)));
+    assert!(rt; is_tree::<FlatStore>(rt.alloc(), store_of(rt.alloc(), 7, SHUFFLED)));
 }
 
-fn copied(alloc: Global) -> Result<TreeStore, Refusal> {
-    store_of(alloc, 7, SHUFFLED)?.copy()
+fn copied<S: TextStore>(alloc: Global) -> Result<S, Refusal> {
+    store_of::<S>(alloc, 7, SHUFFLED)?.copy()
 }
 
 #[test]
 fn a_copy_has_the_same_content(rt: HostRuntime) {
-    assert!(rt; is_tree(rt.alloc(), copied(rt.alloc())));
+    assert!(rt; is_tree::<TreeStore>(rt.alloc(), copied(rt.alloc())));
+    assert!(rt; is_tree::<FlatStore>(rt.alloc(), copied(rt.alloc())));
 }
 
 /// Whether there may be a store with this limit.
-fn fits(alloc: Global, limit: usize) -> bool {
-    TreeStore::new(alloc, limit).is_ok()
+fn fits<S: TextStore>(alloc: Global, limit: usize) -> bool {
+    S::new(alloc, limit).is_ok()
 }
 
 #[test]
@@ -242,7 +272,11 @@ fn a_limit_is_one_to_a_million(rt: HostRuntime) {
         (MAX_LIMIT, true),
         (MAX_LIMIT + 1, false),
     ] {
-        assert!(rt; fits(rt.alloc(), *limit) == *answer, "{limit}");
+        assert!(rt; fits::<TreeStore>(rt.alloc(), *limit) == *answer, "{limit}");
+        assert!(rt;
+            fits::<FlatStore>(rt.alloc(), *limit) == *answer,
+            "flat: {limit}"
+        );
     }
 }
 
@@ -260,7 +294,7 @@ fn sibling(shape: usize, k: u64) -> u64 {
 }
 
 /// Has the store take all of the siblings.
-fn apply_siblings(store: &mut TreeStore, shape: usize) -> Result<(), Refusal> {
+fn apply_siblings<S: TextStore>(store: &mut S, shape: usize) -> Result<(), Refusal> {
     for k in 0..199 {
         let _taken = store.apply(insertion((sibling(shape, k), 1), (0, 0), 'a')?)?;
     }
@@ -268,7 +302,7 @@ fn apply_siblings(store: &mut TreeStore, shape: usize) -> Result<(), Refusal> {
 }
 
 /// Whether all of the siblings stand by falling identifier.
-fn falls(store: &TreeStore) -> bool {
+fn falls<S: TextStore>(store: &S) -> bool {
     match store.order() {
         Ok(order) => order.as_slice().len() == 199 && order.as_slice().is_sorted_by(|a, b| a > b),
         Err(_) => false,
@@ -276,8 +310,8 @@ fn falls(store: &TreeStore) -> bool {
 }
 
 /// Whether all of the siblings, once a store took them, stand by falling identifier.
-fn family_falls(alloc: Global, shape: usize) -> bool {
-    match TreeStore::new(alloc, 1000) {
+fn family_falls<S: TextStore>(alloc: Global, shape: usize) -> bool {
+    match S::new(alloc, 1000) {
         Ok(mut store) => apply_siblings(&mut store, shape) == Ok(()) && falls(&store),
         Err(_) => false,
     }
@@ -287,6 +321,10 @@ fn family_falls(alloc: Global, shape: usize) -> bool {
 #[test]
 fn many_siblings(rt: HostRuntime) {
     for shape in 0..3 {
-        assert!(rt; family_falls(rt.alloc(), shape), "{shape}");
+        assert!(rt; family_falls::<TreeStore>(rt.alloc(), shape), "{shape}");
+        assert!(rt;
+            family_falls::<FlatStore>(rt.alloc(), shape),
+            "flat: {shape}"
+        );
     }
 }

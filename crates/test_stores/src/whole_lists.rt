@@ -1,6 +1,7 @@
 //! Lists of operations that a store takes whole or not at all.
 use crate::words::{holds, prints, store_of};
-use rga_store::{Taker, TreeStore};
+use rga_flat::FlatStore;
+use rga_store::{TextStore, TreeStore};
 use std::alloc::Global;
 use test_fixtures::ops_of;
 
@@ -8,7 +9,7 @@ use test_fixtures::ops_of;
 const CONFLICT: &str = "Err(Conflict(Id { counter: 1, replica: 1 }))";
 
 /// Whether the store has the answer to a list of operations.
-fn answers(alloc: Global, store: &mut TreeStore, list: &str, answer: &str) -> bool {
+fn answers<S: TextStore>(alloc: Global, store: &mut S, list: &str, answer: &str) -> bool {
     match ops_of(alloc, list) {
         Ok(ops) => prints(alloc, &store.apply_all(&ops), answer),
         Err(_) => false,
@@ -17,8 +18,15 @@ fn answers(alloc: Global, store: &mut TreeStore, list: &str, answer: &str) -> bo
 
 /// Whether a store that took the operations before has the answer to the list, and then holds those
 /// after.
-fn takes(alloc: Global, limit: usize, before: &str, list: &str, answer: &str, after: &str) -> bool {
-    match store_of(alloc, limit, before) {
+fn takes<S: TextStore>(
+    alloc: Global,
+    limit: usize,
+    before: &str,
+    list: &str,
+    answer: &str,
+    after: &str,
+) -> bool {
+    match store_of::<S>(alloc, limit, before) {
         Ok(mut store) => { answers(alloc, &mut store, list, answer) && holds(alloc, &store, after) }
         Err(_) => false,
     }
@@ -58,8 +66,12 @@ fn a_list_is_taken_whole(rt: HostRuntime) {
         ),
     ] {
         assert!(rt;
-            takes(rt.alloc(), *limit, before, list, "Ok(())", after),
+            takes::<TreeStore>(rt.alloc(), *limit, before, list, "Ok(())", after),
             "{name}"
+        );
+        assert!(rt;
+            takes::<FlatStore>(rt.alloc(), *limit, before, list, "Ok(())", after),
+            "flat: {name}"
         );
     }
 }
@@ -93,8 +105,12 @@ fn a_refused_list_changes_nothing(rt: HostRuntime) {
         ("the root", 9, "", "-0.0 c3.1<3.1", "Err(BadId)"),
     ] {
         assert!(rt;
-            takes(rt.alloc(), *limit, before, list, answer, before),
+            takes::<TreeStore>(rt.alloc(), *limit, before, list, answer, before),
             "{name}"
+        );
+        assert!(rt;
+            takes::<FlatStore>(rt.alloc(), *limit, before, list, answer, before),
+            "flat: {name}"
         );
     }
 }

@@ -1,18 +1,18 @@
 //! Stores that are made from words, and compared with words and with one another.
 use rga_ops::{Id, Refusal};
-use rga_store::{Taker, TextStore, TreeStore};
+use rga_store::TextStore;
 use std::alloc::Global;
 use std::fmt::Debug;
 use test_fixtures::{ops_of, spells};
 
 /// A store that took the operations of these words one by one.
-pub fn store_of(alloc: Global, limit: usize, words: &str) -> Result<TreeStore, Refusal> {
-    let mut store = TreeStore::new(alloc, limit)?;
+pub fn store_of<S: TextStore>(alloc: Global, limit: usize, words: &str) -> Result<S, Refusal> {
+    let mut store = S::new(alloc, limit)?;
     apply_each(alloc, &mut store, words)?;
     Ok(store)
 }
 
-fn apply_each(alloc: Global, store: &mut TreeStore, words: &str) -> Result<(), Refusal> {
+fn apply_each<S: TextStore>(alloc: Global, store: &mut S, words: &str) -> Result<(), Refusal> {
     for op in &ops_of(alloc, words)? {
         let _taken = store.apply(*op)?;
     }
@@ -33,12 +33,12 @@ pub fn shows<S: TextStore>(alloc: Global, store: &S, text: &str) -> bool {
 }
 
 /// Whether these are the operations of the store, in their order.
-pub fn holds(alloc: Global, store: &TreeStore, words: &str) -> bool {
+pub fn holds<S: TextStore>(alloc: Global, store: &S, words: &str) -> bool {
     same(store.ops(), ops_of(alloc, words))
 }
 
 /// The last visible element up to each element of the order, in turn.
-pub fn last_visible_ones(alloc: Global, store: &TreeStore) -> Result<Vec<Id>, Refusal> {
+pub fn last_visible_ones<S: TextStore>(alloc: Global, store: &S) -> Result<Vec<Id>, Refusal> {
     let order = store.order()?;
     let mut found = Vec::new(alloc);
     for id in &order {
@@ -48,7 +48,7 @@ pub fn last_visible_ones(alloc: Global, store: &TreeStore) -> Result<Vec<Id>, Re
 }
 
 /// Whether both stores hold the same operations, and have the same order.
-pub fn alike(a: &TreeStore, b: &TreeStore) -> bool {
+pub fn alike<S: TextStore>(a: &S, b: &S) -> bool {
     same(a.ops(), b.ops()) && same(a.order(), b.order())
 }
 

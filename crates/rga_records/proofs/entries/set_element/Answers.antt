@@ -21,7 +21,7 @@ returns-clause-deleted c =
 pub returns-clause-content : goal.returns-clause-content
 returns-clause-content c =
     let es : Entries = c.args.entries.now.entries in
-    let written : Record = record { element = Some (c.args.parent, c.args.ch); deleted = c.or_insert-record.result.now.deleted; block = c.or_insert-record.result.now.block } in
+    let written : Record = record { element = Some (c.args.parent, c.args.ch); deleted = c.or_insert-record.result.now.deleted; block = c.args.block } in
     let entry : IsEntryFor id_cmp c.args.entries.now c.args.id c.in_ok-entries.field-0 = c.in_ok-entries.ensures.update in
     let inserted : (m : BTreeMap Identifier Record) → m ≡ map_with_value c.in_ok-entries.field-0 written → content_of_records m.entries ≡ join (content_of_records es) (single (Insert c.args.id c.args.parent c.args.ch)) = λ m is_written.
     ap (λ (n : BTreeMap Identifier Record). content_of_records n.entries) is_written

@@ -14,8 +14,8 @@ at_index P (id ∷ ids) (suc i) d within h = at_index P ids i d (omega (arith, w
 
 -- an element of the order is complete
 pub last_visible-requires : goal.last_visible-requires
-last_visible-requires c =
-    let held : Content = c.args.store.now.content in
+last_visible-requires g c =
+    let held : Content = g.S.Taker.content c.args.store.now in
     let listed : c.deref-id-items.result.now ≡ order held = c.deref-id-items.ensures.value ∙ c.in_ok-order.ensures.ok in
     subst (λ id. is_complete held id ≡ true) (sym c.id-item.is)
     (at_index (λ id. is_complete held id ≡ true) c.deref-id-items.result.now c.loop-id.id-index c.id-item.result c.loop-id-test.true

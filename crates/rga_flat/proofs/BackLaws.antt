@@ -1,0 +1,123 @@
+-- Operations that are removed again, the last first.
+use Rattle.std.proofs.Common.{◌≡◌, is_some, Bool, true, false, cond, not, ◌&&◌, ℕ, List, [], ◌∷◌, ◌++◌, refl, sym, ap, ◌∙◌, subst, true≢false}
+use Rattle.std.specs.Prelude.{Option, Some, None, Ok}
+use Rattle.std.specs.FinMap as finite_map
+use Rattle.std.specs.FinSet as finite_set
+use Rattle.std.specs.BTreeSet.{BTreeSet, contains}
+use Rattle.std.proofs.lemmas.Option.{none-some}
+use Rattle.rga_ops.specs.Identifier.{Identifier, id_cmp}
+use Rattle.rga_ops.specs.Content.{Element, Content, IsWithin, Holds, join, single, clock_of}
+use Rattle.rga_ops.specs.RootPath.{is_complete}
+use Rattle.rga_ops.specs.Answer.{answer}
+use Rattle.rga_ops.proofs.IdentifierLaws.{ids_total, is}
+use Rattle.rga_ops.proofs.ContentLaws.{within_chain}
+use Rattle.rga_ops.specs.declared.op.Op.{Op}
+use Rattle.rga_ops.specs.declared.op.Op.TheVariants.{Insert, Delete}
+use Rattle.rga_ops.specs.declared.refusal.Taken.TheVariants.{New}
+use Rattle.rga_sequence.specs.declared.entry.Entry.{Entry}
+use Rattle.rga_store.specs.Back.{without}
+use Rattle.rga_store.proofs.BackLaws.{without_new, new_held}
+use Rattle.rga_flat.specs.declared.steps.Step.{Step}
+use Rattle.rga_flat.specs.Back.{gone_back, CanGoBack, IsLastStep}
+use Rattle.rga_flat.specs.Flat.{IsFlat}
+use Rattle.rga_flat.specs.Undo.{undone_entries, undone_under, IsGoingBack, IsReturnable}
+use Rattle.rga_flat.specs.Waiting.{Waiting, has_list}
+use Rattle.rga_flat.proofs.EntryLaws.{either}
+use Rattle.rga_flat.proofs.UndoLaws.{going_insertion, going_deletion, going_end}
+
+-- ---- steps
+
+pub gone_back-push : (ss : List Step) (s : Step) (c : Content) → gone_back (ss ++ s ∷ []) c ≡ gone_back ss (without s.op c)
+gone_back-push [] s c = refl
+gone_back-push (t ∷ ss) s c = ap (without t.op) (gone_back-push ss s c)
+
+pub last_step : (ss : List Step) (s : Step) (c : Content) → CanGoBack (ss ++ s ∷ []) c → IsLastStep ss s.op s.clock c
+last_step [] s c h = record { held = h.1.0; clocked = h.1.1; rest = tt }
+last_step (t ∷ ss) s c h =
+    let last : IsLastStep ss s.op s.clock c = last_step ss s c h.0 in
+    record {
+      held = last.held;
+      clocked = last.clocked;
+      rest = (last.rest, subst (λ d. Holds d t.op × (t.clock ≡ clock_of (without t.op d))) (gone_back-push ss s c) h.1);
+    }
+
+pub one_step_more : (ss : List Step) (s : Step) (c : Content) → IsLastStep ss s.op s.clock c → CanGoBack (ss ++ s ∷ []) c
+one_step_more [] s c last = (tt, (last.held, last.clocked))
+one_step_more (t ∷ ss) s c last = (
+  one_step_more ss s c (record { held = last.held; clocked = last.clocked; rest = last.rest.0 }),
+  subst (λ d. Holds d t.op × (t.clock ≡ clock_of (without t.op d))) (sym (gone_back-push ss s c)) last.rest.1,
+)
+
+module _ (limit : ℕ) (n m : Content) (op : Op) (answered : answer limit n op ≡ Ok New) (joined : m ≡ join n (single op)) where
+  pub without_taken : without op m ≡ n
+  without_taken = ap (without op) joined ∙ without_new limit n op answered
+
+  pub last_taken : (ss : List Step) (before : ℕ) → before ≡ clock_of n → CanGoBack ss n → IsLastStep ss op before m
+  last_taken ss before same back = record {
+    held = subst (λ d. Holds d op) (sym joined) (new_held limit n op answered);
+    clocked = same ∙ ap clock_of (sym without_taken);
+    rest = subst (λ d. CanGoBack ss d) (sym without_taken) back;
+  }
+
+-- ---- what is left is within what was there
+
+without_within : (op : Op) (c : Content) → IsWithin (without op c) c
+without_within (Insert id parent ch) c = record {
+  inserted = λ k x g. either (is k id)
+      (λ t. absurd (none-some _ (sym (ap (λ b. cond b None (finite_map.get c.inserted k)) t) ∙ sym (finite_map.get-remove ids_total c.inserted id k) ∙ g)))
+      (λ f. sym (ap (λ b. cond b None (finite_map.get c.inserted k)) f) ∙ sym (finite_map.get-remove ids_total c.inserted id k) ∙ g);
+  deleted = λ k h. h;
+}
+without_within (Delete id) c = record {
+  inserted = λ k x g. g;
+  deleted = λ k h. second (not (is k id)) (finite_set.contains c.deleted k) (sym (finite_set.contains-remove ids_total c.deleted id k) ∙ h);
+}
+  where
+    second : (a b : Bool) → (a && b) ≡ true → b ≡ true
+    second true b h = h
+    second false b h = absurd (true≢false (sym h))
+
+pub gone_within : (ss : List Step) (c : Content) → IsWithin (gone_back ss c) c
+gone_within [] c = record { inserted = λ k x g. g; deleted = λ k h. h }
+gone_within (s ∷ ss) c = within_chain (without s.op (gone_back ss c)) (gone_back ss c) c (without_within s.op (gone_back ss c)) (gone_within ss c)
+
+-- ---- an operation goes
+
+pub going_undone : (op : Op) (top base c : Content) (es : List Entry) (K K' : Identifier → List Identifier) (E E' done : Identifier → Bool) → IsGoingBack top base c es K E done → Holds c op → IsWithin base (without op c)
+    → ((p : Identifier) → K' p ≡ undone_under op p (K p)) → ((p : Identifier) → E' p ≡ E p) → IsGoingBack top base (without op c) (undone_entries op es) K' E' done
+going_undone (Insert id parent ch) top base c es K K' E E' done going held within lists marks = going_insertion top base c es K E done going id parent ch held within K' E' lists marks
+going_undone (Delete id) top base c es K K' E E' done going held within lists marks = going_deletion top base c es K E done going id within K' E' lists marks
+
+-- ---- there
+
+module _ (top base : Content) (es : List Entry) (w : Waiting) (done : BTreeSet Identifier) (back : IsReturnable top base es w done) where
+  free : (k : Identifier) → is_complete base k ≡ true → contains id_cmp done k ≡ false
+  free k h = either (contains id_cmp done k)
+      (λ t. absurd (true≢false (sym (back.listed k t) ∙ back.based.marks.complete k h)))
+      (λ f. f)
+
+  was_done : (k : Identifier) → contains id_cmp done k ≡ false → contains id_cmp back.settled k ≡ false
+  was_done k h = either (contains id_cmp back.settled k) (λ t. absurd (true≢false (sym (back.more k t) ∙ h))) (λ f. f)
+
+  settled : (k : Identifier) → is_complete top k ≡ true → finite_map.contains_key base.inserted k ≡ true → contains id_cmp done k ≡ false → is_complete base k ≡ true
+  settled k h there n = either (is_complete base k)
+      (λ t. t)
+      (λ f.
+      let it = found (finite_map.get base.inserted k) there in
+      let listed : has_list w k ≡ true = back.based.marks.waits k it.0 it.1 f in
+      absurd (true≢false (sym ((λ i. listed i && not (was_done k n i))) ∙ back.flat.marks.complete k h)))
+    where
+      found : (o : Option Element) → is_some o ≡ true → (x : Element) × (o ≡ Some x)
+      found None t = absurd (true≢false (sym t))
+      found (Some x) t = (x, refl)
+
+  pub gone_there : (fs : List Entry) (K : Identifier → List Identifier) (E : Identifier → Bool) → IsGoingBack top base base fs K E (contains id_cmp done) → IsFlat base fs K E
+  gone_there fs K E going = going_end top base fs K E (contains id_cmp done) going back.based.within free settled
+
+-- what is inserted stays so
+pub inserted_later : (c d : Content) → IsWithin c d → (k : Identifier) → finite_map.contains_key c.inserted k ≡ true → finite_map.contains_key d.inserted k ≡ true
+inserted_later c d w k h =
+    elim (finite_map.get c.inserted k) as (λ o. finite_map.get c.inserted k ≡ o → is_some o ≡ true → finite_map.contains_key d.inserted k ≡ true) [
+      | None ↦ λ g t. absurd (true≢false (sym t))
+      | Some x ↦ λ g t. ap is_some (w.inserted k x g)
+    ] refl h

@@ -1,0 +1,18 @@
+use Rattle.std.proofs.Common.{sym, ◌∙◌, true≢false}
+use Rattle.std.proofs.Common.{inl, inr}
+use Rattle.std.specs.BTreeSet.{contains}
+use Rattle.rga_ops.specs.Identifier.{id_cmp}
+use Rattle.rga_flat.specs.Waiting.{under, has_list, is_listed}
+use Rattle.rga_flat.proofs.WaitingLaws.{none_done, unlisted_done}
+use Rattle.rga_flat.proofs.FlatLaws.{flat_cleared}
+use Rattle.rga_flat.proofs.flat_store.FlatStoreTaker.apply.Goals as goal
+
+pub invariant_of-self-2 : goal.invariant_of-self-2
+invariant_of-self-2 c =
+    flat_cleared c.take.new.records.content c.take.new.sequence (under c.take.new.waiting) (under c.clear_lists.new.waiting)
+    (is_listed c.take.new.waiting c.take.new.done) (has_list c.clear_lists.new.waiting) (contains id_cmp c.take.new.done) c.in_ok-taken.ensures.flat
+    (λ p t. elim (c.in_ok-taken.ensures.inserted p t) [
+      | inl old ↦ absurd (true≢false (sym old ∙ none_done c.new-done.result c.new-done.ensures.empty p))
+      | inr there ↦ there
+    ])
+    (unlisted_done c.take.new.waiting c.take.new.done) c.clear_lists.ensures.under c.clear_lists.ensures.lists

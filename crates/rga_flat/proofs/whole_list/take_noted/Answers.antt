@@ -1,0 +1,42 @@
+use Rattle.std.proofs.Common.{◌≡◌, ℕ, sym, ap, ◌∙◌, subst, inl, inr}
+use Rattle.rga_ops.specs.Content.{Content, IsWithin, single}
+use Rattle.rga_ops.specs.Answer.{answer}
+use Rattle.rga_ops.proofs.AnswerLaws.{Answer, ok, err}
+use Rattle.rga_ops.proofs.ContentLaws.{within_join}
+use Rattle.rga_ops.specs.declared.op.Op.{Op}
+use Rattle.rga_ops.specs.declared.refusal.Taken.TheVariants.{New}
+use Rattle.rga_ops.specs.declared.refusal.Refusal.TheVariants.{Memory}
+use Rattle.rga_flat.specs.Back.{gone_back, CanGoBack}
+use Rattle.rga_flat.proofs.BackLaws.{gone_back-push, one_step_more, without_taken, last_taken, inserted_later}
+use Rattle.rga_flat.proofs.whole_list.take_noted.Goals as goal
+
+-- what is answered, unless memory is wanting, was that it is new
+was_new : (limit : ℕ) (c : Content) (op : Op) (r : Answer) → r ≡ ok New → ((r ≡ err Memory → ⊥) → r ≡ answer limit c op) → answer limit c op ≡ ok New
+was_new limit c op r new exact = sym (exact (λ k. let clash : ok New ≡ err Memory = sym new ∙ k in cc)) ∙ new
+
+pub returns-in-New-clause-steps : goal.returns-in-New-clause-steps
+returns-in-New-clause-steps c =
+    let is_new : c.take.result ≡ ok New = c.in_ok-take.was ∙ ap ok c.in-New.is in
+    let answered = was_new c.args.records.now.limit c.args.records.now.content c.args.op.now c.take.result is_new c.take.ensures.exact in
+    subst (λ ss. CanGoBack ss c.take.new.records.content) (sym c.note.ensures)
+    (one_step_more c.reserve.new.self.items (record { op = c.args.op.now; clock = c.clock-clock.result }) c.take.new.records.content
+    (last_taken c.args.records.now.limit c.args.records.now.content c.take.new.records.content c.args.op.now answered (c.take.ensures.new is_new) c.reserve.new.self.items c.clock-clock.result c.clock-clock.ensures
+    (subst (λ ss. CanGoBack ss c.args.records.now.content) (sym c.in_ok-reserve.ensures.items) c.requires.back)))
+
+pub returns-in-New-clause-start : goal.returns-in-New-clause-start
+returns-in-New-clause-start c =
+    let is_new : c.take.result ≡ ok New = c.in_ok-take.was ∙ ap ok c.in-New.is in
+    let answered = was_new c.args.records.now.limit c.args.records.now.content c.args.op.now c.take.result is_new c.take.ensures.exact in
+    ap (λ ss. gone_back ss c.take.new.records.content) c.note.ensures
+    ∙ gone_back-push c.reserve.new.self.items (record { op = c.args.op.now; clock = c.clock-clock.result }) c.take.new.records.content
+    ∙ ap (gone_back c.reserve.new.self.items) (without_taken c.args.records.now.limit c.args.records.now.content c.take.new.records.content c.args.op.now answered (c.take.ensures.new is_new))
+    ∙ ap (λ ss. gone_back ss c.args.records.now.content) c.in_ok-reserve.ensures.items
+
+pub returns-in-New-clause-inserted : goal.returns-in-New-clause-inserted
+returns-in-New-clause-inserted c = λ p t.
+    let is_new : c.take.result ≡ ok New = c.in_ok-take.was ∙ ap ok c.in-New.is in
+    elim (c.in_ok-take.ensures.inserted p t) [
+      | inl old ↦ inserted_later c.args.records.now.content c.take.new.records.content
+          (subst (λ (d : Content). IsWithin c.args.records.now.content d) (sym (c.take.ensures.new is_new)) (within_join c.args.records.now.content (single c.args.op.now))) p (c.requires.inserted p old)
+      | inr there ↦ there
+    ]

@@ -1,0 +1,44 @@
+use Rattle.std.proofs.Common.{refl, sym, ap, ◌∙◌, subst, true≢false, inl, inr}
+use Rattle.std.specs.BTreeSet.{contains}
+use Rattle.rga_ops.specs.Identifier.{id_cmp}
+use Rattle.rga_ops.specs.Content.{Content}
+use Rattle.rga_flat.specs.Back.{gone_back, CanGoBack}
+use Rattle.rga_flat.specs.Undo.{IsReturnable}
+use Rattle.rga_flat.specs.Waiting.{under, has_list, is_listed}
+use Rattle.rga_flat.proofs.WaitingLaws.{none_done, listed_none, unlisted_done}
+use Rattle.rga_flat.proofs.FlatLaws.{based_self, flat_marked, flat_cleared}
+use Rattle.rga_flat.proofs.whole_list.take_whole.Goals as goal
+
+pub loop-op-init : goal.loop-op-init
+loop-op-init c = record {
+  limit = refl;
+  rest = refl;
+  back = subst (λ ss. CanGoBack ss c.args.records.now.content) (sym c.in_ok-steps.ensures.items) tt;
+  start = ap (λ ss. gone_back ss c.args.records.now.content) c.in_ok-steps.ensures.items;
+  flat = flat_marked c.args.records.now.content c.args.sequence.now (under c.args.waiting.now) (has_list c.args.waiting.now) (is_listed c.args.waiting.now c.new-done.result)
+      (λ p. sym (listed_none c.args.waiting.now c.new-done.result c.new-done.ensures.empty p)) c.requires;
+  based = based_self c.args.records.now.content c.args.sequence.now (under c.args.waiting.now) (has_list c.args.waiting.now) c.requires;
+  listed = λ p t. absurd (true≢false (sym t ∙ none_done c.new-done.result c.new-done.ensures.empty p));
+  inserted = λ p t. absurd (true≢false (sym t ∙ none_done c.new-done.result c.new-done.ensures.empty p));
+}
+
+pub go_back-requires-clause-returnable : goal.go_back-requires-clause-returnable
+go_back-requires-clause-returnable c =
+    subst (λ (base : Content). IsReturnable c.take_noted.new.records.content base c.take_noted.new.sequence c.take_noted.new.waiting c.take_noted.new.done)
+    (sym (c.take_noted.ensures.start ∙ c.loop-op.invariant.start))
+    (record {
+      settled = c.loop-op.done;
+      flat = c.in-Err.ensures.left;
+      more = c.take_noted.ensures.settles.grows;
+      listed = λ p t. elim (c.take_noted.ensures.settles.within p t) [
+        | inl old ↦ c.take_noted.ensures.lists p (c.loop-op.invariant.listed p old)
+        | inr has ↦ c.take_noted.ensures.lists p has
+      ];
+      based = c.take_noted.ensures.based c.args.records.now.content c.loop-op.invariant.based;
+    })
+
+pub returns-clause-flat : goal.returns-clause-flat
+returns-clause-flat c =
+    flat_cleared c.loop-op.records.content c.loop-op.sequence (under c.loop-op.waiting) (under c.clear_lists.new.waiting)
+    (is_listed c.loop-op.waiting c.loop-op.done) (has_list c.clear_lists.new.waiting) (contains id_cmp c.loop-op.done) c.loop-op.invariant.flat
+    c.loop-op.invariant.inserted (unlisted_done c.loop-op.waiting c.loop-op.done) c.clear_lists.ensures.under c.clear_lists.ensures.lists

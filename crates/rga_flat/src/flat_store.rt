@@ -1,0 +1,202 @@
+//! A store as records and one sequence.
+
+use crate::reading::{count_inserted, last_of, string_of};
+use crate::taking::take;
+use crate::waiting::clear_lists;
+use crate::whole_list::take_whole;
+use rga_ops::{Id, Op, Refusal, Taken};
+use rga_records::Records;
+use rga_sequence::Sequence;
+use rga_store::{Taker, TextStore};
+use std::alloc::Global;
+use std::collections::{BTreeMap, BTreeSet};
+use std::marker::Model;
+
+/// What is known of each identifier, the complete elements in order, and what waits. An element
+/// that waits has a list of the children that wait for it, and so has what is not inserted but
+/// waited for.
+#[derive(Drop)]
+pub struct FlatStore {
+    alloc: Global,
+    records: Records,
+    sequence: Sequence,
+    waiting: BTreeMap<Id, Vec<Id>>,
+}
+
+impl Model for FlatStore {
+    ghost use Rattle.rga_store.specs.Kept.{Kept, kept_code};
+
+    ghost Value = { Kept };
+
+    ghost coded = { kept_code };
+
+    ghost use Rattle.rga_flat.specs.Flat.{IsFlat};
+    ghost use Rattle.rga_flat.specs.Waiting.{under, has_list};
+
+    ghost view = { λ a. a.records };
+
+    ghost invariant = { λ a.
+        IsFlat a.records.content a.sequence (under a.waiting) (has_list a.waiting) };
+}
+
+impl Taker for FlatStore {
+    ghost use Rattle.std.specs.Prelude.{◌≡◌, Ok, Err, false};
+    ghost use Rattle.rga_store.specs.Growth.{NeedsRoom};
+
+    ghost content = { λ s. s.content };
+
+    ghost limit = { λ s. s.limit };
+
+    ghost may_grow = { λ s op. NeedsRoom s.content op };
+
+    ghost follows = { λ s ops t. Unit {0} };
+
+    ghost follows_nothing = { λ s. tt };
+
+    ghost follows_on = { λ s t u xs ys a b. tt };
+
+    fn apply(&mut self, op: Op) -> Result<Taken, Refusal> {
+        let mut done = BTreeSet::new(self.alloc);
+        let taken = take(
+            self.alloc,
+            &mut self.records,
+            &mut self.sequence,
+            &mut self.waiting,
+            &mut done,
+            &op,
+        )?;
+        clear_lists(&mut self.waiting, &done);
+        Ok(taken)
+    }
+
+    fn apply_all(&mut self, ops: &[Op]) -> Result<(), Refusal> {
+        let _known = self.records.known();
+        let whole = take_whole(
+            self.alloc,
+            &mut self.records,
+            &mut self.sequence,
+            &mut self.waiting,
+            ops,
+        );
+        if whole.is_ok() {
+            return Ok(());
+        }
+        // Which refusal comes first depends on the whole list, so it is looked for only now.
+        self.records.answer_to_list(self.alloc, ops)?;
+        Err(Refusal::Memory)
+    }
+}
+
+impl TextStore for FlatStore {
+    ghost use Rattle.std.proofs.Common.{true≢false, sym, ◌∙◌};
+
+    ghost deletes_freely = { λ s id inserted grows. true≢false (sym inserted ∙ grows) };
+
+    fn new(alloc: Global, limit: usize) -> Result<FlatStore, Refusal> {
+        let records = Records::new(alloc, limit)?;
+        Ok(FlatStore {
+            alloc,
+            records,
+            sequence: Sequence::new(alloc),
+            waiting: BTreeMap::new(alloc),
+        })
+    }
+
+    fn get(&self, id: Id) -> Option<(Id, char)> {
+        self.records.element(id)
+    }
+
+    fn is_deleted(&self, id: Id) -> bool {
+        self.records.is_deleted(id)
+    }
+
+    fn known(&self) -> usize {
+        self.records.known()
+    }
+
+    fn contains(&self, op: &Op) -> bool {
+        self.records.contains(op)
+    }
+
+    fn clock(&self) -> u64 {
+        self.records.clock()
+    }
+
+    fn limit(&self) -> usize {
+        self.records.limit()
+    }
+
+    fn order(&self) -> Result<Vec<Id>, Refusal> {
+        self.sequence.ids(self.alloc)
+    }
+
+    fn text(&self, alloc: Global) -> Result<Vec<char>, Refusal> {
+        self.sequence.text(alloc)
+    }
+
+    fn text_string(&self, alloc: Global) -> Result<String, Refusal> {
+        let chars = self.sequence.text(alloc)?;
+        string_of(alloc, chars.as_slice())
+    }
+
+    fn visible(&self, alloc: Global) -> Result<(Vec<Id>, Vec<char>), Refusal> {
+        let count = count_inserted(&self.records);
+        let ids = self.sequence.elements(alloc, 0, count)?;
+        let chars = self.sequence.text(alloc)?;
+        Ok((ids, chars))
+    }
+
+    fn last_visible(&self, id: Id) -> Id {
+        let _count = count_inserted(&self.records);
+        let name = self.records.block(id);
+        match self.sequence.place_of(id, name) {
+            Some(count) => last_of(&self.sequence, count),
+            None => Id::ROOT,
+        }
+    }
+
+    fn waiting_count(&self) -> Result<usize, Refusal> {
+        let count = count_inserted(&self.records);
+        Ok(count - self.sequence.len())
+    }
+
+    fn ops(&self) -> Result<Vec<Op>, Refusal> {
+        self.records.ops(self.alloc)
+    }
+
+    fn copy(&self) -> Result<FlatStore, Refusal> {
+        let _known = self.records.known();
+        let ops = self.records.ops(self.alloc)?;
+        let mut copy = FlatStore::new(self.alloc, self.records.limit())?;
+        let taken = take_whole(
+            copy.alloc,
+            &mut copy.records,
+            &mut copy.sequence,
+            &mut copy.waiting,
+            &ops,
+        );
+        if taken.is_err() {
+            return Err(Refusal::Memory);
+        }
+        Ok(copy)
+    }
+
+    fn merge(&mut self, other: &FlatStore) -> Result<(), Refusal> {
+        if let Some(id) = self.records.least_conflict(&other.records) {
+            return Err(Refusal::Conflict(id));
+        }
+        let room = self.records.limit() - self.records.known();
+        if self.records.count_unknown(&other.records) > room {
+            return Err(Refusal::Full);
+        }
+        let _known = other.records.known();
+        let ops = other.records.ops(self.alloc)?;
+        take_whole(
+            self.alloc,
+            &mut self.records,
+            &mut self.sequence,
+            &mut self.waiting,
+            &ops,
+        )
+    }
+}

@@ -1,0 +1,101 @@
+//! Lists of operations, taken whole or not at all. What was taken of a list is removed again where
+//! one of it is refused, and that takes no memory.
+ghost use Rattle.std.specs.Prelude.{◌≡◌, ◌≢◌, true, Ok, Err, OnOk, OnErr, IfErr};
+ghost use Rattle.std.specs.BTreeSet.{contains};
+ghost use Rattle.std.specs.FinMap as finite_map;
+ghost use Rattle.rga_ops.specs.Identifier.{Identifier, id_cmp};
+ghost use Rattle.rga_ops.specs.Content.{Content};
+ghost use Rattle.rga_ops.specs.Answer.{taken, taken_one_by_one};
+ghost use Rattle.rga_flat.specs.Back.{gone_back, CanGoBack};
+ghost use Rattle.rga_flat.specs.Based.{IsBased};
+ghost use Rattle.rga_flat.specs.Flat.{IsFlat};
+ghost use Rattle.rga_flat.specs.Waiting.{under, has_list, is_listed, Settles};
+
+use crate::steps::{Step, note};
+use crate::taking::take;
+use crate::undoing::go_back;
+use crate::waiting::clear_lists;
+use rga_ops::{Id, Op, Refusal, Taken};
+use rga_records::Records;
+use rga_sequence::Sequence;
+use std::alloc::Global;
+use std::collections::{BTreeMap, BTreeSet};
+
+/// Takes the operations one by one, or none of them: the first that is refused leaves all as it
+/// was. `Memory` may be wanting before that one is found.
+pub(crate) fn take_whole(
+    alloc: Global,
+    records: &mut Records,
+    sequence: &mut Sequence,
+    waiting: &mut BTreeMap<Id, Vec<Id>>,
+    ops: &[Op],
+) -> Result<(), Refusal>
+    requires { IsFlat records.old.content sequence.old (under waiting.old) (has_list waiting.old) }
+    ensures ok { OnOk result (taken_one_by_one records.old.limit records.old.content ops.now
+        ≡ Ok records.new.content) }
+    ensures refused { IfErr result (λ e. e ≢ Refusal.Memory →
+        taken_one_by_one records.old.limit records.old.content ops.now ≡ Err e) }
+    ensures same { OnErr result (records.new.content ≡ records.old.content) }
+    ensures flat { IsFlat records.new.content sequence.new
+        (under waiting.new) (has_list waiting.new) }
+    ensures limit { records.new.limit ≡ records.old.limit }
+{
+    let mut steps = Vec::with_capacity(alloc, ops.len())?;
+    let mut done = BTreeSet::new(alloc);
+    for op in ops {
+        if let Err(refusal) = take_noted(
+            alloc, records, sequence, waiting, &mut done, op, &mut steps,
+        ) {
+            go_back(records, sequence, waiting, &done, steps);
+            return Err(refusal);
+        }
+    }
+    clear_lists(waiting, &done);
+    Ok(())
+}
+
+/// Takes an operation, and notes it if it was new.
+fn take_noted(
+    alloc: Global,
+    records: &mut Records,
+    sequence: &mut Sequence,
+    waiting: &mut BTreeMap<Id, Vec<Id>>,
+    done: &mut BTreeSet<Id>,
+    op: &Op,
+    steps: &mut Vec<Step>,
+) -> Result<(), Refusal>
+    requires back { CanGoBack steps.old.items records.old.content }
+    requires inserted { (p : Identifier) → contains id_cmp done.old p ≡ true →
+        finite_map.contains_key records.old.content.inserted p ≡ true }
+    requires flat { IsFlat records.old.content sequence.old
+        (under waiting.old) (is_listed waiting.old done.old) }
+    ensures ok { OnOk result
+        (taken records.old.limit records.old.content op.now ≡ Ok records.new.content) }
+    ensures refused { IfErr result (λ e. e ≢ Refusal.Memory →
+        taken records.old.limit records.old.content op.now ≡ Err e) }
+    ensures steps { CanGoBack steps.new.items records.new.content }
+    ensures start { gone_back steps.new.items records.new.content
+        ≡ gone_back steps.old.items records.old.content }
+    ensures flat { OnOk result (IsFlat records.new.content sequence.new
+        (under waiting.new) (is_listed waiting.new done.new)) }
+    ensures left { OnErr result (IsFlat records.new.content sequence.new
+        (under waiting.new) (is_listed waiting.new done.old)) }
+    ensures inserted { OnOk result ((p : Identifier) → contains id_cmp done.new p ≡ true →
+        finite_map.contains_key records.new.content.inserted p ≡ true) }
+    ensures settles { Settles waiting.old done.old done.new }
+    ensures lists { (p : Identifier) → has_list waiting.old p ≡ true → has_list waiting.new p ≡ true }
+    ensures based { (base : Content) →
+        IsBased base records.old.content (under waiting.old) (has_list waiting.old) →
+        IsBased base records.new.content (under waiting.new) (has_list waiting.new) }
+    ensures limit { records.new.limit ≡ records.old.limit }
+{
+    steps.reserve(1)?;
+    let clock = records.clock();
+    match take(alloc, records, sequence, waiting, done, op)? {
+        Taken::Known => Ok(()),
+        Taken::New => {
+            note(steps, op, clock);
+            Ok(())
+        }
+    }
+}

@@ -1,7 +1,0 @@
-use Rattle.std.proofs.Common.{◌≡◌, Bool, true, false, cond, List, sym, ap, ◌∙◌, refl, subst}
-use Rattle.rga_sequence.specs.Entries.{has}
-use Rattle.rga_sequence.proofs.StandLaws.{delete_absent}
-use Rattle.rga_sequence.proofs.sequence.Sequence.delete.Goals as goal
-
-pub returns-in_default : goal.returns-in_default
-returns-in_default c = sym (delete_absent c.args.id c.args.self.now (ap (has c.args.id) (sym c.self.view_is) ∙ c.in_default.ensures.none refl))
