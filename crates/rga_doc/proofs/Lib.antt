@@ -19,3 +19,4 @@ pub mod ListingLaws
 pub mod AnchorLaws
 pub mod AnewLaws
 pub mod GapLaws
+pub mod CharacterLaws

@@ -1,5 +1,5 @@
 -- Operations that a store has taken, made in the lists one after the other.
-use Rattle.std.proofs.Common.{◌≡◌, ℕ, zero, suc, ◌+◌, ◌<◌, ◌≤◌, Bool, true, false, cond, not, ◌&&◌, ◌||◌, List, [], ◌∷◌, ◌++◌, map, filter, take, drop, length, refl, sym, ap, ◌∙◌, subst, arith, append_assoc, take_at, drop_at}
+use Rattle.std.proofs.Common.{◌≡◌, ℕ, zero, suc, ◌+◌, Bool, true, false, cond, not, ◌&&◌, ◌||◌, List, [], ◌∷◌, ◌++◌, map, filter, take, drop, length, refl, sym, ap, ◌∙◌, subst, arith, append_assoc, take_at, drop_at}
 use Rattle.std.specs.Prelude.{Option, Some, None}
 use Rattle.std.specs.List.{slice_get, AllByRecursion}
 use Rattle.std.specs.FinSet as finite_set
@@ -7,7 +7,7 @@ use Rattle.std.proofs.Math.Bool.{or-false, and-true, and-false}
 use Rattle.std.proofs.lemmas.List.{length-map, map-append, take-map, drop-map}
 use Rattle.std.proofs.lemmas.List.Elements.{filter-append}
 use Rattle.std.proofs.lemmas.Bool.{and_parts}
-use Rattle.std.proofs.lemmas.Option.{same_Some, slice_get_within}
+use Rattle.std.proofs.lemmas.Option.{same_Some}
 use Rattle.rga_ops.specs.Identifier.{Identifier, is_id, is_root}
 use Rattle.rga_ops.specs.Content.{Content}
 use Rattle.rga_ops.specs.Order.{order}
@@ -25,7 +25,6 @@ use Rattle.rga_ops.proofs.VisibleLaws.{order_complete}
 use Rattle.rga_doc.specs.Relisting.{is_in, is_listed_yet, listed_yet, IsListedYet, IsRestored, AreTaken, HasPlace, IsTakenOut, StandsLeft, IsPutBehind, IsLastVisible, IsMade}
 use Rattle.rga_doc.specs.UndoGroup.{inserted_elements, deleted_elements}
 use Rattle.rga_doc.proofs.ApartLists.{Apart, apart_if_distinct, apart_right, apart_parts}
-use Rattle.rga_doc.proofs.SplicedLists.{length-spliced}
 use Rattle.rga_doc.proofs.RelistingLists.{all_passed, true_at, filter_alike, filter_again, apart_filter, cut_is_without, same_up_to, none_up_to, counted_up_to, up_to_there}
 
 ordered_apart : (c : Content) → Apart (order c)
@@ -208,17 +207,3 @@ one_more (Insert id parent ch) rest = omega arith
 pub yet_alike : (c : Content) (rest : List Op) (elements : List Identifier) (characters : List ℕ) → IsListedYet c rest elements characters → length characters ≡ length elements
 yet_alike c rest elements characters yet =
     sym (length-map characters Some) ∙ ap length yet.characters_yet ∙ length-map elements (character c)
-
-pub made_long : (c : Content) (op : Op) (elements now : List Identifier) (characters characters_now : List ℕ) → length characters ≡ length elements → IsMade c op elements now characters characters_now → length characters_now ≤ length characters + length (inserted_elements (op ∷ []))
-made_long c (Delete id) elements now characters characters_now alike made =
-    let within : made.index < length elements = slice_get_within elements made.index id made.there in
-    let long = length-spliced characters [] made.index (made.index + 1) (omega arith) (omega (arith, within, alike)) in
-    omega (arith, ap length made.characters_left, long)
-made_long c (Insert id parent ch) elements now characters characters_now alike made =
-    let put : IsPutBehind made.0 id ch elements now characters characters_now = made.2 in
-    let long = length-spliced characters (ch ∷ []) put.index put.index (omega arith) (within put.index put.behind) in
-    omega (arith, ap length put.characters_then, long)
-  where
-    within : (k : ℕ) → StandsLeft elements k made.0 → k ≤ length characters
-    within zero stands = omega arith
-    within (suc i) stands = let there : i < length elements = slice_get_within elements i made.0 stands in omega (arith, there, alike)

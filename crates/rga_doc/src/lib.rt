@@ -13,6 +13,7 @@
 #![tactic(auto)]
 
 mod anchor;
+mod characters;
 mod doc;
 mod draft;
 mod edit;

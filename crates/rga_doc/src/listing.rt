@@ -1,12 +1,12 @@
 //! The visible elements and their characters, listed beside a store.
-ghost use Rattle.std.specs.Prelude.{◌≡◌, ◌≤◌, ◌<◌, ◌+◌, false, true, length, vec_capacity, IfErr, IfSome, OnOk, OnErr};
+ghost use Rattle.std.specs.Prelude.{◌≡◌, ◌≤◌, ◌<◌, ◌+◌, false, true, length, IfErr, IfSome, OnOk, OnErr};
 ghost use Rattle.rga_ops.specs.Splice.{spliced, text_after, are_falling, new_characters};
 ghost use Rattle.rga_doc.specs.Listing.{IsListOf, IsListing, elements_after};
 ghost use Rattle.rga_doc.specs.LocalEdit.{left_of, new_ids};
 ghost use Rattle.rga_doc.specs.Relisting.{StandsLeft};
 
+use crate::characters::Characters;
 use crate::gap_list::GapList;
-use crate::tail::move_tail;
 use rga_ops::{Id, Refusal, Splice};
 use rga_store::TextStore;
 use std::alloc::Global;
@@ -15,7 +15,7 @@ use std::alloc::Global;
 #[derive(Drop)]
 pub(crate) struct Listing {
     pub(crate) elements: GapList,
-    pub(crate) characters: Vec<char>,
+    pub(crate) characters: Characters,
     pub(crate) listed: bool,
 }
 
@@ -26,7 +26,7 @@ impl Listing {
     {
         Listing {
             elements: GapList::of(Vec::new(alloc)),
-            characters: Vec::new(alloc),
+            characters: Characters::of(Vec::new(alloc)),
             listed: false,
         }
     }
@@ -50,7 +50,7 @@ impl Listing {
         elements.shrink_to_fit();
         characters.shrink_to_fit();
         self.elements = GapList::of(elements);
-        self.characters = characters;
+        self.characters = Characters::of(characters);
         self.listed = true;
         Ok(())
     }
@@ -95,11 +95,10 @@ impl Listing {
         ensures listed { self.new.listed ≡ self.old.listed }
         ensures memory { IfErr result (λ e. e ≡ Refusal.Memory) }
         ensures elements_fit { OnOk result (more ≤ self.new.elements.room) }
-        ensures characters_fit { OnOk result
-            (length self.new.characters.items + more ≤ vec_capacity self.new.characters) }
+        ensures characters_fit { OnOk result (more ≤ self.new.characters.room) }
     {
         self.elements.make_room(more)?;
-        reserve(&mut self.characters, more)
+        self.characters.make_room(more)
     }
 
     /// Makes room for so many more, and gives up what is listed where that is refused.
@@ -110,8 +109,7 @@ impl Listing {
         ensures characters { self.new.listed ≡ true
             → self.new.characters.items ≡ self.old.characters.items }
         ensures elements_fit { self.new.listed ≡ true → more ≤ self.new.elements.room }
-        ensures characters_fit { self.new.listed ≡ true
-            → length self.new.characters.items + more ≤ vec_capacity self.new.characters }
+        ensures characters_fit { self.new.listed ≡ true → more ≤ self.new.characters.room }
     {
         if self.reserve(more).is_err() {
             self.forget(alloc);
@@ -128,7 +126,7 @@ impl Listing {
         requires elements_fit { self.old.listed ≡ true
             → length put.now ≤ self.old.elements.room }
         requires characters_fit { self.old.listed ≡ true
-            → length self.old.characters.items + length put.now ≤ vec_capacity self.old.characters }
+            → length put.now ≤ self.old.characters.room }
         ensures elements { self.new.listed ≡ true → self.new.elements.items
             ≡ spliced self.old.elements.items lo hi (new_ids replica last put.now) }
         ensures characters { self.new.listed ≡ true → self.new.characters.items
@@ -149,8 +147,7 @@ impl Listing {
         requires numbered { 1 ≤ replica }
         requires counters { 0 < length put.now → last + length put.now ≤ Id.MAX_COUNTER }
         requires elements_fit { length put.now ≤ self.old.elements.room }
-        requires characters_fit { length self.old.characters.items + length put.now
-            ≤ vec_capacity self.old.characters }
+        requires characters_fit { length put.now ≤ self.old.characters.room }
         ensures elements { self.new.elements.items
             ≡ spliced self.old.elements.items lo hi (new_ids replica last put.now) }
         ensures characters { self.new.characters.items
@@ -158,11 +155,11 @@ impl Listing {
         ensures listed { self.new.listed ≡ self.old.listed }
         ensures room_of_elements { self.old.elements.room
             ≤ self.new.elements.room + length put.now }
-        ensures room_of_characters { vec_capacity self.old.characters
-            ≤ vec_capacity self.new.characters }
+        ensures room_of_characters { self.old.characters.room
+            ≤ self.new.characters.room + length put.now }
     {
         self.elements.splice(lo, hi, put, replica, last);
-        replace_characters(&mut self.characters, lo, hi, put);
+        self.characters.replace(lo, hi, put);
     }
 
     /// Splices both lists in place, by each splice in turn. There is room for all.
@@ -173,8 +170,7 @@ impl Listing {
         requires counters { 0 < new_characters splices.now
             → last + new_characters splices.now ≤ Id.MAX_COUNTER }
         requires elements_fit { new_characters splices.now ≤ self.old.elements.room }
-        requires characters_fit { length self.old.characters.items + new_characters splices.now
-            ≤ vec_capacity self.old.characters }
+        requires characters_fit { new_characters splices.now ≤ self.old.characters.room }
         ensures elements { self.new.elements.items
             ≡ elements_after replica last self.old.elements.items splices.now }
         ensures characters { self.new.characters.items
@@ -198,36 +194,6 @@ impl Listing {
         ensures listed { self.new.listed ≡ self.old.listed }
     {
         self.elements.give_back();
-        let count = self.characters.as_slice().len();
-        if self.characters.capacity() - count > count / 5 {
-            self.characters.shrink_to_fit();
-        }
+        self.characters.give_back();
     }
-}
-
-/// Makes room for so many more items; for an eighth more than there are where that is more, so that
-/// typing seldom moves them all. `Memory` alone; the items stay.
-fn reserve<T>(items: &mut Vec<T>, more: usize) -> Result<(), Refusal>
-    ensures items { items.new.items ≡ items.old.items }
-    ensures memory { IfErr result (λ e. e ≡ Refusal.Memory) }
-    ensures room { OnOk result (length items.new.items + more ≤ vec_capacity items.new) }
-{
-    let count = items.as_slice().len();
-    if items.capacity() - count < more {
-        items.reserve_exact(more.max(count / 8))?;
-    }
-    Ok(())
-}
-
-/// Replaces characters in place by others; what stands behind them is moved once. There is room.
-pub(crate) fn replace_characters(characters: &mut Vec<char>, lo: usize, hi: usize, put: &[char])
-    requires ordered { lo ≤ hi }
-    requires in_list { hi ≤ length characters.old.items }
-    requires room { length characters.old.items + length put.now ≤ vec_capacity characters.old }
-    ensures items { characters.new.items ≡ spliced characters.old.items lo hi put.now }
-    ensures capacity { vec_capacity characters.old ≤ vec_capacity characters.new }
-{
-    let end = lo + put.len();
-    move_tail(characters, hi, end, ' ');
-    characters[lo..end].copy_from_slice(put);
 }

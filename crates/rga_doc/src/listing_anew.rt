@@ -5,6 +5,7 @@ ghost use Rattle.rga_ops.specs.Splice.{text_after, are_falling, new_characters};
 ghost use Rattle.rga_doc.specs.Listing.{elements_after};
 ghost use Rattle.rga_doc.specs.LocalEdit.{new_ids};
 
+use crate::characters::Characters;
 use crate::gap_list::GapList;
 use crate::listing::Listing;
 use rga_ops::{Id, Refusal, Splice};
@@ -62,7 +63,7 @@ impl Listing {
         let characters = Vec::with_capacity(alloc, room)?;
         Ok(Listing {
             elements: GapList::of(elements),
-            characters,
+            characters: Characters::of(characters),
             listed: true,
         })
     }
@@ -82,8 +83,8 @@ impl Listing {
         let (before, behind) = other.elements.parts(lo, hi);
         self.elements.extend(before)?;
         self.elements.extend(behind)?;
-        self.characters
-            .extend_from_slice(&other.characters[lo..hi])?;
+        let characters = &other.characters.as_slice()[lo..hi];
+        self.characters.extend(characters)?;
         Ok(())
     }
 
@@ -99,7 +100,7 @@ impl Listing {
         ensures memory { IfErr result (λ e. e ≡ Refusal.Memory) }
     {
         self.elements.extend_new(put, replica, last)?;
-        self.characters.extend_from_slice(put)?;
+        self.characters.extend(put)?;
         Ok(())
     }
 }

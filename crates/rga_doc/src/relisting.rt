@@ -1,10 +1,10 @@
 //! What is listed, changed as operations have changed the store.
-ghost use Rattle.std.specs.Prelude.{◌≡◌, ◌≤◌, ◌<◌, ◌+◌, ◌∷◌, [], true, length, vec_capacity, OnOk};
+ghost use Rattle.std.specs.Prelude.{◌≡◌, ◌≤◌, ◌<◌, ◌+◌, ◌∷◌, [], true, length, OnOk};
 ghost use Rattle.rga_doc.specs.Listing.{IsListOf};
 ghost use Rattle.rga_doc.specs.Relisting.{AreTaken, HasPlace, IsListedYet, IsMade, IsPutBehind, IsTakenOut};
 ghost use Rattle.rga_doc.specs.UndoGroup.{inserted_elements};
 
-use crate::listing::{Listing, replace_characters};
+use crate::listing::Listing;
 use rga_ops::{Id, Op};
 use rga_store::TextStore;
 
@@ -20,8 +20,7 @@ impl Listing {
         ensures listed { self.new.listed ≡ self.old.listed }
         ensures lists { result ≡ true → self.old.listed ≡ true }
         ensures elements_fit { result ≡ true → insertions ≤ self.new.elements.room }
-        ensures characters_fit { result ≡ true → length self.new.characters.items + insertions
-            ≤ vec_capacity self.new.characters }
+        ensures characters_fit { result ≡ true → insertions ≤ self.new.characters.room }
     {
         if !self.listed || deletions > MOST_FOLLOWED || insertions > MOST_FOLLOWED {
             return false;
@@ -36,8 +35,8 @@ impl Listing {
         requires lists { IsListedYet (S.content store.now) ops.now
             self.old.elements.items self.old.characters.items }
         requires elements_fit { length (inserted_elements ops.now) ≤ self.old.elements.room }
-        requires characters_fit { length self.old.characters.items
-            + length (inserted_elements ops.now) ≤ vec_capacity self.old.characters }
+        requires characters_fit { length (inserted_elements ops.now)
+            ≤ self.old.characters.room }
         ensures { result ≡ true → IsListOf (S.content store.now)
             self.new.elements.items self.new.characters.items }
     {
@@ -56,15 +55,15 @@ impl Listing {
         requires alike { length self.old.characters.items ≡ length self.old.elements.items }
         requires elements_fit { length (inserted_elements (op.now ∷ []))
             ≤ self.old.elements.room }
-        requires characters_fit { length self.old.characters.items
-            + length (inserted_elements (op.now ∷ [])) ≤ vec_capacity self.old.characters }
+        requires characters_fit { length (inserted_elements (op.now ∷ []))
+            ≤ self.old.characters.room }
         ensures made { result ≡ true → IsMade (S.content store.now) op.now
             self.old.elements.items self.new.elements.items
             self.old.characters.items self.new.characters.items }
         ensures room_of_elements { self.old.elements.room
             ≤ self.new.elements.room + length (inserted_elements (op.now ∷ [])) }
-        ensures room_of_characters { vec_capacity self.old.characters
-            ≤ vec_capacity self.new.characters }
+        ensures room_of_characters { self.old.characters.room
+            ≤ self.new.characters.room + length (inserted_elements (op.now ∷ [])) }
     {
         match op {
             Op::Delete { id } => self.take_out(*id),
@@ -82,14 +81,13 @@ impl Listing {
             self.old.elements.items self.new.elements.items
             self.old.characters.items self.new.characters.items }
         ensures room_of_elements { self.old.elements.room ≤ self.new.elements.room }
-        ensures room_of_characters { vec_capacity self.old.characters
-            ≤ vec_capacity self.new.characters }
+        ensures room_of_characters { self.old.characters.room ≤ self.new.characters.room }
     {
         let Some(index) = self.elements.index_of(id) else {
             return false;
         };
         self.elements.remove(index);
-        replace_characters(&mut self.characters, index, index + 1, &[]);
+        self.characters.replace(index, index + 1, &[]);
         true
     }
 
@@ -97,20 +95,18 @@ impl Listing {
     fn put_behind(&mut self, left: Id, id: Id, ch: char) -> bool
         requires alike { length self.old.characters.items ≡ length self.old.elements.items }
         requires elements_fit { 0 < self.old.elements.room }
-        requires characters_fit { length self.old.characters.items
-            < vec_capacity self.old.characters }
+        requires characters_fit { 0 < self.old.characters.room }
         ensures made { result ≡ true → IsPutBehind left id ch
             self.old.elements.items self.new.elements.items
             self.old.characters.items self.new.characters.items }
         ensures room_of_elements { self.old.elements.room ≤ self.new.elements.room + 1 }
-        ensures room_of_characters { vec_capacity self.old.characters
-            ≤ vec_capacity self.new.characters }
+        ensures room_of_characters { self.old.characters.room ≤ self.new.characters.room + 1 }
     {
         let Some(place) = self.place_behind(left) else {
             return false;
         };
         self.elements.insert(place, id);
-        replace_characters(&mut self.characters, place, place, &[ch]);
+        self.characters.replace(place, place, &[ch]);
         true
     }
 }

@@ -9,6 +9,9 @@ use crate::edit::count_characters;
 use rga_ops::{Op, Refusal, Splice};
 use rga_store::{Taker, TextStore};
 
+/// Each of more splices would move much of what stands behind it: then the lists are made anew.
+const MOST_IN_PLACE: usize = 16;
+
 impl<S: TextStore> Doc<S> {
     /// Takes the operations of splices that `draft` gave for this document as it is. `Memory`
     /// alone; then nothing changes.
@@ -25,7 +28,7 @@ impl<S: TextStore> Doc<S> {
         ensures memory { IfErr result (λ e. e ≡ Refusal.Memory) }
         ensures same { OnErr result (self.new ≡ self.old) }
     {
-        if splices.len() > 1 {
+        if splices.len() > MOST_IN_PLACE {
             return self.take_anew(splices, ops);
         }
         self.take_in_place(splices, ops)

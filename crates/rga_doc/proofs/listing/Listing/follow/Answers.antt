@@ -6,7 +6,7 @@ use Rattle.rga_ops.specs.declared.op.Op.{Op}
 use Rattle.rga_doc.specs.Relisting.{AreTaken, IsListedYet}
 use Rattle.rga_doc.specs.UndoGroup.{inserted_elements}
 use Rattle.rga_doc.proofs.RevertSets.{from}
-use Rattle.rga_doc.proofs.RelistingLaws.{taken_first, taken_left, made_one, one_more, yet_alike, made_long}
+use Rattle.rga_doc.proofs.RelistingLaws.{taken_first, taken_left, made_one, one_more, yet_alike}
 use Rattle.rga_doc.proofs.RelistedReverts.{listed_at_last}
 use Rattle.rga_doc.proofs.listing.Listing.follow.Goals as goal
 
@@ -52,8 +52,6 @@ loop-op-preserved g c =
     let split : drop i ops ≡ op ∷ rest = from ops i op c.loop-op-test.true c.op-item.is in
     let count = split_counts ops i op split in
     let made = c.make.ensures.made c.if-not-make.false in
-    let alike = yet_alike content (drop i ops) elements characters c.loop-op.invariant.lists in
-    let long = made_long content op elements c.make.new.self.elements.items characters c.make.new.self.characters.items alike made in
     record {
       lists =
           made_one content op rest elements c.make.new.self.elements.items characters c.make.new.self.characters.items
@@ -61,7 +59,7 @@ loop-op-preserved g c =
           (subst (λ xs. IsListedYet content xs elements characters) split c.loop-op.invariant.lists)
           made;
       elements_fit = omega (arith, count, c.loop-op.invariant.elements_fit, c.make.ensures.room_of_elements);
-      characters_fit = omega (arith, count, long, c.loop-op.invariant.characters_fit, c.make.ensures.room_of_characters);
+      characters_fit = omega (arith, count, c.loop-op.invariant.characters_fit, c.make.ensures.room_of_characters);
     }
 
 pub returns : goal.returns

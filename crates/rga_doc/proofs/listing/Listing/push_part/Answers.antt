@@ -11,6 +11,6 @@ returns-clause-elements c =
 
 pub returns-clause-characters : goal.returns-clause-characters
 returns-clause-characters c =
-    c.in_ok-extend_from_slice.ensures.items
-    ∙ ap (λ xs. c.args.self.now.characters.items ++ xs) (part c.deref.result.now c.args.lo c.args.hi c.requires.ordered)
-    ∙ ap (λ xs. c.args.self.now.characters.items ++ drop c.args.lo (take c.args.hi xs)) c.deref.ensures.value
+    c.in_ok-extend-3.ensures.items
+    ∙ ap (λ xs. c.args.self.now.characters.items ++ xs) (part c.as_slice.result.now c.args.lo c.args.hi c.requires.ordered)
+    ∙ ap (λ xs. c.args.self.now.characters.items ++ drop c.args.lo (take c.args.hi xs)) c.as_slice.ensures

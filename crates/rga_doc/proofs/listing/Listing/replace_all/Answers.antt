@@ -62,5 +62,5 @@ loop-splice-preserved c =
       alike = omega (arith, ap length new, ap length written, count, written_count, row_long, c.loop-splice.invariant.alike);
       counters = omega (arith, c.loop-splice.invariant.counters, step, long);
       elements_fit = omega (arith, step, long, c.loop-splice.invariant.elements_fit, c.replace.ensures.room_of_elements);
-      characters_fit = omega (arith, ap length written, written_count, step, falls.up, c.loop-splice.invariant.characters_fit, c.replace.ensures.room_of_characters);
+      characters_fit = omega (arith, step, long, c.loop-splice.invariant.characters_fit, c.replace.ensures.room_of_characters);
     }

@@ -1,4 +1,4 @@
-use Rattle.std.proofs.Common.{◌≡◌, ◌≤◌, ◌+◌, true, drop, length, vec_capacity}
+use Rattle.std.proofs.Common.{◌≡◌, ◌≤◌, ◌+◌, true, drop, length}
 use Rattle.rga_ops.specs.Splice.{text_after, are_falling, new_characters}
 use Rattle.rga_doc.specs.Listing.{elements_after}
 use Rattle.rga_doc.proofs.listing.Listing.replace_all.Given as goal
@@ -13,5 +13,5 @@ invariant-loop-splice l = record {
   alike : length l.self.characters.items ≡ length l.self.elements.items;
   counters : l.counter + new_characters (drop l.splice-index l.splices) ≡ l.fn.last + new_characters l.splices;
   elements_fit : new_characters (drop l.splice-index l.splices) ≤ l.self.elements.room;
-  characters_fit : length l.self.characters.items + new_characters (drop l.splice-index l.splices) ≤ vec_capacity l.self.characters;
+  characters_fit : new_characters (drop l.splice-index l.splices) ≤ l.self.characters.room;
 }
