@@ -8,7 +8,7 @@ use crate::bytes::UNIVERSAL_ARGUMENT;
 pub const MAX_ARGUMENT: u16 = 9999;
 
 /// An argument, by how it was given.
-#[derive(Clone, Copy, Debug, PartialEq, Eq)]
+#[derive(Clone, Copy, PartialEq, Eq)]
 pub(crate) enum Argument {
     /// Not at all: it is 1.
     Absent,

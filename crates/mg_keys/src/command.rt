@@ -6,7 +6,7 @@ use crate::step::{Question, Step, WindowCommand};
 use mg_plain::Command;
 
 /// A command that a key sequence is bound to, by its name in mg(1).
-#[derive(Clone, Copy, Debug, PartialEq, Eq)]
+#[derive(Clone, Copy)]
 pub enum KeyCommand {
     SetMarkCommand,
     BeginningOfLine,

@@ -13,7 +13,7 @@ use crate::step::{Mode, Step};
 use std::marker::Model;
 
 /// The bytes of a key sequence that has begun, as what further bytes mean behind them.
-#[derive(Clone, Copy, Debug)]
+#[derive(Clone, Copy)]
 pub struct Keys {
     mode: Mode,
     argument: Argument,

@@ -6,7 +6,7 @@ ghost use Rattle.mg_keys.specs.Names as spec;
 use crate::command::KeyCommand;
 
 /// A command that M-x takes.
-#[derive(Clone, Copy, Debug, PartialEq, Eq)]
+#[derive(Clone, Copy)]
 pub enum NamedCommand {
     /// One that keys are bound to, too.
     Key(KeyCommand),

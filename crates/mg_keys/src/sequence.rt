@@ -4,7 +4,7 @@ use crate::step::Step;
 use crate::utf8::Continuation;
 
 /// What has come of a key sequence, its argument part aside.
-#[derive(Clone, Copy, Debug)]
+#[derive(Clone, Copy)]
 pub(crate) enum Sequence {
     /// Nothing.
     Start,

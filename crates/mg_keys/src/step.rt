@@ -2,7 +2,7 @@
 use mg_plain::Command;
 
 /// How bytes are read.
-#[derive(Clone, Copy, Debug, PartialEq, Eq)]
+#[derive(Clone, Copy)]
 pub enum Mode {
     /// Keys are commands.
     Plain,
@@ -15,7 +15,7 @@ pub enum Mode {
 }
 
 /// What is asked before anything is done, and what the editor does with no question.
-#[derive(Clone, Copy, Debug, PartialEq, Eq)]
+#[derive(Clone, Copy)]
 pub enum Question {
     /// Which file to open.
     Find,
@@ -40,7 +40,7 @@ pub enum Question {
 }
 
 /// A command on windows.
-#[derive(Clone, Copy, Debug, PartialEq, Eq)]
+#[derive(Clone, Copy)]
 pub enum WindowCommand {
     Split,
     Remove,
@@ -52,7 +52,7 @@ pub enum WindowCommand {
 }
 
 /// An answer while matches are replaced.
-#[derive(Clone, Copy, Debug, PartialEq, Eq)]
+#[derive(Clone, Copy)]
 pub enum Answer {
     Yes,
     No,
@@ -61,7 +61,7 @@ pub enum Answer {
 }
 
 /// What a byte leads to.
-#[derive(Debug, PartialEq, Eq, Drop)]
+#[derive(Drop)]
 pub enum Step {
     /// More bytes are wanted.
     Pending,

@@ -5,7 +5,7 @@ ghost use Rattle.mg_keys.specs.KeyTable as spec;
 use crate::command::KeyCommand;
 
 /// A key that waits for another.
-#[derive(Clone, Copy, Debug, PartialEq, Eq)]
+#[derive(Clone, Copy, PartialEq, Eq)]
 pub(crate) enum Prefix {
     /// There is none.
     Alone,
@@ -14,7 +14,7 @@ pub(crate) enum Prefix {
 }
 
 /// A whole key sequence: the last byte, behind a prefix.
-#[derive(Clone, Copy, Debug)]
+#[derive(Clone, Copy)]
 pub(crate) struct Entry {
     prefix: Prefix,
     byte: u8,

@@ -6,7 +6,7 @@ ghost use Rattle.mg_keys.specs.Utf8 as spec;
 
 /// What is still to come of a character: how many bytes, the bits so far, and between which bounds
 /// the next byte stands.
-#[derive(Clone, Copy, Debug, PartialEq, Eq)]
+#[derive(Clone, Copy)]
 pub(crate) struct Continuation {
     count: u8,
     bits: u32,
@@ -15,7 +15,7 @@ pub(crate) struct Continuation {
 }
 
 /// What a byte makes of a character.
-#[derive(Clone, Copy, Debug)]
+#[derive(Clone, Copy)]
 pub(crate) enum Read {
     /// It is whole.
     Character(char),

@@ -63,10 +63,14 @@ with_match s i = record s { found = Some i }
 abbrev pub with_pattern : Search → List ℕ → Search
 with_pattern s pattern = record s { pattern = pattern }
 
+-- point goes to a match that is found from the start on
+abbrev pub goes_to : Search → ℕ → ℕ → Reaction
+goes_to s start i = runs (command s start) (Open (Searching (with_match s i))) message.Nothing
+
 -- point goes to the match that is found from the start on; where there is none, another reaction
 abbrev pub seek_at : List ℕ → Search → ℕ → Reaction → Reaction
 seek_at text s start otherwise = elim (found_match s.direction s.pattern text start) [
-  | Some i ↦ runs (command s start) (Open (Searching (with_match s i))) message.Nothing
+  | Some i ↦ goes_to s start i
   | None ↦ otherwise
 ]
 

@@ -7,7 +7,7 @@ use crate::prompt::Prompt;
 use mg_plain::{Chars, Command};
 
 /// A change of the windows.
-#[derive(Clone, Copy, Debug, PartialEq, Eq)]
+#[derive(Clone, Copy)]
 pub enum Arrangement {
     Split,
     Remove,
@@ -17,7 +17,7 @@ pub enum Arrangement {
 }
 
 /// What is done first.
-#[derive(Debug, Drop)]
+#[derive(Drop)]
 pub enum Deed {
     /// Nothing.
     Rests,
@@ -36,7 +36,7 @@ pub enum Deed {
 }
 
 /// The prompt behind a step.
-#[derive(Debug, Drop)]
+#[derive(Drop)]
 pub enum Next {
     /// It is the one before.
     Same,
@@ -45,7 +45,7 @@ pub enum Next {
 }
 
 /// What is asked of the files and of peers.
-#[derive(Debug, PartialEq, Eq, Drop)]
+#[derive(Drop)]
 pub enum Request {
     /// Nothing.
     Idle,
@@ -63,7 +63,7 @@ pub enum Request {
 
 /// What is done, and what follows: the prompt, the message and the request where it is done, and the
 /// prompt where it is refused. Want of memory leaves the prompt as it is.
-#[derive(Debug, Drop)]
+#[derive(Drop)]
 pub struct Ending {
     pub deed: Deed,
     pub next: Next,
@@ -73,7 +73,7 @@ pub struct Ending {
 }
 
 /// What a step leads to at an open prompt.
-#[derive(Debug, Drop)]
+#[derive(Drop)]
 pub enum Reaction {
     Ends(Ending),
     /// The match at point is replaced, and then the next one is looked for.

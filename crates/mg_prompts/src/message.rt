@@ -8,7 +8,7 @@ use rga_ops::Refusal;
 use std::alloc::{AllocError, Global};
 
 /// What the echo line says. A message stands until the next step that is not pending.
-#[derive(Clone, Copy, Debug, PartialEq, Eq)]
+#[derive(Clone, Copy)]
 pub enum Message {
     /// Nothing: an open prompt shows.
     Nothing,

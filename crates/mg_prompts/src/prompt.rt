@@ -6,7 +6,7 @@ use mg_keys::Mode;
 use mg_plain::{Chars, Direction};
 
 /// What a line of text is asked for.
-#[derive(Clone, Copy, Debug, PartialEq, Eq)]
+#[derive(Clone, Copy)]
 pub enum Asked {
     /// The name of a command.
     Command,
@@ -21,7 +21,7 @@ pub enum Asked {
 }
 
 /// A search while its pattern is typed.
-#[derive(Debug, Drop)]
+#[derive(Drop)]
 pub struct Search {
     /// Where point was when it began.
     pub origin: usize,
@@ -32,7 +32,7 @@ pub struct Search {
 }
 
 /// An open prompt.
-#[derive(Debug, Drop)]
+#[derive(Drop)]
 pub enum Prompt {
     /// A line of text is asked for.
     Line {

@@ -77,6 +77,16 @@ fn with_match(search: Search, i: usize) -> Search
     }
 }
 
+/// Point goes to a match that is found from the start on.
+fn goes_to(alloc: Global, search: Search, start: usize, i: usize) -> Result<Reaction, AllocError>
+    ensures { IfOk result (λ reaction. reaction ≡ spec.goes_to search start i) }
+{
+    let command = command(alloc, &search, start)?;
+    let prompt = Prompt::Searching(with_match(search, i));
+    Ok(runs(command, Next::Open(prompt), Message::Nothing))
+}
+
+/// The search from a place: where it finds no match, what else follows.
 fn seek_at(
     alloc: Global,
     text: &[char],
@@ -88,11 +98,7 @@ fn seek_at(
         IfOk result (λ reaction. reaction ≡ due) }
 {
     match find(search.direction, text, search.pattern.as_slice(), start) {
-        Some(i) => {
-            let command = command(alloc, &search, start)?;
-            let prompt = Prompt::Searching(with_match(search, i));
-            Ok(runs(command, Next::Open(prompt), Message::Nothing))
-        }
+        Some(i) => goes_to(alloc, search, start, i),
         None => Ok(otherwise),
     }
 }

@@ -8,9 +8,8 @@ use std::marker::Model;
 /// How many bytes a block has room for, and the most that a read asks for.
 pub(crate) const BLOCK: usize = 65536;
 
-/// With so many bytes a block is full: the room that is left is for the lines of one more
-/// operation and of the end of an exchange, which have fewer than 128 bytes each.
-const FULL: usize = BLOCK - 256;
+/// The room behind a block, for the line that ends an exchange.
+const END: usize = 128;
 
 /// Lines that are not yet written, each with the newline that ends it.
 #[derive(Drop)]
@@ -35,16 +34,11 @@ impl Block {
     pub(crate) fn new(alloc: Global) -> Result<Self, AllocError>
         ensures { IfOk result (λ block. block ≡ []) }
     {
-        let text = Vec::with_capacity(alloc, BLOCK)?;
+        let text = Vec::with_capacity(alloc, BLOCK + END)?;
         Ok(Block { text })
     }
 
-    /// Whether it is to be written before it takes a line more.
-    pub(crate) fn is_full(&self) -> bool {
-        self.text.len() >= FULL
-    }
-
-    /// Takes a line.
+    /// Takes a line, whether there is room for it or not.
     pub(crate) fn push(&mut self, line: &str) -> Result<(), AllocError>
         ensures { OnOk result (self.new ≡ self.old ++ (line.now ++ newline ∷ [])) }
     {

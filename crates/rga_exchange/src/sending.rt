@@ -120,7 +120,7 @@ fn push_lines<W: Write>(
     Ok(())
 }
 
-/// Adds the line of an operation to the block, which is written before if it is full.
+/// Adds the line of an operation to the block, which is written before where it has no room.
 fn push_line<W: Write>(
     alloc: Global,
     op: &Op,
@@ -133,14 +133,10 @@ fn push_line<W: Write>(
     ensures begun { WritesFront W.contents writer.old writer.new block.old }
     ensures device { CountsAs SendFault.Write result writer.old writer.new }
 {
-    if block.is_full() {
-        block.write_to(writer)?;
-    }
     let Ok(line) = write_line(alloc, op) else {
         return Err(SendFault::Memory);
     };
-    block.push(&line)?;
-    Ok(())
+    block.take_line(&line, writer)
 }
 
 /// Writes the lines that are left, and flushes the device.
