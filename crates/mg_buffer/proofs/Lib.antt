@@ -1,3 +1,4 @@
+pub mod CharacterLaws
 pub mod PlaceLaws
 pub mod RestorableLaws
 pub mod GroupLaws

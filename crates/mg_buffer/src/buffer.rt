@@ -1,5 +1,5 @@
 //! Buffers: a document with a name, point, mark, undo groups and unsaved operations.
-ghost use Rattle.std.specs.Prelude.{◌≡◌, ◌≤◌, [], true, false, Some, None, length, IfOk, IfErr, IfSome, OnOk, OnErr};
+ghost use Rattle.std.specs.Prelude.{◌≡◌, ◌≤◌, [], true, false, Some, None, length, encode_utf8_all, IfOk, IfErr, IfSome, OnOk, OnErr};
 ghost use Rattle.std.specs.Option.{option_map};
 ghost use Rattle.std.specs.String.{string_bytes};
 ghost use Rattle.rga_ops.specs.Prelude.{is_root, place, text};
@@ -8,6 +8,7 @@ ghost use Rattle.mg_plain.specs.declared.view.Kind.TheVariants.{Plain};
 ghost use Rattle.mg_buffer.specs.Sight.{situation_of};
 ghost use Rattle.mg_buffer.specs.State.{state};
 
+use crate::characters::string_of;
 use crate::history::History;
 use crate::memo::Memo;
 use crate::spot::{Spot, find, find_mark, mark_place};
@@ -125,6 +126,18 @@ impl<S: TextStore> Buffer<S> {
         self.mark = find_mark(&self.doc, self.mark)?;
         self.listed = true;
         Ok(())
+    }
+
+    /// The text in UTF-8. Where it is at hand the store is not walked. `Memory` alone.
+    pub fn text_string(&self) -> Result<String, Refusal>
+        ensures ok { IfOk result
+            (λ string. string_bytes string ≡ encode_utf8_all (text self.now.content)) }
+        ensures memory { IfErr result (λ e. e ≡ Refusal.Memory) }
+    {
+        if !self.listed {
+            return self.doc.store().text_string(self.alloc);
+        }
+        Ok(string_of(self.alloc, self.doc.characters())?)
     }
 
     /// What a command sees: the text, lent, the places of point and mark, and what the memo keeps.

@@ -11,6 +11,7 @@
 
 mod buffer;
 mod change;
+mod characters;
 mod fault;
 mod group;
 mod history;
@@ -25,5 +26,6 @@ mod taking;
 mod undoing;
 
 pub use buffer::Buffer;
+pub use characters::{push_characters, string_of};
 pub use fault::BufferFault;
 pub use memo::Memo;

@@ -1,4 +1,3 @@
 pub mod Steps
-pub mod EchoLine
 pub mod FrameLaws
 mod Meetings

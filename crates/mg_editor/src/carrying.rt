@@ -1,21 +1,20 @@
 //! Requests, carried to the files.
-ghost use Rattle.std.specs.Prelude.{◌≡◌, ◌<◌, length, IfOk, string_bytes, encode_utf8_all};
+ghost use Rattle.std.specs.Prelude.{◌≡◌, ◌<◌, length, encode_utf8_all};
 ghost use Rattle.mg_workspace.specs.declared.workspace.TheConstants.{MAX_BUFFERS};
 ghost use Rattle.mg_editor.specs.Carrying as spec;
 ghost use Rattle.mg_editor.specs.Finding as finding;
 ghost use Rattle.mg_editor.specs.Meeting as meeting;
 ghost use Rattle.mg_editor.specs.Telling as telling;
 
-use crate::echo::push_characters;
 use crate::editor::Editor;
 use crate::fault::CarryFault;
 use crate::opening::message_of_end;
 use crate::telling::{message_of_fault, message_of_port};
+use mg_buffer::string_of;
 use mg_files::{Port, PortFault};
 use mg_prompts::{Message, Request};
 use rga_exchange::LogEnd;
 use rga_store::TextStore;
-use std::alloc::{AllocError, Global};
 
 /// What is said of a save.
 fn message_of_save(answer: Result<bool, PortFault>) -> Message
@@ -55,15 +54,6 @@ fn opening_done(answer: Result<LogEnd, CarryFault>) -> Result<(), CarryFault>
         Ok(_) => Ok(()),
         Err(fault) => Err(fault),
     }
-}
-
-/// A name, spelled as the files have it.
-fn spelled(alloc: Global, name: &[char]) -> Result<String, AllocError>
-    ensures { IfOk result (λ text. string_bytes text ≡ encode_utf8_all name.now) }
-{
-    let mut text = String::new(alloc);
-    push_characters(&mut text, name)?;
-    Ok(text)
 }
 
 impl<S: TextStore> Editor<S> {
@@ -144,7 +134,7 @@ impl<S: TextStore> Editor<S> {
         ensures talk { self.new.talk ≡ self.old.talk }
         ensures device { telling.CountsBehind result (P.failures port.old) (P.failures port.new) }
     {
-        let text = spelled(self.alloc, name)?;
+        let text = string_of(self.alloc, name)?;
         let found = port.load(text.as_str())?;
         Ok(self.work.open(text, found)?)
     }

@@ -1,9 +1,10 @@
 //! The echo line.
-ghost use Rattle.std.specs.Prelude.{◌≡◌, ◌++◌, IfOk, OnOk, encode_utf8_all, string_bytes};
+ghost use Rattle.std.specs.Prelude.{◌≡◌, ◌++◌, IfOk, encode_utf8_all, string_bytes};
 ghost use Rattle.mg_prompts.specs.Prompts.{label, answer};
 ghost use Rattle.mg_editor.specs.Echo as spec;
 
 use crate::dialogue::Dialogue;
+use mg_buffer::push_characters;
 use mg_prompts::{Message, Prompt};
 use std::alloc::{AllocError, Global};
 
@@ -58,14 +59,4 @@ fn asked_text(alloc: Global, prompt: &Prompt) -> Result<String, AllocError>
     let mut text = String::from_str(alloc, prompt.label())?;
     push_characters(&mut text, prompt.answer())?;
     Ok(text)
-}
-
-pub(crate) fn push_characters(text: &mut String, characters: &[char]) -> Result<(), AllocError>
-    ensures { OnOk result
-        (string_bytes text.new ≡ string_bytes text.old ++ encode_utf8_all characters.now) }
-{
-    for c in characters {
-        text.push(*c)?;
-    }
-    Ok(())
 }

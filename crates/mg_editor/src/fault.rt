@@ -4,14 +4,14 @@ use mg_files::{LoadFault, PortFault};
 use std::alloc::AllocError;
 
 /// Why a byte was not pressed, or a frame not made.
-#[derive(Clone, Copy, Debug, PartialEq, Eq)]
+#[derive(Clone, Copy)]
 pub enum Fault {
     /// A growth of memory was refused.
     Memory,
 }
 
 /// Why a request was not carried out.
-#[derive(Clone, Copy, Debug, PartialEq, Eq)]
+#[derive(Clone, Copy)]
 pub enum CarryFault {
     /// The port did not do what it was asked.
     Port(PortFault),

@@ -8,7 +8,7 @@ use rga_ops::Refusal;
 use std::alloc::AllocError;
 
 /// Why nothing was loaded.
-#[derive(Clone, Copy, Debug, PartialEq, Eq)]
+#[derive(Clone, Copy, PartialEq, Eq)]
 pub enum LoadFault {
     /// The log is not read to its end. Never `Cut`, `Count`, `Read` or `Memory`.
     Log(ReceiveFault),

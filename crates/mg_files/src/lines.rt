@@ -1,9 +1,8 @@
-//! What is written to a log and to a text file.
-ghost use Rattle.std.specs.Prelude.{◌≡◌, IfOk, IfErr, string_bytes};
+//! What is written to a log.
+ghost use Rattle.std.specs.Prelude.{◌≡◌, IfOk, IfErr};
 ghost use Rattle.rga_ops.specs.Operations.{operations};
 ghost use Rattle.rga_exchange.specs.RunLines.{runs_text};
 ghost use Rattle.rga_exchange.specs.Sending.{log_text};
-ghost use Rattle.mg_files.specs.Files.{text_bytes};
 ghost use Rattle.mg_files.specs.Saving.{appended_text};
 ghost use Rattle.mg_files.specs.declared.port.PortFault.TheVariants.{Memory};
 
@@ -13,6 +12,9 @@ use rga_lines::Counted;
 use rga_ops::Op;
 use rga_store::TextStore;
 use std::alloc::Global;
+
+/// The room that is made for each line before: hardly one has more bytes.
+const LINE_ROOM: usize = 64;
 
 /// The most operations that a save always appends a line each: where the lines are few, each stands
 /// by itself.
@@ -47,7 +49,8 @@ pub(crate) fn lines_of(alloc: Global, ops: &[Op]) -> Result<Vec<u8>, PortFault>
     ensures ok { IfOk result (λ bytes. bytes.items ≡ log_text ops.now) }
     ensures memory { IfErr result (λ e. e ≡ Memory) }
 {
-    let mut writer = Counted::new(Vec::new(alloc));
+    let room = Vec::with_capacity(alloc, ops.len().saturating_mul(LINE_ROOM))?;
+    let mut writer = Counted::new(room);
     let Ok(_) = append_log(alloc, ops, &mut writer) else {
         return Err(PortFault::Memory);
     };
@@ -63,12 +66,4 @@ pub(crate) fn all_lines_of<S: TextStore>(alloc: Global, store: &S) -> Result<Vec
         return Err(PortFault::Memory);
     };
     lines_of(alloc, &ops)
-}
-
-/// The text of a store.
-pub(crate) fn text_of<S: TextStore>(alloc: Global, store: &S) -> Result<String, PortFault>
-    ensures ok { IfOk result (λ text. string_bytes text ≡ text_bytes (S.content store.now)) }
-    ensures memory { IfErr result (λ e. e ≡ Memory) }
-{
-    store.text_string(alloc).map_err(|_| PortFault::Memory)
 }

@@ -8,7 +8,7 @@ use std::io::{Read, Write};
 use std::marker::Model;
 
 /// Why a port did not do what it was asked of its files.
-#[derive(Clone, Copy, Debug, PartialEq, Eq)]
+#[derive(Clone, Copy, PartialEq, Eq)]
 pub enum PortFault {
     /// A file could not be read or written.
     File,
@@ -28,7 +28,7 @@ impl From<AllocError> for PortFault {
 }
 
 /// Why a port did not do what it was asked of a link.
-#[derive(Clone, Copy, Debug, PartialEq, Eq)]
+#[derive(Clone, Copy, PartialEq, Eq)]
 pub enum LinkFault {
     /// A link could not be opened, or sending on it could not be ended.
     Socket,
@@ -51,7 +51,7 @@ impl From<AllocError> for LinkFault {
 
 /// Which of the calls that a port tells: the load of files, those that write one, and those for a
 /// link.
-#[derive(Clone, Copy, Debug, PartialEq, Eq)]
+#[derive(Clone, Copy)]
 pub enum CallKind {
     Load,
     Append,
@@ -63,7 +63,7 @@ pub enum CallKind {
 }
 
 /// What is there under a name: the log, and the text.
-#[derive(Debug, Drop)]
+#[derive(Drop)]
 pub struct Found {
     pub log: Option<Vec<u8>>,
     pub text: Option<Vec<u8>>,

@@ -3,7 +3,7 @@ ghost use Rattle.std.specs.Prelude.{◌≡◌, false, IfOk, IfErr, OnOk, OnErr};
 ghost use Rattle.mg_files.specs.Calls.{Adds, told, failures_after};
 ghost use Rattle.mg_files.specs.Saving.{is_changed, log_call, log_calls, text_call, save_calls, logged, saved, unlogged, written, FailsAtLog, SaveFailed};
 
-use crate::lines::{all_lines_of, appended_lines_of, text_of};
+use crate::lines::{all_lines_of, appended_lines_of};
 use crate::opened::Opened;
 use crate::port::{Port, PortFault};
 use rga_store::TextStore;
@@ -81,7 +81,9 @@ impl<S: TextStore> Opened<S> {
         ensures links { P.links port.new ≡ P.links port.old }
         ensures device { P.failures port.new ≡ failures_after result (P.failures port.old) }
     {
-        let text = text_of(self.alloc, self.buffer.store())?;
+        let Ok(text) = self.buffer.text_string() else {
+            return Err(PortFault::Memory);
+        };
         port.put_text(self.buffer.name(), text.as_bytes())?;
         self.text_waits = false;
         Ok(())

@@ -1,4 +1,4 @@
--- The echo line, by cases and character by character.
+-- Characters in UTF-8, one behind the other.
 use Rattle.std.proofs.Common.{◌≡◌, ℕ, ◌+◌, ◌<◌, List, ◌∷◌, ◌++◌, length, drop, get_or, sym, ap, ◌∙◌, append_assoc, encode_utf8, encode_utf8_all}
 use Rattle.std.proofs.lemmas.List.{drop_more}
 

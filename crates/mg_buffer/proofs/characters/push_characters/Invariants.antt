@@ -1,5 +1,5 @@
 use Rattle.std.proofs.Common.{◌≡◌, ◌++◌, drop, string_bytes, encode_utf8_all}
-use Rattle.mg_editor.proofs.echo.push_characters.Given as goal
+use Rattle.mg_buffer.proofs.characters.push_characters.Given as goal
 
 abbrev pub invariant-loop-c : goal.invariant-loop-c
 invariant-loop-c l = string_bytes l.text ++ encode_utf8_all (drop l.c-index l.characters) ≡ string_bytes l.fn.text ++ encode_utf8_all l.characters
