@@ -4,7 +4,7 @@ use mg_files::{LoadFault, PortFault};
 use std::alloc::AllocError;
 
 /// Why a session ended before the end of its keys, or did not begin.
-#[derive(Clone, Copy, Debug, PartialEq, Eq)]
+#[derive(Clone, Copy, PartialEq, Eq)]
 pub enum SessionFault {
     /// What was found is not loaded. Never `Memory`.
     Load(LoadFault),

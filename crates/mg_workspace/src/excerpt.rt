@@ -1,7 +1,7 @@
 //! What a window shows.
 
 /// What a window shows: a buffer, from a line on.
-#[derive(Clone, Copy, Debug, PartialEq, Eq)]
+#[derive(Clone, Copy)]
 pub struct Excerpt {
     /// The index of the buffer.
     pub buffer: usize,

@@ -8,7 +8,7 @@ use mg_screen::WindowFault;
 use rga_ops::Refusal;
 
 /// Why a deed was not done.
-#[derive(Clone, Copy, Debug, PartialEq, Eq)]
+#[derive(Clone, Copy)]
 pub enum DeedFault {
     /// It was refused, for the reason that the message gives.
     Refused(Message),

@@ -117,7 +117,7 @@ pub(crate) fn sync_folder<R: Files<File = File>>(rt: &R, path: &str) -> io::Resu
 }
 
 /// How what stands under a path is kept.
-#[derive(Clone, Copy, Debug, PartialEq, Eq)]
+#[derive(Clone, Copy, PartialEq, Eq)]
 pub(crate) enum Keeping {
     /// By a second name, where the first is then given to another file.
     ByName,

@@ -3,7 +3,7 @@ use std::alloc::Global;
 use std::fmt;
 
 /// The paths of a note's files. All but the first are made of it.
-#[derive(Debug, Drop)]
+#[derive(Drop)]
 pub(crate) struct Paths {
     pub(crate) text: String,
     pub(crate) log: String,

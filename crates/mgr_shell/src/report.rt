@@ -12,14 +12,14 @@ use std::fmt;
 
 /// What the shell is told of a fault: the exit status and, by `Display`, the line on standard
 /// error without its newline.
-#[derive(Clone, Copy, Debug, PartialEq, Eq)]
+#[derive(Clone, Copy)]
 pub struct Report {
     pub status: u8,
     pub message: Message,
 }
 
 /// What is said of a fault.
-#[derive(Clone, Copy, Debug, PartialEq, Eq)]
+#[derive(Clone, Copy)]
 pub enum Message {
     /// A line of the input, counted from 1, and the name of what is wrong with it.
     Line(u64, &'static str),

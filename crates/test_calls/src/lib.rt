@@ -1,8 +1,7 @@
 //! Calls of libraries that no program shows: devices that are counted, exchanges that are cut off,
 //! lines that are lent, runs at stores that are nearly full, writes in blocks, plans that no key
-//! leads to, values of settings, cursors that no window shows, frames and texts that are not
-//! flushed, saves over a port that refuses, files over a disk that fails, and stores and logs that
-//! are compacted. Nothing stands on this crate, so nothing waits for its proof.
+//! leads to, cursors that no window shows, frames and texts that are not flushed, saves over a port
+//! that refuses, files over a disk that fails, and stores and logs that are compacted.
 #![tactic(auto)]
 
 #[cfg(test)]
@@ -27,7 +26,5 @@ mod screens;
 mod sending;
 #[cfg(test)]
 mod sessions;
-#[cfg(test)]
-mod settings;
 #[cfg(test)]
 mod shows;

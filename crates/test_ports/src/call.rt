@@ -5,7 +5,7 @@ use std::marker::Model;
 
 /// A call that is told, as it was made, whether it was answered `Ok`, and the files that a load then
 /// answered.
-#[derive(Debug, Drop)]
+#[derive(Drop)]
 pub struct MadeCall {
     pub kind: CallKind,
     pub name: String,

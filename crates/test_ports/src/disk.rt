@@ -6,13 +6,13 @@ use std::io::ErrorKind;
 use std::marker::Model;
 
 /// A step that was made, and the bytes of a write.
-#[derive(Debug, Drop)]
+#[derive(Drop)]
 pub struct MadeStep {
     kind: StepKind,
     bytes: Vec<u8>,
 }
 
-#[derive(Clone, Copy, Debug)]
+#[derive(Clone, Copy)]
 pub(crate) enum StepKind {
     Empty,
     Write,

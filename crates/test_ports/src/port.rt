@@ -61,13 +61,21 @@ impl MemoryPort {
         self.folder.put(name, log, text)
     }
 
+    /// Whether calls of that kind are refused.
+    fn refuses(&self, kind: CallKind) -> bool {
+        match self.refused {
+            Some(refused) => refused as u8 == kind as u8,
+            None => false,
+        }
+    }
+
     /// Makes a call that writes, or refuses it.
     fn call(&mut self, kind: CallKind, name: &str, bytes: &[u8]) -> Result<(), PortFault>
         ensures tells { self.new.calls.items
             ≡ self.old.calls.items ++ told result (call kind name.now bytes.now) }
         ensures device { self.new.failures ≡ failures_after result self.old.failures }
     {
-        if self.refused == Some(kind) {
+        if self.refuses(kind) {
             return self.refuse(kind, name, bytes);
         }
         let file = self.folder.file_after(kind, name, bytes)?;
@@ -87,7 +95,7 @@ impl MemoryPort {
         let file = self.folder.file_after(kind, name, front)?;
         self.folder.make_entry(name)?;
         self.note(kind, name, bytes, false)?;
-        if kind == CallKind::Append && self.folder.log(name).is_some() {
+        if matches!(kind, CallKind::Append) && self.folder.log(name).is_some() {
             self.folder.keep(kind, name, file);
         }
         self.failures = self.failures.saturating_add(1);
@@ -169,7 +177,7 @@ impl Port for MemoryPort {
     ghost failures = { λ p. p.failures };
 
     fn load(&mut self, name: &str) -> Result<Found, PortFault> {
-        if self.refused == Some(CallKind::Load) {
+        if self.refuses(CallKind::Load) {
             self.note(CallKind::Load, name, &[], false)?;
             self.failures = self.failures.saturating_add(1);
             return Err(PortFault::File);

@@ -1,10 +1,9 @@
 //! Tests of operations and of stores.
 //!
 //! Identifiers and operations at the edges of their ranges; the worked examples of `TreeStore` and
-//! of `FlatStore`, and of what is asked of a store before it takes anything; and each beside a plain
-//! list: seeded random operations go into both, the list being searched from the front and comparing
-//! whole root paths, and after each both must answer and show the same. Nothing stands on this crate, so nothing
-//! waits for its proof.
+//! of `FlatStore`, of their elements by index and by place, and of what is asked of a store before it
+//! takes anything; and each beside a plain list, searched from the front by whole root paths: behind
+//! each of some seeded random operations both must answer and show the same.
 #![tactic(auto)]
 
 #[cfg(test)]
@@ -21,6 +20,8 @@ mod operations;
 mod random;
 #[cfg(test)]
 mod stores;
+#[cfg(test)]
+mod walks;
 #[cfg(test)]
 mod whole_lists;
 #[cfg(test)]
