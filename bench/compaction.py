@@ -23,6 +23,8 @@ ROWS = [
     ("typing", 100_000),
     ("typing", 1_000_000),
     ("chain", 1_000_000),
+    # As many as the editing trace has whose size others publish (crdt-benchmarks, B4).
+    ("author", 259_778),
 ]
 FOLDER = LOGS / "compaction"
 NOTE = FOLDER / "note.ops"

@@ -13,6 +13,7 @@ SHAPE is one of
   waiting           the chain with its last line first: all waits until the last line
   siblings-rising   insertions at the root, in rising order of identifiers
   siblings-falling  insertions at the root, in falling order of identifiers
+  author            one replica types, rubs out and goes elsewhere: a quarter are deletions
 A SPELLING other than the usual one is one of
   loose             the members in another order, with a blank behind each colon and comma
   numbered          each character by its number, as \\u0061";
@@ -256,6 +257,100 @@ impl Typing {
     }
 }
 
+/// One who writes a text alone: the shown elements before the cursor, and those behind it, the next one last.
+struct Author {
+    random: Random,
+    before: Vec<Id>,
+    behind: Vec<Id>,
+    clock: u64,
+    operations: Vec<Operation>,
+}
+
+impl Author {
+    fn new() -> Self {
+        Author {
+            random: Random::new(),
+            before: Vec::new(),
+            behind: Vec::new(),
+            clock: 0,
+            operations: Vec::new(),
+        }
+    }
+
+    /// A run of typing or of deletions, and then the cursor may go elsewhere.
+    fn turn(&mut self) {
+        match self.random.below(100) {
+            0..=61 => self.run(14, Author::insert),
+            62..=91 => self.run(8, |author| author.delete(|author| author.before.pop())),
+            _ => self.run(6, |author| author.delete(|author| author.behind.pop())),
+        }
+        match self.random.below(100) {
+            0..=44 => {}
+            45..=79 => self.go_near(),
+            80..=91 => self.go_to(self.before.len() + self.behind.len()),
+            _ => {
+                let place = self.random.below(self.before.len() + self.behind.len() + 1);
+                self.go_to(place);
+            }
+        }
+    }
+
+    /// Does something so many times on average.
+    fn run(&mut self, mean: u64, step: fn(&mut Author)) {
+        loop {
+            step(self);
+            if self.random.once_in(mean) {
+                break;
+            }
+        }
+    }
+
+    fn insert(&mut self) {
+        self.clock += 1;
+        let id = Id {
+            counter: self.clock,
+            replica: 1,
+        };
+        self.operations.push(Operation::Insert {
+            id,
+            parent: self.before.last().copied().unwrap_or(ROOT),
+            char: self.random.character(),
+        });
+        self.before.push(id);
+    }
+
+    fn delete(&mut self, take: fn(&mut Author) -> Option<Id>) {
+        if let Some(id) = take(self) {
+            self.operations.push(Operation::Delete { id });
+        }
+    }
+
+    /// The cursor goes at most 200 characters away.
+    fn go_near(&mut self) {
+        let place = self.before.len() + self.random.below(401);
+        self.go_to(place.saturating_sub(200));
+    }
+
+    /// The cursor goes behind so many characters, or to the end.
+    fn go_to(&mut self, place: usize) {
+        while self.before.len() > place {
+            self.behind.extend(self.before.pop());
+        }
+        while self.before.len() < place && !self.behind.is_empty() {
+            self.before.extend(self.behind.pop());
+        }
+    }
+}
+
+fn author(count: usize) -> Vec<Operation> {
+    let mut author = Author::new();
+    while author.operations.len() < count {
+        author.turn();
+    }
+    author.operations.truncate(count);
+    author.operations
+}
+
 fn typing(count: usize) -> Vec<Operation> {
     let mut typing = Typing::new();
     while typing.operations.len() < count {
@@ -307,6 +402,7 @@ fn operations_of(shape: &str, count: usize) -> Option<Vec<Operation>> {
         "waiting" => Some(reversed(chain(count))),
         "siblings-rising" => Some(siblings(count)),
         "siblings-falling" => Some(reversed(siblings(count))),
+        "author" => Some(author(count)),
         _ => None,
     }
 }
