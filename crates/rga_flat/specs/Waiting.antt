@@ -25,9 +25,13 @@ has_list w p = is_some (get id_cmp w p)
 abbrev pub KeepsUnder : Waiting → Waiting → Type 0
 KeepsUnder old new = (p : Identifier) → under new p ≡ under old p
 
--- what has a list keeps it, and of the others none but one may get one
+-- what has a list keeps it
+abbrev pub StayListed : Waiting → Waiting → Type 0
+StayListed old new = (p : Identifier) → has_list old p ≡ true → has_list new p ≡ true
+
+-- and of the others none but one may get one
 abbrev pub KeepsLists : Waiting → Waiting → Identifier → Type 0
-KeepsLists old new id = ((p : Identifier) → has_list old p ≡ true → has_list new p ≡ true) × ((p : Identifier) → eq_by_cmp id_cmp id p ≡ false → has_list new p ≡ has_list old p)
+KeepsLists old new id = StayListed old new × ((p : Identifier) → eq_by_cmp id_cmp id p ≡ false → has_list new p ≡ has_list old p)
 
 -- whether an identifier has a list that is not done with
 abbrev pub is_listed : Waiting → BTreeSet Identifier → Identifier → Bool

@@ -12,7 +12,7 @@ ghost use Rattle.rga_store.specs.Growth.{NeedsRoom};
 ghost use Rattle.rga_flat.specs.Based.{IsBased};
 ghost use Rattle.rga_flat.specs.Flat.{is_above, AreMarked, IsFlat};
 ghost use Rattle.rga_flat.specs.Placing.{IsPlacing};
-ghost use Rattle.rga_flat.specs.Waiting.{under, has_list, is_listed, Settles, AreInserted};
+ghost use Rattle.rga_flat.specs.Waiting.{StayListed, under, has_list, is_listed, Settles, AreInserted};
 
 use crate::placing::{place_all, put_behind};
 use crate::waiting::{add_waiting, has_list, is_listed};
@@ -49,7 +49,7 @@ pub(crate) fn take(
         (under waiting.new) (is_listed waiting.new done.old)) }
     ensures settles { Settles waiting.old done.old done.new }
     ensures inserted { OnOk result (AreInserted records.new.content done.old done.new) }
-    ensures lists { (p : Identifier) → has_list waiting.old p ≡ true → has_list waiting.new p ≡ true }
+    ensures lists { StayListed waiting.old waiting.new }
     ensures based { (base : Content) →
         IsBased base records.old.content (under waiting.old) (has_list waiting.old) →
         IsBased base records.new.content (under waiting.new) (has_list waiting.new) }
@@ -90,7 +90,8 @@ fn insert(
 ) -> Result<(), Refusal>
     requires new { let op = Op.Insert entry.now.id parent entry.now.ch in
         answer records.old.limit records.old.content op ≡ Ok Taken.New }
-    requires deleted { entry.now.deleted ≡ finite_set.contains records.old.content.deleted entry.now.id }
+    requires deleted { entry.now.deleted
+        ≡ finite_set.contains records.old.content.deleted entry.now.id }
     requires fresh { contains id_cmp done.old entry.now.id ≡ false }
     requires flat { IsFlat records.old.content sequence.old
         (under waiting.old) (is_listed waiting.old done.old) }
@@ -103,7 +104,7 @@ fn insert(
         (under waiting.new) (is_listed waiting.new done.old)) }
     ensures settles { Settles waiting.old done.old done.new }
     ensures inserted { OnOk result (AreInserted records.new.content done.old done.new) }
-    ensures lists { (p : Identifier) → has_list waiting.old p ≡ true → has_list waiting.new p ≡ true }
+    ensures lists { StayListed waiting.old waiting.new }
     ensures based { (base : Content) →
         IsBased base records.old.content (under waiting.old) (has_list waiting.old) →
         IsBased base records.new.content (under waiting.new) (has_list waiting.new) }
@@ -144,7 +145,8 @@ fn settle(
 ) -> Result<(), Refusal>
     requires element { finite_map.get records.old.content.inserted entry.now.id
         ≡ Some (element parent entry.now.ch) }
-    requires deleted { entry.now.deleted ≡ finite_set.contains records.old.content.deleted entry.now.id }
+    requires deleted { entry.now.deleted
+        ≡ finite_set.contains records.old.content.deleted entry.now.id }
     requires above { above ≡ is_above (without_insertion entry.now.id records.old.content) parent }
     requires fresh { contains id_cmp done.old entry.now.id ≡ false }
     requires flat { IsFlat (without_insertion entry.now.id records.old.content) sequence.old
@@ -155,7 +157,7 @@ fn settle(
         sequence.new (under waiting.new) (is_listed waiting.new done.old)) }
     ensures settles { Settles waiting.old done.old done.new }
     ensures inserted { AreInserted records.old.content done.old done.new }
-    ensures lists { (p : Identifier) → has_list waiting.old p ≡ true → has_list waiting.new p ≡ true }
+    ensures lists { StayListed waiting.old waiting.new }
     ensures based { (base : Content) →
         IsBased base (without_insertion entry.now.id records.old.content)
         (under waiting.old) (has_list waiting.old) → OnOk result
@@ -189,7 +191,8 @@ fn place(
 ) -> Result<(), Refusal>
     requires element { finite_map.get records.old.content.inserted entry.now.id
         ≡ Some (element parent entry.now.ch) }
-    requires deleted { entry.now.deleted ≡ finite_set.contains records.old.content.deleted entry.now.id }
+    requires deleted { entry.now.deleted
+        ≡ finite_set.contains records.old.content.deleted entry.now.id }
     requires placing { IsPlacing records.old.content (under waiting.now)
         (is_listed waiting.now done.old) sequence.old (entry.now.id ∷ []) }
     ensures ok { OnOk result (IsFlat records.old.content sequence.new

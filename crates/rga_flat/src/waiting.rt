@@ -6,7 +6,7 @@ ghost use Rattle.rga_ops.specs.Identifier.{Identifier, id_cmp};
 ghost use Rattle.rga_ops.specs.Content.{Content};
 ghost use Rattle.rga_ops.specs.Placement.{without};
 ghost use Rattle.std.specs.BTreeSet.{contains};
-ghost use Rattle.rga_flat.specs.Waiting.{under, has_list, is_listed, KeepsUnder, KeepsLists, Settles, AreInserted};
+ghost use Rattle.rga_flat.specs.Waiting.{StayListed, under, has_list, is_listed, KeepsUnder, KeepsLists, Settles, AreInserted};
 
 use rga_ops::{Id, Refusal};
 use std::alloc::Global;
@@ -84,7 +84,7 @@ pub(crate) fn add_waiting(
     ensures ok { OnOk result ((p : Identifier) → under waiting.new p
         ≡ (if eq_by_cmp id_cmp parent p then under waiting.old p ++ id ∷ [] else under waiting.old p)) }
     ensures same { OnErr result (KeepsUnder waiting.old waiting.new) }
-    ensures stays { (p : Identifier) → has_list waiting.old p ≡ true → has_list waiting.new p ≡ true }
+    ensures stays { StayListed waiting.old waiting.new }
     ensures others { (p : Identifier) → eq_by_cmp id_cmp id p ≡ false →
         eq_by_cmp id_cmp parent p ≡ false → has_list waiting.new p ≡ has_list waiting.old p }
     ensures memory { IfErr result (λ e. e ≡ Refusal.Memory) }

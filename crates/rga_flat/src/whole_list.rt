@@ -9,7 +9,7 @@ ghost use Rattle.rga_ops.specs.Answer.{taken, taken_one_by_one};
 ghost use Rattle.rga_flat.specs.Back.{gone_back, CanGoBack};
 ghost use Rattle.rga_flat.specs.Based.{IsBased};
 ghost use Rattle.rga_flat.specs.Flat.{IsFlat};
-ghost use Rattle.rga_flat.specs.Waiting.{under, has_list, is_listed, Settles};
+ghost use Rattle.rga_flat.specs.Waiting.{StayListed, under, has_list, is_listed, Settles};
 
 use crate::steps::{Step, note};
 use crate::taking::take;
@@ -83,7 +83,7 @@ fn take_noted(
     ensures inserted { OnOk result ((p : Identifier) → contains id_cmp done.new p ≡ true →
         finite_map.contains_key records.new.content.inserted p ≡ true) }
     ensures settles { Settles waiting.old done.old done.new }
-    ensures lists { (p : Identifier) → has_list waiting.old p ≡ true → has_list waiting.new p ≡ true }
+    ensures lists { StayListed waiting.old waiting.new }
     ensures based { (base : Content) →
         IsBased base records.old.content (under waiting.old) (has_list waiting.old) →
         IsBased base records.new.content (under waiting.new) (has_list waiting.new) }
