@@ -1,5 +1,5 @@
 //! An operation that is new, taken into the records, the sequence and what waits.
-ghost use Rattle.std.specs.Prelude.{◌≡◌, ◌≢◌, ◌∷◌, [], Some, Ok, Err, IfErr, OnOk, OnErr, true, false};
+ghost use Rattle.std.specs.Prelude.{◌≡◌, ◌≢◌, ◌∷◌, [], Some, is_some, Ok, Err, IfErr, OnOk, OnErr, true, false};
 ghost use Rattle.std.specs.FinMap as finite_map;
 ghost use Rattle.std.specs.FinSet as finite_set;
 ghost use Rattle.std.specs.BTreeSet.{contains};
@@ -112,8 +112,9 @@ fn insert(
     ensures memory { IfErr result (λ e. e ≡ Refusal.Memory) }
 {
     let clock = records.clock();
-    let name = records.block(parent);
-    let above = is_above(records, waiting, done, parent);
+    let block = block_above(records, waiting, done, parent);
+    let above = block.is_some();
+    let name = block.unwrap_or(0);
     records.insert(entry.id, parent, entry.ch, name)?;
     let settled = settle(
         alloc, records, sequence, waiting, done, parent, name, above, entry,
@@ -213,30 +214,41 @@ fn place(
     Ok(())
 }
 
-/// Whether an identifier is the root or complete. Takes no memory.
-fn is_above(records: &Records, waiting: &BTreeMap<Id, Vec<Id>>, done: &BTreeSet<Id>, id: Id) -> bool
-    requires { AreMarked records.now.content (is_listed waiting.now done.now) }
-    ensures { result ≡ is_above records.now.content id }
-{
-    if id == Id::ROOT {
-        return true;
-    }
-    is_complete(records, waiting, done, id)
-}
-
-/// Whether an identifier is complete. Takes no memory.
-fn is_complete(
+/// The name of the block in which an identifier that is complete may stand; of the root, any. Takes
+/// no memory.
+fn block_above(
     records: &Records,
     waiting: &BTreeMap<Id, Vec<Id>>,
     done: &BTreeSet<Id>,
     id: Id,
-) -> bool
+) -> Option<usize>
     requires { AreMarked records.now.content (is_listed waiting.now done.now) }
-    ensures { result ≡ is_complete records.now.content id }
+    ensures { is_some result ≡ is_above records.now.content id }
 {
-    match records.element(id) {
-        Some(_) => !is_listed(waiting, done, id),
-        None => false,
+    if id == Id::ROOT {
+        return Some(0);
+    }
+    block_if_complete(records, waiting, done, id)
+}
+
+/// The name of the block in which an identifier that is complete may stand. Takes no memory.
+fn block_if_complete(
+    records: &Records,
+    waiting: &BTreeMap<Id, Vec<Id>>,
+    done: &BTreeSet<Id>,
+    id: Id,
+) -> Option<usize>
+    requires { AreMarked records.now.content (is_listed waiting.now done.now) }
+    ensures { is_some result ≡ is_complete records.now.content id }
+{
+    match records.block_if_inserted(id) {
+        Some(block) => {
+            if is_listed(waiting, done, id) {
+                return None;
+            }
+            Some(block)
+        }
+        None => None,
     }
 }
 
@@ -265,12 +277,13 @@ fn delete(
     ensures limit { records.new.limit ≡ records.old.limit }
     ensures memory { IfErr result (λ e. e ≡ Refusal.Memory) }
 {
-    let complete = is_complete(records, waiting, done, id);
-    let name = records.block(id);
+    let block = block_if_complete(records, waiting, done, id);
     records.delete(id)?;
-    if !complete {
-        return Ok(());
+    match block {
+        Some(name) => {
+            sequence.mark(id, name, true);
+            Ok(())
+        }
+        None => Ok(()),
     }
-    sequence.mark(id, name, true);
-    Ok(())
 }

@@ -1,5 +1,5 @@
 -- What two sets of records know together, and where they conflict, record by record.
-use Rattle.std.proofs.Common.{◌≡◌, ℕ, ◌+◌, ◌≤◌, Bool, true, false, cond, not, ◌&&◌, List, [], ◌∷◌, map, filter, length, refl, sym, ap, ◌∙◌, arith, true≢false}
+use Rattle.std.proofs.Common.{◌≡◌, ℕ, suc, ◌||◌, ◌+◌, ◌≤◌, Bool, true, false, cond, not, ◌&&◌, List, [], ◌∷◌, ◌++◌, map, filter, length, is_some, refl, sym, ap, ◌∙◌, arith, true≢false}
 use Rattle.std.specs.Prelude.{Option, Some, None, find}
 use Rattle.std.specs.Option.{option_map, option_map_or}
 use Rattle.std.specs.List.{filter_map, cons_option, AllByRecursion}
@@ -8,39 +8,55 @@ use Rattle.std.specs.FinMap as finite_map
 use Rattle.std.specs.FinMap.{find as find_key}
 use Rattle.std.specs.FinSet as finite_set
 use Rattle.rga_ops.specs.Identifier.{Identifier, id_cmp}
-use Rattle.rga_ops.specs.Content.{Element, element, Content, known_ids, join}
+use Rattle.rga_ops.specs.Content.{Element, element, Content, nothing, known_ids, join}
 use Rattle.rga_ops.specs.Operations.{insertion_of}
 use Rattle.rga_ops.specs.ListAnswer.{has_another, is_conflict, least_conflict}
 use Rattle.rga_ops.proofs.IdentifierLaws.{ids_total}
+use Rattle.rga_ops.proofs.AnswerLaws.{contains-known}
+use Rattle.rga_ops.proofs.ContentLaws.{nothing_join}
 use Rattle.rga_ops.proofs.CountLaws.{len-known_join}
+use Rattle.rga_ops.proofs.KnownLaws.{known_nothing}
 use Rattle.rga_ops.proofs.MemberLaws.{all_map}
 use Rattle.rga_ops.proofs.MergeLaws.{least_conflict_swap}
 use Rattle.rga_ops.proofs.SortedLaws.{each_found}
 use Rattle.rga_ops.specs.declared.op.Op.TheVariants.{Insert}
-use Rattle.rga_records.specs.declared.entries.Record.{Record}
-use Rattle.rga_records.specs.Records.{Entries, insertion_in, ids_where, is_meaningful, content_of_records, AreOrdered}
+use Rattle.rga_pages.specs.declared.entry.Record.{Record}
+use Rattle.rga_records.specs.Records.{Entries, insertion_in, ids_where, is_meaningful, first_conflicting, unknown_ids, content_of_records, AreOrdered}
 use Rattle.rga_records.proofs.RecordLaws.{apart_of, any_where, known_at}
 use Rattle.rga_records.proofs.SortedRecordLaws.{Insertions, insertions_sorted, insertions_listed, ids_distinct}
 
 -- ---- the least conflict
 
--- the identifier of the first insertion that conflicts with the content
-abbrev pub first_conflicting : Content → Insertions → Option Identifier
-first_conflicting c [] = None
-first_conflicting c (x ∷ xs) = cond (has_another c (insertion_of x)) (Some x.0) (first_conflicting c xs)
-
 -- a record that conflicts, or not, in front of others
-module _ (c : Content) (k : Identifier) (xs : Insertions) where
-  abbrev first : Option (Identifier × ℕ) → Insertions
-  first o = cons_option (option_map (λ x. (k, x)) (option_map (λ x. element x.0 x.1) o)) xs
+module _ (c : Content) (k parent : Identifier) (xs : Insertions) where
+  abbrev first : Option ℕ → Insertions
+  first o = cons_option (option_map (λ x. (k, x)) (option_map (λ ch. element parent ch) o)) xs
 
-  pub conflict_there : (o : Option (Identifier × ℕ)) → option_map_or (λ x. has_another c (Insert k x.0 x.1)) o false ≡ true → first_conflicting c (first o) ≡ Some k
+  pub conflict_there : (o : Option ℕ) → option_map_or (λ ch. has_another c (Insert k parent ch)) o false ≡ true → first_conflicting c (first o) ≡ Some k
   conflict_there None t = absurd (true≢false (sym t))
   conflict_there (Some x) t = ap (λ b. cond b (Some k) (first_conflicting c xs)) t
 
-  pub no_conflict_there : (o : Option (Identifier × ℕ)) → option_map_or (λ x. has_another c (Insert k x.0 x.1)) o false ≡ false → first_conflicting c (first o) ≡ first_conflicting c xs
+  pub no_conflict_there : (o : Option ℕ) → option_map_or (λ ch. has_another c (Insert k parent ch)) o false ≡ false → first_conflicting c (first o) ≡ first_conflicting c xs
   no_conflict_there None t = refl
   no_conflict_there (Some x) t = ap (λ b. cond b (Some k) (first_conflicting c xs)) t
+
+-- none in some insertions: so the first is behind them
+pub none_first : (c : Content) (xs ys : Insertions) → first_conflicting c xs ≡ None → first_conflicting c (xs ++ ys) ≡ first_conflicting c ys
+none_first c [] ys h = refl
+none_first c (x ∷ xs) ys h =
+    elim (has_another c (insertion_of x)) as (λ b. cond b (Some x.0) (first_conflicting c xs) ≡ None → cond b (Some x.0) (first_conflicting c (xs ++ ys)) ≡ first_conflicting c ys) [
+      | true ↦ λ k. absurd (true≢false (ap is_some k))
+      | false ↦ λ k. none_first c xs ys k
+    ] h
+
+-- one in some insertions is the first of more
+pub some_first : (c : Content) (xs ys : Insertions) (id : Identifier) → first_conflicting c xs ≡ Some id → first_conflicting c (xs ++ ys) ≡ Some id
+some_first c [] ys id h = absurd (true≢false (sym (ap is_some h)))
+some_first c (x ∷ xs) ys id h =
+    elim (has_another c (insertion_of x)) as (λ b. cond b (Some x.0) (first_conflicting c xs) ≡ Some id → cond b (Some x.0) (first_conflicting c (xs ++ ys)) ≡ Some id) [
+      | true ↦ λ k. k
+      | false ↦ λ k. some_first c xs ys id k
+    ] h
 
 found_first : (c : Content) (p : Identifier → Bool) (xs : Insertions) → AllByRecursion (λ x. p x.0 ≡ has_another c (insertion_of x)) xs → find p (map (λ x. x.0) xs) ≡ first_conflicting c xs
 found_first c p [] h = refl
@@ -57,10 +73,6 @@ least_is_first c es h =
     (each_found id_cmp ids_total xs (insertions_sorted es h))))
 
 -- ---- what is not known yet
-
--- what the records know and the content does not
-abbrev pub unknown_ids : Content → Entries → List Identifier
-unknown_ids c es = filter (λ q. not (finite_set.contains (known_ids c) q)) (ids_where is_meaningful es)
 
 -- one record more
 pub unknown_more : (c : Content) (e : Identifier × Record) (es : Entries) (a b : Bool) → is_meaningful e.1 ≡ a → not (finite_set.contains (known_ids c) e.0) ≡ b
@@ -86,8 +98,41 @@ unknown_within c (e ∷ es) =
     let most : (b : Bool) → cond b 1 0 ≤ 1 = λ b. elim b as (λ t. cond t 1 0 ≤ 1) [ true ↦ omega arith | false ↦ omega arith ] in
     omega (arith, rest, unknown_more c e es _ _ refl refl, most (is_meaningful e.1 && not (finite_set.contains (known_ids c) e.0)))
 
+pub unknown_both : (c : Content) (xs ys : Entries) → length (unknown_ids c (xs ++ ys)) ≡ length (unknown_ids c xs) + length (unknown_ids c ys)
+unknown_both c [] ys = omega arith
+unknown_both c (x ∷ xs) ys =
+    let rest : length (unknown_ids c (xs ++ ys)) ≡ length (unknown_ids c xs) + length (unknown_ids c ys) = unknown_both c xs ys in
+    omega (arith, rest, unknown_more c x (xs ++ ys) _ _ refl refl, unknown_more c x xs _ _ refl refl)
+
 -- the join knows these too, and nothing else
 pub unknown_counted : (c : Content) (es : Entries) → AreOrdered es → finite_set.len (known_ids (join c (content_of_records es))) ≡ finite_set.len (known_ids c) + length (unknown_ids c es)
 unknown_counted c es h =
     len-known_join c (content_of_records es) (ids_where is_meaningful es) (ids_distinct is_meaningful es h)
     (λ q. known_at es h q ∙ sym (any_where is_meaningful q es (apart_of es h)))
+
+-- they are no more than the records know
+pub unknown_few : (c : Content) (es : Entries) → AreOrdered es → length (unknown_ids c es) ≤ finite_set.len (known_ids (content_of_records es))
+unknown_few c es h =
+    let known : finite_set.len (known_ids (content_of_records es)) ≡ finite_set.len (known_ids nothing) + length (unknown_ids nothing es) =
+    ap (λ d. finite_set.len (known_ids d)) (sym (nothing_join (content_of_records es))) ∙ unknown_counted nothing es h in
+    let all : length (unknown_ids nothing es) ≡ length (ids_where is_meaningful es) = all_left (ids_where is_meaningful es) in
+    let none : finite_set.len (known_ids nothing) ≡ 0 = known_nothing in
+    omega (arith, known, all, none, fewer (λ q. not (finite_set.contains (known_ids c) q)) (ids_where is_meaningful es))
+  where
+    fewer : (p : Identifier → Bool) (xs : List Identifier) → length (filter p xs) ≤ length xs
+    fewer p [] = omega arith
+    fewer p (x ∷ xs) =
+        let rest : length (filter p xs) ≤ length xs = fewer p xs in
+        elim (p x) as (λ b. length (cond b (x ∷ filter p xs) (filter p xs)) ≤ length (x ∷ xs)) [ true ↦ omega arith | false ↦ omega arith ]
+
+    empty_there : (q : Identifier) → finite_map.get nothing.inserted q ≡ None
+    empty_there q = finite_map.get-empty id_cmp q
+
+    none : (q : Identifier) → not (finite_set.contains (known_ids nothing) q) ≡ true
+    none q = ap not (contains-known nothing q ∙ (λ k. is_some (empty_there q k) || finite_set.contains-empty id_cmp q k))
+
+    all_left : (xs : List Identifier) → length (filter (λ q. not (finite_set.contains (known_ids nothing) q)) xs) ≡ length xs
+    all_left [] = refl
+    all_left (x ∷ xs) =
+        ap (λ b. length (cond b (x ∷ filter (λ q. not (finite_set.contains (known_ids nothing) q)) xs) (filter (λ q. not (finite_set.contains (known_ids nothing) q)) xs))) (none x)
+        ∙ ap (λ n. suc n) (all_left xs)

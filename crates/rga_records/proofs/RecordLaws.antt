@@ -2,8 +2,7 @@
 use Rattle.std.proofs.Common.{◌≡◌, ℕ, Bool, true, false, cond, not, ◌&&◌, ◌||◌, [], ◌∷◌, filter, is_some, refl, sym, ap, ◌∙◌, true≢false}
 use Rattle.std.specs.Prelude.{Option, Some, None}
 use Rattle.std.specs.Cmp.{eq_by_cmp_equiv}
-use Rattle.std.specs.Ordering.{is_lt}
-use Rattle.std.specs.Option.{option_map, option_and_then, option_map_or, unwrap_or}
+use Rattle.std.specs.Option.{option_map, option_and_then, option_map_or}
 use Rattle.std.specs.List.{list_any, filter_map, cons_option, IsDistinct}
 use Rattle.std.specs.Map.{lookup, keys_of}
 use Rattle.std.specs.FinMap as finite_map
@@ -19,11 +18,11 @@ use Rattle.rga_ops.proofs.ContentLaws.{same_content}
 use Rattle.rga_ops.proofs.AnswerLaws.{contains-known}
 use Rattle.rga_ops.proofs.ListSteps.{get-insertion, get-deletion}
 use Rattle.rga_ops.specs.declared.op.Op.TheVariants.{Insert, Delete}
-use Rattle.rga_store.proofs.NodeLaws.{is_some-mapped}
+use Rattle.rga_store.proofs.ElementSteps.{pair_of}
 use Rattle.rga_store.proofs.StepLaws.{deleted_then, deleted_now}
 use Rattle.rga_store.proofs.ChildLaws.{true_where}
 use Rattle.rga_store.specs.Back.{without_insertion, without_deletion}
-use Rattle.rga_records.specs.declared.entries.Record.{Record}
+use Rattle.rga_pages.specs.declared.entry.Record.{Record}
 use Rattle.rga_records.specs.Records.{Entries, element_in, insertion_in, ids_where, marked_ids, is_meaningful, content_of_records, AreOrdered}
 
 -- ---- what is found at an identifier
@@ -34,14 +33,44 @@ element_of o = option_and_then element_in o
 abbrev pub mark_of : Option Record → Bool
 mark_of o = option_map_or (λ v. v.deleted) o false
 
--- the record that is there, or else a new one, shows the same
-pub mark_or_new : (o : Option Record) (found new : Record) → found ≡ unwrap_or o new → new.deleted ≡ false → found.deleted ≡ mark_of o
-mark_or_new None found new same h = ap (λ (v : Record). v.deleted) same ∙ h
-mark_or_new (Some v) found new same h = ap (λ (v : Record). v.deleted) same
+-- a record has an element where it has a character, and shows both as they are kept
+pub is_some-char : (v : Record) → is_some (element_in v) ≡ is_some v.ch
+is_some-char v = shown v.ch
+  where
+    shown : (o : Option ℕ) → is_some (option_map (λ ch. element v.parent ch) o) ≡ is_some o
+    shown None = refl
+    shown (Some ch) = refl
 
-pub element_or_new : (o : Option Record) (found new : Record) → found ≡ unwrap_or o new → new.element ≡ None → element_in found ≡ element_of o
-element_or_new None found new same h = ap element_in same ∙ ap (option_map (λ x. element x.0 x.1)) h
-element_or_new (Some v) found new same h = ap element_in same
+pub element_shown : (v : Record) → pair_of (element_in v) ≡ option_map (λ ch. (v.parent, ch)) v.ch
+element_shown v = shown v.ch
+  where
+    shown : (o : Option ℕ) → pair_of (option_map (λ ch. element v.parent ch) o) ≡ option_map (λ ch. (v.parent, ch)) o
+    shown None = refl
+    shown (Some ch) = refl
+
+pub element_back : (v : Record) → option_map (λ x. element x.0 x.1) (option_map {U = Identifier × ℕ} (λ ch. (v.parent, ch)) v.ch) ≡ element_in v
+element_back v = shown v.ch
+  where
+    shown : (o : Option ℕ) → option_map (λ x. element x.0 x.1) (option_map {U = Identifier × ℕ} (λ ch. (v.parent, ch)) o) ≡ option_map (λ ch. element v.parent ch) o
+    shown None = refl
+    shown (Some ch) = refl
+
+-- what is deleted or inserted has a record
+pub some_marked : (o : Option Record) → mark_of o ≡ true → is_some o ≡ true
+some_marked None h = absurd (true≢false (sym h))
+some_marked (Some v) h = refl
+
+pub some_inserted : (o : Option Record) → is_some (element_of o) ≡ true → is_some o ≡ true
+some_inserted None h = absurd (true≢false (sym h))
+some_inserted (Some v) h = refl
+
+pub not_true : (b : Bool) → not b ≡ true → b ≡ false
+not_true true h = absurd (true≢false (sym h))
+not_true false h = refl
+
+pub not_false : (b : Bool) → not b ≡ false → b ≡ true
+not_false true h = refl
+not_false false h = absurd (true≢false h)
 
 -- no identifier has two records
 abbrev pub AreApart : Entries → Type 0
@@ -69,14 +98,6 @@ find_insertions q (e ∷ es) h =
     there : (o : Option Element) → is q e.0 ≡ false → find id_cmp q (cons_option (option_map (λ x. (e.0, x)) o) (filter_map insertion_in es)) ≡ find id_cmp q (filter_map insertion_in es)
     there None t = refl
     there (Some x) t = ap (λ b. cond b (Some x) (find id_cmp q (filter_map insertion_in es))) t
-
--- what is above each identifier that has a record has none
-pub none_above : (es : Entries) (k id : Identifier) → ((q : Identifier) → is_some (lookup (is q) es) ≡ true → is_lt (id_cmp k q) ≡ false) → is_lt (id_cmp k id) ≡ true → None ≡ lookup (is id) es
-none_above es k id bound less =
-    elim (lookup (is id) es) as (λ o. lookup (is id) es ≡ o → None ≡ o) [
-      | None ↦ λ g. refl
-      | Some v ↦ λ g. absurd (true≢false (sym less ∙ bound id (ap is_some g)))
-    ] refl
 
 -- an identifier is inserted as its record says
 pub inserted_at : (es : Entries) → AreOrdered es → (q : Identifier) → finite_map.get (content_of_records es).inserted q ≡ element_of (lookup (is q) es)
@@ -113,7 +134,7 @@ known_at es h q =
   where
     shown : (o : Option Record) → (is_some (element_of o) || mark_of o) ≡ option_map_or is_meaningful o false
     shown None = refl
-    shown (Some v) = ap (λ b. b || v.deleted) (is_some-mapped v.element)
+    shown (Some v) = ap (λ b. b || v.deleted) (is_some-char v)
 
 -- ---- changes
 
@@ -135,14 +156,6 @@ seen_same see es fs id new changed same q =
     seen_now see es fs id new changed q
     ∙ elim (is q id) as (λ b. is q id ≡ b → cond b (see new) (see (lookup (is q) es)) ≡ see (lookup (is q) es)) [
       | true ↦ λ t. same ∙ ap (λ k. see (lookup (is k) es)) (sym (same_id q id t))
-      | false ↦ λ t. refl
-    ] refl
-
--- where there is no record, none is missed
-pub none_missed : (es : Entries) (id : Identifier) → lookup (is id) es ≡ None → IsChanged es es id None
-none_missed es id none q =
-    elim (is id q) as (λ b. is id q ≡ b → lookup (is q) es ≡ cond b None (lookup (is q) es)) [
-      | true ↦ λ t. ap (λ k. lookup (is k) es) (sym (same_id id q t)) ∙ none
       | false ↦ λ t. refl
     ] refl
 

@@ -20,7 +20,7 @@ use Rattle.rga_ops.proofs.IdentifierLaws.{ids_total, ids_exact, is}
 use Rattle.rga_ops.proofs.SortedLaws.{both_hold}
 use Rattle.rga_ops.specs.declared.op.Op.TheVariants.{Delete}
 use Rattle.rga_store.proofs.SortedIdLaws.{sorted_rising}
-use Rattle.rga_records.specs.declared.entries.Record.{Record}
+use Rattle.rga_pages.specs.declared.entry.Record.{Record}
 use Rattle.rga_records.specs.Records.{Entries, element_in, insertion_in, ids_where, marked_ids, content_of_records, AreOrdered}
 
 abbrev pub Insertions : Type 0

@@ -1,23 +1,21 @@
 -- What is known of each identifier, and what that stands for.
-use Rattle.std.specs.Prelude.{◌||◌, ℕ, Bool, List, filter, is_some, Option}
+use Rattle.std.specs.Prelude.{◌||◌, ℕ, Bool, List, [], ◌∷◌, filter, is_some, not, Option, Some, None, if◌then◌else◌}
 use Rattle.std.specs.List.{filter_map}
-use Rattle.std.specs.List.Sorted.{IsStrictlySortedBy}
 use Rattle.std.specs.Map.{keys_of}
 use Rattle.std.specs.Option.{option_map}
 use Rattle.std.specs.FinMap as finite_map
 use Rattle.std.specs.FinSet as finite_set
-use Rattle.rga_ops.specs.Identifier.{Identifier, id_cmp}
-use Rattle.rga_ops.specs.Content.{Element, element, Content}
+use Rattle.rga_ops.specs.Identifier.{Identifier}
+use Rattle.rga_ops.specs.Content.{Element, element, Content, known_ids}
+use Rattle.rga_ops.specs.ListAnswer.{has_another}
+use Rattle.rga_ops.specs.Operations.{insertion_of}
 use Rattle.rga_store.specs.Tree.{IsCounted}
-use Rattle.rga_records.specs.declared.entries.Record.{Record}
-
--- records under their identifiers
-abbrev pub Entries : Type 0
-Entries = List (Identifier × Record)
+use Rattle.rga_pages.specs.declared.entry.Record.{Record}
+pub use Rattle.rga_pages.specs.Pages.{Entries, AreOrdered}
 
 -- the element of a record, if it has one
 abbrev pub element_in : Record → Option Element
-element_in v = option_map (λ x. element x.0 x.1) v.element
+element_in v = option_map (λ ch. element v.parent ch) v.ch
 
 abbrev pub insertion_in : Identifier × Record → Option (Identifier × Element)
 insertion_in e = option_map (λ x. (e.0, x)) (element_in e.1)
@@ -31,7 +29,7 @@ marked_ids = ids_where (λ v. v.deleted)
 
 -- a record that has an element, a mark or both
 abbrev pub is_meaningful : Record → Bool
-is_meaningful v = is_some v.element || v.deleted
+is_meaningful v = is_some v.ch || v.deleted
 
 -- what the records stand for; the blocks are no part of it
 abbrev pub content_of_records : Entries → Content
@@ -40,9 +38,14 @@ content_of_records es = record {
   deleted = finite_set.from_list (marked_ids es);
 }
 
--- the identifiers rise
-abbrev pub AreOrdered : Entries → Type 0
-AreOrdered es = IsStrictlySortedBy id_cmp (keys_of es)
+-- the identifier of the first insertion that conflicts with the content
+abbrev pub first_conflicting : Content → List (Identifier × Element) → Option Identifier
+first_conflicting c [] = None
+first_conflicting c (x ∷ xs) = if has_another c (insertion_of x) then Some x.0 else first_conflicting c xs
+
+-- what the records know and the content does not
+abbrev pub unknown_ids : Content → Entries → List Identifier
+unknown_ids c es = filter (λ q. not (finite_set.contains (known_ids c) q)) (ids_where is_meaningful es)
 
 -- the identifiers rise, and the content is counted
 pub record AreRecords (es : Entries) (latest insertions identifiers limit : ℕ) : Type 0 where

@@ -1,25 +1,45 @@
 //! What two sets of records know together, and where they conflict. Takes no memory.
-ghost use Rattle.std.specs.Prelude.{◌≡◌, ◌+◌, false};
+ghost use Rattle.std.specs.Prelude.{◌≡◌, ◌+◌, ◌≤◌, false, length};
+ghost use Rattle.std.specs.List.{filter_map};
 ghost use Rattle.std.specs.Option.{option_map_or};
 ghost use Rattle.rga_ops.specs.Content.{join, known_count};
 ghost use Rattle.rga_ops.specs.ListAnswer.{has_another, least_conflict};
-ghost use Rattle.rga_records.specs.Records.{content_of_records, AreOrdered};
+ghost use Rattle.rga_pages.specs.Pages.{flat};
+ghost use Rattle.rga_records.specs.Records.{content_of_records, first_conflicting, insertion_in, unknown_ids};
+ghost use Rattle.rga_store.specs.declared.text_store.TheConstants.{MAX_LIMIT};
 
-use crate::entries::{Record, find_element, is_known};
+use crate::entries::{find_element, is_known, is_record_known};
 use rga_ops::{Id, Op};
-use std::collections::BTreeMap;
+use rga_pages::{Page, Pages, Record};
 
 /// The least identifier that names two insertions, one in each: the first, since they rise.
-pub(crate) fn least_conflict(
-    own: &BTreeMap<Id, Record>,
-    others: &BTreeMap<Id, Record>,
-) -> Option<Id>
-    requires { AreOrdered own.now.entries }
-    ensures { let here = content_of_records own.now.entries in
-        let there = content_of_records others.now.entries in
+pub(crate) fn least_conflict(own: &Pages, others: &Pages) -> Option<Id>
+    ensures { let here = content_of_records own.now in
+        let there = content_of_records others.now in
         result ≡ least_conflict here there }
 {
-    for (id, record) in others {
+    first_conflict(own, others.pages())
+}
+
+/// The first identifier that names an insertion in pages and another in the records.
+fn first_conflict(own: &Pages, pages: &Vec<Page>) -> Option<Id>
+    ensures { let insertions = filter_map insertion_in (flat pages.now.items) in
+        result ≡ first_conflicting (content_of_records own.now) insertions }
+{
+    for page in pages {
+        if let Some(id) = first_conflict_in(own, page.entries()) {
+            return Some(id);
+        }
+    }
+    None
+}
+
+/// The first identifier that names an insertion of some entries and another in the records.
+fn first_conflict_in(own: &Pages, entries: &[(Id, Record)]) -> Option<Id>
+    ensures { let insertions = filter_map insertion_in entries.now in
+        result ≡ first_conflicting (content_of_records own.now) insertions }
+{
+    for (id, record) in entries {
         if conflicts(own, *id, record) {
             return Some(*id);
         }
@@ -28,15 +48,34 @@ pub(crate) fn least_conflict(
 }
 
 /// How many identifiers the others make known.
-pub(crate) fn count_unknown(own: &BTreeMap<Id, Record>, others: &BTreeMap<Id, Record>) -> usize
-    requires { AreOrdered own.now.entries }
-    ensures { let here = content_of_records own.now.entries in
-        let there = content_of_records others.now.entries in
+pub(crate) fn count_unknown(own: &Pages, others: &Pages) -> usize
+    requires { known_count (content_of_records others.now) ≤ MAX_LIMIT }
+    ensures { let here = content_of_records own.now in
+        let there = content_of_records others.now in
         known_count here + result ≡ known_count (join here there) }
 {
+    count_in_pages(own, others.pages())
+}
+
+/// How many identifiers of pages are unknown to the records.
+fn count_in_pages(own: &Pages, pages: &Vec<Page>) -> usize
+    requires { length (unknown_ids (content_of_records own.now) (flat pages.now.items)) ≤ MAX_LIMIT }
+    ensures { result ≡ length (unknown_ids (content_of_records own.now) (flat pages.now.items)) }
+{
     let mut count = 0;
-    for (id, record) in others {
-        if record.is_known() && !is_known(own, *id) {
+    for page in pages {
+        count += count_in(own, page.entries());
+    }
+    count
+}
+
+/// How many identifiers of some entries are unknown to the records.
+fn count_in(own: &Pages, entries: &[(Id, Record)]) -> usize
+    ensures { result ≡ length (unknown_ids (content_of_records own.now) entries.now) }
+{
+    let mut count = 0;
+    for (id, record) in entries {
+        if is_record_known(record) && !is_known(own, *id) {
             count += 1;
         }
     }
@@ -44,21 +83,19 @@ pub(crate) fn count_unknown(own: &BTreeMap<Id, Record>, others: &BTreeMap<Id, Re
 }
 
 /// Whether the records insert another element than the other record's under its identifier.
-fn conflicts(entries: &BTreeMap<Id, Record>, id: Id, other: &Record) -> bool
-    requires { AreOrdered entries.now.entries }
-    ensures { let content = content_of_records entries.now.entries in result
-        ≡ option_map_or (λ x. has_another content (Op.Insert id x.0 x.1)) other.now.element false }
+fn conflicts(entries: &Pages, id: Id, other: &Record) -> bool
+    ensures { let content = content_of_records entries.now in result
+        ≡ option_map_or (λ ch. has_another content (Op.Insert id other.now.parent ch)) other.now.ch false }
 {
-    match other.element {
+    match other.element() {
         Some(element) => have_another(entries, id, element),
         None => false,
     }
 }
 
 /// Whether the records insert another element under this identifier.
-fn have_another(entries: &BTreeMap<Id, Record>, id: Id, element: (Id, char)) -> bool
-    requires { AreOrdered entries.now.entries }
-    ensures { let content = content_of_records entries.now.entries in
+fn have_another(entries: &Pages, id: Id, element: (Id, char)) -> bool
+    ensures { let content = content_of_records entries.now in
         result ≡ has_another content (Op.Insert id element.0 element.1) }
 {
     match find_element(entries, id) {

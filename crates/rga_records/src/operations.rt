@@ -2,36 +2,45 @@
 ghost use Rattle.std.specs.Prelude.{◌≡◌, ◌++◌, map, IfOk, IfErr, OnOk};
 ghost use Rattle.std.specs.List.{filter_map};
 ghost use Rattle.rga_ops.specs.Operations.{operations, insertion_of};
+ghost use Rattle.rga_pages.specs.Pages.{flat};
 ghost use Rattle.rga_records.specs.Records.{content_of_records, insertion_in, marked_ids};
 
-use crate::entries::Record;
 use rga_ops::{Id, Op, Refusal};
+use rga_pages::{Page, Pages, Record};
 use std::alloc::Global;
-use std::collections::BTreeMap;
 
-/// The insertions by rising identifier, and then the deletions by rising identifier.
-pub(crate) fn operations_of(
-    alloc: Global,
-    entries: &BTreeMap<Id, Record>,
-) -> Result<Vec<Op>, Refusal>
-    ensures ok { IfOk result
-        (λ ops. ops.items ≡ operations (content_of_records entries.now.entries)) }
+/// The insertions by rising identifier, and then the deletions by rising identifier. There is room
+/// for so many at first.
+pub(crate) fn operations_of(alloc: Global, entries: &Pages, room: usize) -> Result<Vec<Op>, Refusal>
+    ensures ok { IfOk result (λ ops. ops.items ≡ operations (content_of_records entries.now)) }
     ensures memory { IfErr result (λ e. e ≡ Refusal.Memory) }
 {
-    let mut ops = Vec::with_capacity(alloc, entries.len())?;
-    push_insertions(&mut ops, entries)?;
-    push_deletions(&mut ops, entries)?;
+    let mut ops = Vec::with_capacity(alloc, room)?;
+    push_insertions(&mut ops, entries.pages())?;
+    push_deletions(&mut ops, entries.pages())?;
     Ok(ops)
 }
 
 /// The insertions of the records, in their order.
-fn push_insertions(ops: &mut Vec<Op>, entries: &BTreeMap<Id, Record>) -> Result<(), Refusal>
-    ensures ok { let insertions = filter_map insertion_in entries.now.entries in
+fn push_insertions(ops: &mut Vec<Op>, pages: &Vec<Page>) -> Result<(), Refusal>
+    ensures ok { let insertions = filter_map insertion_in (flat pages.now.items) in
+        OnOk result (ops.new.items ≡ ops.old.items ++ map insertion_of insertions) }
+    ensures memory { IfErr result (λ e. e ≡ Refusal.Memory) }
+{
+    for page in pages {
+        push_insertions_in(ops, page.entries())?;
+    }
+    Ok(())
+}
+
+/// The insertions of some records, in their order.
+fn push_insertions_in(ops: &mut Vec<Op>, entries: &[(Id, Record)]) -> Result<(), Refusal>
+    ensures ok { let insertions = filter_map insertion_in entries.now in
         OnOk result (ops.new.items ≡ ops.old.items ++ map insertion_of insertions) }
     ensures memory { IfErr result (λ e. e ≡ Refusal.Memory) }
 {
     for (id, record) in entries {
-        if let Some((parent, ch)) = record.element {
+        if let Some((parent, ch)) = record.element() {
             let id = *id;
             ops.push(Op::Insert { id, parent, ch })?;
         }
@@ -40,9 +49,21 @@ fn push_insertions(ops: &mut Vec<Op>, entries: &BTreeMap<Id, Record>) -> Result<
 }
 
 /// The deletions of the records, in their order.
-fn push_deletions(ops: &mut Vec<Op>, entries: &BTreeMap<Id, Record>) -> Result<(), Refusal>
+fn push_deletions(ops: &mut Vec<Op>, pages: &Vec<Page>) -> Result<(), Refusal>
     ensures ok { OnOk result
-        (ops.new.items ≡ ops.old.items ++ map Op.Delete (marked_ids entries.now.entries)) }
+        (ops.new.items ≡ ops.old.items ++ map Op.Delete (marked_ids (flat pages.now.items))) }
+    ensures memory { IfErr result (λ e. e ≡ Refusal.Memory) }
+{
+    for page in pages {
+        push_deletions_in(ops, page.entries())?;
+    }
+    Ok(())
+}
+
+/// The deletions of some records, in their order.
+fn push_deletions_in(ops: &mut Vec<Op>, entries: &[(Id, Record)]) -> Result<(), Refusal>
+    ensures ok { OnOk result
+        (ops.new.items ≡ ops.old.items ++ map Op.Delete (marked_ids entries.now)) }
     ensures memory { IfErr result (λ e. e ≡ Refusal.Memory) }
 {
     for (id, record) in entries {

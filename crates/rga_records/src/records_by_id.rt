@@ -1,5 +1,5 @@
 //! Records by identifier, with the clock and the counts of their content.
-ghost use Rattle.std.specs.Prelude.{◌≡◌, ◌≢◌, ◌≤◌, ◌+◌, ◌↔◌, None, Ok, Err, OnOk, OnErr, IfOk, IfErr, true, false};
+ghost use Rattle.std.specs.Prelude.{◌≡◌, ◌≢◌, ◌≤◌, ◌+◌, ◌↔◌, None, Ok, Err, OnOk, OnErr, IfOk, IfErr, is_some, true, false};
 ghost use Rattle.std.specs.FinMap as finite_map;
 ghost use Rattle.std.specs.FinSet as finite_set;
 ghost use Rattle.rga_ops.specs.Prelude.{all_checked, answer, clock_of, element_at, join, known_count, known_ids, list_answer, nothing, operations, single, IsSound};
@@ -13,31 +13,29 @@ ghost use Rattle.rga_store.specs.Back.{without, without_insertion, without_delet
 
 use crate::counts::{count_unless, raise, uncount_unless};
 use crate::entries::{
-    Record, block_of, clear_element, clear_mark, find_element, find_record, is_known, is_marked,
-    mark, set_block, set_element,
+    block_of, clear_element, clear_mark, find_element, found_or_new, is_known, is_marked, mark,
+    set_block, set_element,
 };
 use crate::list_answer::answer_to_list;
 use crate::merging::{count_unknown, least_conflict};
 use crate::operations::operations_of;
 use rga_ops::{Found, Id, Op, Refusal};
+use rga_pages::Pages;
 use rga_store::MAX_LIMIT;
 use std::alloc::Global;
-use std::collections::BTreeMap;
 use std::marker::Model;
 
 /// What is known of each identifier: a record for each that is inserted, deleted or both, and how
 /// many there may be. Callers see the content that the records stand for, and the limit.
 #[derive(Drop)]
 pub struct Records {
-    entries: BTreeMap<Id, Record>,
+    entries: Pages,
     clock: u64,
     /// How many identifiers are inserted.
     inserted: usize,
     /// How many identifiers are inserted, deleted or both.
     known: usize,
     limit: usize,
-    /// The identifier whose block was noted last, and that block.
-    recent: (Id, usize),
 }
 
 impl Model for Records {
@@ -50,11 +48,11 @@ impl Model for Records {
     ghost use Rattle.rga_records.specs.Records.{content_of_records, AreRecords};
 
     ghost view = { λ a. record {
-      content = content_of_records a.entries.entries;
+      content = content_of_records a.entries;
       limit = a.limit;
     } };
 
-    ghost invariant = { λ a. AreRecords a.entries.entries a.clock a.inserted a.known a.limit };
+    ghost invariant = { λ a. AreRecords a.entries a.clock a.inserted a.known a.limit };
 }
 
 impl Records {
@@ -69,39 +67,26 @@ impl Records {
             return Err(Refusal::Range);
         }
         Ok(Records {
-            entries: BTreeMap::new(alloc),
+            entries: Pages::new(alloc),
             clock: 0,
             inserted: 0,
             known: 0,
             limit,
-            recent: (Id::ROOT, 0),
         })
     }
 
-    /// What is known of an identifier, and of the room that is left, by one search. Takes no
-    /// memory.
-    pub fn find(&self, id: Id) -> Found
-        ensures { facts_of result ≡ facts self.now.limit self.now.content id }
+    /// What is known of an identifier, and of the room that is left. The next calls for the same
+    /// identifier are quick. Takes no memory.
+    pub fn find(&mut self, id: Id) -> Found
+        ensures facts { facts_of result ≡ facts self.old.limit self.old.content id }
+        ensures same { self.new ≡ self.old }
     {
-        let known = self.known;
-        let limit = self.limit;
-        match find_record(&self.entries, id) {
-            Some(record) => {
-                let element = record.element;
-                let deleted = record.deleted;
-                Found {
-                    element,
-                    deleted,
-                    known,
-                    limit,
-                }
-            }
-            None => Found {
-                element: None,
-                deleted: false,
-                known,
-                limit,
-            },
+        let record = found_or_new(self.entries.look_up(id));
+        Found {
+            element: record.element(),
+            deleted: record.deleted,
+            known: self.known,
+            limit: self.limit,
         }
     }
 
@@ -171,13 +156,18 @@ impl Records {
         self.limit
     }
 
-    /// The name of the block in which the element of an identifier may stand, as it was noted; 0
-    /// where nothing was. What was noted last costs no search. Takes no memory.
-    pub fn block(&self, id: Id) -> usize {
-        if self.recent.0 == id {
-            return self.recent.1;
-        }
+    /// The name of the block in which the element of an identifier that is inserted may stand, as
+    /// it was noted. Takes no memory.
+    pub fn block_if_inserted(&self, id: Id) -> Option<usize>
+        ensures { is_some result ≡ finite_map.contains_key self.now.content.inserted id }
+    {
         block_of(&self.entries, id)
+    }
+
+    /// The name of the block in which the element of an identifier may stand, as it was noted; 0
+    /// where nothing was. Takes no memory.
+    pub fn block(&self, id: Id) -> usize {
+        block_of(&self.entries, id).unwrap_or(0)
     }
 
     /// Notes the name of the block in which the element of a known identifier may stand. Takes no
@@ -186,7 +176,6 @@ impl Records {
         ensures { self.new ≡ self.old }
     {
         set_block(&mut self.entries, id, block);
-        self.recent = (id, block);
     }
 
     /// Takes an insertion that is new, and notes the name of the block in which the element may
@@ -201,7 +190,6 @@ impl Records {
     {
         let deleted = set_element(&mut self.entries, id, parent, ch, block)?;
         self.inserted += 1;
-        self.recent = (id, block);
         count_unless(deleted, &mut self.known);
         raise(&mut self.clock, id.counter());
         Ok(())
@@ -269,7 +257,7 @@ impl Records {
         ensures ok { IfOk result (λ ops. ops.items ≡ operations self.now.content) }
         ensures memory { IfErr result (λ e. e ≡ Refusal.Memory) }
     {
-        operations_of(alloc, &self.entries)
+        operations_of(alloc, &self.entries, self.known)
     }
 
     /// The least identifier that names two insertions, one in each. Takes no memory.
@@ -284,6 +272,7 @@ impl Records {
         ensures { known_count self.now.content + result
             ≡ known_count (join self.now.content other.now.content) }
     {
+        let _few = other.known();
         count_unknown(&self.entries, &other.entries)
     }
 

@@ -1,8 +1,7 @@
 -- What a block keeps: an identifier that none is less than.
-use Rattle.std.proofs.Common.{◌≡◌, ℕ, suc, zero, Bool, true, false, List, [], ◌∷◌, ◌++◌, take, drop, refl, sym, ap, ◌∙◌, true≢false, arith, length, ◌≤◌, ◌<◌, ◌+◌, cond, subst, slice_index_or}
+use Rattle.std.proofs.Common.{◌≡◌, ℕ, suc, zero, Bool, true, false, List, [], ◌∷◌, ◌++◌, take, drop, refl, sym, ap, ◌∙◌, true≢false, length, ◌<◌, ◌+◌, cond, subst, slice_index_or}
 use Rattle.std.specs.Prelude.{insert, remove}
 use Rattle.std.specs.Ordering.{is_gt, ordering_reverse}
-use Rattle.std.specs.List.{AllByRecursion}
 use Rattle.std.specs.declared.cmp.Ordering.{Ordering}
 use Rattle.std.specs.declared.cmp.Ordering.TheVariants.{Less, Equal, Greater}
 use Rattle.std.proofs.lemmas.List.{take_more}

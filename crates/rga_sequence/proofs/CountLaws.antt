@@ -1,12 +1,12 @@
 -- How many entries are visible in a list that changes, and which these are.
-use Rattle.std.proofs.Common.{◌≡◌, ℕ, ◌+◌, ◌-◌, ◌<◌, ◌≤◌, suc, zero, Bool, true, false, cond, not, List, [], ◌∷◌, ◌++◌, filter, map, length, take, drop, slice_index_or, refl, sym, ap, ◌∙◌, arith, length-append}
+use Rattle.std.proofs.Common.{◌≡◌, ℕ, ◌+◌, ◌-◌, ◌<◌, ◌≤◌, suc, zero, Bool, true, false, cond, not, List, [], ◌∷◌, ◌++◌, length, take, drop, slice_index_or, refl, sym, ap, ◌∙◌, arith, length-append}
 use Rattle.std.specs.Prelude.{insert, remove}
 use Rattle.std.specs.List.{slice_get}
 use Rattle.std.proofs.lemmas.List.{take_more, drop_more, map-append}
 use Rattle.std.proofs.lemmas.List.Elements.{filter-append}
 use Rattle.rga_ops.specs.Identifier.{Identifier}
 use Rattle.rga_sequence.specs.declared.entry.Entry.{Entry}
-use Rattle.rga_sequence.specs.Entries.{ids, visible_entries, visible_count, visible_ids, visible_text}
+use Rattle.rga_sequence.specs.Entries.{ids, visible_entries, visible_count, visible_ids}
 use Rattle.rga_sequence.specs.Blocks.{Blocks, flat, before, mark_at_index}
 
 pub visible_both : (xs ys : List Entry) → visible_entries (xs ++ ys) ≡ visible_entries xs ++ visible_entries ys
@@ -86,6 +86,19 @@ pub length_marked : (mark : Bool) (xs : List Entry) (i : ℕ) → length (mark_a
 length_marked mark [] i = refl
 length_marked mark (x ∷ xs) zero = refl
 length_marked mark (x ∷ xs) (suc i) = ap (λ n. suc n) (length_marked mark xs i)
+
+remove_marked : (mark : Bool) (xs : List Entry) (i : ℕ) → remove (mark_at_index mark i xs) i ≡ remove xs i
+remove_marked mark [] i = refl
+remove_marked mark (x ∷ xs) zero = refl
+remove_marked mark (x ∷ xs) (suc i) = ap (λ r. x ∷ r) (remove_marked mark xs i)
+
+pub count_marked : (mark : Bool) (xs : List Entry) (i : ℕ) (x y : Entry) → i < length xs → x ≡ slice_index_or xs i x → y ≡ slice_index_or (mark_at_index mark i xs) i y → visible_count (mark_at_index mark i xs) + visible_count (x ∷ []) ≡ visible_count xs + visible_count (y ∷ [])
+count_marked mark xs i x y w old new =
+    let long : length (mark_at_index mark i xs) ≡ length xs = length_marked mark xs i in
+    let before : visible_count xs ≡ visible_count (remove xs i) + visible_count (x ∷ []) = count_remove xs i x w old in
+    let now : visible_count (mark_at_index mark i xs) ≡ visible_count (remove (mark_at_index mark i xs) i) + visible_count (y ∷ []) = count_remove (mark_at_index mark i xs) i y (omega (arith, long, w)) new in
+    let rest : visible_count (remove (mark_at_index mark i xs) i) ≡ visible_count (remove xs i) = ap visible_count (remove_marked mark xs i) in
+    omega (arith, before, now, rest)
 
 -- ---- by index
 

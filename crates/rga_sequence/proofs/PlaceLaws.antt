@@ -175,6 +175,15 @@ at_end bs b i d entry p h w e =
     let none : behind bs b i ≡ [] = ap (λ n. behind bs b n) (full bs b i d p h) ∙ end_behind bs b d (omega arith) in
     ap (put_past_larger entry) none ∙ ap (λ r. entry ∷ r) (sym none)
 
+-- the front of a block is the end of the one before it
+pub back_before : (bs : Blocks) (b c i j : ℕ) (d : List Entry) → suc b ≡ c → j ≡ 0 → i ≡ length (slice_index_or bs b d) → c < length bs → before bs b i ≡ before bs c j
+back_before bs b c i j d next front end w =
+    ap (λ n. before bs b n) end ∙ next_before bs b d (omega (arith, next, w)) ∙ ap (λ n. before bs n 0) next ∙ ap (λ n. before bs c n) (sym front)
+
+pub back_behind : (bs : Blocks) (b c i j : ℕ) (d : List Entry) → suc b ≡ c → j ≡ 0 → i ≡ length (slice_index_or bs b d) → c < length bs → behind bs b i ≡ behind bs c j
+back_behind bs b c i j d next front end w =
+    ap (λ n. behind bs b n) end ∙ next_behind bs b d (omega (arith, next, w)) ∙ ap (λ n. behind bs n 0) next ∙ ap (λ n. behind bs c n) (sym front)
+
 pub moved_place : (bs : Blocks) (b i cut : ℕ) → IsPlace bs b i → cut ≤ i → IsPlace (cut_in bs b cut) (b + 1) (i - cut)
 moved_place bs b i cut p h = subst (λ n. IsPlace (cut_in bs b cut) n (i - cut)) (one_up b) (late_place bs b i cut p h)
 

@@ -1,13 +1,11 @@
 -- Blocks into which an entry comes or from which one goes: what stands in them, apart and in no empty block.
-use Rattle.std.proofs.Common.{◌≡◌, ℕ, ◌+◌, ◌-◌, ◌<◌, ◌≤◌, suc, zero, Bool, true, false, cond, not, ◌||◌, List, [], ◌∷◌, ◌++◌, filter, map, length, take, drop, slice_index_or, refl, sym, ap, ◌∙◌, subst, arith, true≢false, append_assoc}
+use Rattle.std.proofs.Common.{◌≡◌, ℕ, ◌+◌, ◌<◌, ◌≤◌, suc, zero, Bool, true, false, cond, not, ◌||◌, List, [], ◌∷◌, ◌++◌, length, take, drop, slice_index_or, refl, sym, ap, ◌∙◌, subst, arith, true≢false, append_assoc}
 use Rattle.std.specs.Prelude.{insert, remove, slice_set, Result, Ok, Err, OnOk, OnErr}
-use Rattle.std.specs.List.{list_any, AllByRecursion, IsDistinct}
-use Rattle.std.proofs.lemmas.List.Folds.{list_any-append}
-use Rattle.rga_ops.specs.Identifier.{Identifier, is_id, is_root}
-use Rattle.rga_ops.proofs.IdentifierLaws.{is_id-itself}
+use Rattle.std.specs.List.{AllByRecursion, IsDistinct}
+use Rattle.rga_ops.specs.Identifier.{Identifier, is_id}
 use Rattle.rga_sequence.specs.declared.entry.Entry.{Entry}
-use Rattle.rga_sequence.specs.Entries.{has, without_entry, as_marked, mark_entry, put_entry, AreApart, IsPart}
-use Rattle.rga_sequence.specs.Blocks.{Blocks, flat, before, behind, cut_in, mark_at_index, IsPlace, Stands, AreFilled}
+use Rattle.rga_sequence.specs.Entries.{has, without_entry, as_marked, mark_entry, AreApart, IsPart}
+use Rattle.rga_sequence.specs.Blocks.{Blocks, flat, before, behind, cut_in, IsPlace, AreFilled}
 use Rattle.rga_sequence.proofs.PlaceLaws.{parted, other_place}
 use Rattle.rga_sequence.proofs.StandLaws.{id_swap}
 
@@ -142,6 +140,11 @@ one_up n = omega arith
 
 pub own_at : (bs : Blocks) (b : ℕ) (e : Entry) (d : List Entry) → b < length bs → flat (insert bs (b + 1) (e ∷ [])) ≡ before bs b (length (slice_index_or bs b d)) ++ e ∷ behind bs b (length (slice_index_or bs b d))
 own_at bs b e d w = ap (λ n. flat (insert bs n (e ∷ []))) (sym (one_up b)) ∙ own_there bs b e d w
+
+pub own_front : (bs : Blocks) (b : ℕ) (e : Entry) → b < length bs → flat (insert bs b (e ∷ [])) ≡ before bs b 0 ++ e ∷ behind bs b 0
+own_front [] b e w = absurd (omega arith)
+own_front (x ∷ xs) zero e w = refl
+own_front (x ∷ xs) (suc b) e w = ap (λ r. x ++ r) (own_front xs b e (omega arith)) ∙ sym (append_assoc x (before xs b 0) (e ∷ behind xs b 0))
 
 -- ---- both blocks of a cut one have room
 

@@ -1,13 +1,13 @@
 -- What stands where an identifier does: one entry, with no other of that identifier before or behind it.
-use Rattle.std.proofs.Common.{◌≡◌, ℕ, ◌+◌, ◌<◌, ◌≤◌, suc, zero, Bool, true, false, cond, not, ◌||◌, List, [], ◌∷◌, ◌++◌, filter, map, length, take, drop, slice_index_or, refl, sym, ap, ◌∙◌, subst, arith, true≢false, append_assoc}
-use Rattle.std.specs.Prelude.{Option, Some, None, slice_set}
-use Rattle.std.specs.List.{slice_get, list_any, AllByRecursion, IsDistinct}
+use Rattle.std.proofs.Common.{◌≡◌, ℕ, ◌+◌, ◌<◌, suc, zero, Bool, true, false, cond, not, ◌||◌, List, [], ◌∷◌, ◌++◌, length, take, drop, slice_index_or, refl, sym, ap, ◌∙◌, subst, arith, true≢false, append_assoc}
+use Rattle.std.specs.Prelude.{Some, None, slice_set}
+use Rattle.std.specs.List.{slice_get, AllByRecursion, IsDistinct}
 use Rattle.std.proofs.lemmas.Option.{same_Some, none-some}
 use Rattle.std.proofs.lemmas.List.Folds.{list_any-append}
-use Rattle.rga_ops.specs.Identifier.{Identifier, id_cmp, is_id, is_root}
+use Rattle.rga_ops.specs.Identifier.{Identifier, is_id, is_root}
 use Rattle.rga_ops.proofs.IdentifierLaws.{is_swap, is_id-same, is_id-itself}
 use Rattle.rga_sequence.specs.declared.entry.Entry.{Entry}
-use Rattle.rga_sequence.specs.Entries.{ids, has, entry_of, up_to, visible_count, change_after, change_behind, without_entry, as_marked, mark_entry, AreApart}
+use Rattle.rga_sequence.specs.Entries.{ids, has, entry_of, up_to, change_after, change_behind, without_entry, as_marked, mark_entry, AreApart}
 use Rattle.rga_sequence.specs.Blocks.{Blocks, flat, before, behind, mark_at_index, IsPlace, Stands}
 use Rattle.rga_sequence.proofs.PlaceLaws.{parted}
 

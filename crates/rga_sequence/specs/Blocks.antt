@@ -1,11 +1,12 @@
 -- Entries in blocks, and the places in these.
-use Rattle.std.specs.Prelude.{◌≡◌, ◌≤◌, ◌<◌, ℕ, Bool, false, zero, suc, List, [], ◌∷◌, ◌++◌, length, take, drop, slice_index_or, Some, if◌then◌else◌}
+use Rattle.std.specs.Prelude.{◌≡◌, ◌≤◌, ◌<◌, ◌+◌, ◌*◌, ℕ, Bool, false, zero, suc, List, [], ◌∷◌, ◌++◌, length, take, drop, slice_index_or, Some, if◌then◌else◌}
 use Rattle.std.specs.Ordering.{is_gt}
 use Rattle.std.specs.List.{slice_get, AllByRecursion}
 use Rattle.rga_ops.specs.Identifier.{Identifier, id_cmp}
 use Rattle.rga_sequence.specs.declared.entry.Entry.{Entry}
 use Rattle.rga_sequence.specs.Entries.{ids, visible_count, put_past_larger, as_marked, AreApart}
 use Rattle.rga_sequence.specs.declared.block.TheConstants.{MOST}
+use Rattle.rga_sequence.specs.declared.bounds.TheConstants.{GROUP}
 
 abbrev pub Blocks : Type 0
 Blocks = List (List Entry)
@@ -58,6 +59,12 @@ IsPlace [] block index = ⊥
 IsPlace (b ∷ bs) zero index = index ≤ length b
 IsPlace (b ∷ bs) (suc block) index = IsPlace bs block index
 
+-- from one place as from another an entry comes to the same, past the larger ones
+abbrev pub Passes : Blocks → ℕ → ℕ → ℕ → ℕ → Entry → Type 0
+Passes bs block index other end e =
+    before bs block index ++ put_past_larger e (behind bs block index)
+    ≡ before bs other end ++ put_past_larger e (behind bs other end)
+
 -- where the index is not the end of its block, an entry goes there
 abbrev pub Stops : Blocks → ℕ → ℕ → Entry → Type 0
 Stops bs block index e = index < length (slice_index_or bs block []) →
@@ -83,3 +90,25 @@ AreFilled bs = AllByRecursion (λ b. 0 < length b) bs
 pub record IsSequence (bs : Blocks) : Type 0 where
   pub apart : AreApart (flat bs)
   pub filled : AreFilled bs
+
+-- ---- bounds of groups of blocks
+
+-- no identifier is less in the blocks from `lo` to the one before `hi`
+abbrev pub AreBlocksFrom : Identifier → ℕ → ℕ → Blocks → Type 0
+AreBlocksFrom least lo hi bs = (b : ℕ) → lo ≤ b → b < hi → AreFrom least (slice_index_or bs b [])
+
+-- each identifier in those blocks is larger
+abbrev pub AreLarger : Identifier → ℕ → ℕ → Blocks → Type 0
+AreLarger id lo hi bs = (b : ℕ) → lo ≤ b → b < hi →
+    larger_at_front id (slice_index_or bs b []) ≡ length (slice_index_or bs b [])
+
+-- each bound is that of a group: no identifier in its blocks is less
+abbrev pub AreBounds : List Identifier → Blocks → Type 0
+AreBounds bounds bs = (k : ℕ) (d : Identifier) → k < length bounds →
+    AreBlocksFrom (slice_index_or bounds k d) (k * GROUP) (k * GROUP + GROUP) bs
+
+-- the bound of a block's group is not larger than an identifier
+abbrev pub IsLow : List Identifier → ℕ → Identifier → Type 0
+IsLow bounds block id = (k : ℕ) (d : Identifier) → k < length bounds →
+    k * GROUP ≤ block → block < k * GROUP + GROUP →
+    is_gt (id_cmp (slice_index_or bounds k d) id) ≡ false

@@ -1,5 +1,5 @@
 -- Entries in a row: what is told of them, and how they change.
-use Rattle.std.specs.Prelude.{◌≡◌, ℕ, Bool, true, false, List, [], ◌∷◌, ◌++◌, length, filter, map, not, Option, Some, None, if◌then◌else◌}
+use Rattle.std.specs.Prelude.{◌≡◌, ℕ, Bool, List, [], ◌∷◌, ◌++◌, length, filter, map, not, Option, Some, None, if◌then◌else◌}
 use Rattle.std.specs.Ordering.{is_gt}
 use Rattle.std.specs.List.{list_any, IsDistinct}
 use Rattle.rga_ops.specs.Identifier.{Identifier, id_cmp, is_id, is_root}

@@ -14,6 +14,9 @@ use std::marker::Model;
 /// How many entries a block has at most.
 pub(crate) const MOST: usize = 256;
 
+/// For how many entries a block asks for room at a time.
+const ROOM: usize = 64;
+
 /// Some entries in a row. It knows how many of them are visible, and an identifier that none of
 /// theirs is less than. By its name it is found wherever it stands.
 #[derive(Drop)]
@@ -42,6 +45,8 @@ fn insert_into(entries: &mut Vec<Entry>, index: usize, entry: Entry) -> Result<(
     ensures err { OnErr result (entries.new.items ≡ entries.old.items) }
     ensures memory { IfErr result (λ e. e ≡ Refusal.Memory) }
 {
+    let len = entries.as_slice().len();
+    entries.reserve_exact(ROOM - len % ROOM)?;
     if entries.insert(index, entry).is_err() {
         return Err(Refusal::Memory);
     }
@@ -64,13 +69,13 @@ fn new_least(entries: &[Entry], least: Id, id: Id) -> Id
     least
 }
 
-/// The entries from an index on, in room for as many as a block has at most.
+/// The entries from an index on, in room for so many.
 fn copy_from(alloc: Global, entries: &[Entry], from: usize) -> Result<Vec<Entry>, Refusal>
     requires { from ≤ length entries.now }
     ensures ok { IfOk result (λ copy. copy.items ≡ drop from entries.now) }
     ensures memory { IfErr result (λ e. e ≡ Refusal.Memory) }
 {
-    let mut copy = Vec::with_capacity(alloc, MOST)?;
+    let mut copy = Vec::with_capacity(alloc, entries.len() - from)?;
     copy.extend_from_slice(&entries[from..])?;
     Ok(copy)
 }
@@ -104,9 +109,16 @@ impl Block {
         ensures ok { IfOk result (λ b. b ≡ entry ∷ []) }
         ensures memory { IfErr result (λ e. e ≡ Refusal.Memory) }
     {
-        let mut entries = Vec::new(alloc);
+        let mut entries = Vec::with_capacity(alloc, ROOM)?;
         entries.push(entry)?;
         Ok(Block::of(entries, name))
+    }
+
+    /// An identifier that none of the entries' is less than.
+    pub(crate) fn least(&self) -> Id
+        ensures { AreFrom result self.now }
+    {
+        self.least
     }
 
     /// The block's name.
@@ -206,10 +218,11 @@ impl Block {
         Ok(Block::of(entries, name))
     }
 
-    /// What stands from an index on goes.
-    pub(crate) fn cut(&mut self, at: usize)
+    /// What stands from an index on goes; the block has another name now.
+    pub(crate) fn cut(&mut self, at: usize, name: usize)
         ensures { self.new ≡ take at self.old }
     {
+        self.name = name;
         self.entries.truncate(at);
         self.visible = count_visible(self.entries.as_slice());
         self.least = least_of(self.entries.as_slice());
@@ -229,8 +242,10 @@ impl Block {
         requires { index < length self.old }
         ensures { self.new ≡ mark_at_index deleted index self.old }
     {
+        let before = count_one(self.entries[index]);
         mark(&mut self.entries, index, deleted);
-        self.visible = count_visible(self.entries.as_slice());
+        let now = count_one(self.entries[index]);
+        self.visible = self.visible - before + now;
     }
 
     /// A block of the same entries and of the same name. `Memory` alone.

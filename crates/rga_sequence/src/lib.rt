@@ -10,6 +10,7 @@
 #![tactic(auto)]
 
 mod block;
+mod bounds;
 mod entry;
 mod finding;
 pub mod laws;

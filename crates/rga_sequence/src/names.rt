@@ -39,6 +39,27 @@ pub(crate) fn copy_names(alloc: Global, names: &Vec<usize>) -> Result<Vec<usize>
     Ok(copy)
 }
 
+/// The names of the two parts of a block.
+#[derive(Clone, Copy, Debug)]
+pub(crate) struct PartNames {
+    pub(crate) first: usize,
+    pub(crate) second: usize,
+}
+
+/// The part that has fewer entries gets the name that is new.
+pub(crate) fn names_of_parts(old: usize, new: usize, is_first_fewer: bool) -> PartNames {
+    if is_first_fewer {
+        return PartNames {
+            first: new,
+            second: old,
+        };
+    }
+    PartNames {
+        first: old,
+        second: new,
+    }
+}
+
 /// The blocks from an index on stand where they stand now.
 pub(crate) fn renumber(names: &mut Vec<usize>, blocks: &Vec<Block>, from: usize)
     ensures { vec_len names.new ≡ vec_len names.old }

@@ -74,7 +74,7 @@ pub(crate) fn count_visible(entries: &[Entry]) -> usize
 }
 
 /// The lesser one of two identifiers.
-fn lesser(id: Id, other: Id) -> Id
+pub(crate) fn lesser(id: Id, other: Id) -> Id
     ensures first { is_gt (id_cmp result id) ≡ false }
     ensures second { is_gt (id_cmp result other) ≡ false }
 {

@@ -32,6 +32,8 @@ pub struct Put {
 pub struct Sequence {
     alloc: Global,
     blocks: Vec<Block>,
+    // Of groups of blocks, what none of their identifiers is less than.
+    bounds: Vec<Id>,
     // Where the block of each name stands, and where an entry was looked for last.
     names: Vec<usize>,
     last: Place,
@@ -40,13 +42,14 @@ pub struct Sequence {
 impl Model for Sequence {
     ghost use Rattle.std.specs.Prelude.{List};
     ghost use Rattle.rga_sequence.specs.declared.entry.Entry.{Entry};
-    ghost use Rattle.rga_sequence.specs.Blocks.{flat, IsSequence};
+    ghost use Rattle.rga_sequence.specs.Blocks.{flat, IsSequence, AreBounds};
 
     ghost Value = { List Entry };
 
     ghost view = { λ s. flat s.blocks.items };
 
-    ghost invariant = { λ s. IsSequence s.blocks.items };
+    ghost invariant = { λ s.
+        IsSequence s.blocks.items × AreBounds s.bounds.items s.blocks.items };
 }
 
 impl Sequence {
@@ -57,6 +60,7 @@ impl Sequence {
         Sequence {
             alloc,
             blocks: Vec::new(alloc),
+            bounds: Vec::new(alloc),
             names: Vec::new(alloc),
             last: Place { block: 0, index: 0 },
         }
@@ -79,6 +83,7 @@ impl Sequence {
         let at = put_behind(
             self.alloc,
             &mut self.blocks,
+            &mut self.bounds,
             hints,
             parent,
             new_name,
@@ -92,7 +97,8 @@ impl Sequence {
             });
         }
         add_name(&mut self.names);
-        renumber(&mut self.names, &self.blocks, at.block);
+        // Where a block was cut, it may be the one before that has the new name.
+        renumber(&mut self.names, &self.blocks, at.block.saturating_sub(1));
         Ok(Put {
             name: name_at(&self.blocks, at.block),
             new_block: Some(new_name),
@@ -106,7 +112,7 @@ impl Sequence {
         let hints = hints_of(&self.names, self.last, name);
         let count = self.blocks.as_slice().len();
         if let Some(at) = find(&self.blocks, hints, id) {
-            remove_at(&mut self.blocks, at, id);
+            remove_at(&mut self.blocks, &mut self.bounds, at, id);
             if self.blocks.as_slice().len() < count {
                 renumber(&mut self.names, &self.blocks, at.block);
             }
@@ -217,6 +223,7 @@ impl Sequence {
         Ok(Sequence {
             alloc,
             blocks,
+            bounds: Vec::new(alloc),
             names,
             last: self.last,
         })

@@ -3,9 +3,10 @@ ghost use Rattle.std.specs.Prelude.{◌≡◌, ◌≢◌, ◌<◌, ◌+◌, ◌+
 ghost use Rattle.rga_ops.specs.Identifier.{is_root};
 ghost use Rattle.rga_sequence.specs.declared.entry.Entry.{Entry};
 ghost use Rattle.rga_sequence.specs.Entries.{has, change_behind, put_past_larger};
-ghost use Rattle.rga_sequence.specs.Blocks.{flat, before, behind, IsPlace, Stops, IsSequence};
+ghost use Rattle.rga_sequence.specs.Blocks.{flat, before, behind, IsPlace, Passes, Stops, IsSequence, AreBounds};
 
-use crate::block::Block;
+use crate::block::{Block, MOST};
+use crate::bounds::past_groups;
 use crate::entry::Entry;
 use crate::finding::{Hints, find};
 use crate::place::Place;
@@ -39,9 +40,7 @@ fn past_in_block(blocks: &Vec<Block>, at: Place, entry: &Entry) -> usize
     requires place { IsPlace blocks.now.items at.block at.index }
     ensures place { IsPlace blocks.now.items at.block result }
     ensures stops { Stops blocks.now.items at.block result entry.now }
-    ensures past { let bs = blocks.now.items in
-        before bs at.block at.index ++ put_past_larger entry.now (behind bs at.block at.index)
-        ≡ before bs at.block result ++ put_past_larger entry.now (behind bs at.block result) }
+    ensures past { Passes blocks.now.items at.block at.index at.block result entry.now }
 {
     blocks[at.block].past_larger(at.index, entry.id)
 }
@@ -66,10 +65,38 @@ fn goes_on(blocks: &Vec<Block>, block: usize, index: usize) -> bool
     block + 1 < blocks.as_slice().len()
 }
 
-/// The place behind `from` and the identifiers larger than an entry's that stand there.
-pub(crate) fn skip(blocks: &Vec<Block>, from: Place, entry: &Entry) -> Place
+/// The same place, as the end of the block before it where there is room.
+fn back(blocks: &Vec<Block>, at: Place) -> Place
+    requires block { at.block < vec_len blocks.now }
+    requires place { IsPlace blocks.now.items at.block at.index }
+    ensures block { result.block < vec_len blocks.now }
+    ensures place { IsPlace blocks.now.items result.block result.index }
+    ensures before { before blocks.now.items result.block result.index
+        ≡ before blocks.now.items at.block at.index }
+    ensures behind { behind blocks.now.items result.block result.index
+        ≡ behind blocks.now.items at.block at.index }
+{
+    if at.index > 0 {
+        return at;
+    }
+    if at.block == 0 {
+        return at;
+    }
+    let block = at.block - 1;
+    let index = blocks[block].len();
+    if index == MOST {
+        return at;
+    }
+    Place { block, index }
+}
+
+/// The place behind `from` and the identifiers larger than an entry's that stand there. The bounds
+/// that are missing on the way are noted.
+pub(crate) fn skip(blocks: &Vec<Block>, bounds: &mut Vec<Id>, from: Place, entry: &Entry) -> Place
     requires block { from.block < vec_len blocks.now }
     requires place { IsPlace blocks.now.items from.block from.index }
+    requires bounds { AreBounds bounds.old.items blocks.now.items }
+    ensures bounds { AreBounds bounds.new.items blocks.now.items }
     ensures block { result.block < vec_len blocks.now }
     ensures place { IsPlace blocks.now.items result.block result.index }
     ensures skipped { let bs = blocks.now.items in
@@ -79,8 +106,8 @@ pub(crate) fn skip(blocks: &Vec<Block>, from: Place, entry: &Entry) -> Place
     let mut block = from.block;
     let mut index = past_in_block(blocks, from, entry);
     while goes_on(blocks, block, index) {
-        block += 1;
+        block = past_groups(blocks, bounds, block + 1, entry);
         index = past_in_block(blocks, Place { block, index: 0 }, entry);
     }
-    Place { block, index }
+    back(blocks, Place { block, index })
 }

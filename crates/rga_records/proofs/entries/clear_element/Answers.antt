@@ -1,34 +1,32 @@
-use Rattle.std.proofs.Common.{◌≡◌, is_some, refl, sym, ap, ◌∙◌}
+use Rattle.std.proofs.Common.{◌≡◌, true, is_some, refl, sym, ap, ◌∙◌, subst}
 use Rattle.std.specs.Prelude.{Some, None}
-use Rattle.std.specs.Option.{option_copied_mut}
-use Rattle.std.specs.Map.{lookup}
-use Rattle.rga_ops.proofs.IdentifierLaws.{is}
-use Rattle.rga_records.specs.declared.entries.Record.{Record}
-use Rattle.rga_records.specs.Records.{Entries, content_of_records}
-use Rattle.rga_records.proofs.RecordLaws.{mark_of, deleted_at, none_missed, content_uninserted}
+use Rattle.rga_pages.specs.declared.entry.Record.{Record}
+use Rattle.rga_pages.specs.Pages.{record_of, Updates}
+use Rattle.rga_records.proofs.RecordLaws.{mark_of, some_marked, not_true, not_false, deleted_at, content_uninserted}
 use Rattle.rga_records.proofs.entries.clear_element.Goals as goal
 
-pub returns-then-not-is_marked-clause-content : goal.returns-then-not-is_marked-clause-content
-returns-then-not-is_marked-clause-content c =
-    content_uninserted c.args.entries.now.entries c.remove-gone.new.self.entries c.args.id None c.requires c.remove-gone.ensures.ordered c.remove-gone.ensures.updates.0 refl
-    (sym c.if-not-is_marked.true ∙ c.is_marked.ensures ∙ deleted_at c.args.entries.now.entries c.requires c.args.id)
+pub returns-then-not-record-clause-deleted : goal.returns-then-not-record-clause-deleted
+returns-then-not-record-clause-deleted c =
+    sym (not_true _ c.if-not-record.true) ∙ c.found_or_new-record.ensures.mark ∙ ap mark_of c.look_up.ensures.value
+    ∙ sym (deleted_at c.args.entries.now c.look_up.ensures.ordered c.args.id)
 
-abbrev written : (c : goal.After-entries-in-Some-1) → Record
-written c = record { element = None; deleted = c.in-Some.record.now.deleted; block = c.in-Some.record.now.block }
+pub returns-then-not-record-clause-content : goal.returns-then-not-record-clause-content
+returns-then-not-record-clause-content c =
+    content_uninserted c.args.entries.now c.remove.new.self c.args.id None c.look_up.ensures.ordered c.remove.ensures.ordered
+    (subst (λ es. Updates es c.remove.new.self c.args.id None) c.look_up.ensures.same c.remove.ensures.updates) refl
+    (sym (not_true _ c.if-not-record.true) ∙ c.found_or_new-record.ensures.mark ∙ ap mark_of c.look_up.ensures.value)
 
-abbrev after : (c : goal.After-entries-in-Some-1) → Entries
-after c = (c.get_mut.follows.lender (written c)).entries
+is_deleted : (c : goal.After-set) → true ≡ mark_of (record_of c.args.id c.args.entries.now)
+is_deleted c = sym (not_false _ c.if-not-record.false) ∙ c.found_or_new-record.ensures.mark ∙ ap mark_of c.look_up.ensures.value
 
-found : (c : goal.After-entries-in-Some-1) → lookup (is c.args.id) c.args.entries.now.entries ≡ Some c.in-Some.record.now
-found c = sym c.get_mut.ensures.value ∙ ap option_copied_mut c.in-Some.is
+pub returns-clause-deleted : goal.returns-clause-deleted
+returns-clause-deleted c = is_deleted c ∙ sym (deleted_at c.args.entries.now c.look_up.ensures.ordered c.args.id)
 
-pub returns-in-Some-clause-content : goal.returns-in-Some-clause-content
-returns-in-Some-clause-content c =
-    content_uninserted c.args.entries.now.entries (after c) c.args.id (Some (written c)) c.requires (c.get_mut.follows.holds (written c)).4
-    ((c.get_mut.follows.holds (written c)).3 (ap is_some (found c))).0 refl (sym (ap mark_of (found c)))
-
-pub returns-in_default-clause-content : goal.returns-in_default-clause-content
-returns-in_default-clause-content c =
-    let none : lookup (is c.args.id) c.args.entries.now.entries ≡ None = sym c.get_mut.ensures.value ∙ ap option_copied_mut c.in_default.is in
-    ap (λ m. content_of_records m.entries) c.get_mut.follows.holds-at-none
-    ∙ content_uninserted c.args.entries.now.entries c.args.entries.now.entries c.args.id None c.requires c.requires (none_missed c.args.entries.now.entries c.args.id none) refl (sym (ap mark_of none))
+pub returns-clause-content : goal.returns-clause-content
+returns-clause-content c =
+    let old : Record = c.found_or_new-record.result in
+    let written : Record = record { parent = old.parent; ch = None; block = old.block; deleted = true } in
+    content_uninserted c.args.entries.now c.set.new.self c.args.id (Some written) c.look_up.ensures.ordered c.set.ensures.ordered
+    (subst (λ es. Updates es c.set.new.self c.args.id (Some written)) c.look_up.ensures.same
+    (c.set.ensures.updates (ap (λ es. is_some (record_of c.args.id es)) c.look_up.ensures.same ∙ some_marked (record_of c.args.id c.args.entries.now) (sym (is_deleted c)))))
+    refl (is_deleted c)

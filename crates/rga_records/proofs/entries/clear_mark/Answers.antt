@@ -1,37 +1,43 @@
-use Rattle.std.proofs.Common.{◌≡◌, false, is_some, refl, sym, ap, ◌∙◌}
-use Rattle.std.specs.Prelude.{Some, None}
-use Rattle.std.specs.Option.{option_copied_mut}
-use Rattle.std.specs.Map.{lookup}
-use Rattle.std.specs.FinMap as finite_map
-use Rattle.rga_ops.proofs.IdentifierLaws.{is}
-use Rattle.rga_store.proofs.ElementSteps.{found_none}
-use Rattle.rga_records.specs.declared.entries.Record.{Record}
-use Rattle.rga_records.specs.Records.{Entries, content_of_records}
-use Rattle.rga_records.proofs.RecordLaws.{element_of, inserted_at, none_missed, content_undeleted}
+use Rattle.std.proofs.Common.{◌≡◌, true, false, is_some, refl, sym, ap, ◌∙◌, subst, true≢false}
+use Rattle.std.specs.Prelude.{Some, None, Option}
+use Rattle.rga_ops.specs.Content.{Element}
+use Rattle.rga_pages.specs.declared.entry.Record.{Record}
+use Rattle.rga_pages.specs.Pages.{record_of, Updates}
+use Rattle.rga_records.specs.Records.{element_in}
+use Rattle.rga_records.proofs.RecordLaws.{element_of, is_some-char, some_inserted, inserted_at, content_undeleted}
 use Rattle.rga_records.proofs.entries.clear_mark.Goals as goal
 
-pub returns-in-None-clause-content : goal.returns-in-None-clause-content
-returns-in-None-clause-content c =
-    content_undeleted c.args.entries.now.entries c.remove-gone.new.self.entries c.args.id None c.requires c.remove-gone.ensures.ordered c.remove-gone.ensures.updates.0
-    (sym (found_none (finite_map.get (content_of_records c.args.entries.now.entries).inserted c.args.id) (sym c.find_element.ensures ∙ c.in-None.is)) ∙ inserted_at c.args.entries.now.entries c.requires c.args.id)
-    refl
+-- an element that is not there
+none_there : (o : Option Element) → is_some o ≡ false → None ≡ o
+none_there None h = refl
+none_there (Some x) h = absurd (true≢false h)
 
-abbrev written : (c : goal.After-entries-in-Some-1) → Record
-written c = record { element = c.in-Some.record.now.element; deleted = false; block = c.in-Some.record.now.block }
+absent : (c : goal.After-remove) → None ≡ element_of (record_of c.args.id c.args.entries.now)
+absent c =
+    none_there (element_in c.found_or_new-record.result) (is_some-char c.found_or_new-record.result ∙ c.if-is_none.ensures)
+    ∙ c.found_or_new-record.ensures.element ∙ ap element_of c.look_up.ensures.value
 
-abbrev after : (c : goal.After-entries-in-Some-1) → Entries
-after c = (c.get_mut.follows.lender (written c)).entries
+pub returns-then-is_none-clause-inserted : goal.returns-then-is_none-clause-inserted
+returns-then-is_none-clause-inserted c = ap is_some (absent c ∙ sym (inserted_at c.args.entries.now c.look_up.ensures.ordered c.args.id))
 
-found : (c : goal.After-entries-in-Some-1) → lookup (is c.args.id) c.args.entries.now.entries ≡ Some c.in-Some.record.now
-found c = sym c.get_mut.ensures.value ∙ ap option_copied_mut c.in-Some.is
+pub returns-then-is_none-clause-content : goal.returns-then-is_none-clause-content
+returns-then-is_none-clause-content c =
+    content_undeleted c.args.entries.now c.remove.new.self c.args.id None c.look_up.ensures.ordered c.remove.ensures.ordered
+    (subst (λ es. Updates es c.remove.new.self c.args.id None) c.look_up.ensures.same c.remove.ensures.updates) (absent c) refl
 
-pub returns-in-Some-clause-content : goal.returns-in-Some-clause-content
-returns-in-Some-clause-content c =
-    content_undeleted c.args.entries.now.entries (after c) c.args.id (Some (written c)) c.requires (c.get_mut.follows.holds (written c)).4
-    ((c.get_mut.follows.holds (written c)).3 (ap is_some (found c))).0 (sym (ap element_of (found c))) refl
+is_inserted : (c : goal.After-set) → true ≡ is_some (element_of (record_of c.args.id c.args.entries.now))
+is_inserted c =
+    sym (is_some-char c.found_or_new-record.result ∙ c.if-is_none.ensures)
+    ∙ ap is_some (c.found_or_new-record.ensures.element ∙ ap element_of c.look_up.ensures.value)
 
-pub returns-in_default-get_mut-clause-content : goal.returns-in_default-get_mut-clause-content
-returns-in_default-get_mut-clause-content c =
-    let none : lookup (is c.args.id) c.args.entries.now.entries ≡ None = sym c.get_mut.ensures.value ∙ ap option_copied_mut c.in_default-get_mut.is in
-    ap (λ m. content_of_records m.entries) c.get_mut.follows.holds-at-none
-    ∙ content_undeleted c.args.entries.now.entries c.args.entries.now.entries c.args.id None c.requires c.requires (none_missed c.args.entries.now.entries c.args.id none) (sym (ap element_of none)) refl
+pub returns-clause-inserted : goal.returns-clause-inserted
+returns-clause-inserted c = is_inserted c ∙ sym (ap is_some (inserted_at c.args.entries.now c.look_up.ensures.ordered c.args.id))
+
+pub returns-clause-content : goal.returns-clause-content
+returns-clause-content c =
+    let old : Record = c.found_or_new-record.result in
+    let written : Record = record { parent = old.parent; ch = old.ch; block = old.block; deleted = false } in
+    content_undeleted c.args.entries.now c.set.new.self c.args.id (Some written) c.look_up.ensures.ordered c.set.ensures.ordered
+    (subst (λ es. Updates es c.set.new.self c.args.id (Some written)) c.look_up.ensures.same
+    (c.set.ensures.updates (ap (λ es. is_some (record_of c.args.id es)) c.look_up.ensures.same ∙ some_inserted (record_of c.args.id c.args.entries.now) (sym (is_inserted c)))))
+    (c.found_or_new-record.ensures.element ∙ ap element_of c.look_up.ensures.value) refl

@@ -1,14 +1,11 @@
 use Rattle.std.proofs.Common.{sym, ap, ◌∙◌}
-use Rattle.std.specs.Option.{option_copied}
 use Rattle.rga_records.proofs.RecordLaws.{mark_of, deleted_at}
 use Rattle.rga_records.proofs.entries.is_marked.Goals as goal
 
 pub returns-in-Some : goal.returns-in-Some
 returns-in-Some c =
-    ap mark_of (ap option_copied (sym c.in-Some.is) ∙ c.find_record.ensures)
-    ∙ sym (deleted_at c.args.entries.now.entries c.requires c.args.id)
+    ap mark_of (sym c.in-Some.is ∙ c.get.ensures.value) ∙ sym (deleted_at c.args.entries.now c.get.ensures.ordered c.args.id)
 
 pub returns-in-None : goal.returns-in-None
 returns-in-None c =
-    ap mark_of (ap option_copied (sym c.in-None.is) ∙ c.find_record.ensures)
-    ∙ sym (deleted_at c.args.entries.now.entries c.requires c.args.id)
+    ap mark_of (sym c.in-None.is ∙ c.get.ensures.value) ∙ sym (deleted_at c.args.entries.now c.get.ensures.ordered c.args.id)

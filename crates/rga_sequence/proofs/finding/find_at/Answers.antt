@@ -1,8 +1,6 @@
-use Rattle.std.proofs.Common.{◌≡◌, ◌<◌, length, List, sym, ap, ◌∙◌, subst, slice_index_or}
-use Rattle.std.specs.Prelude.{vec_len, Some}
+use Rattle.std.proofs.Common.{◌<◌, sym, ap, ◌∙◌, subst}
 use Rattle.std.specs.List.{slice_get}
 use Rattle.rga_sequence.specs.Entries.{ids}
-use Rattle.rga_sequence.specs.Blocks.{Stands}
 use Rattle.rga_sequence.proofs.StandLaws.{stands_in, has_there}
 use Rattle.rga_sequence.proofs.finding.find_at.Goals as goal
 

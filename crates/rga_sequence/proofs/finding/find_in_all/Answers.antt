@@ -1,4 +1,4 @@
-use Rattle.std.proofs.Common.{◌<◌, length, [], subst, sym, ap, refl}
+use Rattle.std.proofs.Common.{◌<◌, length, [], subst, refl}
 use Rattle.rga_sequence.proofs.StandLaws.{none_one_more}
 use Rattle.rga_sequence.proofs.finding.find_in_all.Goals as goal
 

@@ -1,4 +1,4 @@
-use Rattle.std.proofs.Common.{◌≡◌, ◌≤◌, ◌+◌, ◌-◌, ◌++◌, false, take, drop, length}
+use Rattle.std.proofs.Common.{◌≡◌, ◌-◌, false, take}
 use Rattle.rga_sequence.specs.Entries.{has}
 use Rattle.rga_sequence.specs.Blocks.{flat}
 use Rattle.std.specs.Prelude.{vec_len}

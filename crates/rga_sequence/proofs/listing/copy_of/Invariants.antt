@@ -1,4 +1,4 @@
-use Rattle.std.proofs.Common.{◌≡◌, ◌≤◌, ◌+◌, ◌-◌, ◌++◌, false, take, drop, length}
+use Rattle.std.proofs.Common.{◌≡◌, ◌++◌, drop}
 use Rattle.rga_sequence.proofs.listing.copy_of.Given as goal
 
 abbrev pub invariant-loop-block : goal.invariant-loop-block

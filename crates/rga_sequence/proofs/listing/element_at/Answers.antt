@@ -1,8 +1,7 @@
-use Rattle.std.proofs.Common.{◌≡◌, ◌+◌, ◌-◌, ◌<◌, List, length, slice_index_or, sym, ap, ◌∙◌, subst, arith}
+use Rattle.std.proofs.Common.{◌≡◌, ◌-◌, ◌<◌, length, slice_index_or, sym, ap, ◌∙◌, subst, arith}
 use Rattle.std.specs.List.{slice_get}
-use Rattle.rga_sequence.specs.declared.entry.Entry.{Entry}
-use Rattle.rga_sequence.specs.Entries.{visible_ids, visible_count}
-use Rattle.rga_sequence.specs.Blocks.{Blocks, flat}
+use Rattle.rga_sequence.specs.Entries.{visible_ids}
+use Rattle.rga_sequence.specs.Blocks.{Blocks}
 use Rattle.rga_sequence.proofs.CountLaws.{element_here, element_later}
 use Rattle.rga_sequence.proofs.listing.element_at.Goals as goal
 

@@ -1,7 +1,7 @@
-use Rattle.std.proofs.Common.{◌≡◌, ◌+◌, ◌-◌, ◌<◌, ◌++◌, List, length, take, drop, slice_index_or, sym, ap, ◌∙◌, subst, append_assoc, arith}
+use Rattle.std.proofs.Common.{◌≡◌, ◌+◌, ◌-◌, ◌<◌, ◌++◌, List, length, take, drop, slice_index_or, sym, ap, ◌∙◌, subst, append_assoc}
 use Rattle.rga_ops.specs.Identifier.{Identifier}
 use Rattle.rga_sequence.specs.declared.entry.Entry.{Entry}
-use Rattle.rga_sequence.specs.Entries.{visible_ids, visible_count}
+use Rattle.rga_sequence.specs.Entries.{visible_ids}
 use Rattle.rga_sequence.specs.Blocks.{Blocks, flat}
 use Rattle.rga_sequence.proofs.CountLaws.{range_both, rest_of, ids_both, count_ids}
 use Rattle.rga_sequence.proofs.listing.elements.Goals as goal

@@ -1,4 +1,4 @@
-use Rattle.std.proofs.Common.{◌≡◌, ◌≤◌, ◌+◌, ◌-◌, ◌++◌, false, take, drop, length}
+use Rattle.std.proofs.Common.{◌≡◌, ◌++◌, take, drop}
 use Rattle.rga_sequence.specs.Blocks.{flat}
 use Rattle.rga_sequence.specs.Entries.{visible_ids}
 use Rattle.rga_sequence.proofs.listing.elements.Given as goal

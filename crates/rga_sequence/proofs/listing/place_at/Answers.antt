@@ -1,4 +1,4 @@
-use Rattle.std.proofs.Common.{◌≡◌, ◌+◌, ◌≤◌, sym, ap, ◌∙◌}
+use Rattle.std.proofs.Common.{sym, ap, ◌∙◌}
 use Rattle.rga_sequence.specs.Entries.{visible_count}
 use Rattle.rga_sequence.proofs.StandLaws.{place_behind, up_to_there}
 use Rattle.rga_sequence.proofs.listing.place_at.Goals as goal

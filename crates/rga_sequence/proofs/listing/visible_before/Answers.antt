@@ -1,9 +1,8 @@
-use Rattle.std.proofs.Common.{◌≡◌, ◌+◌, ◌<◌, ◌≤◌, List, length, take, slice_index_or, sym, ap, ◌∙◌, subst, arith, length-append}
-use Rattle.rga_sequence.specs.declared.entry.Entry.{Entry}
+use Rattle.std.proofs.Common.{◌≡◌, ◌+◌, ◌<◌, ◌≤◌, length, take, sym, ap, ◌∙◌, subst, arith, length-append}
 use Rattle.rga_sequence.specs.Entries.{visible_count}
 use Rattle.rga_sequence.specs.Blocks.{Blocks, flat, before, behind}
 use Rattle.rga_sequence.proofs.PlaceLaws.{index_within, block_within, parted}
-use Rattle.rga_sequence.proofs.CountLaws.{count_one_more, count_beginning, count_both, before_is, count_within, count_before}
+use Rattle.rga_sequence.proofs.CountLaws.{count_one_more, count_beginning, count_within, count_before}
 use Rattle.rga_sequence.proofs.listing.visible_before.Goals as goal
 
 pub overflow_add-count : goal.overflow_add-count

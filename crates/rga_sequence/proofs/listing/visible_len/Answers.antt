@@ -1,4 +1,4 @@
-use Rattle.std.proofs.Common.{◌≡◌, ◌+◌, ◌<◌, ◌≤◌, List, length, drop, slice_index_or, sym, ap, ◌∙◌, subst, arith}
+use Rattle.std.proofs.Common.{◌≡◌, ◌+◌, ◌<◌, List, length, drop, slice_index_or, ap, ◌∙◌, subst, arith}
 use Rattle.rga_sequence.specs.declared.entry.Entry.{Entry}
 use Rattle.rga_sequence.specs.Entries.{visible_count}
 use Rattle.rga_sequence.specs.Blocks.{Blocks, flat}

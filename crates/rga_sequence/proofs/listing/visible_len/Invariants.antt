@@ -1,5 +1,4 @@
-use Rattle.std.proofs.Common.{◌≡◌, ◌≤◌, ◌+◌, ◌-◌, ◌++◌, false, take, drop, length}
-use Rattle.std.specs.Prelude.{vec_len}
+use Rattle.std.proofs.Common.{◌≡◌, ◌+◌, drop}
 use Rattle.rga_sequence.specs.Blocks.{flat}
 use Rattle.rga_sequence.specs.Entries.{visible_count}
 use Rattle.rga_sequence.proofs.listing.visible_len.Given as goal

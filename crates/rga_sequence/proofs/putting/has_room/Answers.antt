@@ -1,5 +1,4 @@
-use Rattle.std.proofs.Common.{◌≡◌, ◌<◌, ◌≤◌, length, [], sym, ap, ◌∙◌, subst, slice_index_or, arith}
-use Rattle.rga_sequence.specs.declared.block.TheConstants.{MOST}
+use Rattle.std.proofs.Common.{◌≡◌, ◌<◌, length, [], ap, ◌∙◌, subst, slice_index_or, arith}
 use Rattle.rga_sequence.proofs.PlaceLaws.{block_at}
 use Rattle.rga_sequence.proofs.putting.has_room.Goals as goal
 

@@ -1,8 +1,6 @@
-use Rattle.std.proofs.Common.{◌≡◌, ◌≤◌, ◌<◌, ◌++◌, ◌∷◌, [], List, length, slice_index_or, sym, ap, ◌∙◌, subst, arith}
-use Rattle.rga_sequence.specs.declared.entry.Entry.{Entry}
+use Rattle.std.proofs.Common.{◌<◌, [], length, slice_index_or, sym, ap, ◌∙◌, subst, arith}
 use Rattle.rga_sequence.specs.declared.block.TheConstants.{MOST}
-use Rattle.rga_sequence.specs.declared.putting.TheConstants.{HALF}
-use Rattle.rga_sequence.specs.Blocks.{Blocks, flat, before, behind, IsPlace, cut_in}
+use Rattle.rga_sequence.specs.Blocks.{Blocks, flat, IsPlace}
 use Rattle.rga_sequence.proofs.ListLaws.{on_err_always}
 use Rattle.rga_sequence.proofs.PlaceLaws.{cut_flat}
 use Rattle.rga_sequence.proofs.PutLaws.{half_place}
@@ -11,15 +9,15 @@ use Rattle.rga_sequence.proofs.putting.put_at.Goals as goal
 pub put_in_block-requires-2-clause-place : goal.put_in_block-requires-2-clause-place
 put_in_block-requires-2-clause-place c =
     let bs : Blocks = c.args.blocks.now.items in
-    subst (λ cs. IsPlace cs c.moved-place.result.block c.moved-place.result.index) (sym c.in_ok-halve.ensures.ok)
-    (c.moved-place.ensures.place bs c.requires.place (half_place bs c.args.at.block c.args.at.index HALF MOST c.requires.place (c.has_room.ensures.full c.if-has_room.false) (omega arith)))
+    subst (λ cs. IsPlace cs c.moved-place.result.block c.moved-place.result.index) (sym c.in_ok-cut_block.ensures.ok)
+    (c.moved-place.ensures.place bs c.requires.place (half_place bs c.args.at.block c.args.at.index c.cut_for-cut.result MOST c.requires.place (c.has_room.ensures.full c.if-has_room.false) (omega (arith, c.cut_for-cut.ensures.second))))
 
 pub put_in_block-requires-2-clause-room : goal.put_in_block-requires-2-clause-room
 put_in_block-requires-2-clause-room c =
-    subst (λ cs. length (slice_index_or cs c.moved-place.result.block []) < MOST) (sym c.in_ok-halve.ensures.ok)
+    subst (λ cs. length (slice_index_or cs c.moved-place.result.block []) < MOST) (sym c.in_ok-cut_block.ensures.ok)
     (c.moved-place.ensures.room c.args.blocks.now.items (c.has_room.ensures.full c.if-has_room.false))
 
 pub returns-in_err-put_in_block-2-clause-err : goal.returns-in_err-put_in_block-2-clause-err
 returns-in_err-put_in_block-2-clause-err c =
     on_err_always c.from_residual-in_err-put_in_block-2.result
-    (c.in_err-put_in_block-2.ensures.err ∙ ap flat c.in_ok-halve.ensures.ok ∙ cut_flat c.args.blocks.now.items c.args.at.block HALF)
+    (c.in_err-put_in_block-2.ensures.err ∙ ap flat c.in_ok-cut_block.ensures.ok ∙ cut_flat c.args.blocks.now.items c.args.at.block c.cut_for-cut.result)

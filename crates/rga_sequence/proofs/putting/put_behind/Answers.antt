@@ -1,8 +1,6 @@
-use Rattle.std.proofs.Common.{◌≡◌, ◌||◌, ◌++◌, ◌∷◌, [], true, false, List, length, sym, ap, ◌∙◌, subst}
-use Rattle.rga_ops.specs.Identifier.{is_root}
-use Rattle.rga_sequence.specs.declared.entry.Entry.{Entry}
-use Rattle.rga_sequence.specs.Entries.{has, put_past_larger, put_entry, AreApart}
-use Rattle.rga_sequence.specs.Blocks.{Blocks, flat, before, behind, IsSequence}
+use Rattle.std.proofs.Common.{sym, ◌∙◌, subst}
+use Rattle.rga_sequence.specs.Entries.{put_past_larger, AreApart}
+use Rattle.rga_sequence.specs.Blocks.{flat}
 use Rattle.rga_sequence.proofs.ListLaws.{on_ok_map}
 use Rattle.rga_sequence.proofs.PutLaws.{apart_there, apart_one, either_way}
 use Rattle.rga_sequence.proofs.putting.put_behind.Goals as goal

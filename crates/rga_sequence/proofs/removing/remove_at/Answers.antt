@@ -1,12 +1,13 @@
-use Rattle.std.proofs.Common.{◌≡◌, ◌<◌, ◌≤◌, ◌+◌, length, List, [], sym, ap, ◌∙◌, subst, slice_index_or, arith}
+use Rattle.std.proofs.Common.{◌≡◌, ◌<◌, ◌+◌, length, List, [], sym, ap, ◌∙◌, subst, slice_index_or, arith}
 use Rattle.std.specs.Prelude.{remove, slice_set}
 use Rattle.rga_sequence.specs.declared.entry.Entry.{Entry}
 use Rattle.rga_sequence.specs.Entries.{without_entry, AreApart}
-use Rattle.rga_sequence.specs.Blocks.{Blocks, flat, AreFilled, IsSequence}
+use Rattle.rga_sequence.specs.Blocks.{Blocks, flat, AreFilled, AreBounds}
 use Rattle.rga_sequence.proofs.PlaceLaws.{block_at}
 use Rattle.rga_sequence.proofs.StandLaws.{index_there, without_there}
 use Rattle.rga_sequence.proofs.CountLaws.{length_remove}
-use Rattle.rga_sequence.proofs.PutLaws.{block_gone, removed_there, filled_set, filled_remove, filled_at, apart_without}
+use Rattle.rga_sequence.proofs.PutLaws.{block_gone, removed_there, filled_set, filled_remove, apart_without}
+use Rattle.rga_sequence.proofs.BoundLaws.{bounds_remove, bounds_without}
 use Rattle.rga_sequence.proofs.removing.remove_at.Goals as goal
 
 pub returns-then-len-eq1-clause-gone : goal.returns-then-len-eq1-clause-gone
@@ -62,3 +63,16 @@ returns-clause-kept c =
       apart = subst AreApart (sym gone) (apart_without c.args.id (flat bs) c.requires.kept.apart);
       filled = filled_set bs c.args.at.block c.remove-2.new.self c.requires.kept.filled (subst (λ xs. 0 < length xs) (sym c.remove-2.ensures) (omega (arith, less, count, c.if-len-eq1.false, there)));
     }
+
+pub returns-then-len-eq1-clause-bounds : goal.returns-then-len-eq1-clause-bounds
+returns-then-len-eq1-clause-bounds c =
+    let bs : Blocks = c.args.blocks.now.items in
+    subst (AreBounds c.forget_from.new.bounds.items) (sym c.remove.ensures.items)
+    (bounds_remove c.forget_from.new.bounds.items bs c.args.at.block (c.forget_from.ensures.kept bs c.requires.bounds) c.forget_from.ensures.early (subst (λ n. c.args.at.block < n) c.args.blocks.now.ok.0 c.requires.block))
+
+pub returns-clause-bounds : goal.returns-clause-bounds
+returns-clause-bounds c =
+    let bs : Blocks = c.args.blocks.now.items in
+    let now : c.remove-2.new.self ≡ remove (slice_index_or bs c.args.at.block []) c.args.at.index =
+    c.remove-2.ensures ∙ ap (λ y. remove y c.args.at.index) (c.index_mut.ensures.value ∙ block_at bs c.args.at.block c.index_mut.result.now [] (subst (λ n. c.args.at.block < n) c.args.blocks.now.ok.0 c.requires.block)) in
+    subst (λ xs. AreBounds c.args.bounds.now.items (slice_set bs c.args.at.block xs)) (sym now) (bounds_without c.args.bounds.now.items bs c.args.at.block c.args.at.index c.requires.bounds)

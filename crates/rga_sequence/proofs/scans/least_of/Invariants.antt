@@ -1,4 +1,4 @@
-use Rattle.std.proofs.Common.{◌≡◌, ◌≤◌, ◌+◌, ◌-◌, ◌++◌, false, take, drop, length}
+use Rattle.std.proofs.Common.{take}
 use Rattle.rga_sequence.specs.Blocks.{AreFrom}
 use Rattle.rga_sequence.proofs.scans.least_of.Given as goal
 

@@ -1,4 +1,4 @@
-use Rattle.std.proofs.Common.{◌≡◌, ◌≤◌, ◌+◌, ◌-◌, ◌++◌, false, take, drop, length}
+use Rattle.std.proofs.Common.{◌≡◌, drop}
 use Rattle.std.specs.List.{slice_get}
 use Rattle.rga_sequence.specs.Entries.{visible_ids}
 use Rattle.rga_sequence.proofs.scans.visible_at.Given as goal

@@ -1,4 +1,4 @@
-use Rattle.std.proofs.Common.{◌≡◌, ◌<◌, ◌≤◌, length, List, [], sym, ap, ◌∙◌, subst, slice_index_or, arith}
+use Rattle.std.proofs.Common.{◌<◌, sym, ◌∙◌, subst}
 use Rattle.rga_sequence.proofs.PlaceLaws.{front_place}
 use Rattle.rga_sequence.proofs.StandLaws.{place_behind, change_there, change_at_front}
 use Rattle.rga_sequence.proofs.skipping.behind_parent.Goals as goal

@@ -1,4 +1,4 @@
-use Rattle.std.proofs.Common.{◌≡◌, ℕ, ◌≤◌, ◌<◌, ◌+◌, length, List, [], sym, ap, ◌∙◌, subst, slice_index_or}
+use Rattle.std.proofs.Common.{◌≡◌, ◌≤◌, ◌<◌, ◌+◌, length, ap, ◌∙◌, subst, slice_index_or}
 use Rattle.rga_sequence.proofs.PlaceLaws.{block_within, front_place, on_before, on_behind, at_end, lt_so, le_so}
 use Rattle.rga_sequence.proofs.skipping.goes_on.Goals as goal
 

@@ -1,4 +1,4 @@
-use Rattle.std.proofs.Common.{◌≡◌, ◌≤◌, ◌<◌, ◌+◌, length, drop, List, [], sym, ap, ◌∙◌, subst, slice_index_or}
+use Rattle.std.proofs.Common.{◌≤◌, ◌+◌, length, drop, [], sym, ap, ◌∙◌, subst}
 use Rattle.rga_sequence.specs.Blocks.{larger_at_front}
 use Rattle.rga_sequence.proofs.PlaceLaws.{index_within, other_place, past, stops, block_at, block_within}
 use Rattle.rga_sequence.proofs.skipping.past_in_block.Goals as goal

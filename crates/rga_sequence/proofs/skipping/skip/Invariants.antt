@@ -1,7 +1,6 @@
-use Rattle.std.proofs.Common.{◌≡◌, ◌≤◌, ◌+◌, ◌-◌, ◌++◌, false, take, drop, length}
+use Rattle.std.proofs.Common.{◌-◌}
 use Rattle.std.specs.Prelude.{vec_len, ◌<◌}
-use Rattle.rga_sequence.specs.Entries.{put_past_larger}
-use Rattle.rga_sequence.specs.Blocks.{before, behind, IsPlace, Stops}
+use Rattle.rga_sequence.specs.Blocks.{IsPlace, Passes, Stops, AreBounds}
 use Rattle.rga_sequence.proofs.skipping.skip.Given as goal
 
 abbrev pub invariant-loop-index : goal.invariant-loop-index
@@ -9,8 +8,8 @@ invariant-loop-index l = record {
   within : l.block < vec_len l.blocks;
   place : IsPlace l.blocks.items l.block l.index;
   stops : Stops l.blocks.items l.block l.index l.entry;
-  past : before l.fn.blocks.items l.fn.from.block l.fn.from.index ++ put_past_larger l.entry (behind l.fn.blocks.items l.fn.from.block l.fn.from.index)
-      ≡ before l.blocks.items l.block l.index ++ put_past_larger l.entry (behind l.blocks.items l.block l.index);
+  past : Passes l.fn.blocks.items l.fn.from.block l.fn.from.index l.block l.index l.entry;
+  bounds : AreBounds l.bounds.items l.blocks.items;
 }
 
 abbrev pub decreases-loop-index : goal.decreases-loop-index

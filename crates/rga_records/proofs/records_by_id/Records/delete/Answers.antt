@@ -9,7 +9,7 @@ use Rattle.rga_records.proofs.records_by_id.Records.delete.Goals as goal
 
 pub invariant_of-self-2 : goal.invariant_of-self-2
 invariant_of-self-2 c =
-    records_deletion c.self.inside.entries.entries c.mark.new.entries.entries c.self.inside.clock c.self.inside.inserted c.self.inside.known c.self.inside.limit c.self.invariant
+    records_deletion c.self.inside.entries c.mark.new.entries c.self.inside.clock c.self.inside.inserted c.self.inside.known c.self.inside.limit c.self.invariant
     c.in_ok-inserted.ensures.ordered c.args.id c.raise.new.clock c.count_unless.new.count
     (subst (λ (v : Kept). answer v.limit v.content (Delete c.args.id) ≡ Ok New) (sym c.self.view_is) c.requires)
     c.in_ok-inserted.ensures.content

@@ -11,12 +11,12 @@ use Rattle.rga_records.proofs.records_by_id.Records.insert.Goals as goal
 
 pub overflow_add-self : goal.overflow_add-self
 overflow_add-self c =
-    let few : c.self.inside.inserted ≤ 1000000 = few_inserted (content_of_records c.self.inside.entries.entries) c.self.inside.clock c.self.inside.inserted c.self.inside.known c.self.inside.limit c.self.invariant.counted in
+    let few : c.self.inside.inserted ≤ 1000000 = few_inserted (content_of_records c.self.inside.entries) c.self.inside.clock c.self.inside.inserted c.self.inside.known c.self.inside.limit c.self.invariant.counted in
     omega arith
 
 pub invariant_of-self-2 : goal.invariant_of-self-2
 invariant_of-self-2 c =
-    records_insertion c.self.inside.entries.entries c.set_element.new.entries.entries c.self.inside.clock c.self.inside.inserted c.self.inside.known c.self.inside.limit c.self.invariant
+    records_insertion c.self.inside.entries c.set_element.new.entries c.self.inside.clock c.self.inside.inserted c.self.inside.known c.self.inside.limit c.self.invariant
     c.in_ok-deleted.ensures.ordered c.args.id c.args.parent c.args.ch c.raise.new.clock c.count_unless.new.count
     (subst (λ (v : Kept). answer v.limit v.content (Insert c.args.id c.args.parent c.args.ch) ≡ Ok New) (sym c.self.view_is) c.requires)
     c.in_ok-deleted.ensures.content

@@ -11,12 +11,12 @@ use Rattle.rga_records.proofs.records_by_id.Records.remove_deletion.Goals as goa
 pub uncount_unless-requires : goal.uncount_unless-requires
 uncount_unless-requires c =
     subst (λ b. cond b 0 1 ≤ c.self.inside.known) (sym c.clear_mark-inserted.ensures.inserted)
-    (one_deletion_known (content_of_records c.self.inside.entries.entries) c.self.inside.clock c.self.inside.inserted c.self.inside.known c.self.inside.limit c.self.invariant.counted c.args.id
+    (one_deletion_known (content_of_records c.self.inside.entries) c.self.inside.clock c.self.inside.inserted c.self.inside.known c.self.inside.limit c.self.invariant.counted c.args.id
     (ap (λ (v : Kept). finite_set.contains v.content.deleted c.args.id) c.self.view_is ∙ c.requires.deleted))
 
 pub invariant_of-self : goal.invariant_of-self
 invariant_of-self c =
-    records_without_deletion c.self.inside.entries.entries c.clear_mark-inserted.new.entries.entries c.self.inside.clock c.self.inside.inserted c.self.inside.known c.self.inside.limit c.self.invariant
+    records_without_deletion c.self.inside.entries c.clear_mark-inserted.new.entries c.self.inside.clock c.self.inside.inserted c.self.inside.known c.self.inside.limit c.self.invariant
     c.clear_mark-inserted.ensures.ordered c.args.id c.args.clock c.uncount_unless.new.count
     (ap (λ (v : Kept). finite_set.contains v.content.deleted c.args.id) c.self.view_is ∙ c.requires.deleted)
     c.clear_mark-inserted.ensures.content

@@ -10,22 +10,22 @@ use Rattle.rga_records.proofs.records_by_id.Records.remove_insertion.Goals as go
 
 pub overflow_sub-self : goal.overflow_sub-self
 overflow_sub-self c =
-    let held : Content = content_of_records c.self.inside.entries.entries in
+    let held : Content = content_of_records c.self.inside.entries in
     let its : IsFound held c.args.id = found_there held c.args.id (ap (λ (v : Kept). finite_map.contains_key v.content.inserted c.args.id) c.self.view_is ∙ c.requires.inserted) in
     one_inserted held c.self.inside.clock c.self.inside.inserted c.self.inside.known c.self.inside.limit c.self.invariant.counted c.args.id its.element its.found
 
 pub uncount_unless-requires : goal.uncount_unless-requires
 uncount_unless-requires c =
-    let held : Content = content_of_records c.self.inside.entries.entries in
+    let held : Content = content_of_records c.self.inside.entries in
     let its : IsFound held c.args.id = found_there held c.args.id (ap (λ (v : Kept). finite_map.contains_key v.content.inserted c.args.id) c.self.view_is ∙ c.requires.inserted) in
     subst (λ b. cond b 0 1 ≤ c.self.inside.known) (sym c.clear_element-deleted.ensures.deleted)
     (one_insertion_known held c.self.inside.clock c.self.inside.inserted c.self.inside.known c.self.inside.limit c.self.invariant.counted c.args.id its.element its.found)
 
 pub invariant_of-self : goal.invariant_of-self
 invariant_of-self c =
-    let held : Content = content_of_records c.self.inside.entries.entries in
+    let held : Content = content_of_records c.self.inside.entries in
     let its : IsFound held c.args.id = found_there held c.args.id (ap (λ (v : Kept). finite_map.contains_key v.content.inserted c.args.id) c.self.view_is ∙ c.requires.inserted) in
-    records_without_insertion c.self.inside.entries.entries c.clear_element-deleted.new.entries.entries c.self.inside.clock c.self.inside.inserted c.self.inside.known c.self.inside.limit c.self.invariant
+    records_without_insertion c.self.inside.entries c.clear_element-deleted.new.entries c.self.inside.clock c.self.inside.inserted c.self.inside.known c.self.inside.limit c.self.invariant
     c.clear_element-deleted.ensures.ordered c.args.id its.element c.args.clock c.uncount_unless.new.count its.found
     c.clear_element-deleted.ensures.content
     (c.requires.clock ∙ ap (λ (v : Kept). clock_of (without_insertion c.args.id v.content)) (sym c.self.view_is))

@@ -1,4 +1,4 @@
-use Rattle.std.proofs.Common.{◌≡◌, ℕ, ◌≤◌, ◌+◌, List, length, drop, sym, ap, ◌∙◌, subst, arith}
+use Rattle.std.proofs.Common.{ℕ, ◌+◌, length, drop, sym, ap, ◌∙◌, subst}
 use Rattle.rga_sequence.specs.Blocks.{AreFrom}
 use Rattle.rga_sequence.proofs.ListLaws.{length_drop}
 use Rattle.rga_sequence.proofs.BlockLaws.{all_larger, from_drop}

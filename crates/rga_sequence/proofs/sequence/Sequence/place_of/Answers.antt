@@ -1,7 +1,7 @@
-use Rattle.std.proofs.Common.{◌≡◌, Bool, true, false, cond, List, sym, ap, ◌∙◌, refl, subst}
+use Rattle.std.proofs.Common.{cond, sym, ap, ◌∙◌}
 use Rattle.std.specs.Prelude.{Some, None}
 use Rattle.rga_sequence.specs.Blocks.{flat}
-use Rattle.rga_sequence.specs.Entries.{has, up_to, visible_count, place_in}
+use Rattle.rga_sequence.specs.Entries.{up_to, visible_count, place_in}
 use Rattle.rga_sequence.proofs.sequence.Sequence.place_of.Goals as goal
 
 pub returns-in-Some : goal.returns-in-Some

@@ -1,4 +1,4 @@
-use Rattle.std.proofs.Common.{◌≡◌, Bool, true, false, cond, List, sym, ap, ◌∙◌, refl, subst}
+use Rattle.std.proofs.Common.{sym, ap, ◌∙◌, refl}
 use Rattle.rga_sequence.specs.Entries.{has}
 use Rattle.rga_sequence.proofs.StandLaws.{without_absent}
 use Rattle.rga_sequence.proofs.sequence.Sequence.take_out.Goals as goal

@@ -1,0 +1,142 @@
+-- Where an identifier is: how that is seen, and what a change there makes of all entries.
+use Rattle.std.proofs.Common.{◌≡◌, ℕ, ◌+◌, ◌<◌, ◌≤◌, suc, zero, Bool, true, false, not, List, [], ◌∷◌, ◌++◌, length, take, drop, slice_index_or, refl, sym, ap, ◌∙◌, subst, arith, true≢false}
+use Rattle.std.specs.Prelude.{Some, None, insert, remove, slice_set}
+use Rattle.std.specs.Ordering.{is_gt, is_lt}
+use Rattle.std.specs.BTreeMap.{insert_entry}
+use Rattle.std.specs.List.Sorted.{IsStrictlySortedBy}
+use Rattle.std.specs.Map.{remove_entry, set_value}
+use Rattle.rga_ops.specs.Identifier.{Identifier, id_cmp}
+use Rattle.rga_ops.proofs.IdentifierLaws.{is}
+use Rattle.rga_pages.specs.declared.entry.Record.{Record}
+use Rattle.rga_pages.specs.Pages.{Entries, record_of, flat, before, behind, AreOrdered, AreBelow, StartsAbove, StartsAt, AreFilled, ArePages, IsPlace, IsSpot}
+use Rattle.rga_pages.proofs.EntryLaws.{from_at, at_here, above_end, above_append, below_append, insert_between, insert_over, set_between, ordered_insert, remove_between, ordered_remove, record_between, record_absent}
+use Rattle.rga_pages.proofs.PlaceLaws.{one_up, page_at, place_at, parted, before_is, behind_is, index_there, Stood, stood, put_there, set_there, removed_there, page_gone}
+
+pub no_pages : ArePages []
+unfolding IsStrictlySortedBy
+no_pages = record { ordered = tt; filled = tt }
+
+-- no pages have no records
+none_flat : (ps : List Entries) → length ps ≡ 0 → ps ≡ []
+none_flat [] h = refl
+none_flat (x ∷ xs) h = absurd (omega arith)
+
+pub empty : (ps : List Entries) → length ps ≡ 0 → flat ps ≡ []
+empty ps h = ap flat (none_flat ps h)
+
+module _ (ps : List Entries) (p i : ℕ) (id : Identifier) (d : Entries) (w : p < length ps) where
+  abbrev the_page : slice_index_or ps p [] ≡ slice_index_or ps p d
+  the_page = page_at ps p [] d w
+
+  -- in the page in which it must be
+  pub spot_in : (found : Bool) → AreBelow id (flat (take p ps)) → StartsAbove id (flat (drop (p + 1) ps))
+      → i ≤ length (slice_index_or ps p d) → AreBelow id (take i (slice_index_or ps p d))
+      → (found ≡ true → StartsAt id (drop i (slice_index_or ps p d))) → (found ≡ false → StartsAbove id (drop i (slice_index_or ps p d))) → IsSpot ps p i found id
+  spot_in found below above within here there absent = record {
+    place = place_at ps p i d w within;
+    below = subst (AreBelow id) (sym (before_is ps p i d w)) (below_append id (flat (take p ps)) (take i (slice_index_or ps p d)) below here);
+    there = λ t. subst (λ y. StartsAt id (drop i y)) (sym the_page) (there t);
+    absent = λ f. subst (StartsAbove id) (sym (behind_is ps p i d w))
+        (above_append id (drop i (slice_index_or ps p d)) (flat (drop (suc p) ps)) (absent f) (subst (λ n. StartsAbove id (flat (drop n ps))) (sym (one_up p)) above));
+  }
+
+  -- at an entry that is not below it
+  pub spot_within : (e : Identifier × Record) → IsPlace ps p i → AreBelow id (before ps p i) → i < length (slice_index_or ps p d)
+      → is_gt (id_cmp id (slice_index_or (slice_index_or ps p d) i e).0) ≡ false → IsSpot ps p i (not (is_lt (id_cmp id (slice_index_or (slice_index_or ps p d) i e).0))) id
+  spot_within e place below within from = record {
+    place = place;
+    below = below;
+    there = λ t. subst (λ y. StartsAt id (drop i y)) (sym the_page)
+        (at_here id (slice_index_or ps p d) i e within (from_at id (slice_index_or ps p d) i e within from) (not_true _ t));
+    absent = λ f. subst (StartsAbove id) (sym (behind_is ps p i d w)) (first (slice_index_or ps p d) i within (not_false _ f));
+  }
+    where
+      not_true : (b : Bool) → not b ≡ true → b ≡ false
+      not_true true h = absurd (true≢false (sym h))
+      not_true false h = refl
+
+      not_false : (b : Bool) → not b ≡ false → b ≡ true
+      not_false true h = refl
+      not_false false h = absurd (true≢false h)
+
+      first : (y : Entries) (i : ℕ) → i < length y → is_lt (id_cmp id (slice_index_or y i e).0) ≡ true → StartsAbove id (drop i y ++ flat (drop (suc p) ps))
+      first [] i w h = absurd (omega arith)
+      first (z ∷ y) zero w h = h
+      first (z ∷ y) (suc i) w h = first y i (omega arith) h
+
+  -- at the end of a page, where the next one is above it
+  pub spot_end : IsPlace ps p i → AreBelow id (before ps p i) → length (slice_index_or ps p d) ≤ i → StartsAbove id (flat (drop (p + 1) ps)) → IsSpot ps p i false id
+  spot_end place below end above = record {
+    place = place;
+    below = below;
+    there = λ t. absurd (true≢false (sym t));
+    absent = λ f. subst (StartsAbove id) (sym (behind_is ps p i d w))
+        (above_append id (drop i (slice_index_or ps p d)) (flat (drop (suc p) ps)) (above_end id (slice_index_or ps p d) i end) (subst (λ n. StartsAbove id (flat (drop n ps))) (sym (one_up p)) above));
+  }
+
+  -- ---- where it is
+
+  module _ (spot : IsSpot ps p i true id) where
+    pub stands : Stood ps p i id
+    stands = stood ps p i id [] w (spot.there refl)
+
+    pub index_found : i < length (slice_index_or ps p d)
+    index_found = index_there (slice_index_or ps p d) i id (subst (λ y. StartsAt id (drop i y)) the_page (spot.there refl))
+
+    whole : flat ps ≡ before ps p i ++ stands.entry ∷ behind ps p (suc i)
+    whole = parted ps p i ∙ ap (λ r. before ps p i ++ r) stands.behind_it
+
+    pub record_there : (e : Identifier × Record) → record_of id (flat ps) ≡ Some (slice_index_or (slice_index_or ps p d) i e).1
+    record_there e = ap (record_of id) whole ∙ record_between id (before ps p i) stands.entry (behind ps p (suc i)) spot.below stands.named ∙ ap (λ (x : Identifier × Record). Some x.1) (sym (stands.is d e w))
+
+    pub set_spot : (value : Record) → flat (slice_set ps p (slice_set (slice_index_or ps p d) i (id, value))) ≡ insert_entry id_cmp (flat ps) id value
+    set_spot value =
+        set_there ps p i (id, value) d w index_found
+        ∙ sym (insert_over id value (before ps p i) stands.entry (behind ps p (suc i)) spot.below stands.named)
+        ∙ ap (λ es. insert_entry id_cmp es id value) (sym whole)
+
+    pub set_is : (value : Record) → flat (slice_set ps p (slice_set (slice_index_or ps p d) i (id, value))) ≡ set_value (is id) (flat ps) value
+    set_is value =
+        set_there ps p i (id, value) d w index_found
+        ∙ sym (set_between id value (before ps p i) stands.entry (behind ps p (suc i)) spot.below stands.named)
+        ∙ ap (λ es. set_value (is id) es value) (sym whole)
+
+    removed_is : before ps p i ++ behind ps p (suc i) ≡ remove_entry (is id) (flat ps)
+    removed_is = sym (remove_between id (before ps p i) stands.entry (behind ps p (suc i)) spot.below stands.named) ∙ ap (remove_entry (is id)) (sym whole)
+
+    pub remove_spot : flat (slice_set ps p (remove (slice_index_or ps p d) i)) ≡ remove_entry (is id) (flat ps)
+    remove_spot = removed_there ps p i d w ∙ removed_is
+
+    pub remove_page : length (slice_index_or ps p d) ≡ 1 → flat (remove ps p) ≡ remove_entry (is id) (flat ps)
+    remove_page one = page_gone ps p i d w one (let n : i < length (slice_index_or ps p d) = index_found in omega arith) ∙ removed_is
+
+  -- ---- where it would come in
+
+  module _ (spot : IsSpot ps p i false id) where
+    pub record_none : AreOrdered (flat ps) → record_of id (flat ps) ≡ None
+    record_none ordered =
+        ap (record_of id) (parted ps p i)
+        ∙ record_absent id (before ps p i) (behind ps p i) (subst AreOrdered (parted ps p i) ordered) spot.below (spot.absent refl)
+
+    put_is : (value : Record) → before ps p i ++ (id, value) ∷ behind ps p i ≡ insert_entry id_cmp (flat ps) id value
+    put_is value = sym (insert_between id value (before ps p i) (behind ps p i) spot.below (spot.absent refl)) ∙ ap (λ es. insert_entry id_cmp es id value) (sym (parted ps p i))
+
+    pub put_spot : (value : Record) → flat (slice_set ps p (insert (slice_index_or ps p d) i (id, value))) ≡ insert_entry id_cmp (flat ps) id value
+    put_spot value = put_there ps p i (id, value) d w ∙ put_is value
+
+    pub own_spot : (value : Record) (qs : List Entries) → flat qs ≡ before ps p i ++ (id, value) ∷ behind ps p i → flat qs ≡ insert_entry id_cmp (flat ps) id value
+    own_spot value qs h = h ∙ put_is value
+
+-- ---- what is kept
+
+pub inserted_pages : (ps qs : List Entries) (id : Identifier) (value : Record) → ArePages ps → flat qs ≡ insert_entry id_cmp (flat ps) id value → AreFilled qs → ArePages qs
+inserted_pages ps qs id value kept h filled = record {
+  ordered = subst AreOrdered (sym h) (ordered_insert id value (flat ps) kept.ordered);
+  filled = filled;
+}
+
+pub removed_pages : (ps qs : List Entries) (id : Identifier) → ArePages ps → flat qs ≡ remove_entry (is id) (flat ps) → AreFilled qs → ArePages qs
+removed_pages ps qs id kept h filled = record {
+  ordered = subst AreOrdered (sym h) (ordered_remove id (flat ps) kept.ordered);
+  filled = filled;
+}

@@ -1,0 +1,30 @@
+use Rattle.std.proofs.Common.{◌≡◌, ◌<◌, List, length, slice_set, sym, ap, ◌∙◌, subst}
+use Rattle.std.specs.BTreeMap.{insert_entry}
+use Rattle.rga_ops.specs.Identifier.{id_cmp}
+use Rattle.rga_pages.specs.Pages.{Entries, flat}
+use Rattle.rga_pages.proofs.PlaceLaws.{filled_at, filled_set, length_set}
+use Rattle.rga_pages.proofs.SpotLaws.{set_spot, set_is, inserted_pages}
+use Rattle.rga_pages.proofs.putting.overwrite.Goals as goal
+
+inserted : (c : goal.After-pages-1) → flat (slice_set c.args.pages.now.items c.args.at.page c.set.new.self) ≡ insert_entry id_cmp (flat c.args.pages.now.items) c.args.id c.args.value
+inserted c =
+    let ps : List Entries = c.args.pages.now.items in
+    ap (λ y. flat (slice_set ps c.args.at.page y)) (c.set.ensures ∙ ap (λ y. slice_set y c.args.at.index (c.args.id, c.args.value)) c.index_mut.ensures.value)
+    ∙ set_spot ps c.args.at.page c.args.at.index c.args.id c.index_mut.result.now (subst (λ n. c.args.at.page < n) c.args.pages.now.ok.0 c.requires.page) c.requires.spot c.args.value
+
+pub returns-clause-inserted : goal.returns-clause-inserted
+returns-clause-inserted c = inserted c
+
+pub returns-clause-replaced : goal.returns-clause-replaced
+returns-clause-replaced c =
+    let ps : List Entries = c.args.pages.now.items in
+    ap (λ y. flat (slice_set ps c.args.at.page y)) (c.set.ensures ∙ ap (λ y. slice_set y c.args.at.index (c.args.id, c.args.value)) c.index_mut.ensures.value)
+    ∙ set_is ps c.args.at.page c.args.at.index c.args.id c.index_mut.result.now (subst (λ n. c.args.at.page < n) c.args.pages.now.ok.0 c.requires.page) c.requires.spot c.args.value
+
+pub returns-clause-kept : goal.returns-clause-kept
+returns-clause-kept c =
+    let ps : List Entries = c.args.pages.now.items in
+    let some : 0 < length c.index_mut.result.now = subst (λ y. 0 < length y) (sym c.index_mut.ensures.value) (filled_at ps c.args.at.page c.index_mut.result.now c.requires.kept.filled (subst (λ n. c.args.at.page < n) c.args.pages.now.ok.0 c.requires.page)) in
+    inserted_pages ps (slice_set ps c.args.at.page c.set.new.self) c.args.id c.args.value c.requires.kept (inserted c)
+    (filled_set ps c.args.at.page c.set.new.self c.requires.kept.filled
+    (subst (λ y. 0 < length y) (sym c.set.ensures) (subst (λ n. 0 < n) (sym (length_set c.index_mut.result.now c.args.at.index (c.args.id, c.args.value))) some)))

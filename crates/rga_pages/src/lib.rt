@@ -1,0 +1,21 @@
+//! Records of identifiers in sorted pages: a map in order.
+//!
+//! Identifiers mostly come rising, each next to the one before: so a full page that is put into at
+//! its end stays full and a new one begins, and what is looked for is tried first at the place that
+//! was used last. A search ends after as many steps as two binary searches take, whatever
+//! identifiers are chosen. The crate stands on rga_ops. The layer above may rest on the contracts,
+//! which see `Pages` as the list of their entries, whose identifiers rise; the place that was used
+//! last serves speed alone and is no part of that value.
+#![tactic(auto)]
+
+mod entry;
+mod page;
+mod pages;
+mod putting;
+mod removing;
+mod search;
+mod spot;
+
+pub use entry::Record;
+pub use page::Page;
+pub use pages::Pages;

@@ -1,0 +1,90 @@
+//! Some entries in a row.
+ghost use Rattle.std.specs.Prelude.{◌≡◌, ◌≤◌, ◌<◌, ◌∷◌, [], length, take, drop, insert, remove, slice_set, IfOk, IfErr, OnOk, OnErr};
+
+use crate::entry::Record;
+use rga_ops::{Id, Refusal};
+use std::alloc::Global;
+use std::marker::Model;
+
+/// How many entries a page has at most.
+pub(crate) const MOST: usize = 64;
+
+/// Some entries in a row: identifiers with their records.
+#[derive(Drop)]
+pub struct Page {
+    entries: Vec<(Id, Record)>,
+}
+
+impl Model for Page {
+    ghost use Rattle.rga_pages.specs.Pages.{Entries};
+
+    ghost Value = { Entries };
+
+    ghost view = { λ p. p.entries.items };
+}
+
+impl Page {
+    /// A page of one entry, in room for as many as a page has at most. `Memory` alone.
+    pub(crate) fn of_one(alloc: Global, id: Id, value: Record) -> Result<Page, Refusal>
+        ensures ok { IfOk result (λ p. p ≡ (id, value) ∷ []) }
+        ensures memory { IfErr result (λ e. e ≡ Refusal.Memory) }
+    {
+        let mut entries = Vec::with_capacity(alloc, MOST)?;
+        entries.push((id, value))?;
+        Ok(Page { entries })
+    }
+
+    /// The entries.
+    pub fn entries(&self) -> &[(Id, Record)]
+        ensures { result.now ≡ self.now }
+    {
+        self.entries.as_slice()
+    }
+
+    /// An entry comes in at an index. `Memory` alone.
+    pub(crate) fn put(&mut self, index: usize, id: Id, value: Record) -> Result<(), Refusal>
+        requires { index ≤ length self.old }
+        ensures ok { OnOk result (self.new ≡ insert self.old index (id, value)) }
+        ensures err { OnErr result (self.new ≡ self.old) }
+        ensures memory { IfErr result (λ e. e ≡ Refusal.Memory) }
+    {
+        if self.entries.insert(index, (id, value)).is_err() {
+            return Err(Refusal::Memory);
+        }
+        Ok(())
+    }
+
+    /// The entry at an index is another. Takes no memory.
+    pub(crate) fn set(&mut self, index: usize, id: Id, value: Record)
+        requires { index < length self.old }
+        ensures { self.new ≡ slice_set self.old index (id, value) }
+    {
+        self.entries[index] = (id, value);
+    }
+
+    /// The entry at an index goes. Takes no memory.
+    pub(crate) fn remove(&mut self, index: usize)
+        requires { index < length self.old }
+        ensures { self.new ≡ remove self.old index }
+    {
+        let _gone = self.entries.remove(index);
+    }
+
+    /// What stands from an index on, as a page of its own. `Memory` alone.
+    pub(crate) fn tail(&self, alloc: Global, from: usize) -> Result<Page, Refusal>
+        requires { from ≤ length self.now }
+        ensures ok { IfOk result (λ p. p ≡ drop from self.now) }
+        ensures memory { IfErr result (λ e. e ≡ Refusal.Memory) }
+    {
+        let mut entries = Vec::with_capacity(alloc, MOST)?;
+        entries.extend_from_slice(&self.entries.as_slice()[from..])?;
+        Ok(Page { entries })
+    }
+
+    /// What stands from an index on goes. Takes no memory.
+    pub(crate) fn cut(&mut self, at: usize)
+        ensures { self.new ≡ take at self.old }
+    {
+        self.entries.truncate(at);
+    }
+}

@@ -1,0 +1,136 @@
+//! Records by identifier.
+ghost use Rattle.std.specs.Prelude.{◌≡◌, [], is_some, true, None, Some, IfErr, OnOk, OnErr};
+ghost use Rattle.std.specs.BTreeMap.{insert_entry};
+ghost use Rattle.std.specs.Map.{remove_entry, set_value};
+ghost use Rattle.std.specs.Ordering.{eq_by_cmp};
+ghost use Rattle.rga_ops.specs.Identifier.{id_cmp};
+ghost use Rattle.rga_pages.specs.Pages.{flat, record_of, AreOrdered, Updates};
+
+use crate::entry::Record;
+use crate::page::Page;
+use crate::putting::{insert, overwrite};
+use crate::removing::remove_at;
+use crate::search::{find, record_at};
+use crate::spot::Spot;
+use rga_ops::{Id, Refusal};
+use std::alloc::Global;
+use std::marker::Model;
+
+/// Records by identifier, in sorted pages. Callers see the entries in the order of their
+/// identifiers.
+#[derive(Drop)]
+pub struct Pages {
+    alloc: Global,
+    pages: Vec<Page>,
+    // Where an identifier was looked for or put last.
+    last: Spot,
+}
+
+impl Model for Pages {
+    ghost use Rattle.rga_pages.specs.Pages.{Entries, flat, ArePages};
+
+    ghost Value = { Entries };
+
+    ghost view = { λ s. flat s.pages.items };
+
+    ghost invariant = { λ s. ArePages s.pages.items };
+}
+
+impl Pages {
+    /// No records. Takes no memory.
+    pub fn new(alloc: Global) -> Pages
+        ensures { result ≡ [] }
+    {
+        Pages {
+            alloc,
+            pages: Vec::new(alloc),
+            last: Spot {
+                page: 0,
+                index: 0,
+                found: false,
+            },
+        }
+    }
+
+    /// The record of an identifier. Takes no memory.
+    pub fn get(&self, id: Id) -> Option<Record>
+        ensures value { result ≡ record_of id self.now }
+        ensures ordered { AreOrdered self.now }
+    {
+        if self.pages.as_slice().len() == 0 {
+            return None;
+        }
+        let spot = find(&self.pages, self.last, id);
+        record_at(&self.pages, spot, id)
+    }
+
+    /// The record of an identifier, for which the next look-ups are quick. Takes no memory.
+    pub fn look_up(&mut self, id: Id) -> Option<Record>
+        ensures value { result ≡ record_of id self.old }
+        ensures ordered { AreOrdered self.old }
+        ensures same { self.new ≡ self.old }
+    {
+        if self.pages.as_slice().len() == 0 {
+            return None;
+        }
+        let spot = find(&self.pages, self.last, id);
+        self.last = spot;
+        record_at(&self.pages, spot, id)
+    }
+
+    /// An identifier gets its record. `Memory` alone, which changes nothing, and only where it had
+    /// none.
+    pub fn insert(&mut self, id: Id, value: Record) -> Result<(), Refusal>
+        ensures entries { OnOk result (self.new ≡ insert_entry id_cmp self.old id value) }
+        ensures updates { OnOk result (Updates self.old self.new id (Some value)) }
+        ensures err { OnErr result (self.new ≡ self.old) }
+        ensures absent { OnErr result (record_of id self.old ≡ None) }
+        ensures ordered { AreOrdered self.new }
+        ensures was_ordered { AreOrdered self.old }
+        ensures memory { IfErr result (λ e. e ≡ Refusal.Memory) }
+    {
+        let spot = insert(self.alloc, &mut self.pages, self.last, id, value)?;
+        self.last = spot;
+        Ok(())
+    }
+
+    /// The record of an identifier is another, if there is one. Takes no memory.
+    pub fn set(&mut self, id: Id, value: Record)
+        ensures entries { self.new ≡ set_value (eq_by_cmp id_cmp id) self.old value }
+        ensures updates { is_some (record_of id self.old) ≡ true →
+            Updates self.old self.new id (Some value) }
+        ensures ordered { AreOrdered self.new }
+    {
+        if self.pages.as_slice().len() == 0 {
+            return;
+        }
+        let spot = find(&self.pages, self.last, id);
+        if spot.found {
+            overwrite(&mut self.pages, spot, id, value);
+            self.last = spot;
+        }
+    }
+
+    /// The record of an identifier goes, if there is one. Takes no memory.
+    pub fn remove(&mut self, id: Id)
+        ensures entries { self.new ≡ remove_entry (eq_by_cmp id_cmp id) self.old }
+        ensures updates { Updates self.old self.new id None }
+        ensures ordered { AreOrdered self.new }
+    {
+        if self.pages.as_slice().len() == 0 {
+            return;
+        }
+        let spot = find(&self.pages, self.last, id);
+        if spot.found {
+            remove_at(&mut self.pages, spot, id);
+        }
+    }
+
+    /// The entries, page by page.
+    pub fn pages(&self) -> &Vec<Page>
+        ensures pages { flat result.now.items ≡ self.now }
+        ensures ordered { AreOrdered self.now }
+    {
+        &self.pages
+    }
+}

@@ -1,0 +1,192 @@
+//! An entry comes in, or takes the place of one with its identifier.
+ghost use Rattle.std.specs.Prelude.{◌≡◌, ◌≤◌, ◌<◌, ◌+◌, ◌++◌, ◌∷◌, [], None, length, vec_len, slice_index_or, insert, false, true, IfErr, OnOk, OnErr};
+ghost use Rattle.std.specs.BTreeMap.{insert_entry};
+ghost use Rattle.std.specs.Map.{set_value};
+ghost use Rattle.std.specs.Ordering.{eq_by_cmp};
+ghost use Rattle.rga_ops.specs.Identifier.{id_cmp};
+ghost use Rattle.rga_pages.specs.Pages.{flat, record_of, before, behind, AreFilled, ArePages, IsSpot};
+
+use crate::entry::Record;
+use crate::page::{MOST, Page};
+use crate::search::find;
+use crate::spot::Spot;
+use rga_ops::{Id, Refusal};
+use std::alloc::Global;
+
+/// How many entries a full page keeps where it is cut.
+const HALF: usize = 32;
+
+/// An identifier gets its record. Answers where it is. `Memory` alone, and only where it had none.
+pub(crate) fn insert(
+    alloc: Global,
+    pages: &mut Vec<Page>,
+    last: Spot,
+    id: Id,
+    value: Record,
+) -> Result<Spot, Refusal>
+    requires { ArePages pages.old.items }
+    ensures ok { OnOk result
+        (flat pages.new.items ≡ insert_entry id_cmp (flat pages.old.items) id value) }
+    ensures err { OnErr result (flat pages.new.items ≡ flat pages.old.items) }
+    ensures absent { OnErr result (record_of id (flat pages.old.items) ≡ None) }
+    ensures kept { ArePages pages.new.items }
+    ensures memory { IfErr result (λ e. e ≡ Refusal.Memory) }
+{
+    if pages.as_slice().len() == 0 {
+        put_first(alloc, pages, id, value)?;
+        return Ok(Spot {
+            page: 0,
+            index: 0,
+            found: true,
+        });
+    }
+    let spot = find(pages, last, id);
+    if has_room(pages, spot) {
+        write(pages, spot, id, value)?;
+        return Ok(spot);
+    }
+    insert_in_full(alloc, pages, spot, id, value)
+}
+
+/// The first entry comes in.
+fn put_first(alloc: Global, pages: &mut Vec<Page>, id: Id, value: Record) -> Result<(), Refusal>
+    requires { pages.old.items ≡ [] }
+    ensures ok { OnOk result (flat pages.new.items ≡ (id, value) ∷ []) }
+    ensures err { OnErr result (pages.new.items ≡ pages.old.items) }
+    ensures filled { AreFilled pages.new.items }
+    ensures memory { IfErr result (λ e. e ≡ Refusal.Memory) }
+{
+    let page = Page::of_one(alloc, id, value)?;
+    put_page(pages, 0, page)
+}
+
+/// Whether an identifier can get its record in the page of its spot.
+fn has_room(pages: &Vec<Page>, at: Spot) -> bool
+    requires { at.page < vec_len pages.now }
+    ensures absent { result ≡ false → at.found ≡ false }
+    ensures full { result ≡ false → MOST ≤ length (slice_index_or pages.now.items at.page []) }
+{
+    if at.found {
+        return true;
+    }
+    pages[at.page].entries().len() < MOST
+}
+
+/// An identifier gets its record at its spot.
+fn write(pages: &mut Vec<Page>, at: Spot, id: Id, value: Record) -> Result<(), Refusal>
+    requires kept { ArePages pages.old.items }
+    requires page { at.page < vec_len pages.old }
+    requires spot { IsSpot pages.old.items at.page at.index at.found id }
+    ensures ok { OnOk result
+        (flat pages.new.items ≡ insert_entry id_cmp (flat pages.old.items) id value) }
+    ensures err { OnErr result (flat pages.new.items ≡ flat pages.old.items) }
+    ensures absent { OnErr result (record_of id (flat pages.old.items) ≡ None) }
+    ensures kept { ArePages pages.new.items }
+    ensures memory { IfErr result (λ e. e ≡ Refusal.Memory) }
+{
+    if at.found {
+        overwrite(pages, at, id, value);
+        return Ok(());
+    }
+    pages[at.page].put(at.index, id, value)
+}
+
+/// An identifier that is at its spot gets another record.
+pub(crate) fn overwrite(pages: &mut Vec<Page>, at: Spot, id: Id, value: Record)
+    requires kept { ArePages pages.old.items }
+    requires page { at.page < vec_len pages.old }
+    requires spot { IsSpot pages.old.items at.page at.index true id }
+    ensures inserted { flat pages.new.items
+        ≡ insert_entry id_cmp (flat pages.old.items) id value }
+    ensures replaced { flat pages.new.items
+        ≡ set_value (eq_by_cmp id_cmp id) (flat pages.old.items) value }
+    ensures kept { ArePages pages.new.items }
+{
+    pages[at.page].set(at.index, id, value);
+}
+
+/// An identifier gets its record, where the page of its spot is full and it is absent. At the end
+/// of that page nothing moves, and the entry begins a new one; elsewhere the page is cut in two.
+fn insert_in_full(
+    alloc: Global,
+    pages: &mut Vec<Page>,
+    at: Spot,
+    id: Id,
+    value: Record,
+) -> Result<Spot, Refusal>
+    requires kept { ArePages pages.old.items }
+    requires page { at.page < vec_len pages.old }
+    requires full { MOST ≤ length (slice_index_or pages.old.items at.page []) }
+    requires spot { IsSpot pages.old.items at.page at.index false id }
+    ensures ok { OnOk result
+        (flat pages.new.items ≡ insert_entry id_cmp (flat pages.old.items) id value) }
+    ensures err { OnErr result (flat pages.new.items ≡ flat pages.old.items) }
+    ensures absent { OnErr result (record_of id (flat pages.old.items) ≡ None) }
+    ensures kept { ArePages pages.new.items }
+    ensures memory { IfErr result (λ e. e ≡ Refusal.Memory) }
+{
+    if at.index >= pages[at.page].entries().len() {
+        put_own(alloc, pages, at.page, at.index, id, value)?;
+        return Ok(Spot {
+            page: at.page + 1,
+            index: 0,
+            found: true,
+        });
+    }
+    halve(alloc, pages, at.page)?;
+    let spot = find(pages, at, id);
+    write(pages, spot, id, value)?;
+    Ok(spot)
+}
+
+/// An entry begins a page, behind the end of another.
+fn put_own(
+    alloc: Global,
+    pages: &mut Vec<Page>,
+    page: usize,
+    index: usize,
+    id: Id,
+    value: Record,
+) -> Result<(), Refusal>
+    requires filled { AreFilled pages.old.items }
+    requires page { page < vec_len pages.old }
+    requires end { length (slice_index_or pages.old.items page []) ≡ index }
+    ensures ok { OnOk result (flat pages.new.items ≡ before pages.old.items page index
+        ++ (id, value) ∷ behind pages.old.items page index) }
+    ensures err { OnErr result (pages.new.items ≡ pages.old.items) }
+    ensures filled { AreFilled pages.new.items }
+    ensures memory { IfErr result (λ e. e ≡ Refusal.Memory) }
+{
+    let own = Page::of_one(alloc, id, value)?;
+    put_page(pages, page + 1, own)
+}
+
+/// A full page becomes two.
+fn halve(alloc: Global, pages: &mut Vec<Page>, page: usize) -> Result<(), Refusal>
+    requires filled { AreFilled pages.old.items }
+    requires page { page < vec_len pages.old }
+    requires full { MOST ≤ length (slice_index_or pages.old.items page []) }
+    ensures flat { flat pages.new.items ≡ flat pages.old.items }
+    ensures filled { AreFilled pages.new.items }
+    ensures some { 0 < vec_len pages.new }
+    ensures memory { IfErr result (λ e. e ≡ Refusal.Memory) }
+{
+    let tail = pages[page].tail(alloc, HALF)?;
+    put_page(pages, page + 1, tail)?;
+    pages[page].cut(HALF);
+    Ok(())
+}
+
+/// A page comes in.
+fn put_page(pages: &mut Vec<Page>, index: usize, page: Page) -> Result<(), Refusal>
+    requires { index ≤ vec_len pages.old }
+    ensures ok { OnOk result (pages.new.items ≡ insert pages.old.items index page) }
+    ensures len { OnOk result (vec_len pages.new ≡ vec_len pages.old + 1) }
+    ensures err { OnErr result (pages.new.items ≡ pages.old.items) }
+    ensures memory { IfErr result (λ e. e ≡ Refusal.Memory) }
+{
+    if pages.insert(index, page).is_err() {
+        return Err(Refusal::Memory);
+    }
+    Ok(())
+}
