@@ -21,16 +21,9 @@ use Rattle.rga_ops.specs.declared.op.Op.{Op}
 use Rattle.rga_ops.specs.declared.op.Op.TheVariants.{Insert, Delete}
 use Rattle.rga_ops.specs.declared.refusal.Refusal.TheVariants.{Full, Range}
 use Rattle.rga_ops.proofs.AnswerLaws.{passed, bad}
-use Rattle.rga_doc.specs.LocalEdit.{left_of, chain, splice_operations, splices_operations, room_answer, place_answer, counter_answer, edit_answer, splice_answer, splices_answer, new_ids, put_row_behind, order_after}
+use Rattle.rga_doc.specs.LocalEdit.{left_of, chain, splice_operations, splices_operations, draft_operations, room_answer, place_answer, counter_answer, edit_answer, splice_answer, splices_answer, new_ids, put_row_behind, order_after}
 use Rattle.rga_doc.proofs.SplicedLists.{cut, length-cut, same_begin, get_at_drop, same_left, put_no_row, put_row_on}
 use Rattle.rga_doc.proofs.EditSteps.{Leads, leads_nowhere, leads_on, Shows, shows_itself, shows_on, shows_begin, shows_long, deletion_leads, deletion_shows, IsLeft, left_is, newer, insertion_leads, insertion_visible, insertion_shows, not_in_order}
-
--- the operations of several splices, by the visible elements of the old text alone
-abbrev pub drafted : ℕ → List Identifier → ℕ → List Splice → List Op
-drafted replica elements last [] = []
-drafted replica elements last (s ∷ splices) =
-    (map Delete (drop s.lo (take s.hi elements)) ++ chain replica last (left_of elements s.lo) s.put)
-    ++ drafted replica elements (last + length s.put) splices
 
 -- ---- deletions of visible elements in a row
 
@@ -251,7 +244,7 @@ splices_taken_text limit replica c d splices ops h are taken =
 -- ---- drafts
 
 -- up to the bound the visible elements are those of the old text, and all further splices are there
-drafted_from : (splices : List Splice) (c : Content) (replica : ℕ) (elements : List Identifier) (last bound : ℕ) → last ≡ clock_of c → bound ≤ length (visible c) → take bound (visible c) ≡ take bound elements → are_falling bound splices ≡ true → splices_operations replica c splices ≡ drafted replica elements last splices
+drafted_from : (splices : List Splice) (c : Content) (replica : ℕ) (elements : List Identifier) (last bound : ℕ) → last ≡ clock_of c → bound ≤ length (visible c) → take bound (visible c) ≡ take bound elements → are_falling bound splices ≡ true → splices_operations replica c splices ≡ draft_operations replica elements last splices
 drafted_from [] c replica elements last bound now reaches same falling = refl
 drafted_from (s ∷ splices) c replica elements last bound now reaches same falling =
     let falls = falls_first s splices bound falling in
@@ -264,13 +257,13 @@ drafted_from (s ∷ splices) c replica elements last bound now reaches same fall
     let before : take s.lo (visible c) ≡ take s.lo elements = same_begin (visible c) elements s.lo s.hi falls.up front in
     let after : left_of (visible c) s.lo ≡ left_of elements s.lo = same_left (visible c) elements s.lo before in
     let begins : take s.lo (visible one.outcome) ≡ take s.lo (visible c) = shows_begin c one.outcome s.lo s.hi ids put low one.shows in
-    let later : splices_operations replica one.outcome splices ≡ drafted replica elements (last + length put) splices =
+    let later : splices_operations replica one.outcome splices ≡ draft_operations replica elements (last + length put) splices =
     drafted_from splices one.outcome replica elements (last + length put) s.lo (ap (λ n. n + length put) now ∙ sym one.leads.time) (shows_long c one.outcome s.lo s.hi ids put low one.shows) (begins ∙ before) falls.further in
     ap (λ d. splice_operations replica c s.lo s.hi put ++ splices_operations replica d splices) (sym one.leads.joined)
     ∙ (λ j. (map Delete (drop s.lo (front j)) ++ chain replica (sym now j) (after j) put) ++ later j)
 
 -- the operations of several splices, each on what the ones before left, are those by the old text alone
-pub splices_drafted : (limit replica : ℕ) (c : Content) (splices : List Splice) → splices_answer limit c splices ≡ Ok tt → splices_operations replica c splices ≡ drafted replica (visible c) (clock_of c) splices
+pub splices_drafted : (limit replica : ℕ) (c : Content) (splices : List Splice) → splices_answer limit c splices ≡ Ok tt → splices_operations replica c splices ≡ draft_operations replica (visible c) (clock_of c) splices
 splices_drafted limit replica c splices h =
     let s = allowed limit c (are_falling (length (text c)) splices) (new_characters splices) h in
     drafted_from splices c replica (visible c) (clock_of c) (length (text c)) refl (omega (arith, text_long c)) refl s.1

@@ -101,13 +101,6 @@ cut_behind xs gap room n within =
     (λ k. sym (front_around xs gap room within) k ++ (ap (λ i. drop i xs) end ∙ sym (rest_around xs gap room n (gap + n) within refl)) k)
     ∙ ap (λ ys. ys ++ drop (gap + n) (around xs gap room)) (sym (append-nil (take gap (around xs gap room))))
 
--- what is put in place of what was cut
-pub put_for_cut : {A : Type 0} (xs row : List A) (lo hi : ℕ) → lo ≤ length xs → spliced (spliced xs lo hi []) lo lo row ≡ spliced xs lo hi row
-put_for_cut xs row lo hi within =
-    let here : lo ≡ lo + 0 = omega arith in
-    let end : hi ≡ hi + 0 = omega arith in
-    splice_on xs [] row lo hi lo lo 0 hi within here here end
-
 -- a row that is put where an item was put is one row
 pub put_more : {A : Type 0} (xs row : List A) (x : A) (gap next : ℕ) → gap ≤ length xs → next ≡ gap + 1 → spliced (take gap xs ++ x ∷ drop gap xs) next next row ≡ spliced xs gap gap (x ∷ row)
 put_more xs row x gap next within at =

@@ -15,11 +15,11 @@ use Rattle.rga_ops.specs.Splice.{Splice, are_falling, new_characters}
 use Rattle.rga_ops.proofs.IdentifierLaws.{is}
 use Rattle.rga_ops.proofs.MemberLaws.{all_append, all_map, all_members}
 use Rattle.rga_ops.proofs.VisibleLaws.{visible_distinct}
-use Rattle.rga_doc.specs.LocalEdit.{chain, splices_operations, splices_answer, left_of}
+use Rattle.rga_doc.specs.LocalEdit.{chain, splices_operations, draft_operations, splices_answer, left_of}
 use Rattle.rga_doc.specs.Revert.{are_restorable, revert_operations}
 use Rattle.rga_doc.specs.UndoGroup.{inserted_elements, deleted_elements, element_characters}
 use Rattle.rga_doc.proofs.SplicedLists.{part}
-use Rattle.rga_doc.proofs.EditLaws.{allowed, falls_first, drafted, splices_drafted}
+use Rattle.rga_doc.proofs.EditLaws.{allowed, falls_first, splices_drafted}
 use Rattle.rga_doc.proofs.UndoLists.{all_take, all_drop, deleted_elements-append, deleted_elements-deletions, deleted_elements-chain}
 use Rattle.rga_doc.proofs.RevertLaws.{AreComplete}
 use Rattle.rga_doc.proofs.PlaceLaws.{complete_still}
@@ -43,14 +43,14 @@ record DraftApart (elements : List Identifier) (bound : ℕ) (ids : List Identif
   apart : Apart ids
   within : AllByRecursion (λ q. list_any (is q) (take bound elements) ≡ true) ids
 
-draft_apart : (splices : List Splice) (replica : ℕ) (elements : List Identifier) (last bound : ℕ) → Apart elements → are_falling bound splices ≡ true → DraftApart elements bound (deleted_elements (drafted replica elements last splices))
+draft_apart : (splices : List Splice) (replica : ℕ) (elements : List Identifier) (last bound : ℕ) → Apart elements → are_falling bound splices ≡ true → DraftApart elements bound (deleted_elements (draft_operations replica elements last splices))
 draft_apart [] replica elements last bound all falling = record { apart = tt; within = tt }
 draft_apart (s ∷ splices) replica elements last bound all falling =
     let falls = falls_first s splices bound falling in
     let put : List ℕ = s.put in
     let seg : List Identifier = drop s.lo (take s.hi elements) in
     let row : List Op = chain replica last (left_of elements s.lo) put in
-    let rest : List Op = drafted replica elements (last + length put) splices in
+    let rest : List Op = draft_operations replica elements (last + length put) splices in
     let ids : deleted_elements ((map Delete seg ++ row) ++ rest) ≡ seg ++ deleted_elements rest =
     deleted_elements-append (map Delete seg ++ row) rest
     ∙ ap (λ xs. xs ++ deleted_elements rest) (deleted_elements-append (map Delete seg) row ∙ (λ k. deleted_elements-deletions seg k ++ deleted_elements-chain replica last (left_of elements s.lo) put k) ∙ append-nil seg) in

@@ -28,11 +28,11 @@ use Rattle.rga_ops.proofs.OperationLaws.{content_of-append, get-single}
 use Rattle.rga_ops.proofs.VisibleLaws.{text_long, visible_elements}
 use Rattle.rga_ops.proofs.InsertionLaws.{is_root_or_complete, is_complete-insertion, not_complete_before}
 use Rattle.rga_ops.proofs.NewestLaws.{newest_absent, newest_kept, newest_leaf, order-newest}
-use Rattle.rga_doc.specs.LocalEdit.{chain, splice_operations, splices_operations, splices_answer, new_ids, left_of}
+use Rattle.rga_doc.specs.LocalEdit.{chain, splice_operations, splices_operations, draft_operations, splices_answer, new_ids, left_of}
 use Rattle.rga_doc.specs.Revert.{distinct_elements, restorations, revert_operations, are_restorable}
 use Rattle.rga_doc.specs.UndoGroup.{inserted_elements, deleted_elements, element_characters}
 use Rattle.rga_doc.proofs.EditSteps.{shows_long}
-use Rattle.rga_doc.proofs.EditLaws.{allowed, splices_at, falls_first, drafted, splices_drafted}
+use Rattle.rga_doc.proofs.EditLaws.{allowed, splices_at, falls_first, splices_drafted}
 use Rattle.rga_doc.proofs.RevertSets.{among, AreApart, not_among, apart_if_restorable, elements_of}
 use Rattle.rga_doc.proofs.RevertLaws.{AreComplete, restoration_leads, newest, Removes, removes, all_once, gone_complete, back_complete, complete_by_order}
 use Rattle.rga_doc.proofs.UndoLists.{Reading, reads_same, reads_behind, moved, reads_moved, apart_by_counter, AreNewer, not_among_newer, newer_still, new_ids-newer, inserted_elements-append, deleted_elements-append, inserted_elements-deletions, deleted_elements-deletions, inserted_elements-chain, deleted_elements-chain, contains-operations, get-operations_absent, all_take, all_drop, filtered, once_has, deleted_elements-restorations}
@@ -129,23 +129,23 @@ reads_on (s ∷ splices) c replica bound p hides reaches falling =
 all_visible : (c : Content) → AllByRecursion (λ id. is_visible c id ≡ true) (visible c)
 all_visible c = all_members (λ id. is_visible c id ≡ true) (visible c) (λ q m. sym (visible_elements c q) ∙ m)
 
-drafted_deletes : (P : Identifier → Type 0) (replica : ℕ) (elements : List Identifier) (last : ℕ) (splices : List Splice) → AllByRecursion P elements → AllByRecursion P (deleted_elements (drafted replica elements last splices))
+drafted_deletes : (P : Identifier → Type 0) (replica : ℕ) (elements : List Identifier) (last : ℕ) (splices : List Splice) → AllByRecursion P elements → AllByRecursion P (deleted_elements (draft_operations replica elements last splices))
 drafted_deletes P replica elements last [] all = tt
 drafted_deletes P replica elements last (s ∷ splices) all =
     let put : List ℕ = s.put in
     let seg : List Identifier = drop s.lo (take s.hi elements) in
     let row = chain replica last (left_of elements s.lo) put in
-    let rest : List Op = drafted replica elements (last + length put) splices in
+    let rest : List Op = draft_operations replica elements (last + length put) splices in
     subst (AllByRecursion P) (sym (deleted_elements-append (map Delete seg ++ row) rest ∙ ap (λ xs. xs ++ deleted_elements rest) (deleted_elements-append (map Delete seg) row ∙ (λ k. deleted_elements-deletions seg k ++ deleted_elements-chain replica last (left_of elements s.lo) put k))))
     (all_append P (seg ++ []) (deleted_elements rest) (all_append P seg [] (all_drop P s.lo (take s.hi elements) (all_take P s.hi elements all)) tt) (drafted_deletes P replica elements (last + length put) splices all))
 
-drafted_inserts : (replica : ℕ) (elements : List Identifier) (last : ℕ) (splices : List Splice) → AreNewer last (inserted_elements (drafted replica elements last splices))
+drafted_inserts : (replica : ℕ) (elements : List Identifier) (last : ℕ) (splices : List Splice) → AreNewer last (inserted_elements (draft_operations replica elements last splices))
 drafted_inserts replica elements last [] = tt
 drafted_inserts replica elements last (s ∷ splices) =
     let put : List ℕ = s.put in
     let seg : List Identifier = drop s.lo (take s.hi elements) in
     let row = chain replica last (left_of elements s.lo) put in
-    let rest : List Op = drafted replica elements (last + length put) splices in
+    let rest : List Op = draft_operations replica elements (last + length put) splices in
     subst (AreNewer last) (sym (inserted_elements-append (map Delete seg ++ row) rest ∙ ap (λ xs. xs ++ inserted_elements rest) (inserted_elements-append (map Delete seg) row ∙ (λ k. inserted_elements-deletions seg k ++ inserted_elements-chain replica last (left_of elements s.lo) put k))))
     (all_append (λ (id : Identifier). last < id.counter) (new_ids replica last put) (inserted_elements rest) (new_ids-newer replica last put) (newer_still last (last + length put) (inserted_elements rest) (omega arith) (drafted_inserts replica elements (last + length put) splices)))
 

@@ -93,8 +93,9 @@ impl Characters {
         self.places.shrink_to_fit();
     }
 
-    /// Replaces the characters `lo` to `hi - 1` by others. What stands before them is moved where it
-    /// is less than what stands behind them and the unused places suffice. There is room.
+    /// Replaces the characters `lo` to `hi - 1` by others. Where these are as many, nothing is
+    /// moved; else what stands before them is, where it is less than what stands behind them and
+    /// the unused places suffice. There is room.
     pub(crate) fn replace(&mut self, lo: usize, hi: usize, put: &[char])
         requires ordered { lo ≤ hi }
         requires in_list { hi ≤ length self.old.items }
@@ -103,7 +104,9 @@ impl Characters {
         ensures room { self.old.room ≤ self.new.room + length put.now }
     {
         let start = self.start;
-        if lo < self.len() - hi && lo + put.len() <= start + hi {
+        if put.len() == hi - lo {
+            overwrite(&mut self.places, start + lo, put);
+        } else if lo < self.len() - hi && lo + put.len() <= start + hi {
             self.start = replace_and_move_front(&mut self.places, start, lo, hi, put);
         } else {
             replace_and_move_tail(&mut self.places, start + lo, start + hi, put);
@@ -129,10 +132,9 @@ fn replace_and_move_front(
     ensures len { length places.new.items ≡ length places.old.items }
     ensures capacity { vec_capacity places.old ≤ vec_capacity places.new }
 {
-    let end = start + hi;
-    let to = end - (lo + put.len());
+    let to = start + hi - (lo + put.len());
     places.copy_within(start..start + lo, to);
-    places[to + lo..end].copy_from_slice(put);
+    overwrite(places, to + lo, put);
     to
 }
 
@@ -144,7 +146,17 @@ fn replace_and_move_tail(places: &mut Vec<char>, lo: usize, hi: usize, put: &[ch
     ensures items { places.new.items ≡ spliced places.old.items lo hi put.now }
     ensures capacity { vec_capacity places.old ≤ vec_capacity places.new }
 {
-    let end = lo + put.len();
-    move_tail(places, hi, end, ' ');
-    places[lo..end].copy_from_slice(put);
+    move_tail(places, hi, lo + put.len(), ' ');
+    overwrite(places, lo, put);
+}
+
+/// Replaces as many characters as are put, from a place on.
+fn overwrite(places: &mut Vec<char>, lo: usize, put: &[char])
+    requires { lo + length put.now ≤ length places.old.items }
+    ensures items { places.new.items
+        ≡ spliced places.old.items lo (lo + length put.now) put.now }
+    ensures len { length places.new.items ≡ length places.old.items }
+    ensures capacity { vec_capacity places.old ≤ vec_capacity places.new }
+{
+    places[lo..lo + put.len()].copy_from_slice(put);
 }

@@ -1,9 +1,10 @@
 //! The operations of an edit that is not taken yet.
-ghost use Rattle.std.specs.Prelude.{◌≡◌, ◌<◌, ◌≤◌, ◌+◌, ◌++◌, [], map, length, OnOk, IfErr};
-ghost use Rattle.rga_doc.specs.LocalEdit.{chain, operations_at};
+ghost use Rattle.std.specs.Prelude.{◌≡◌, ◌<◌, ◌≤◌, ◌+◌, ◌++◌, [], true, map, length, OnOk, IfErr};
+ghost use Rattle.rga_ops.specs.Splice.{are_falling, new_characters};
+ghost use Rattle.rga_doc.specs.LocalEdit.{chain, operations_at, draft_operations};
 
 use crate::gap_list::GapList;
-use rga_ops::{Id, Op, Refusal};
+use rga_ops::{Id, Op, Refusal, Splice};
 use std::alloc::Global;
 
 /// Operations in the order in which they are made, and what names the next insertion.
@@ -53,6 +54,21 @@ impl Draft {
         self.delete(before)?;
         self.delete(behind)?;
         self.insert(elements.left_of(lo), put)
+    }
+
+    /// The operations of several splices whose places are meant in the same text.
+    pub(crate) fn splices(&mut self, elements: &GapList, splices: &[Splice]) -> Result<(), Refusal>
+        requires falling { are_falling (length elements.now.items) splices.now ≡ true }
+        requires counters { 0 < new_characters splices.now
+            → self.old.last + new_characters splices.now ≤ Id.MAX_COUNTER }
+        ensures ops { OnOk result (self.new.ops.items ≡ self.old.ops.items
+            ++ draft_operations self.old.replica elements.now.items self.old.last splices.now) }
+        ensures memory { IfErr result (λ e. e ≡ Refusal.Memory) }
+    {
+        for splice in splices {
+            self.splice(elements, splice.lo, splice.hi, &splice.put)?;
+        }
+        Ok(())
     }
 
     /// A deletion of each element.

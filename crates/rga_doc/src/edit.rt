@@ -1,5 +1,5 @@
 //! Edits by place.
-ghost use Rattle.std.specs.Prelude.{◌≡◌, ◌≤◌, min, true, length, Ok, Err, IfOk, OnOk, OnErr};
+ghost use Rattle.std.specs.Prelude.{◌≡◌, ◌≤◌, min, true, length, Ok, Err, IfOk, IfErr, OnOk, OnErr};
 ghost use Rattle.rga_ops.specs.Prelude.{content_of, join, order, text, IsAnswer};
 ghost use Rattle.rga_ops.specs.Splice.{spliced, text_after, are_falling, end_of, new_characters};
 ghost use Rattle.rga_store.specs.Limit.{is_limit};
@@ -44,15 +44,49 @@ impl<S: TextStore> Doc<S> {
             room_answer self.old.limit self.old.content (length put.now) ≡ Ok tt }
         ensures ordered { result ≡ Err Memory → lo ≤ hi }
     {
+        self.check_splice(lo, hi, put)?;
+        self.splice_listed(lo, hi, put)
+    }
+
+    /// What refuses a splice, memory for its operations aside. Lists the document.
+    fn check_splice(&mut self, lo: usize, hi: usize, put: &[char]) -> Result<(), Refusal>
+        ensures exact { IsAnswer result
+            (splice_answer self.old.limit self.old.content lo hi put.now) }
+        ensures listed { OnOk result (self.new ≡ record self.old { listed = true }) }
+        ensures same { OnErr result
+            (self.new ≡ record self.old { listed = self.new.listed }) }
+        ensures room { result ≡ Err Memory →
+            room_answer self.old.limit self.old.content (length put.now) ≡ Ok tt }
+        ensures ordered { result ≡ Err Memory → lo ≤ hi }
+    {
         check_room(&self.store, put.len())?;
         if lo > hi {
             return Err(Refusal::Range);
         }
-        self.listing.list(self.alloc, &self.store)?;
-        if hi > self.listing.len() {
+        self.list()?;
+        if hi > self.characters().len() {
             return Err(Refusal::Range);
         }
-        check_counters(&self.store, put.len())?;
+        check_counters(&self.store, put.len())
+    }
+
+    /// The same for a splice that is allowed and a listed document. `Memory` alone; then nothing
+    /// changes, but that the document may not be listed.
+    fn splice_listed(&mut self, lo: usize, hi: usize, put: &[char]) -> Result<Vec<Op>, Refusal>
+        requires listed { self.old.listed ≡ true }
+        requires allowed { splice_answer self.old.limit self.old.content lo hi put.now ≡ Ok tt }
+        ensures operations { IfOk result (λ ops. ops.items
+            ≡ splice_operations self.old.replica self.old.content lo hi put.now) }
+        ensures content { IfOk result (λ ops. self.new
+            ≡ record self.old
+            { content = join self.old.content (content_of ops.items); listed = self.new.listed }) }
+        ensures text { OnOk result
+            (text self.new.content ≡ spliced (text self.old.content) lo hi put.now) }
+        ensures place { OnOk result
+            (order self.new.content ≡ order_after self.old.replica self.old.content lo put.now) }
+        ensures memory { IfErr result (λ e. e ≡ Refusal.Memory) }
+        ensures same { OnErr result (self.new ≡ record self.old { listed = self.new.listed }) }
+    {
         let last = self.store.clock();
         let mut draft = Draft::new(self.alloc, self.replica, last);
         draft.splice(&self.listing.elements, lo, hi, put)?;
@@ -111,19 +145,43 @@ impl<S: TextStore> Doc<S> {
         ensures ordered { result ≡ Err Memory →
             are_falling (end_of splices.now) splices.now ≡ true }
     {
+        self.check_splices(splices)?;
+        self.write_splices(splices)
+    }
+
+    /// What refuses splices, memory for their operations aside. Lists the document.
+    fn check_splices(&mut self, splices: &[Splice]) -> Result<(), Refusal>
+        ensures exact { IsAnswer result
+            (splices_answer self.old.limit self.old.content splices.now) }
+        ensures listed { OnOk result (self.new ≡ record self.old { listed = true }) }
+        ensures same { OnErr result
+            (self.new ≡ record self.old { listed = self.new.listed }) }
+        ensures room { result ≡ Err Memory →
+            room_answer self.old.limit self.old.content (new_characters splices.now) ≡ Ok tt }
+        ensures ordered { result ≡ Err Memory →
+            are_falling (end_of splices.now) splices.now ≡ true }
+    {
         let new = count_characters(splices);
         check_room(&self.store, new)?;
         let end = end_of(splices);
         check_falling(end, splices)?;
-        self.listing.list(self.alloc, &self.store)?;
-        if end > self.listing.len() {
+        self.list()?;
+        if end > self.characters().len() {
             return Err(Refusal::Range);
         }
-        check_counters(&self.store, new)?;
+        check_counters(&self.store, new)
+    }
+
+    /// The operations of splices that are allowed, of a listed document. `Memory` alone.
+    fn write_splices(&self, splices: &[Splice]) -> Result<Vec<Op>, Refusal>
+        requires listed { self.now.listed ≡ true }
+        requires allowed { splices_answer self.now.limit self.now.content splices.now ≡ Ok tt }
+        ensures operations { IfOk result (λ ops. ops.items
+            ≡ splices_operations self.now.replica self.now.content splices.now) }
+        ensures memory { IfErr result (λ e. e ≡ Refusal.Memory) }
+    {
         let mut draft = Draft::new(self.alloc, self.replica, self.store.clock());
-        for splice in splices {
-            draft.splice(&self.listing.elements, splice.lo, splice.hi, &splice.put)?;
-        }
+        draft.splices(&self.listing.elements, splices)?;
         Ok(draft.ops)
     }
 }

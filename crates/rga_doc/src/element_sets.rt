@@ -1,5 +1,5 @@
 //! Sets of elements.
-ghost use Rattle.std.specs.Prelude.{◌≡◌, ◌||◌, not, IfOk, IfErr, OnOk};
+ghost use Rattle.std.specs.Prelude.{◌≡◌, ◌||◌, not, false, IfOk, IfErr, OnOk};
 ghost use Rattle.std.specs.List.{list_any};
 ghost use Rattle.indexmap.specs.IndexSet.{contains};
 ghost use Rattle.rga_ops.specs.Prelude.{Identifier, is_id};
@@ -76,9 +76,18 @@ pub(crate) fn drop_repeats(alloc: Global, ids: &[Id]) -> Result<Vec<Id>, Refusal
     ensures memory { IfErr result (λ e. e ≡ Refusal.Memory) }
 {
     let mut seen = IndexSet::new(alloc);
+    collect_unseen(alloc, &mut seen, ids)
+}
+
+/// The same where none was seen yet; the elements are seen then.
+fn collect_unseen(alloc: Global, seen: &mut IndexSet<Id>, ids: &[Id]) -> Result<Vec<Id>, Refusal>
+    requires { (q : Identifier) → contains is_id seen.old q ≡ false }
+    ensures ok { IfOk result (λ kept. kept.items ≡ distinct_elements ids.now) }
+    ensures memory { IfErr result (λ e. e ≡ Refusal.Memory) }
+{
     let mut kept = Vec::new(alloc);
     for id in ids {
-        let new = put_in(&mut seen, *id)?;
+        let new = put_in(seen, *id)?;
         if new {
             kept.push(*id)?;
         }

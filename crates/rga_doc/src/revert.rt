@@ -1,10 +1,12 @@
 //! Edits that are reverted.
-ghost use Rattle.std.specs.Prelude.{◌≡◌, false, ◌+◌, ◌≤◌, ◌<◌, ◌++◌, filter, length, Ok, Err, IfOk, IfErr, OnOk, OnErr};
-ghost use Rattle.rga_ops.specs.Prelude.{clock_of, content_of, join, order, IsAnswer};
+ghost use Rattle.std.specs.Prelude.{◌≡◌, false, ◌+◌, ◌≤◌, ◌<◌, ◌++◌, filter, map, length, Ok, Err, IfOk, IfErr, OnOk, OnErr};
+ghost use Rattle.indexmap.specs.IndexSet.{contains};
+ghost use Rattle.rga_ops.specs.Prelude.{Identifier, clock_of, content_of, is_id, join, order, IsAnswer};
+ghost use Rattle.rga_ops.specs.ListAnswer.{and_check};
 ghost use Rattle.rga_ops.specs.Places.{is_visible};
 ghost use Rattle.rga_ops.specs.declared.refusal.Refusal.TheVariants.{Memory};
 ghost use Rattle.rga_doc.specs.Complete.{AreTheComplete};
-ghost use Rattle.rga_doc.specs.LocalEdit.{room_answer, place_answer};
+ghost use Rattle.rga_doc.specs.LocalEdit.{room_answer, place_answer, counter_answer};
 ghost use Rattle.rga_doc.specs.Revert.{distinct_elements, restorations, revert_operations, are_restorable, revert_answer, put_back};
 
 use crate::doc::Doc;
@@ -83,12 +85,34 @@ impl<S: TextStore> Doc<S> {
             room_answer self.now.limit self.now.content (length back.now) ≡ Ok tt }
     {
         check_room(&self.store, back.len())?;
+        let visible = self.check_revert(gone, back)?;
+        self.write_revert(&visible, back)
+    }
+
+    /// What a revert deletes, where it is not refused: those of the elements that are visible, each
+    /// once. `Range` and `Clock` as `revert` has them; `Memory`.
+    fn check_revert(&self, gone: &[Id], back: &[(Id, char)]) -> Result<Vec<Id>, Refusal>
+        ensures exact { IsAnswer result (and_check
+            (place_answer (are_restorable self.now.content back.now))
+            (counter_answer self.now.content (length back.now))) }
+        ensures visible { IfOk result (λ kept. kept.items
+            ≡ distinct_elements (filter (is_visible self.now.content) gone.now)) }
+    {
         let complete = Complete::of(self.alloc, &self.store)?;
         self.check_restorable(&complete, back)?;
         check_counters(&self.store, back.len())?;
-        let visible = self.collect_visible(&complete, gone)?;
+        self.collect_visible(&complete, gone)
+    }
+
+    /// The deletions and then the insertions of a revert. `Memory` alone.
+    fn write_revert(&self, visible: &[Id], back: &[(Id, char)]) -> Result<Vec<Op>, Refusal>
+        requires counters { counter_answer self.now.content (length back.now) ≡ Ok tt }
+        ensures ok { IfOk result (λ ops. ops.items ≡ map Op.Delete visible.now
+            ++ restorations self.now.replica (clock_of self.now.content) back.now) }
+        ensures memory { IfErr result (λ e. e ≡ Refusal.Memory) }
+    {
         let mut draft = Draft::new(self.alloc, self.replica, self.store.clock());
-        draft.delete(&visible)?;
+        draft.delete(visible)?;
         draft.restore(back)?;
         Ok(draft.ops)
     }
@@ -99,11 +123,25 @@ impl<S: TextStore> Doc<S> {
         ensures { IsAnswer result (place_answer (are_restorable self.now.content back.now)) }
     {
         let mut seen = IndexSet::new(self.alloc);
+        self.check_unseen(complete, &mut seen, back)
+    }
+
+    /// The same where none was seen yet; the elements are seen then.
+    fn check_unseen(
+        &self,
+        complete: &Complete,
+        seen: &mut IndexSet<Id>,
+        back: &[(Id, char)],
+    ) -> Result<(), Refusal>
+        requires complete { AreTheComplete complete.now self.now.content }
+        requires none { (q : Identifier) → contains is_id seen.old q ≡ false }
+        ensures { IsAnswer result (place_answer (are_restorable self.now.content back.now)) }
+    {
         for (element, _) in back {
             if !complete.has(&self.store, *element) {
                 return Err(Refusal::Range);
             }
-            let new = put_in(&mut seen, *element)?;
+            let new = put_in(seen, *element)?;
             if !new {
                 return Err(Refusal::Range);
             }

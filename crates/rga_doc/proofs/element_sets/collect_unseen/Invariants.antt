@@ -3,7 +3,7 @@ use Rattle.indexmap.specs.IndexSet.{contains}
 use Rattle.rga_ops.specs.Identifier.{is_id}
 use Rattle.rga_doc.specs.Revert.{distinct_elements}
 use Rattle.rga_doc.proofs.RevertSets.{new_only}
-use Rattle.rga_doc.proofs.element_sets.drop_repeats.Given as goal
+use Rattle.rga_doc.proofs.element_sets.collect_unseen.Given as goal
 
 -- the new ones of what is left complete those so far
 abbrev pub invariant-loop-id : goal.invariant-loop-id
