@@ -7,7 +7,7 @@ every thousand events. Of several measurements the least counts.
 
 import timing
 
-PROGRAM = timing.BUILD / "test_simulation"
+PROGRAM = timing.BUILD / "rga_world_simulation"
 EVENTS = (5_000, 20_000, 40_000)
 
 

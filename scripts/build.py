@@ -24,7 +24,7 @@ PROGRAM = "mgr"
 
 # The first run, and those beside it: each is of a crate and all below it.
 FIRST = "rga_doc"
-BESIDE = ("mg_prompts", "mg_screen")
+BESIDE = ("mg_minibuffer", "mg_screen")
 
 LEFT_OUT = shutil.ignore_patterns("out", "must-fail", "wrong")
 TOLD = re.compile(r"rt: (\w+) (?:is kept|proved|NOT PROVED)")

@@ -27,15 +27,14 @@ TOO_FAST = 1.2
 LONG, SECONDS = 2, 120
 
 # Shapes that are known to grow too fast: the exponent that each may have, and the reason.
-COLLIDING, CHAIN, SIBLINGS = "identifiers that collide in the map", "a chain in no order", "siblings in no order"
+CHAIN, SIBLINGS = "a chain in no order", "siblings in no order"
 FAR = "what an operation touches lies anywhere in memory, and with the size ever less of it in the caches"
 KNOWN = {
-    COLLIDING: (2.6, "the hash has a fixed seed, and a place that is taken is looked for in the next group"),
     CHAIN: (1.6, FAR),
     SIBLINGS: (1.6, FAR),
 }
 
-# That hash, and how many entries a group of the map has at most on average.
+# The hash of the map of a `TreeStore`, which has a fixed seed, and how many entries a group of the map has at most on average.
 SEED, MULTIPLIER, WORD = 0x243F6A8885A308D3, 0x9E3779B97F4A7C15, 1 << 64
 GROUP_LOAD = 9
 
@@ -148,7 +147,7 @@ SHAPES = {
     "deletions before their insertions": deletions_first,
     "deletions alone": lambda size: [deleted(i) for i in range(1, size + 1)],
     "counters that end in zeros": powers,
-    COLLIDING: colliding,
+    "identifiers that collide in a hash": colliding,
     "one line again and again": lambda size: [inserted(1, 0)] * size,
     "blanks, escapes and other orders": spelled,
 }

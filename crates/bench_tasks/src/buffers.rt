@@ -11,8 +11,9 @@ use crate::fault::Fault;
 use crate::text::{document, number_at, paragraph};
 use mg_buffer::{Buffer, BufferFault, Memo};
 use mg_plain::{Chars, Command};
+use rga_flat::FlatStore;
 use rga_ops::{Id, Op, Refusal};
-use rga_store::{Taker, TextStore, TreeStore};
+use rga_store::{Taker, TextStore};
 use std::alloc::Global;
 
 /// The column to which nothing is filled here.
@@ -81,7 +82,7 @@ pub fn outcome(alloc: Global, words: &[String]) -> Result<usize, Fault> {
 }
 
 /// A buffer of so many characters.
-fn buffer_of(alloc: Global, size: usize) -> Result<Buffer<TreeStore>, Refusal> {
+fn buffer_of(alloc: Global, size: usize) -> Result<Buffer<FlatStore>, Refusal> {
     let doc = document(alloc, &paragraph(alloc, size)?)?;
     Ok(Buffer::new(alloc, doc, String::new(alloc), Vec::new(alloc)))
 }
@@ -97,7 +98,7 @@ fn made_again(alloc: Global, task: &Task, kills: usize) -> Result<usize, BufferF
 }
 
 fn kill_lines(
-    buffer: &mut Buffer<TreeStore>,
+    buffer: &mut Buffer<FlatStore>,
     memo: &mut Memo,
     kills: usize,
 ) -> Result<usize, BufferFault> {
@@ -116,7 +117,7 @@ fn taken_again(alloc: Global, task: &Task) -> Result<usize, Refusal> {
     Ok(store.known())
 }
 
-fn store_of(alloc: Global, size: usize) -> Result<TreeStore, Refusal> {
+fn store_of(alloc: Global, size: usize) -> Result<FlatStore, Refusal> {
     let buffer = buffer_of(alloc, size)?;
     buffer.store().copy()
 }
@@ -129,7 +130,7 @@ fn done_again(alloc: Global, task: &Task) -> Result<usize, BufferFault> {
 
 fn do_again(
     alloc: Global,
-    buffer: &mut Buffer<TreeStore>,
+    buffer: &mut Buffer<FlatStore>,
     memo: &mut Memo,
     task: &Task,
 ) -> Result<usize, BufferFault> {
@@ -147,7 +148,7 @@ fn do_again(
 /// Point goes to a place: there an empty pattern is found.
 fn go_to(
     alloc: Global,
-    buffer: &mut Buffer<TreeStore>,
+    buffer: &mut Buffer<FlatStore>,
     memo: &mut Memo,
     start: usize,
 ) -> Result<(), BufferFault> {
@@ -155,7 +156,7 @@ fn go_to(
     buffer.run(&Command::SearchForward { pattern, start }, 1, memo, FILL)
 }
 
-fn do_once(work: Work, buffer: &mut Buffer<TreeStore>, memo: &mut Memo) -> Result<(), BufferFault> {
+fn do_once(work: Work, buffer: &mut Buffer<FlatStore>, memo: &mut Memo) -> Result<(), BufferFault> {
     buffer.list()?;
     match work {
         Work::Insert => run(buffer, memo, Command::Insert('a')),
@@ -181,7 +182,7 @@ fn do_once(work: Work, buffer: &mut Buffer<TreeStore>, memo: &mut Memo) -> Resul
 
 /// Runs a command, and looks at the view.
 fn run(
-    buffer: &mut Buffer<TreeStore>,
+    buffer: &mut Buffer<FlatStore>,
     memo: &mut Memo,
     command: Command,
 ) -> Result<(), BufferFault> {
@@ -193,7 +194,7 @@ fn run(
 
 /// Runs a command and undoes it, and looks at the view behind each.
 fn run_and_undo(
-    buffer: &mut Buffer<TreeStore>,
+    buffer: &mut Buffer<FlatStore>,
     memo: &mut Memo,
     command: Command,
 ) -> Result<(), BufferFault> {
@@ -205,7 +206,7 @@ fn run_and_undo(
     Ok(())
 }
 
-fn kill_all(buffer: &mut Buffer<TreeStore>, memo: &mut Memo) -> Result<(), BufferFault> {
+fn kill_all(buffer: &mut Buffer<FlatStore>, memo: &mut Memo) -> Result<(), BufferFault> {
     buffer.list()?;
     buffer.run(&Command::MarkWholeBuffer, 1, memo, FILL)?;
     buffer.run(&Command::KillRegion, 1, memo, FILL)?;

@@ -8,11 +8,12 @@
 use crate::fault::Fault;
 use crate::text::{document, number_at};
 use rga_doc::{Doc, Splice};
+use rga_flat::FlatStore;
 use rga_ops::{Id, Op, Refusal};
-use rga_store::{Taker, TextStore, TreeStore};
+use rga_store::{Taker, TextStore};
 use std::alloc::Global;
 
-type Document = Doc<TreeStore>;
+type Document = Doc<FlatStore>;
 
 /// How many changes an edit of many makes.
 const CHANGES: usize = 1000;

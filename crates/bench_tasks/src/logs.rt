@@ -8,8 +8,9 @@
 use crate::fault::Fault;
 use crate::text::number_at;
 use rga_exchange::{append_log, read_log, receive, send};
+use rga_flat::FlatStore;
 use rga_lines::{Counted, MAX_CALLS};
-use rga_store::{MAX_LIMIT, TextStore, TreeStore};
+use rga_store::{MAX_LIMIT, TextStore};
 use std::alloc::Global;
 use std::io::{Read, Write, writer};
 
@@ -57,15 +58,15 @@ fn bytes<R: Read>(reader: &mut Counted<R>) -> Result<u64, Fault> {
 }
 
 /// The store of a log.
-fn store_of<R: Read>(alloc: Global, reader: &mut Counted<R>) -> Result<TreeStore, Fault> {
-    let mut store = TreeStore::new(alloc, MAX_LIMIT)?;
+fn store_of<R: Read>(alloc: Global, reader: &mut Counted<R>) -> Result<FlatStore, Fault> {
+    let mut store = FlatStore::new(alloc, MAX_LIMIT)?;
     let _end = read_log(alloc, &mut store, reader)?;
     Ok(store)
 }
 
 /// How many operations the exchange has.
 fn received<R: Read>(alloc: Global, reader: &mut Counted<R>) -> Result<u64, Fault> {
-    let mut store = TreeStore::new(alloc, MAX_LIMIT)?;
+    let mut store = FlatStore::new(alloc, MAX_LIMIT)?;
     Ok(receive(alloc, &mut store, reader)?)
 }
 
@@ -87,7 +88,7 @@ fn write_again<R: Read, W: Write>(
 /// Writes the operations of the store so many times.
 fn write<W: Write>(
     alloc: Global,
-    store: &TreeStore,
+    store: &FlatStore,
     times: usize,
     writer: &mut Counted<W>,
 ) -> Result<(), Fault> {
@@ -101,7 +102,7 @@ fn write<W: Write>(
 /// Sends the store so many times.
 fn send_store<W: Write>(
     alloc: Global,
-    store: &TreeStore,
+    store: &FlatStore,
     times: usize,
     writer: &mut Counted<W>,
 ) -> Result<(), Fault> {

@@ -1,8 +1,9 @@
 //! The words that say a number, texts, and documents.
 use crate::fault::Fault;
 use rga_doc::Doc;
+use rga_flat::FlatStore;
 use rga_ops::Refusal;
-use rga_store::{MAX_LIMIT, TextStore, TreeStore};
+use rga_store::{MAX_LIMIT, TextStore};
 use std::alloc::{AllocError, Global};
 
 /// The number that the word at an index says.
@@ -51,8 +52,8 @@ pub fn lines(alloc: Global, line: usize, size: usize) -> Result<Vec<char>, Alloc
 }
 
 /// A document with this text, put in at once.
-pub fn document(alloc: Global, text: &[char]) -> Result<Doc<TreeStore>, Refusal> {
-    let mut doc = Doc::new(alloc, TreeStore::new(alloc, MAX_LIMIT)?, 1)?;
+pub fn document(alloc: Global, text: &[char]) -> Result<Doc<FlatStore>, Refusal> {
+    let mut doc = Doc::new(alloc, FlatStore::new(alloc, MAX_LIMIT)?, 1)?;
     let _ops = doc.splice(0, 0, text)?;
     Ok(doc)
 }

@@ -19,7 +19,7 @@ use Rattle.rga_doc.specs.UndoGroup.{inserted_elements, deleted_elements, element
 use Rattle.rga_doc.proofs.PlaceLaws.{stands_still}
 use Rattle.rga_doc.proofs.RevertedLaws.{reverted_complete, reverted_restorable}
 use Rattle.rga_doc.proofs.UndoApart.{edit_restorable}
-use Rattle.mg_buffer.specs.declared.spot.Spot.{Spot}
+use Rattle.mg_buffer.specs.declared.marker.Marker.{Marker}
 use Rattle.mg_buffer.specs.Groups.{Past, past_of, with_group, are_revertible, last_group, stand_in, all_substituted, first_of, last_of, point_after}
 use Rattle.mg_buffer.specs.Kept.{stands}
 use Rattle.mg_buffer.proofs.RestorableLaws.{restorable_still, gone_restorable, substituted_restorable}
@@ -154,6 +154,6 @@ module _ (limit replica : ℕ) (c : Content) (gone : List Identifier) (back : Li
       (first_stands point (element_characters c (deleted_elements ops)) (stands_still c (content_of ops) point h) (reverted_restorable limit replica c gone back allowed))
       (reverted_complete limit replica c gone back allowed)
 
-pub mark_stands_still : (c x : Content) (mark : Option Spot) → option_map_or (stands c) mark true ≡ true → option_map_or (stands (join c x)) mark true ≡ true
+pub mark_stands_still : (c x : Content) (mark : Option Marker) → option_map_or (stands c) mark true ≡ true → option_map_or (stands (join c x)) mark true ≡ true
 mark_stands_still c x None h = h
 mark_stands_still c x (Some s) h = stands_still c x s.element h

@@ -10,7 +10,7 @@ use Rattle.rga_ops.specs.Places.{is_visible, visible, up_to}
 use Rattle.rga_ops.specs.RootPath.{is_complete}
 use Rattle.rga_ops.proofs.VisibleLaws.{text_long}
 use Rattle.mg_plain.specs.Situation.{IsView}
-use Rattle.mg_buffer.specs.declared.spot.Spot.{Spot}
+use Rattle.mg_buffer.specs.declared.marker.Marker.{Marker}
 use Rattle.mg_buffer.specs.Kept.{stands, IsPlaced}
 use Rattle.mg_buffer.specs.State.{State}
 use Rattle.mg_buffer.specs.Sight.{Notes, place_of, situation_of}
@@ -54,21 +54,21 @@ is_view b notes = record { point = place_within b.content b.point; mark = mark_w
 
 -- ---- places at hand
 
-pub placed_within : (c : Content) (s : Spot) (chars : List ℕ) → chars ≡ text c → IsPlaced c s → s.place ≤ length chars
+pub placed_within : (c : Content) (s : Marker) (chars : List ℕ) → chars ≡ text c → IsPlaced c s → s.place ≤ length chars
 placed_within c s chars is at =
     let value : place_of c s.element ≡ s.place = ap (λ o. unwrap_or o 0) at in
     let long : length chars ≡ length (text c) = ap length is in
     omega (arith, place_within c s.element, value, long)
 
-pub mark_placed_within : (c : Content) (mark : Option Spot) (chars : List ℕ) → chars ≡ text c → IfSome mark (IsPlaced c) → (x : ℕ) → option_map (λ (s : Spot). s.place) mark ≡ Some x → x ≤ length chars
+pub mark_placed_within : (c : Content) (mark : Option Marker) (chars : List ℕ) → chars ≡ text c → IfSome mark (IsPlaced c) → (x : ℕ) → option_map (λ (s : Marker). s.place) mark ≡ Some x → x ≤ length chars
 mark_placed_within c None chars is at x h = let clash : None ≡ Some x = h in cc
 mark_placed_within c (Some s) chars is at x h = subst (λ n. n ≤ length chars) (same_Some s.place x h) (placed_within c s chars is at)
 
 -- what has a place at hand has a place
-pub stands_if_placed : (c : Content) (s : Spot) → IsPlaced c s → stands c s ≡ true
+pub stands_if_placed : (c : Content) (s : Marker) → IsPlaced c s → stands c s ≡ true
 stands_if_placed c s at = ap is_some at
 
-pub mark_stands_if : (c : Content) (mark : Option Spot) → IfSome mark (IsPlaced c) → option_map_or (stands c) mark true ≡ true
+pub mark_stands_if : (c : Content) (mark : Option Marker) → IfSome mark (IsPlaced c) → option_map_or (stands c) mark true ≡ true
 mark_stands_if c None at = refl
 mark_stands_if c (Some s) at = ap is_some at
 

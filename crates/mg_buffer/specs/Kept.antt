@@ -5,27 +5,27 @@ use Rattle.rga_ops.specs.Content.{Content}
 use Rattle.rga_ops.specs.Identifier.{Identifier}
 use Rattle.rga_ops.specs.Places.{place}
 use Rattle.rga_doc.specs.Document.{Document}
-use Rattle.mg_buffer.specs.declared.spot.Spot.{Spot}
+use Rattle.mg_buffer.specs.declared.marker.Marker.{Marker}
 use Rattle.mg_buffer.specs.Groups.{are_revertible}
 use Rattle.mg_buffer.specs.Slots.{Slotted, AreFilled, AreOld, pasts_by}
 
 -- the element has a place
-abbrev pub stands : Content → Spot → Bool
+abbrev pub stands : Content → Marker → Bool
 stands c s = is_some (place c s.element)
 
 -- the element has that place
-abbrev pub IsPlaced : Content → Spot → Type 0
+abbrev pub IsPlaced : Content → Marker → Type 0
 IsPlaced c s = place c s.element ≡ Some s.place
 
 -- the document is listed, and the places are those of point and mark
-pub record IsAtHand (d : Document) (point : Spot) (mark : Option Spot) : Type 0 where
+pub record IsAtHand (d : Document) (point : Marker) (mark : Option Marker) : Type 0 where
   pub document : d.listed ≡ true
   pub place_of_point : IsPlaced d.content point
   pub place_of_mark : IfSome mark (IsPlaced d.content)
 
 -- point and mark have places; there are elements in the slots of the groups, none newer than the clock, by which every
 -- group can be reverted; and what is listed is at hand
-pub record IsKept (d : Document) (point : Spot) (mark : Option Spot) (elements : List Identifier) (groups : List Slotted) (listed : Bool) : Type 0 where
+pub record IsKept (d : Document) (point : Marker) (mark : Option Marker) (elements : List Identifier) (groups : List Slotted) (listed : Bool) : Type 0 where
   pub point_stands : stands d.content point ≡ true
   pub mark_stands : option_map_or (stands d.content) mark true ≡ true
   pub filled : AreFilled elements groups

@@ -10,8 +10,8 @@ ghost use Rattle.mg_buffer.specs.State.{state};
 
 use crate::characters::string_of;
 use crate::history::History;
+use crate::marker::{Marker, find, find_mark, mark_place};
 use crate::memo::Memo;
-use crate::spot::{Spot, find, find_mark, mark_place};
 use mg_plain::{Kind, View};
 use rga_doc::Doc;
 use rga_ops::{Id, Op, Refusal};
@@ -29,8 +29,8 @@ pub struct Buffer<S: TextStore> {
     pub(crate) alloc: Global,
     pub(crate) doc: Doc<S>,
     pub(crate) name: String,
-    pub(crate) point: Spot,
-    pub(crate) mark: Option<Spot>,
+    pub(crate) point: Marker,
+    pub(crate) mark: Option<Marker>,
     pub(crate) history: History,
     /// In a run of undos, the index of the group that was undone last.
     pub(crate) undone: Option<usize>,
@@ -68,7 +68,7 @@ impl<S: TextStore> Buffer<S> {
             alloc,
             doc,
             name,
-            point: Spot {
+            point: Marker {
                 element: Id::ROOT,
                 place: 0,
             },

@@ -17,11 +17,11 @@ mod group;
 mod history;
 mod kill_buffer;
 pub mod laws;
+mod marker;
 mod memo;
 mod room;
 mod running;
 mod slots;
-mod spot;
 mod taking;
 mod undoing;
 

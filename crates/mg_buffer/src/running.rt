@@ -12,12 +12,11 @@ ghost use Rattle.rga_ops.specs.declared.refusal.Refusal.TheVariants.{Memory};
 ghost use Rattle.mg_buffer.specs.declared.fault.BufferFault.TheVariants.{Store};
 
 use crate::buffer::Buffer;
-use crate::change::Change;
 use crate::fault::BufferFault;
 use crate::kill_buffer::{make_room, put_in};
+use crate::marker::{mark_at, marker_at};
 use crate::memo::Memo;
-use crate::room::add_all;
-use crate::spot::{mark_at, spot_at};
+use crate::room::{add_all, prepare};
 use mg_plain::{Command, Plan, plan};
 use rga_ops::{Refusal, Splice};
 use rga_store::TextStore;
@@ -77,11 +76,15 @@ impl<S: TextStore> Buffer<S> {
     {
         self.listed = false;
         let ops = self.doc.draft(splices)?;
-        let change = Change::of(self.alloc, self.doc.store(), &ops)?;
-        let room = self.history.room_for(self.alloc, &change)?;
-        self.unsaved.reserve(ops.len())?;
+        let (change, room) = prepare(
+            self.alloc,
+            self.doc.store(),
+            &mut self.history,
+            &mut self.unsaved,
+            &ops,
+        )?;
         self.doc.take(splices, &ops)?;
-        self.point = spot_at(&self.doc, point);
+        self.point = marker_at(&self.doc, point);
         self.mark = mark_at(&self.doc, mark);
         self.history.add(room, &change, &ops);
         add_all(&mut self.unsaved, &ops);

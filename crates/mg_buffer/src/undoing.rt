@@ -10,11 +10,10 @@ ghost use Rattle.rga_ops.specs.declared.refusal.Refusal.TheVariants.{Memory};
 ghost use Rattle.mg_buffer.specs.declared.fault.BufferFault.TheVariants.{Store};
 
 use crate::buffer::Buffer;
-use crate::change::Change;
 use crate::fault::BufferFault;
+use crate::marker::Marker;
 use crate::memo::Memo;
-use crate::room::add_all;
-use crate::spot::Spot;
+use crate::room::{add_all, prepare};
 use mg_plain::{Kind, Notice};
 use rga_ops::Refusal;
 use rga_store::TextStore;
@@ -68,12 +67,16 @@ impl<S: TextStore> Buffer<S> {
     {
         let undone = self.history.change_at(self.alloc, index)?;
         let ops = self.doc.draft_revert(&undone.inserted, &undone.deleted)?;
-        let done = Change::of(self.alloc, self.doc.store(), &ops)?;
-        let room = self.history.room_for(self.alloc, &done)?;
-        self.unsaved.reserve(ops.len())?;
+        let (done, room) = prepare(
+            self.alloc,
+            self.doc.store(),
+            &mut self.history,
+            &mut self.unsaved,
+            &ops,
+        )?;
         self.doc
             .take_revert(&undone.inserted, &undone.deleted, &ops)?;
-        self.point = Spot {
+        self.point = Marker {
             element: done.point_after(self.point.element),
             place: 0,
         };

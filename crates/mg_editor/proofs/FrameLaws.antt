@@ -10,7 +10,7 @@ use Rattle.mg_screen.specs.Screen.{Pane, Screen}
 use Rattle.mg_editor.specs.Editors.{Editor}
 use Rattle.mg_editor.specs.Echo.{echo_text}
 use Rattle.mg_editor.specs.Frames.{Shows, ShowsPlaced, IsScreen}
-use Rattle.mg_workspace.specs.declared.excerpt.Excerpt.{Excerpt}
+use Rattle.mg_workspace.specs.declared.viewport.Viewport.{Viewport}
 use Rattle.mg_workspace.specs.Showing.{panes_of, placed, placed_work, work_panes}
 use Rattle.mg_workspace.specs.Workspaces.{Workspace, IsCurrent}
 use Rattle.mg_workspace.proofs.ShownWindows.{rows_shown, some_rows}
@@ -20,11 +20,11 @@ pub screen_by : (e : Editor) (b : OpenState) (s : Screen) → IsCurrent e.work b
 screen_by e b s here panes echo = (b, here, ap (λ ps. record s { panes = ps }) panes ∙ ap (λ t. record s { panes = work_panes (placed_work e.work); echo = t }) echo)
 
 -- a screen of all windows has the rows that these fill
-pub screen_filled : (bs : List OpenState) (l : Layout Excerpt) (rows : ℕ) (s : Screen) → s.panes ≡ panes_of bs (placed bs l) → FillsRows rows l → rows_of s ≡ rows
+pub screen_filled : (bs : List OpenState) (l : Layout Viewport) (rows : ℕ) (s : Screen) → s.panes ≡ panes_of bs (placed bs l) → FillsRows rows l → rows_of s ≡ rows
 screen_filled bs l rows s is filled =
     ap (λ (ps : List Pane). sum_by (λ p. p.height + 1) ps + 1) is ∙ ap (λ n. n + 1) (rows_shown bs l.windows) ∙ filled.whole
 
-pub rows_from : (l : Layout Excerpt) (rows : ℕ) → FillsRows rows l → 3 ≤ rows
+pub rows_from : (l : Layout Viewport) (rows : ℕ) → FillsRows rows l → 3 ≤ rows
 rows_from l rows filled =
     let some = some_rows l.windows filled.tall (omega (arith, filled.here)) in
     omega (arith, some, filled.whole)

@@ -1,6 +1,6 @@
 -- Meetings of which nothing is said of the link.
 use Rattle.std.proofs.Common.{ℕ, List, Option}
-use Rattle.mg_exchange.proofs.LessSaid.{exchanges_over, serves_over, exchanges_some, serves_some}
+use Rattle.mg_sync.proofs.LessSaid.{exchanges_over, serves_over, exchanges_some, serves_some}
 use Rattle.mg_files.specs.Calls.{Call}
 use Rattle.mg_files.specs.OpenState.{OpenState}
 use Rattle.mg_workspace.specs.Saving.{Changes}

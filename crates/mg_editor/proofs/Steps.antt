@@ -2,15 +2,15 @@
 use Rattle.std.proofs.Common.{inl, inr, ◌≡◌, ◌≢◌, ℕ, List, Some, Err, refl, sym, ap, subst, ◌∙◌}
 use Rattle.mg_files.specs.OpenState.{OpenState}
 use Rattle.mg_workspace.specs.Buffers.{Buffers}
-use Rattle.mg_workspace.specs.Deeds.{all_unlisted}
+use Rattle.mg_workspace.specs.Actions.{all_unlisted}
 use Rattle.mg_editor.specs.Dialogues.{Dialogue, Fed, Forgot}
 use Rattle.mg_editor.specs.Editors.{Editor}
 use Rattle.mg_keys.specs.declared.step.Step.{Step}
-use Rattle.mg_prompts.specs.PromptStep.{prompt_step}
-use Rattle.mg_prompts.specs.declared.prompt.Prompt.{Prompt}
+use Rattle.mg_minibuffer.specs.PromptStep.{prompt_step}
+use Rattle.mg_minibuffer.specs.declared.prompt.Prompt.{Prompt}
 use Rattle.mg_editor.specs.Presses.{Answer, IsRefused, IsAsBefore, RanOut, Listed, Follows, LeftBy, LeftPlainly, Prompted, PromptedHere, Stepped, StepTaken}
 use Rattle.mg_keys.specs.declared.step.Step.TheVariants.{Pending, Leave}
-use Rattle.mg_prompts.specs.declared.prompt.Search.{Search}
+use Rattle.mg_minibuffer.specs.declared.prompt.Search.{Search}
 use Rattle.mg_workspace.specs.Workspaces.{Workspace, IsListed, HasList, scene_of}
 use Rattle.mg_editor.specs.declared.fault.Fault.TheVariants.{Memory}
 use Rattle.mg_workspace.proofs.Keeping.{get-set, listed_keeps}

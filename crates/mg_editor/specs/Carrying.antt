@@ -2,10 +2,10 @@
 use Rattle.std.specs.Prelude.{◌≡◌, Bool, true, false, List, Option, Result, Ok, Err}
 use Rattle.mg_files.specs.Calls.{Call}
 use Rattle.mg_files.specs.declared.port.PortFault.{PortFault}
-use Rattle.mg_prompts.specs.declared.ending.Request.{Request}
-use Rattle.mg_prompts.specs.declared.ending.Request.TheVariants.{Idle, Save, Find, Exchange, Serve, Quit}
-use Rattle.mg_prompts.specs.declared.message.Message.{Message}
-use Rattle.mg_prompts.specs.declared.message.Message.TheVariants.{Wrote, NoChanges}
+use Rattle.mg_minibuffer.specs.declared.ending.Request.{Request}
+use Rattle.mg_minibuffer.specs.declared.ending.Request.TheVariants.{Idle, Save, Find, Exchange, Serve, Quit}
+use Rattle.mg_minibuffer.specs.declared.message.Message.{Message}
+use Rattle.mg_minibuffer.specs.declared.message.Message.TheVariants.{Wrote, NoChanges}
 use Rattle.mg_workspace.specs.Saving.{Saves}
 use Rattle.mg_editor.specs.Editors.{Editor}
 use Rattle.mg_editor.specs.Finding.{Found}

@@ -5,18 +5,18 @@ use Rattle.mg_keys.specs.Meaning.{meaning}
 use Rattle.mg_keys.specs.declared.step.Mode.{Mode}
 use Rattle.mg_keys.specs.declared.step.Mode.TheVariants as modes
 use Rattle.mg_keys.specs.declared.step.Step.{Step}
-use Rattle.mg_prompts.specs.PromptStep.{prompt_step}
-use Rattle.mg_prompts.specs.Prompts.{mode}
-use Rattle.mg_prompts.specs.Scenes as scenes
-use Rattle.mg_prompts.specs.declared.ending.Reaction.{Reaction}
-use Rattle.mg_prompts.specs.declared.ending.Next as prompt_behind
-use Rattle.mg_prompts.specs.declared.ending.Next.TheVariants.{Same, Closed, Open}
-use Rattle.mg_prompts.specs.declared.message.Message.{Message}
-use Rattle.mg_prompts.specs.declared.message.Message.TheVariants as message
-use Rattle.mg_prompts.specs.declared.prompt.Prompt.{Prompt}
-use Rattle.mg_prompts.specs.declared.prompt.Prompt.TheVariants.{Line, Replacement, Searching, Replacing, Quitting}
-use Rattle.mg_prompts.specs.declared.prompt.Search.{Search}
-pub use Rattle.mg_prompts.specs.SearchStep.{or_last}
+use Rattle.mg_minibuffer.specs.PromptStep.{prompt_step}
+use Rattle.mg_minibuffer.specs.Prompts.{mode}
+use Rattle.mg_minibuffer.specs.Scenes as scenes
+use Rattle.mg_minibuffer.specs.declared.ending.Reaction.{Reaction}
+use Rattle.mg_minibuffer.specs.declared.ending.Next as prompt_behind
+use Rattle.mg_minibuffer.specs.declared.ending.Next.TheVariants.{Same, Closed, Open}
+use Rattle.mg_minibuffer.specs.declared.message.Message.{Message}
+use Rattle.mg_minibuffer.specs.declared.message.Message.TheVariants as message
+use Rattle.mg_minibuffer.specs.declared.prompt.Prompt.{Prompt}
+use Rattle.mg_minibuffer.specs.declared.prompt.Prompt.TheVariants.{Line, Replacement, Searching, Replacing, Quitting}
+use Rattle.mg_minibuffer.specs.declared.prompt.Search.{Search}
+pub use Rattle.mg_minibuffer.specs.SearchStep.{or_last}
 
 -- the keys, the open prompt, the message, and the pattern that was accepted last
 pub record Dialogue : Type 0 where

@@ -1,11 +1,11 @@
 -- What the echo line says.
 use Rattle.std.specs.Prelude.{ℕ, Bool, true, false, List, [], ◌++◌, Option, Some, None, encode_utf8_all}
-use Rattle.mg_prompts.specs.Messages.{message_text}
-use Rattle.mg_prompts.specs.Prompts.{label, answer}
-use Rattle.mg_prompts.specs.declared.message.Message.{Message}
-use Rattle.mg_prompts.specs.declared.message.Message.TheVariants.{Nothing}
-use Rattle.mg_prompts.specs.declared.prompt.Prompt.{Prompt}
-use Rattle.mg_prompts.specs.declared.prompt.Prompt.TheVariants.{Line, Replacement, Searching, Replacing, Quitting}
+use Rattle.mg_minibuffer.specs.Messages.{message_text}
+use Rattle.mg_minibuffer.specs.Prompts.{label, answer}
+use Rattle.mg_minibuffer.specs.declared.message.Message.{Message}
+use Rattle.mg_minibuffer.specs.declared.message.Message.TheVariants.{Nothing}
+use Rattle.mg_minibuffer.specs.declared.prompt.Prompt.{Prompt}
+use Rattle.mg_minibuffer.specs.declared.prompt.Prompt.TheVariants.{Line, Replacement, Searching, Replacing, Quitting}
 use Rattle.mg_editor.specs.Dialogues.{Dialogue}
 
 -- an open prompt, and the answer so far, as UTF-8

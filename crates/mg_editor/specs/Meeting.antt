@@ -2,15 +2,15 @@
 use Rattle.std.specs.Prelude.{◌≡◌, ℕ, ⊤, List, Option, Result, Ok, Err}
 use Rattle.mg_files.specs.Calls.{Call}
 use Rattle.mg_files.specs.OpenState.{OpenState}
-use Rattle.mg_exchange.specs.Meeting.{Exchanges, Serves}
-use Rattle.mg_exchange.specs.Linking.{ExchangesOver, ServesOver}
-use Rattle.mg_exchange.specs.Talking.{TakesSome, SendsSome}
-use Rattle.mg_exchange.specs.declared.fault.ExchangeFault.{ExchangeFault}
-use Rattle.mg_exchange.specs.declared.talking.Exchanged as talking
-use Rattle.mg_prompts.specs.declared.ending.Request.{Request}
-use Rattle.mg_prompts.specs.declared.ending.Request.TheVariants as request
-use Rattle.mg_prompts.specs.declared.message.Message.{Message}
-use Rattle.mg_prompts.specs.declared.message.Message.TheVariants as message
+use Rattle.mg_sync.specs.Meeting.{Exchanges, Serves}
+use Rattle.mg_sync.specs.Linking.{ExchangesOver, ServesOver}
+use Rattle.mg_sync.specs.Talking.{TakesSome, SendsSome}
+use Rattle.mg_sync.specs.declared.fault.ExchangeFault.{ExchangeFault}
+use Rattle.mg_sync.specs.declared.talking.Exchanged as talking
+use Rattle.mg_minibuffer.specs.declared.ending.Request.{Request}
+use Rattle.mg_minibuffer.specs.declared.ending.Request.TheVariants as request
+use Rattle.mg_minibuffer.specs.declared.message.Message.{Message}
+use Rattle.mg_minibuffer.specs.declared.message.Message.TheVariants as message
 use Rattle.mg_workspace.specs.Saving.{Changes}
 use Rattle.mg_editor.specs.Editors.{Editor}
 use Rattle.mg_editor.specs.Telling.{Answer, message_of_exchange, told}

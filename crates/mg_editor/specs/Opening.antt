@@ -8,8 +8,8 @@ use Rattle.mg_files.specs.Files.{Files}
 use Rattle.mg_files.specs.Loading.{load_outcome}
 use Rattle.mg_files.specs.OpenState.{OpenState}
 use Rattle.mg_files.specs.declared.fault.LoadFault.{LoadFault}
-use Rattle.mg_prompts.specs.declared.message.Message.{Message}
-use Rattle.mg_prompts.specs.declared.message.Message.TheVariants.{Nothing, TornLog}
+use Rattle.mg_minibuffer.specs.declared.message.Message.{Message}
+use Rattle.mg_minibuffer.specs.declared.message.Message.TheVariants.{Nothing, TornLog}
 use Rattle.mg_editor.specs.Dialogues.{Dialogue, IsFresh}
 use Rattle.mg_editor.specs.Editors.{Editor}
 use Rattle.mg_settings.specs.Settings.{Values}

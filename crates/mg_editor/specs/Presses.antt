@@ -5,27 +5,27 @@ use Rattle.mg_plain.specs.declared.outcome.Notice.TheVariants as notice
 use Rattle.mg_keys.specs.declared.step.Step.{Step}
 use Rattle.mg_keys.specs.declared.step.Step.TheVariants.{Pending, Leave, Unbound}
 use Rattle.mg_files.specs.OpenState.{OpenState}
-use Rattle.mg_prompts.specs.declared.ending.Ending.{Ending}
-use Rattle.mg_prompts.specs.declared.ending.Next as prompt_behind
-use Rattle.mg_prompts.specs.declared.ending.Next.TheVariants.{Same, Closed}
-use Rattle.mg_prompts.specs.declared.ending.Reaction.{Reaction}
-use Rattle.mg_prompts.specs.declared.ending.Reaction.TheVariants.{Ends, Replaces, Accepts}
-use Rattle.mg_prompts.specs.declared.ending.Request.{Request}
-use Rattle.mg_prompts.specs.declared.ending.Request.TheVariants.{Idle}
-use Rattle.mg_prompts.specs.declared.message.Message.{Message}
-use Rattle.mg_prompts.specs.declared.message.Message.TheVariants as message
-use Rattle.mg_prompts.specs.declared.prompt.Prompt.{Prompt}
-use Rattle.mg_prompts.specs.declared.prompt.Search.{Search}
-use Rattle.mg_prompts.specs.PlainStep.{plain_step}
-use Rattle.mg_prompts.specs.PromptStep.{prompt_step}
-use Rattle.mg_prompts.specs.ReplacementStep.{next_match, sum}
-use Rattle.mg_prompts.specs.SearchStep.{or_last}
-use Rattle.mg_workspace.specs.Deeds.{DeedVerdict, Done, Keeps, Ran}
+use Rattle.mg_minibuffer.specs.declared.ending.Ending.{Ending}
+use Rattle.mg_minibuffer.specs.declared.ending.Next as prompt_behind
+use Rattle.mg_minibuffer.specs.declared.ending.Next.TheVariants.{Same, Closed}
+use Rattle.mg_minibuffer.specs.declared.ending.Reaction.{Reaction}
+use Rattle.mg_minibuffer.specs.declared.ending.Reaction.TheVariants.{Ends, Replaces, Accepts}
+use Rattle.mg_minibuffer.specs.declared.ending.Request.{Request}
+use Rattle.mg_minibuffer.specs.declared.ending.Request.TheVariants.{Idle}
+use Rattle.mg_minibuffer.specs.declared.message.Message.{Message}
+use Rattle.mg_minibuffer.specs.declared.message.Message.TheVariants as message
+use Rattle.mg_minibuffer.specs.declared.prompt.Prompt.{Prompt}
+use Rattle.mg_minibuffer.specs.declared.prompt.Search.{Search}
+use Rattle.mg_minibuffer.specs.PlainStep.{plain_step}
+use Rattle.mg_minibuffer.specs.PromptStep.{prompt_step}
+use Rattle.mg_minibuffer.specs.ReplacementStep.{next_match, sum}
+use Rattle.mg_minibuffer.specs.SearchStep.{or_last}
+use Rattle.mg_workspace.specs.Actions.{ActionVerdict, Done, Keeps, Ran}
 use Rattle.mg_editor.specs.Dialogues.{Dialogue, IsFresh, mode_of, Fed, Shown, Forgot, search_of, AcceptedSearch, Closes, Reopened}
 use Rattle.mg_editor.specs.Editors.{Editor}
 use Rattle.mg_workspace.specs.Workspaces.{Workspace, IsCurrent, IsListed, scene_of}
-use Rattle.mg_workspace.specs.declared.fault.DeedFault.{DeedFault}
-use Rattle.mg_workspace.specs.declared.fault.DeedFault.TheVariants as deed_fault
+use Rattle.mg_workspace.specs.declared.fault.ActionFault.{ActionFault}
+use Rattle.mg_workspace.specs.declared.fault.ActionFault.TheVariants as action_fault
 use Rattle.mg_editor.specs.declared.fault.Fault.{Fault}
 use Rattle.mg_editor.specs.declared.fault.Fault.TheVariants.{Memory}
 
@@ -55,20 +55,20 @@ pub record RanOut (old new : Editor) (r : Answer) : Type 0 where
 abbrev pub Shows : prompt_behind.Next → Message → Request → Dialogue → Dialogue → Answer → Type 0
 Shows next said request old new r = Shown next said old new × (r ≡ Ok request)
 
--- what follows a deed that was refused
-abbrev pub Refuses : DeedFault → prompt_behind.Next → Dialogue → Dialogue → Answer → Type 0
-Refuses (deed_fault.Refused said) refused old new r = Shows refused said Idle old new r
-Refuses deed_fault.Memory refused old new r = Forgot old new × (r ≡ Err Memory)
+-- what follows an action that was refused
+abbrev pub Refuses : ActionFault → prompt_behind.Next → Dialogue → Dialogue → Answer → Type 0
+Refuses (action_fault.Refused said) refused old new r = Shows refused said Idle old new r
+Refuses action_fault.Memory refused old new r = Forgot old new × (r ≡ Err Memory)
 
--- what follows a deed that was done, or refused
-abbrev pub Told : DeedVerdict → Ending → Dialogue → Dialogue → Answer → Type 0
+-- what follows an action that was done, or refused
+abbrev pub Told : ActionVerdict → Ending → Dialogue → Dialogue → Answer → Type 0
 Told (Ok u) e old new r = Shows e.next e.message e.request old new r
 Told (Err fault) e old new r = Refuses fault e.refused old new r
 
--- the deed was done or refused, and told
+-- the action was done or refused, and told
 pub record Ended (e : Ending) (old new : Editor) (r : Answer) : Type 0 where
-  pub verdict : DeedVerdict
-  pub done : Done e.deed old.work new.work verdict
+  pub verdict : ActionVerdict
+  pub done : Done e.action old.work new.work verdict
   pub told : Told verdict e old.talk new.talk r
 
 -- the current buffer, which is this one, is listed, and nothing else changed
@@ -102,17 +102,17 @@ GoesOn pattern put count old new r =
     ⊎ (Keeps old.work new.work × Shows Closed (message.Refused notice.Memory) Idle old.talk new.talk r)
 
 -- the match at point was replaced, or that was refused
-abbrev pub ReplacesOne : List ℕ → List ℕ → Workspace → Workspace → DeedVerdict → Type 0
+abbrev pub ReplacesOne : List ℕ → List ℕ → Workspace → Workspace → ActionVerdict → Type 0
 ReplacesOne pattern put w v (Ok u) = Ran (ReplaceOne pattern put) 1 w v (Ok tt)
-ReplacesOne pattern put w v (Err (deed_fault.Refused said)) = Ran (ReplaceOne pattern put) 1 w v (Err (deed_fault.Refused said))
-ReplacesOne pattern put w v (Err deed_fault.Memory) = Keeps w v
+ReplacesOne pattern put w v (Err (action_fault.Refused said)) = Ran (ReplaceOne pattern put) 1 w v (Err (action_fault.Refused said))
+ReplacesOne pattern put w v (Err action_fault.Memory) = Keeps w v
 
 -- the match at point is replaced, and then the next one is looked for; a replacement that is refused leaves the question open
 abbrev pub Replaced : List ℕ → List ℕ → ℕ → Editor → Editor → Answer → Type 0
 Replaced pattern put count old new r =
     RanOut old new r
     ⊎ ((mid : Editor) × Ran (ReplaceOne pattern put) 1 old.work mid.work (Ok tt) × (mid.talk ≡ old.talk) × GoesOn pattern put (sum count 1) mid new r)
-    ⊎ ((said : Message) × Ran (ReplaceOne pattern put) 1 old.work new.work (Err (deed_fault.Refused said)) × Shows Same said Idle old.talk new.talk r)
+    ⊎ ((said : Message) × Ran (ReplaceOne pattern put) 1 old.work new.work (Err (action_fault.Refused said)) × Shows Same said Idle old.talk new.talk r)
 
 -- the prompt closes, and the pattern of a search is accepted
 pub record Accepted (old new : Editor) (r : Answer) : Type 0 where

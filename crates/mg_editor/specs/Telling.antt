@@ -12,11 +12,11 @@ use Rattle.mg_files.specs.declared.port.LinkFault.{LinkFault}
 use Rattle.mg_files.specs.declared.port.LinkFault.TheVariants as link
 use Rattle.mg_files.specs.declared.port.PortFault.{PortFault}
 use Rattle.mg_files.specs.declared.port.PortFault.TheVariants as port
-use Rattle.mg_exchange.specs.Meeting.{CountsFaults}
-use Rattle.mg_exchange.specs.declared.fault.ExchangeFault.{ExchangeFault}
-use Rattle.mg_exchange.specs.declared.fault.ExchangeFault.TheVariants as exchange
-use Rattle.mg_prompts.specs.declared.message.Message.{Message}
-use Rattle.mg_prompts.specs.declared.message.Message.TheVariants as message
+use Rattle.mg_sync.specs.Meeting.{CountsFaults}
+use Rattle.mg_sync.specs.declared.fault.ExchangeFault.{ExchangeFault}
+use Rattle.mg_sync.specs.declared.fault.ExchangeFault.TheVariants as exchange
+use Rattle.mg_minibuffer.specs.declared.message.Message.{Message}
+use Rattle.mg_minibuffer.specs.declared.message.Message.TheVariants as message
 use Rattle.mg_workspace.specs.Workspaces.{Workspace}
 use Rattle.mg_editor.specs.Editors.{Editor}
 use Rattle.mg_editor.specs.declared.fault.CarryFault.{CarryFault}

@@ -12,7 +12,7 @@ use crate::opening::message_of_end;
 use crate::telling::{message_of_fault, message_of_port};
 use mg_buffer::string_of;
 use mg_files::{Port, PortFault};
-use mg_prompts::{Message, Request};
+use mg_minibuffer::{Message, Request};
 use rga_exchange::LogEnd;
 use rga_store::TextStore;
 
@@ -57,19 +57,19 @@ fn opening_done(answer: Result<LogEnd, CarryFault>) -> Result<(), CarryFault>
 }
 
 impl<S: TextStore> Editor<S> {
-    /// Carries a request to a port. `Save` saves the current buffer, as `Opened::save` does, and
-    /// says what came of it: that it was written, that there were no changes, or the fault. `Find`
+    /// Carries a request to a port. `Save` saves the current buffer, as `VisitedBuffer::save` does,
+    /// and says what came of it: that it was written, that there were no changes, or the fault. `Find`
     /// goes to the buffer of that name, which asks nothing of a port where it is open; else, unless
     /// as many buffers are open as may be, which is said, it is opened by what the port answers to
     /// the load of its name, and is current then, and a log that was torn is told. `Exchange` and
-    /// `Serve` exchange the current buffer with a peer, as `mg_exchange::exchange` and `serve` do,
+    /// `Serve` exchange the current buffer with a peer, as `mg_sync::exchange` and `serve` do,
     /// and say how many operations were sent and received, or the fault. The other requests ask
     /// nothing of a port.
     ///
     /// Faults, which are said already: of `Save` and `Find` `Port` with those of the port, and of
-    /// `Find` `Load` with those of `Opened::load`, which leave text, point, mark, groups and all other
-    /// buffers as they were, and open none; of `Exchange` and `Serve` `Exchange` with theirs, which
-    /// leave what was taken before, and all other buffers as they were.
+    /// `Find` `Load` with those of `VisitedBuffer::load`, which leave text, point, mark, groups and
+    /// all other buffers as they were, and open none; of `Exchange` and `Serve` `Exchange` with
+    /// theirs, which leave what was taken before, and all other buffers as they were.
     pub fn carry<P: Port>(&mut self, request: Request, port: &mut P) -> Result<(), CarryFault>
         ensures carried { spec.Carried request
             (P.calls port.old) (P.calls port.new) self.old self.new result }

@@ -5,8 +5,8 @@ ghost use Rattle.mg_editor.specs.Dialogues as spec;
 ghost use Rattle.mg_editor.specs.Opening.{Begins};
 
 use mg_keys::{Keys, Mode, Step};
+use mg_minibuffer::{Message, Next, Prompt, Reaction, Scene, Search, prompt_step};
 use mg_plain::Chars;
-use mg_prompts::{Message, Next, Prompt, Reaction, Scene, Search, prompt_step};
 use std::alloc::{AllocError, Global};
 use std::marker::Model;
 

@@ -1,11 +1,11 @@
 //! The echo line.
 ghost use Rattle.std.specs.Prelude.{◌≡◌, ◌++◌, IfOk, encode_utf8_all, string_bytes};
-ghost use Rattle.mg_prompts.specs.Prompts.{label, answer};
+ghost use Rattle.mg_minibuffer.specs.Prompts.{label, answer};
 ghost use Rattle.mg_editor.specs.Echo as spec;
 
 use crate::dialogue::Dialogue;
 use mg_buffer::push_characters;
-use mg_prompts::{Message, Prompt};
+use mg_minibuffer::{Message, Prompt};
 use std::alloc::{AllocError, Global};
 
 impl Dialogue {

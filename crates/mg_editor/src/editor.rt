@@ -3,10 +3,10 @@ ghost use Rattle.std.specs.Prelude.{◌≡◌, ◌≤◌, ◌↔◌, [], false};
 ghost use Rattle.mg_keys.specs.Begun.{HasBegun};
 ghost use Rattle.mg_screen.specs.Layout.{FillsRows};
 ghost use Rattle.mg_screen.specs.declared.size.TheConstants.{MIN_ROWS, MAX_ROWS, MIN_COLUMNS, MAX_COLUMNS};
-ghost use Rattle.mg_workspace.specs.Deeds.{resized};
+ghost use Rattle.mg_workspace.specs.Actions.{resized};
 
 use crate::dialogue::Dialogue;
-use mg_prompts::Message;
+use mg_minibuffer::Message;
 use mg_workspace::Workspace;
 use rga_store::TextStore;
 use std::alloc::Global;

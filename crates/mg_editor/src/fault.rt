@@ -1,6 +1,6 @@
 //! Why the editor did not do what it was asked.
-use mg_exchange::ExchangeFault;
 use mg_files::{LoadFault, PortFault};
+use mg_sync::ExchangeFault;
 use std::alloc::AllocError;
 
 /// Why a byte was not pressed, or a frame not made.

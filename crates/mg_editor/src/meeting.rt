@@ -6,9 +6,9 @@ ghost use Rattle.mg_editor.specs.Telling as telling;
 use crate::editor::Editor;
 use crate::fault::CarryFault;
 use crate::telling::message_of_exchange;
-use mg_exchange::{ExchangeFault, Exchanged};
 use mg_files::Port;
-use mg_prompts::Message;
+use mg_minibuffer::Message;
+use mg_sync::{ExchangeFault, Exchanged};
 use rga_store::TextStore;
 
 /// What is said of a meeting.

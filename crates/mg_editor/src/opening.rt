@@ -7,8 +7,8 @@ ghost use Rattle.mg_editor.specs.Opening as spec;
 
 use crate::dialogue::Dialogue;
 use crate::editor::Editor;
-use mg_files::{Found, LoadFault, Opened};
-use mg_prompts::Message;
+use mg_files::{Found, LoadFault, VisitedBuffer};
+use mg_minibuffer::Message;
 use mg_settings::{Settings, Values};
 use mg_workspace::Workspace;
 use rga_exchange::LogEnd;
@@ -31,12 +31,12 @@ fn load<S: TextStore>(
     alloc: Global,
     values: &Values,
     found: Found,
-) -> Result<(Opened<S>, LogEnd), LoadFault>
+) -> Result<(VisitedBuffer<S>, LogEnd), LoadFault>
     ensures { let v = values.now in
         result ≢ Err Memory → result ≡ load_outcome v.name v.replica v.limit found }
 {
     let name = String::from_str(alloc, values.name.as_str())?;
-    Opened::load(alloc, name, values.replica, values.limit, found)
+    VisitedBuffer::load(alloc, name, values.replica, values.limit, found)
 }
 
 impl<S: TextStore> Editor<S> {
@@ -44,7 +44,7 @@ impl<S: TextStore> Editor<S> {
     /// operations of its log, nothing unsaved, or else the characters of its text, all unsaved, or
     /// nothing. Point is at the front of it, in one window; a log that was torn is told.
     ///
-    /// Faults: those of `Opened::load`.
+    /// Faults: those of `VisitedBuffer::load`.
     pub fn new(alloc: Global, settings: &Settings, found: Found) -> Result<Editor<S>, LoadFault>
         ensures { result ≢ Err Memory → spec.Opens settings.now found result }
     {

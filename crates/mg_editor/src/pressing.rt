@@ -1,7 +1,7 @@
 //! The editor, pressed byte by byte.
 ghost use Rattle.std.specs.Prelude.{◌≡◌, Some, Ok, Err, IfOk, OnOk, OnErr};
-ghost use Rattle.mg_prompts.specs.declared.prompt.Prompt.{Prompt};
-ghost use Rattle.mg_workspace.specs.Deeds.{Keeps};
+ghost use Rattle.mg_minibuffer.specs.declared.prompt.Prompt.{Prompt};
+ghost use Rattle.mg_workspace.specs.Actions.{Keeps};
 ghost use Rattle.mg_editor.specs.Presses as spec;
 ghost use Rattle.mg_workspace.specs.Workspaces.{HasList};
 ghost use Rattle.mg_editor.specs.declared.fault.Fault.TheVariants.{Memory};
@@ -9,9 +9,9 @@ ghost use Rattle.mg_editor.specs.declared.fault.Fault.TheVariants.{Memory};
 use crate::editor::Editor;
 use crate::fault::Fault;
 use mg_keys::Step;
+use mg_minibuffer::{Ending, Message, Next, Reaction, Request, Search, next_match, plain_step};
 use mg_plain::{Chars, Command, Notice};
-use mg_prompts::{Ending, Message, Next, Reaction, Request, Search, next_match, plain_step};
-use mg_workspace::DeedFault;
+use mg_workspace::ActionFault;
 use rga_store::TextStore;
 use std::alloc::{AllocError, Global};
 
@@ -39,20 +39,20 @@ impl<S: TextStore> Editor<S> {
         Err(Fault::Memory)
     }
 
-    /// Does the deed of an ending, and tells what came of it.
+    /// Does the action of an ending, and tells what came of it.
     fn end(&mut self, ending: Ending) -> Result<Request, Fault>
         requires { HasList self.old.work }
         ensures ended { spec.Ended ending self.old self.new result }
         ensures refused { OnErr result (spec.IsRefused self.old self.new) }
     {
         let Ending {
-            deed,
+            action,
             next,
             message,
             request,
             refused,
         } = ending;
-        match self.work.do_deed(&deed) {
+        match self.work.do_action(&action) {
             Ok(()) => self.show(next, message, request),
             Err(fault) => self.refuse(fault, refused),
         }
@@ -67,14 +67,14 @@ impl<S: TextStore> Editor<S> {
         Ok(request)
     }
 
-    /// Tells why a deed was refused. Want of memory leaves prompt and message as they are.
-    fn refuse(&mut self, fault: DeedFault, refused: Next) -> Result<Request, Fault>
+    /// Tells why an action was refused. Want of memory leaves prompt and message as they are.
+    fn refuse(&mut self, fault: ActionFault, refused: Next) -> Result<Request, Fault>
         ensures told { spec.Refuses fault refused self.old.talk self.new.talk result }
         ensures work { self.new.work ≡ self.old.work }
     {
         match fault {
-            DeedFault::Refused(message) => self.show(refused, message, Request::Idle),
-            DeedFault::Memory => self.run_out(),
+            ActionFault::Refused(message) => self.show(refused, message, Request::Idle),
+            ActionFault::Memory => self.run_out(),
         }
     }
 
@@ -139,13 +139,13 @@ impl<S: TextStore> Editor<S> {
         }
     }
 
-    fn replace_one(&mut self, pattern: &[char], put: &[char]) -> Result<(), DeedFault>
+    fn replace_one(&mut self, pattern: &[char], put: &[char]) -> Result<(), ActionFault>
         ensures one { spec.ReplacesOne pattern.now put.now self.old.work self.new.work result }
         ensures talk { self.new.talk ≡ self.old.talk }
     {
         match replacement(self.alloc, pattern, put) {
             Ok(command) => self.work.run(&command, 1),
-            Err(_) => Err(DeedFault::Memory),
+            Err(_) => Err(ActionFault::Memory),
         }
     }
 

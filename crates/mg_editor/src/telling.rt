@@ -3,10 +3,10 @@ ghost use Rattle.std.specs.Prelude.{◌≡◌};
 ghost use Rattle.mg_editor.specs.Telling as spec;
 
 use crate::fault::CarryFault;
-use mg_exchange::ExchangeFault;
 use mg_files::{LinkFault, LoadFault, PortFault};
+use mg_minibuffer::Message;
 use mg_plain::Notice;
-use mg_prompts::Message;
+use mg_sync::ExchangeFault;
 use rga_exchange::{ReceiveFault, SendFault};
 
 /// What is said of a port that is asked for files.

@@ -9,8 +9,8 @@ ghost use Rattle.rga_exchange.specs.declared.log.LogEnd.TheVariants.{Whole};
 ghost use Rattle.mg_files.specs.declared.fault.LoadFault.TheVariants.{Memory, NotText};
 
 use crate::fault::LoadFault;
-use crate::opened::Opened;
 use crate::port::Found;
+use crate::visited_buffer::VisitedBuffer;
 use mg_buffer::Buffer;
 use rga_doc::Doc;
 use rga_exchange::{LogEnd, read_log};
@@ -19,7 +19,7 @@ use rga_ops::Refusal;
 use rga_store::{MAX_LIMIT, TextStore};
 use std::alloc::Global;
 
-impl<S: TextStore> Opened<S> {
+impl<S: TextStore> VisitedBuffer<S> {
     /// Opens the buffer of a name, of a replica that may know `limit` identifiers, by what was
     /// found under the name, and answers how its log ends.
     ///
@@ -38,7 +38,7 @@ impl<S: TextStore> Opened<S> {
         replica: u16,
         limit: usize,
         found: Found,
-    ) -> Result<(Opened<S>, LogEnd), LoadFault>
+    ) -> Result<(VisitedBuffer<S>, LogEnd), LoadFault>
         ensures exact { result ≢ Err Memory →
             result ≡ load_outcome (string_bytes name) replica limit found }
         // What is loaded of a text shows that text.
@@ -89,7 +89,7 @@ fn load_log<S: TextStore>(
     replica: u16,
     limit: usize,
     bytes: &[u8],
-) -> Result<(Opened<S>, LogEnd), LoadFault>
+) -> Result<(VisitedBuffer<S>, LogEnd), LoadFault>
     requires { opening_answer replica limit ≡ Ok tt }
     ensures { result ≢ Err Memory →
         result ≡ opened_and_end (string_bytes name) replica limit (log_loaded limit bytes.now) }
@@ -98,7 +98,7 @@ fn load_log<S: TextStore>(
     let mut reader = Counted::new(bytes);
     let end = read_log(alloc, &mut doc, &mut reader)?;
     let buffer = Buffer::new(alloc, doc, name, Vec::new(alloc));
-    Ok((Opened::new(alloc, buffer, end), end))
+    Ok((VisitedBuffer::new(alloc, buffer, end), end))
 }
 
 /// The buffer of a text. What is no text is found before memory is asked for.
@@ -108,7 +108,7 @@ fn load_text<S: TextStore>(
     replica: u16,
     limit: usize,
     bytes: &[u8],
-) -> Result<(Opened<S>, LogEnd), LoadFault>
+) -> Result<(VisitedBuffer<S>, LogEnd), LoadFault>
     requires { opening_answer replica limit ≡ Ok tt }
     ensures exact { result ≢ Err Memory → result
         ≡ opened_and_end (string_bytes name) replica limit (text_loaded replica limit bytes.now) }
@@ -119,7 +119,10 @@ fn load_text<S: TextStore>(
     let mut doc = empty_doc(alloc, replica, limit)?;
     let ops = doc.splice(0, 0, &put)?;
     let buffer = Buffer::new(alloc, doc, name, ops);
-    Ok((Opened::new(alloc, buffer, LogEnd::Whole), LogEnd::Whole))
+    Ok((
+        VisitedBuffer::new(alloc, buffer, LogEnd::Whole),
+        LogEnd::Whole,
+    ))
 }
 
 /// The characters of a text. What is no text is found before memory is asked for.
@@ -141,12 +144,15 @@ fn load_nothing<S: TextStore>(
     name: String,
     replica: u16,
     limit: usize,
-) -> Result<(Opened<S>, LogEnd), LoadFault>
+) -> Result<(VisitedBuffer<S>, LogEnd), LoadFault>
     requires { opening_answer replica limit ≡ Ok tt }
     ensures { result ≢ Err Memory → result
         ≡ opened_and_end (string_bytes name) replica limit (Ok (loaded nothing [] Whole)) }
 {
     let doc = empty_doc(alloc, replica, limit)?;
     let buffer = Buffer::new(alloc, doc, name, Vec::new(alloc));
-    Ok((Opened::new(alloc, buffer, LogEnd::Whole), LogEnd::Whole))
+    Ok((
+        VisitedBuffer::new(alloc, buffer, LogEnd::Whole),
+        LogEnd::Whole,
+    ))
 }

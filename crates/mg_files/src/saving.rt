@@ -4,11 +4,11 @@ ghost use Rattle.mg_files.specs.Calls.{Adds, told, failures_after};
 ghost use Rattle.mg_files.specs.Saving.{is_changed, log_call, log_calls, text_call, save_calls, logged, saved, unlogged, written, FailsAtLog, SaveFailed};
 
 use crate::lines::{all_lines_of, appended_lines_of};
-use crate::opened::Opened;
 use crate::port::{Port, PortFault};
+use crate::visited_buffer::VisitedBuffer;
 use rga_store::TextStore;
 
-impl<S: TextStore> Opened<S> {
+impl<S: TextStore> VisitedBuffer<S> {
     /// Saves what is changed: the unsaved operations are appended to the log, in runs where
     /// `append_runs` asked for these and they are more than `MAX_SINGLE`; or the whole log is
     /// written where it may not end in a newline. Then the text is put. Answers whether there

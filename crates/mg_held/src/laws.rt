@@ -12,12 +12,12 @@ ghost use Rattle.mg_held.specs.Held.{Held, Answers, MayLeave, MayLead};
 ghost use Rattle.mg_held.specs.Kept.{IsThere, IsBuffer, IsLogged, IsLoggedBy, OpensSaved};
 ghost use Rattle.mg_held.specs.Run.{Step, SavesOnce, MayStep, MayGo, HoldsMore};
 
-use mg_files::Opened;
+use mg_files::VisitedBuffer;
 use rga_store::TextStore;
 
 /// Of each buffer that there is the operations are well-formed, and no more than it may know. Takes no
 /// memory.
-pub fn every_buffer_is_sound<S: TextStore>(opened: &Opened<S>)
+pub fn every_buffer_is_sound<S: TextStore>(opened: &VisitedBuffer<S>)
     ensures sound { IsSound opened.now.buffer.content }
     ensures fits { known_count opened.now.buffer.content ≤ opened.now.buffer.limit }
 {

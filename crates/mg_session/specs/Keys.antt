@@ -2,9 +2,9 @@
 use Rattle.std.specs.Prelude.{◌≡◌, ℕ, Bool, true, false, List, Option, Ok, Err}
 use Rattle.mg_plain.specs.declared.outcome.Notice.TheVariants as notice
 use Rattle.mg_files.specs.Calls.{Call}
-use Rattle.mg_prompts.specs.declared.ending.Request.{Request}
-use Rattle.mg_prompts.specs.declared.ending.Request.TheVariants.{Idle, Save, Find, Exchange, Serve, Quit}
-use Rattle.mg_prompts.specs.declared.message.Message.TheVariants.{Refused}
+use Rattle.mg_minibuffer.specs.declared.ending.Request.{Request}
+use Rattle.mg_minibuffer.specs.declared.ending.Request.TheVariants.{Idle, Save, Find, Exchange, Serve, Quit}
+use Rattle.mg_minibuffer.specs.declared.message.Message.TheVariants.{Refused}
 use Rattle.mg_editor.specs.Carrying as carrying
 use Rattle.mg_editor.specs.Editors.{Editor}
 use Rattle.mg_editor.specs.Presses as presses

@@ -9,7 +9,7 @@ use Rattle.mg_files.specs.Loading.{load_outcome}
 use Rattle.mg_keys.specs.Begun.{HasBegun}
 use Rattle.mg_screen.specs.declared.size.TheConstants.{MIN_ROWS, MAX_ROWS, MIN_COLUMNS, MAX_COLUMNS}
 use Rattle.mg_settings.specs.Settings.{Values}
-use Rattle.mg_workspace.specs.Deeds.{resized}
+use Rattle.mg_workspace.specs.Actions.{resized}
 use Rattle.mg_editor.specs.Editors.{Editor}
 use Rattle.mg_editor.specs.Opening.{Opens}
 use Rattle.mg_session.specs.Display.{ShowsIf, BeginsIf, follows_step, follows_block, showing_of}

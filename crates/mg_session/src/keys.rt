@@ -4,8 +4,8 @@ ghost use Rattle.mg_session.specs.Keys as spec;
 
 use mg_editor::{Editor, Fault};
 use mg_files::Port;
+use mg_minibuffer::{Message, Request};
 use mg_plain::Notice;
-use mg_prompts::{Message, Request};
 use rga_store::TextStore;
 
 /// Presses a byte. Want of memory is said.

@@ -6,10 +6,10 @@ use Rattle.mg_files.specs.OpenState.{OpenState}
 use Rattle.mg_buffer.specs.Faults.{FaultVerdict}
 use Rattle.mg_buffer.specs.Sight.{Notes}
 use Rattle.mg_workspace.specs.Buffers.{Buffers, AtCurrent, IsSameBuffer, RunsTo, UndoesTo, listed, unlisted, AreListed}
-use Rattle.mg_workspace.specs.Deeds.{DeedVerdict, of_buffer, all_unlisted, Keeps, Ran, Undid}
+use Rattle.mg_workspace.specs.Actions.{ActionVerdict, of_buffer, all_unlisted, Keeps, Ran, Undid}
 use Rattle.mg_workspace.specs.Workspaces as spec
 use Rattle.mg_workspace.specs.Workspaces.{Workspace}
-use Rattle.mg_workspace.specs.declared.fault.DeedFault.TheVariants.{Memory}
+use Rattle.mg_workspace.specs.declared.fault.ActionFault.TheVariants.{Memory}
 
 map-set_same : {A B : Type 0} (f : A → B) (xs : List A) (i : ℕ) (x y : A) → slice_get xs i ≡ Some x → f y ≡ f x → map f (slice_set xs i y) ≡ map f xs
 map-set_same f [] i x y at same = refl
@@ -41,12 +41,12 @@ undoes_same old new x y (Err e) at m =
 with_notes : (w v : Workspace) → v ≡ record w { buffers = v.buffers; notes = v.notes } → v.notes ≡ w.notes → v ≡ record w { buffers = v.buffers }
 with_notes w v rest same = rest ∙ ap (λ n. record w { buffers = v.buffers; notes = n }) same
 
-pub refused_run_keeps : (command : Command) (n : ℕ) (w v : Workspace) (r : DeedVerdict) → Ran command n w v r → r ≡ Err Memory → Keeps w v
+pub refused_run_keeps : (command : Command) (n : ℕ) (w v : Workspace) (r : ActionVerdict) → Ran command n w v r → r ≡ Err Memory → Keeps w v
 refused_run_keeps command n w v r ran m =
     let same = runs_same command n w.fill w.notes v.notes w.buffers v.buffers ran.answer ran.buffers (sym ran.told ∙ m) in
     keeps_same w v same.0 (with_notes w v ran.rest same.1)
 
-pub refused_undo_keeps : (w v : Workspace) (r : DeedVerdict) → Undid w v r → r ≡ Err Memory → Keeps w v
+pub refused_undo_keeps : (w v : Workspace) (r : ActionVerdict) → Undid w v r → r ≡ Err Memory → Keeps w v
 refused_undo_keeps w v r undid m =
     let same = undoes_same w.notes v.notes w.buffers v.buffers undid.answer undid.buffers (sym undid.told ∙ m) in
     keeps_same w v same.0 (with_notes w v undid.rest same.1)

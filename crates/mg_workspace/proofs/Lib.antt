@@ -1,6 +1,6 @@
 pub mod Results
 pub mod MappedLaws
-pub mod ExcerptLaws
+pub mod ViewportLaws
 pub mod NameLaws
 pub mod Removals
 pub mod Arrangements

@@ -3,9 +3,9 @@ use Rattle.std.proofs.Common.{◌≡◌, ◌<◌, ◌≤◌, List, length, true,
 use Rattle.std.proofs.lemmas.Bool.{le-leb, lt-leb}
 use Rattle.mg_files.specs.OpenState.{OpenState}
 use Rattle.mg_files.specs.Saving.{is_changed}
-use Rattle.mg_prompts.specs.declared.message.Message.TheVariants.{BufferIsChanged, OnlyOneBuffer}
-use Rattle.mg_workspace.specs.Deeds.{removal_answer}
-use Rattle.mg_workspace.specs.declared.fault.DeedFault.TheVariants.{Refused}
+use Rattle.mg_minibuffer.specs.declared.message.Message.TheVariants.{BufferIsChanged, OnlyOneBuffer}
+use Rattle.mg_workspace.specs.Actions.{removal_answer}
+use Rattle.mg_workspace.specs.declared.fault.ActionFault.TheVariants.{Refused}
 
 pub changed_answer : (b : OpenState) (bs : List OpenState) → is_changed b ≡ true → removal_answer b bs ≡ Err (Refused BufferIsChanged)
 changed_answer b bs changed = rw changed refl

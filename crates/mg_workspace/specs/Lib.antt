@@ -1,9 +1,9 @@
 pub mod Mapped
 pub mod Names
 pub mod Buffers
-pub mod Excerpts
+pub mod Viewports
 pub mod Workspaces
-pub mod Deeds
+pub mod Actions
 pub mod Saving
 pub mod Opening
 pub mod Showing

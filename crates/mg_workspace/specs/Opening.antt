@@ -8,7 +8,7 @@ use Rattle.mg_screen.specs.Layout.{layout, window}
 use Rattle.mg_settings.specs.Settings.{Values}
 use Rattle.mg_workspace.specs.declared.workspace.TheConstants.{MAX_BUFFERS}
 use Rattle.mg_workspace.specs.Buffers.{with_buffer}
-use Rattle.mg_workspace.specs.Excerpts.{excerpt, turned}
+use Rattle.mg_workspace.specs.Viewports.{viewport, turned}
 use Rattle.mg_workspace.specs.Workspaces.{Workspace}
 
 -- one buffer in one window, from its first line on
@@ -16,7 +16,7 @@ abbrev pub workspace : Values → OpenState → Workspace
 workspace v b = record {
   buffers = record { all = with_runs v.runs b ∷ []; current = 0 };
   notes = record { kill = []; kind = Plain; goal = 0 };
-  windows = layout (window (v.rows - 2) (excerpt 0 0) ∷ []) 0;
+  windows = layout (window (v.rows - 2) (viewport 0 0) ∷ []) 0;
   fill = v.fill;
   columns = v.columns;
   replica = v.replica;

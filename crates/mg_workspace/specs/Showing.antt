@@ -8,37 +8,37 @@ use Rattle.mg_screen.specs.declared.size.TheConstants.{MAX_ROWS}
 use Rattle.mg_screen.specs.Layout.{Window, window, Layout, layout, FillsRows}
 use Rattle.mg_screen.specs.Lines.{first_line}
 use Rattle.mg_screen.specs.Screen.{Pane}
-use Rattle.mg_workspace.specs.declared.excerpt.Excerpt.{Excerpt}
-use Rattle.mg_workspace.specs.Excerpts.{excerpt}
+use Rattle.mg_workspace.specs.declared.viewport.Viewport.{Viewport}
+use Rattle.mg_workspace.specs.Viewports.{viewport}
 use Rattle.mg_workspace.specs.Workspaces.{Workspace, IsCurrent}
 
 -- the buffer that a window shows
-abbrev pub buffer_of : List OpenState → Window Excerpt → Option OpenState
+abbrev pub buffer_of : List OpenState → Window Viewport → Option OpenState
 buffer_of bs w = slice_get bs w.shown.buffer
 
 -- the first line of a window over a buffer, so that it shows the line of point; over none, as over an empty text
-abbrev pub first_over : Option OpenState → Window Excerpt → ℕ
+abbrev pub first_over : Option OpenState → Window Viewport → ℕ
 first_over (Some b) w = first_line (text b.buffer.content) (place_of b.buffer.content b.buffer.point) w.shown.first w.height
 first_over None w = first_line [] 0 w.shown.first w.height
 
 -- a window from there on
-abbrev pub placed_window : List OpenState → Window Excerpt → Window Excerpt
-placed_window bs w = window w.height (excerpt w.shown.buffer (first_over (buffer_of bs w) w))
+abbrev pub placed_window : List OpenState → Window Viewport → Window Viewport
+placed_window bs w = window w.height (viewport w.shown.buffer (first_over (buffer_of bs w) w))
 
 -- all windows
-abbrev pub placed : List OpenState → Layout Excerpt → Layout Excerpt
+abbrev pub placed : List OpenState → Layout Viewport → Layout Viewport
 placed bs l = layout (map (placed_window bs) l.windows) l.current
 
 -- what the window at an index shows once it is placed
-abbrev pub IsPlacedExcerpt : List OpenState → List (Window Excerpt) → ℕ → Excerpt → Type 0
-IsPlacedExcerpt bs ws i x = (w : Window Excerpt) × (slice_get ws i ≡ Some w) × (x ≡ (placed_window bs w).shown)
+abbrev pub IsPlacedViewport : List OpenState → List (Window Viewport) → ℕ → Viewport → Type 0
+IsPlacedViewport bs ws i x = (w : Window Viewport) × (slice_get ws i ≡ Some w) × (x ≡ (placed_window bs w).shown)
 
 -- the layout fills the rows of a screen
-abbrev pub IsOnScreen : Layout Excerpt → Type 0
+abbrev pub IsOnScreen : Layout Viewport → Type 0
 IsOnScreen l = (rows : ℕ) × FillsRows rows l × (rows ≤ MAX_ROWS)
 
 -- a window over a buffer, as a frame shows it; over none, as over an empty text
-abbrev pub pane_over : Option OpenState → Window Excerpt → Pane
+abbrev pub pane_over : Option OpenState → Window Viewport → Pane
 pane_over (Some b) w = record {
   text = text b.buffer.content;
   point = place_of b.buffer.content b.buffer.point;
@@ -50,11 +50,11 @@ pane_over (Some b) w = record {
 }
 pane_over None w = record { text = []; point = 0; first = w.shown.first; height = w.height; name = []; changed = false; waiting = 0 }
 
-abbrev pub pane_of : List OpenState → Window Excerpt → Pane
+abbrev pub pane_of : List OpenState → Window Viewport → Pane
 pane_of bs w = pane_over (buffer_of bs w) w
 
 -- all windows, each over its buffer
-abbrev pub panes_of : List OpenState → Layout Excerpt → List Pane
+abbrev pub panes_of : List OpenState → Layout Viewport → List Pane
 panes_of bs l = map (pane_of bs) l.windows
 
 -- ---- of a workspace

@@ -4,8 +4,8 @@ use Rattle.rga_ops.specs.Order.{text}
 use Rattle.mg_buffer.specs.Sight.{Notes, place_of}
 use Rattle.mg_files.specs.OpenState.{OpenState}
 use Rattle.mg_screen.specs.Layout.{Layout, current_height}
-use Rattle.mg_workspace.specs.declared.excerpt.Excerpt.{Excerpt}
-use Rattle.mg_prompts.specs.Scenes as scenes
+use Rattle.mg_workspace.specs.declared.viewport.Viewport.{Viewport}
+use Rattle.mg_minibuffer.specs.Scenes as scenes
 use Rattle.mg_workspace.specs.Buffers as buffers
 use Rattle.mg_workspace.specs.Buffers.{are_changed, AtCurrent}
 
@@ -14,7 +14,7 @@ use Rattle.mg_workspace.specs.Buffers.{are_changed, AtCurrent}
 pub record Workspace : Type 0 where
   pub buffers : buffers.Buffers
   pub notes : Notes
-  pub windows : Layout Excerpt
+  pub windows : Layout Viewport
   pub fill : ℕ
   pub columns : ℕ
   pub replica : ℕ

@@ -2,22 +2,22 @@
 ghost use Rattle.std.specs.Prelude.{◌≡◌, ℕ, ◌<◌, ◌≤◌, true, Some, Err, length, slice_get, OnOk, OnErr};
 ghost use Rattle.mg_screen.specs.Layout.{all_shown, heights, FillsRows};
 ghost use Rattle.mg_screen.specs.declared.size.TheConstants.{MIN_ROWS, MAX_ROWS, MIN_COLUMNS, MAX_COLUMNS};
-ghost use Rattle.mg_workspace.specs.declared.fault.DeedFault.TheVariants.{Memory};
-ghost use Rattle.mg_workspace.specs.Deeds as spec;
-ghost use Rattle.mg_workspace.specs.Excerpts.{current_excerpt, ShowThese};
+ghost use Rattle.mg_workspace.specs.declared.fault.ActionFault.TheVariants.{Memory};
+ghost use Rattle.mg_workspace.specs.Actions as spec;
+ghost use Rattle.mg_workspace.specs.Viewports.{current_viewport, ShowThese};
 ghost use Rattle.mg_workspace.specs.Workspaces.{HasList};
 
-use crate::excerpt::Excerpt;
-use crate::fault::{DeedFault, of_windows};
+use crate::fault::{ActionFault, of_windows};
+use crate::viewport::Viewport;
 use crate::workspace::Workspace;
 use mg_buffer::Memo;
-use mg_files::Opened;
-use mg_prompts::Arrangement;
+use mg_files::VisitedBuffer;
+use mg_minibuffer::Arrangement;
 use mg_screen::{WindowFault, Windows, centred_line};
 use rga_store::TextStore;
 
 /// What the window at an index shows.
-pub(crate) fn excerpt_at(windows: &Windows<Excerpt>, index: usize) -> Excerpt
+pub(crate) fn viewport_at(windows: &Windows<Viewport>, index: usize) -> Viewport
     requires { index < length windows.now.windows }
     ensures { slice_get (all_shown windows.now.windows) index ≡ Some result }
 {
@@ -25,7 +25,7 @@ pub(crate) fn excerpt_at(windows: &Windows<Excerpt>, index: usize) -> Excerpt
 }
 
 /// The text rows of the window at an index.
-pub(crate) fn height_at(windows: &Windows<Excerpt>, index: usize) -> usize
+pub(crate) fn height_at(windows: &Windows<Viewport>, index: usize) -> usize
     requires { index < length windows.now.windows }
     ensures { slice_get (heights windows.now.windows) index ≡ Some result }
 {
@@ -33,31 +33,31 @@ pub(crate) fn height_at(windows: &Windows<Excerpt>, index: usize) -> usize
 }
 
 /// What the current window shows.
-pub(crate) fn current_excerpt(windows: &Windows<Excerpt>) -> Excerpt
-    ensures exact { result ≡ current_excerpt windows.now }
+pub(crate) fn current_viewport(windows: &Windows<Viewport>) -> Viewport
+    ensures exact { result ≡ current_viewport windows.now }
     ensures within { (n : ℕ) → ShowThese n windows.now.windows → result.buffer < n }
 {
-    excerpt_at(windows, windows.current())
+    viewport_at(windows, windows.current())
 }
 
 /// The current window shows its buffer, which is this, with point's line in its middle.
-fn recenter<S: TextStore>(windows: &mut Windows<Excerpt>, opened: &Opened<S>, memo: &Memo)
+fn recenter<S: TextStore>(windows: &mut Windows<Viewport>, opened: &VisitedBuffer<S>, memo: &Memo)
     requires { opened.now.buffer.listed ≡ true }
     ensures exact { windows.new ≡ spec.arranged Arrangement.Recenter opened.now windows.old }
     ensures shown { (n : ℕ) → ShowThese n windows.old.windows → ShowThese n windows.new.windows }
 {
     let index = windows.current();
     let height = windows.heights()[index];
-    let buffer = current_excerpt(windows).buffer;
+    let buffer = current_viewport(windows).buffer;
     let view = opened.buffer.view(memo);
     let first = centred_line(view.text, view.point, height);
-    windows.show(index, Excerpt { buffer, first });
+    windows.show(index, Viewport { buffer, first });
 }
 
 fn change_windows<S: TextStore>(
-    windows: &mut Windows<Excerpt>,
+    windows: &mut Windows<Viewport>,
     arrangement: Arrangement,
-    opened: &Opened<S>,
+    opened: &VisitedBuffer<S>,
     memo: &Memo,
 ) -> Result<(), WindowFault>
     requires { opened.now.buffer.listed ≡ true }
@@ -97,7 +97,7 @@ fn lacks_memory(answer: Result<(), WindowFault>) -> bool
 impl<S: TextStore> Workspace<S> {
     /// The windows change, and a run of commands ends, refused or not. Then the buffer of the
     /// current window is current.
-    pub(crate) fn arrange(&mut self, arrangement: Arrangement) -> Result<(), DeedFault>
+    pub(crate) fn arrange(&mut self, arrangement: Arrangement) -> Result<(), ActionFault>
         requires { HasList self.old }
         ensures arranged { spec.Arranged arrangement self.old self.new result }
         ensures kept { result ≡ Err Memory → spec.Keeps self.old self.new }
@@ -105,10 +105,10 @@ impl<S: TextStore> Workspace<S> {
         let opened = self.buffers.current();
         let answer = change_windows(&mut self.windows, arrangement, opened, &self.memo);
         if lacks_memory(answer) {
-            return Err(DeedFault::Memory);
+            return Err(ActionFault::Memory);
         }
         self.buffers.idle(&mut self.memo);
-        let shown = current_excerpt(&self.windows);
+        let shown = current_viewport(&self.windows);
         self.buffers.go_to(shown.buffer);
         of_windows(answer)
     }
@@ -125,7 +125,7 @@ impl<S: TextStore> Workspace<S> {
     {
         self.windows.resize(rows);
         self.columns = columns;
-        let shown = current_excerpt(&self.windows);
+        let shown = current_viewport(&self.windows);
         self.buffers.go_to(shown.buffer);
     }
 }

@@ -5,15 +5,15 @@ ghost use Rattle.mg_workspace.specs.Buffers as spec;
 ghost use Rattle.mg_workspace.specs.Saving.{CurrentBecomes};
 ghost use Rattle.mg_files.specs.Saving.{SavesTo};
 ghost use Rattle.mg_files.specs.Calls.{failures_after};
-ghost use Rattle.mg_exchange.specs.Meeting.{CountsFaults};
-ghost use Rattle.mg_exchange.specs.Linking.{ExchangesOver, ServesOver};
+ghost use Rattle.mg_sync.specs.Meeting.{CountsFaults};
+ghost use Rattle.mg_sync.specs.Linking.{ExchangesOver, ServesOver};
 ghost use Rattle.mg_workspace.specs.Mapped.{mapped_at};
 ghost use Rattle.mg_workspace.specs.Names as names;
 
 use mg_buffer::{BufferFault, Memo};
-use mg_exchange::{ExchangeFault, Exchanged};
-use mg_files::{Opened, Port, PortFault};
+use mg_files::{Port, PortFault, VisitedBuffer};
 use mg_plain::Command;
+use mg_sync::{ExchangeFault, Exchanged};
 use rga_ops::Refusal;
 use rga_store::TextStore;
 use std::alloc::{AllocError, Global};
@@ -22,7 +22,7 @@ use std::marker::Model;
 /// Buffers in the order in which they were opened.
 #[derive(Drop)]
 pub struct Buffers<S: TextStore> {
-    all: Vec<Opened<S>>,
+    all: Vec<VisitedBuffer<S>>,
     current: usize,
 }
 
@@ -43,7 +43,7 @@ impl<S: TextStore> Model for Buffers<S> {
 
 impl<S: TextStore> Buffers<S> {
     /// One buffer, which is current. `AllocError` alone.
-    pub fn new(alloc: Global, opened: Opened<S>) -> Result<Buffers<S>, AllocError>
+    pub fn new(alloc: Global, opened: VisitedBuffer<S>) -> Result<Buffers<S>, AllocError>
         ensures { IfOk result (λ b. b ≡ record { all = opened ∷ []; current = 0 }) }
     {
         let mut all = Vec::new(alloc);
@@ -52,7 +52,7 @@ impl<S: TextStore> Buffers<S> {
     }
 
     /// The current buffer.
-    pub fn current(&self) -> &Opened<S>
+    pub fn current(&self) -> &VisitedBuffer<S>
         ensures { slice_get self.now.all self.now.current ≡ Some result.now }
     {
         &self.all[self.current]
@@ -74,7 +74,7 @@ impl<S: TextStore> Buffers<S> {
     }
 
     /// The buffer at an index.
-    pub fn at(&self, index: usize) -> &Opened<S>
+    pub fn at(&self, index: usize) -> &VisitedBuffer<S>
         requires { index < length self.now.all }
         ensures { slice_get self.now.all index ≡ Some result.now }
     {
@@ -106,11 +106,7 @@ impl<S: TextStore> Buffers<S> {
         ensures exact { result ≡ names.next_round (length self.now.all) self.now.current }
         ensures within { result < length self.now.all }
     {
-        if self.current + 1 < self.all.as_slice().len() {
-            self.current + 1
-        } else {
-            0
-        }
+        behind_round(self.all.as_slice().len(), self.current)
     }
 
     /// The buffer at an index is current.
@@ -122,7 +118,7 @@ impl<S: TextStore> Buffers<S> {
     }
 
     /// One more buffer, which is current. `AllocError` alone, and nothing changes then.
-    pub fn open(&mut self, opened: Opened<S>) -> Result<(), AllocError>
+    pub fn open(&mut self, opened: VisitedBuffer<S>) -> Result<(), AllocError>
         ensures opened { OnOk result (self.new ≡ spec.with_buffer opened self.old) }
         ensures same { OnErr result (self.new ≡ self.old) }
     {
@@ -232,7 +228,7 @@ impl<S: TextStore> Buffers<S> {
             self.old self.new }
         ensures device { CountsFaults result (P.failures port.old) (P.failures port.new) }
     {
-        mg_exchange::exchange(alloc, &mut self.all[self.current], port)
+        mg_sync::exchange(alloc, &mut self.all[self.current], port)
     }
 
     /// The current buffer is exchanged with a peer that is waited for.
@@ -246,12 +242,21 @@ impl<S: TextStore> Buffers<S> {
             self.old self.new }
         ensures device { CountsFaults result (P.failures port.old) (P.failures port.new) }
     {
-        mg_exchange::serve(alloc, &mut self.all[self.current], port)
+        mg_sync::serve(alloc, &mut self.all[self.current], port)
     }
 }
 
+/// The index behind one of so many, round.
+fn behind_round(count: usize, index: usize) -> usize
+    requires { index < count }
+    ensures exact { result ≡ names.next_round count index }
+    ensures within { result < count }
+{
+    if index + 1 < count { index + 1 } else { 0 }
+}
+
 /// Whether the characters are a buffer's name.
-fn is_named<S: TextStore>(opened: &Opened<S>, name: &[char]) -> bool
+fn is_named<S: TextStore>(opened: &VisitedBuffer<S>, name: &[char]) -> bool
     ensures { result ≡ names.is_named name.now opened.now }
 {
     is_spelled(opened.buffer.name(), name)

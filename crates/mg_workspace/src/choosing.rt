@@ -2,45 +2,45 @@
 ghost use Rattle.std.specs.Prelude.{◌≡◌, ◌≢◌, ◌<◌, Err, length, string_bytes, OnErr};
 ghost use Rattle.mg_files.specs.Loading.{load_outcome};
 ghost use Rattle.mg_files.specs.declared.fault.LoadFault.TheVariants as load_fault;
-ghost use Rattle.mg_workspace.specs.declared.fault.DeedFault.TheVariants.{Memory};
+ghost use Rattle.mg_workspace.specs.declared.fault.ActionFault.TheVariants.{Memory};
 ghost use Rattle.mg_workspace.specs.declared.workspace.TheConstants.{MAX_BUFFERS};
-ghost use Rattle.mg_workspace.specs.Deeds as spec;
-ghost use Rattle.mg_workspace.specs.Excerpts as excerpts;
+ghost use Rattle.mg_workspace.specs.Actions as spec;
+ghost use Rattle.mg_workspace.specs.Viewports as viewports;
 ghost use Rattle.mg_workspace.specs.Mapped.{mapped_at};
 ghost use Rattle.mg_workspace.specs.Opening as opening;
 
-use crate::arranging::{current_excerpt, excerpt_at};
+use crate::arranging::{current_viewport, viewport_at};
 use crate::buffers::moved;
-use crate::excerpt::Excerpt;
-use crate::fault::DeedFault;
+use crate::fault::ActionFault;
+use crate::viewport::Viewport;
 use crate::workspace::{MAX_BUFFERS, Workspace};
-use mg_files::{Found, LoadFault, Opened};
-use mg_prompts::Message;
+use mg_files::{Found, LoadFault, VisitedBuffer};
+use mg_minibuffer::Message;
 use mg_screen::Windows;
 use rga_exchange::LogEnd;
 use rga_store::TextStore;
 
 /// The current window shows another buffer, from the same line on.
-fn turn(windows: &mut Windows<Excerpt>, buffer: usize)
-    ensures exact { windows.new ≡ excerpts.turned buffer windows.old }
-    ensures current { (excerpts.current_excerpt windows.new).buffer ≡ buffer }
+fn turn(windows: &mut Windows<Viewport>, buffer: usize)
+    ensures exact { windows.new ≡ viewports.turned buffer windows.old }
+    ensures current { (viewports.current_viewport windows.new).buffer ≡ buffer }
 {
-    let first = current_excerpt(windows).first;
-    windows.show(windows.current(), Excerpt { buffer, first });
+    let first = current_viewport(windows).first;
+    windows.show(windows.current(), Viewport { buffer, first });
 }
 
 /// The window at an index, once a buffer is removed.
-fn leave_at(windows: &mut Windows<Excerpt>, gone: usize, index: usize)
+fn leave_at(windows: &mut Windows<Viewport>, gone: usize, index: usize)
     requires { index < length windows.old.windows }
     ensures { windows.new ≡ record windows.old {
-      windows = mapped_at (excerpts.window_without gone) index windows.old.windows;
+      windows = mapped_at (viewports.window_without gone) index windows.old.windows;
     } }
 {
-    let was = excerpt_at(windows, index);
+    let was = viewport_at(windows, index);
     let buffer = moved(gone, was.buffer);
     windows.show(
         index,
-        Excerpt {
+        Viewport {
             buffer,
             first: was.first,
         },
@@ -48,8 +48,8 @@ fn leave_at(windows: &mut Windows<Excerpt>, gone: usize, index: usize)
 }
 
 /// The windows, once a buffer is removed.
-fn leave(windows: &mut Windows<Excerpt>, gone: usize)
-    ensures { windows.new ≡ excerpts.layout_without gone windows.old }
+fn leave(windows: &mut Windows<Viewport>, gone: usize)
+    ensures { windows.new ≡ viewports.layout_without gone windows.old }
 {
     for index in 0..windows.heights().len() {
         leave_at(windows, gone, index);
@@ -67,40 +67,40 @@ impl<S: TextStore> Workspace<S> {
     }
 
     /// Another buffer is current: that of the name, or without a name the next one, round.
-    pub(crate) fn switch(&mut self, name: &[char]) -> Result<(), DeedFault>
+    pub(crate) fn switch(&mut self, name: &[char]) -> Result<(), ActionFault>
         ensures switched { spec.Switched name.now self.old self.new result }
         ensures no_memory { result ≢ Err Memory }
     {
         let Some(index) = self.buffers.asked(name, self.buffers.next()) else {
-            return Err(DeedFault::Refused(Message::NoSuchBuffer));
+            return Err(ActionFault::Refused(Message::NoSuchBuffer));
         };
         self.go_to(index);
         Ok(())
     }
 
     /// A buffer is removed: that of the name, or without a name the current one.
-    pub(crate) fn kill(&mut self, name: &[char]) -> Result<(), DeedFault>
+    pub(crate) fn kill(&mut self, name: &[char]) -> Result<(), ActionFault>
         ensures killed { spec.Killed name.now self.old self.new result }
         ensures no_memory { result ≢ Err Memory }
     {
         let Some(index) = self.buffers.asked(name, self.buffers.current_index()) else {
-            return Err(DeedFault::Refused(Message::NoSuchBuffer));
+            return Err(ActionFault::Refused(Message::NoSuchBuffer));
         };
         self.remove(index)
     }
 
     /// The buffer at an index is removed, unless it is changed or the only one. Its windows show the
     /// first one that is left.
-    fn remove(&mut self, index: usize) -> Result<(), DeedFault>
+    fn remove(&mut self, index: usize) -> Result<(), ActionFault>
         requires { index < length self.old.buffers.all }
         ensures removed { spec.RemovesAt index self.old self.new result }
         ensures no_memory { result ≢ Err Memory }
     {
         if self.buffers.at(index).is_changed() {
-            return Err(DeedFault::Refused(Message::BufferIsChanged));
+            return Err(ActionFault::Refused(Message::BufferIsChanged));
         }
         if self.buffers.count() <= 1 {
-            return Err(DeedFault::Refused(Message::OnlyOneBuffer));
+            return Err(ActionFault::Refused(Message::OnlyOneBuffer));
         }
         self.buffers.remove(index);
         leave(&mut self.windows, index);
@@ -126,11 +126,11 @@ impl<S: TextStore> Workspace<S> {
         self.buffers.count() >= MAX_BUFFERS
     }
 
-    /// Opens a buffer by what was found under its name, as `Opened::load` does, with the replica and
-    /// the limit of the workspace, of which saves append runs where those of the first one do, and answers how its log ends. It is current then, and the current
-    /// window shows it.
+    /// Opens a buffer by what was found under its name, as `VisitedBuffer::load` does, with the
+    /// replica and the limit of the workspace; its saves append runs where those of the first buffer
+    /// do. Answers how its log ends. It is current then, and the current window shows it.
     ///
-    /// Faults: those of `Opened::load`, and nothing changes then.
+    /// Faults: those of `VisitedBuffer::load`, and nothing changes then.
     pub fn open(&mut self, name: String, found: Found) -> Result<LogEnd, LoadFault>
         requires { length self.old.buffers.all < MAX_BUFFERS }
         ensures exact { let w = self.old in result ≢ Err load_fault.Memory →
@@ -138,7 +138,13 @@ impl<S: TextStore> Workspace<S> {
             w self.new result }
         ensures same { OnErr result (self.new ≡ self.old) }
     {
-        let (mut opened, end) = Opened::load(self.alloc, name, self.replica, self.limit, found)?;
+        let (mut opened, end) = VisitedBuffer::load(
+            self.alloc,
+            name,
+            self.replica,
+            self.limit,
+            found,
+        )?;
         opened.append_runs(self.runs);
         self.buffers.open(opened)?;
         turn(&mut self.windows, self.buffers.current_index());

@@ -1,44 +1,44 @@
-//! Why a deed was not done.
+//! Why an action was not done.
 ghost use Rattle.std.specs.Prelude.{◌≡◌};
-ghost use Rattle.mg_workspace.specs.Deeds as spec;
+ghost use Rattle.mg_workspace.specs.Actions as spec;
 
 use mg_buffer::BufferFault;
-use mg_prompts::Message;
+use mg_minibuffer::Message;
 use mg_screen::WindowFault;
 use rga_ops::Refusal;
 
-/// Why a deed was not done.
+/// Why an action was not done.
 #[derive(Clone, Copy)]
-pub enum DeedFault {
+pub enum ActionFault {
     /// It was refused, for the reason that the message gives.
     Refused(Message),
     /// A growth of memory was refused.
     Memory,
 }
 
-/// What a buffer answered, as what came of a deed.
-pub(crate) fn of_buffer(answer: Result<(), BufferFault>) -> Result<(), DeedFault>
+/// What a buffer answered, as what came of an action.
+pub(crate) fn of_buffer(answer: Result<(), BufferFault>) -> Result<(), ActionFault>
     ensures { result ≡ spec.of_buffer answer }
 {
     match answer {
         Ok(()) => Ok(()),
-        Err(BufferFault::Notice(notice)) => Err(DeedFault::Refused(Message::Refused(notice))),
-        Err(BufferFault::Store(Refusal::Full)) => Err(DeedFault::Refused(Message::BufferFull)),
+        Err(BufferFault::Notice(notice)) => Err(ActionFault::Refused(Message::Refused(notice))),
+        Err(BufferFault::Store(Refusal::Full)) => Err(ActionFault::Refused(Message::BufferFull)),
         Err(BufferFault::Store(Refusal::Clock)) => {
-            Err(DeedFault::Refused(Message::IdentifiersUsedUp))
+            Err(ActionFault::Refused(Message::IdentifiersUsedUp))
         }
-        Err(BufferFault::Store(_)) => Err(DeedFault::Memory),
+        Err(BufferFault::Store(_)) => Err(ActionFault::Memory),
     }
 }
 
-/// What the windows answered, as what came of a deed.
-pub(crate) fn of_windows(answer: Result<(), WindowFault>) -> Result<(), DeedFault>
+/// What the windows answered, as what came of an action.
+pub(crate) fn of_windows(answer: Result<(), WindowFault>) -> Result<(), ActionFault>
     ensures { result ≡ spec.of_windows answer }
 {
     match answer {
         Ok(()) => Ok(()),
-        Err(WindowFault::TooSmall) => Err(DeedFault::Refused(Message::WindowTooSmall)),
-        Err(WindowFault::OnlyOne) => Err(DeedFault::Refused(Message::OnlyOneWindow)),
-        Err(WindowFault::Memory) => Err(DeedFault::Memory),
+        Err(WindowFault::TooSmall) => Err(ActionFault::Refused(Message::WindowTooSmall)),
+        Err(WindowFault::OnlyOne) => Err(ActionFault::Refused(Message::OnlyOneWindow)),
+        Err(WindowFault::Memory) => Err(ActionFault::Memory),
     }
 }

@@ -1,23 +1,24 @@
 //! What an editor works on: buffers of which one is current, and windows over them.
 //!
-//! A `Workspace` does the deeds that steps lead to: the current buffer runs a command or undoes, or
-//! the windows change; it saves the current buffer or exchanges it with a peer, tells what a step
-//! is decided from, and places and shows the windows for a frame. Why a deed is refused it says as
-//! a message; keys and prompts are above. The crate stands on mg_files and mg_buffer for buffers,
-//! on mg_exchange for peers, on mg_prompts for deeds and messages, on mg_screen for windows, and is
-//! generic over any `TextStore`. The layer above may rest on `Done`: what each deed leaves of the
-//! buffers and the windows, and why it is refused; want of memory changes nothing.
+//! A `Workspace` does the actions that steps lead to: the current buffer runs a command or undoes,
+//! or the windows change; it saves the current buffer or exchanges it with a peer, tells what a
+//! step is decided from, and places and shows the windows for a frame. Why an action is refused it
+//! says as a message; keys and prompts are above. The crate stands on mg_files and mg_buffer for
+//! buffers, on mg_sync for peers, on mg_minibuffer for actions and messages, on mg_screen for
+//! windows, and is generic over any `TextStore`. The layer above may rest on `Done`: what each
+//! action leaves of the buffers and the windows, and why it is refused; want of memory changes
+//! nothing.
 #![tactic(auto)]
 
+mod actions;
 mod arranging;
 mod buffers;
 mod choosing;
-mod deeds;
-mod excerpt;
 mod fault;
 mod showing;
+mod viewport;
 mod workspace;
 
-pub use excerpt::Excerpt;
-pub use fault::DeedFault;
+pub use fault::ActionFault;
+pub use viewport::Viewport;
 pub use workspace::{MAX_BUFFERS, Workspace};

@@ -3,26 +3,26 @@ ghost use Rattle.std.specs.Prelude.{◌≡◌, ◌<◌, ◌≤◌, true, Some, I
 ghost use Rattle.mg_screen.specs.declared.size.TheConstants.{MAX_ROWS};
 ghost use Rattle.mg_screen.specs.Layout.{window, FillsRows};
 ghost use Rattle.mg_workspace.specs.Buffers.{AreListed};
-ghost use Rattle.mg_workspace.specs.Excerpts.{excerpt, ShowThese};
+ghost use Rattle.mg_workspace.specs.Viewports.{viewport, ShowThese};
 ghost use Rattle.mg_workspace.specs.Mapped.{mapped_at};
 ghost use Rattle.mg_workspace.specs.Showing as spec;
 ghost use Rattle.mg_workspace.specs.Workspaces.{HasLists};
 
-use crate::arranging::{excerpt_at, height_at};
+use crate::arranging::{height_at, viewport_at};
 use crate::buffers::Buffers;
-use crate::excerpt::Excerpt;
+use crate::viewport::Viewport;
 use crate::workspace::Workspace;
 use mg_buffer::Memo;
-use mg_files::Opened;
+use mg_files::VisitedBuffer;
 use mg_screen::{FrameFault, Pane, Windows, first_line};
 use rga_store::TextStore;
 use std::alloc::{AllocError, Global};
 
 /// The first line of a window over a buffer, so that it shows the line of point.
 fn first_shown<S: TextStore>(
-    opened: &Opened<S>,
+    opened: &VisitedBuffer<S>,
     memo: &Memo,
-    shown: Excerpt,
+    shown: Viewport,
     height: usize,
 ) -> usize
     requires { opened.now.buffer.listed ≡ true }
@@ -33,21 +33,21 @@ fn first_shown<S: TextStore>(
 }
 
 /// What the window at an index shows once it is placed: its buffer, with the line of point.
-fn placed_excerpt<S: TextStore>(
-    windows: &Windows<Excerpt>,
+fn placed_viewport<S: TextStore>(
+    windows: &Windows<Viewport>,
     index: usize,
     buffers: &Buffers<S>,
     memo: &Memo,
-) -> Excerpt
+) -> Viewport
     requires listed { AreListed buffers.now.all }
     requires shown { ShowThese (length buffers.now.all) windows.now.windows }
     requires within { index < length windows.now.windows }
-    ensures { spec.IsPlacedExcerpt buffers.now.all windows.now.windows index result }
+    ensures { spec.IsPlacedViewport buffers.now.all windows.now.windows index result }
 {
-    let shown = excerpt_at(windows, index);
+    let shown = viewport_at(windows, index);
     let height = height_at(windows, index);
     let opened = buffers.at(shown.buffer);
-    Excerpt {
+    Viewport {
         buffer: shown.buffer,
         first: first_shown(opened, memo, shown, height),
     }
@@ -55,7 +55,7 @@ fn placed_excerpt<S: TextStore>(
 
 /// The window at an index shows the line of point.
 fn place_window<S: TextStore>(
-    windows: &mut Windows<Excerpt>,
+    windows: &mut Windows<Viewport>,
     index: usize,
     buffers: &Buffers<S>,
     memo: &Memo,
@@ -67,11 +67,11 @@ fn place_window<S: TextStore>(
       windows = mapped_at (spec.placed_window buffers.now.all) index windows.old.windows;
     } }
 {
-    let placed = placed_excerpt(windows, index, buffers, memo);
+    let placed = placed_viewport(windows, index, buffers, memo);
     windows.show(index, placed);
 }
 
-fn place_windows<S: TextStore>(windows: &mut Windows<Excerpt>, buffers: &Buffers<S>, memo: &Memo)
+fn place_windows<S: TextStore>(windows: &mut Windows<Viewport>, buffers: &Buffers<S>, memo: &Memo)
     requires listed { AreListed buffers.now.all }
     requires shown { ShowThese (length buffers.now.all) windows.old.windows }
     ensures { windows.new ≡ spec.placed buffers.now.all windows.old }
@@ -84,9 +84,9 @@ fn place_windows<S: TextStore>(windows: &mut Windows<Excerpt>, buffers: &Buffers
 /// A window over a buffer, as a frame shows it.
 fn pane<'a, S: TextStore>(
     alloc: Global,
-    opened: &'a Opened<S>,
+    opened: &'a VisitedBuffer<S>,
     memo: &'a Memo,
-    shown: Excerpt,
+    shown: Viewport,
     height: usize,
 ) -> Result<Pane<'a>, FrameFault>
     requires listed { opened.now.buffer.listed ≡ true }
@@ -112,7 +112,7 @@ fn pane<'a, S: TextStore>(
 /// The window at an index, over its buffer, as it is shown once it is placed.
 fn placed_pane<'a, S: TextStore>(
     alloc: Global,
-    windows: &Windows<Excerpt>,
+    windows: &Windows<Viewport>,
     index: usize,
     buffers: &'a Buffers<S>,
     memo: &'a Memo,
@@ -125,7 +125,7 @@ fn placed_pane<'a, S: TextStore>(
         let panes = spec.panes_of bs (spec.placed bs windows.now) in
         IfOk result (λ p. slice_get panes index ≡ Some p) }
 {
-    let placed = placed_excerpt(windows, index, buffers, memo);
+    let placed = placed_viewport(windows, index, buffers, memo);
     let height = height_at(windows, index);
     pane(alloc, buffers.at(placed.buffer), memo, placed, height)
 }
@@ -139,7 +139,7 @@ fn push_pane<'a>(panes: &mut Vec<Pane<'a>>, pane: Pane<'a>) -> Result<(), AllocE
 
 fn placed_panes<'a, S: TextStore>(
     alloc: Global,
-    windows: &Windows<Excerpt>,
+    windows: &Windows<Viewport>,
     buffers: &'a Buffers<S>,
     memo: &'a Memo,
 ) -> Result<Vec<Pane<'a>>, FrameFault>

@@ -3,21 +3,21 @@ ghost use Rattle.std.specs.Prelude.{◌≡◌, ◌<◌, ◌≤◌, IfOk, OnOk, O
 ghost use Rattle.mg_files.specs.Calls.{failures_after};
 ghost use Rattle.mg_files.specs.declared.fault.LoadFault.TheVariants.{Memory};
 ghost use Rattle.mg_screen.specs.declared.size.TheConstants.{MIN_COLUMNS, MAX_COLUMNS};
-ghost use Rattle.mg_workspace.specs.Deeds.{Keeps};
+ghost use Rattle.mg_workspace.specs.Actions.{Keeps};
 ghost use Rattle.mg_workspace.specs.Opening.{workspace};
-ghost use Rattle.mg_exchange.specs.Meeting.{CountsFaults};
-ghost use Rattle.mg_exchange.specs.Linking.{ExchangesOver, ServesOver};
+ghost use Rattle.mg_sync.specs.Meeting.{CountsFaults};
+ghost use Rattle.mg_sync.specs.Linking.{ExchangesOver, ServesOver};
 ghost use Rattle.mg_workspace.specs.Saving.{Saves, Changes};
 ghost use Rattle.mg_workspace.specs.Workspaces as spec;
 
 use crate::buffers::Buffers;
-use crate::excerpt::Excerpt;
+use crate::viewport::Viewport;
 use mg_buffer::Memo;
-use mg_exchange::{ExchangeFault, Exchanged};
-use mg_files::{LoadFault, Opened, Port, PortFault};
-use mg_prompts::Scene;
+use mg_files::{LoadFault, Port, PortFault, VisitedBuffer};
+use mg_minibuffer::Scene;
 use mg_screen::Windows;
 use mg_settings::Settings;
+use mg_sync::{ExchangeFault, Exchanged};
 use rga_ops::Refusal;
 use rga_store::TextStore;
 use std::alloc::Global;
@@ -33,7 +33,7 @@ pub struct Workspace<S: TextStore> {
     pub(crate) alloc: Global,
     pub(crate) buffers: Buffers<S>,
     pub(crate) memo: Memo,
-    pub(crate) windows: Windows<Excerpt>,
+    pub(crate) windows: Windows<Viewport>,
     /// The fill column.
     pub(crate) fill: u16,
     /// The columns of the screen.
@@ -46,7 +46,7 @@ pub struct Workspace<S: TextStore> {
 }
 
 /// The first buffer, from its first line on.
-const BEGINNING: Excerpt = Excerpt {
+const BEGINNING: Viewport = Viewport {
     buffer: 0,
     first: 0,
 };
@@ -58,11 +58,11 @@ impl<S: TextStore> Model for Workspace<S> {
     ghost use Rattle.std.specs.Coded.{codes};
     ghost use Rattle.mg_files.specs.OpenState.{open_state_code};
     ghost use Rattle.mg_screen.specs.Layout.{layout_code};
-    ghost use Rattle.mg_workspace.specs.Excerpts.{AreShown, excerpt_code};
+    ghost use Rattle.mg_workspace.specs.Viewports.{AreShown, viewport_code};
 
     ghost Value = { spec.Workspace };
 
-    ghost coded = { Prim.hlevel (codes, open_state_code, layout_code excerpt_code) };
+    ghost coded = { Prim.hlevel (codes, open_state_code, layout_code viewport_code) };
 
     ghost view = { λ w. record {
       buffers = w.buffers;
@@ -84,7 +84,7 @@ impl<S: TextStore> Workspace<S> {
     pub fn new(
         alloc: Global,
         settings: &Settings,
-        mut opened: Opened<S>,
+        mut opened: VisitedBuffer<S>,
     ) -> Result<Workspace<S>, LoadFault>
         ensures exact { IfOk result (λ w. w ≡ workspace settings.now opened) }
         ensures memory { IfErr result (λ e. e ≡ Memory) }
@@ -108,7 +108,7 @@ impl<S: TextStore> Workspace<S> {
     }
 
     /// The current buffer. Takes no memory.
-    pub fn current(&self) -> &Opened<S>
+    pub fn current(&self) -> &VisitedBuffer<S>
         ensures { spec.IsCurrent self.now result.now }
     {
         self.buffers.current()
@@ -121,8 +121,8 @@ impl<S: TextStore> Workspace<S> {
         self.windows.current()
     }
 
-    /// Saves the current buffer, as `Opened::save` does, and answers whether there was something to
-    /// save. Faults: those of `Opened::save`.
+    /// Saves the current buffer, as `VisitedBuffer::save` does, and answers whether there was
+    /// something to save. Faults: those of `VisitedBuffer::save`.
     pub fn save<P: Port>(&mut self, port: &mut P) -> Result<bool, PortFault>
         ensures saves { Saves result (P.calls port.old) (P.calls port.new) self.old self.new }
         ensures device { P.failures port.new ≡ failures_after result (P.failures port.old) }
@@ -131,7 +131,7 @@ impl<S: TextStore> Workspace<S> {
     }
 
     /// Exchanges the current buffer with the peer that the port connects to, as
-    /// `mg_exchange::exchange` does, and answers how many operations were sent and how many
+    /// `mg_sync::exchange` does, and answers how many operations were sent and how many
     /// received. Faults: those of that call.
     pub fn exchange<P: Port>(&mut self, port: &mut P) -> Result<Exchanged, ExchangeFault>
         ensures exchanges { Changes (λ b d. ExchangesOver P.Link.remaining P.Link.contents
@@ -143,7 +143,7 @@ impl<S: TextStore> Workspace<S> {
     }
 
     /// Exchanges the current buffer with the first peer that the port accepts, as
-    /// `mg_exchange::serve` does, and answers how many operations were sent and how many received.
+    /// `mg_sync::serve` does, and answers how many operations were sent and how many received.
     /// Faults: those of that call.
     pub fn serve<P: Port>(&mut self, port: &mut P) -> Result<Exchanged, ExchangeFault>
         ensures serves { Changes (λ b d. ServesOver P.Link.remaining P.Link.contents

@@ -1,10 +1,10 @@
 //! mgr: an editor whose buffers are replicas of one text.
 //!
-//! All that it does is in mgr_shell.
+//! All that it does is in mgr_run.
 #![tactic(auto)]
 
 use std::process::ExitCode;
 
 fn main(rt: HostRuntime) -> ExitCode {
-    ExitCode::from(mgr_shell::run(&rt))
+    ExitCode::from(mgr_run::run(&rt))
 }

@@ -2,7 +2,7 @@
 use Rattle.std.proofs.Common.{◌≡◌, ℕ, Bool, List, [], true, Option, Some, None, sym, subst, refl, inl}
 use Rattle.std.specs.Prelude.{IfSome}
 use Rattle.std.specs.Io.KnownBytes.{Appends}
-use Rattle.mgr_files.specs.Disk.{Step, StopsBefore, whole_steps}
+use Rattle.mgr_port.specs.Disk.{Step, StopsBefore, whole_steps}
 use Rattle.rga_lines.specs.Counting.{Calls}
 use Rattle.mgr_show.specs.Compacted.{compacted, Compacts}
 

@@ -1,6 +1,6 @@
 //! Theorems about compacted logs. Each function does nothing: its contract is the theorem.
 ghost use Rattle.std.specs.Prelude.{◌≡◌, ℕ, List, Bool, true, Option, Some};
-ghost use Rattle.mgr_files.specs.Disk.{Step, Place, Begins, IsUntouched, MayBeFound, behind, whole_steps};
+ghost use Rattle.mgr_port.specs.Disk.{Step, Place, Begins, IsUntouched, MayBeFound, behind, whole_steps};
 ghost use Rattle.mgr_show.specs.Compacted.{KeepsContent, compacted};
 ghost use Rattle.mgr_show.specs.Shown.{log_content};
 

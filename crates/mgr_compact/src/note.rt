@@ -5,9 +5,9 @@ ghost use Rattle.mgr_show.specs.Log.{log_of};
 ghost use Rattle.mgr_show.specs.Shown.{IsOfInput};
 ghost use Rattle.mgr_show.specs.Compacted.{KeepsContent, compacted};
 ghost use Rattle.mgr_show.specs.declared.fault.ShowFault.TheVariants.{Memory};
-ghost use Rattle.mgr_files.specs.Disk.{Tells, StopsBefore, whole_steps};
+ghost use Rattle.mgr_port.specs.Disk.{Tells, StopsBefore, whole_steps};
 
-use mgr_files::{Logs, Named};
+use mgr_port::{Logs, Named};
 use mgr_show::{ShowFault, compact_log_with};
 use rga_lines::Counted;
 use std::alloc::Global;

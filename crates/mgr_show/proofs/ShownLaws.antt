@@ -1,6 +1,6 @@
 -- What is written of an accepted log.
 use Rattle.std.proofs.Common.{◌≡◌, ℕ, ◌+◌, List, Option, Some, None, Result, Ok, Err, refl, sym, ap, subst, ◌∙◌, inr}
-use Rattle.std.specs.Prelude.{IfSome, ◌⊎◌}
+use Rattle.std.specs.Prelude.{IfErr, IfSome, ◌⊎◌}
 use Rattle.rga_ops.specs.Content.{Content, nothing, content_of}
 use Rattle.rga_ops.proofs.TakenLaws.{taken_from_nothing, taken_list_agrees}
 use Rattle.rga_ops.specs.Content.{IsAgreed}
@@ -20,7 +20,7 @@ use Rattle.rga_exchange.proofs.OperationLaws.{log_taken}
 use Rattle.mgr_show.specs.declared.fault.ShowFault.{ShowFault}
 use Rattle.mgr_show.specs.declared.fault.ShowFault.TheVariants as fault
 use Rattle.mgr_show.specs.Log.{Outcome, show_fault, at_end, outcome_of, shown_from, log_of}
-use Rattle.mgr_show.specs.Shown.{text_bytes, log_content, IsAccepted, Shows, BeginsToShow}
+use Rattle.mgr_show.specs.Shown.{text_bytes, log_content, IsAccepted, IsTextOf, Shows, BeginsToShow}
 
 abbrev shows_it : Content → Outcome
 shows_it c = Ok c
@@ -72,11 +72,6 @@ pub content_of_input : (known : Option (List ℕ)) (limit : ℕ) (start c : Cont
 content_of_input None limit start c same empty h = tt
 content_of_input (Some bytes) limit start c same empty h = content_of_log bytes c (sym (λ k. shown_from (same k) (empty k) bytes) ∙ h)
 
--- the text that was made of it
-pub record IsTextOf (bytes : List ℕ) (written : List ℕ) : Type 0 where
-  pub accepted : IsAccepted bytes
-  pub is : written ≡ text_bytes (log_content bytes)
-
 text_of_content : (known : Option (List ℕ)) (c : Content) (written : List ℕ) → IfSome known (λ bytes. IsContentOf bytes c) → written ≡ text_bytes c → IfSome known (λ bytes. IsTextOf bytes written)
 text_of_content None c written h is = tt
 text_of_content (Some bytes) c written h is = record { accepted = h.accepted; is = is ∙ ap text_bytes h.is }
@@ -84,6 +79,14 @@ text_of_content (Some bytes) c written h is = record { accepted = h.accepted; is
 pub text_of_input : (known : Option (List ℕ)) (limit : ℕ) (start c : Content) (written : List ℕ) → limit ≡ MAX_LIMIT → start ≡ nothing
     → IfSome known (λ bytes. shown_from limit start bytes ≡ Ok c) → written ≡ text_bytes c → IfSome known (λ bytes. IsTextOf bytes written)
 text_of_input known limit start c written same empty h is = text_of_content known c written (content_of_input known limit start c same empty h) is
+
+-- what holds of the fault holds of an answer that is it
+pub at_err : {A E : Type 0} (P : E → Type 0) (r : Result A E) (e : E) → r ≡ Err e → P e → IfErr r P
+at_err P r e is h = subst (λ answer. IfErr answer P) (sym is) h
+
+-- it is written as it was made
+pub written_of : (known : Option (List ℕ)) (made written : List ℕ) → written ≡ made → IfSome known (λ bytes. IsTextOf bytes made) → IfSome known (λ bytes. IsTextOf bytes written)
+written_of known made written same h = subst (λ w. IfSome known (λ bytes. IsTextOf bytes w)) (sym same) h
 
 module _ {W : Type 0} (contents : W → Option (List ℕ)) where
   pub shows : (known : Option (List ℕ)) (old new : Calls W) (written : List ℕ) → IfSome known (λ bytes. IsTextOf bytes written) → Writes contents old new written → IfSome known (λ bytes. Shows contents old new bytes)

@@ -12,8 +12,9 @@ ghost use Rattle.mgr_show.specs.Compacted.{Compacts, BeginsToCompact};
 use crate::fault::ShowFault;
 use crate::show::take_whole_log;
 use rga_exchange::compact_with;
+use rga_flat::FlatStore;
 use rga_lines::Counted;
-use rga_store::{MAX_LIMIT, TextStore, TreeStore};
+use rga_store::{MAX_LIMIT, TextStore};
 use std::alloc::Global;
 use std::io::{Read, Write};
 
@@ -78,7 +79,7 @@ pub fn compact_log_with<R: Read, W: Write>(
     ensures reads { CountsAs ShowFault.Read result reader.old reader.new }
     ensures writes { CountsAs ShowFault.Write result writer.old writer.new }
 {
-    let Ok(mut store) = TreeStore::new(alloc, MAX_LIMIT) else {
+    let Ok(mut store) = FlatStore::new(alloc, MAX_LIMIT) else {
         return Err(ShowFault::Memory);
     };
     take_whole_log(alloc, &mut store, reader)?;

@@ -6,29 +6,22 @@ ghost use Rattle.mgr_show.specs.Compacted.{send_fault};
 use rga_exchange::{LogFault, SendFault};
 use rga_lines::LineFault;
 use rga_ops::Refusal;
-use thiserror::Error;
 
 /// Why `mgr show` ends without the whole text, or `mgr compact` without the whole log. Lines count
 /// from 1.
-#[derive(Clone, Copy, Debug, PartialEq, Eq, Error)]
+#[derive(Clone, Copy, PartialEq, Eq)]
 pub enum ShowFault {
     /// The line is no operation.
-    #[error("line {0} is no operation: {1:?}")]
     Line(u64, LineFault),
     /// The operation of the line was refused.
-    #[error("the operation of line {0} was refused: {1:?}")]
     Refused(u64, Refusal),
     /// The last line, which has this number, has no newline and is no operation.
-    #[error("line {0} was cut off")]
     Torn(u64),
     /// The device of the input failed.
-    #[error("reading failed")]
     Read,
     /// The device of the output failed.
-    #[error("writing failed")]
     Write,
     /// A growth of memory was refused.
-    #[error("out of memory")]
     Memory,
 }
 

@@ -1,18 +1,19 @@
 //! The text of a log.
-ghost use Rattle.std.specs.Prelude.{◌≡◌, ◌≢◌, ◌⊎◌, true, Ok, Err, OnOk, OnErr, IfErr};
+ghost use Rattle.std.specs.Prelude.{◌≡◌, ◌≢◌, ◌⊎◌, true, Ok, Err, OnOk, OnErr, IfOk, IfErr, string_bytes};
 ghost use Rattle.rga_ops.specs.Prelude.{Content, nothing};
 ghost use Rattle.rga_store.specs.declared.text_store.TheConstants.{MAX_LIMIT};
 ghost use Rattle.rga_lines.specs.Counting.{CountsAs, OnBytes, Writes, WritesFront, WritesNothing};
 ghost use Rattle.rga_exchange.specs.Taking.{HasTakenWholeLines};
 ghost use Rattle.rga_exchange.specs.declared.taking.Form.TheVariants.{Log};
 ghost use Rattle.mgr_show.specs.Log.{log_of, shown_from};
-ghost use Rattle.mgr_show.specs.Shown.{IsOfInput, Shows, BeginsToShow};
+ghost use Rattle.mgr_show.specs.Shown.{IsOfInput, IsTextOf, Shows, BeginsToShow};
 
 use crate::fault::ShowFault;
 use crate::text::text_string;
 use rga_exchange::{LogEnd, take_log};
+use rga_flat::FlatStore;
 use rga_lines::Counted;
-use rga_store::{MAX_LIMIT, Taker, TextStore, TreeStore};
+use rga_store::{MAX_LIMIT, Taker, TextStore};
 use std::alloc::Global;
 use std::io::{Read, Write};
 
@@ -49,12 +50,31 @@ pub fn show_ops<R: Read, W: Write>(
     ensures reads { CountsAs ShowFault.Read result reader.old reader.new }
     ensures writes { CountsAs ShowFault.Write result writer.old writer.new }
 {
-    let Ok(mut store) = TreeStore::new(alloc, MAX_LIMIT) else {
+    let text = text_of_log::<FlatStore, R>(alloc, reader)?;
+    write_text(text.as_str(), writer)
+}
+
+/// The text of a log, which a new store takes.
+fn text_of_log<S: TextStore, R: Read>(
+    alloc: Global,
+    reader: &mut Counted<R>,
+) -> Result<String, ShowFault>
+    ensures text { IfOk result (λ text. OnBytes R.remaining reader.old
+        (λ bytes. IsTextOf bytes (string_bytes text))) }
+    ensures refused { IfErr result (λ e. IsOfInput e → OnBytes R.remaining reader.old
+        (λ bytes. log_of MAX_LIMIT bytes ≡ Err e)) }
+
+    ensures whole_lines { IfErr result (λ e. e ≡ ShowFault.Read → (c : Content)
+        × HasTakenWholeLines Log R.remaining (λ _. MAX_LIMIT) (λ held. held) (λ _ _ _. Unit {0})
+        reader.old reader.new nothing c) }
+    ensures device { CountsAs ShowFault.Read result reader.old reader.new }
+    ensures no_write { result ≢ Err ShowFault.Write }
+{
+    let Ok(mut store) = S::new(alloc, MAX_LIMIT) else {
         return Err(ShowFault::Memory);
     };
     take_whole_log(alloc, &mut store, reader)?;
-    let text = text_string(alloc, &store)?;
-    write_text(text.as_str(), writer)
+    text_string(alloc, &store)
 }
 
 /// Takes the operations of a log to its end, where a last line that was cut off is a fault.

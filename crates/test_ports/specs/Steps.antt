@@ -1,6 +1,6 @@
 -- The steps of a disk in memory.
 use Rattle.std.specs.Prelude.{ℕ, List}
-use Rattle.mgr_files.specs.Disk.{Step, Empties, Writes, Syncs, Keeps, TakesName, SyncsFolder}
+use Rattle.mgr_port.specs.Disk.{Step, Empties, Writes, Syncs, Keeps, TakesName, SyncsFolder}
 use Rattle.test_ports.specs.declared.disk.StepKind.{StepKind}
 use Rattle.test_ports.specs.declared.disk.StepKind.TheVariants as kind
 

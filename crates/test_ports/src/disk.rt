@@ -1,5 +1,5 @@
 //! A disk in memory.
-use mgr_files::Disk;
+use mgr_port::Disk;
 use std::alloc::{AllocError, Global};
 use std::io;
 use std::io::ErrorKind;
@@ -23,7 +23,7 @@ pub(crate) enum StepKind {
 }
 
 impl Model for MadeStep {
-    ghost use Rattle.mgr_files.specs.Disk.{Step};
+    ghost use Rattle.mgr_port.specs.Disk.{Step};
     ghost use Rattle.test_ports.specs.Steps.{step_of};
 
     ghost Value = { Step };

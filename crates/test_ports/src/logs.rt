@@ -1,6 +1,6 @@
 //! A log in memory that is written anew.
 use crate::disk::MemoryDisk;
-use mgr_files::{Logs, Named, put_whole};
+use mgr_port::{Logs, Named, put_whole};
 use std::alloc::Global;
 use std::io;
 use std::io::{Cursor, ErrorKind};

@@ -1,34 +1,34 @@
 use Rattle.std.proofs.Common.{◌≡◌, ◌<◌, ◌≤◌, length, Some, true, slice_get, arith, sym, ap, subst, ◌∙◌}
 use Rattle.mg_files.specs.OpenState.{OpenState}
 use Rattle.mg_screen.specs.Layout.{Window, window}
-use Rattle.mg_workspace.specs.declared.excerpt.Excerpt.{Excerpt}
+use Rattle.mg_workspace.specs.declared.viewport.Viewport.{Viewport}
 use Rattle.mg_workspace.specs.Showing.{pane_over, placed_window}
 use Rattle.mg_workspace.proofs.Results.{if_ok_map}
-use Rattle.mg_workspace.proofs.ExcerptLaws.{each_there}
+use Rattle.mg_workspace.proofs.ViewportLaws.{each_there}
 use Rattle.mg_workspace.proofs.ShownWindows.{height_read, height_within, pane_at}
 use Rattle.mg_workspace.proofs.showing.placed_pane.Goals as goal
 
 pub at-requires : goal.at-requires
 at-requires g c =
     let bs = c.args.buffers.now.all in
-    let placed = c.placed_excerpt-placed.ensures in
+    let placed = c.placed_viewport-placed.ensures in
     let here = each_there _ c.args.windows.now.windows c.args.index placed.0 placed.1 c.requires.shown in
-    subst (λ (x : Excerpt). x.buffer < length bs) (sym placed.2) here
+    subst (λ (x : Viewport). x.buffer < length bs) (sym placed.2) here
 
 pub pane-requires-clause-listed : goal.pane-requires-clause-listed
 pane-requires-clause-listed g c =
-    each_there (λ (b : OpenState). b.buffer.listed ≡ true) c.args.buffers.now.all c.placed_excerpt-placed.result.buffer c.at.result.now c.at.ensures c.requires.listed
+    each_there (λ (b : OpenState). b.buffer.listed ≡ true) c.args.buffers.now.all c.placed_viewport-placed.result.buffer c.at.result.now c.at.ensures c.requires.listed
 
 pub pane-requires-clause-height_from : goal.pane-requires-clause-height_from
 pane-requires-clause-height_from g c =
-    let placed = c.placed_excerpt-placed.ensures in
+    let placed = c.placed_viewport-placed.ensures in
     let ws = c.args.windows.now.windows in
     let within = height_within ws c.args.index placed.0 c.requires.on_screen.1.tall placed.1 in
     subst (λ h. 1 ≤ h) (height_read ws c.args.index placed.0 c.height_at-height.result placed.1 c.height_at-height.ensures) within.0
 
 pub pane-requires-clause-height_to : goal.pane-requires-clause-height_to
 pane-requires-clause-height_to g c =
-    let placed = c.placed_excerpt-placed.ensures in
+    let placed = c.placed_viewport-placed.ensures in
     let ws = c.args.windows.now.windows in
     let on_screen = c.requires.on_screen in
     let within = height_within ws c.args.index placed.0 on_screen.1.tall placed.1 in
@@ -39,12 +39,12 @@ pub returns : goal.returns
 returns g c =
     let bs = c.args.buffers.now.all in
     let ws = c.args.windows.now.windows in
-    let placed = c.placed_excerpt-placed.ensures in
+    let placed = c.placed_viewport-placed.ensures in
     let w = placed.0 in
-    let x = c.placed_excerpt-placed.result in
+    let x = c.placed_viewport-placed.result in
     let h = c.height_at-height.result in
     let read = height_read ws c.args.index w h placed.1 c.height_at-height.ensures in
     let here : window h x ≡ placed_window bs w = ap (λ n. window n x) (sym read) ∙ ap (λ y. window w.height y) placed.2 in
     let over : pane_over (Some c.at.result.now) (window h x) ≡ pane_over (slice_get bs x.buffer) (window h x) = ap (λ o. pane_over o (window h x)) (sym c.at.ensures) in
-    let same = over ∙ ap (λ (v : Window Excerpt). pane_over (slice_get bs v.shown.buffer) v) here in
+    let same = over ∙ ap (λ (v : Window Viewport). pane_over (slice_get bs v.shown.buffer) v) here in
     if_ok_map c.pane.result _ _ (λ p is. pane_at bs ws c.args.index w placed.1 ∙ ap Some (sym (is ∙ same))) c.pane.ensures

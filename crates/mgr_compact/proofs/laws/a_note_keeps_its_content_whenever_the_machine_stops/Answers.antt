@@ -1,5 +1,5 @@
 use Rattle.std.proofs.Common.{inl, inr, sym, refl, true, Some}
-use Rattle.mgr_files.proofs.DiskLaws.{one_of_them}
+use Rattle.mgr_port.proofs.DiskLaws.{one_of_them}
 use Rattle.mgr_show.specs.Compacted.{compacted}
 use Rattle.mgr_compact.proofs.laws.a_note_keeps_its_content_whenever_the_machine_stops.Goals as goal
 

@@ -1,8 +1,8 @@
 use Rattle.std.proofs.Common.{◌∷◌, [], true, subst}
 use Rattle.std.proofs.lemmas.Option.{IfSome_then}
-use Rattle.mgr_files.specs.Disk.{SyncsFolder, Tells, named_steps, steps_to}
-use Rattle.mgr_files.specs.declared.disk.Named.{Named}
-use Rattle.mgr_files.proofs.DiskLaws.{stops_at, stops_longer}
+use Rattle.mgr_port.specs.Disk.{SyncsFolder, Tells, named_steps, steps_to}
+use Rattle.mgr_port.specs.declared.disk.Named.{Named}
+use Rattle.mgr_port.proofs.DiskLaws.{stops_at, stops_longer}
 use Rattle.mgr_compact.proofs.note.give_name.Goals as goal
 
 pub returns-in-Ok-Unsettled-clause-begun : goal.returns-in-Ok-Unsettled-clause-begun

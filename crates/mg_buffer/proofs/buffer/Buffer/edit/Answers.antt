@@ -20,13 +20,13 @@ invariant_of-self-2 g c =
     ap (λ (d : Document). d.content) c.in_ok-take.ensures.content
     ∙ (λ k. join (drafted k).content (content_of ((c.deref-2.ensures.value ∙ c.in_ok-ops.ensures.operations) k))) in
     let change : c.in_ok-change.change ≡ past_of before.content ops =
-    c.in_ok-change.ensures.ok ∙ (λ k. past_of ((c.store.ensures.content ∙ ap (λ (d : Document). d.content) drafted) k) ((c.deref.ensures.value ∙ c.in_ok-ops.ensures.operations) k)) in
+    c.in_ok-change.ensures.change ∙ (λ k. past_of ((c.store.ensures.content ∙ ap (λ (d : Document). d.content) drafted) k) ((c.deref.ensures.value ∙ c.in_ok-ops.ensures.operations) k)) in
     let elements : List Identifier = c.self.inside.history.elements.keys in
     let groups : List Slotted = c.self.inside.history.groups.items in
     let known : c.add.new.self.elements.keys ≡ with_past elements (past_of before.content ops) =
-    c.add.ensures.elements ∙ (λ k. with_past (c.in_ok-room.ensures.elements k) (change k)) in
+    c.add.ensures.elements ∙ (λ k. with_past (c.in_ok-change.ensures.elements k) (change k)) in
     let pasts : pasts_by c.add.new.self.elements.keys c.add.new.self.groups.items ≡ with_group (pasts_by elements groups) (past_of before.content ops) ops =
-    c.add.ensures.pasts ∙ (λ k. with_group (pasts_by (c.in_ok-room.ensures.elements k) (c.in_ok-room.ensures.groups k)) (change k) ((c.deref-3.ensures.value ∙ c.in_ok-ops.ensures.operations) k)) in
+    c.add.ensures.pasts ∙ (λ k. with_group (pasts_by (c.in_ok-change.ensures.elements k) (c.in_ok-change.ensures.groups k)) (change k) ((c.deref-3.ensures.value ∙ c.in_ok-ops.ensures.operations) k)) in
     record {
       point_stands = search (rules, stands_if_placed);
       mark_stands = mark_stands_if c.take.new.self.content c.mark_at-self-inside.result c.mark_at-self-inside.ensures.placed;

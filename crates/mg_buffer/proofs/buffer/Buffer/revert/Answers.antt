@@ -63,9 +63,9 @@ add_undo-requires-clause-restored g c = λ x here.
     let made : c.in_ok-ops.ops.items ≡ revert_operations doc.replica doc.content undone.inserted undone.deleted =
     c.in_ok-ops.ensures.operations ∙ (λ k. revert_operations doc.replica doc.content (gone k) (back k)) in
     let done : c.in_ok-done.done ≡ past_of doc.content (revert_operations doc.replica doc.content undone.inserted undone.deleted) =
-    c.in_ok-done.ensures.ok ∙ (λ k. past_of (c.store.ensures.content k) ((c.deref-3.ensures.value ∙ made) k)) in
+    c.in_ok-done.ensures.change ∙ (λ k. past_of (c.store.ensures.content k) ((c.deref-3.ensures.value ∙ made) k)) in
     as_many_restored doc.replica doc.content c.self.inside.history.elements.keys c.self.inside.history.groups.items c.self.invariant.filled c.self.invariant.old c.self.invariant.revertible c.args.index undone c.in_ok-undone.ensures.ok x
-    (ap (λ gs. slice_get gs c.args.index) (sym c.in_ok-room.ensures.groups) ∙ here)
+    (ap (λ gs. slice_get gs c.args.index) (sym c.in_ok-done.ensures.groups) ∙ here)
     ∙ ap (λ (x : Past). length x.inserted) (sym done)
 
 pub add_undo-requires-clause-stand_ins : goal.add_undo-requires-clause-stand_ins
@@ -77,9 +77,9 @@ add_undo-requires-clause-stand_ins g c =
     let back : c.deref-2.result.now ≡ undone.deleted = c.deref-2.ensures.value ∙ ap (λ (x : Past). x.deleted) c.undone.view_is in
     let made : c.in_ok-ops.ops.items ≡ ops = c.in_ok-ops.ensures.operations ∙ (λ k. revert_operations doc.replica doc.content (gone k) (back k)) in
     let done : c.in_ok-done.done ≡ past_of doc.content ops =
-    c.in_ok-done.ensures.ok ∙ (λ k. past_of (c.store.ensures.content k) ((c.deref-3.ensures.value ∙ made) k)) in
-    let known : with_elements c.self.inside.history.elements.keys (deleted_ones (past_of doc.content ops).deleted) ≡ with_elements c.room_for.new.self.elements.keys (deleted_ones c.in_ok-done.done.deleted) =
-    λ k. with_elements (sym c.in_ok-room.ensures.elements k) (deleted_ones (sym done k).deleted) in
+    c.in_ok-done.ensures.change ∙ (λ k. past_of (c.store.ensures.content k) ((c.deref-3.ensures.value ∙ made) k)) in
+    let known : with_elements c.self.inside.history.elements.keys (deleted_ones (past_of doc.content ops).deleted) ≡ with_elements c.prepare.new.history.elements.keys (deleted_ones c.in_ok-done.done.deleted) =
+    λ k. with_elements (sym c.in_ok-done.ensures.elements k) (deleted_ones (sym done k).deleted) in
     subst (λ xs. AreStandIns xs c.deref-7.result.now) known
     (subst (AreStandIns (with_elements c.self.inside.history.elements.keys (deleted_ones (past_of doc.content ops).deleted))) (sym (c.deref-7.ensures.value ∙ made))
     (they_stand_in doc.replica doc.content c.self.inside.history.elements.keys c.self.inside.history.groups.items c.self.invariant.filled c.self.invariant.old c.self.invariant.revertible c.args.index undone c.in_ok-undone.ensures.ok))
@@ -98,16 +98,16 @@ invariant_of-self-2 g c =
     let whole : c.take_revert.new.self.content ≡ join doc.content (content_of ops) =
     ap (λ (d : Document). d.content) c.in_ok-take_revert.ensures.content ∙ ap (λ xs. join doc.content (content_of xs)) (c.deref-6.ensures.value ∙ made) in
     let done : c.in_ok-done.done ≡ past_of doc.content ops =
-    c.in_ok-done.ensures.ok ∙ (λ k. past_of (c.store.ensures.content k) ((c.deref-3.ensures.value ∙ made) k)) in
+    c.in_ok-done.ensures.change ∙ (λ k. past_of (c.store.ensures.content k) ((c.deref-3.ensures.value ∙ made) k)) in
     let known : c.add_undo.new.self.elements.keys ≡ map (stand_in ops) (with_elements elements (deleted_ones (past_of doc.content ops).deleted)) =
-    c.add_undo.ensures.elements ∙ (λ k. map (stand_in ((c.deref-7.ensures.value ∙ made) k)) (with_elements (c.in_ok-room.ensures.elements k) (deleted_ones (done k).deleted))) in
+    c.add_undo.ensures.elements ∙ (λ k. map (stand_in ((c.deref-7.ensures.value ∙ made) k)) (with_elements (c.in_ok-done.ensures.elements k) (deleted_ones (done k).deleted))) in
     let pasts : pasts_by c.add_undo.new.self.elements.keys c.add_undo.new.self.groups.items ≡ all_substituted (stand_in ops) (with_group (pasts_by elements groups) (past_of doc.content ops) ops) =
     pasts_after doc.replica doc.content elements groups c.self.invariant.filled c.self.invariant.old c.self.invariant.revertible c.args.index undone c.in_ok-undone.ensures.ok
     (pasts_by c.add_undo.new.self.elements.keys c.add_undo.new.self.groups.items)
-    (λ x here. c.add_undo.ensures.pasts x (ap (λ gs. slice_get gs c.args.index) c.in_ok-room.ensures.groups ∙ here)
+    (λ x here. c.add_undo.ensures.pasts x (ap (λ gs. slice_get gs c.args.index) c.in_ok-done.ensures.groups ∙ here)
     ∙ (λ k. all_substituted (stand_in ((c.deref-7.ensures.value ∙ made) k))
-    (with_group (pasts_by (c.in_ok-room.ensures.elements k) (c.in_ok-room.ensures.groups k))
-    (record { inserted = deleted_ones (past_by (c.in_ok-room.ensures.elements k) x).deleted; deleted = (done k).deleted }) ((c.deref-7.ensures.value ∙ made) k)))) in
+    (with_group (pasts_by (c.in_ok-done.ensures.elements k) (c.in_ok-done.ensures.groups k))
+    (record { inserted = deleted_ones (past_by (c.in_ok-done.ensures.elements k) x).deleted; deleted = (done k).deleted }) ((c.deref-7.ensures.value ∙ made) k)))) in
     let point : c.point_after.result ≡ point_after c.self.inside.point.element (past_of doc.content ops) = c.point_after.ensures ∙ ap (point_after c.self.inside.point.element) done in
     record {
       point_stands = (λ k. is_some (place (whole k) (point k))) ∙ point_stands doc.limit doc.replica doc.content undone.inserted undone.deleted allowed c.self.inside.point.element c.self.invariant.point_stands;
@@ -142,21 +142,21 @@ returns-clause-reverted g c = λ taken at.
     let whole : c.take_revert.new.self.content ≡ join before.content (content_of ops) =
     ap (λ (d : Document). d.content) c.in_ok-take_revert.ensures.content ∙ (λ k. join (c.self.view_is k).content (content_of ((c.deref-6.ensures.value ∙ made ∙ alike) k))) in
     let done : c.in_ok-done.done ≡ past_of doc.content mine =
-    c.in_ok-done.ensures.ok ∙ (λ k. past_of (c.store.ensures.content k) ((c.deref-3.ensures.value ∙ made) k)) in
+    c.in_ok-done.ensures.change ∙ (λ k. past_of (c.store.ensures.content k) ((c.deref-3.ensures.value ∙ made) k)) in
     let pasts : pasts_by c.add_undo.new.self.elements.keys c.add_undo.new.self.groups.items ≡ all_substituted (stand_in mine) (with_group (pasts_by elements groups) (past_of doc.content mine) mine) =
     pasts_after doc.replica doc.content elements groups c.self.invariant.filled c.self.invariant.old c.self.invariant.revertible c.args.index undone c.in_ok-undone.ensures.ok
     (pasts_by c.add_undo.new.self.elements.keys c.add_undo.new.self.groups.items)
-    (λ x here. c.add_undo.ensures.pasts x (ap (λ gs. slice_get gs c.args.index) c.in_ok-room.ensures.groups ∙ here)
+    (λ x here. c.add_undo.ensures.pasts x (ap (λ gs. slice_get gs c.args.index) c.in_ok-done.ensures.groups ∙ here)
     ∙ (λ k. all_substituted (stand_in ((c.deref-7.ensures.value ∙ made) k))
-    (with_group (pasts_by (c.in_ok-room.ensures.elements k) (c.in_ok-room.ensures.groups k))
-    (record { inserted = deleted_ones (past_by (c.in_ok-room.ensures.elements k) x).deleted; deleted = (done k).deleted }) ((c.deref-7.ensures.value ∙ made) k)))) in
+    (with_group (pasts_by (c.in_ok-done.ensures.elements k) (c.in_ok-done.ensures.groups k))
+    (record { inserted = deleted_ones (past_by (c.in_ok-done.ensures.elements k) x).deleted; deleted = (done k).deleted }) ((c.deref-7.ensures.value ∙ made) k)))) in
     record {
       content = whole;
       behind = λ i x here. subst (λ d. StandsDirectlyBehind (order d) x.0 (identifier (clock_of before.content + (i + 1)) before.replica)) (sym whole)
           (revert_behind before.limit before.replica before.content taken.inserted taken.deleted i x allowed here);
       groups = pasts ∙ (λ k. all_substituted (stand_in (alike k)) (with_group (c.self.view_is k).groups (past_of (c.self.view_is k).content (alike k)) (alike k)));
       undone = refl;
-      unsaved = c.add_all.ensures ∙ (λ k. (c.reserve.ensures.items ∙ ap (λ (b : State). b.unsaved) c.self.view_is) k ++ (c.deref-8.ensures.value ∙ made ∙ alike) k);
+      unsaved = c.add_all.ensures ∙ (λ k. (c.prepare.ensures.unsaved ∙ ap (λ (b : State). b.unsaved) c.self.view_is) k ++ (c.deref-8.ensures.value ∙ made ∙ alike) k);
       point = c.point_after.ensures ∙ (λ k. point_after (c.self.view_is k).point (done k)) ∙ (λ k. point_after before.point (past_of (c.self.view_is k).content (alike k)));
       mark = ap (λ (b : State). b.mark) c.self.view_is;
       name = ap (λ (b : State). b.name) c.self.view_is;

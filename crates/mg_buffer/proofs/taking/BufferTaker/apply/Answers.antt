@@ -10,7 +10,7 @@ use Rattle.rga_ops.proofs.ContentLaws.{join_nothing}
 use Rattle.rga_ops.proofs.NewLaws.{new_if_new}
 use Rattle.rga_doc.specs.Document.{Document, document}
 use Rattle.rga_doc.proofs.PlaceLaws.{stands_still}
-use Rattle.mg_buffer.specs.declared.spot.Spot.{Spot}
+use Rattle.mg_buffer.specs.declared.marker.Marker.{Marker}
 use Rattle.mg_buffer.specs.Groups.{Past, are_revertible}
 use Rattle.mg_buffer.specs.Slots.{AreOld, pasts_by}
 use Rattle.mg_buffer.specs.Kept.{stands}
@@ -33,7 +33,7 @@ pub returns-in_err-reserve-clause-follows : goal.returns-in_err-reserve-clause-f
 returns-in_err-reserve-clause-follows g c =
     match_err _ _ c.from_residual-in_err-reserve.result c.from_residual-in_err-reserve.ensures.0
     (follows_same c.args.self.now _
-    (ap (λ (xs : List Op). state c.self.inside.doc (string_bytes c.self.inside.name) c.self.inside.point.element (option_map (λ (m : Spot). m.element) c.self.inside.mark) (pasts_by c.self.inside.history.elements.keys c.self.inside.history.groups.items) c.self.inside.undone xs c.self.inside.listed) c.reserve.ensures.items
+    (ap (λ (xs : List Op). state c.self.inside.doc (string_bytes c.self.inside.name) c.self.inside.point.element (option_map (λ (m : Marker). m.element) c.self.inside.mark) (pasts_by c.self.inside.history.elements.keys c.self.inside.history.groups.items) c.self.inside.undone xs c.self.inside.listed) c.reserve.ensures.items
     ∙ c.self.view_is))
 
 pub returns-in_err-apply-clause-follows : goal.returns-in_err-apply-clause-follows
@@ -41,7 +41,7 @@ returns-in_err-apply-clause-follows g c =
     let doc : c.apply.new.self ≡ c.self.inside.doc = search rules in
     match_err _ _ c.from_residual-in_err-apply.result c.from_residual-in_err-apply.ensures.0
     (follows_same c.args.self.now _
-    ((λ k. state (doc k) (string_bytes c.self.inside.name) c.self.inside.point.element (option_map (λ (m : Spot). m.element) c.self.inside.mark) (pasts_by c.self.inside.history.elements.keys c.self.inside.history.groups.items) c.self.inside.undone (c.reserve.ensures.items k) c.self.inside.listed)
+    ((λ k. state (doc k) (string_bytes c.self.inside.name) c.self.inside.point.element (option_map (λ (m : Marker). m.element) c.self.inside.mark) (pasts_by c.self.inside.history.elements.keys c.self.inside.history.groups.items) c.self.inside.undone (c.reserve.ensures.items k) c.self.inside.listed)
     ∙ c.self.view_is))
 
 pub invariant_of-self-2 : goal.invariant_of-self-2

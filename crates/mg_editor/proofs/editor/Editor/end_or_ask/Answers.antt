@@ -1,5 +1,5 @@
 use Rattle.std.proofs.Common.{rules, ◌≡◌, ap, subst, ◌∙◌}
-use Rattle.mg_prompts.specs.ReplacementStep.{next_match}
+use Rattle.mg_minibuffer.specs.ReplacementStep.{next_match}
 use Rattle.mg_editor.specs.Presses.{Ended, FoundHere}
 use Rattle.mg_workspace.specs.Workspaces.{HasList, Shows, scene_of}
 use Rattle.mg_workspace.proofs.Results.{on_ok}

@@ -1,5 +1,5 @@
 use Rattle.std.proofs.Common.{rules, ◌≡◌, sym, subst}
-use Rattle.mg_exchange.specs.Linking.{ExchangesOver}
+use Rattle.mg_sync.specs.Linking.{ExchangesOver}
 use Rattle.mg_files.specs.OpenState.{OpenState}
 use Rattle.mg_workspace.specs.Saving.{Changes}
 use Rattle.mg_workspace.specs.Workspaces.{Workspace}

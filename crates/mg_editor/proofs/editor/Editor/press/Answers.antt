@@ -1,6 +1,6 @@
 use Rattle.std.proofs.Common.{rules, ◌≡◌, Ok, refl, sym, subst}
 use Rattle.mg_keys.specs.declared.step.Step.TheVariants.{Pending}
-use Rattle.mg_prompts.specs.declared.ending.Request.TheVariants.{Idle}
+use Rattle.mg_minibuffer.specs.declared.ending.Request.TheVariants.{Idle}
 use Rattle.mg_editor.specs.Dialogues.{Fed}
 use Rattle.mg_editor.specs.Editors.{Editor}
 use Rattle.mg_editor.specs.Presses.{IsAsBefore, Pressed}

@@ -1,6 +1,6 @@
 use Rattle.std.proofs.Common.{rules, inr, ◌≡◌, Some, ap, subst, ◌∙◌}
-use Rattle.mg_prompts.specs.PromptStep.{prompt_step}
-use Rattle.mg_prompts.specs.declared.prompt.Prompt.{Prompt}
+use Rattle.mg_minibuffer.specs.PromptStep.{prompt_step}
+use Rattle.mg_minibuffer.specs.declared.prompt.Prompt.{Prompt}
 use Rattle.mg_editor.specs.Presses.{Follows}
 use Rattle.mg_workspace.specs.Workspaces.{HasList, Shows}
 use Rattle.mg_editor.proofs.editor.Editor.react.Goals as goal

@@ -1,5 +1,5 @@
 use Rattle.std.proofs.Common.{rules, inr, ◌≡◌, refl, sym, ap, subst, ◌∙◌}
-use Rattle.mg_prompts.specs.PlainStep.{plain_step}
+use Rattle.mg_minibuffer.specs.PlainStep.{plain_step}
 use Rattle.mg_editor.specs.Editors.{Editor}
 use Rattle.mg_editor.specs.Presses.{Ended, IsRefused, Listed, Plainly}
 use Rattle.mg_workspace.specs.Workspaces.{scene_of}

@@ -1,5 +1,5 @@
 use Rattle.std.proofs.Common.{rules, ◌≡◌, Some, refl, sym, subst}
-use Rattle.mg_prompts.specs.declared.prompt.Prompt.{Prompt}
+use Rattle.mg_minibuffer.specs.declared.prompt.Prompt.{Prompt}
 use Rattle.mg_editor.specs.Editors.{Editor}
 use Rattle.mg_editor.specs.Presses.{IsRefused, Listed, Prompted}
 use Rattle.mg_workspace.proofs.Results.{on_err_map}

@@ -3,7 +3,7 @@ use Rattle.std.specs.List.{remove}
 use Rattle.std.proofs.lemmas.List.Edits.{length-remove}
 use Rattle.mg_workspace.specs.Buffers as spec
 use Rattle.mg_workspace.specs.Names.{moved}
-use Rattle.mg_workspace.proofs.ExcerptLaws.{moved_within}
+use Rattle.mg_workspace.proofs.ViewportLaws.{moved_within}
 use Rattle.mg_workspace.proofs.buffers.Buffers.remove.Goals as goal
 
 pub invariant_of-self : goal.invariant_of-self

@@ -1,5 +1,5 @@
 use Rattle.std.proofs.Common.{rules, ◌≡◌, get_or}
-use Rattle.mg_exchange.specs.Linking.{ServesOver}
+use Rattle.mg_sync.specs.Linking.{ServesOver}
 use Rattle.mg_files.specs.OpenState.{OpenState}
 use Rattle.mg_workspace.proofs.Saves.{current_becomes}
 use Rattle.mg_workspace.proofs.buffers.Buffers.serve.Goals as goal

@@ -1,8 +1,8 @@
 use Rattle.std.proofs.Common.{rules, ◌≡◌, ◌<◌, length, Err, refl, sym, ap, subst, ◌∙◌}
 use Rattle.mg_files.specs.OpenState.{OpenState}
-use Rattle.mg_workspace.specs.declared.fault.DeedFault.TheVariants.{Memory}
-use Rattle.mg_workspace.specs.Deeds as spec
-use Rattle.mg_workspace.specs.declared.excerpt.Excerpt.{Excerpt}
+use Rattle.mg_workspace.specs.declared.fault.ActionFault.TheVariants.{Memory}
+use Rattle.mg_workspace.specs.Actions as spec
+use Rattle.mg_workspace.specs.declared.viewport.Viewport.{Viewport}
 use Rattle.mg_workspace.specs.Workspaces.{Workspace}
 use Rattle.mg_workspace.proofs.Arrangements.{rearranged, unarranged, arranged_shown, kept_count}
 use Rattle.mg_workspace.proofs.Results.{on_err_map}
@@ -11,15 +11,15 @@ use Rattle.mg_workspace.proofs.workspace.Workspace.arrange.Goals as goal
 pub go_to-requires : goal.go_to-requires
 go_to-requires g c =
     let s = c.self.inside in
-    let within = c.current_excerpt-shown.ensures.within (length s.buffers.all) (c.change_windows-answer.ensures.shown (length s.buffers.all) c.self.invariant.2.each) in
-    subst (λ n. c.current_excerpt-shown.result.buffer < n) (sym (kept_count s.buffers c.idle.new.self c.idle.ensures)) within
+    let within = c.current_viewport-shown.ensures.within (length s.buffers.all) (c.change_windows-answer.ensures.shown (length s.buffers.all) c.self.invariant.2.each) in
+    subst (λ n. c.current_viewport-shown.result.buffer < n) (sym (kept_count s.buffers c.idle.new.self c.idle.ensures)) within
 
 pub invariant_of-self-2 : goal.invariant_of-self-2
 invariant_of-self-2 g c =
     let s = c.self.inside in
     let n = length s.buffers.all in
-    let shown = arranged_shown s.buffers c.idle.new.self c.go_to.new.self s.windows c.change_windows-answer.new.windows c.current_excerpt-shown.result c.self.invariant.2
-    (kept_count s.buffers c.idle.new.self c.idle.ensures) (c.change_windows-answer.ensures.shown n c.self.invariant.2.each) c.current_excerpt-shown.ensures.exact c.go_to.ensures in
+    let shown = arranged_shown s.buffers c.idle.new.self c.go_to.new.self s.windows c.change_windows-answer.new.windows c.current_viewport-shown.result c.self.invariant.2
+    (kept_count s.buffers c.idle.new.self c.idle.ensures) (c.change_windows-answer.ensures.shown n c.self.invariant.2.each) c.current_viewport-shown.ensures.exact c.go_to.ensures in
     (c.self.invariant.0, c.self.invariant.1, shown)
 
 pub returns-then-lacks_memory-clause-arranged : goal.returns-then-lacks_memory-clause-arranged
@@ -49,7 +49,7 @@ returns-clause-arranged g c =
     let idled : Workspace = record was { buffers = c.idle.new.self; notes = c.idle.new.memo } in
     let now : Workspace = record idled { buffers = c.go_to.new.self; windows = l } in
     let left : now ≡ spec.with_windows l idled =
-    ap (λ bs. record idled { buffers = bs; windows = l }) c.go_to.ensures ∙ ap (λ (x : Excerpt). record idled { buffers = record c.idle.new.self { current = x.buffer }; windows = l }) c.current_excerpt-shown.ensures.exact in
+    ap (λ bs. record idled { buffers = bs; windows = l }) c.go_to.ensures ∙ ap (λ (x : Viewport). record idled { buffers = record c.idle.new.self { current = x.buffer }; windows = l }) c.current_viewport-shown.ensures.exact in
     let ends : spec.EndsRun l was now = (idled, record { buffers = c.idle.ensures; rest = refl }, left) in
     let changes = c.change_windows-answer.ensures in
     let here : spec.Arranged a was now c.of_windows.result = record {

@@ -1,6 +1,6 @@
 use Rattle.std.proofs.Common.{rules, ◌<◌, length, sym, subst}
-use Rattle.mg_workspace.specs.Excerpts.{AreShown}
-use Rattle.mg_workspace.proofs.ExcerptLaws.{gone_shown}
+use Rattle.mg_workspace.specs.Viewports.{AreShown}
+use Rattle.mg_workspace.proofs.ViewportLaws.{gone_shown}
 use Rattle.mg_workspace.proofs.workspace.Workspace.go_to.Goals as goal
 
 pub invariant_of-self : goal.invariant_of-self

@@ -1,5 +1,5 @@
 use Rattle.std.proofs.Common.{rules, ◌≡◌, refl, sym, subst}
-use Rattle.mg_workspace.specs.Deeds.{Idled}
+use Rattle.mg_workspace.specs.Actions.{Idled}
 use Rattle.mg_workspace.specs.Workspaces.{Workspace}
 use Rattle.mg_workspace.proofs.workspace.Workspace.idle.Goals as goal
 

@@ -1,8 +1,8 @@
 use Rattle.std.proofs.Common.{rules, ◌≡◌, ◌<◌, length, sym, ap, subst, ◌∙◌}
 use Rattle.mg_workspace.specs.declared.workspace.TheConstants.{MAX_BUFFERS}
 use Rattle.mg_workspace.specs.Buffers.{Buffers, with_buffer}
-use Rattle.mg_workspace.specs.Excerpts.{turned, AreShown}
-use Rattle.mg_workspace.proofs.ExcerptLaws.{opened_shown}
+use Rattle.mg_workspace.specs.Viewports.{turned, AreShown}
+use Rattle.mg_workspace.proofs.ViewportLaws.{opened_shown}
 use Rattle.mg_workspace.proofs.workspace.Workspace.open.Goals as goal
 
 pub invariant_of-self-2 : goal.invariant_of-self-2

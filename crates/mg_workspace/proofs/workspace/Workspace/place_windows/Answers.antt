@@ -1,5 +1,5 @@
 use Rattle.std.proofs.Common.{sym, subst}
-use Rattle.mg_workspace.specs.Excerpts.{AreShown}
+use Rattle.mg_workspace.specs.Viewports.{AreShown}
 use Rattle.mg_workspace.proofs.ShownWindows.{placed_shown}
 use Rattle.mg_workspace.proofs.workspace.Workspace.place_windows.Goals as goal
 

@@ -2,8 +2,8 @@ use Rattle.std.proofs.Common.{rules, ◌≡◌, ◌<◌, ◌≤◌, true, false,
 use Rattle.mg_files.specs.OpenState.{OpenState}
 use Rattle.mg_files.specs.Saving.{is_changed}
 use Rattle.mg_workspace.specs.Buffers.{Buffers}
-use Rattle.mg_workspace.specs.Excerpts.{layout_without, AreShown}
-use Rattle.mg_workspace.proofs.ExcerptLaws.{removed_shown}
+use Rattle.mg_workspace.specs.Viewports.{layout_without, AreShown}
+use Rattle.mg_workspace.proofs.ViewportLaws.{removed_shown}
 use Rattle.mg_workspace.proofs.Removals.{changed_answer, only_answer, several_answer}
 use Rattle.mg_workspace.proofs.workspace.Workspace.remove.Goals as goal
 

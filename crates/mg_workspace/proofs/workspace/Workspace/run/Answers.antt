@@ -1,5 +1,5 @@
 use Rattle.std.proofs.Common.{rules, ◌≡◌, refl, sym, subst}
-use Rattle.mg_workspace.specs.Deeds.{Ran}
+use Rattle.mg_workspace.specs.Actions.{Ran}
 use Rattle.mg_workspace.specs.Workspaces.{Workspace}
 use Rattle.mg_workspace.proofs.Keeping.{refused_run_keeps}
 use Rattle.mg_workspace.proofs.workspace.Workspace.run.Goals as goal

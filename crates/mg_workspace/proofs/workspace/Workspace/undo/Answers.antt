@@ -1,5 +1,5 @@
 use Rattle.std.proofs.Common.{rules, ◌≡◌, refl, sym, subst}
-use Rattle.mg_workspace.specs.Deeds.{Undid}
+use Rattle.mg_workspace.specs.Actions.{Undid}
 use Rattle.mg_workspace.specs.Workspaces.{Workspace}
 use Rattle.mg_workspace.proofs.Keeping.{refused_undo_keeps}
 use Rattle.mg_workspace.proofs.workspace.Workspace.undo.Goals as goal

@@ -1,0 +1,86 @@
+//! Places of a document that last.
+ghost use Rattle.std.specs.Prelude.{◌≡◌, ◌≤◌, true, Some, length, is_some, IfOk, IfErr, IfSome, OnOk};
+ghost use Rattle.std.specs.Option.{option_map, option_map_or};
+ghost use Rattle.rga_ops.specs.Prelude.{place, text};
+ghost use Rattle.rga_doc.specs.LocalEdit.{element_behind};
+ghost use Rattle.mg_buffer.specs.Kept.{IsPlaced, stands};
+
+use rga_doc::{Anchor, Doc};
+use rga_ops::{Id, Refusal};
+use rga_store::TextStore;
+
+/// A place behind an element, with the number that it had when it was last looked for.
+#[derive(Clone, Copy)]
+pub(crate) struct Marker {
+    pub(crate) element: Id,
+    pub(crate) place: usize,
+}
+
+/// The marker at a place of a listed document. Takes no memory.
+pub(crate) fn marker_at<S: TextStore>(doc: &Doc<S>, k: usize) -> Marker
+    requires listed { doc.now.listed ≡ true }
+    requires within { k ≤ length (text doc.now.content) }
+    ensures element { element_behind doc.now.content k ≡ Some result.element }
+    ensures placed { IsPlaced doc.now.content result }
+{
+    let anchor = doc.listed_anchor(k);
+    Marker {
+        element: anchor.element,
+        place: k,
+    }
+}
+
+/// The marker of a mark at a place of a listed document, if there is one. Takes no memory.
+pub(crate) fn mark_at<S: TextStore>(doc: &Doc<S>, k: Option<usize>) -> Option<Marker>
+    requires listed { doc.now.listed ≡ true }
+    requires within { IfSome k (λ n. n ≤ length (text doc.now.content)) }
+    ensures element { option_map (element_behind doc.now.content) k
+        ≡ option_map Some (option_map (λ s. s.element) result) }
+    ensures placed { IfSome result (IsPlaced doc.now.content) }
+{
+    match k {
+        Some(k) => Some(marker_at(doc, k)),
+        None => None,
+    }
+}
+
+/// The same marker with the number of its place now. `Memory` alone.
+pub(crate) fn find<S: TextStore>(doc: &Doc<S>, marker: Marker) -> Result<Marker, Refusal>
+    requires { stands doc.now.content marker ≡ true }
+    ensures element { IfOk result (λ s. s.element ≡ marker.element) }
+    ensures placed { IfOk result (IsPlaced doc.now.content) }
+    ensures memory { IfErr result (λ e. e ≡ Refusal.Memory) }
+{
+    let element = marker.element;
+    match doc.place(Anchor { element }) {
+        Ok(place) => Ok(Marker { element, place }),
+        Err(_) => Err(Refusal::Memory),
+    }
+}
+
+/// The same for a mark, if there is one. `Memory` alone.
+pub(crate) fn find_mark<S: TextStore>(
+    doc: &Doc<S>,
+    mark: Option<Marker>,
+) -> Result<Option<Marker>, Refusal>
+    requires { option_map_or (stands doc.now.content) mark true ≡ true }
+    ensures element { IfOk result (λ m.
+        option_map (λ s. s.element) m ≡ option_map (λ s. s.element) mark) }
+    ensures placed { IfOk result (λ m. IfSome m (IsPlaced doc.now.content)) }
+    ensures memory { IfErr result (λ e. e ≡ Refusal.Memory) }
+{
+    match mark {
+        Some(marker) => Ok(Some(find(doc, marker)?)),
+        None => Ok(None),
+    }
+}
+
+/// The place of a mark, as it was last looked for.
+pub(crate) fn mark_place(mark: Option<Marker>) -> Option<usize>
+    ensures { result ≡ option_map (λ s. s.place) mark }
+{
+    match mark {
+        Some(marker) => Some(marker.place),
+        None => None,
+    }
+}

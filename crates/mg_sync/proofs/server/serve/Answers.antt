@@ -1,0 +1,134 @@
+use Rattle.std.proofs.Common.{rules, ◌≡◌, inr, Result, Ok, Err, sym, ap, subst, ◌∙◌}
+use Rattle.mg_files.specs.Calls.{Adds}
+use Rattle.mg_files.specs.Links.{Opens}
+use Rattle.mg_files.specs.Saving.{save_calls, saved}
+use Rattle.mg_sync.specs.declared.fault.ExchangeFault.{ExchangeFault}
+use Rattle.mg_sync.specs.declared.fault.ExchangeFault.TheVariants.{Send}
+use Rattle.mg_sync.specs.declared.talking.Exchanged.{Exchanged}
+use Rattle.mg_sync.specs.Talking.{SendsOver, HearsOver}
+use Rattle.mg_sync.specs.Meeting.{TakesTo, Meets, accepting}
+use Rattle.mg_sync.specs.Linking.{counted, SendsBehind, ServesOver}
+use Rattle.mg_sync.proofs.MeetingLaws.{wait_fails}
+use Rattle.mg_sync.proofs.LessSaid.{serves_over}
+use Rattle.mg_sync.proofs.LinkLaws.{opens_among, gains_over, waits}
+use Rattle.mg_sync.proofs.server.serve.Goals as goal
+
+pub returns-in_err-received-clause-over : goal.returns-in_err-received-clause-over
+returns-in_err-received-clause-over g c =
+    let e = c.in_err-received.field-0.0 in
+    let calls = g.P.Port.calls in
+    let links = g.P.Port.links in
+    let remaining = g.P.Link.Read.remaining in
+    let contents = g.P.Link.Write.contents in
+    let link = c.in_ok-accept.field-0 in
+    let b = c.args.opened.now in
+    let s = c.save.new.self in
+    let d = c.hear_and_save.new.opened in
+    let reader = c.new-reader.result in
+    let heard = c.hear_and_save.new.reader in
+    let old = calls c.args.port.now in
+    let first = calls c.save.new.port in
+    let mid = calls c.accept.new.self in
+    let new = calls c.hear_and_save.new.port in
+    let left : s ≡ saved b = c.in_ok-save.ensures.saved in
+    let saves : Adds old first (save_calls b) = c.in_ok-save.ensures.calls in
+    let accepts : Adds first mid accepting = c.in_ok-accept.ensures.tells in
+    let before = links c.args.port.now in
+    let behind = links c.hear_and_save.new.port in
+    let opens : Opens before behind link = opens_among before (links c.save.new.port) (links c.accept.new.self) behind link c.in_ok-save.ensures.links c.in_ok-accept.ensures.opens c.hear_and_save.ensures.links in
+    let takes : TakesTo (HearsOver remaining reader heard) mid new s d (Err e) = c.in_err-received.ensures.takes in
+    let met : Meets (HearsOver remaining (counted link) heard) (SendsBehind remaining contents heard) old new b d accepting (Err e) =
+    waits remaining contents link reader heard old first mid new b s d (Err e) left saves accepts c.new-reader.ensures takes in
+    let over : ServesOver remaining contents before behind old new b d (Err e) = record {
+      came = inr (record { link = link; opens = opens; heard = heard; came = wait_fails old new b d e met });
+      gains = gains_over remaining reader heard mid new b s d (Err e) left takes;
+    } in
+    let is : c.from_residual-in_err-received.result ≡ Err e = search rules in
+    subst (λ (r : Result Exchanged ExchangeFault). ServesOver remaining contents before behind old new b d r) (sym is) over
+
+pub returns-in_err-received-clause-serves : goal.returns-in_err-received-clause-serves
+returns-in_err-received-clause-serves g c = serves_over g.P.Link.Read.remaining g.P.Link.Write.contents (returns-in_err-received-clause-over g c)
+
+pub returns-in_err-sent-clause-over : goal.returns-in_err-sent-clause-over
+returns-in_err-sent-clause-over g c =
+    let n = c.in_ok-received.received in
+    let e = c.in_err-sent.field-0.0 in
+    let calls = g.P.Port.calls in
+    let links = g.P.Port.links in
+    let remaining = g.P.Link.Read.remaining in
+    let contents = g.P.Link.Write.contents in
+    let link = c.in_ok-accept.field-0 in
+    let b = c.args.opened.now in
+    let s = c.save.new.self in
+    let d = c.hear_and_save.new.opened in
+    let reader = c.new-reader.result in
+    let heard = c.hear_and_save.new.reader in
+    let old = calls c.args.port.now in
+    let first = calls c.save.new.port in
+    let mid = calls c.accept.new.self in
+    let new = calls c.hear_and_save.new.port in
+    let left : s ≡ saved b = c.in_ok-save.ensures.saved in
+    let saves : Adds old first (save_calls b) = c.in_ok-save.ensures.calls in
+    let accepts : Adds first mid accepting = c.in_ok-accept.ensures.tells in
+    let before = links c.args.port.now in
+    let behind = links c.hear_and_save.new.port in
+    let opens : Opens before behind link = opens_among before (links c.save.new.port) (links c.accept.new.self) behind link c.in_ok-save.ensures.links c.in_ok-accept.ensures.opens c.hear_and_save.ensures.links in
+    let takes : TakesTo (HearsOver remaining reader heard) mid new s d (Ok n) = c.in_ok-received.ensures.takes in
+    let met : Meets (HearsOver remaining (counted link) heard) (SendsBehind remaining contents heard) old new b d accepting (Ok n) =
+    waits remaining contents link reader heard old first mid new b s d (Ok n) left saves accepts c.new-reader.ensures takes in
+    let told = c.tell.new.writer in
+    let fresh : c.new-writer.result ≡ counted heard.inner = c.new-writer.ensures ∙ ap counted c.into_inner.ensures in
+    let sends : SendsBehind remaining contents heard (Err e) d.buffer.content = record {
+      sent = told;
+      sends = subst (λ x. SendsOver contents x told (Err e) d.buffer.content) fresh c.in_err-sent.ensures;
+    } in
+    let over : ServesOver remaining contents before behind old new b d (Err (Send e)) = record {
+      came = inr (record { link = link; opens = opens; heard = heard; came = ((n, met), sends) });
+      gains = gains_over remaining reader heard mid new b s d (Ok n) left takes;
+    } in
+    let is : c.from_residual-in_err-sent.result ≡ Err (Send e) = search rules in
+    subst (λ (r : Result Exchanged ExchangeFault). ServesOver remaining contents before behind old new b d r) (sym is) over
+
+pub returns-in_err-sent-clause-serves : goal.returns-in_err-sent-clause-serves
+returns-in_err-sent-clause-serves g c = serves_over g.P.Link.Read.remaining g.P.Link.Write.contents (returns-in_err-sent-clause-over g c)
+
+pub returns-clause-over : goal.returns-clause-over
+returns-clause-over g c =
+    let n = c.in_ok-received.received in
+    let m = c.in_ok-sent.sent in
+    let calls = g.P.Port.calls in
+    let links = g.P.Port.links in
+    let remaining = g.P.Link.Read.remaining in
+    let contents = g.P.Link.Write.contents in
+    let link = c.in_ok-accept.field-0 in
+    let b = c.args.opened.now in
+    let s = c.save.new.self in
+    let d = c.hear_and_save.new.opened in
+    let reader = c.new-reader.result in
+    let heard = c.hear_and_save.new.reader in
+    let old = calls c.args.port.now in
+    let first = calls c.save.new.port in
+    let mid = calls c.accept.new.self in
+    let new = calls c.hear_and_save.new.port in
+    let left : s ≡ saved b = c.in_ok-save.ensures.saved in
+    let saves : Adds old first (save_calls b) = c.in_ok-save.ensures.calls in
+    let accepts : Adds first mid accepting = c.in_ok-accept.ensures.tells in
+    let before = links c.args.port.now in
+    let behind = links c.hear_and_save.new.port in
+    let opens : Opens before behind link = opens_among before (links c.save.new.port) (links c.accept.new.self) behind link c.in_ok-save.ensures.links c.in_ok-accept.ensures.opens c.hear_and_save.ensures.links in
+    let takes : TakesTo (HearsOver remaining reader heard) mid new s d (Ok n) = c.in_ok-received.ensures.takes in
+    let met : Meets (HearsOver remaining (counted link) heard) (SendsBehind remaining contents heard) old new b d accepting (Ok n) =
+    waits remaining contents link reader heard old first mid new b s d (Ok n) left saves accepts c.new-reader.ensures takes in
+    let told = c.tell.new.writer in
+    let fresh : c.new-writer.result ≡ counted heard.inner = c.new-writer.ensures ∙ ap counted c.into_inner.ensures in
+    let sends : SendsBehind remaining contents heard (Ok m) d.buffer.content = record {
+      sent = told;
+      sends = subst (λ x. SendsOver contents x told (Ok m) d.buffer.content) fresh c.in_ok-sent.ensures;
+    } in
+    record {
+      came = inr (record { link = link; opens = opens; heard = heard; came = (met, sends) });
+      gains = gains_over remaining reader heard mid new b s d (Ok n) left takes;
+    }
+
+pub returns-clause-serves : goal.returns-clause-serves
+returns-clause-serves g c = serves_over g.P.Link.Read.remaining g.P.Link.Write.contents (returns-clause-over g c)

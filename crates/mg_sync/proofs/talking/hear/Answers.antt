@@ -1,0 +1,19 @@
+use Rattle.std.proofs.Common.{refl, subst}
+use Rattle.mg_files.specs.OpenState.{OpenState}
+use Rattle.mg_sync.specs.Talking.{HearsOver}
+use Rattle.mg_sync.proofs.talking.hear.Goals as goal
+
+pub returns : goal.returns
+returns g c =
+    let s = c.receive.ensures in
+    let i = c.opened.inside in
+    let b : OpenState = record { buffer = i.buffer; whole = i.whole; text_waits = i.text_waits; runs = i.runs } in
+    let d : OpenState = record { buffer = c.receive.new.taker; whole = i.whole; text_waits = i.text_waits; runs = i.runs } in
+    let heard : HearsOver g.L.Read.remaining c.args.reader.now c.receive.new.reader c.receive.result b d = record {
+      lines = s.lines;
+      outcome = s.outcome;
+      joined = s.joined;
+      device = s.device;
+      rest = refl;
+    } in
+    subst (λ (x : OpenState). HearsOver g.L.Read.remaining c.args.reader.now c.receive.new.reader c.receive.result x d) c.opened.view_is heard

@@ -1,0 +1,42 @@
+//! The replica that connects.
+ghost use Rattle.mg_sync.specs.Meeting as spec;
+ghost use Rattle.mg_sync.specs.Linking.{ExchangesOver};
+ghost use Rattle.mg_sync.specs.Talking.{Sends, Hears};
+
+use crate::fault::ExchangeFault;
+use crate::talking::{Exchanged, hear_and_save, tell};
+use mg_files::{Port, VisitedBuffer};
+use rga_lines::Counted;
+use rga_store::TextStore;
+use std::alloc::Global;
+
+/// Exchanges a buffer with the peer that a port connects to: saves it, opens a link, sends all that
+/// it holds, ends the sending, takes what the peer says, and saves it again. Answers how many
+/// operations were sent and how many received.
+///
+/// Faults, in this order: `Save` of the first save; `Link` where no link is opened; `Send`; `Link`
+/// where the sending is not ended; `Receive`; `Save` of the second save. Nothing is done behind a
+/// fault, but for one: where the peer is not heard to its end, what was taken of it is saved all
+/// the same, and `Receive` is answered, whatever comes of that save. Whatever is answered, the
+/// buffer has what it had, and its name, replica, limit, point, mark and groups stay.
+pub fn exchange<S: TextStore, P: Port>(
+    alloc: Global,
+    opened: &mut VisitedBuffer<S>,
+    port: &mut P,
+) -> Result<Exchanged, ExchangeFault>
+    ensures exchanges { spec.Exchanges (Hears P.Link.remaining) (Sends P.Link.contents)
+        (P.calls port.old) (P.calls port.new) opened.old opened.new result }
+    // So it is over the one link that the port opened, from the one state of it to the next.
+    ensures over { ExchangesOver P.Link.remaining P.Link.contents (P.links port.old)
+        (P.links port.new) (P.calls port.old) (P.calls port.new) opened.old opened.new result }
+    ensures device { spec.CountsFaults result (P.failures port.old) (P.failures port.new) }
+{
+    opened.save(port)?;
+    let mut writer = Counted::new(port.connect()?);
+    let sent = tell(alloc, opened, &mut writer)?;
+    let mut link = writer.into_inner();
+    port.finish(&mut link)?;
+    let mut reader = Counted::new(link);
+    let received = hear_and_save(alloc, opened, &mut reader, port)?;
+    Ok(Exchanged { sent, received })
+}

@@ -1,0 +1,50 @@
+//! Theorems about exchanges. Each function does nothing: its contract is the theorem.
+ghost use Rattle.std.specs.Prelude.{◌≡◌, ℕ, List, Option, Some, Ok};
+ghost use Rattle.rga_ops.specs.Content.{Agree, IsSound, join, content_of};
+ghost use Rattle.rga_lines.specs.Log.{stream_operations};
+ghost use Rattle.mg_files.specs.Calls.{Call};
+ghost use Rattle.mg_files.specs.OpenState.{OpenState};
+ghost use Rattle.mg_sync.specs.Linking.{SendsFirst, HearsFirst, ExchangesOver, ServesOver, HaveMet};
+ghost use Rattle.mg_sync.specs.declared.talking.Exchanged.{Exchanged};
+
+use mg_files::Port;
+
+/// What answers its counts had one link, which the port opened for it: all that was sent and heard
+/// is over this one, and in its order.
+pub fn what_is_exchanged_has_a_link<P: Port>()
+    ensures exchanges { (links more : Option (List P.Link)) (old new : Option (List Call))
+        (b d : OpenState) (e : Exchanged)
+        → ExchangesOver P.Link.remaining P.Link.contents links more old new b d (Ok e)
+        → SendsFirst P.Link.remaining P.Link.contents links more old new b d (Ok e) }
+    ensures serves { (links more : Option (List P.Link)) (old new : Option (List Call))
+        (b d : OpenState) (e : Exchanged)
+        → ServesOver P.Link.remaining P.Link.contents links more old new b d (Ok e)
+        → HearsFirst P.Link.remaining P.Link.contents links more old new b d (Ok e) }
+{}
+
+/// Behind an exchange over a link that tells bytes, once all was sent or as it was opened, the
+/// content is what it was, joined with what the lines of these bytes stand for.
+pub fn what_a_link_tells_is_joined<P: Port>()
+    ensures exchanges { (links more : Option (List P.Link)) (old new : Option (List Call))
+        (b d : OpenState) (e : Exchanged) (bytes : List ℕ)
+        (over : SendsFirst P.Link.remaining P.Link.contents links more old new b d (Ok e))
+        → P.Link.remaining over.sent.inner ≡ Some bytes
+        → d.buffer.content ≡ join b.buffer.content (content_of (stream_operations bytes)) }
+    ensures serves { (links more : Option (List P.Link)) (old new : Option (List Call))
+        (b d : OpenState) (e : Exchanged) (bytes : List ℕ)
+        (over : HearsFirst P.Link.remaining P.Link.contents links more old new b d (Ok e))
+        → P.Link.remaining over.link ≡ Some bytes
+        → d.buffer.content ≡ join b.buffer.content (content_of (stream_operations bytes)) }
+{}
+
+/// Two replicas that meet, the one by `exchange` and the other by `serve`, each over a link that
+/// tells what the other wrote, hold one content behind it, where their operations are well-formed
+/// and agree: the join of both.
+pub fn two_that_meet_hold_one_content<P: Port, Q: Port>()
+    ensures { (b d their_b their_d : OpenState) → HaveMet P.Link.remaining P.Link.contents
+        Q.Link.remaining Q.Link.contents b d their_b their_d
+        → IsSound b.buffer.content → IsSound their_b.buffer.content
+        → Agree b.buffer.content their_b.buffer.content
+        → (d.buffer.content ≡ join b.buffer.content their_b.buffer.content)
+        × (their_d.buffer.content ≡ d.buffer.content) }
+{}

@@ -1,0 +1,40 @@
+//! The replica that waits.
+ghost use Rattle.mg_sync.specs.Meeting as spec;
+ghost use Rattle.mg_sync.specs.Linking.{ServesOver};
+ghost use Rattle.mg_sync.specs.Talking.{Sends, Hears};
+
+use crate::fault::ExchangeFault;
+use crate::talking::{Exchanged, hear_and_save, tell};
+use mg_files::{Port, VisitedBuffer};
+use rga_lines::Counted;
+use rga_store::TextStore;
+use std::alloc::Global;
+
+/// Exchanges a buffer with the first peer that a port accepts: saves it, waits for a link, takes
+/// what the peer says, saves it again, and only then sends all that it holds. Answers how many
+/// operations were sent and how many received.
+///
+/// Faults, in this order: `Save` of the first save; `Link` where no link is opened; `Receive`;
+/// `Save` of the second save; `Send`. Nothing is done behind a fault, but for one: where the peer is
+/// not heard to its end, what was taken of it is saved all the same, and `Receive` is answered,
+/// whatever comes of that save; no reply is sent then. Whatever is answered, the buffer has what it
+/// had, and its name, replica, limit, point, mark and groups stay.
+pub fn serve<S: TextStore, P: Port>(
+    alloc: Global,
+    opened: &mut VisitedBuffer<S>,
+    port: &mut P,
+) -> Result<Exchanged, ExchangeFault>
+    ensures serves { spec.Serves (Hears P.Link.remaining) (Sends P.Link.contents)
+        (P.calls port.old) (P.calls port.new) opened.old opened.new result }
+    // So it is over the one link that the port opened, from the one state of it to the next.
+    ensures over { ServesOver P.Link.remaining P.Link.contents (P.links port.old)
+        (P.links port.new) (P.calls port.old) (P.calls port.new) opened.old opened.new result }
+    ensures device { spec.CountsFaults result (P.failures port.old) (P.failures port.new) }
+{
+    opened.save(port)?;
+    let mut reader = Counted::new(port.accept()?);
+    let received = hear_and_save(alloc, opened, &mut reader, port)?;
+    let mut writer = Counted::new(reader.into_inner());
+    let sent = tell(alloc, opened, &mut writer)?;
+    Ok(Exchanged { sent, received })
+}

@@ -1,0 +1,175 @@
+-- What is known of windows by what they show.
+use Rattle.std.proofs.Common.{◌≡◌, ℕ, zero, suc, ◌+◌, ◌-◌, ◌/◌, ◌<◌, ◌≤◌, List, [], ◌∷◌, ◌++◌, length, map, take, drop, get_or, Some, slice_get, is_some, true≢false, nat_eq, nat_lt, if◌then◌else◌, refl, sym, ap, subst, ◌∙◌, arith}
+use Rattle.std.specs.List.{AllByRecursion, remove}
+use Rattle.std.proofs.lemmas.Bool.{cond_both, ltb-true, ltb-false, eqb-false}
+use Rattle.std.proofs.lemmas.List.{length_push}
+use Rattle.std.proofs.lemmas.Option.{same_Some}
+use Rattle.std.proofs.lemmas.List.Edits.{length-remove}
+use Rattle.mg_files.specs.OpenState.{OpenState}
+use Rattle.mg_screen.specs.Layout.{Window, window, Layout, heights, all_shown, shows_at, shown_layout, split_at, remove_at, only_at, windows_of, shared, staying, resized_layout, of_height, rows_of}
+use Rattle.mg_workspace.specs.declared.viewport.Viewport.{Viewport}
+use Rattle.mg_workspace.specs.declared.workspace.TheConstants.{MAX_BUFFERS}
+use Rattle.mg_workspace.specs.Buffers.{Buffers, with_buffer, without_buffer}
+use Rattle.mg_workspace.specs.Viewports.{viewport, current_viewport, turned, window_without, layout_without, ShowThese, AreShown}
+use Rattle.mg_workspace.specs.Mapped.{mapped_at}
+use Rattle.mg_workspace.specs.Names.{moved}
+
+-- ---- the window at an index
+
+pub window_there : {T : Type 0} (ws : List (Window T)) (i h : ℕ) (s : T) → slice_get (heights ws) i ≡ Some h → slice_get (all_shown ws) i ≡ Some s → slice_get ws i ≡ Some (window h s)
+window_there [] i h s tall shown = absurd (true≢false (sym (ap is_some tall)))
+window_there (w ∷ ws) zero h s tall shown =
+    ap (λ n. Some (window n w.shown)) (same_Some w.height h tall) ∙ ap (λ t. Some (window h t)) (same_Some w.shown s shown)
+window_there (w ∷ ws) (suc i) h s tall shown = window_there ws i h s tall shown
+
+pub each_there : {A : Type 0} (P : A → Type 0) (xs : List A) (i : ℕ) (x : A) → slice_get xs i ≡ Some x → AllByRecursion P xs → P x
+each_there P [] i x at all = absurd (true≢false (sym (ap is_some at)))
+each_there P (y ∷ xs) zero x at all = subst P (same_Some y x at) all.0
+each_there P (y ∷ xs) (suc i) x at all = each_there P xs i x at all.1
+
+pub shown_there : {T : Type 0} (ws : List (Window T)) (i : ℕ) (s : T) (P : T → Type 0) → slice_get (all_shown ws) i ≡ Some s → AllByRecursion (λ w. P w.shown) ws → P s
+shown_there [] i s P at all = absurd (true≢false (sym (ap is_some at)))
+shown_there (w ∷ ws) zero s P at all = subst P (same_Some w.shown s at) all.0
+shown_there (w ∷ ws) (suc i) s P at all = shown_there ws i s P at all.1
+
+pub shows_mapped : {T : Type 0} (f : Window T → Window T) (ws : List (Window T)) (i : ℕ) (w : Window T) (s : T) → slice_get ws i ≡ Some w → window w.height s ≡ f w
+    → shows_at i s ws ≡ mapped_at f i ws
+shows_mapped f [] i w s at is = refl
+shows_mapped f (v ∷ ws) zero w s at is =
+    ap (λ u. window u.height s ∷ ws) (same_Some v w at) ∙ ap (λ u. u ∷ ws) (is ∙ ap f (sym (same_Some v w at)))
+shows_mapped f (v ∷ ws) (suc i) w s at is = ap (λ us. v ∷ us) (shows_mapped f ws i w s at is)
+
+-- ---- each window shows one of so many buffers
+
+pub show_split : (n i : ℕ) (ws : List (Window Viewport)) → ShowThese n ws → ShowThese n (split_at i ws)
+show_split n i [] all = all
+show_split n zero (w ∷ ws) all = (all.0, (all.0, all.1))
+show_split n (suc i) (w ∷ ws) all = (all.0, show_split n i ws all.1)
+
+pub show_remove : (n i : ℕ) (ws : List (Window Viewport)) → ShowThese n ws → ShowThese n (remove_at i ws)
+show_remove n i [] all = all
+show_remove n i (w ∷ []) all = all
+show_remove n zero (v ∷ w ∷ ws) all = (all.1.0, all.1.1)
+show_remove n (suc zero) (v ∷ w ∷ ws) all = (all.0, all.1.1)
+show_remove n (suc (suc i)) (v ∷ w ∷ ws) all = (all.0, show_remove n (suc i) (w ∷ ws) all.1)
+
+show_first : (n h : ℕ) (ws : List (Window Viewport)) → ShowThese n ws → ShowThese n (map (of_height h) (take 1 ws))
+show_first n h [] all = tt
+show_first n h (w ∷ ws) all = (all.0, tt)
+
+show_drop : (n i : ℕ) (ws : List (Window Viewport)) → ShowThese n ws → ShowThese n (drop i ws)
+show_drop n zero ws all = all
+show_drop n (suc i) [] all = tt
+show_drop n (suc i) (w ∷ ws) all = show_drop n i ws all.1
+
+pub show_only : (n i : ℕ) (ws : List (Window Viewport)) → ShowThese n ws → ShowThese n (only_at i ws)
+show_only n i ws all = show_first n (rows_of ws - 1) (drop i ws) (show_drop n i ws all)
+
+show_take : (n k : ℕ) (ws : List (Window Viewport)) → ShowThese n ws → ShowThese n (take k ws)
+show_take n zero ws all = tt
+show_take n (suc k) [] all = tt
+show_take n (suc k) (w ∷ ws) all = (all.0, show_take n k ws all.1)
+
+show_as_tall : (n : ℕ) (hs : List ℕ) (ws : List (Window Viewport)) → ShowThese n ws → ShowThese n (windows_of hs (all_shown ws))
+show_as_tall n [] ws all = tt
+show_as_tall n (h ∷ hs) [] all = tt
+show_as_tall n (h ∷ hs) (w ∷ ws) all = (all.0, show_as_tall n hs ws all.1)
+
+pub show_resized : (n rows : ℕ) (old new : Layout Viewport) → new ≡ resized_layout rows old → ShowThese n old.windows → ShowThese n new.windows
+show_resized n rows old new is all =
+    subst (λ (l : Layout Viewport). ShowThese n l.windows) (sym is)
+    (show_as_tall n (shared (rows - 1) (heights (staying rows old.windows))) (staying rows old.windows) (show_take n ((rows - 1) / 2) old.windows all))
+
+pub show_at : (n i : ℕ) (x : Viewport) (ws : List (Window Viewport)) → x.buffer < n → ShowThese n ws → ShowThese n (shows_at i x ws)
+show_at n i x [] here all = tt
+show_at n zero x (w ∷ ws) here all = (here, all.1)
+show_at n (suc i) x (w ∷ ws) here all = (all.0, show_at n i x ws here all.1)
+
+pub show_map : (n m : ℕ) (f : Window Viewport → Window Viewport) (ws : List (Window Viewport)) → ((w : Window Viewport) → w.shown.buffer < n → (f w).shown.buffer < m) → ShowThese n ws → ShowThese m (map f ws)
+show_map n m f [] step all = tt
+show_map n m f (w ∷ ws) step all = (step w all.0, show_map n m f ws step all.1)
+
+pub show_more : (n m : ℕ) (ws : List (Window Viewport)) → n ≤ m → ShowThese n ws → ShowThese m ws
+show_more n m [] more all = tt
+show_more n m (w ∷ ws) more all = (omega (arith, more, all.0), show_more n m ws more all.1)
+
+-- ---- the current window
+
+pub turned_shows : (ws : List (Window Viewport)) (i : ℕ) (x d : Viewport) → i < length ws → get_or (all_shown (shows_at i x ws)) i d ≡ x
+turned_shows [] i x d inside = absurd (omega (arith, inside))
+turned_shows (w ∷ ws) zero x d inside = refl
+turned_shows (w ∷ ws) (suc i) x d inside = turned_shows ws i x d (omega (arith, inside))
+
+pub turned_current : (l : Layout Viewport) (i : ℕ) (x : Viewport) → i ≡ l.current → i < length l.windows → (current_viewport (shown_layout i x l)).buffer ≡ x.buffer
+turned_current l i x is inside =
+    ap (λ k. (get_or (all_shown (shows_at i x l.windows)) k (viewport 0 0)).buffer) (sym is) ∙ ap (λ (y : Viewport). y.buffer) (turned_shows l.windows i x (viewport 0 0) inside)
+
+-- what keeps the buffer of each window keeps that of the current one
+pub mapped_shows : (f : Window Viewport → Window Viewport) (ws : List (Window Viewport)) (i : ℕ) (d : Viewport) → ((w : Window Viewport) → (f w).shown.buffer ≡ w.shown.buffer)
+    → (get_or (all_shown (map f ws)) i d).buffer ≡ (get_or (all_shown ws) i d).buffer
+mapped_shows f [] i d same = refl
+mapped_shows f (w ∷ ws) zero d same = same w
+mapped_shows f (w ∷ ws) (suc i) d same = mapped_shows f ws i d same
+
+moved_first : (gone : ℕ) → moved gone 0 ≡ 0
+moved_first gone =
+    cond_both (nat_eq 0 gone) 0 (if nat_lt gone 0 then 0 - 1 else 0) (λ x. x ≡ 0) (λ _. refl)
+    (λ _. cond_both (nat_lt gone 0) (0 - 1) 0 (λ x. x ≡ 0) (λ _. refl) (λ _. refl))
+
+pub without_shows : (gone : ℕ) (ws : List (Window Viewport)) (i : ℕ) → (get_or (all_shown (map (window_without gone) ws)) i (viewport 0 0)).buffer ≡ moved gone (get_or (all_shown ws) i (viewport 0 0)).buffer
+without_shows gone [] i = sym (moved_first gone)
+without_shows gone (w ∷ ws) zero = refl
+without_shows gone (w ∷ ws) (suc i) = without_shows gone ws i
+
+-- ---- where buffers stand once one is removed
+
+pub moved_within : (gone n i : ℕ) → gone < n → i < n → 1 < n → moved gone i < n - 1
+moved_within gone n i inside here others =
+    cond_both (nat_eq i gone) 0 (if nat_lt gone i then i - 1 else i) (λ x. x < n - 1) (λ _. omega (arith, others))
+    (λ other. cond_both (nat_lt gone i) (i - 1) i (λ x. x < n - 1) (λ later. omega (arith, ltb-true gone i later, here))
+    (λ earlier. by_order (ltb-false gone i earlier) (eqb-false i gone other)))
+  where
+    by_order : i ≤ gone → (i ≡ gone → ⊥) → i < n - 1
+    by_order up other = omega (arith, up, other, inside)
+
+-- ---- windows that follow what was done
+
+-- the window at an index, once a buffer is removed
+pub left_at : (gone : ℕ) (ws : List (Window Viewport)) (i : ℕ) (s x : Viewport) → slice_get (all_shown ws) i ≡ Some s → x ≡ viewport (moved gone s.buffer) s.first
+    → shows_at i x ws ≡ mapped_at (window_without gone) i ws
+left_at gone [] i s x at is = refl
+left_at gone (w ∷ ws) zero s x at is =
+    ap (λ y. window w.height y ∷ ws) (is ∙ ap (λ t. viewport (moved gone t.buffer) t.first) (sym (same_Some w.shown s at)))
+left_at gone (w ∷ ws) (suc i) s x at is = ap (λ us. w ∷ us) (left_at gone ws i s x at is)
+
+-- ---- the windows of a workspace show its buffers
+
+pub gone_shown : (bs : Buffers) (l new : Layout Viewport) (i : ℕ) → AreShown bs l → i < length bs.all → new ≡ turned i l → (current_viewport new).buffer ≡ i → AreShown (record bs { current = i }) new
+gone_shown bs l new i shown inside is here = record {
+  few = shown.few;
+  each = subst (λ (v : Layout Viewport). ShowThese (length bs.all) v.windows) (sym is) (show_at (length bs.all) l.current (viewport i (current_viewport l).first) l.windows inside shown.each);
+  current = here;
+}
+
+pub opened_shown : (bs : Buffers) (l new : Layout Viewport) (b : OpenState) → AreShown bs l → length bs.all < MAX_BUFFERS → new ≡ turned (length bs.all) l → (current_viewport new).buffer ≡ length bs.all
+    → AreShown (with_buffer b bs) new
+opened_shown bs l new b shown room is here =
+    let more : length (bs.all ++ b ∷ []) ≡ length bs.all + 1 = length_push bs.all b in
+    record {
+      few = omega (arith, more, room);
+      each = subst (λ (v : Layout Viewport). ShowThese (length (bs.all ++ b ∷ [])) v.windows) (sym is)
+          (show_at (length (bs.all ++ b ∷ [])) l.current (viewport (length bs.all) (current_viewport l).first) l.windows (omega (arith, more))
+          (show_more (length bs.all) (length (bs.all ++ b ∷ [])) l.windows (omega (arith, more)) shown.each));
+      current = here;
+    }
+
+pub removed_shown : (bs : Buffers) (l : Layout Viewport) (gone : ℕ) → AreShown bs l → gone < length bs.all → 1 < length bs.all → AreShown (without_buffer gone bs) (layout_without gone l)
+removed_shown bs l gone shown inside others =
+    let n = length bs.all in
+    let less : length (remove bs.all gone) + 1 ≡ n = length-remove bs.all gone inside in
+    let m : length (remove bs.all gone) ≡ n - 1 = omega (arith, less) in
+    record {
+      few = omega (arith, less, shown.few);
+      each = show_map n (length (remove bs.all gone)) (window_without gone) l.windows (λ w here. subst (λ k. moved gone w.shown.buffer < k) (sym m) (moved_within gone n w.shown.buffer inside here others)) shown.each;
+      current = without_shows gone l.windows l.current ∙ ap (moved gone) shown.current;
+    }

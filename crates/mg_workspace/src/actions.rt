@@ -1,0 +1,60 @@
+//! Actions: what a step has the buffers and the windows do.
+ghost use Rattle.std.specs.Prelude.{◌≡◌, Err};
+ghost use Rattle.mg_workspace.specs.declared.fault.ActionFault.TheVariants.{Memory};
+ghost use Rattle.mg_workspace.specs.Actions as spec;
+ghost use Rattle.mg_workspace.specs.Workspaces.{HasList};
+
+use crate::fault::{ActionFault, of_buffer};
+use crate::workspace::Workspace;
+use mg_minibuffer::Action;
+use mg_plain::Command;
+use rga_store::TextStore;
+
+impl<S: TextStore> Workspace<S> {
+    /// Does an action. Want of memory changes nothing.
+    pub fn do_action(&mut self, action: &Action) -> Result<(), ActionFault>
+        requires { HasList self.old }
+        ensures done { spec.Done action.now self.old self.new result }
+        ensures kept { result ≡ Err Memory → spec.Keeps self.old self.new }
+    {
+        match action {
+            Action::Nothing => Ok(()),
+            Action::EndRun => {
+                self.idle();
+                Ok(())
+            }
+            Action::Run(command, argument) => self.run(command, *argument),
+            Action::Undo => self.undo(),
+            Action::Arrange(arrangement) => self.arrange(*arrangement),
+            Action::Switch(name) => self.switch(name.as_slice()),
+            Action::Kill(name) => self.kill(name.as_slice()),
+        }
+    }
+
+    /// The current buffer runs a command.
+    pub fn run(&mut self, command: &Command, argument: u16) -> Result<(), ActionFault>
+        ensures ran { spec.Ran command.now argument self.old self.new result }
+        ensures kept { result ≡ Err Memory → spec.Keeps self.old self.new }
+    {
+        let answer = self
+            .buffers
+            .run(command, argument, &mut self.memo, self.fill);
+        of_buffer(answer)
+    }
+
+    /// The current buffer undoes.
+    fn undo(&mut self) -> Result<(), ActionFault>
+        ensures undid { spec.Undid self.old self.new result }
+        ensures kept { result ≡ Err Memory → spec.Keeps self.old self.new }
+    {
+        let answer = self.buffers.undo(&mut self.memo);
+        of_buffer(answer)
+    }
+
+    /// A run of commands ends.
+    fn idle(&mut self)
+        ensures { spec.Idled self.old self.new }
+    {
+        self.buffers.idle(&mut self.memo);
+    }
+}

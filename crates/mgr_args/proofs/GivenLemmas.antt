@@ -1,0 +1,96 @@
+-- What clap's rows give.
+use Rattle.std.proofs.Common.{◌≡◌, ◌∙◌, ◌<◌, ◌≤◌, ◌^◌, ℕ, ap, refl, sym, subst, List, Bool, Option, Some, None, codes, false, true, length}
+use Rattle.std.specs.Option.{ForSome}
+use Rattle.std.specs.Str.Parse.{IsNumeral, ParsesUnsigned, digits_value, without_leading_plus}
+use Rattle.std.specs.Prelude.{◌↔◌, Result, Ok, Err, IsSome, IfSome}
+use Rattle.clap.specs.Matches.{ReadsOne, one_text}
+use Rattle.clap.specs.Walk.{Row, first_of, one_of, rows_of}
+use Rattle.clap.specs.declared.parser.matches.Found.{Found}
+use Rattle.clap.proofs.WalkLemmas.{one_text-rows}
+use Rattle.rga_store.specs.declared.text_store.TheConstants.{MAX_LIMIT}
+use Rattle.mg_screen.specs.declared.size.TheConstants.{MIN_ROWS, MAX_ROWS, MIN_COLUMNS, MAX_COLUMNS}
+use Rattle.mg_settings.specs.declared.settings.TheConstants.{MAX_FILL}
+use Rattle.mg_settings.specs.Settings.{Values, AreAllowed}
+use Rattle.mgr_args.specs.Edit.{GivesFlag, GivesNumber, GivesNumberIf, GivesSettings, GivesValues}
+
+-- two texts at one place are one
+pub same_some : {A : Type 0} (o : Option A) (a b : A) → o ≡ Some a → o ≡ Some b → a ≡ b
+same_some o a b at also = let same : Some a ≡ Some b = sym at ∙ also in cc
+
+-- a text is a number of 16 bits in decimal digits
+abbrev IsNumber : List ℕ → Type 0
+IsNumber text = IsNumeral 10 (without_leading_plus text) × (digits_value 10 (without_leading_plus text) < 2 ^ 16)
+
+-- what is read of the text under an id is what stands there
+pub number_read : {E : Type 0} (gives : List ℕ → Result ℕ E → Type 0) (f : Found) (id : List ℕ) (o : Option ℕ)
+    → ((t : List ℕ) (r : Result ℕ E) → gives t r → ParsesUnsigned 16 10 t r) → (one_text f id ≡ None → o ≡ None)
+    → ((t : List ℕ) → one_text f id ≡ Some t → ReadsOne gives t o) → GivesNumberIf (rows_of f) id o
+number_read gives f id o parses none reads = at (one_text f id) refl o none reads
+  where
+    at : (t : Option (List ℕ)) → one_text f id ≡ t → (p : Option ℕ) → (one_text f id ≡ None → p ≡ None)
+        → ((t : List ℕ) → one_text f id ≡ Some t → ReadsOne gives t p) → GivesNumberIf (rows_of f) id p
+    at None is None none reads = λ n g. absurd (let clash : None ≡ Some g.text = sym is ∙ one_text-rows f id ∙ g.at in cc)
+    at None is (Some n) none reads = absurd (let clash : Some n ≡ None = none is in cc)
+    at (Some t) is None none reads = λ n g.
+        let same : t ≡ g.text = same_some (one_of id (rows_of f)) t g.text (sym (one_text-rows f id) ∙ is) g.at in
+        let fits : digits_value 10 (without_leading_plus g.text) < 2 ^ 16 = subst (λ m. m < 2 ^ 16) (sym g.value) g.fits in
+        let failed = reads t is in
+        parses t (Err failed.0) failed.1 (subst IsNumber (sym same) (g.numeral, fits))
+    at (Some t) is (Some n) none reads =
+        let read = parses t (Ok n) (reads t is) in
+        record {
+          text = t;
+          at = sym (one_text-rows f id) ∙ is;
+          numeral = read.0.0;
+          value = sym read.1;
+          fits = subst (λ m. m < 2 ^ 16) (sym read.1) read.0.1;
+        }
+
+-- and so it is of a flag
+pub flag_read : (f : Found) (id : List ℕ) (is : Bool) → (one_text f id ≡ None → is ≡ false) → (one_text f id ≡ Some (codes "true") → is ≡ true)
+    → (one_text f id ≡ Some (codes "false") → is ≡ false) → GivesFlag (rows_of f) id is
+flag_read f id is none up down = record {
+  up = λ at. up (one_text-rows f id ∙ at);
+  down = λ at. down (one_text-rows f id ∙ at);
+  none = λ at. none (one_text-rows f id ∙ at);
+}
+
+-- one number stands under an id
+pub one_number : (rows : List Row) (id : List ℕ) (n m : ℕ) → GivesNumber rows id n → GivesNumber rows id m → n ≡ m
+one_number rows id n m g h =
+    let text : g.text ≡ h.text = same_some (one_of id rows) g.text h.text g.at h.at in
+    sym g.value ∙ ap (λ t. digits_value 10 (without_leading_plus t)) text ∙ h.value
+
+port_too : (rows : List Row) (id : List ℕ) (p q : Option ℕ) → GivesNumberIf rows id p → GivesNumberIf rows id q → ForSome p (λ n. 1 ≤ n) → ForSome q (λ n. 1 ≤ n)
+port_too rows id p None g h allowed = λ x is. absurd (let clash : None ≡ Some x = is in cc)
+port_too rows id None (Some m) g h allowed = absurd (g m h)
+port_too rows id (Some n) (Some m) g h allowed = λ x is.
+    subst (λ k. 1 ≤ k) (one_number rows id n m g h ∙ same_some (Some m) m x refl is) (allowed n refl)
+
+-- values of the same rows are allowed together
+pub allowed_too : (rows : List Row) (v w : Values) → GivesValues rows v → GivesValues rows w → AreAllowed v → AreAllowed w
+allowed_too rows v w g h a =
+    let name : v.name ≡ w.name = same_some (first_of _ rows) v.name w.name g.name h.name in
+    let replica : v.replica ≡ w.replica = one_number rows _ _ _ g.options.replica h.options.replica in
+    let lines : v.rows ≡ w.rows = one_number rows _ _ _ g.options.rows_of h.options.rows_of in
+    let columns : v.columns ≡ w.columns = one_number rows _ _ _ g.options.columns h.options.columns in
+    let fill : v.fill ≡ w.fill = one_number rows _ _ _ g.options.fill h.options.fill in
+    let limit : v.limit ≡ w.limit = g.options.limit ∙ sym h.options.limit in
+    record {
+      named = subst (λ n. 1 ≤ length n) name a.named;
+      replica = subst (λ n. 1 ≤ n) replica a.replica;
+      port = port_too rows _ v.port w.port g.options.port h.options.port a.port;
+      rows_from = subst (λ n. MIN_ROWS ≤ n) lines a.rows_from;
+      rows_to = subst (λ n. n ≤ MAX_ROWS) lines a.rows_to;
+      columns_from = subst (λ n. MIN_COLUMNS ≤ n) columns a.columns_from;
+      columns_to = subst (λ n. n ≤ MAX_COLUMNS) columns a.columns_to;
+      fill_from = subst (λ n. 1 ≤ n) fill a.fill_from;
+      fill_to = subst (λ n. n ≤ MAX_FILL) fill a.fill_to;
+      limit_from = subst (λ n. 1 ≤ n) limit a.limit_from;
+      limit_to = subst (λ n. n ≤ MAX_LIMIT) limit a.limit_to;
+    }
+
+-- settings of what was given are there where it is allowed
+pub settled : (rows : List Row) (v : Values) (o : Option Values) → GivesValues rows v → IsSome o ↔ AreAllowed v → IfSome o (λ s. s ≡ v) → GivesSettings rows o
+settled rows v None given exact same = λ w also allowed. absurd (let there = exact.1 (allowed_too rows w v also given allowed) in cc)
+settled rows v (Some s) given exact same = subst (GivesValues rows) (sym same) given

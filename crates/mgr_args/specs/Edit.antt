@@ -1,0 +1,97 @@
+-- What `edit` takes, as clap is told of it, and what it was given.
+use Rattle.std.specs.Prelude.{◌≡◌, ◌<◌, ◌^◌, ℕ, Bool, true, false, List, [], ◌∷◌, ◌++◌, codes, Option, Some, None}
+use Rattle.std.specs.Str.Parse.{IsNumeral, digits_value, without_leading_plus}
+use Rattle.clap.specs.Simple.{App, new_app, new_rule}
+use Rattle.clap.specs.Walk.{Row, Rule, first_of, one_of}
+use Rattle.clap.specs.declared.builder.action.ArgAction.TheVariants.{Set}
+use Rattle.clap.specs.declared.builder.value_parser.ValueParser.TheVariants as parser
+use Rattle.rga_store.specs.declared.text_store.TheConstants.{MAX_LIMIT}
+use Rattle.mg_settings.specs.Settings.{Values, AreAllowed}
+use Rattle.mgr_args.specs.Rules.{flag, name_rule, with_rules}
+
+-- ---- what it takes
+
+-- a number behind `--id`, within limits
+abbrev pub number : List ℕ → ℕ → ℕ → Rule
+number id least most = record (new_rule id) { long = Some id; action = Some Set; value_names = 1; parser = Some (parser.Unsigned least most) }
+
+abbrev pub with_default : List ℕ → Rule → Rule
+with_default value rule = record rule { defaults = value ∷ [] }
+
+abbrev pub replica_rule : Rule
+replica_rule = record (number (codes "replica") 1 65535) { required = true }
+
+abbrev pub port_rule : Rule
+port_rule = number (codes "port") 1 65535
+
+-- the sizes of the screen, the fill column and the port
+abbrev pub number_rules : List Rule
+number_rules =
+    with_default (codes "24") (number (codes "rows") 3 200)
+    ∷ with_default (codes "80") (number (codes "cols") 20 500)
+    ∷ with_default (codes "70") (number (codes "fill") 1 9999)
+    ∷ port_rule ∷ []
+
+-- what frames there are
+abbrev pub trace_rules : List Rule
+trace_rules = flag (codes "trace") ∷ flag (codes "newest") ∷ []
+
+-- what stands in them, and in the log
+abbrev pub content_rules : List Rule
+content_rules = flag (codes "cursor") ∷ flag (codes "resizable") ∷ flag (codes "runs") ∷ []
+
+abbrev pub edit_rules : List Rule
+edit_rules = name_rule ∷ replica_rule ∷ number_rules ++ trace_rules ++ content_rules
+
+abbrev pub edit_app : App
+edit_app = with_rules (new_app (codes "edit")) edit_rules
+
+-- ---- what it was given, by the rows of what clap found
+
+-- a number of 16 bits stands under that id, in decimal digits
+pub record GivesNumber (rows : List Row) (id : List ℕ) (n : ℕ) : Type 0 where
+  pub text : List ℕ
+  pub at : one_of id rows ≡ Some text
+  pub numeral : IsNumeral 10 (without_leading_plus text)
+  pub value : digits_value 10 (without_leading_plus text) ≡ n
+  pub fits : n < 2 ^ 16
+
+abbrev pub GivesNumberIf : List Row → List ℕ → Option ℕ → Type 0
+GivesNumberIf rows id None = (n : ℕ) → GivesNumber rows id n → ⊥
+GivesNumberIf rows id (Some n) = GivesNumber rows id n
+
+-- the four that have to stand there
+pub record GivesNumbers (rows : List Row) (n : ℕ × ℕ × ℕ × ℕ) : Type 0 where
+  pub replica : GivesNumber rows (codes "replica") n.0
+  pub rows_of : GivesNumber rows (codes "rows") n.1
+  pub columns : GivesNumber rows (codes "cols") n.2
+  pub fill : GivesNumber rows (codes "fill") n.3
+
+-- whether a flag stands there
+pub record GivesFlag (rows : List Row) (id : List ℕ) (is : Bool) : Type 0 where
+  pub up : one_of id rows ≡ Some (codes "true") → is ≡ true
+  pub down : one_of id rows ≡ Some (codes "false") → is ≡ false
+  pub none : one_of id rows ≡ None → is ≡ false
+
+-- what stands there beside the name
+pub record GivesOptions (rows : List Row) (v : Values) : Type 0 where
+  pub replica : GivesNumber rows (codes "replica") v.replica
+  pub rows_of : GivesNumber rows (codes "rows") v.rows
+  pub columns : GivesNumber rows (codes "cols") v.columns
+  pub fill : GivesNumber rows (codes "fill") v.fill
+  pub port : GivesNumberIf rows (codes "port") v.port
+  pub trace : GivesFlag rows (codes "trace") v.trace
+  pub newest : GivesFlag rows (codes "newest") v.newest
+  pub cursor : GivesFlag rows (codes "cursor") v.cursor
+  pub resizable : GivesFlag rows (codes "resizable") v.resizable
+  pub runs : GivesFlag rows (codes "runs") v.runs
+  pub limit : v.limit ≡ MAX_LIMIT
+
+pub record GivesValues (rows : List Row) (v : Values) : Type 0 where
+  pub name : first_of (codes "name") rows ≡ Some v.name
+  pub options : GivesOptions rows v
+
+-- those values, or none that are allowed
+abbrev pub GivesSettings : List Row → Option Values → Type 0
+GivesSettings rows None = (v : Values) → GivesValues rows v → AreAllowed v → ⊥
+GivesSettings rows (Some v) = GivesValues rows v

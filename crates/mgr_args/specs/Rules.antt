@@ -1,0 +1,56 @@
+-- What clap is told of a command and its arguments.
+use Rattle.std.specs.Prelude.{◌≡◌, ℕ, Bool, true, false, List, [], ◌∷◌, ◌++◌, codes, map, Some}
+use Rattle.clap.specs.Simple.{App, app_of, new_rule, with_rule, with_subcommand}
+use Rattle.clap.specs.Walk.{Rule, rule_of}
+use Rattle.clap.specs.declared.builder.action.ArgAction.TheVariants.{Set, SetTrue}
+use Rattle.clap.specs.declared.builder.arg.Arg.{Arg}
+use Rattle.clap.specs.declared.builder.command.Command.{Command}
+use Rattle.clap.specs.declared.builder.command.Command.TheViews.{out-Command as fields_of}
+
+-- a flag `--id`, which takes no value
+abbrev pub flag : List ℕ → Rule
+flag id = record (new_rule id) { long = Some id; action = Some SetTrue }
+
+-- the name of a buffer
+abbrev pub name_rule : Rule
+name_rule = record (new_rule (codes "name")) { action = Some Set; value_names = 1; required = true }
+
+-- with an argument more for each of these rules
+abbrev pub with_rules : App → List Rule → App
+with_rules app [] = app
+with_rules app (rule ∷ rules) = with_rules (with_rule app rule) rules
+
+-- the rules of arguments, and whether they hold for subcommands too
+abbrev pub told : List Arg → List (Rule × Bool)
+told args = map (λ a. (rule_of a, a.global)) args
+
+-- rules that hold for one command alone
+abbrev pub local : List Rule → List (Rule × Bool)
+local rules = map (λ r. (r, false)) rules
+
+abbrev pub IsToldOf : List Arg → List Rule → Type 0
+IsToldOf args rules = told args ≡ local rules
+
+-- `new` is `old` with arguments of these rules behind
+pub record Adds (old new : List Arg) (rules : List Rule) : Type 0 where
+  pub told : told new ≡ told old ++ local rules
+
+-- that command, and nothing of it holds for subcommands
+abbrev pub IsPlain : App → Command → Type 0
+IsPlain app c = (app_of c ≡ app) × ((fields_of c).has_globals ≡ false)
+
+-- with a job more for each of these
+abbrev pub with_jobs : App → List App → App
+with_jobs app [] = app
+with_jobs app (job ∷ jobs) = with_jobs (with_subcommand app job.top) jobs
+
+-- what commands are, and whether anything of them holds for subcommands
+abbrev pub sketched : List Command → List (App × Bool)
+sketched commands = map (λ c. (app_of c, (fields_of c).has_globals)) commands
+
+abbrev pub AreJobs : List Command → List App → Type 0
+AreJobs commands jobs = sketched commands ≡ map (λ job. (job, false)) jobs
+
+-- `new` is `old` with such a job behind
+pub record AddsJob (old new : List Command) (job : App) : Type 0 where
+  pub sketched : sketched new ≡ sketched old ++ (job, false) ∷ []

@@ -1,0 +1,80 @@
+//! The command line as clap is told of it.
+ghost use Rattle.std.specs.Prelude.{◌≡◌, codes, IfOk, OnOk};
+ghost use Rattle.clap.specs.Simple.{app_of, new_app};
+ghost use Rattle.mgr_args.specs.CommandLine.{command_line, job_apps, program_alone};
+ghost use Rattle.mgr_args.specs.Compact.{compact_app};
+ghost use Rattle.mgr_args.specs.Edit.{edit_app};
+ghost use Rattle.mgr_args.specs.Rules.{AddsJob, AreJobs};
+
+use crate::compact::compact;
+use crate::edit::edit;
+use crate::part::{described, push};
+use clap::Command;
+use std::alloc::{AllocError, Global};
+
+/// The version of the package.
+pub const VERSION: &str = "0.1.0";
+
+const MGR_HELP: &str =
+    "`mgr help show`, `mgr help edit` and `mgr help compact` are the help of its jobs.";
+
+const SHOW_HELP: &str = "Operation lines come on standard input, from one log or from several:
+
+    mgr show < FILE
+    cat FILE FILE | mgr show";
+
+/// The program without its jobs.
+fn program<'a>(alloc: Global) -> Command<'a>
+    ensures { app_of result ≡ program_alone }
+{
+    let about = "An editor whose buffers are replicas of one text";
+    described(alloc, "mgr", about, MGR_HELP)
+        .version(VERSION)
+        .subcommand_required(true)
+        .disable_help_subcommand(true)
+}
+
+/// `show`, with the words of its help.
+fn add_show<'a>(alloc: Global, jobs: &mut Vec<Command<'a>>) -> Result<(), AllocError>
+    ensures { OnOk result (AddsJob jobs.old.items jobs.new.items (new_app (codes "show"))) }
+{
+    let about = "Read operation lines and write the text that they make";
+    push(jobs, described(alloc, "show", about, SHOW_HELP))
+}
+
+fn add_edit<'a>(alloc: Global, jobs: &mut Vec<Command<'a>>) -> Result<(), AllocError>
+    ensures { OnOk result (AddsJob jobs.old.items jobs.new.items edit_app) }
+{
+    match edit(alloc) {
+        Ok(edit) => push(jobs, edit),
+        Err(error) => Err(error),
+    }
+}
+
+fn add_compact<'a>(alloc: Global, jobs: &mut Vec<Command<'a>>) -> Result<(), AllocError>
+    ensures { OnOk result (AddsJob jobs.old.items jobs.new.items compact_app) }
+{
+    match compact(alloc) {
+        Ok(compact) => push(jobs, compact),
+        Err(error) => Err(error),
+    }
+}
+
+/// The jobs of the program.
+fn jobs<'a>(alloc: Global) -> Result<Vec<Command<'a>>, AllocError>
+    ensures { IfOk result (λ jobs. AreJobs jobs.items job_apps) }
+{
+    let mut jobs = Vec::new(alloc);
+    add_show(alloc, &mut jobs)?;
+    add_edit(alloc, &mut jobs)?;
+    add_compact(alloc, &mut jobs)?;
+    Ok(jobs)
+}
+
+/// The program, whose jobs are `show`, `edit` and `compact`.
+pub(crate) fn command<'a>(alloc: Global) -> Result<Command<'a>, AllocError>
+    ensures { IfOk result (λ c. app_of c ≡ command_line) }
+{
+    let jobs = jobs(alloc)?;
+    program(alloc).subcommands(jobs)
+}

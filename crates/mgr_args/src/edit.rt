@@ -1,0 +1,120 @@
+//! The subcommand `edit`: what it takes, as clap is told of it.
+ghost use Rattle.std.specs.Prelude.{◌≡◌, ◌∷◌, [], false, IfOk, OnOk};
+ghost use Rattle.clap.specs.Simple.{app_of};
+ghost use Rattle.clap.specs.Walk.{rule_of};
+ghost use Rattle.clap.specs.declared.builder.command.Command.TheViews.{out-Command as fields_of};
+ghost use Rattle.mgr_args.specs.Edit as spec;
+ghost use Rattle.mgr_args.specs.Rules.{Adds, IsToldOf};
+
+use crate::part::{add_flag, add_name, described, push};
+use clap::builder::ValueParser;
+use clap::{Arg, ArgAction, Command};
+use std::alloc::{AllocError, Global};
+
+const EDIT_HELP: &str =
+    "Keys come on standard input, and the frame behind the last of them goes to standard output.
+The log is NAME.ops, and the text NAME. C-x C-s saves, C-x C-c ends:
+
+    printf 'hello\\030\\023' | mgr edit notes --replica 1
+
+`mgr-live` shows it on a terminal.";
+
+/// A number behind `--id`, within limits.
+fn number<'a>(alloc: Global, id: &'a str, least: u64, most: u64) -> Arg<'a>
+    ensures rule { rule_of result ≡ spec.number id.entry.now least most }
+    ensures local { result.global ≡ false }
+{
+    Arg::new(alloc, id)
+        .long(id)
+        .action(ArgAction::Set)
+        .value_name("N")
+        .value_parser(ValueParser::unsigned(least, most))
+}
+
+/// A number that is `value` where none is given, with the words of its help.
+fn add_number<'a>(
+    alloc: Global,
+    args: &mut Vec<Arg<'a>>,
+    id: &'a str,
+    least: u64,
+    most: u64,
+    value: &'a str,
+    help: &'a str,
+) -> Result<(), AllocError>
+    ensures { OnOk result (Adds args.old.items args.new.items
+        (spec.with_default value.entry.now (spec.number id.entry.now least most) ∷ [])) }
+{
+    let number = number(alloc, id, least, most);
+    push(args, number.default_value(value).help(help))
+}
+
+/// The number of the replica, which has to be given.
+fn add_replica<'a>(alloc: Global, args: &mut Vec<Arg<'a>>) -> Result<(), AllocError>
+    ensures { OnOk result (Adds args.old.items args.new.items (spec.replica_rule ∷ [])) }
+{
+    let replica = number(alloc, "replica", 1, 65535);
+    let help = "The number of this copy, which no other copy of the text has";
+    push(args, replica.required(true).help(help))
+}
+
+/// The port, which may be left out.
+fn add_port<'a>(alloc: Global, args: &mut Vec<Arg<'a>>) -> Result<(), AllocError>
+    ensures { OnOk result (Adds args.old.items args.new.items (spec.port_rule ∷ [])) }
+{
+    let port = number(alloc, "port", 1, 65535);
+    push(args, port.help("The port of exchanges"))
+}
+
+/// The sizes of the screen, the fill column and the port.
+fn add_numbers<'a>(alloc: Global, args: &mut Vec<Arg<'a>>) -> Result<(), AllocError>
+    ensures { OnOk result (Adds args.old.items args.new.items spec.number_rules) }
+{
+    add_number(alloc, args, "rows", 3, 200, "24", "The rows of the screen")?;
+    add_number(alloc, args, "cols", 20, 500, "80", "Its columns")?;
+    add_number(alloc, args, "fill", 1, 9999, "70", "The fill column")?;
+    add_port(alloc, args)
+}
+
+/// What frames there are.
+fn add_trace<'a>(alloc: Global, args: &mut Vec<Arg<'a>>) -> Result<(), AllocError>
+    ensures { OnOk result (Adds args.old.items args.new.items spec.trace_rules) }
+{
+    let newest = "With --trace, write one behind all keys that are at hand";
+    add_flag(alloc, args, "trace", "Write a frame behind each step")?;
+    add_flag(alloc, args, "newest", newest)
+}
+
+/// What stands in them, and in the log.
+fn add_contents<'a>(alloc: Global, args: &mut Vec<Arg<'a>>) -> Result<(), AllocError>
+    ensures { OnOk result (Adds args.old.items args.new.items spec.content_rules) }
+{
+    let cursor = "Write the cursor's row and column behind each frame";
+    let resizable = "Take reports of the screen's size among the keys";
+    let runs = "Append more than 32 operations to the log in runs";
+    add_flag(alloc, args, "cursor", cursor)?;
+    add_flag(alloc, args, "resizable", resizable)?;
+    add_flag(alloc, args, "runs", runs)
+}
+
+/// The arguments of `edit`.
+fn edit_args<'a>(alloc: Global) -> Result<Vec<Arg<'a>>, AllocError>
+    ensures { IfOk result (λ args. IsToldOf args.items spec.edit_rules) }
+{
+    let mut args = Vec::new(alloc);
+    add_name(alloc, &mut args)?;
+    add_replica(alloc, &mut args)?;
+    add_numbers(alloc, &mut args)?;
+    add_trace(alloc, &mut args)?;
+    add_contents(alloc, &mut args)?;
+    Ok(args)
+}
+
+/// `edit`, with the words of its help.
+pub(crate) fn edit<'a>(alloc: Global) -> Result<Command<'a>, AllocError>
+    ensures app { IfOk result (λ c. app_of c ≡ spec.edit_app) }
+    ensures plain { IfOk result (λ c. (fields_of c).has_globals ≡ false) }
+{
+    let args = edit_args(alloc)?;
+    let about = "Take keys and write frames: edit a text and its log";
+    described(alloc, "edit", about, EDIT_HELP).args(args)
+}

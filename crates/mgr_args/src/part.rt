@@ -1,0 +1,57 @@
+//! Commands and arguments, as clap is told of them.
+ghost use Rattle.std.specs.Prelude.{◌≡◌, ◌∷◌, [], ◌++◌, false, OnOk};
+ghost use Rattle.clap.specs.Simple.{app_of, new_app};
+ghost use Rattle.clap.specs.declared.builder.command.Command.TheViews.{out-Command as fields_of};
+ghost use Rattle.mgr_args.specs.Rules as spec;
+
+use clap::{Arg, ArgAction, Command};
+use std::alloc::{AllocError, Global};
+
+/// A command with the words of its help: what it does, and more behind its arguments.
+pub(crate) fn described<'a>(
+    alloc: Global,
+    name: &'a str,
+    about: &'a str,
+    more: &'a str,
+) -> Command<'a>
+    ensures app { app_of result ≡ new_app name.entry.now }
+    ensures plain { (fields_of result).has_globals ≡ false }
+{
+    Command::new(alloc, name).about(about).after_help(more)
+}
+
+/// One more in a list.
+pub(crate) fn push<T: Drop>(list: &mut Vec<T>, more: T) -> Result<(), AllocError>
+    ensures { OnOk result (list.new.items ≡ list.old.items ++ more ∷ []) }
+{
+    list.push(more)?;
+    Ok(())
+}
+
+/// The name of a buffer.
+pub(crate) fn add_name<'a>(alloc: Global, args: &mut Vec<Arg<'a>>) -> Result<(), AllocError>
+    ensures { OnOk result (spec.Adds args.old.items args.new.items (spec.name_rule ∷ [])) }
+{
+    let name = Arg::new(alloc, "name")
+        .action(ArgAction::Set)
+        .value_name("NAME")
+        .required(true)
+        .help("The buffer, and the file of its text");
+    push(args, name)
+}
+
+/// A flag `--id`, with the words of its help.
+pub(crate) fn add_flag<'a>(
+    alloc: Global,
+    args: &mut Vec<Arg<'a>>,
+    id: &'a str,
+    help: &'a str,
+) -> Result<(), AllocError>
+    ensures { OnOk result (spec.Adds args.old.items args.new.items (spec.flag id.entry.now ∷ [])) }
+{
+    let flag = Arg::new(alloc, id)
+        .long(id)
+        .action(ArgAction::SetTrue)
+        .help(help);
+    push(args, flag)
+}

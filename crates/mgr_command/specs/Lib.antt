@@ -1,4 +1,0 @@
-pub mod Edit
-pub mod Compact
-pub mod CommandLine
-pub mod Job

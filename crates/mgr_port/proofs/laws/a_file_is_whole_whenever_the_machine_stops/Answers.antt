@@ -1,0 +1,8 @@
+use Rattle.mgr_port.proofs.DiskLaws.{one_of_them, the_new_one, kept_before}
+use Rattle.mgr_port.proofs.laws.a_file_is_whole_whenever_the_machine_stops.Goals as goal
+
+pub returns-clause-whole : goal.returns-clause-whole
+returns-clause-whole c old found p keeps bytes made u begins = one_of_them old found bytes p keeps made u begins
+
+pub returns-clause-kept : goal.returns-clause-kept
+returns-clause-kept c p bytes made u begins = kept_before p bytes made u begins

@@ -1,0 +1,120 @@
+-- What the shell is told of a fault.
+use Rattle.std.specs.Prelude.{ℕ, List, ◌++◌, Result, Ok, Err, codes}
+use Rattle.std.specs.Fmt.{decimal}
+use Rattle.rga_lines.specs.FaultName.{fault_name}
+use Rattle.rga_lines.specs.declared.fault.LineFault.{LineFault}
+use Rattle.rga_lines.specs.declared.fault.LineFault.TheVariants as line
+use Rattle.rga_ops.specs.RefusalName.{refusal_name}
+use Rattle.rga_ops.specs.declared.refusal.Refusal.{Refusal}
+use Rattle.rga_ops.specs.declared.refusal.Refusal.TheVariants as refusal
+use Rattle.rga_exchange.specs.declared.fault.ReceiveFault.{ReceiveFault}
+use Rattle.rga_exchange.specs.declared.fault.ReceiveFault.TheVariants as receive
+use Rattle.mg_files.specs.declared.fault.LoadFault.{LoadFault}
+use Rattle.mg_files.specs.declared.fault.LoadFault.TheVariants as load
+use Rattle.mg_session.specs.declared.fault.SessionFault.{SessionFault}
+use Rattle.mg_session.specs.declared.fault.SessionFault.TheVariants as session
+use Rattle.mgr_show.specs.declared.fault.ShowFault.{ShowFault}
+use Rattle.mgr_show.specs.declared.fault.ShowFault.TheVariants as show
+use Rattle.mgr_run.specs.declared.report.Message.{Message}
+use Rattle.mgr_run.specs.declared.report.Message.TheVariants as message
+
+-- ---- the exit status: 1 where the input is refused, 3 where a device fails, 4 where memory is wanting
+
+abbrev pub line_status : LineFault → ℕ
+line_status line.Memory = 4
+line_status fault = 1
+
+abbrev pub refusal_status : Refusal → ℕ
+refusal_status refusal.Memory = 4
+refusal_status refusal = 1
+
+abbrev pub log_status : ReceiveFault → ℕ
+log_status (receive.Line number fault) = line_status fault
+log_status (receive.Refused number refusal) = refusal_status refusal
+log_status receive.Cut = 1
+log_status receive.Count = 1
+log_status receive.Read = 3
+log_status receive.Memory = 4
+
+abbrev pub load_status : LoadFault → ℕ
+load_status (load.Log fault) = log_status fault
+load_status load.NotText = 1
+load_status (load.Store refusal) = refusal_status refusal
+load_status load.Memory = 4
+
+abbrev pub show_status : ShowFault → ℕ
+show_status (show.Line number fault) = line_status fault
+show_status (show.Refused number refusal) = refusal_status refusal
+show_status (show.Torn number) = 1
+show_status show.Read = 3
+show_status show.Write = 3
+show_status show.Memory = 4
+
+abbrev pub session_status : SessionFault → ℕ
+session_status (session.Load fault) = load_status fault
+session_status session.File = 3
+session_status session.Keys = 3
+session_status session.Screen = 3
+session_status session.Memory = 4
+
+-- those of answers: 0 where there is no fault
+abbrev pub shown_status : Result (Unit {0}) ShowFault → ℕ
+shown_status (Ok done) = 0
+shown_status (Err fault) = show_status fault
+
+abbrev pub edited_status : Result (Unit {0}) SessionFault → ℕ
+edited_status (Ok done) = 0
+edited_status (Err fault) = session_status fault
+
+-- ---- the line on standard error, without its newline
+
+abbrev pub line_text : ℕ → List ℕ → List ℕ
+line_text number name = codes "line " ++ (decimal number ++ (codes ": " ++ name))
+
+abbrev pub line_message : ℕ → LineFault → List ℕ
+line_message number line.Memory = codes "out of memory"
+line_message number fault = line_text number (fault_name fault)
+
+abbrev pub refused_message : ℕ → Refusal → List ℕ
+refused_message number refusal.Memory = codes "out of memory"
+refused_message number refusal = line_text number (refusal_name refusal)
+
+abbrev pub log_message : ReceiveFault → List ℕ
+log_message (receive.Line number fault) = line_message number fault
+log_message (receive.Refused number refusal) = refused_message number refusal
+log_message receive.Cut = codes "log: Cut"
+log_message receive.Count = codes "log: Count"
+log_message receive.Read = codes "device fault"
+log_message receive.Memory = codes "out of memory"
+
+abbrev pub store_message : Refusal → List ℕ
+store_message refusal.Memory = codes "out of memory"
+store_message refusal = codes "text: " ++ refusal_name refusal
+
+abbrev pub load_message : LoadFault → List ℕ
+load_message (load.Log fault) = log_message fault
+load_message load.NotText = codes "text: not UTF-8"
+load_message (load.Store refusal) = store_message refusal
+load_message load.Memory = codes "out of memory"
+
+abbrev pub show_message : ShowFault → List ℕ
+show_message (show.Line number fault) = line_message number fault
+show_message (show.Refused number refusal) = refused_message number refusal
+show_message (show.Torn number) = line_text number (codes "Torn")
+show_message show.Read = codes "device fault"
+show_message show.Write = codes "device fault"
+show_message show.Memory = codes "out of memory"
+
+abbrev pub session_message : SessionFault → List ℕ
+session_message (session.Load fault) = load_message fault
+session_message session.File = codes "device fault"
+session_message session.Keys = codes "device fault"
+session_message session.Screen = codes "device fault"
+session_message session.Memory = codes "out of memory"
+
+-- what a report says
+abbrev pub message_text : Message → List ℕ
+message_text (message.Line number name) = line_text number name.now
+message_text (message.File file name) = file.now ++ (codes ": " ++ name.now)
+message_text message.Device = codes "device fault"
+message_text message.Memory = codes "out of memory"

@@ -1,0 +1,28 @@
+-- What is told on standard error.
+use Rattle.std.specs.Prelude.{◌≡◌, List, [], ◌∷◌, ◌++◌, ℕ, Option, Some, Result, Ok, Err, IfSome}
+use Rattle.mgr_args.specs.declared.job.JobFault.{JobFault}
+use Rattle.mgr_show.specs.declared.fault.ShowFault.{ShowFault}
+use Rattle.mg_session.specs.declared.fault.SessionFault.{SessionFault}
+use Rattle.mgr_run.specs.Report.{show_message, session_message}
+
+-- a line, without its newline, or the text of a fault of the command line
+pub data Telling : Type 0 where
+  line : List ℕ → Telling
+  text : JobFault → Telling
+
+-- all of it, where that is known
+abbrev pub Told : Type 0
+Told = Option (List Telling)
+
+-- what is known grew by these
+abbrev pub Tells : Told → Told → List Telling → Type 0
+Tells old new more = IfSome old (λ known. new ≡ Some (known ++ more))
+
+-- what is told of an answer: the line of its fault, and nothing where there is none
+abbrev pub shown_telling : Result (Unit {0}) ShowFault → List Telling
+shown_telling (Ok done) = []
+shown_telling (Err fault) = line (show_message fault) ∷ []
+
+abbrev pub edited_telling : Result (Unit {0}) SessionFault → List Telling
+edited_telling (Ok done) = []
+edited_telling (Err fault) = line (session_message fault) ∷ []

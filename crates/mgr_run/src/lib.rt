@@ -1,0 +1,18 @@
+//! What the program does for the shell: the job of the command line, by standard input and output.
+//!
+//! What the words of the command line ask for belongs to mgr_args, what is read and written in
+//! between to mgr_show and mg_session, and files to mgr_port. The shell may rest on the statuses
+//! (`do_job`): 0 for `show` says that the text was written, each other answer of `show_ops` and of
+//! `run_keys` has the status of its fault, and help or the version that was not printed is never
+//! told as done; and on what is told of a fault (`Tell`): the line of its `Report` and nothing else.
+//! `run` does that for standard input, output and error and for files, which have no name in a
+//! clause.
+#![tactic(auto)]
+
+mod report;
+mod shell;
+mod tell;
+
+pub use report::{Message, Report};
+pub use shell::{do_job, run};
+pub use tell::Tell;

@@ -1,0 +1,157 @@
+//! What a fault means to the shell.
+ghost use Rattle.std.specs.Prelude.{◌≡◌, Some};
+ghost use Rattle.mgr_run.specs.Report as spec;
+
+use mg_files::LoadFault;
+use mg_session::SessionFault;
+use mgr_show::ShowFault;
+use rga_exchange::ReceiveFault;
+use rga_lines::LineFault;
+use rga_ops::Refusal;
+use std::fmt;
+
+/// What the shell is told of a fault: the exit status and, by `Display`, the line on standard
+/// error without its newline.
+#[derive(Clone, Copy)]
+pub struct Report {
+    pub status: u8,
+    pub message: Message,
+}
+
+/// What is said of a fault.
+#[derive(Clone, Copy)]
+pub enum Message {
+    /// A line of the input, counted from 1, and the name of what is wrong with it.
+    Line(u64, &'static str),
+    /// The log or the text of a buffer, and the name of what is wrong with it.
+    File(&'static str, &'static str),
+    /// A device failed.
+    Device,
+    /// A growth of memory was refused.
+    Memory,
+}
+
+impl fmt::Display for Report {
+    ghost output = { λ report. Some (spec.message_text report.message) };
+
+    fn fmt<W: fmt::Write>(&self, f: &mut fmt::Formatter<W>) -> fmt::Result {
+        match self.message {
+            Message::Line(number, name) => write!(f, "line {number}: {name}"),
+            Message::File(file, name) => write!(f, "{file}: {name}"),
+            Message::Device => write!(f, "device fault"),
+            Message::Memory => write!(f, "out of memory"),
+        }
+    }
+}
+
+impl Report {
+    /// A device failed.
+    pub(crate) fn device() -> Report
+        ensures status { result.status ≡ 3 }
+        ensures message { result.message ≡ Message.Device }
+    {
+        Report {
+            status: 3,
+            message: Message::Device,
+        }
+    }
+
+    /// A growth of memory was refused.
+    pub(crate) fn memory() -> Report
+        ensures status { result.status ≡ 4 }
+        ensures message { result.message ≡ Message.Memory }
+    {
+        Report {
+            status: 4,
+            message: Message::Memory,
+        }
+    }
+
+    /// What the shell is told of a fault of `mgr show`, or of `mgr compact`. It takes no memory.
+    ///
+    /// Where the input is refused the status is 1, and the line has the number of the line and the
+    /// name of its fault or refusal, as `line 2: Conflict`, or `Torn`. Where a device failed it is
+    /// 3 and `device fault`, and where memory was wanting 4 and `out of memory`.
+    pub fn of_show(fault: &ShowFault) -> Report
+        ensures status { result.status ≡ spec.show_status fault.now }
+        ensures text { spec.message_text result.message ≡ spec.show_message fault.now }
+    {
+        match *fault {
+            ShowFault::Memory => Report::memory(),
+            ShowFault::Line(line, fault) => of_line(line, fault),
+            ShowFault::Refused(line, refusal) => of_refused(line, refusal),
+            ShowFault::Torn(line) => refused(Message::Line(line, "Torn")),
+            ShowFault::Read | ShowFault::Write => Report::device(),
+        }
+    }
+
+    /// What the shell is told of a fault of `mgr edit`. It takes no memory.
+    ///
+    /// Where nothing was loaded the status is 1: the line is that of a refused line of the log, as
+    /// of `mgr show`, or `text: not UTF-8`, or `text: Full` where the text has more characters than
+    /// a buffer. Devices and memory as for `mgr show`.
+    pub fn of_session(fault: &SessionFault) -> Report
+        ensures status { result.status ≡ spec.session_status fault.now }
+        ensures text { spec.message_text result.message ≡ spec.session_message fault.now }
+    {
+        match *fault {
+            SessionFault::Load(fault) => of_load(fault),
+            SessionFault::File | SessionFault::Keys | SessionFault::Screen => Report::device(),
+            SessionFault::Memory => Report::memory(),
+        }
+    }
+}
+
+/// The input is refused.
+fn refused(message: Message) -> Report
+    ensures status { result.status ≡ 1 }
+    ensures message { result.message ≡ message }
+{
+    Report { status: 1, message }
+}
+
+fn of_line(line: u64, fault: LineFault) -> Report
+    ensures status { result.status ≡ spec.line_status fault }
+    ensures text { spec.message_text result.message ≡ spec.line_message line fault }
+{
+    match fault {
+        LineFault::Memory => Report::memory(),
+        _ => refused(Message::Line(line, fault.name())),
+    }
+}
+
+fn of_refused(line: u64, refusal: Refusal) -> Report
+    ensures status { result.status ≡ spec.refusal_status refusal }
+    ensures text { spec.message_text result.message ≡ spec.refused_message line refusal }
+{
+    match refusal {
+        Refusal::Memory => Report::memory(),
+        _ => refused(Message::Line(line, refusal.name())),
+    }
+}
+
+fn of_load(fault: LoadFault) -> Report
+    ensures status { result.status ≡ spec.load_status fault }
+    ensures text { spec.message_text result.message ≡ spec.load_message fault }
+{
+    match fault {
+        LoadFault::Log(fault) => of_log(fault),
+        LoadFault::NotText => refused(Message::File("text", "not UTF-8")),
+        LoadFault::Store(Refusal::Memory) | LoadFault::Memory => Report::memory(),
+        LoadFault::Store(refusal) => refused(Message::File("text", refusal.name())),
+    }
+}
+
+fn of_log(fault: ReceiveFault) -> Report
+    ensures status { result.status ≡ spec.log_status fault }
+    ensures text { spec.message_text result.message ≡ spec.log_message fault }
+{
+    match fault {
+        ReceiveFault::Line(line, fault) => of_line(line, fault),
+        ReceiveFault::Refused(line, refusal) => of_refused(line, refusal),
+        ReceiveFault::Cut => refused(Message::File("log", "Cut")),
+        ReceiveFault::Count => refused(Message::File("log", "Count")),
+        ReceiveFault::Read => Report::device(),
+        ReceiveFault::Memory => Report::memory(),
+    }
+}

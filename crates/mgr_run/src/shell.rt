@@ -1,0 +1,185 @@
+//! The job of the command line, done, and what the shell is told of it.
+ghost use Rattle.std.specs.Prelude.{◌≡◌, ◌≤◌, [], ◌∷◌, IfErr, MatchResult};
+ghost use Rattle.mgr_run.specs.Report.{message_text};
+ghost use Rattle.mgr_run.specs.Telling.{Tells, line};
+ghost use Rattle.mgr_run.specs.Status.{IsStatusOf, IsStatusOfJob, IsStatusOfEdit, IsStatusOfCompact, IsStatusOfPrint, IsStatusOfShow};
+ghost use Rattle.mgr_run.specs.Peers as spec;
+
+use crate::report::Report;
+use crate::tell::{StandardError, Tell};
+use mg_files::Port;
+use mg_session::run_keys;
+use mg_settings::Settings;
+use mgr_args::{Job, JobFault, job_of, job_status, words};
+use mgr_compact::compact_note;
+use mgr_port::{FilePort, Logs};
+use mgr_show::{show_ops, write_text};
+use rga_flat::FlatStore;
+use rga_lines::Counted;
+use std::alloc::Global;
+use std::fmt::Display;
+use std::fs::File;
+use std::io;
+use std::io::{Read, Write};
+use std::net::Net;
+use std::rt::{Env, Files};
+
+/// Does the job that the command line asks for, by standard input and output, by files and by
+/// sockets of this machine, and answers the exit status that `do_job` does.
+pub fn run<R: Env + Files<File = File> + Net + AllocGlobal + Input + Print + Eprint>(rt: &R) -> u8
+    ensures { result ≤ 4 }
+{
+    let job = words(rt).and_then(|words| job_of(rt.alloc(), &words));
+    let mut reader = Counted::new(rt.reader());
+    let mut writer = Counted::new(io::writer(rt));
+    let mut port = FilePort::new(rt, port_number(&job));
+    let mut errors = StandardError::new(rt);
+    do_job(
+        rt.alloc(),
+        &job,
+        &mut reader,
+        &mut writer,
+        &mut port,
+        &mut errors,
+    )
+}
+
+/// The number of the port at which a job meets peers, where the command line gives one.
+fn port_number(job: &Result<Job, JobFault>) -> Option<u16>
+    ensures { result ≡ spec.port_number job.now }
+{
+    match job {
+        Ok(Job::Edit(settings)) => settings.values().port,
+        _ => None,
+    }
+}
+
+/// Does a job, or tells why there is none, and answers the exit status: 0 done, 1 the input is
+/// refused, 2 a wrong command line, 3 a device failed, 4 memory was refused. What is told is the one
+/// line of the fault, or the text of a wrong command line, and nothing where the status is 0.
+/// `compact` leaves the log as it was where the status is not 0, but at a device that fails once the
+/// new one has its name.
+pub fn do_job<R: Read, W: Write, P: Port + Logs, T: Tell>(
+    alloc: Global,
+    job: &Result<Job, JobFault>,
+    reader: &mut Counted<R>,
+    writer: &mut Counted<W>,
+    port: &mut P,
+    errors: &mut T,
+) -> u8
+    ensures status { MatchResult job.now
+        (λ job. IsStatusOfJob R.remaining W.contents P.calls P.failures P.standing P.steps job result
+        reader.old reader.new writer.old writer.new port.old port.new
+        (T.told errors.old) (T.told errors.new))
+        (λ fault. IsStatusOf fault result writer.old writer.new
+        (T.told errors.old) (T.told errors.new)) }
+    ensures idle { IfErr job.now (λ _. (reader.new ≡ reader.old) × (port.new ≡ port.old)) }
+    ensures bound { result ≤ 4 }
+{
+    match job {
+        Ok(Job::Show) => show(alloc, reader, writer, errors),
+        Ok(Job::Edit(settings)) => edit(alloc, settings, reader, writer, port, errors),
+        Ok(Job::Compact(log)) => compact(alloc, log.name.as_str(), log.dels, port, errors),
+        Err(fault) => refuse(alloc, fault, writer, errors),
+    }
+}
+
+fn show<R: Read, W: Write, T: Tell>(
+    alloc: Global,
+    reader: &mut Counted<R>,
+    writer: &mut Counted<W>,
+    errors: &mut T,
+) -> u8
+    ensures status { IsStatusOfShow R.remaining W.contents result
+        reader.old reader.new writer.old writer.new (T.told errors.old) (T.told errors.new) }
+    ensures bound { result ≤ 4 }
+{
+    match show_ops(alloc, reader, writer) {
+        Ok(()) => 0,
+        Err(fault) => told(errors, Report::of_show(&fault)),
+    }
+}
+
+fn edit<R: Read, W: Write, P: Port, T: Tell>(
+    alloc: Global,
+    settings: &Settings,
+    reader: &mut Counted<R>,
+    writer: &mut Counted<W>,
+    port: &mut P,
+    errors: &mut T,
+) -> u8
+    ensures status { IsStatusOfEdit R.remaining W.contents P.calls P.failures settings.now result
+        reader.old reader.new writer.old writer.new port.old port.new
+        (T.told errors.old) (T.told errors.new) }
+    ensures bound { result ≤ 4 }
+{
+    match run_keys::<FlatStore, _, _, _>(alloc, reader, writer, port, settings) {
+        Ok(()) => 0,
+        Err(fault) => told(errors, Report::of_session(&fault)),
+    }
+}
+
+fn compact<P: Logs, T: Tell>(
+    alloc: Global,
+    name: &str,
+    dels: bool,
+    port: &mut P,
+    errors: &mut T,
+) -> u8
+    ensures status { IsStatusOfCompact P.standing P.steps name.now dels result port.old port.new
+        (T.told errors.old) (T.told errors.new) }
+    ensures bound { result ≤ 4 }
+{
+    match compact_note(alloc, port, name, dels) {
+        Ok(()) => 0,
+        Err(fault) => told(errors, Report::of_show(&fault)),
+    }
+}
+
+fn refuse<W: Write, T: Tell>(
+    alloc: Global,
+    fault: &JobFault,
+    writer: &mut Counted<W>,
+    errors: &mut T,
+) -> u8
+    ensures { IsStatusOf fault.now result writer.old writer.new
+        (T.told errors.old) (T.told errors.new) }
+{
+    match fault {
+        JobFault::Help(_, text) | JobFault::Version(text) => print(alloc, text, writer, errors),
+        JobFault::Usage(_) => {
+            errors.tell_text(fault);
+            job_status(fault)
+        }
+        JobFault::Memory => told(errors, Report::memory()),
+    }
+}
+
+/// Prints a text that was asked for.
+fn print<D: Display, W: Write, T: Tell>(
+    alloc: Global,
+    text: &D,
+    writer: &mut Counted<W>,
+    errors: &mut T,
+) -> u8
+    ensures { IsStatusOfPrint result writer.old writer.new
+        (T.told errors.old) (T.told errors.new) }
+{
+    let Ok(text) = text.to_string(alloc) else {
+        return told(errors, Report::memory());
+    };
+    match write_text(text.as_str(), writer) {
+        Ok(()) => 0,
+        Err(fault) => told(errors, Report::of_show(&fault)),
+    }
+}
+
+/// Tells of a fault, and answers its exit status.
+fn told<T: Tell>(errors: &mut T, report: Report) -> u8
+    ensures status { result ≡ report.status }
+    ensures told { Tells (T.told errors.old) (T.told errors.new)
+        (line (message_text report.message) ∷ []) }
+{
+    errors.tell(report);
+    report.status
+}

@@ -1,0 +1,49 @@
+//! What is told beside what is written.
+ghost use Rattle.std.specs.Prelude.{[], ◌∷◌};
+ghost use Rattle.mgr_run.specs.Report.{message_text};
+ghost use Rattle.mgr_run.specs.Telling.{Told, Tells, line, text};
+
+use crate::report::Report;
+use mgr_args::JobFault;
+use std::io::Eprint;
+
+/// Where the shell is told of faults. What it does not take is lost: there is nowhere left to say
+/// so.
+pub trait Tell {
+    /// What was told so far, where that is known.
+    ghost told: { Self → Told };
+
+    /// Tells the line of a report.
+    fn tell(&mut self, report: Report)
+        ensures { Tells (told self.old) (told self.new) (line (message_text report.message) ∷ []) };
+
+    /// Tells the text of a fault of the command line.
+    fn tell_text(&mut self, fault: &JobFault)
+        ensures { Tells (told self.old) (told self.new) (text fault.now ∷ []) };
+}
+
+/// Standard error, of which nothing is known.
+#[derive(Drop)]
+pub(crate) struct StandardError<R> {
+    rt: R,
+}
+
+impl<R> StandardError<R> {
+    pub(crate) fn new(rt: R) -> StandardError<R> {
+        StandardError { rt }
+    }
+}
+
+impl<R: Eprint> Tell for StandardError<R> {
+    ghost use Rattle.std.specs.Prelude.{None};
+
+    ghost told = { λ _. None };
+
+    fn tell(&mut self, report: Report) {
+        let _ = self.rt.eprintln(report);
+    }
+
+    fn tell_text(&mut self, fault: &JobFault) {
+        let _ = self.rt.eprint(fault);
+    }
+}
