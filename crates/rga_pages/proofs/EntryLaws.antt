@@ -88,12 +88,6 @@ module _ (id : Identifier) where
   before_below [] y ys h k = tt
   before_below (x ∷ xs) y ys h k = (below_less id x.0 y.0 (key_between (λ q. id_cmp x.0 q ≡ Less) xs y ys h.0) k, before_below xs y ys h.1 k)
 
-  -- all before some entries of which the first ones are below it
-  pub front_below : (xs ys : Entries) (i : ℕ) → AreOrdered (xs ++ ys) → 0 < i → i ≤ length ys → AreBelow id (take i ys) → AreBelow id xs
-  front_below xs ys zero h z w a = absurd (omega arith)
-  front_below xs [] (suc i) h z w a = absurd (omega arith)
-  front_below xs (y ∷ ys) (suc i) h z w a = before_below xs y ys h (not_less (id_cmp id y.0) a.0)
-
   -- all as far as an entry that is below it
   pub take_below : (es : Entries) (i : ℕ) (d : Identifier × Record) → AreOrdered es → i < length es → is_gt (id_cmp id (slice_index_or es i d).0) ≡ true → AreBelow id (take (suc i) es)
   unfolding IsStrictlySortedBy
@@ -112,6 +106,12 @@ module _ (id : Identifier) where
   from_at [] i d w k = absurd (omega arith)
   from_at (e ∷ es) zero d w k = k
   from_at (e ∷ es) (suc i) d w k = from_at es i d (omega arith) k
+
+  pub from_end : (es : Entries) (i : ℕ) → length es ≤ i → StartsFrom id (drop i es)
+  from_end [] zero w = tt
+  from_end [] (suc i) w = tt
+  from_end (e ∷ es) zero w = absurd (omega arith)
+  from_end (e ∷ es) (suc i) w = from_end es i (omega arith)
 
   pub at_here : (es : Entries) (i : ℕ) (d : Identifier × Record) → i < length es → StartsFrom id (drop i es) → is_lt (id_cmp id (slice_index_or es i d).0) ≡ false → StartsAt id (drop i es)
   at_here [] i d w f k = absurd (omega arith)

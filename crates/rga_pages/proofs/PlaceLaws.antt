@@ -5,7 +5,7 @@ use Rattle.std.specs.Ordering.{is_lt}
 use Rattle.rga_ops.specs.Identifier.{Identifier, id_cmp}
 use Rattle.rga_pages.specs.declared.entry.Record.{Record}
 use Rattle.rga_pages.specs.Pages.{Entries, flat, before, behind, AreOrdered, AreBelow, StartsAt, AreFilled, IsPlace}
-use Rattle.rga_pages.proofs.EntryLaws.{ordered_front, ordered_back, before_below, front_below, below_append}
+use Rattle.rga_pages.proofs.EntryLaws.{ordered_front, ordered_back, before_below}
 
 pub one_up : (n : ℕ) → suc n ≡ n + 1
 one_up n = omega arith
@@ -32,30 +32,11 @@ filled_at [] p d f w = absurd (omega arith)
 filled_at (x ∷ xs) zero d f w = f.0
 filled_at (x ∷ xs) (suc p) d f w = filled_at xs p d f.1 (omega arith)
 
-pub entry_at : (xs : Entries) (i : ℕ) (d e : Identifier × Record) → i < length xs → slice_index_or xs i d ≡ slice_index_or xs i e
-entry_at [] i d e w = absurd (omega arith)
-entry_at (x ∷ xs) zero d e w = refl
-entry_at (x ∷ xs) (suc i) d e w = entry_at xs i d e (omega arith)
-
-pub front_place : (ps : List Entries) (p : ℕ) → p < length ps → IsPlace ps p 0
-front_place [] p w = absurd (omega arith)
-front_place (x ∷ xs) zero w = omega arith
-front_place (x ∷ xs) (suc p) w = front_place xs p (omega arith)
-
 pub none_left : (ps : List Entries) (p : ℕ) → length ps ≤ p → flat (drop p ps) ≡ []
 none_left [] zero h = refl
 none_left [] (suc p) h = refl
 none_left (x ∷ xs) zero h = absurd (omega arith)
 none_left (x ∷ xs) (suc p) h = none_left xs p (omega arith)
-
-pub nothing_before : (ps : List Entries) → before ps 0 0 ≡ []
-nothing_before [] = refl
-nothing_before (x ∷ xs) = refl
-
-pub front_before : (ps : List Entries) (p : ℕ) → p < length ps → before ps p 0 ≡ flat (take p ps)
-front_before [] p w = absurd (omega arith)
-front_before (x ∷ xs) zero w = refl
-front_before (x ∷ xs) (suc p) w = ap (λ r. x ++ r) (front_before xs p (omega arith))
 
 take_drop : (i : ℕ) (xs : Entries) → take i xs ++ drop i xs ≡ xs
 take_drop zero xs = refl
@@ -108,12 +89,6 @@ module _ (ps : List Entries) (p : ℕ) (d : Entries) (ordered : AreOrdered (flat
         earlier : (page : Entries) → 0 < length page → is_lt (id_cmp id (slice_index_or page 0 e).0) ≡ false → AreOrdered (flat (take p ps) ++ page) → AreBelow id (flat (take p ps))
         earlier [] some h o = absurd (omega arith)
         earlier (y ∷ page) some h o = before_below id (flat (take p ps)) y page o h
-
-    -- all before a place, where some entries before it in its page are below the identifier
-    pub below_before : (i : ℕ) → 0 < i → i ≤ length (slice_index_or ps p d) → AreBelow id (take i (slice_index_or ps p d)) → AreBelow id (before ps p i)
-    below_before i z h a =
-        subst (AreBelow id) (sym (before_is ps p i d w))
-        (below_append id (flat (take p ps)) (take i (slice_index_or ps p d)) (front_below id (flat (take p ps)) (slice_index_or ps p d) i as_far z h a) a)
 
 -- ---- an entry at a place
 

@@ -1,15 +1,14 @@
 -- Where an identifier is: how that is seen, and what a change there makes of all entries.
-use Rattle.std.proofs.Common.{◌≡◌, ℕ, ◌+◌, ◌<◌, ◌≤◌, suc, zero, Bool, true, false, not, List, [], ◌∷◌, ◌++◌, length, take, drop, slice_index_or, refl, sym, ap, ◌∙◌, subst, arith, true≢false}
+use Rattle.std.proofs.Common.{◌≡◌, ℕ, ◌+◌, ◌<◌, ◌≤◌, suc, Bool, true, false, List, [], ◌∷◌, ◌++◌, length, take, drop, slice_index_or, refl, sym, ap, ◌∙◌, subst, arith}
 use Rattle.std.specs.Prelude.{Some, None, insert, remove, slice_set}
-use Rattle.std.specs.Ordering.{is_gt, is_lt}
 use Rattle.std.specs.BTreeMap.{insert_entry}
 use Rattle.std.specs.List.Sorted.{IsStrictlySortedBy}
 use Rattle.std.specs.Map.{remove_entry, set_value}
 use Rattle.rga_ops.specs.Identifier.{Identifier, id_cmp}
 use Rattle.rga_ops.proofs.IdentifierLaws.{is}
 use Rattle.rga_pages.specs.declared.entry.Record.{Record}
-use Rattle.rga_pages.specs.Pages.{Entries, record_of, flat, before, behind, AreOrdered, AreBelow, StartsAbove, StartsAt, AreFilled, ArePages, IsPlace, IsSpot}
-use Rattle.rga_pages.proofs.EntryLaws.{from_at, at_here, above_end, above_append, below_append, insert_between, insert_over, set_between, ordered_insert, remove_between, ordered_remove, record_between, record_absent}
+use Rattle.rga_pages.specs.Pages.{Entries, record_of, flat, before, behind, AreOrdered, AreBelow, StartsAbove, StartsAt, AreFilled, ArePages, IsSpot}
+use Rattle.rga_pages.proofs.EntryLaws.{above_append, below_append, insert_between, insert_over, set_between, ordered_insert, remove_between, ordered_remove, record_between, record_absent}
 use Rattle.rga_pages.proofs.PlaceLaws.{one_up, page_at, place_at, parted, before_is, behind_is, index_there, Stood, stood, put_there, set_there, removed_there, page_gone}
 
 pub no_pages : ArePages []
@@ -38,40 +37,6 @@ module _ (ps : List Entries) (p i : ℕ) (id : Identifier) (d : Entries) (w : p 
     there = λ t. subst (λ y. StartsAt id (drop i y)) (sym the_page) (there t);
     absent = λ f. subst (StartsAbove id) (sym (behind_is ps p i d w))
         (above_append id (drop i (slice_index_or ps p d)) (flat (drop (suc p) ps)) (absent f) (subst (λ n. StartsAbove id (flat (drop n ps))) (sym (one_up p)) above));
-  }
-
-  -- at an entry that is not below it
-  pub spot_within : (e : Identifier × Record) → IsPlace ps p i → AreBelow id (before ps p i) → i < length (slice_index_or ps p d)
-      → is_gt (id_cmp id (slice_index_or (slice_index_or ps p d) i e).0) ≡ false → IsSpot ps p i (not (is_lt (id_cmp id (slice_index_or (slice_index_or ps p d) i e).0))) id
-  spot_within e place below within from = record {
-    place = place;
-    below = below;
-    there = λ t. subst (λ y. StartsAt id (drop i y)) (sym the_page)
-        (at_here id (slice_index_or ps p d) i e within (from_at id (slice_index_or ps p d) i e within from) (not_true _ t));
-    absent = λ f. subst (StartsAbove id) (sym (behind_is ps p i d w)) (first (slice_index_or ps p d) i within (not_false _ f));
-  }
-    where
-      not_true : (b : Bool) → not b ≡ true → b ≡ false
-      not_true true h = absurd (true≢false (sym h))
-      not_true false h = refl
-
-      not_false : (b : Bool) → not b ≡ false → b ≡ true
-      not_false true h = refl
-      not_false false h = absurd (true≢false h)
-
-      first : (y : Entries) (i : ℕ) → i < length y → is_lt (id_cmp id (slice_index_or y i e).0) ≡ true → StartsAbove id (drop i y ++ flat (drop (suc p) ps))
-      first [] i w h = absurd (omega arith)
-      first (z ∷ y) zero w h = h
-      first (z ∷ y) (suc i) w h = first y i (omega arith) h
-
-  -- at the end of a page, where the next one is above it
-  pub spot_end : IsPlace ps p i → AreBelow id (before ps p i) → length (slice_index_or ps p d) ≤ i → StartsAbove id (flat (drop (p + 1) ps)) → IsSpot ps p i false id
-  spot_end place below end above = record {
-    place = place;
-    below = below;
-    there = λ t. absurd (true≢false (sym t));
-    absent = λ f. subst (StartsAbove id) (sym (behind_is ps p i d w))
-        (above_append id (drop i (slice_index_or ps p d)) (flat (drop (suc p) ps)) (above_end id (slice_index_or ps p d) i end) (subst (λ n. StartsAbove id (flat (drop n ps))) (sym (one_up p)) above));
   }
 
   -- ---- where it is

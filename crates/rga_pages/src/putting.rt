@@ -13,8 +13,8 @@ use crate::spot::Spot;
 use rga_ops::{Id, Refusal};
 use std::alloc::Global;
 
-/// How many entries a full page keeps where it is cut.
-const HALF: usize = 32;
+/// How many entries each part of a full page has at least where it is cut.
+const FEWEST: usize = 8;
 
 /// An identifier gets its record. Answers where it is. `Memory` alone, and only where it had none.
 pub(crate) fn insert(
@@ -106,7 +106,8 @@ pub(crate) fn overwrite(pages: &mut Vec<Page>, at: Spot, id: Id, value: Record)
 }
 
 /// An identifier gets its record, where the page of its spot is full and it is absent. At the end
-/// of that page nothing moves, and the entry begins a new one; elsewhere the page is cut in two.
+/// of that page nothing moves, and the entry begins a new one; elsewhere the page is cut in two, at
+/// the entry's place if both parts have enough then: so what comes next to it has room.
 fn insert_in_full(
     alloc: Global,
     pages: &mut Vec<Page>,
@@ -133,7 +134,7 @@ fn insert_in_full(
             found: true,
         });
     }
-    halve(alloc, pages, at.page)?;
+    cut_page(alloc, pages, at.page, cut_for(at.index))?;
     let spot = find(pages, at, id);
     write(pages, spot, id, value)?;
     Ok(spot)
@@ -161,19 +162,35 @@ fn put_own(
     put_page(pages, page + 1, own)
 }
 
+/// Where a full page is cut for an entry that comes in at an index.
+fn cut_for(index: usize) -> usize
+    ensures first { 0 < result }
+    ensures second { result < MOST }
+{
+    if index < FEWEST {
+        return FEWEST;
+    }
+    if index > MOST - FEWEST {
+        return MOST - FEWEST;
+    }
+    index
+}
+
 /// A full page becomes two.
-fn halve(alloc: Global, pages: &mut Vec<Page>, page: usize) -> Result<(), Refusal>
+fn cut_page(alloc: Global, pages: &mut Vec<Page>, page: usize, cut: usize) -> Result<(), Refusal>
     requires filled { AreFilled pages.old.items }
     requires page { page < vec_len pages.old }
     requires full { MOST ≤ length (slice_index_or pages.old.items page []) }
+    requires first { 0 < cut }
+    requires second { cut < MOST }
     ensures flat { flat pages.new.items ≡ flat pages.old.items }
     ensures filled { AreFilled pages.new.items }
     ensures some { 0 < vec_len pages.new }
     ensures memory { IfErr result (λ e. e ≡ Refusal.Memory) }
 {
-    let tail = pages[page].tail(alloc, HALF)?;
+    let tail = pages[page].tail(alloc, cut)?;
     put_page(pages, page + 1, tail)?;
-    pages[page].cut(HALF);
+    pages[page].cut(cut);
     Ok(())
 }
 

@@ -1,16 +1,16 @@
 //! Where an identifier is.
-ghost use Rattle.std.specs.Prelude.{◌≡◌, ◌≤◌, ◌<◌, ◌+◌, [], length, vec_len, IfSome, true, false, take, drop, slice_index_or};
+ghost use Rattle.std.specs.Prelude.{◌≡◌, ◌≤◌, ◌<◌, ◌+◌, length, vec_len, true, false, take, drop};
 ghost use Rattle.std.specs.Ordering.{is_gt, is_lt};
 ghost use Rattle.rga_ops.specs.Identifier.{id_cmp};
-ghost use Rattle.rga_pages.specs.Pages.{flat, record_of, AreOrdered, AreBelow, StartsFrom, StartsAbove, StartsAt, AreFilled, IsPlace, IsSpot, before};
+ghost use Rattle.rga_pages.specs.Pages.{flat, record_of, AreOrdered, AreBelow, StartsFrom, StartsAbove, StartsAt, AreFilled, IsSpot};
 
 use crate::entry::Record;
-use crate::page::Page;
+use crate::page::{MOST, Page};
 use crate::spot::Spot;
 use rga_ops::Id;
 
-/// Where an identifier is, or where it would come in. It is looked for first at the place that was
-/// used last, and then behind and before that.
+/// Where an identifier is, or where it would come in. It is looked for first in the page that was
+/// used last, and there beside the place that was used last.
 pub(crate) fn find(pages: &Vec<Page>, last: Spot, id: Id) -> Spot
     requires ordered { AreOrdered (flat pages.now.items) }
     requires filled { AreFilled pages.now.items }
@@ -18,17 +18,11 @@ pub(crate) fn find(pages: &Vec<Page>, last: Spot, id: Id) -> Spot
     ensures page { result.page < vec_len pages.now }
     ensures spot { IsSpot pages.now.items result.page result.index result.found id }
 {
-    if let Some(spot) = find_at(pages, last.page, last.index, id) {
-        return spot;
-    }
-    if let Some(spot) = find_at(pages, last.page, last.index.saturating_add(1), id) {
-        return spot;
-    }
-    if let Some(spot) = find_at(pages, last.page, last.index.saturating_sub(1), id) {
-        return spot;
+    if is_in(pages, last.page, id) {
+        return find_in(pages, last.page, last.index, id);
     }
     let page = page_of(pages, id);
-    find_in(pages, page, id)
+    find_in(pages, page, MOST / 2, id)
 }
 
 /// Whether an identifier is larger than that of an entry.
@@ -45,29 +39,29 @@ fn is_above(entry: &(Id, Record), id: Id) -> bool
     id < entry.0
 }
 
-/// Whether there is an entry before an index, and it is below an identifier.
-fn ends_below(entries: &[(Id, Record)], index: usize, id: Id) -> bool
-    requires { AreOrdered entries.now }
+/// Whether all before an index is below an identifier.
+fn is_behind(entries: &[(Id, Record)], index: usize, id: Id) -> bool
+    requires ordered { AreOrdered entries.now }
+    requires within { index ≤ length entries.now }
     ensures below { result ≡ true → AreBelow id (take index entries.now) }
-    ensures some { result ≡ true → 0 < index }
-    ensures within { result ≡ true → index ≤ length entries.now }
+    ensures some { result ≡ false → 0 < index }
 {
     if index == 0 {
-        return false;
-    }
-    if index > entries.len() {
-        return false;
+        return true;
     }
     is_below(&entries[index - 1], id)
 }
 
-/// Whether the entry at an index is below an identifier.
+/// Whether there is an entry at an index, and it is below an identifier.
 fn goes_on(entries: &[(Id, Record)], index: usize, id: Id) -> bool
-    requires ordered { AreOrdered entries.now }
-    requires within { index < length entries.now }
+    requires { AreOrdered entries.now }
+    ensures within { result ≡ true → index < length entries.now }
     ensures below { result ≡ true → AreBelow id (take (index + 1) entries.now) }
     ensures from { result ≡ false → StartsFrom id (drop index entries.now) }
 {
+    if index >= entries.len() {
+        return false;
+    }
     is_below(&entries[index], id)
 }
 
@@ -94,6 +88,49 @@ fn starts_above(pages: &Vec<Page>, page: usize, id: Id) -> bool
     is_above(&pages[page].entries()[0], id)
 }
 
+/// Whether all before a page is below an identifier.
+fn is_past(pages: &Vec<Page>, page: usize, id: Id) -> bool
+    requires ordered { AreOrdered (flat pages.now.items) }
+    requires filled { AreFilled pages.now.items }
+    requires within { page < vec_len pages.now }
+    ensures { result ≡ true → AreBelow id (flat (take page pages.now.items)) }
+{
+    if page == 0 {
+        return true;
+    }
+    !starts_above(pages, page, id)
+}
+
+/// Whether all behind a page is above an identifier.
+fn is_up_to(pages: &Vec<Page>, page: usize, id: Id) -> bool
+    requires ordered { AreOrdered (flat pages.now.items) }
+    requires filled { AreFilled pages.now.items }
+    requires within { page < vec_len pages.now }
+    ensures { result ≡ true → StartsAbove id (flat (drop (page + 1) pages.now.items)) }
+{
+    if page + 1 < pages.len() {
+        return starts_above(pages, page + 1, id);
+    }
+    true
+}
+
+/// Whether a page is the one in which an identifier must be.
+fn is_in(pages: &Vec<Page>, page: usize, id: Id) -> bool
+    requires ordered { AreOrdered (flat pages.now.items) }
+    requires filled { AreFilled pages.now.items }
+    ensures page { result ≡ true → page < vec_len pages.now }
+    ensures below { result ≡ true → AreBelow id (flat (take page pages.now.items)) }
+    ensures above { result ≡ true → StartsAbove id (flat (drop (page + 1) pages.now.items)) }
+{
+    if page >= pages.len() {
+        return false;
+    }
+    if !is_past(pages, page, id) {
+        return false;
+    }
+    is_up_to(pages, page, id)
+}
+
 /// The last page that does not start above an identifier; the first one where there is none.
 fn page_of(pages: &Vec<Page>, id: Id) -> usize
     requires ordered { AreOrdered (flat pages.now.items) }
@@ -116,28 +153,49 @@ fn page_of(pages: &Vec<Page>, id: Id) -> usize
     low
 }
 
-/// The first index whose entry is not below an identifier; the end where there is none.
-fn index_in(entries: &[(Id, Record)], id: Id) -> usize
+/// An index before which all is below an identifier: the first such one on the way back.
+fn go_back(entries: &[(Id, Record)], from: usize, id: Id) -> usize
+    requires { AreOrdered entries.now }
+    ensures within { result ≤ length entries.now }
+    ensures below { AreBelow id (take result entries.now) }
+{
+    let mut index = from.min(entries.len());
+    while !is_behind(entries, index, id) {
+        index -= 1;
+    }
+    index
+}
+
+/// The first index from one on whose entry is not below an identifier.
+fn go_on(entries: &[(Id, Record)], from: usize, id: Id) -> usize
+    requires ordered { AreOrdered entries.now }
+    requires within { from ≤ length entries.now }
+    requires below { AreBelow id (take from entries.now) }
+    ensures within { result ≤ length entries.now }
+    ensures below { AreBelow id (take result entries.now) }
+    ensures from { StartsFrom id (drop result entries.now) }
+{
+    let mut index = from;
+    while goes_on(entries, index, id) {
+        index += 1;
+    }
+    index
+}
+
+/// The first index whose entry is not below an identifier; the end where there is none. It is
+/// looked for on both sides of an index.
+fn index_in(entries: &[(Id, Record)], beside: usize, id: Id) -> usize
     requires { AreOrdered entries.now }
     ensures within { result ≤ length entries.now }
     ensures below { AreBelow id (take result entries.now) }
     ensures from { StartsFrom id (drop result entries.now) }
 {
-    let mut low = 0;
-    let mut high = entries.len();
-    while low < high {
-        let middle = low + (high - low) / 2;
-        if goes_on(entries, middle, id) {
-            low = middle + 1;
-        } else {
-            high = middle;
-        }
-    }
-    low
+    let from = go_back(entries, beside, id);
+    go_on(entries, from, id)
 }
 
-/// Where an identifier is in the page in which it must be.
-fn find_in(pages: &Vec<Page>, page: usize, id: Id) -> Spot
+/// Where an identifier is in the page in which it must be, looked for on both sides of an index.
+fn find_in(pages: &Vec<Page>, page: usize, beside: usize, id: Id) -> Spot
     requires ordered { AreOrdered (flat pages.now.items) }
     requires within { page < vec_len pages.now }
     requires below { AreBelow id (flat (take page pages.now.items)) }
@@ -146,82 +204,9 @@ fn find_in(pages: &Vec<Page>, page: usize, id: Id) -> Spot
     ensures spot { IsSpot pages.now.items result.page result.index result.found id }
 {
     let entries = pages[page].entries();
-    let index = index_in(entries, id);
+    let index = index_in(entries, beside, id);
     let found = is_at(entries, index, id);
     Spot { page, index, found }
-}
-
-/// The place, if an identifier is there: behind what is below it, and before nothing that is.
-fn find_at(pages: &Vec<Page>, page: usize, index: usize, id: Id) -> Option<Spot>
-    requires ordered { AreOrdered (flat pages.now.items) }
-    requires filled { AreFilled pages.now.items }
-    ensures page { IfSome result (λ s. s.page < vec_len pages.now) }
-    ensures spot { IfSome result (λ s. IsSpot pages.now.items s.page s.index s.found id) }
-{
-    if page >= pages.len() {
-        return None;
-    }
-    if !is_behind(pages, page, index, id) {
-        return None;
-    }
-    if index < pages[page].entries().len() {
-        return find_within(pages, page, index, id);
-    }
-    find_end(pages, page, index, id)
-}
-
-/// Whether all that stands before a place is below an identifier, where that is seen by one entry.
-fn is_behind(pages: &Vec<Page>, page: usize, index: usize, id: Id) -> bool
-    requires ordered { AreOrdered (flat pages.now.items) }
-    requires filled { AreFilled pages.now.items }
-    requires page { page < vec_len pages.now }
-    ensures below { result ≡ true → AreBelow id (before pages.now.items page index) }
-    ensures place { result ≡ true → IsPlace pages.now.items page index }
-{
-    if index == 0 {
-        if page == 0 {
-            return true;
-        }
-        return !starts_above(pages, page, id);
-    }
-    ends_below(pages[page].entries(), index, id)
-}
-
-/// The place of an entry, if that is not below an identifier.
-fn find_within(pages: &Vec<Page>, page: usize, index: usize, id: Id) -> Option<Spot>
-    requires page { page < vec_len pages.now }
-    requires place { IsPlace pages.now.items page index }
-    requires within { index < length (slice_index_or pages.now.items page []) }
-    requires below { AreBelow id (before pages.now.items page index) }
-    ensures page { IfSome result (λ s. s.page < vec_len pages.now) }
-    ensures spot { IfSome result (λ s. IsSpot pages.now.items s.page s.index s.found id) }
-{
-    let entries = pages[page].entries();
-    if is_below(&entries[index], id) {
-        return None;
-    }
-    let found = !is_above(&entries[index], id);
-    Some(Spot { page, index, found })
-}
-
-/// The end of a page, if the next one starts above an identifier or there is none.
-fn find_end(pages: &Vec<Page>, page: usize, index: usize, id: Id) -> Option<Spot>
-    requires ordered { AreOrdered (flat pages.now.items) }
-    requires filled { AreFilled pages.now.items }
-    requires page { page < vec_len pages.now }
-    requires place { IsPlace pages.now.items page index }
-    requires end { length (slice_index_or pages.now.items page []) ≤ index }
-    requires below { AreBelow id (before pages.now.items page index) }
-    ensures page { IfSome result (λ s. s.page < vec_len pages.now) }
-    ensures spot { IfSome result (λ s. IsSpot pages.now.items s.page s.index s.found id) }
-{
-    if page + 1 < pages.len() {
-        if !starts_above(pages, page + 1, id) {
-            return None;
-        }
-    }
-    let found = false;
-    Some(Spot { page, index, found })
 }
 
 /// The record at the spot of an identifier, if it is there.

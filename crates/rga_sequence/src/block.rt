@@ -7,6 +7,7 @@ ghost use Rattle.rga_sequence.specs.Blocks.{larger_at_front, mark_at_index, AreF
 
 use crate::entry::Entry;
 use crate::scans::{count_one, count_visible, index_of, is_at, is_larger, least_of, past_larger};
+use crate::turning::turn_last;
 use rga_ops::{Id, Refusal};
 use std::alloc::Global;
 use std::marker::Model;
@@ -47,9 +48,8 @@ fn insert_into(entries: &mut Vec<Entry>, index: usize, entry: Entry) -> Result<(
 {
     let len = entries.as_slice().len();
     entries.reserve_exact(ROOM - len % ROOM)?;
-    if entries.insert(index, entry).is_err() {
-        return Err(Refusal::Memory);
-    }
+    entries.push(entry)?;
+    turn_last(entries.as_mut_slice(), index);
     Ok(())
 }
 

@@ -22,6 +22,7 @@ mod removing;
 mod scans;
 mod sequence;
 mod skipping;
+mod turning;
 
 pub use entry::Entry;
 pub use sequence::{Put, Sequence};

@@ -12,6 +12,7 @@ use crate::finding::Hints;
 use crate::names::{name_at, names_of_parts};
 use crate::place::Place;
 use crate::skipping::{behind_parent, skip};
+use crate::turning::turn_last;
 use rga_ops::{Id, Refusal};
 use std::alloc::Global;
 
@@ -204,9 +205,10 @@ fn put_block(blocks: &mut Vec<Block>, index: usize, block: Block) -> Result<(), 
     ensures err { OnErr result (blocks.new.items ≡ blocks.old.items) }
     ensures memory { IfErr result (λ e. e ≡ Refusal.Memory) }
 {
-    if blocks.insert(index, block).is_err() {
+    if blocks.push(block).is_err() {
         return Err(Refusal::Memory);
     }
+    turn_last(blocks.as_mut_slice(), index);
     Ok(())
 }
 

@@ -67,7 +67,7 @@ fn put(both: &mut Both, random: &mut Random, step: u64, typing: bool) -> Result<
     if !typing {
         behind = random.below(behind.saturating_add(1));
     }
-    let (parent, name) = both.list.parent(behind);
+    let (parent, _) = both.list.parent(behind);
     let mut counter = step.saturating_add(1);
     if random.below(3) == 0 {
         counter = parent.counter().saturating_add(1);
@@ -76,6 +76,12 @@ fn put(both: &mut Both, random: &mut Random, step: u64, typing: bool) -> Result<
     if both.list.has(id) {
         return Ok(());
     }
+    put_both(both, behind, id)
+}
+
+/// An entry goes behind a row into both, or to the front.
+fn put_both(both: &mut Both, behind: usize, id: Id) -> Result<(), Refusal> {
+    let (parent, name) = both.list.parent(behind);
     let entry = Entry {
         id,
         ch: 'a',
@@ -122,27 +128,50 @@ fn is_part(part: &[Id], all: &[Id], lo: usize) -> bool {
     true
 }
 
+/// Whether there are both lists, and they are the same.
+fn same<T: PartialEq + Drop>(a: Result<Vec<T>, Refusal>, b: Result<Vec<T>, Refusal>) -> bool {
+    match (a, b) {
+        (Ok(a), Ok(b)) => a.as_slice() == b.as_slice(),
+        _ => false,
+    }
+}
+
 /// Whether both show the same.
-fn agree(alloc: Global, both: &Both, random: &mut Random) -> Result<bool, Refusal> {
-    let ids = both.sequence.ids(alloc)?;
-    let copy = both.sequence.copy(alloc)?;
-    let copied = copy.ids(alloc)?;
-    let visible = both.list.ids(alloc, false)?;
+fn agree(alloc: Global, both: &Both, random: &mut Random) -> bool {
+    same(both.sequence.ids(alloc), both.list.ids(alloc, true))
+        && copy_agrees(alloc, both)
+        && same(both.sequence.text(alloc), both.list.text(alloc))
+        && parts_agree(alloc, both, random)
+        && rows_agree(both)
+}
+
+/// Whether a copy of the sequence has the same entries.
+fn copy_agrees(alloc: Global, both: &Both) -> bool {
+    match both.sequence.copy(alloc) {
+        Ok(copy) => same(copy.ids(alloc), both.list.ids(alloc, true)),
+        Err(_) => false,
+    }
+}
+
+/// Whether a part of the visible entries is the same.
+fn parts_agree(alloc: Global, both: &Both, random: &mut Random) -> bool {
+    match both.list.ids(alloc, false) {
+        Ok(visible) => part_agrees(alloc, &both.sequence, &visible, random),
+        Err(_) => false,
+    }
+}
+
+fn part_agrees(alloc: Global, sequence: &Sequence, visible: &[Id], random: &mut Random) -> bool {
     let lo = random.below(visible.len().saturating_add(1));
     let hi = lo.saturating_add(random.below(300)).min(visible.len());
-    let part = both.sequence.elements(alloc, lo, hi)?;
-    let text = both.sequence.text(alloc)?;
-    let all = both.list.ids(alloc, true)?;
-    let chars = both.list.text(alloc)?;
-    Ok(
-        ids.as_slice() == all.as_slice()
-            && copied.as_slice() == all.as_slice()
-            && text.as_slice() == chars.as_slice()
-            && part.len() == hi.saturating_sub(lo)
-            && is_part(part.as_slice(), visible.as_slice(), lo)
-            && both.sequence.element_at(lo) == visible.get(lo).copied()
-            && rows_agree(both),
-    )
+    match sequence.elements(alloc, lo, hi) {
+        Ok(part) => {
+            part.len() == hi.saturating_sub(lo)
+                && is_part(&part, visible, lo)
+                && sequence.element_at(lo) == visible.get(lo).copied()
+        }
+        Err(_) => false,
+    }
 }
 
 /// Whether each row is found, in the block that its name leads to.
@@ -165,43 +194,43 @@ fn is_named(sequence: &Sequence, name: usize, id: Id) -> bool {
     }
 }
 
-/// The first step behind which both do not show the same.
-fn difference(alloc: Global, mixture: Mixture) -> Result<Option<u64>, Refusal> {
+/// Whether all steps go well, and both show the same behind them.
+fn stay_alike(alloc: Global, both: &mut Both, mixture: Mixture) -> bool {
     let mut random = Random::new(mixture.seed);
+    for number in 0..STEPS {
+        if step(both, &mut random, number, mixture).is_err() {
+            return false;
+        }
+        if number.checked_rem(BETWEEN) == Some(0) && !agree(alloc, both, &mut random) {
+            return false;
+        }
+    }
+    true
+}
+
+/// Whether a sequence and a plain list never differ.
+fn is_alike(alloc: Global, mixture: Mixture) -> bool {
     let mut both = Both {
         sequence: Sequence::new(alloc),
         list: PlainList::new(alloc),
     };
-    for number in 0..STEPS {
-        step(&mut both, &mut random, number, mixture)?;
-        if number.checked_rem(BETWEEN) == Some(0) {
-            if !agree(alloc, &both, &mut random)? {
-                return Ok(Some(number));
-            }
-        }
-    }
-    Ok(None)
-}
-
-/// Whether a sequence and a plain list never differ.
-fn is_alike(alloc: Global, seed: u64, puts: usize, deletions: usize, typing: bool) -> bool {
-    let mixture = Mixture {
-        seed,
-        puts,
-        deletions,
-        typing,
-    };
-    difference(alloc, mixture) == Ok(None)
+    stay_alike(alloc, &mut both, mixture)
 }
 
 #[test]
 fn a_sequence_is_the_plain_list(rt: HostRuntime) {
-    let alloc = rt.alloc();
-    assert!(rt; is_alike(alloc, 1, 16, 0, false), "put anywhere");
-    assert!(rt; is_alike(alloc, 2, 16, 0, true), "put in a row");
-    assert!(rt;
-        is_alike(alloc, 3, 12, 3, false),
-        "put, deleted and taken out"
-    );
-    assert!(rt; is_alike(alloc, 4, 9, 0, false), "taken out mostly");
+    for (name, seed, puts, deletions, typing) in &[
+        ("put anywhere", 1u64, 16usize, 0usize, false),
+        ("put in a row", 2, 16, 0, true),
+        ("put, deleted and taken out", 3, 12, 3, false),
+        ("taken out mostly", 4, 9, 0, false),
+    ] {
+        let mixture = Mixture {
+            seed: *seed,
+            puts: *puts,
+            deletions: *deletions,
+            typing: *typing,
+        };
+        assert!(rt; is_alike(rt.alloc(), mixture), "{name}");
+    }
 }

@@ -30,7 +30,7 @@ pub returns-then-at-entries-clause-kept : goal.returns-then-at-entries-clause-ke
 returns-then-at-entries-clause-kept c =
     inserted_pages c.args.pages.now.items c.put_own.new.pages.items c.args.id c.args.value c.requires.kept (own_is c) c.put_own.ensures.filled
 
-pub returns-in_err-halve-clause-absent : goal.returns-in_err-halve-clause-absent
-returns-in_err-halve-clause-absent c =
-    on_err_always c.from_residual-in_err-halve.result
+pub returns-in_err-cut_page-clause-absent : goal.returns-in_err-cut_page-clause-absent
+returns-in_err-cut_page-clause-absent c =
+    on_err_always c.from_residual-in_err-cut_page.result
     (record_none c.args.pages.now.items c.args.at.page c.args.at.index c.args.id [] (subst (λ n. c.args.at.page < n) c.args.pages.now.ok.0 c.requires.page) c.requires.spot c.requires.kept.ordered)
