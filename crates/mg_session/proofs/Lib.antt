@@ -1,5 +1,6 @@
 pub mod FrameLaws
 pub mod ReportLaws
 pub mod TakenLaws
-pub mod StoppedLaws
+pub mod SessionLaws
+pub mod AnswerLaws
 pub mod FaultLaws

@@ -1,13 +1,17 @@
 -- Frames, as they are written.
-use Rattle.std.specs.Prelude.{◌≡◌, ℕ, Bool, true, false, List, [], ◌∷◌, ◌++◌, ◌&&◌, Option, Some, None, map, string_bytes, codes, if◌then◌else◌}
+use Rattle.std.specs.Prelude.{◌≡◌, ℕ, Bool, true, false, not, List, [], ◌∷◌, ◌++◌, ◌&&◌, Option, Some, None, map, string_bytes, codes, if◌then◌else◌}
 use Rattle.std.specs.Fmt.{decimal}
 use Rattle.std.specs.declared.alloc.Global.{Global}
 use Rattle.std.specs.declared.string.String.{String}
+use Rattle.rga_lines.specs.Counting.{Calls, Writes, WritesFront}
 use Rattle.rga_lines.specs.Stream.{bytes_of_lines}
 use Rattle.mg_screen.specs.declared.screen.Position.{Position}
 use Rattle.mg_settings.specs.Settings.{Values}
 use Rattle.mg_editor.specs.Editors.{Editor}
 use Rattle.mg_editor.specs.Frames.{IsPlaced, ShowsRows, ShowsCursor}
+use Rattle.mg_session.specs.Courses.{IsFailed, LeavesScreen}
+use Rattle.mg_session.specs.declared.course.Course.{Course}
+use Rattle.mg_session.specs.declared.course.Course.TheVariants.{On, Quit, NoKeys, NoScreen, NoMemory}
 use Rattle.mg_session.specs.declared.fault.SessionFault.{SessionFault}
 use Rattle.mg_session.specs.declared.fault.SessionFault.TheVariants.{Load, File, Keys, Screen, Memory}
 use Rattle.mg_session.specs.declared.showing.Showing.{Showing}
@@ -20,6 +24,10 @@ showing_of v = record { trace = v.trace; newest = v.newest; cursor = v.cursor }
 -- one behind a step: each where steps are traced, but of the newest alone that behind which the session ends
 abbrev pub follows_step : Showing → Bool → Bool
 follows_step how ends = if how.newest then how.trace && ends else how.trace
+
+-- one behind a key, unless it leaves a key sequence begun
+abbrev pub follows_key : Showing → Bool → Bool → Bool
+follows_key how ends amid = follows_step how ends && not amid
 
 -- one behind a block of keys
 abbrev pub follows_block : Showing → Bool
@@ -70,3 +78,27 @@ BeginsFrame (Load e) has_cursor old part = ⊥
 abbrev pub BeginsIf : Bool → SessionFault → Bool → Editor → List ℕ → Type 0
 BeginsIf true fault has_cursor old part = BeginsFrame fault has_cursor old part
 BeginsIf false fault has_cursor old part = ⊥
+
+-- ---- how it was written
+
+-- a text, and all of it was flushed, or the device of the screen failed amid it
+abbrev pub Wrote : {W : Type 0} → (W → Option (List ℕ)) → List ℕ → Course → Calls W → Calls W → Type 0
+Wrote contents text On screen shown = Writes contents screen shown text × (shown.failures ≡ screen.failures) × (shown.flushed ≡ true)
+Wrote contents text Quit screen shown = ⊥
+Wrote contents text NoKeys screen shown = ⊥
+Wrote contents text NoScreen screen shown = WritesFront contents screen shown text × IsFailed screen shown
+Wrote contents text NoMemory screen shown = ⊥
+
+-- this is what was written where a frame was asked for, or not
+abbrev pub ShowsSome : Course → Bool → Bool → Editor → Editor → List ℕ → Type 0
+ShowsSome On asked has_cursor old new text = ShowsIf asked has_cursor old new text
+ShowsSome Quit asked has_cursor old new text = ⊥
+ShowsSome NoKeys asked has_cursor old new text = ⊥
+ShowsSome NoScreen asked has_cursor old new text = BeginsIf asked Screen has_cursor old text
+ShowsSome NoMemory asked has_cursor old new text = BeginsIf asked Memory has_cursor old text
+
+pub record Showed {W : Type 0} (contents : W → Option (List ℕ)) (asked has_cursor : Bool) (old new : Editor) (course : Course) (screen shown : Calls W) : Type 0 where
+  pub text : List ℕ
+  pub shows : ShowsSome course asked has_cursor old new text
+  pub written : Writes contents screen shown text
+  pub device : LeavesScreen course screen shown

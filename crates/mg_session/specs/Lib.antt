@@ -1,4 +1,5 @@
 pub mod Faults
+pub mod Courses
 pub mod Display
 pub mod Keys
 pub mod Reports

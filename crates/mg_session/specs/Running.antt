@@ -1,22 +1,26 @@
 -- What a session does with its keys.
-use Rattle.std.specs.Prelude.{◌≡◌, ◌⊎◌, ◌↔◌, ⊤, ℕ, ◌+◌, Bool, true, false, not, ◌&&◌, List, [], ◌∷◌, ◌++◌, length, min, max, Option, Ok, Err}
-use Rattle.std.specs.Io.KnownBytes.{Consumes}
+use Rattle.std.specs.Prelude.{◌≡◌, ◌≢◌, ◌⊎◌, ◌↔◌, ⊤, ℕ, ◌+◌, ◌≤◌, Bool, true, false, not, ◌&&◌, List, [], ◌∷◌, ◌++◌, length, take, min, max, Option, Some, None, Result, Ok, Err}
+use Rattle.std.specs.Io.KnownBytes.{Consumes, Keeps}
 use Rattle.std.specs.List.{concat}
 use Rattle.rga_lines.specs.Counting.{Calls, Writes, IsReadToEnd}
 use Rattle.mg_files.specs.Calls.{Call, Adds, load_call, found_call, refused}
 use Rattle.mg_files.specs.Files.{Files}
 use Rattle.mg_files.specs.Loading.{load_outcome}
+use Rattle.mg_files.specs.declared.fault.LoadFault.TheVariants as load
 use Rattle.mg_keys.specs.Begun.{HasBegun}
 use Rattle.mg_screen.specs.declared.size.TheConstants.{MIN_ROWS, MAX_ROWS, MIN_COLUMNS, MAX_COLUMNS}
 use Rattle.mg_settings.specs.Settings.{Values}
 use Rattle.mg_workspace.specs.Actions.{resized}
 use Rattle.mg_editor.specs.Editors.{Editor}
 use Rattle.mg_editor.specs.Opening.{Opens}
+use Rattle.mg_session.specs.Courses.{IsFailed, LeavesScreen, LeavesKeys}
 use Rattle.mg_session.specs.Display.{ShowsIf, BeginsIf, follows_step, follows_block, showing_of}
 use Rattle.mg_session.specs.Keys.{TakesKey}
 use Rattle.mg_session.specs.Reports.{Event, key, size, block_end, Reports, fresh, read_events, all_events}
+use Rattle.mg_session.specs.declared.course.Course.{Course}
+use Rattle.mg_session.specs.declared.course.Course.TheVariants.{On, Quit, NoKeys, NoScreen, NoMemory}
 use Rattle.mg_session.specs.declared.fault.SessionFault.{SessionFault}
-use Rattle.mg_session.specs.declared.fault.SessionFault.TheVariants.{Load, File}
+use Rattle.mg_session.specs.declared.fault.SessionFault.TheVariants.{Load, File, Keys, Screen, Memory}
 use Rattle.mg_session.specs.declared.showing.Showing.{Showing}
 
 -- the calls that a port tells
@@ -64,28 +68,9 @@ TakesAll how (event ∷ rest) calls more old new quits text =
     × TakesEvent how event calls told old mid ends shown
     × GoesOn (TakesAll how rest) ends told more mid new quits shown text
 
--- the same, and what was written stands behind the known bytes of a screen
-pub record TakesOnto {W : Type 0} (contents : W → Option (List ℕ)) (how : Showing) (events : List Event) (calls more : Told) (old new : Editor) (quits : Bool) (screen shown : Calls W) : Type 0 where
-  pub text : List ℕ
-  pub taken : TakesAll how events calls more old new quits text
-  pub written : Writes contents screen shown text
-
 -- Each read gave a block, but the last one may have given no bytes.
 abbrev pub GivesBlocks : {R : Type 0} → Calls R → Calls R → List (List ℕ) → Type 0
 GivesBlocks keys rest blocks = (keys.left ≡ rest.left + length blocks) ⊎ (keys.left ≡ rest.left + (length blocks + 1))
-
--- Keys were read, and what their bytes mean was taken, up to an event that quits.
-pub record TakesRead {R W : Type 0} (meaning : List (List ℕ) → List Event) (remaining : R → Option (List ℕ)) (contents : W → Option (List ℕ)) (how : Showing) (keys rest : Calls R) (calls more : Told) (old new : Editor) (quits : Bool) (screen shown : Calls W) : Type 0 where
-  pub blocks : List (List ℕ)
-  pub read : Consumes (remaining keys.inner) (remaining rest.inner) (concat blocks)
-  pub taken : TakesOnto contents how (meaning blocks) calls more old new quits screen shown
-
--- so that all of it was taken, or an event quits
-pub record TakesKeys {R W : Type 0} (meaning : List (List ℕ) → List Event) (remaining : R → Option (List ℕ)) (contents : W → Option (List ℕ)) (how : Showing) (keys rest : Calls R) (calls more : Told) (old new : Editor) (screen shown : Calls W) : Type 0 where
-  pub quits : Bool
-  pub taken : TakesRead meaning remaining contents how keys rest calls more old new quits screen shown
-  pub reads : GivesBlocks keys rest taken.blocks
-  pub whole : quits ≡ false → IsReadToEnd remaining rest
 
 -- ---- a fault at a frame
 
@@ -113,18 +98,61 @@ StopsAll how fault (event ∷ rest) calls more old text =
     × TakesEvent how event calls told old mid false shown
     × StopsAll how fault rest told more mid further × (text ≡ shown ++ further))
 
--- the same, and what was written stands behind the known bytes of a screen
-pub record StopsOnto {W : Type 0} (contents : W → Option (List ℕ)) (how : Showing) (fault : SessionFault) (events : List Event) (calls more : Told) (old : Editor) (screen shown : Calls W) : Type 0 where
-  pub text : List ℕ
-  pub stopped : StopsAll how fault events calls more old text
-  pub written : Writes contents screen shown text
+-- ---- events, with what they leave of the screen
 
--- Keys were read, and of what their bytes mean an event stops.
-pub record StopsRead {R W : Type 0} (meaning : List (List ℕ) → List Event) (remaining : R → Option (List ℕ)) (contents : W → Option (List ℕ)) (how : Showing) (fault : SessionFault) (keys rest : Calls R) (calls more : Told) (old : Editor) (screen shown : Calls W) : Type 0 where
-  pub blocks : List (List ℕ)
-  pub read : Consumes (remaining keys.inner) (remaining rest.inner) (concat blocks)
-  pub reads : GivesBlocks keys rest blocks
-  pub stopped : StopsOnto contents how fault (meaning blocks) calls more old screen shown
+-- so far the events were taken, and this was written behind them
+abbrev pub TakesSome : Course → Showing → List Event → Told → Told → Editor → Editor → List ℕ → Type 0
+TakesSome On how events calls more old new text = TakesAll how events calls more old new false text
+TakesSome Quit how events calls more old new text = TakesAll how events calls more old new true text
+TakesSome NoKeys how events calls more old new text = ⊥
+TakesSome NoScreen how events calls more old new text = StopsAll how Screen events calls more old text
+TakesSome NoMemory how events calls more old new text = StopsAll how Memory events calls more old text
+
+-- the same, and what was written stands behind the known bytes of a screen
+pub record Took {W : Type 0} (contents : W → Option (List ℕ)) (how : Showing) (events : List Event) (calls more : Told) (old new : Editor) (course : Course) (screen shown : Calls W) : Type 0 where
+  pub text : List ℕ
+  pub taken : TakesSome course how events calls more old new text
+  pub written : Writes contents screen shown text
+  pub device : LeavesScreen course screen shown
+
+-- ---- the reads of the keys
+
+-- one was answered by so many bytes
+pub record GivesBytes {R : Type 0} (remaining : R → Option (List ℕ)) (count : ℕ) (bytes : List ℕ) (keys rest : Calls R) : Type 0 where
+  pub within : count ≤ length bytes
+  pub read : Consumes (remaining keys.inner) (remaining rest.inner) (take count bytes)
+  pub call : keys.left ≡ rest.left + 1
+  pub unfailed : rest.failures ≡ keys.failures
+  pub end : count ≡ 0 → IsReadToEnd remaining rest
+
+-- one was answered, or failed
+abbrev pub ReadsBlock : {R : Type 0} → (R → Option (List ℕ)) → Option ℕ → List ℕ → Calls R → Calls R → Type 0
+ReadsBlock remaining (Some count) bytes keys rest = GivesBytes remaining count bytes keys rest
+ReadsBlock remaining None bytes keys rest = Keeps (remaining keys.inner) (remaining rest.inner) × IsFailed keys rest
+
+module _ {R W : Type 0} (remaining : R → Option (List ℕ)) (contents : W → Option (List ℕ)) (how : Showing) (reports : Reports) (keys rest : Calls R) (calls more : Told) (old new : Editor) where
+  -- Keys were read, and what their bytes mean was taken, up to an event behind which the session ends, or to their end.
+  pub record TookAll (course : Course) (screen shown : Calls W) : Type 0 where
+    pub blocks : List (List ℕ)
+    pub read : Consumes (remaining keys.inner) (remaining rest.inner) (concat blocks)
+    pub reads : GivesBlocks keys rest blocks
+    pub whole : course ≡ On → IsReadToEnd remaining rest
+    pub taken : Took contents how (all_events reports blocks) calls more old new course screen shown
+    pub unfailed : rest.failures ≡ keys.failures
+
+  -- The next ones could not be read. Bytes that begin a report were not taken then.
+  pub record TookUnread (screen shown : Calls W) : Type 0 where
+    pub blocks : List (List ℕ)
+    pub read : Consumes (remaining keys.inner) (remaining rest.inner) (concat blocks)
+    pub taken : Took contents how (read_events reports blocks) calls more old new On screen shown
+    pub failed : IsFailed keys rest
+
+  abbrev pub TookKeys : Course → Calls W → Calls W → Type 0
+  TookKeys On screen shown = TookAll On screen shown
+  TookKeys Quit screen shown = TookAll Quit screen shown
+  TookKeys NoKeys screen shown = TookUnread screen shown
+  TookKeys NoScreen screen shown = TookAll NoScreen screen shown
+  TookKeys NoMemory screen shown = TookAll NoMemory screen shown
 
 -- ---- the load of the settings' name
 
@@ -132,13 +160,20 @@ pub record StopsRead {R W : Type 0} (meaning : List (List ℕ) → List Event) (
 abbrev pub IsFound : Values → Files → Told → Told → Type 0
 IsFound v found calls told = Adds calls told (found_call v.name found ∷ [])
 
--- an editor that opens by what it answered, and what is shown of it
-pub record IsOpened (v : Values) (calls told : Told) (reports : Reports) (how : Showing) (first : Editor) : Type 0 where
+-- an editor that opens by what it answered
+pub record IsOpened (v : Values) (calls told : Told) (first : Editor) : Type 0 where
   pub found : Files
   pub load : IsFound v found calls told
   pub opens : Opens v found (Ok first)
-  pub reported : reports ≡ fresh v.resizable
-  pub shown : how ≡ showing_of v
+
+-- an editor that opens by these files, or why none does
+abbrev pub Edits : Values → Files → Result Editor SessionFault → Type 0
+Edits v found (Ok first) = Opens v found (Ok first)
+Edits v found (Err (Load e)) = (load_outcome v.name v.replica v.limit found ≡ Err e) × (e ≢ load.Memory)
+Edits v found (Err File) = ⊥
+Edits v found (Err Keys) = ⊥
+Edits v found (Err Screen) = ⊥
+Edits v found (Err Memory) = ⊤
 
 -- It was refused, or no buffer is loaded from what it answered, for this fault.
 abbrev pub FailsToOpen : Values → Told → Told → SessionFault → Type 0
@@ -260,3 +295,18 @@ module _ {R W : Type 0} (remaining : R → Option (List ℕ)) (contents : W → 
     pub load : IsFound v found calls told
     pub opens : Opens v found (Ok first)
     pub stops : Stops (fresh v.resizable) (showing_of v) fault keys rest told more first screen shown
+
+  -- ---- as a session is answered
+
+  -- what a session did that stands so behind all of its keys
+  abbrev pub Did : Course → Reports → Showing → Calls R → Calls R → Told → Told → Editor → Calls W → Calls W → Type 0
+  Did On reports how keys rest calls more first screen shown = Ran reports how keys rest calls more first screen shown
+  Did Quit reports how keys rest calls more first screen shown = ⊥
+  Did NoKeys reports how keys rest calls more first screen shown = BrokeOff reports how keys rest calls more first screen shown
+  Did NoScreen reports how keys rest calls more first screen shown = Stops reports how Screen keys rest calls more first screen shown
+  Did NoMemory reports how keys rest calls more first screen shown = Stops reports how Memory keys rest calls more first screen shown
+
+  pub record Ended (course : Course) (reports : Reports) (how : Showing) (keys rest : Calls R) (calls more : Told) (first : Editor) (screen shown : Calls W) : Type 0 where
+    pub did : Did course reports how keys rest calls more first screen shown
+    pub keys_device : LeavesKeys course keys rest
+    pub screen_device : LeavesScreen course screen shown

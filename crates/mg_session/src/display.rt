@@ -1,11 +1,9 @@
 //! Frames, as they are written.
-ghost use Rattle.std.specs.Prelude.{◌≡◌, ◌⊎◌, ℕ, List, ◌∷◌, ◌++◌, [], true, map, string_bytes, IfOk, OnOk, IfErr};
-ghost use Rattle.rga_lines.specs.Counting.{CountsAs, StaysFlushed, Writes, WritesFront};
+ghost use Rattle.std.specs.Prelude.{◌≡◌, ◌∷◌, ◌++◌, [], true, map, string_bytes, IfOk, OnOk, IfSome};
 ghost use Rattle.rga_lines.specs.Stream.{newline, bytes_of_lines};
 ghost use Rattle.mg_session.specs.Display as spec;
-ghost use Rattle.mg_session.specs.declared.fault.SessionFault.TheVariants.{Screen, Memory};
 
-use crate::fault::SessionFault;
+use crate::course::Course;
 use mg_editor::Editor;
 use mg_screen::Position;
 use rga_lines::Counted;
@@ -58,21 +56,17 @@ fn frame_text(
     Ok(text)
 }
 
-/// Writes a text, and flushes the device. `Screen` comes exactly where a call failed.
-fn write_text<W: Write>(text: &str, screen: &mut Counted<W>) -> Result<(), SessionFault>
-    ensures written { OnOk result (Writes W.contents screen.old screen.new text.now) }
-    ensures begun { WritesFront W.contents screen.old screen.new text.now }
-    ensures flushed { OnOk result (screen.new.flushed ≡ true) }
-    ensures fault { IfErr result (λ e. e ≡ Screen) }
-    ensures device { CountsAs Screen result screen.old screen.new }
+/// Writes a text, and flushes the device.
+fn write_text<W: Write>(text: &str, screen: &mut Counted<W>) -> Course
+    ensures { spec.Wrote W.contents text.now result screen.old screen.new }
 {
     let Ok(()) = screen.write_all(text.as_bytes()) else {
-        return Err(SessionFault::Screen);
+        return Course::NoScreen;
     };
     let Ok(()) = screen.flush() else {
-        return Err(SessionFault::Screen);
+        return Course::NoScreen;
     };
-    Ok(())
+    Course::On
 }
 
 /// Where the cursor stands, where that is shown.
@@ -82,19 +76,15 @@ fn shown_cursor(has_cursor: bool, at: Position) -> Option<Position>
     if has_cursor { Some(at) } else { None }
 }
 
-/// The frame of an editor, as it is written.
-fn frame_of<S: TextStore>(
-    alloc: Global,
-    editor: &mut Editor<S>,
-    has_cursor: bool,
-) -> Result<String, SessionFault>
-    ensures shown { IfOk result (λ text.
+/// The frame of an editor, as it is written; nothing where memory is wanting.
+fn frame_of<S: TextStore>(alloc: Global, editor: &mut Editor<S>, has_cursor: bool) -> Option<String>
+    ensures { IfSome result (λ text.
         spec.ShowsFrame has_cursor editor.old editor.new (string_bytes text)) }
-    ensures memory { IfErr result (λ e. e ≡ Memory) }
 {
-    let frame = editor.frame()?;
-    let cursor = shown_cursor(has_cursor, frame.cursor);
-    Ok(frame_text(alloc, &frame.rows, cursor)?)
+    match editor.frame() {
+        Ok(frame) => { frame_text(alloc, &frame.rows, shown_cursor(has_cursor, frame.cursor)).ok() }
+        Err(_) => None,
+    }
 }
 
 /// Writes a frame of the editor, and behind it the line of the cursor, where that is asked.
@@ -103,18 +93,12 @@ pub(crate) fn show<S: TextStore, W: Write>(
     editor: &mut Editor<S>,
     has_cursor: bool,
     screen: &mut Counted<W>,
-) -> Result<(), SessionFault>
-    ensures shown { OnOk result ((text : List ℕ)
-        × spec.ShowsFrame has_cursor editor.old editor.new text
-        × Writes W.contents screen.old screen.new text) }
-    ensures begun { IfErr result (λ e. (part : List ℕ)
-        × spec.BeginsFrame e has_cursor editor.old part
-        × Writes W.contents screen.old screen.new part) }
-    ensures flushed { StaysFlushed Screen result screen.old screen.new }
-    ensures fault { IfErr result (λ e. (e ≡ Screen) ⊎ (e ≡ Memory)) }
-    ensures device { CountsAs Screen result screen.old screen.new }
+) -> Course
+    ensures { spec.Showed W.contents true has_cursor
+        editor.old editor.new result screen.old screen.new }
 {
-    let text = frame_of(alloc, editor, has_cursor)?;
-    write_text(text.as_str(), screen)?;
-    Ok(())
+    match frame_of(alloc, editor, has_cursor) {
+        Some(text) => write_text(text.as_str(), screen),
+        None => Course::NoMemory,
+    }
 }

@@ -1,7 +1,8 @@
 //! Why a session ended early.
-use mg_editor::Fault;
+ghost use Rattle.std.specs.Prelude.{◌≡◌};
+ghost use Rattle.mg_session.specs.Faults as spec;
+
 use mg_files::{LoadFault, PortFault};
-use std::alloc::AllocError;
 
 /// Why a session ended before the end of its keys, or did not begin.
 #[derive(Clone, Copy, PartialEq, Eq)]
@@ -18,52 +19,22 @@ pub enum SessionFault {
     Memory,
 }
 
-impl From<LoadFault> for SessionFault {
-    ghost use Rattle.std.specs.Prelude.{◌≡◌};
-    ghost use Rattle.mg_session.specs.Faults.{load_fault};
-
-    ghost from_gives = { λ e fault. fault ≡ load_fault e };
-
-    fn from(e: LoadFault) -> SessionFault {
-        match e {
-            LoadFault::Memory => SessionFault::Memory,
-            _ => SessionFault::Load(e),
-        }
+/// The fault of a load.
+pub(crate) fn of_load(fault: LoadFault) -> SessionFault
+    ensures { result ≡ spec.load_fault fault }
+{
+    match fault {
+        LoadFault::Memory => SessionFault::Memory,
+        fault => SessionFault::Load(fault),
     }
 }
 
-impl From<PortFault> for SessionFault {
-    ghost use Rattle.std.specs.Prelude.{◌≡◌};
-    ghost use Rattle.mg_session.specs.Faults.{port_fault};
-
-    ghost from_gives = { λ e fault. fault ≡ port_fault e };
-
-    fn from(e: PortFault) -> SessionFault {
-        match e {
-            PortFault::File => SessionFault::File,
-            PortFault::Memory => SessionFault::Memory,
-        }
-    }
-}
-
-impl From<Fault> for SessionFault {
-    ghost use Rattle.std.specs.Prelude.{◌≡◌};
-    ghost use Rattle.mg_session.specs.declared.fault.SessionFault.TheVariants.{Memory};
-
-    ghost from_gives = { λ _ fault. fault ≡ Memory };
-
-    fn from(_: Fault) -> SessionFault {
-        SessionFault::Memory
-    }
-}
-
-impl From<AllocError> for SessionFault {
-    ghost use Rattle.std.specs.Prelude.{◌≡◌};
-    ghost use Rattle.mg_session.specs.declared.fault.SessionFault.TheVariants.{Memory};
-
-    ghost from_gives = { λ _ fault. fault ≡ Memory };
-
-    fn from(_: AllocError) -> SessionFault {
-        SessionFault::Memory
+/// The fault of a port that is asked for files.
+pub(crate) fn of_port(fault: PortFault) -> SessionFault
+    ensures { result ≡ spec.port_fault fault }
+{
+    match fault {
+        PortFault::File => SessionFault::File,
+        PortFault::Memory => SessionFault::Memory,
     }
 }

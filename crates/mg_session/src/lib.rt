@@ -8,6 +8,7 @@
 //! session ends; and on its faults, a device's being answered exactly where a call of it failed.
 #![tactic(auto)]
 
+mod course;
 mod display;
 mod fault;
 mod keys;

@@ -1,22 +1,22 @@
 //! Sessions.
-ghost use Rattle.std.specs.Prelude.{◌≡◌, ◌≢◌, ◌⊎◌, ◌↔◌, ℕ, Bool, false, not, ◌&&◌, List, [], ◌∷◌, Err, IfOk, OnOk, IfErr};
-ghost use Rattle.rga_lines.specs.Counting.{CountsAs, StaysFlushed, Writes, one_more};
+ghost use Rattle.std.specs.Prelude.{◌≡◌, ◌≢◌, ◌⊎◌, ◌<◌, [], ◌∷◌, length, Err, IfOk, OnOk, IfErr};
+ghost use Rattle.rga_lines.specs.Counting.{CountsAs, StaysFlushed, one_more};
 ghost use Rattle.mg_files.specs.declared.fault.LoadFault.TheVariants.{Memory as NoMemory};
-ghost use Rattle.mg_keys.specs.Begun.{HasBegun};
 ghost use Rattle.mg_session.specs.Display as frames;
-ghost use Rattle.mg_session.specs.Display.{ShowsIf, BeginsIf};
 ghost use Rattle.mg_session.specs.Faults as spec;
 ghost use Rattle.mg_session.specs.Reports as report;
 ghost use Rattle.mg_session.specs.Running as running;
+ghost use Rattle.mg_session.specs.declared.course.Course.TheVariants.{On};
 ghost use Rattle.mg_session.specs.declared.fault.SessionFault.TheVariants.{Load, File, Keys, Screen, Memory};
 
+use crate::course::{Course, answer, behind_key};
 use crate::display::show;
-use crate::fault::SessionFault;
+use crate::fault::{SessionFault, of_load, of_port};
 use crate::keys::take_key;
 use crate::reports::{Meaning, Reports};
-use crate::showing::{Showing, follows_block, follows_step};
+use crate::showing::{Showing, follows_block, follows_key, follows_step};
 use mg_editor::Editor;
-use mg_files::Port;
+use mg_files::{Found, Port};
 use mg_screen::{MAX_COLUMNS, MAX_ROWS, MIN_COLUMNS, MIN_ROWS};
 use mg_settings::Settings;
 use rga_lines::Counted;
@@ -27,13 +27,12 @@ use std::io::{Read, Write};
 /// How many bytes one read of the keys asks for.
 const BLOCK: usize = 4096;
 
-/// An editor, and what is shown of it.
+/// How the keys of a session are read, and what is shown of its editor.
 #[derive(Drop)]
-struct Session<S: TextStore> {
+struct Session {
     alloc: Global,
-    editor: Editor<S>,
-    /// What the bytes of the keys mean.
-    reports: Reports,
+    /// Whether there are reports of the screen's size among the keys.
+    resizable: bool,
     /// Which frames are written.
     showing: Showing,
 }
@@ -96,8 +95,12 @@ pub fn run_keys<S: TextStore, R: Read, W: Write, P: Port>(
     ensures unwritten { IfErr result (λ e. spec.IsOfLoad e → screen.new ≡ screen.old) }
     ensures folded { result ≢ Err (Load NoMemory) }
 {
-    let mut session: Session<S> = open(alloc, port, settings)?;
-    session.run(keys, screen, port)
+    match open::<S, P>(alloc, port, settings) {
+        Ok(mut editor) => {
+            answer(session_of(alloc, settings).run(&mut editor, keys, screen, port))
+        }
+        Err(fault) => Err(fault),
+    }
 }
 
 /// Loads what is there under the name of the settings. That is the one call of the port.
@@ -105,343 +108,266 @@ fn open<S: TextStore, P: Port>(
     alloc: Global,
     port: &mut P,
     settings: &Settings,
-) -> Result<Session<S>, SessionFault>
-    ensures opened { IfOk result (λ session. running.IsOpened settings.now (P.calls port.old)
-        (P.calls port.new) session.reports session.showing session.editor) }
+) -> Result<Editor<S>, SessionFault>
+    ensures opened { IfOk result
+        (running.IsOpened settings.now (P.calls port.old) (P.calls port.new)) }
     ensures failed { IfErr result
         (running.FailsToOpen settings.now (P.calls port.old) (P.calls port.new)) }
     ensures fault { IfErr result (λ e. (e ≢ Keys) × (e ≢ Screen) × (e ≢ Load NoMemory)) }
     ensures file { result ≡ Err File → P.failures port.new ≡ one_more (P.failures port.old) }
 {
+    match port.load(settings.values().name.as_str()) {
+        Ok(found) => edit(alloc, settings, found),
+        Err(fault) => Err(of_port(fault)),
+    }
+}
+
+/// An editor of what was found.
+fn edit<S: TextStore>(
+    alloc: Global,
+    settings: &Settings,
+    found: Found,
+) -> Result<Editor<S>, SessionFault>
+    ensures { running.Edits settings.now found result }
+{
+    match Editor::new(alloc, settings, found) {
+        Ok(editor) => Ok(editor),
+        Err(fault) => Err(of_load(fault)),
+    }
+}
+
+/// The session that the settings ask for.
+fn session_of(alloc: Global, settings: &Settings) -> Session
+    ensures resizable { result.resizable ≡ settings.now.resizable }
+    ensures showing { result.showing ≡ frames.showing_of settings.now }
+{
     let values = settings.values();
-    let found = port.load(values.name.as_str())?;
-    Ok(Session {
+    Session {
         alloc,
-        editor: Editor::new(alloc, settings, found)?,
-        reports: Reports::new(values.resizable),
+        resizable: values.resizable,
         showing: Showing {
             trace: values.trace,
             newest: values.newest,
             cursor: values.cursor,
         },
-    })
+    }
 }
 
-impl<S: TextStore> Session<S> {
-    /// Takes all keys, between the first frame and the last.
-    fn run<R: Read, W: Write, P: Port>(
-        &mut self,
+impl Session {
+    /// Takes what the keys mean, between a frame at the start and one at the end.
+    fn run<S: TextStore, R: Read, W: Write, P: Port>(
+        &self,
+        editor: &mut Editor<S>,
         keys: &mut Counted<R>,
         screen: &mut Counted<W>,
         port: &mut P,
-    ) -> Result<(), SessionFault>
-        ensures ran { OnOk result (running.Ran R.remaining W.contents self.old.reports
-            self.old.showing keys.old keys.new (P.calls port.old) (P.calls port.new)
-            self.old.editor screen.old screen.new) }
-        ensures broken { result ≡ Err Keys → running.BrokeOff R.remaining W.contents
-            self.old.reports self.old.showing keys.old keys.new (P.calls port.old)
-            (P.calls port.new) self.old.editor screen.old screen.new }
-        ensures begun { IfErr result (λ e. e ≢ Keys → running.Stops R.remaining W.contents
-            self.old.reports self.old.showing e keys.old keys.new
-            (P.calls port.old) (P.calls port.new) self.old.editor screen.old screen.new) }
-        ensures fault { IfErr result (λ e. ¬ (spec.IsOfLoad e)) }
-        ensures keys { CountsAs Keys result keys.old keys.new }
-        ensures flushed { StaysFlushed Screen result screen.old screen.new }
-        ensures screen { CountsAs Screen result screen.old screen.new }
+    ) -> Course
+        ensures { running.Ended R.remaining W.contents result
+            (report.fresh self.now.resizable) self.now.showing keys.old keys.new
+            (P.calls port.old) (P.calls port.new) editor.old screen.old screen.new }
     {
-        self.show_if(self.showing.trace, screen)?;
-        self.take_blocks(keys, screen, port)?;
-        self.show_if(!self.showing.trace, screen)
+        match self.show_if(editor, self.showing.trace, screen) {
+            Course::On => {}
+            stopped => return stopped,
+        }
+        match self.take_keys(editor, keys, screen, port) {
+            Course::On | Course::Quit => self.show_if(editor, !self.showing.trace, screen),
+            stopped => stopped,
+        }
     }
 
     /// Writes a frame, where one is asked for.
-    fn show_if<W: Write>(
-        &mut self,
+    fn show_if<S: TextStore, W: Write>(
+        &self,
+        editor: &mut Editor<S>,
         is_asked: bool,
         screen: &mut Counted<W>,
-    ) -> Result<(), SessionFault>
-        ensures shown { OnOk result ((text : List ℕ)
-            × ShowsIf is_asked self.old.showing.cursor self.old.editor self.new.editor text
-            × Writes W.contents screen.old screen.new text) }
-        ensures begun { IfErr result (λ e. (part : List ℕ)
-            × BeginsIf is_asked e self.old.showing.cursor self.old.editor part
-            × Writes W.contents screen.old screen.new part) }
-        ensures kept { self.new.showing ≡ self.old.showing }
-        ensures reports { self.new.reports ≡ self.old.reports }
-        ensures fault { IfErr result (λ e. (e ≡ Screen) ⊎ (e ≡ Memory)) }
-        ensures flushed { StaysFlushed Screen result screen.old screen.new }
-        ensures device { CountsAs Screen result screen.old screen.new }
+    ) -> Course
+        ensures { frames.Showed W.contents is_asked self.now.showing.cursor
+            editor.old editor.new result screen.old screen.new }
     {
         if is_asked {
-            return show(self.alloc, &mut self.editor, self.showing.cursor, screen);
+            show(self.alloc, editor, self.showing.cursor, screen)
+        } else {
+            Course::On
         }
-        Ok(())
     }
 
-    /// Whether a frame follows the last byte that was pressed, behind which the session ends or goes
-    /// on.
-    fn is_traced(&self, ends: bool) -> bool
-        ensures { (amid : Bool) × ((amid ≡ false) ↔ HasBegun self.now.editor.talk.keys [])
-            × (result ≡ (frames.follows_step self.now.showing ends && not amid)) }
-    {
-        let is_amid = self.editor.is_amid_keys();
-        follows_step(self.showing, ends) && !is_amid
-    }
-
-    /// Presses a key, and answers whether the session ends.
-    fn press<W: Write, P: Port>(
-        &mut self,
+    /// Presses a key.
+    fn press<S: TextStore, W: Write, P: Port>(
+        &self,
+        editor: &mut Editor<S>,
         key: u8,
         screen: &mut Counted<W>,
         port: &mut P,
-    ) -> Result<bool, SessionFault>
-        ensures taken { IfOk result (λ ends. running.TakesOnto W.contents
-            self.old.showing (report.key key ∷ []) (P.calls port.old)
-            (P.calls port.new) self.old.editor self.new.editor ends screen.old screen.new) }
-        ensures begun { IfErr result (λ e. running.StopsOnto W.contents
-            self.old.showing e (report.key key ∷ []) (P.calls port.old)
-            (P.calls port.new) self.old.editor screen.old screen.new) }
-        ensures kept { self.new.showing ≡ self.old.showing }
-        ensures reports { self.new.reports ≡ self.old.reports }
-        ensures fault { IfErr result (λ e. (e ≡ Screen) ⊎ (e ≡ Memory)) }
-        ensures flushed { StaysFlushed Screen result screen.old screen.new }
-        ensures device { CountsAs Screen result screen.old screen.new }
+    ) -> Course
+        ensures { running.Took W.contents self.now.showing (report.key key ∷ [])
+            (P.calls port.old) (P.calls port.new) editor.old editor.new
+            result screen.old screen.new }
     {
-        let ends = take_key(&mut self.editor, key, port);
-        self.show_if(self.is_traced(ends), screen)?;
-        Ok(ends)
+        let quits = take_key(editor, key, port);
+        let is_asked = follows_key(self.showing, quits, editor.is_amid_keys());
+        behind_key(quits, self.show_if(editor, is_asked, screen))
     }
 
-    /// Presses keys up to one that quits, and answers whether there is one.
-    fn press_all<W: Write, P: Port>(
-        &mut self,
+    /// Presses keys up to one that quits.
+    fn press_all<S: TextStore, W: Write, P: Port>(
+        &self,
+        editor: &mut Editor<S>,
         keys: &[u8],
         screen: &mut Counted<W>,
         port: &mut P,
-    ) -> Result<bool, SessionFault>
-        ensures taken { IfOk result (λ quits. running.TakesOnto W.contents
-            self.old.showing (report.keys keys.now) (P.calls port.old)
-            (P.calls port.new) self.old.editor self.new.editor quits screen.old screen.new) }
-        ensures begun { IfErr result (λ e. running.StopsOnto W.contents
-            self.old.showing e (report.keys keys.now) (P.calls port.old)
-            (P.calls port.new) self.old.editor screen.old screen.new) }
-        ensures kept { self.new.showing ≡ self.old.showing }
-        ensures reports { self.new.reports ≡ self.old.reports }
-        ensures fault { IfErr result (λ e. (e ≡ Screen) ⊎ (e ≡ Memory)) }
-        ensures flushed { StaysFlushed Screen result screen.old screen.new }
-        ensures device { CountsAs Screen result screen.old screen.new }
+    ) -> Course
+        ensures { running.Took W.contents self.now.showing (report.keys keys.now)
+            (P.calls port.old) (P.calls port.new) editor.old editor.new
+            result screen.old screen.new }
     {
         for key in keys {
-            let ends = self.press(*key, screen, port)?;
-            if ends {
-                return Ok(true);
+            match self.press(editor, *key, screen, port) {
+                Course::On => {}
+                ended => return ended,
             }
         }
-        Ok(false)
+        Course::On
     }
 
     /// The screen takes a size, within its limits.
-    fn resize<W: Write>(
-        &mut self,
+    fn resize<S: TextStore, W: Write>(
+        &self,
+        editor: &mut Editor<S>,
         rows: usize,
         columns: usize,
         screen: &mut Counted<W>,
-    ) -> Result<(), SessionFault>
-        ensures taken { (calls : running.Told) → OnOk result (running.TakesOnto W.contents
-            self.old.showing (report.size rows columns ∷ []) calls calls
-            self.old.editor self.new.editor false screen.old screen.new) }
-        ensures begun { (calls : running.Told) → IfErr result (λ e. running.StopsOnto W.contents
-            self.old.showing e (report.size rows columns ∷ []) calls calls
-            self.old.editor screen.old screen.new) }
-        ensures kept { self.new.showing ≡ self.old.showing }
-        ensures reports { self.new.reports ≡ self.old.reports }
-        ensures fault { IfErr result (λ e. (e ≡ Screen) ⊎ (e ≡ Memory)) }
-        ensures flushed { StaysFlushed Screen result screen.old screen.new }
-        ensures device { CountsAs Screen result screen.old screen.new }
+    ) -> Course
+        ensures { (calls : running.Told) → running.Took W.contents self.now.showing
+            (report.size rows columns ∷ []) calls calls editor.old editor.new
+            result screen.old screen.new }
     {
-        self.editor.resize(
+        editor.resize(
             rows.max(MIN_ROWS).min(MAX_ROWS),
             columns.max(MIN_COLUMNS).min(MAX_COLUMNS),
         );
-        self.show_if(follows_step(self.showing, false), screen)
+        self.show_if(editor, follows_step(self.showing, false), screen)
     }
 
     /// A block of keys ended.
-    fn end_block<W: Write>(&mut self, screen: &mut Counted<W>) -> Result<(), SessionFault>
-        ensures taken { (calls : running.Told) → OnOk result (running.TakesOnto W.contents
-            self.old.showing (report.block_end ∷ []) calls calls
-            self.old.editor self.new.editor false screen.old screen.new) }
-        ensures begun { (calls : running.Told) → IfErr result (λ e. running.StopsOnto W.contents
-            self.old.showing e (report.block_end ∷ []) calls calls
-            self.old.editor screen.old screen.new) }
-        ensures kept { self.new.showing ≡ self.old.showing }
-        ensures reports { self.new.reports ≡ self.old.reports }
-        ensures fault { IfErr result (λ e. (e ≡ Screen) ⊎ (e ≡ Memory)) }
-        ensures flushed { StaysFlushed Screen result screen.old screen.new }
-        ensures device { CountsAs Screen result screen.old screen.new }
+    fn end_block<S: TextStore, W: Write>(
+        &self,
+        editor: &mut Editor<S>,
+        screen: &mut Counted<W>,
+    ) -> Course
+        ensures { (calls : running.Told) → running.Took W.contents self.now.showing
+            (report.block_end ∷ []) calls calls editor.old editor.new
+            result screen.old screen.new }
     {
-        self.show_if(follows_block(self.showing), screen)
+        self.show_if(editor, follows_block(self.showing), screen)
     }
 
-    /// Takes what a byte leads to, and answers whether the session ends.
-    fn take<W: Write, P: Port>(
-        &mut self,
-        byte: u8,
+    /// Takes what a byte leads to.
+    fn take<S: TextStore, W: Write, P: Port>(
+        &self,
+        editor: &mut Editor<S>,
+        meaning: Meaning,
         screen: &mut Counted<W>,
         port: &mut P,
-    ) -> Result<bool, SessionFault>
-        ensures taken { let read = report.read self.old.reports byte in
-            IfOk result (λ quits. running.TakesOnto W.contents
-            self.old.showing read.events (P.calls port.old) (P.calls port.new)
-            self.old.editor self.new.editor quits screen.old screen.new) }
-        ensures begun { let read = report.read self.old.reports byte in
-            IfErr result (λ e. running.StopsOnto W.contents
-            self.old.showing e read.events (P.calls port.old) (P.calls port.new)
-            self.old.editor screen.old screen.new) }
-        ensures left { self.new.reports ≡ (report.read self.old.reports byte).left }
-        ensures kept { self.new.showing ≡ self.old.showing }
-        ensures fault { IfErr result (λ e. (e ≡ Screen) ⊎ (e ≡ Memory)) }
-        ensures flushed { StaysFlushed Screen result screen.old screen.new }
-        ensures device { CountsAs Screen result screen.old screen.new }
+    ) -> Course
+        ensures { running.Took W.contents self.now.showing (report.events_of meaning)
+            (P.calls port.old) (P.calls port.new) editor.old editor.new
+            result screen.old screen.new }
     {
-        match self.reports.read(byte) {
-            Meaning::Keys(keys) => self.press_all(keys.as_slice(), screen, port),
-            Meaning::Size(rows, columns) => {
-                self.resize(rows, columns, screen)?;
-                Ok(false)
-            }
+        match meaning {
+            Meaning::Keys(keys) => self.press_all(editor, keys.as_slice(), screen, port),
+            Meaning::Size(rows, columns) => self.resize(editor, rows, columns, screen),
         }
     }
 
-    /// Takes what bytes lead to, up to a key that quits, and answers whether there is one.
-    fn take_all<W: Write, P: Port>(
-        &mut self,
-        bytes: &[u8],
-        screen: &mut Counted<W>,
-        port: &mut P,
-    ) -> Result<bool, SessionFault>
-        ensures taken { IfOk result (λ quits. running.TakesOnto W.contents
-            self.old.showing (report.events self.old.reports bytes.now)
-            (P.calls port.old) (P.calls port.new)
-            self.old.editor self.new.editor quits screen.old screen.new) }
-        ensures begun { IfErr result (λ e. running.StopsOnto W.contents
-            self.old.showing e (report.events self.old.reports bytes.now)
-            (P.calls port.old) (P.calls port.new) self.old.editor screen.old screen.new) }
-        ensures left { IfOk result (λ quits. quits ≡ false →
-            self.new.reports ≡ report.after self.old.reports bytes.now) }
-        ensures kept { self.new.showing ≡ self.old.showing }
-        ensures fault { IfErr result (λ e. (e ≡ Screen) ⊎ (e ≡ Memory)) }
-        ensures flushed { StaysFlushed Screen result screen.old screen.new }
-        ensures device { CountsAs Screen result screen.old screen.new }
-    {
-        for byte in bytes {
-            let ends = self.take(*byte, screen, port)?;
-            if ends {
-                return Ok(true);
-            }
-        }
-        Ok(false)
-    }
-
-    /// Takes what the bytes of a read lead to, up to a key that quits, and answers whether there is
-    /// one.
-    fn take_block<W: Write, P: Port>(
-        &mut self,
+    /// Takes what the bytes of a read lead to, up to a key that quits.
+    fn take_block<S: TextStore, W: Write, P: Port>(
+        &self,
+        editor: &mut Editor<S>,
+        reports: &mut Reports,
         block: &[u8],
         screen: &mut Counted<W>,
         port: &mut P,
-    ) -> Result<bool, SessionFault>
-        ensures taken { IfOk result (λ quits. running.TakesOnto W.contents
-            self.old.showing (report.block_events self.old.reports block.now)
-            (P.calls port.old) (P.calls port.new)
-            self.old.editor self.new.editor quits screen.old screen.new) }
-        ensures begun { IfErr result (λ e. running.StopsOnto W.contents
-            self.old.showing e (report.block_events self.old.reports block.now)
-            (P.calls port.old) (P.calls port.new) self.old.editor screen.old screen.new) }
-        ensures left { IfOk result (λ quits. quits ≡ false →
-            self.new.reports ≡ report.after self.old.reports block.now) }
-        ensures kept { self.new.showing ≡ self.old.showing }
-        ensures fault { IfErr result (λ e. (e ≡ Screen) ⊎ (e ≡ Memory)) }
-        ensures flushed { StaysFlushed Screen result screen.old screen.new }
-        ensures device { CountsAs Screen result screen.old screen.new }
+    ) -> Course
+        ensures taken { running.Took W.contents self.now.showing
+            (report.block_events reports.old block.now)
+            (P.calls port.old) (P.calls port.new) editor.old editor.new
+            result screen.old screen.new }
+        ensures left { result ≡ On → reports.new ≡ report.after reports.old block.now }
     {
-        let ends = self.take_all(block, screen, port)?;
-        if ends {
-            return Ok(true);
+        for byte in block {
+            match self.take(editor, reports.read(*byte), screen, port) {
+                Course::On => {}
+                ended => return ended,
+            }
         }
-        self.end_block(screen)?;
-        Ok(false)
+        self.end_block(editor, screen)
     }
 
-    /// Presses the bytes that are held at the end of all keys, up to one that quits, and answers
-    /// whether there is one.
-    fn press_held<W: Write, P: Port>(
-        &mut self,
+    /// Presses the bytes that are held at the end of all keys, up to one that quits.
+    fn press_held<S: TextStore, W: Write, P: Port>(
+        &self,
+        editor: &mut Editor<S>,
         held: &[u8],
         screen: &mut Counted<W>,
         port: &mut P,
-    ) -> Result<bool, SessionFault>
-        ensures taken { IfOk result (λ quits. running.TakesOnto W.contents
-            self.old.showing (report.held_events held.now) (P.calls port.old)
-            (P.calls port.new) self.old.editor self.new.editor quits screen.old screen.new) }
-        ensures begun { IfErr result (λ e. running.StopsOnto W.contents
-            self.old.showing e (report.held_events held.now) (P.calls port.old)
-            (P.calls port.new) self.old.editor screen.old screen.new) }
-        ensures kept { self.new.showing ≡ self.old.showing }
-        ensures fault { IfErr result (λ e. (e ≡ Screen) ⊎ (e ≡ Memory)) }
-        ensures flushed { StaysFlushed Screen result screen.old screen.new }
-        ensures device { CountsAs Screen result screen.old screen.new }
+    ) -> Course
+        ensures { running.Took W.contents self.now.showing (report.held_events held.now)
+            (P.calls port.old) (P.calls port.new) editor.old editor.new
+            result screen.old screen.new }
     {
         if held.is_empty() {
-            return Ok(false);
+            return Course::On;
         }
-        let ends = self.press_all(held, screen, port)?;
-        if ends {
-            return Ok(true);
+        match self.press_all(editor, held, screen, port) {
+            Course::On => self.end_block(editor, screen),
+            ended => ended,
         }
-        self.end_block(screen)?;
-        Ok(false)
     }
 
     /// Takes what the keys mean, block by block, up to one that quits. At their end the bytes that
     /// are held are pressed.
-    fn take_blocks<R: Read, W: Write, P: Port>(
-        &mut self,
+    fn take_keys<S: TextStore, R: Read, W: Write, P: Port>(
+        &self,
+        editor: &mut Editor<S>,
         keys: &mut Counted<R>,
         screen: &mut Counted<W>,
         port: &mut P,
-    ) -> Result<(), SessionFault>
-        ensures taken { OnOk result (running.TakesKeys (report.all_events self.old.reports)
-            R.remaining W.contents self.old.showing keys.old keys.new
-            (P.calls port.old) (P.calls port.new) self.old.editor self.new.editor
-            screen.old screen.new) }
-        ensures broken { result ≡ Err Keys → running.TakesRead (report.read_events self.old.reports)
-            R.remaining W.contents self.old.showing keys.old keys.new
-            (P.calls port.old) (P.calls port.new) self.old.editor self.new.editor false
-            screen.old screen.new }
-        ensures begun { IfErr result (λ e. e ≢ Keys → running.StopsRead
-            (report.all_events self.old.reports) R.remaining W.contents self.old.showing
-            e keys.old keys.new (P.calls port.old) (P.calls port.new)
-            self.old.editor screen.old screen.new) }
-        ensures kept { self.new.showing ≡ self.old.showing }
-        ensures fault { IfErr result (λ e. (e ≡ Keys) ⊎ (e ≡ Screen) ⊎ (e ≡ Memory)) }
-        ensures keys { CountsAs Keys result keys.old keys.new }
-        ensures flushed { StaysFlushed Screen result screen.old screen.new }
-        ensures screen { CountsAs Screen result screen.old screen.new }
+    ) -> Course
+        ensures { running.TookKeys R.remaining W.contents self.now.showing
+            (report.fresh self.now.resizable) keys.old keys.new
+            (P.calls port.old) (P.calls port.new) editor.old editor.new
+            result screen.old screen.new }
     {
+        let mut reports = Reports::new(self.resizable);
         let mut block = [0u8; BLOCK];
         'reads: loop {
-            let Ok(count) = keys.read(&mut block) else {
-                return Err(SessionFault::Keys);
-            };
-            if count == 0 {
-                let held = self.reports.take_held();
-                self.press_held(held.as_slice(), screen, port)?;
-                return Ok(());
-            }
-            if self.take_block(&block[..count], screen, port)? {
-                return Ok(());
+            match read_block(keys, &mut block) {
+                None => return Course::NoKeys,
+                Some(0) => {
+                    let held = reports.take_held();
+                    return self.press_held(editor, held.as_slice(), screen, port);
+                }
+                Some(count) => {
+                    match self.take_block(editor, &mut reports, &block[..count], screen, port) {
+                        Course::On => {}
+                        ended => return ended,
+                    }
+                }
             }
         }
+    }
+}
+
+/// Reads bytes of the keys, and answers how many; nothing where that fails.
+fn read_block<R: Read>(keys: &mut Counted<R>, block: &mut [u8]) -> Option<usize>
+    requires { 0 < length block.old }
+    ensures length { length block.new ≡ length block.old }
+    ensures read { running.ReadsBlock R.remaining result block.new keys.old keys.new }
+{
+    match keys.read(block) {
+        Ok(count) => Some(count),
+        Err(_) => None,
     }
 }

@@ -23,6 +23,13 @@ pub(crate) fn follows_step(showing: Showing, ends: bool) -> bool
     showing.trace
 }
 
+/// Whether a frame follows a key, which may leave a key sequence begun.
+pub(crate) fn follows_key(showing: Showing, ends: bool, is_amid: bool) -> bool
+    ensures { result ≡ spec.follows_key showing ends is_amid }
+{
+    follows_step(showing, ends) && !is_amid
+}
+
 /// Whether a frame follows a block of keys.
 pub(crate) fn follows_block(showing: Showing) -> bool
     ensures { result ≡ spec.follows_block showing }

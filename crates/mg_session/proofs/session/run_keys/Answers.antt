@@ -1,33 +1,49 @@
 use Rattle.std.proofs.Common.{inr}
-use Rattle.mg_workspace.proofs.Results.{on_ok_map}
-use Rattle.mg_session.proofs.FaultLaws.{never_of_load, opened_before}
-use Rattle.mg_session.proofs.StoppedLaws.{stops_from, screen_stops, memory_stops}
-use Rattle.mg_session.proofs.TakenLaws.{ran_from, broke_from}
+use Rattle.mg_files.specs.declared.fault.LoadFault.TheVariants.{Memory}
+use Rattle.mg_session.specs.declared.fault.SessionFault.TheVariants.{Load, File}
+use Rattle.mg_session.proofs.AnswerLaws.{answers_keys, answers_screen, answers_flushed, answers_load, answers_unloaded, answers_other, ended_from, answers_ran, answers_broken, answers_begun, answers_memory}
 use Rattle.mg_session.proofs.session.run_keys.Goals as goal
 
-pub returns-clause-ran : goal.returns-clause-ran
-returns-clause-ran g c =
-    let opened = c.in_ok-session.ensures.opened in
-    on_ok_map c.run.result _ _ (ran_from c.args.settings.now _ _ _ _ _ _ _ _ _ opened) c.run.ensures.ran
+pub returns-in-Ok-clause-ran : goal.returns-in-Ok-clause-ran
+returns-in-Ok-clause-ran g c =
+    let ended = ended_from c.args.settings.now _ _ c.run.result c.session_of.ensures.resizable c.session_of.ensures.showing c.run.ensures in
+    rw c.answer.ensures (answers_ran c.run.result c.in-Ok.ensures.opened ended)
 
-pub returns-clause-broken : goal.returns-clause-broken
-returns-clause-broken g c = λ keys.
-    let opened = c.in_ok-session.ensures.opened in
-    broke_from c.args.settings.now _ _ _ _ _ _ _ _ _ opened (c.run.ensures.broken keys)
+pub returns-in-Ok-clause-broken : goal.returns-in-Ok-clause-broken
+returns-in-Ok-clause-broken g c =
+    let ended = ended_from c.args.settings.now _ _ c.run.result c.session_of.ensures.resizable c.session_of.ensures.showing c.run.ensures in
+    rw c.answer.ensures (answers_broken c.run.result c.in-Ok.ensures.opened ended)
 
-pub returns-clause-unread : goal.returns-clause-unread
-returns-clause-unread g c = never_of_load c.run.result _ c.run.ensures.fault
+pub returns-in-Ok-clause-begun : goal.returns-in-Ok-clause-begun
+returns-in-Ok-clause-begun g c =
+    let ended = ended_from c.args.settings.now _ _ c.run.result c.session_of.ensures.resizable c.session_of.ensures.showing c.run.ensures in
+    rw c.answer.ensures (answers_begun c.run.result c.in-Ok.ensures.opened ended)
 
-pub returns-clause-unwritten : goal.returns-clause-unwritten
-returns-clause-unwritten g c = never_of_load c.run.result _ c.run.ensures.fault
+pub returns-in-Ok-clause-memory : goal.returns-in-Ok-clause-memory
+returns-in-Ok-clause-memory g c =
+    let ended = ended_from c.args.settings.now _ _ c.run.result c.session_of.ensures.resizable c.session_of.ensures.showing c.run.ensures in
+    rw c.answer.ensures (λ is. inr (answers_memory c.run.result c.in-Ok.ensures.opened ended is))
 
-pub returns-clause-load : goal.returns-clause-load
-returns-clause-load g c = opened_before c.args.settings.now _ _ c.run.result c.run.ensures.fault
+pub returns-in-Ok-clause-flushed : goal.returns-in-Ok-clause-flushed
+returns-in-Ok-clause-flushed g c = rw c.answer.ensures (answers_flushed c.run.result _ _ c.run.ensures.screen_device)
 
-pub returns-clause-begun : goal.returns-clause-begun
-returns-clause-begun g c = λ screen.
-    stops_from c.args.settings.now _ _ _ _ _ _ _ _ _ c.in_ok-session.ensures.opened (screen_stops c.run.result _ screen c.run.ensures.begun)
+pub returns-in-Ok-clause-keys : goal.returns-in-Ok-clause-keys
+returns-in-Ok-clause-keys g c = rw c.answer.ensures (answers_keys c.run.result _ _ c.run.ensures.keys_device)
 
-pub returns-clause-memory : goal.returns-clause-memory
-returns-clause-memory g c = λ memory.
-    inr (stops_from c.args.settings.now _ _ _ _ _ _ _ _ _ c.in_ok-session.ensures.opened (memory_stops c.run.result _ memory c.run.ensures.begun))
+pub returns-in-Ok-clause-screen : goal.returns-in-Ok-clause-screen
+returns-in-Ok-clause-screen g c = rw c.answer.ensures (answers_screen c.run.result _ _ c.run.ensures.screen_device)
+
+pub returns-in-Ok-clause-file : goal.returns-in-Ok-clause-file
+returns-in-Ok-clause-file g c = rw c.answer.ensures (λ is. absurd (answers_other c.run.result File tt is))
+
+pub returns-in-Ok-clause-load : goal.returns-in-Ok-clause-load
+returns-in-Ok-clause-load g c = rw c.answer.ensures (answers_load c.run.result c.args.settings.now _ _)
+
+pub returns-in-Ok-clause-unread : goal.returns-in-Ok-clause-unread
+returns-in-Ok-clause-unread g c = rw c.answer.ensures (answers_unloaded c.run.result _)
+
+pub returns-in-Ok-clause-unwritten : goal.returns-in-Ok-clause-unwritten
+returns-in-Ok-clause-unwritten g c = rw c.answer.ensures (answers_unloaded c.run.result _)
+
+pub returns-in-Ok-clause-folded : goal.returns-in-Ok-clause-folded
+returns-in-Ok-clause-folded g c = rw c.answer.ensures (answers_other c.run.result (Load Memory) tt)

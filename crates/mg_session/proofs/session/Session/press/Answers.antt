@@ -1,6 +1,5 @@
-use Rattle.mg_session.proofs.TakenLaws.{key_by}
+use Rattle.mg_session.proofs.TakenLaws.{took_key}
 use Rattle.mg_session.proofs.session.Session.press.Goals as goal
 
-pub returns-clause-taken : goal.returns-clause-taken
-returns-clause-taken g c =
-    key_by g.W.Write.contents _ _ _ _ _ _ _ _ _ c.args.screen.now c.show_if.new.screen c.take_key-ends.ensures c.is_traced.ensures c.in_ok-show_if.ensures.shown
+pub returns : goal.returns
+returns g c = took_key c.take_key-quits.ensures c.is_amid_keys.ensures c.follows_key-is_asked.ensures c.show_if.ensures c.behind_key.ensures
