@@ -10,3 +10,4 @@ pub mod FaultLaws
 pub mod TakingLaws
 pub mod UndoneLaws
 pub mod UndoLaws
+pub mod KeptLaws

@@ -127,6 +127,6 @@ fn add_group(groups: &mut Vec<Group>, group: Group, ops: &[Op])
     ensures { groups.new.items ≡ with_group groups.old.items group ops.now }
 {
     if !ops.is_empty() {
-        let _ = groups.push(group);
+        groups.push_reserved(group);
     }
 }

@@ -21,7 +21,7 @@ pub(crate) fn push_slots(slots: &mut Vec<usize>, elements: &mut IndexSet<Id>, id
     ensures spare { spare elements.old ≤ spare elements.new + length ids.now }
 {
     for id in ids {
-        let _ = slots.push(slot_of(elements, *id));
+        slots.push_reserved(slot_of(elements, *id));
     }
 }
 
@@ -40,7 +40,7 @@ pub(crate) fn push_deleted(
     ensures spare { spare elements.old ≤ spare elements.new + length deleted.now }
 {
     for (id, ch) in deleted {
-        let _ = slots.push((slot_of(elements, *id), *ch));
+        slots.push_reserved((slot_of(elements, *id), *ch));
     }
 }
 
@@ -51,7 +51,7 @@ pub(crate) fn push_same(slots: &mut Vec<usize>, deleted: &[(usize, char)])
     ensures { slots.new.items ≡ map (λ b. b.0) deleted.now }
 {
     for (slot, _) in deleted {
-        let _ = slots.push(*slot);
+        slots.push_reserved(*slot);
     }
 }
 

@@ -10,6 +10,7 @@ ghost use Rattle.rga_ops.specs.declared.refusal.Refusal.TheVariants.{Memory};
 ghost use Rattle.mg_buffer.specs.declared.fault.BufferFault.TheVariants.{Store};
 
 use crate::buffer::Buffer;
+use crate::change::Change;
 use crate::fault::BufferFault;
 use crate::marker::Marker;
 use crate::memo::Memo;
@@ -66,6 +67,17 @@ impl<S: TextStore> Buffer<S> {
         ensures same { OnErr result (self.new ≡ self.old) }
     {
         let undone = self.history.change_at(self.alloc, index)?;
+        self.revert_change(index, &undone)
+    }
+
+    /// The same by what the group did.
+    fn revert_change(&mut self, index: usize, undone: &Change) -> Result<(), Refusal>
+        requires within { index < length self.old.groups }
+        requires at { slice_get self.old.groups index ≡ Some undone.now }
+        ensures exact { IsAnswer result (growth_answer self.old (length undone.now.deleted)) }
+        ensures reverted { OnOk result (Reverted index undone.now self.old self.new) }
+        ensures same { OnErr result (self.new ≡ self.old) }
+    {
         let ops = self.doc.draft_revert(&undone.inserted, &undone.deleted)?;
         let (done, room) = prepare(
             self.alloc,

@@ -329,6 +329,6 @@ fn push_elements(elements: &mut Vec<Id>, put: &[char], replica: u16, last: u64)
     let mut counter = last;
     for _ in put {
         counter += 1;
-        let _ = elements.push(id_of(counter, replica));
+        elements.push_reserved(id_of(counter, replica));
     }
 }

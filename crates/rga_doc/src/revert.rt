@@ -99,9 +99,26 @@ impl<S: TextStore> Doc<S> {
             ≡ distinct_elements (filter (is_visible self.now.content) gone.now)) }
     {
         let complete = Complete::of(self.alloc, &self.store)?;
-        self.check_restorable(&complete, back)?;
+        self.check_among(&complete, gone, back)
+    }
+
+    /// The same by what is complete.
+    fn check_among(
+        &self,
+        complete: &Complete,
+        gone: &[Id],
+        back: &[(Id, char)],
+    ) -> Result<Vec<Id>, Refusal>
+        requires complete { AreTheComplete complete.now self.now.content }
+        ensures exact { IsAnswer result (and_check
+            (place_answer (are_restorable self.now.content back.now))
+            (counter_answer self.now.content (length back.now))) }
+        ensures visible { IfOk result (λ kept. kept.items
+            ≡ distinct_elements (filter (is_visible self.now.content) gone.now)) }
+    {
+        self.check_restorable(complete, back)?;
         check_counters(&self.store, back.len())?;
-        self.collect_visible(&complete, gone)
+        self.collect_visible(complete, gone)
     }
 
     /// The deletions and then the insertions of a revert. `Memory` alone.

@@ -45,15 +45,3 @@ deletions_checked id (suc count) h = (rw (ne_eqb id.counter 0 (λ z. omega (arit
 -- they are well-formed
 pub run_deletions_checked : (r : DeletionRun) → IsDeletionRun r → AllByRecursion (λ (op : Op). checked op ≡ Ok tt) (run_deletions r)
 run_deletions_checked r h = deletions_checked r.id r.count (above_root r.id h.element)
-
--- five parts written one behind another, the first behind nothing
-pub five_parts : (a b c d e t₀ t₁ t₂ t₃ t₄ t₅ : List ℕ) → t₀ ≡ [] → t₁ ≡ t₀ ++ a → t₂ ≡ t₁ ++ b → t₃ ≡ t₂ ++ c → t₄ ≡ t₃ ++ d → t₅ ≡ t₄ ++ e → t₅ ≡ a ++ (b ++ (c ++ (d ++ e)))
-five_parts a b c d e t₀ t₁ t₂ t₃ t₄ t₅ h₀ h₁ h₂ h₃ h₄ h₅ =
-    let one : t₁ ≡ a = h₁ ∙ ap (λ l. l ++ a) h₀ in
-    let two : t₂ ≡ a ++ b = h₂ ∙ ap (λ l. l ++ b) one in
-    let three : t₃ ≡ (a ++ b) ++ c = h₃ ∙ ap (λ l. l ++ c) two in
-    let four : t₄ ≡ ((a ++ b) ++ c) ++ d = h₄ ∙ ap (λ l. l ++ d) three in
-    h₅ ∙ ap (λ l. l ++ e) four
-    ∙ append_assoc ((a ++ b) ++ c) d e
-    ∙ append_assoc (a ++ b) c (d ++ e)
-    ∙ append_assoc a b (c ++ (d ++ e))

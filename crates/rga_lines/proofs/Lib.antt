@@ -17,3 +17,5 @@ pub mod DeletionLemmas
 pub mod DeletionBack
 pub mod SpelledRun
 pub mod StandLemmas
+pub mod AddedLemmas
+pub mod SpelledLemmas

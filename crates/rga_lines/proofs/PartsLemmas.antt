@@ -1,5 +1,5 @@
 -- The parts of a line that is spelled in one way.
-use Rattle.std.proofs.Common.{◌≡◌, ℕ, ◌+◌, ◌*◌, ◌/◌, ◌%◌, ◌^◌, ◌<◌, ◌≤◌, true, false, List, [], ◌∷◌, ◌++◌, length, take, drop, decimal, Option, Some, None, IfSome, MatchOption, Bor, get_or, nat_eq, sym, ap, subst, ◌∙◌, arith, append-nil}
+use Rattle.std.proofs.Common.{◌≡◌, ◌≢◌, ℕ, ◌+◌, ◌*◌, ◌/◌, ◌%◌, ◌^◌, ◌<◌, ◌≤◌, true, false, List, [], ◌∷◌, ◌++◌, length, take, drop, decimal, Option, Some, None, IfSome, MatchOption, Bor, get_or, nat_eq, sym, ap, subst, ◌∙◌, arith, append-nil, lt-ltb, le-ltb, ne_eqb}
 use Rattle.std.specs.Char.{encode_utf8, IsScalar}
 use Rattle.std.specs.Str.{IsUtf8, chars, encode_utf8_all}
 use Rattle.std.specs.Cmp.Lexicographic.{pointwise, same_text}
@@ -7,6 +7,7 @@ use Rattle.std.proofs.lemmas.List.{take-append-drop, take_more}
 use Rattle.std.proofs.lemmas.Str.{encodes-chars, scalars-chars}
 use Rattle.std.proofs.lemmas.Bool.{and_parts}
 use lib.Utf8.{scalar, scalars}
+use Rattle.std.proofs.Math.Utf8.{low_scalar}
 use Rattle.std.proofs.lemmas.Fmt.{decimal_step, decimal_digit}
 use Rattle.rga_lines.specs.Spelling.{escaped}
 use Rattle.rga_lines.specs.Table.{only_char}
@@ -49,6 +50,14 @@ read_next bytes len value d h more some small digit is = record {
 }
 
 -- ---- a character
+
+itself : (c : ℕ) → 32 ≤ c → c < 128 → c ≢ 34 → c ≢ 92 → escaped c ≡ c ∷ []
+unfolding escaped encode_utf8
+itself c low high quote back = rw (ne_eqb c 34 quote, ne_eqb c 92 back, ne_eqb c 8 (λ e. omega arith), ne_eqb c 9 (λ e. omega arith), ne_eqb c 10 (λ e. omega arith), ne_eqb c 12 (λ e. omega arith), ne_eqb c 13 (λ e. omega arith), le-ltb c 32 low, lt-ltb c 128 high)
+
+-- an ASCII character that needs no escape
+pub plain_spelled : (first : ℕ) (bytes rest : List ℕ) → bytes ≡ first ∷ rest → 32 ≤ first → first < 128 → first ≢ 34 → first ≢ 92 → (bytes ≡ escaped first ++ rest) × IsScalar first
+plain_spelled first bytes rest is low high quote back = (is ∙ ap (λ l. l ++ rest) (sym (itself first low high quote back)), low_scalar first (omega arith))
 
 only_is : (cs : List ℕ) (c : ℕ) → only_char cs ≡ Some c → cs ≡ c ∷ []
 only_is [] c e = absurd cc

@@ -32,23 +32,6 @@ escaped-some c = escaped_all (λ (l : List ℕ). 0 < length l) c (omega arith) (
 pub shorter : (rest behind : List ℕ) (c : ℕ) → rest ≡ escaped c ++ behind → length behind < length rest
 shorter rest behind c e = omega (arith, ap length e, length-append (escaped c) behind, escaped-some c)
 
--- seven parts written one behind another, the first behind nothing
-pub seven_parts : (a b c d e f g t₀ t₁ t₂ t₃ t₄ t₅ t₆ t₇ : List ℕ) → t₀ ≡ [] → t₁ ≡ t₀ ++ a → t₂ ≡ t₁ ++ b → t₃ ≡ t₂ ++ c → t₄ ≡ t₃ ++ d → t₅ ≡ t₄ ++ e → t₆ ≡ t₅ ++ f → t₇ ≡ t₆ ++ g
-    → t₇ ≡ a ++ (b ++ (c ++ (d ++ (e ++ (f ++ g)))))
-seven_parts a b c d e f g t₀ t₁ t₂ t₃ t₄ t₅ t₆ t₇ h₀ h₁ h₂ h₃ h₄ h₅ h₆ h₇ =
-    let one : t₁ ≡ a = h₁ ∙ ap (λ l. l ++ a) h₀ in
-    let two : t₂ ≡ a ++ b = h₂ ∙ ap (λ l. l ++ b) one in
-    let three : t₃ ≡ (a ++ b) ++ c = h₃ ∙ ap (λ l. l ++ c) two in
-    let four : t₄ ≡ ((a ++ b) ++ c) ++ d = h₄ ∙ ap (λ l. l ++ d) three in
-    let five : t₅ ≡ (((a ++ b) ++ c) ++ d) ++ e = h₅ ∙ ap (λ l. l ++ e) four in
-    let six : t₆ ≡ ((((a ++ b) ++ c) ++ d) ++ e) ++ f = h₆ ∙ ap (λ l. l ++ f) five in
-    h₇ ∙ ap (λ l. l ++ g) six
-    ∙ append_assoc ((((a ++ b) ++ c) ++ d) ++ e) f g
-    ∙ append_assoc (((a ++ b) ++ c) ++ d) e (f ++ g)
-    ∙ append_assoc ((a ++ b) ++ c) d (e ++ (f ++ g))
-    ∙ append_assoc (a ++ b) c (d ++ (e ++ (f ++ g)))
-    ∙ append_assoc a b (c ++ (d ++ (e ++ (f ++ g))))
-
 -- ---- the insertions of a run
 
 pub run_operations-length : (id parent : Identifier) (chars : List ℕ) → length (run_operations id parent chars) ≡ length chars

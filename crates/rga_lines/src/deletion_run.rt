@@ -9,7 +9,7 @@ use std::alloc::Global;
 
 /// Deletions of elements of one replica with rising counters: the identifier of the first one, and
 /// how many they are.
-#[derive(Clone, Copy, Debug, PartialEq, Eq)]
+#[derive(Clone, Copy)]
 pub struct DeletionRun {
     pub id: Id,
     pub count: u64,

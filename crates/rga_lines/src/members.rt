@@ -7,6 +7,7 @@ ghost use Rattle.rga_ops.specs.Operation.{checked};
 ghost use Rattle.rga_lines.specs.Members.{name_of_kind, text_lexemes, pair_lexemes, with_member};
 ghost use Rattle.rga_lines.specs.Members.{BeginsWith, BeginsWithMember, ListsMembers};
 ghost use Rattle.rga_lines.specs.Members.{IsSound, Holds};
+ghost use Rattle.rga_lines.specs.Spelling.{IsElement, IsElementOrRoot};
 ghost use Rattle.rga_lines.specs.Table.{value_line, any_line_at};
 ghost use Rattle.rga_lines.specs.declared.reading.Line.TheVariants.{One};
 ghost use Rattle.rga_lines.specs.declared.reading.TheConstants.{MAX_LINE};
@@ -85,12 +86,14 @@ fn first_member(bytes: &[u8]) -> Option<(Member, &[u8])>
         let (ch, rest) = only_character(rest)?;
         Some((Member::Char(ch), rest))
     } else if let Some(rest) = after_name(bytes, "id") {
-        let (counter, replica, rest) = pair(rest)?;
-        let id = element(counter, replica)?;
+        let Some((id, rest)) = element_in(rest) else {
+            return None;
+        };
         Some((Member::Id(id), rest))
     } else if let Some(rest) = after_name(bytes, "parent") {
-        let (counter, replica, rest) = pair(rest)?;
-        let parent = element_or_root(counter, replica)?;
+        let Some((parent, rest)) = element_or_root_in(rest) else {
+            return None;
+        };
         Some((Member::Parent(parent), rest))
     } else {
         let Some((kind, rest)) = kind_of(after_name(bytes, "op")?) else {
@@ -98,6 +101,26 @@ fn first_member(bytes: &[u8]) -> Option<(Member, &[u8])>
         };
         Some((Member::Op(kind), rest))
     }
+}
+
+/// The identifier of an element between brackets, and what stands behind it.
+fn element_in(bytes: &[u8]) -> Option<(Id, &[u8])>
+    ensures { IfSome result (λ p. BeginsWith bytes.now (pair_lexemes p.0) p.1.now
+        × IsElement p.0) }
+{
+    let (counter, replica, rest) = pair(bytes)?;
+    let id = element(counter, replica)?;
+    Some((id, rest))
+}
+
+/// The same of the identifier of an element, or the root.
+fn element_or_root_in(bytes: &[u8]) -> Option<(Id, &[u8])>
+    ensures { IfSome result (λ p. BeginsWith bytes.now (pair_lexemes p.0) p.1.now
+        × IsElementOrRoot p.0) }
+{
+    let (counter, replica, rest) = pair(bytes)?;
+    let id = element_or_root(counter, replica)?;
+    Some((id, rest))
 }
 
 /// What an operation does, by its name, and what stands behind the name.

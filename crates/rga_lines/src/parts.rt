@@ -1,6 +1,7 @@
 //! The parts of a line that more than one of its readers knows: literals, characters, numbers and
 //! identifiers.
-ghost use Rattle.std.specs.Prelude.{◌≡◌, ◌+◌, ◌<◌, ◌++◌, decimal, IfSome};
+ghost use Rattle.std.specs.Prelude.{◌≡◌, ◌≢◌, ◌+◌, ◌<◌, ◌≤◌, ◌++◌, decimal, IfSome};
+ghost use Rattle.std.specs.Bool.{OnTrue};
 ghost use Rattle.std.specs.Str.{chars};
 ghost use Rattle.rga_ops.specs.Identifier.{identifier};
 ghost use Rattle.rga_lines.specs.Spelling.{BeginsWithCharacter, IsElement, IsElementOrRoot};
@@ -31,17 +32,23 @@ pub(crate) fn character(bytes: &[u8]) -> Option<(char, &[u8])>
 }
 
 /// An ASCII character that needs no escape, and what stands behind it.
-#[tactic(auto, unfolding(crate::specs::Spelling::escaped))]
+#[tactic(auto, using(crate::proofs::PartsLemmas::plain_spelled))]
 fn plain_character(bytes: &[u8]) -> Option<(char, &[u8])>
     ensures { IfSome result (λ p. BeginsWithCharacter bytes.now p.0 p.1.now) }
 {
     let (first, rest) = bytes.split_first()?;
-    let first = *first;
-    if first >= b' ' && first < 128 && first != b'"' && first != b'\\' {
-        Some((char::from(first), rest))
+    if is_plain(*first) {
+        Some((char::from(*first), rest))
     } else {
         None
     }
+}
+
+/// Whether a byte is an ASCII character that needs no escape.
+fn is_plain(byte: u8) -> bool
+    ensures { OnTrue result ((32 ≤ byte) × (byte < 128) × (byte ≢ 34) × (byte ≢ 92)) }
+{
+    byte >= b' ' && byte < 128 && byte != b'"' && byte != b'\\'
 }
 
 /// A character by its escape of one letter, and what stands behind it.
@@ -113,6 +120,13 @@ pub(crate) fn number(bytes: &[u8]) -> Option<(u64, &[u8])>
         len += 1;
     }
     Some((value, &bytes[len..]))
+}
+
+/// A number behind the literal, with which the bytes begin, and what stands behind it.
+pub(crate) fn number_after<'a>(bytes: &'a [u8], literal: &[u8]) -> Option<(u64, &'a [u8])>
+    ensures { IfSome result (λ p. bytes.now ≡ literal.now ++ (decimal p.0 ++ p.1.now)) }
+{
+    number(after(bytes, literal)?)
 }
 
 fn digit(byte: u8) -> Option<u64>

@@ -4,10 +4,9 @@ ghost use Rattle.std.specs.Str.{chars};
 ghost use Rattle.serde_json.specs.View.{view, items_view};
 ghost use Rattle.rga_lines.specs.Table.{count_of, two_numbers, element_of, parent_of};
 ghost use Rattle.rga_lines.specs.Table.{insertion, deletion, run, deletions, heading, ending};
-ghost use Rattle.rga_lines.specs.Table.{operation_alone};
+ghost use Rattle.rga_lines.specs.Table.{with_run_end, last, of_kind, operation_alone};
 ghost use Rattle.rga_lines.specs.Table.{value_line, any_line_at, line_at};
 ghost use Rattle.rga_lines.specs.declared.fault.LineFault.TheVariants.{Memory, Long};
-ghost use Rattle.rga_lines.specs.declared.reading.Line.TheVariants.{Run as RunLine};
 
 use crate::deletion_run::DeletionRun;
 use crate::fault::LineFault;
@@ -27,7 +26,7 @@ pub const MAX_LINE: usize = 65536;
 const VERSION: u64 = 2;
 
 /// What a line says.
-#[derive(Drop, Debug)]
+#[derive(Drop)]
 pub enum Line {
     /// An operation.
     One(Op),
@@ -123,18 +122,25 @@ fn line_of(alloc: Global, value: &Value) -> Result<Line, LineFault>
     let Some(name) = op.as_str() else {
         return Err(LineFault::Kind);
     };
+    named(alloc, name, count, value)
+}
+
+/// The line with this `op`, by an object of so many members.
+fn named(alloc: Global, name: &str, members: usize, value: &Value) -> Result<Line, LineFault>
+    ensures { result ≢ Err Memory → result ≡ of_kind members (view value.now) name.now }
+{
     if name == "ins" {
-        Ok(Line::One(insertion(count, value)?))
+        Ok(Line::One(insertion(members, value)?))
     } else if name == "del" {
-        Ok(Line::One(deletion(count, value)?))
+        Ok(Line::One(deletion(members, value)?))
     } else if name == "run" {
-        Ok(Line::Run(run(alloc, count, value)?))
+        run(alloc, members, value)
     } else if name == "dels" {
-        Ok(Line::Deletions(deletions(count, value)?))
+        Ok(Line::Deletions(deletions(members, value)?))
     } else if name == "head" {
-        heading(count, value)
+        heading(members, value)
     } else if name == "end" {
-        Ok(Line::Last(ending(count, value)?))
+        ending(members, value)
     } else {
         Err(LineFault::Kind)
     }
@@ -196,9 +202,8 @@ fn deletion(count: usize, value: &Value) -> Result<Op, LineFault>
 }
 
 /// A run, by an object of so many members.
-fn run(alloc: Global, members: usize, value: &Value) -> Result<Run, LineFault>
-    ensures ok { IfOk result (λ r. run members (view value.now) ≡ Ok (RunLine r)) }
-    ensures fault { IfErr result (λ e. e ≢ Memory → run members (view value.now) ≡ Err e) }
+fn run(alloc: Global, members: usize, value: &Value) -> Result<Line, LineFault>
+    ensures { result ≢ Err Memory → result ≡ run members (view value.now) }
 {
     if members != 4 {
         return Err(LineFault::Member);
@@ -217,7 +222,16 @@ fn run(alloc: Global, members: usize, value: &Value) -> Result<Run, LineFault>
     let (Some(id), Some(parent)) = (element_of(id), parent_of(parent)) else {
         return Err(LineFault::Id);
     };
-    let chars = characters(alloc, text)?;
+    run_of(alloc, id, parent, text)
+}
+
+/// The run of a text with this identifier and this parent.
+fn run_of(alloc: Global, id: Id, parent: Id, text: &str) -> Result<Line, LineFault>
+    ensures { result ≢ Err Memory → result ≡ with_run_end id parent (chars text.now) }
+{
+    let Ok(chars) = characters(alloc, text) else {
+        return Err(LineFault::Memory);
+    };
     let count = chars.len();
     if id.counter() + count as u64 > Id::MAX_COUNTER + 1 {
         return Err(LineFault::Id);
@@ -226,7 +240,7 @@ fn run(alloc: Global, members: usize, value: &Value) -> Result<Run, LineFault>
         return Err(LineFault::Char);
     }
     if parent.counter() < id.counter() {
-        Ok(Run { id, parent, chars })
+        Ok(Line::Run(Run { id, parent, chars }))
     } else {
         Err(LineFault::Order)
     }
@@ -282,8 +296,8 @@ fn heading(members: usize, value: &Value) -> Result<Line, LineFault>
 }
 
 /// How many operations the exchange had that ends here, by an object of so many members.
-fn ending(members: usize, value: &Value) -> Result<u64, LineFault>
-    ensures { result ≡ ending members (view value.now) }
+fn ending(members: usize, value: &Value) -> Result<Line, LineFault>
+    ensures { result ≡ last (ending members (view value.now)) }
 {
     if members != 2 {
         return Err(LineFault::Member);
@@ -291,7 +305,10 @@ fn ending(members: usize, value: &Value) -> Result<u64, LineFault>
     let Some(operations) = value.get("count") else {
         return Err(LineFault::Member);
     };
-    operations.as_u64().ok_or(LineFault::Kind)
+    match operations.as_u64() {
+        Some(count) => Ok(Line::Last(count)),
+        None => Err(LineFault::Kind),
+    }
 }
 
 fn two_numbers(items: &Vec<Value>) -> Option<(u64, u64)>

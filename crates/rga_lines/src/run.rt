@@ -13,7 +13,7 @@ pub const MAX_RUN: usize = 4096;
 
 /// Insertions of one replica with rising counters, each after the one before it: the first one's
 /// identifier and parent, and the characters.
-#[derive(Drop, Debug)]
+#[derive(Drop)]
 pub struct Run {
     pub id: Id,
     pub parent: Id,

@@ -6,7 +6,7 @@ ghost use Rattle.rga_lines.specs.Table.{any_line_at};
 ghost use Rattle.rga_lines.specs.declared.reading.Line.TheVariants.{One, Deletions};
 
 use crate::deletion_run::DeletionRun;
-use crate::parts::{after, character, element, element_or_root, number};
+use crate::parts::{after, character, element, element_or_root, number_after};
 use crate::run::MAX_RUN;
 use rga_ops::{Id, Op};
 
@@ -33,17 +33,13 @@ fn written(bytes: &[u8]) -> Option<Op>
     }
 }
 
-#[tactic(auto, unfolding(crate::specs::Spelling::line))]
 fn insertion(bytes: &[u8]) -> Option<Op>
     ensures { IfSome result (λ op. IsLineOf bytes.now op) }
 {
-    let rest = after(bytes, b"{\"char\":\"")?;
-    let (ch, rest) = character(rest)?;
-    let rest = after(rest, b"\",\"id\":")?;
-    let (counter, replica, rest) = pair(rest)?;
+    let (ch, rest) = character(after(bytes, b"{\"char\":\"")?)?;
+    let (counter, replica, rest) = pair_after(rest, b"\",\"id\":")?;
     let id = element(counter, replica)?;
-    let rest = after(rest, b",\"op\":\"ins\",\"parent\":")?;
-    let (counter, replica, rest) = pair(rest)?;
+    let (counter, replica, rest) = pair_after(rest, b",\"op\":\"ins\",\"parent\":")?;
     let parent = element_or_root(counter, replica)?;
     let rest = after(rest, b"}")?;
     if rest.is_empty() {
@@ -57,8 +53,7 @@ fn insertion(bytes: &[u8]) -> Option<Op>
 fn deletion(bytes: &[u8]) -> Option<Op>
     ensures { IfSome result (λ op. IsLineOf bytes.now op) }
 {
-    let rest = after(bytes, b"{\"id\":")?;
-    let (counter, replica, rest) = pair(rest)?;
+    let (counter, replica, rest) = pair_after(bytes, b"{\"id\":")?;
     let id = element(counter, replica)?;
     let rest = after(rest, b",\"op\":\"del\"}")?;
     if rest.is_empty() {
@@ -84,15 +79,12 @@ pub(crate) fn spelled_deletions(bytes: &[u8]) -> Option<DeletionRun>
 }
 
 /// The run of deletions that `deletion_run_line` spells as these bytes, of any count.
-#[tactic(auto, unfolding(crate::specs::Spelling::deletion_run_line))]
 fn written_deletions(bytes: &[u8]) -> Option<DeletionRun>
     ensures { IfSome result
         (λ run. (bytes.now ≡ deletion_run_line run) × IsElement run.id) }
 {
-    let rest = after(bytes, b"{\"count\":")?;
-    let (count, rest) = number(rest)?;
-    let rest = after(rest, b",\"id\":")?;
-    let (counter, replica, rest) = pair(rest)?;
+    let (count, rest) = number_after(bytes, b"{\"count\":")?;
+    let (counter, replica, rest) = pair_after(rest, b",\"id\":")?;
     let id = element(counter, replica)?;
     let rest = after(rest, b",\"op\":\"dels\"}")?;
     if rest.is_empty() {
@@ -102,12 +94,21 @@ fn written_deletions(bytes: &[u8]) -> Option<DeletionRun>
     }
 }
 
+/// Two numbers between brackets behind the literal, with which the bytes begin, and what stands
+/// behind them.
+pub(crate) fn pair_after<'a>(bytes: &'a [u8], literal: &[u8]) -> Option<(u64, u16, &'a [u8])>
+    ensures { IfSome result (λ p.
+        bytes.now ≡ literal.now ++ (pair_text (identifier p.0 p.1) ++ p.2.now)) }
+{
+    pair(after(bytes, literal)?)
+}
+
 /// Two numbers between brackets, and what stands behind them.
-pub(crate) fn pair(bytes: &[u8]) -> Option<(u64, u16, &[u8])>
+fn pair(bytes: &[u8]) -> Option<(u64, u16, &[u8])>
     ensures { IfSome result (λ p. bytes.now ≡ pair_text (identifier p.0 p.1) ++ p.2.now) }
 {
-    let (counter, rest) = number(after(bytes, b"[")?)?;
-    let (replica, rest) = number(after(rest, b",")?)?;
+    let (counter, rest) = number_after(bytes, b"[")?;
+    let (replica, rest) = number_after(rest, b",")?;
     let rest = after(rest, b"]")?;
     let replica = u16::try_from(replica).ok()?;
     Some((counter, replica, rest))

@@ -8,7 +8,7 @@ ghost use Rattle.rga_lines.specs.declared.fault.LineFault.TheVariants.{Memory};
 use crate::fault::LineFault;
 use crate::parts::{after, character, element, element_or_root};
 use crate::run::{MAX_RUN, Run};
-use crate::spelled::pair;
+use crate::spelled::pair_after;
 use rga_ops::Id;
 use std::alloc::Global;
 
@@ -52,11 +52,9 @@ fn run_front(bytes: &[u8]) -> Option<(Id, Id, &[u8])>
     ensures { IfSome result (λ p. (bytes.now ≡ run_from p.0 p.1 p.2.now)
         × IsElement p.0 × IsElementOrRoot p.1) }
 {
-    let rest = after(bytes, b"{\"id\":")?;
-    let (counter, replica, rest) = pair(rest)?;
+    let (counter, replica, rest) = pair_after(bytes, b"{\"id\":")?;
     let id = element(counter, replica)?;
-    let rest = after(rest, b",\"op\":\"run\",\"parent\":")?;
-    let (counter, replica, rest) = pair(rest)?;
+    let (counter, replica, rest) = pair_after(rest, b",\"op\":\"run\",\"parent\":")?;
     let parent = element_or_root(counter, replica)?;
     let rest = after(rest, b",\"text\":\"")?;
     Some((id, parent, rest))

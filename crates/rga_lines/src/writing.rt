@@ -1,6 +1,6 @@
 //! Lines written: the one spelling of an operation, of a run of either kind, and of the head and the
 //! end of an exchange.
-ghost use Rattle.std.specs.Prelude.{◌≡◌, ◌++◌, ◌<◌, Ok, IfOk, IfErr, OnOk, string_bytes};
+ghost use Rattle.std.specs.Prelude.{◌≡◌, ◌++◌, ◌<◌, codes, decimal, Ok, IfOk, IfErr, OnOk, string_bytes};
 ghost use Rattle.std.specs.Char.{digit_char, IsScalar};
 ghost use Rattle.rga_ops.specs.Operation.{checked};
 ghost use Rattle.rga_ops.specs.declared.op.Op.TheVariants.{Insert, Delete};
@@ -32,16 +32,14 @@ pub fn write_line(alloc: Global, op: &Op) -> Result<String, LineFault>
     // What `Op::check` accepts is written so that it can be read back.
     ensures writable { OnOk result (checked op.now ≡ Ok tt → IsWritable op.now) }
 {
-    match op {
-        Op::Insert { id, parent, ch } => Ok(insertion(alloc, id, parent, *ch)?),
-        Op::Delete { id } => Ok(deletion(alloc, id)?),
-    }
+    let mut text = String::with_capacity(alloc, ROOM)?;
+    push_line(&mut text, op)?;
+    Ok(text)
 }
 
 /// The line of a run without its newline, as `run_line` of `specs/Spelling.antt` has it. `read_any`
 /// gives back any that it gives: of 1 to 4096 characters, with a last counter in range and a
 /// counter above the parent's. `Memory` is the only refusal.
-#[tactic(auto, unfolding(crate::specs::Spelling::run_line))]
 pub fn write_run(alloc: Global, run: &Run) -> Result<String, LineFault>
     ensures ok { IfOk result (λ s. string_bytes s ≡ run_line run.now) }
     ensures memory { IfErr result (λ e. e ≡ Memory) }
@@ -49,31 +47,19 @@ pub fn write_run(alloc: Global, run: &Run) -> Result<String, LineFault>
     ensures writable { OnOk result (IsRun run.now → IsWritableRun run.now) }
 {
     let mut text = String::with_capacity(alloc, ROOM + run.chars.len())?;
-    text.push_str("{\"id\":")?;
-    push_pair(&mut text, &run.id)?;
-    text.push_str(",\"op\":\"run\",\"parent\":")?;
-    push_pair(&mut text, &run.parent)?;
-    text.push_str(",\"text\":\"")?;
-    push_all(&mut text, &run.chars)?;
-    text.push_str("\"}")?;
+    push_run(&mut text, run)?;
     Ok(text)
 }
 
 /// The line of a run of deletions without its newline, as `deletion_run_line` of
 /// `specs/Spelling.antt` has it. `read_any` gives back any that it gives. `Memory` is the only
 /// refusal.
-#[tactic(auto, unfolding(crate::specs::Spelling::deletion_run_line))]
 pub fn write_deletion_run(alloc: Global, run: &DeletionRun) -> Result<String, LineFault>
     ensures ok { IfOk result (λ s. string_bytes s ≡ deletion_run_line run.now) }
     ensures memory { IfErr result (λ e. e ≡ Memory) }
 {
     let mut text = String::with_capacity(alloc, ROOM)?;
-    let mut digits = Buffer::new();
-    text.push_str("{\"count\":")?;
-    text.push_str(digits.format(run.count))?;
-    text.push_str(",\"id\":")?;
-    push_pair(&mut text, &run.id)?;
-    text.push_str(",\"op\":\"dels\"}")?;
+    push_deletion_run(&mut text, run)?;
     Ok(text)
 }
 
@@ -111,40 +97,90 @@ pub fn write_end(alloc: Global, count: u64) -> Result<String, LineFault>
     ensures memory { IfErr result (λ e. e ≡ Memory) }
 {
     let mut text = String::with_capacity(alloc, ROOM)?;
-    let mut digits = Buffer::new();
-    text.push_str("{\"count\":")?;
-    text.push_str(digits.format(count))?;
+    push_count(&mut text, count)?;
     text.push_str(",\"op\":\"end\"}")?;
     Ok(text)
 }
 
+/// Adds the line of an operation.
+fn push_line(text: &mut String, op: &Op) -> Result<(), AllocError>
+    ensures ok { OnOk result (string_bytes text.new ≡ string_bytes text.old ++ line op.now) }
+    ensures writable { OnOk result (checked op.now ≡ Ok tt → IsWritable op.now) }
+{
+    match op {
+        Op::Insert { id, parent, ch } => push_insertion(text, id, parent, *ch),
+        Op::Delete { id } => push_deletion(text, id),
+    }
+}
+
 #[tactic(auto, using(crate::proofs::WritableLemmas::insertion_writable), unfolding(crate::specs::Spelling::line))]
-fn insertion(alloc: Global, id: &Id, parent: &Id, ch: char) -> Result<String, AllocError>
-    ensures ok { IfOk result (λ s. string_bytes s ≡ line (Insert id.now parent.now ch)) }
+fn push_insertion(text: &mut String, id: &Id, parent: &Id, ch: char) -> Result<(), AllocError>
+    ensures ok { OnOk result
+        (string_bytes text.new ≡ string_bytes text.old ++ line (Insert id.now parent.now ch)) }
     ensures writable { let op = Insert id.now parent.now ch in
         OnOk result (checked op ≡ Ok tt → IsWritable op) }
 {
-    let mut text = String::with_capacity(alloc, ROOM)?;
     text.push_str("{\"char\":\"")?;
-    push_escaped(&mut text, ch)?;
-    text.push_str("\",\"id\":")?;
-    push_pair(&mut text, id)?;
-    text.push_str(",\"op\":\"ins\",\"parent\":")?;
-    push_pair(&mut text, parent)?;
-    text.push_str("}")?;
-    Ok(text)
+    push_escaped(text, ch)?;
+    push_id(text, "\",\"id\":", id)?;
+    push_id(text, ",\"op\":\"ins\",\"parent\":", parent)?;
+    text.push_str("}")
 }
 
 #[tactic(auto, using(crate::proofs::WritableLemmas::deletion_writable), unfolding(crate::specs::Spelling::line))]
-fn deletion(alloc: Global, id: &Id) -> Result<String, AllocError>
-    ensures ok { IfOk result (λ s. string_bytes s ≡ line (Delete id.now)) }
+fn push_deletion(text: &mut String, id: &Id) -> Result<(), AllocError>
+    ensures ok { OnOk result
+        (string_bytes text.new ≡ string_bytes text.old ++ line (Delete id.now)) }
     ensures writable { OnOk result (checked (Delete id.now) ≡ Ok tt → IsWritable (Delete id.now)) }
 {
-    let mut text = String::with_capacity(alloc, ROOM)?;
-    text.push_str("{\"id\":")?;
-    push_pair(&mut text, id)?;
-    text.push_str(",\"op\":\"del\"}")?;
-    Ok(text)
+    push_id(text, "{\"id\":", id)?;
+    text.push_str(",\"op\":\"del\"}")
+}
+
+/// Adds the line of a run.
+#[tactic(auto, unfolding(crate::specs::Spelling::run_line))]
+fn push_run(text: &mut String, run: &Run) -> Result<(), AllocError>
+    ensures ok { OnOk result (string_bytes text.new ≡ string_bytes text.old ++ run_line run.now) }
+    ensures writable { OnOk result (IsRun run.now → IsWritableRun run.now) }
+{
+    push_id(text, "{\"id\":", &run.id)?;
+    push_id(text, ",\"op\":\"run\",\"parent\":", &run.parent)?;
+    text.push_str(",\"text\":\"")?;
+    push_all(text, &run.chars)?;
+    text.push_str("\"}")?;
+    Ok(())
+}
+
+/// Adds the line of a run of deletions.
+#[tactic(auto, unfolding(crate::specs::Spelling::deletion_run_line))]
+fn push_deletion_run(text: &mut String, run: &DeletionRun) -> Result<(), AllocError>
+    ensures { OnOk result
+        (string_bytes text.new ≡ string_bytes text.old ++ deletion_run_line run.now) }
+{
+    push_count(text, run.count)?;
+    push_id(text, ",\"id\":", &run.id)?;
+    text.push_str(",\"op\":\"dels\"}")?;
+    Ok(())
+}
+
+/// Adds the brace that opens a line, and its member that is a count.
+fn push_count(text: &mut String, count: u64) -> Result<(), AllocError>
+    ensures { OnOk result (string_bytes text.new
+        ≡ string_bytes text.old ++ (codes "{\"count\":" ++ decimal count)) }
+{
+    let mut digits = Buffer::new();
+    text.push_str("{\"count\":")?;
+    text.push_str(digits.format(count))
+}
+
+/// Adds what names an identifier, and the identifier.
+fn push_id(text: &mut String, name: &str, id: &Id) -> Result<(), AllocError>
+    ensures ok { OnOk result
+        (string_bytes text.new ≡ string_bytes text.old ++ (name.now ++ pair_text id.now)) }
+    ensures identifier { OnOk result (IsElementOrRoot id.now) }
+{
+    text.push_str(name)?;
+    push_pair(text, id)
 }
 
 /// An identifier as two numbers between brackets.

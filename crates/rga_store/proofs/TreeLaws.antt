@@ -34,6 +34,14 @@ pub few_inserted : (c : Content) (latest insertions identifiers limit : ℕ) →
 few_inserted c latest insertions identifiers limit w = omega (arith, w.inserted, w.known, w.room, inserted_within c, within_limits limit w.limited)
 
 module _ (ns ms : Nodes) (latest insertions identifiers limit : ℕ) (w : IsTree ns latest insertions identifiers limit) (apart : AreApart ms) where
+  -- it is a tree as before with the same content and the same children
+  pub tree_same : content_of_nodes ms ≡ content_of_nodes ns → ((p : Identifier) → children_of ms p ≡ children_of ns p) → IsTree ms latest insertions identifiers limit
+  tree_same same lists = record {
+    apart = apart;
+    family = subst (λ c. IsFamily c (children_of ms)) (sym same) (family_same (content_of_nodes ns) (children_of ns) (children_of ms) w.family lists);
+    counted = subst (λ c. IsCounted c latest insertions identifiers limit) (sym same) w.counted;
+  }
+
   pub tree_insertion : (id parent : Identifier) (ch later more : ℕ) → answer limit (content_of_nodes ns) (Insert id parent ch) ≡ Ok New
       → content_of_nodes ms ≡ join (content_of_nodes ns) (single (Insert id parent ch))
       → ((p k : Identifier) → has_child (children_of ms p) k ≡ (has_child (children_of ns p) k || (is_id parent p && is_id id k))) → ((p : Identifier) → IsRising (children_of ms p))

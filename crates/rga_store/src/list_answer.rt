@@ -5,6 +5,7 @@ ghost use Rattle.std.specs.FinSet as finite_set;
 ghost use Rattle.indexmap.specs.IndexMap.{get as get_added};
 ghost use Rattle.rga_ops.specs.Prelude.{all_checked, content_of, is_id, join, known_count, known_ids, list_answer};
 ghost use Rattle.rga_ops.specs.ListAnswer.{early_conflict, first_conflict};
+ghost use Rattle.rga_store.specs.Reached.{ReachesElements};
 
 use crate::text_store::TextStore;
 use crate::tree_store::TreeStore;
@@ -50,9 +51,23 @@ fn first_conflict(alloc: Global, store: &TreeStore, ops: &[Op]) -> Result<Option
     ensures early { OnErr result (early_conflict store.now.content ops.now ≡ None) }
 {
     let mut added = IndexMap::new(alloc);
+    find_conflict(store, &mut added, ops)
+}
+
+/// The same where nothing was added yet; the insertions in front of the conflict are added then.
+fn find_conflict(
+    store: &TreeStore,
+    added: &mut IndexMap<Id, (Id, char)>,
+    ops: &[Op],
+) -> Result<Option<Id>, Refusal>
+    requires { ReachesElements store.now.content added.old store.now.content }
+    ensures ok { IfOk result (λ conflict. conflict ≡ first_conflict store.now.content ops.now) }
+    ensures memory { IfErr result (λ e. e ≡ Refusal.Memory) }
+    ensures early { OnErr result (early_conflict store.now.content ops.now ≡ None) }
+{
     for op in ops {
         if let Op::Insert { id, parent, ch } = op {
-            match stored_or_added(store.get(*id), &added, *id) {
+            match stored_or_added(store.get(*id), added, *id) {
                 Some(element) if element == (*parent, *ch) => {}
                 Some(_) => return Ok(Some(*id)),
                 None => {

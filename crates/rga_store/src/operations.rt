@@ -19,35 +19,45 @@ pub(crate) fn operations_of(alloc: Global, nodes: &IndexMap<Id, Node>) -> Result
     ensures memory { IfErr result (λ e. e ≡ Refusal.Memory) }
 {
     let mut ops = Vec::new(alloc);
-    let inserted = sorted_inserted(alloc, nodes)?;
-    push_insertions(&mut ops, nodes, &inserted)?;
-    let deleted = sorted_deleted(alloc, nodes)?;
-    push_deletions(&mut ops, &deleted)?;
+    list_insertions(alloc, &mut ops, nodes)?;
+    list_deletions(alloc, &mut ops, nodes)?;
     Ok(ops)
 }
 
-fn sorted_inserted(alloc: Global, nodes: &IndexMap<Id, Node>) -> Result<Vec<Id>, Refusal>
+/// Adds the insertions by rising identifier.
+fn list_insertions(
+    alloc: Global,
+    ops: &mut Vec<Op>,
+    nodes: &IndexMap<Id, Node>,
+) -> Result<(), Refusal>
     requires { AreApart nodes.now.entries }
-    ensures ok { IfOk result
-        (λ ids. ids.items ≡ finite_map.keys (content_of_nodes nodes.now.entries).inserted) }
+    ensures ok { let content = content_of_nodes nodes.now.entries in
+        OnOk result (ops.new.items ≡ ops.old.items
+        ++ filter_map (insertion_at content) (finite_map.keys content.inserted)) }
     ensures memory { IfErr result (λ e. e ≡ Refusal.Memory) }
 {
     let mut ids = Vec::new(alloc);
     push_inserted(&mut ids, nodes)?;
     ids.sort_unstable();
-    Ok(ids)
+    push_insertions(ops, nodes, &ids)
 }
 
-fn sorted_deleted(alloc: Global, nodes: &IndexMap<Id, Node>) -> Result<Vec<Id>, Refusal>
+/// Adds the deletions by rising identifier.
+fn list_deletions(
+    alloc: Global,
+    ops: &mut Vec<Op>,
+    nodes: &IndexMap<Id, Node>,
+) -> Result<(), Refusal>
     requires { AreApart nodes.now.entries }
     ensures ok { let content = content_of_nodes nodes.now.entries in
-        IfOk result (λ ids. ids.items ≡ rising (finite_set.items content.deleted)) }
+        OnOk result (ops.new.items ≡ ops.old.items
+        ++ map Op.Delete (rising (finite_set.items content.deleted))) }
     ensures memory { IfErr result (λ e. e ≡ Refusal.Memory) }
 {
     let mut ids = Vec::new(alloc);
     push_marked(&mut ids, nodes)?;
     ids.sort_unstable();
-    Ok(ids)
+    push_deletions(ops, &ids)
 }
 
 /// The identifiers of the nodes that have an element.

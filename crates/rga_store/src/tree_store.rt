@@ -1,12 +1,10 @@
 //! A store as a tree: a node for each identifier, and under it its children.
 ghost use Rattle.std.specs.Prelude.{◌≡◌, ◌≢◌, ◌≤◌, ◌+◌, ◌⊎◌, ◌↔◌, if◌then◌else◌, [], length, Ok, Err, OnOk, OnErr, IfOk, IfErr, true, false, max};
 ghost use Rattle.std.specs.FinMap as finite_map;
-ghost use Rattle.std.specs.FinSet as finite_set;
-ghost use Rattle.rga_ops.specs.Content.{element_at, join, single, known_count, IsSound};
+ghost use Rattle.rga_ops.specs.Content.{join, single};
 ghost use Rattle.rga_ops.specs.Answer.{answer, facts};
 ghost use Rattle.rga_ops.specs.Order.{waiting};
 ghost use Rattle.rga_ops.specs.Found.{facts_of};
-ghost use Rattle.rga_store.specs.Limit.{is_limit};
 
 mod removal;
 mod whole_list;
@@ -146,21 +144,6 @@ impl TreeStore {
         }
     }
 
-    fn element(&self, id: Id) -> Option<(Id, char)>
-        ensures { result ≡ element_at self.now.content id }
-    {
-        self.nodes.get(&id)?.element
-    }
-
-    fn has_deleted(&self, id: Id) -> bool
-        ensures { result ≡ finite_set.contains self.now.content.deleted id }
-    {
-        match self.nodes.get(&id) {
-            Some(node) => node.deleted,
-            None => false,
-        }
-    }
-
     /// Whether the root has a node and each other node its element. So each parent but the root is
     /// inserted, and nothing waits.
     fn is_rooted(&self) -> bool
@@ -170,15 +153,6 @@ impl TreeStore {
             return false;
         }
         self.nodes.contains_key(&Id::ROOT)
-    }
-
-    fn count(&self) -> usize
-        ensures known { result ≡ known_count self.now.content }
-        ensures within { result ≤ self.now.limit }
-        ensures sound { IsSound self.now.content }
-        ensures range { is_limit self.now.limit ≡ true }
-    {
-        self.known
     }
 
     /// Takes an insertion by one search for its identifier, and a new one stands among its siblings.
@@ -246,24 +220,27 @@ impl TextStore for TreeStore {
     }
 
     fn get(&self, id: Id) -> Option<(Id, char)> {
-        self.element(id)
+        self.nodes.get(&id)?.element
     }
 
     fn is_deleted(&self, id: Id) -> bool {
-        self.has_deleted(id)
+        match self.nodes.get(&id) {
+            Some(node) => node.deleted,
+            None => false,
+        }
     }
 
     fn known(&self) -> usize {
-        self.count()
+        self.known
     }
 
     fn contains(&self, op: &Op) -> bool {
         match op {
-            Op::Insert { id, parent, ch } => match self.element(*id) {
+            Op::Insert { id, parent, ch } => match self.get(*id) {
                 Some(element) => element == (*parent, *ch),
                 None => false,
             },
-            Op::Delete { id } => self.has_deleted(*id),
+            Op::Delete { id } => self.is_deleted(*id),
         }
     }
 

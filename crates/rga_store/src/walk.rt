@@ -70,7 +70,7 @@ pub(crate) fn walked(alloc: Global, nodes: &IndexMap<Id, Node>) -> Result<Vec<Id
 /// The characters of the visible elements, in order, put into a sink that is empty.
 pub(crate) fn walked_text<T: Sink>(
     alloc: Global,
-    sink: T,
+    mut sink: T,
     nodes: &IndexMap<Id, Node>,
 ) -> Result<T, Refusal>
     requires empty { T.Holds sink [] }
@@ -80,7 +80,6 @@ pub(crate) fn walked_text<T: Sink>(
     ensures ok { IfOk result (λ full. T.Holds full (text (content_of_nodes nodes.now.entries))) }
     ensures memory { IfErr result (λ e. e ≡ Refusal.Memory) }
 {
-    let mut sink = sink;
     let mut stack = Vec::new(alloc);
     let mut next = 0;
     push_children(&mut stack, nodes, &mut next, Id::ROOT)?;
@@ -107,14 +106,34 @@ pub(crate) fn walked_visible(
 {
     let mut ids = Vec::with_capacity(alloc, nodes.len())?;
     let mut chars = Vec::with_capacity(alloc, nodes.len())?;
+    list_visible(alloc, nodes, &mut ids, &mut chars)?;
+    Ok((ids, chars))
+}
+
+/// Lists the visible elements in order, and their characters, in two lists that are empty.
+fn list_visible(
+    alloc: Global,
+    nodes: &IndexMap<Id, Node>,
+    ids: &mut Vec<Id>,
+    chars: &mut Vec<char>,
+) -> Result<(), Refusal>
+    requires no_elements { ids.old.items ≡ [] }
+    requires no_characters { chars.old.items ≡ [] }
+    requires apart { AreApart nodes.now.entries }
+    requires family { HasFamilies nodes.now.entries }
+    requires sound { IsSound (content_of_nodes nodes.now.entries) }
+    ensures elements { OnOk result (ids.new.items ≡ visible (content_of_nodes nodes.now.entries)) }
+    ensures characters { OnOk result (chars.new.items ≡ text (content_of_nodes nodes.now.entries)) }
+    ensures memory { IfErr result (λ e. e ≡ Refusal.Memory) }
+{
     let mut stack = Vec::new(alloc);
     let mut next = 0;
     push_children(&mut stack, nodes, &mut next, Id::ROOT)?;
     while let Some(id) = stack.pop() {
         let node = push_children(&mut stack, nodes, &mut next, id)?;
-        push_visible(&mut ids, &mut chars, id, node)?;
+        push_visible(ids, chars, id, node)?;
     }
-    Ok((ids, chars))
+    Ok(())
 }
 
 /// An element goes to the end where its node is inserted and not deleted, and its character too.

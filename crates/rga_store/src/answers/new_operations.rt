@@ -1,5 +1,5 @@
 //! The operations of a list that are new at a store.
-ghost use Rattle.std.specs.Prelude.{◌≡◌, not, IfOk, IfErr, OnOk};
+ghost use Rattle.std.specs.Prelude.{◌≡◌, [], not, IfOk, IfErr, OnOk};
 ghost use Rattle.rga_ops.specs.Prelude.{Content, join, single};
 ghost use Rattle.rga_ops.specs.NewOperations.{holds, new_operations};
 ghost use Rattle.rga_store.specs.Reached.{Reaches, ReachesElements, ReachesDeletions};
@@ -23,12 +23,29 @@ pub fn new_operations_at<S: TextStore>(
     let mut inserted = IndexMap::new(alloc);
     let mut deleted = IndexSet::new(alloc);
     let mut picked = Vec::new(alloc);
+    pick_new(store, &mut inserted, &mut deleted, ops, &mut picked)?;
+    Ok(picked)
+}
+
+/// Picks the operations of a list that are new, where nothing was added yet. `Memory` alone.
+fn pick_new<S: TextStore>(
+    store: &S,
+    inserted: &mut IndexMap<Id, (Id, char)>,
+    deleted: &mut IndexSet<Id>,
+    ops: &[Op],
+    picked: &mut Vec<Op>,
+) -> Result<(), Refusal>
+    requires reached { Reaches (S.content store.now) inserted.old deleted.old (S.content store.now) }
+    requires none { picked.old.items ≡ [] }
+    ensures ok { OnOk result (picked.new.items ≡ new_operations (S.content store.now) ops.now) }
+    ensures memory { IfErr result (λ e. e ≡ Refusal.Memory) }
+{
     for op in ops {
-        if is_new(store, &mut inserted, &mut deleted, op)? {
+        if is_new(store, inserted, deleted, op)? {
             picked.push(*op)?;
         }
     }
-    Ok(picked)
+    Ok(())
 }
 
 /// Whether neither the store has the operation nor what was added. Then it is added, but for an

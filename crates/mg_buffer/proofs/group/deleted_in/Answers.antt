@@ -16,3 +16,9 @@ loop-slot-preserved c =
     c.in_ok-push.ensures.items
     ∙ (λ k. c.loop-slot.invariant k ++ (sym (element_is elements b.0 id within c.index-elements-slot.is) k, b.1) ∷ [])
     ∙ sym (mapped_more (deleted_by elements) slots i b c.loop-slot-test.true read)
+
+pub bounds-elements-slot : goal.bounds-elements-slot
+bounds-elements-slot c =
+    let slots : List (ℕ × ℕ) = c.args.slots.now in
+    let i : ℕ = c.loop-slot.slot-index in
+    all_at (λ (x : ℕ × ℕ). x.0 < length c.args.elements.now) slots i (get_or slots i (0, 0)) c.requires c.loop-slot-test.true (read_again slots i (0, 0) c.loop-slot-test.true)

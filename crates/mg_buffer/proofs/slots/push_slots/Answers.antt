@@ -1,4 +1,4 @@
-use Rattle.std.proofs.Common.{rules, ◌≡◌, ◌+◌, ℕ, List, ◌∷◌, [], ◌++◌, take, drop, ap, ◌∙◌, sym, subst, arith}
+use Rattle.std.proofs.Common.{◌≡◌, ◌+◌, ℕ, List, ◌∷◌, [], ◌++◌, take, drop, ap, ◌∙◌, sym, subst, arith}
 use Rattle.rga_ops.specs.Identifier.{Identifier}
 use Rattle.rga_doc.proofs.RevertSets.{from}
 use Rattle.mg_buffer.specs.Slots.{AreIn, with_elements}
@@ -13,7 +13,7 @@ loop-id-preserved c =
     let old : List Identifier = c.loop-id.elements.keys in
     let new : List Identifier = c.slot_of.new.elements.keys in
     let grows : Grows old new = subst (Grows old) (sym c.slot_of.ensures.elements) (grows_one old id) in
-    let items : c.push.new.self.items ≡ c.loop-id.slots.items ++ c.slot_of.result ∷ [] = search rules in
+    let items : c.push_reserved.new.self.items ≡ c.loop-id.slots.items ++ c.slot_of.result ∷ [] = c.push_reserved.ensures.items in
     record {
       slots =
           subst (λ xs. AreIn new xs (take (i + 1) ids)) (sym items)
@@ -23,6 +23,6 @@ loop-id-preserved c =
           ap (λ xs. with_elements xs (drop (i + 1) ids)) c.slot_of.ensures.elements
           ∙ ap (with_elements old) (sym (from ids i id c.loop-id-test.true c.id-item.is)) ∙ c.loop-id.invariant.elements;
       spare = omega (arith, c.loop-id.invariant.spare, c.slot_of.ensures.spare);
-      len = search rules;
-      capacity = search rules;
+      len = omega (arith, c.push_reserved.ensures.len, c.loop-id.invariant.len);
+      capacity = omega (arith, c.push_reserved.ensures.capacity, c.loop-id.invariant.capacity);
     }

@@ -1,5 +1,6 @@
-use Rattle.std.proofs.Common.{rules, ◌≡◌, ◌+◌, ◌||◌, Bool, true, false, List, [], ◌∷◌, ◌++◌, drop, sym, ap, ◌∙◌, append_assoc}
+use Rattle.std.proofs.Common.{rules, ◌≡◌, ◌+◌, ◌||◌, Bool, true, false, List, [], ◌∷◌, ◌++◌, drop, sym, ap, ◌∙◌, append_assoc, append-nil}
 use Rattle.std.proofs.lemmas.Bool.{not-true, not-false}
+use Rattle.std.proofs.lemmas.List.{drop_all}
 use Rattle.indexmap.specs.IndexSet.{contains}
 use Rattle.rga_ops.specs.Identifier.{Identifier, is_id}
 use Rattle.rga_doc.specs.Revert.{distinct_elements}
@@ -34,3 +35,9 @@ loop-id-preserved c =
           ∙ ap (λ xs. c.loop-id.kept.items ++ xs) (sym (once_met seen now x rest met more) ∙ ap (λ xs. new_only seen (distinct_elements xs)) (sym split))
           ∙ c.loop-id.invariant
     ]
+
+pub returns-clause-ok : goal.returns-clause-ok
+returns-clause-ok c =
+    sym (append-nil c.loop-id.kept.items)
+    ∙ ap (λ xs. c.loop-id.kept.items ++ new_only (contains is_id c.loop-id.seen) (distinct_elements xs)) (sym (drop_all c.loop-id.id-index c.args.ids.now c.loop-id-test.false))
+    ∙ c.loop-id.invariant

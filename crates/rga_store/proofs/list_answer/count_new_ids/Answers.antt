@@ -1,4 +1,4 @@
-use Rattle.std.proofs.Common.{◌≡◌, ℕ, ◌+◌, ◌<◌, Bool, true, false, cond, not, ◌||◌, List, [], ◌∷◌, ◌++◌, take, length, get_or, refl, sym, ap, ◌∙◌, arith}
+use Rattle.std.proofs.Common.{◌≡◌, ℕ, ◌+◌, ◌<◌, Bool, true, false, cond, not, ◌||◌, List, [], ◌∷◌, ◌++◌, take, take_all, length, get_or, refl, sym, ap, ◌∙◌, arith}
 use Rattle.std.specs.List.{list_any}
 use Rattle.std.specs.FinSet as finite_set
 use Rattle.std.specs.FinSet.{FinSet}
@@ -86,3 +86,9 @@ loop-op-preserved c =
                 ∙ c.loop-op.invariant.members q ∙ ap (λ t. finite_set.contains t q) (sym same);
           }
     ]
+
+pub returns-clause-ok : goal.returns-clause-ok
+returns-clause-ok c =
+    let s : Content = c.args.store.now.content in
+    ap (λ n. finite_set.len (known_ids s) + n) c.len.ensures.len ∙ c.loop-op.invariant.counted
+    ∙ ap (λ xs. finite_set.len (known_ids (join s (content_of xs)))) (take_all c.loop-op.op-index c.args.ops.now c.loop-op-test.false)

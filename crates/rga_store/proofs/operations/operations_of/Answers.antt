@@ -1,5 +1,6 @@
 use Rattle.std.proofs.Common.{◌++◌, map, ap, ◌∙◌}
 use Rattle.std.specs.List.{filter_map}
+use Rattle.std.specs.FinMap as finite_map
 use Rattle.std.specs.FinSet as finite_set
 use Rattle.rga_ops.specs.Content.{Content}
 use Rattle.rga_ops.specs.Operations.{insertion_at, rising}
@@ -11,8 +12,6 @@ use Rattle.rga_store.proofs.operations.operations_of.Goals as goal
 pub returns-clause-ok : goal.returns-clause-ok
 returns-clause-ok c =
     let held : Content = content_of_nodes c.args.nodes.now.entries in
-    c.in_ok-push_deletions.ensures.ok
-    ∙ (λ k. (c.in_ok-push_insertions.ensures.ok ∙ ap (λ xs. xs ++ filter_map (insertion_at held) c.deref.result.now) c.new-ops.ensures.items) k
-    ++ map Delete ((c.deref-2.ensures.value ∙ c.in_ok-deleted.ensures.ok) k))
+    c.in_ok-list_deletions.ensures.ok
     ∙ ap (λ xs. xs ++ map Delete (rising (finite_set.items held.deleted)))
-    (ap (filter_map (insertion_at held)) (c.deref.ensures.value ∙ c.in_ok-inserted.ensures.ok) ∙ insertions_by_keys held)
+    (c.in_ok-list_insertions.ensures.ok ∙ ap (λ xs. xs ++ filter_map (insertion_at held) (finite_map.keys held.inserted)) c.new-ops.ensures.items ∙ insertions_by_keys held)

@@ -1,14 +1,19 @@
-use Rattle.std.proofs.Common.{rules, ◌≡◌, List, true, ap, sym, subst, ◌∙◌}
+use Rattle.std.proofs.Common.{rules, ◌≡◌, ◌≤◌, List, true, length, ap, sym, subst, ◌∙◌}
+use Rattle.std.specs.Option.{IfSome}
 use Rattle.rga_ops.specs.Content.{join, content_of}
 use Rattle.rga_ops.specs.Identifier.{Identifier}
 use Rattle.rga_ops.specs.declared.op.Op.{Op}
+use Rattle.rga_ops.specs.Order.{text}
+use Rattle.rga_ops.specs.Splice.{text_after}
 use Rattle.rga_doc.specs.Document.{Document}
 use Rattle.rga_doc.specs.LocalEdit.{splices_operations}
 use Rattle.mg_buffer.specs.Groups.{past_of, with_group, are_revertible}
 use Rattle.mg_buffer.specs.Slots.{Slotted, AreOld, pasts_by, with_past}
+use Rattle.mg_buffer.specs.State.{State}
 use Rattle.mg_buffer.proofs.GroupLaws.{edited_revertible}
 use Rattle.mg_buffer.proofs.OldLaws.{past_old}
 use Rattle.mg_buffer.proofs.PlaceLaws.{stands_if_placed, mark_stands_if}
+use Rattle.mg_buffer.proofs.KeptLaws.{filled_still, kept_unlisted}
 use Rattle.mg_buffer.proofs.buffer.Buffer.edit.Goals as goal
 
 pub invariant_of-self-2 : goal.invariant_of-self-2
@@ -42,3 +47,32 @@ invariant_of-self-2 g c =
         place_of_mark = c.mark_at-self-inside.ensures.placed;
       };
     }
+
+-- ---- elements and groups are as they were until there is room and the operations are taken
+
+pub add-requires-clause-filled : goal.add-requires-clause-filled
+add-requires-clause-filled g c = filled_still c.self.inside.history.elements.keys c.prepare.new.history.elements.keys c.self.inside.history.groups.items c.prepare.new.history.groups.items c.prepare.ensures.elements c.prepare.ensures.groups c.self.invariant.filled
+
+pub invariant_of-self-in_err-change : goal.invariant_of-self-in_err-change
+invariant_of-self-in_err-change g c =
+    kept_unlisted c.self.inside.history.elements.keys c.prepare.new.history.elements.keys c.self.inside.history.groups.items c.prepare.new.history.groups.items c.prepare.ensures.elements c.prepare.ensures.groups
+    c.self.inside.doc c.draft.new.self c.self.inside.point c.self.inside.mark c.self.inside.listed c.self.invariant (ap (λ (d : Document). d.content) c.in_ok-ops.ensures.listed)
+
+pub invariant_of-self-in_err-take : goal.invariant_of-self-in_err-take
+invariant_of-self-in_err-take g c =
+    kept_unlisted c.self.inside.history.elements.keys c.prepare.new.history.elements.keys c.self.inside.history.groups.items c.prepare.new.history.groups.items c.prepare.ensures.elements c.prepare.ensures.groups
+    c.self.inside.doc c.take.new.self c.self.inside.point c.self.inside.mark c.self.inside.listed c.self.invariant (ap (λ (d : Document). d.content) (c.in_err-take.ensures.same ∙ c.in_ok-ops.ensures.listed))
+
+-- ---- the places are in the new text
+
+pub marker_at-self-inside-requires-clause-within : goal.marker_at-self-inside-requires-clause-within
+marker_at-self-inside-requires-clause-within g c =
+    subst (λ xs. c.args.point ≤ length xs)
+    (sym (c.in_ok-take.ensures.text ∙ ap (λ d. text_after (text d) c.args.splices.now) (ap (λ (d : Document). d.content) c.in_ok-ops.ensures.listed ∙ ap (λ (b : State). b.content) c.self.view_is)))
+    c.requires.point
+
+pub mark_at-self-inside-requires-clause-within : goal.mark_at-self-inside-requires-clause-within
+mark_at-self-inside-requires-clause-within g c =
+    subst (λ xs. IfSome c.args.mark (λ n. n ≤ length xs))
+    (sym (c.in_ok-take.ensures.text ∙ ap (λ d. text_after (text d) c.args.splices.now) (ap (λ (d : Document). d.content) c.in_ok-ops.ensures.listed ∙ ap (λ (b : State). b.content) c.self.view_is)))
+    c.requires.mark

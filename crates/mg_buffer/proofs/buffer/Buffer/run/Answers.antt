@@ -38,3 +38,6 @@ returns-in_err-edit-clause-exact g c =
     let refused = subst (λ xs. (e ≡ Memory) ⊎ (splices_answer c.list.new.self.limit c.list.new.self.content xs ≡ Err e)) splices c.in_err-edit.ensures.exact in
     rw (p.1, p.2) (subst (λ (b : State). (Store e ≡ Store Memory) ⊎ (run_answer c.args.command.now c.args.arg c.args.fill b c.args.memo.now ≡ Err (Store e))) c.in_ok-list.ensures.listed
     (edit_refused c.args.command.now c.args.arg c.args.fill c.list.new.self c.args.memo.now c.in_ok-plan.plan due e refused))
+
+pub put_in-requires : goal.put_in-requires
+put_in-requires g c = c.in_ok-make_room.ensures.room

@@ -1,4 +1,4 @@
-use Rattle.std.proofs.Common.{rules, ◌≡◌, List, [], ◌∷◌, ◌++◌, true, false, sym, ap, ◌∙◌, subst, true≢false}
+use Rattle.std.proofs.Common.{rules, refl, ◌≡◌, List, [], ◌∷◌, ◌++◌, true, false, sym, ap, ◌∙◌, subst, true≢false}
 use Rattle.std.specs.Prelude.{Ok}
 use Rattle.std.specs.Option.{option_map, option_map_or}
 use Rattle.std.specs.String.{string_bytes}
@@ -83,3 +83,6 @@ returns-clause-follows g c =
       };
       listed = λ none. let clash : c.args.op ∷ [] ≡ [] = none in cc;
     }
+
+pub returns-clause-same : goal.returns-clause-same
+returns-clause-same g c = λ other. absurd (other refl)

@@ -99,3 +99,12 @@ returns-clause-follows g c =
       };
       listed = λ none. c.stays_listed-self-inside.ensures.kept none ∙ ap (λ (b : State). b.listed) c.self.view_is;
     }
+
+pub returns-clause-whole : goal.returns-clause-whole
+returns-clause-whole g c = λ _. c.in_ok-apply_all.ensures.whole refl ∙ ap (λ (b : State). join b.content (content_of c.args.ops.now)) c.self.view_is
+
+pub returns-clause-same : goal.returns-clause-same
+returns-clause-same g c = λ other. absurd (other refl)
+
+pub returns-clause-limit : goal.returns-clause-limit
+returns-clause-limit g c = c.apply_all.ensures.limit ∙ ap (λ (b : State). b.limit) c.self.view_is

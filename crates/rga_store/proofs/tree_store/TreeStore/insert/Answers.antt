@@ -1,4 +1,4 @@
-use Rattle.std.proofs.Common.{rules, ◌≡◌, ◌≤◌, ◌+◌, cond, ◌&&◌, ◌||◌, sym, ap, ◌∙◌, subst, arith}
+use Rattle.std.proofs.Common.{rules, refl, ◌≡◌, ◌≤◌, ◌+◌, cond, ◌&&◌, ◌||◌, sym, ap, ◌∙◌, subst, arith}
 use Rattle.std.specs.Prelude.{Ok, max}
 use Rattle.std.specs.FinMap as finite_map
 use Rattle.std.specs.FinSet as finite_set
@@ -9,9 +9,10 @@ use Rattle.rga_ops.specs.Found.{facts_of}
 use Rattle.rga_ops.proofs.AnswerLaws.{ok}
 use Rattle.rga_ops.specs.declared.op.Op.TheVariants.{Insert}
 use Rattle.rga_ops.specs.declared.refusal.Taken.TheVariants.{New}
+use Rattle.rga_store.specs.Kept.{Kept}
 use Rattle.rga_store.specs.Children.{has_child, IsRising}
 use Rattle.rga_store.specs.Nodes.{content_of_nodes, children_of}
-use Rattle.rga_store.proofs.TreeLaws.{few_inserted, tree_insertion}
+use Rattle.rga_store.proofs.TreeLaws.{few_inserted, tree_same, tree_insertion}
 use Rattle.rga_store.proofs.tree_store.TreeStore.insert.Goals as goal
 
 pub overflow_add-self : goal.overflow_add-self
@@ -53,3 +54,42 @@ invariant_of-self-2 c =
     (λ p. subst (λ ks. IsRising ks) (sym (c.set_element-deleted.ensures.children p)) (c.in_ok-add_child.ensures.rising p))
     (c.raise.ensures ∙ ap (max c.self.inside.clock) c.counter.ensures.value)
     (c.count_unless.ensures ∙ ap (λ b. cond b c.self.inside.known (c.self.inside.known + 1)) (c.set_element-deleted.ensures.deleted ∙ ap (λ (d : Content). finite_set.contains d.deleted c.args.id) (before c)))
+
+pub add_child-requires-clause-rising : goal.add_child-requires-clause-rising
+add_child-requires-clause-rising c = λ p.
+    subst (λ ks. IsRising ks) (sym (c.in_ok-index.ensures.children p ∙ c.in_ok-above.ensures.children p)) (c.self.invariant.family.rising p)
+
+pub set_element-deleted-requires-clause-index : goal.set_element-deleted-requires-clause-index
+set_element-deleted-requires-clause-index c = c.add_child.ensures.others c.in_ok-index.index c.args.id c.in_ok-index.ensures.index
+
+-- ---- where it is not new, or there is no memory for it, content and children are as they were
+
+pub invariant_of-self-then-ne : goal.invariant_of-self-then-ne
+invariant_of-self-then-ne c =
+    tree_same c.self.inside.nodes.entries _ c.self.inside.clock c.self.inside.inserted c.self.inside.known c.self.inside.limit c.self.invariant c.in_ok-index.ensures.apart
+    (c.in_ok-index.ensures.content ∙ c.in_ok-above.ensures.content) (λ p. c.in_ok-index.ensures.children p ∙ c.in_ok-above.ensures.children p)
+
+pub invariant_of-self-in_err-add_child : goal.invariant_of-self-in_err-add_child
+invariant_of-self-in_err-add_child c =
+    tree_same c.self.inside.nodes.entries _ c.self.inside.clock c.self.inside.inserted c.self.inside.known c.self.inside.limit c.self.invariant c.add_child.ensures.apart
+    (c.add_child.ensures.content ∙ c.in_ok-index.ensures.content ∙ c.in_ok-above.ensures.content) (λ p. c.in_err-add_child.ensures.same p ∙ c.in_ok-index.ensures.children p ∙ c.in_ok-above.ensures.children p)
+
+pub returns-then-ne-clause-same : goal.returns-then-ne-clause-same
+returns-then-ne-clause-same c = λ _. c.in_ok-index.ensures.content ∙ c.in_ok-above.ensures.content ∙ ap (λ (v : Kept). v.content) c.self.view_is
+
+pub returns-then-ne-clause-limit : goal.returns-then-ne-clause-limit
+returns-then-ne-clause-limit c = ap (λ (v : Kept). v.limit) c.self.view_is
+
+-- ---- what is new is there
+
+pub returns-clause-new : goal.returns-clause-new
+returns-clause-new c = λ _.
+    c.set_element-deleted.ensures.content
+    ∙ ap (λ d. join d (single (Insert c.args.id c.args.parent c.args.ch)))
+    (c.in_ok-add_child.ensures.content ∙ c.in_ok-index.ensures.content ∙ c.in_ok-above.ensures.content ∙ ap (λ (v : Kept). v.content) c.self.view_is)
+
+pub returns-clause-same : goal.returns-clause-same
+returns-clause-same c = λ other. absurd (other refl)
+
+pub returns-clause-limit : goal.returns-clause-limit
+returns-clause-limit c = ap (λ (v : Kept). v.limit) c.self.view_is

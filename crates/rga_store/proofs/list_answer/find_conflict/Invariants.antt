@@ -6,7 +6,7 @@ use Rattle.indexmap.specs.IndexMap.{get}
 use Rattle.rga_ops.specs.Identifier.{Identifier, is_id}
 use Rattle.rga_ops.specs.Content.{Element, join, content_of}
 use Rattle.rga_ops.specs.ListAnswer.{first_conflict}
-use Rattle.rga_store.proofs.list_answer.first_conflict.Given as goal
+use Rattle.rga_store.proofs.list_answer.find_conflict.Given as goal
 
 -- the store and the map have the elements of the store and of the operations so far, none of which conflicts
 abbrev pub invariant-loop-op : goal.invariant-loop-op

@@ -3,7 +3,7 @@ use Rattle.std.specs.Option.{option_copied}
 use Rattle.std.specs.FinSet as finite_set
 use Rattle.rga_store.specs.Kept.{Kept}
 use Rattle.rga_store.proofs.NodeLaws.{mark_of, deleted_at}
-use Rattle.rga_store.proofs.tree_store.TreeStore.has_deleted.Goals as goal
+use Rattle.rga_store.proofs.tree_store.TreeStoreTextStore.is_deleted.Goals as goal
 
 pub returns-in-Some : goal.returns-in-Some
 returns-in-Some c =

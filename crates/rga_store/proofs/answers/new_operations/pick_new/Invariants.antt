@@ -2,7 +2,7 @@ use Rattle.std.proofs.Common.{◌≡◌, take}
 use Rattle.rga_ops.specs.Content.{join, content_of}
 use Rattle.rga_ops.specs.NewOperations.{new_operations}
 use Rattle.rga_store.specs.Reached.{Reaches}
-use Rattle.rga_store.proofs.answers.new_operations.new_operations_at.Given as goal
+use Rattle.rga_store.proofs.answers.new_operations.pick_new.Given as goal
 
 -- the store and what was added have what the store and the operations so far have, and those of them that are new were picked
 abbrev pub invariant-loop-op : goal.invariant-loop-op

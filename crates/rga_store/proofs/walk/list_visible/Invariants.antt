@@ -4,7 +4,7 @@ use Rattle.rga_ops.specs.Identifier.{Identifier}
 use Rattle.rga_ops.specs.Order.{shown}
 use Rattle.rga_store.specs.Nodes.{content_of_nodes}
 use Rattle.rga_store.proofs.WalkLaws.{IsWalk, left}
-use Rattle.rga_store.proofs.walk.walked_visible.Given as goal
+use Rattle.rga_store.proofs.walk.list_visible.Given as goal
 
 -- the elements and the characters are those that are shown of what is done
 abbrev pub invariant-loop-id : goal.invariant-loop-id

@@ -5,7 +5,7 @@ use Rattle.rga_ops.specs.Identifier.{Identifier}
 use Rattle.rga_ops.specs.Content.{Element}
 use Rattle.rga_store.specs.Kept.{Kept}
 use Rattle.rga_store.proofs.NodeLaws.{element_of, inserted_at, element_shown}
-use Rattle.rga_store.proofs.tree_store.TreeStore.element.Goals as goal
+use Rattle.rga_store.proofs.tree_store.TreeStoreTextStore.get.Goals as goal
 
 shown : Option Element → Option (Identifier × ℕ)
 shown = option_map (λ x. (x.parent, x.ch))

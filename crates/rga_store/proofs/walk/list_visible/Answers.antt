@@ -8,7 +8,7 @@ use Rattle.rga_store.specs.Tree.{HasFamilies}
 use Rattle.rga_store.specs.Nodes.{Nodes, content_of_nodes, children_of, char_at}
 use Rattle.rga_store.proofs.ShownLaws.{is_shown, shows_more, element_more, shown_visible}
 use Rattle.rga_store.proofs.WalkLaws.{IsWalk, walk_start, walk_step, walk_smaller, walk_order}
-use Rattle.rga_store.proofs.walk.walked_visible.Goals as goal
+use Rattle.rga_store.proofs.walk.list_visible.Goals as goal
 
 pub loop-id-init : goal.loop-id-init
 loop-id-init c =
@@ -17,8 +17,8 @@ loop-id-init c =
       done = [];
       walk = walk_start (content_of_nodes c.args.nodes.now.entries) lists c.requires.family c.requires.sound c.push_children.new.stack.items
           (c.in_ok-push_children.ensures.stack ∙ ap (λ xs. xs ++ lists root) c.new-stack.ensures.items);
-      elements = c.in_ok-ids.ensures.items;
-      characters = c.in_ok-chars.ensures.items;
+      elements = c.requires.no_elements;
+      characters = c.requires.no_characters;
     }
 
 pub loop-id-smaller : goal.loop-id-smaller
