@@ -31,22 +31,25 @@ impl<S: TextStore> VisitedBuffer<S> {
         if !self.is_changed() {
             return Ok(false);
         }
-        if !self.buffer.unsaved().is_empty() {
-            self.save_log(port)?;
-        }
+        self.save_log(port)?;
         self.save_text(port)?;
         Ok(true)
     }
 
-    /// Writes the log, which then has all operations, or has to be written whole.
+    /// Writes the log where operations are unsaved. It then has all of them, or has to be written
+    /// whole.
     fn save_log<P: Port>(&mut self, port: &mut P) -> Result<(), PortFault>
-        ensures tells { Adds (P.calls port.old) (P.calls port.new)
-            (told result (log_call self.old)) }
-        ensures logged { OnOk result (self.new ≡ written self.old) }
-        ensures unlogged { OnErr result (self.new ≡ unlogged self.old) }
+        ensures calls { OnOk result
+            (Adds (P.calls port.old) (P.calls port.new) (log_calls self.old)) }
+        ensures logged { OnOk result (self.new ≡ logged self.old) }
+        ensures failed { IfErr result (λ fault.
+            FailsAtLog fault (P.calls port.old) (P.calls port.new) self.old self.new) }
         ensures links { P.links port.new ≡ P.links port.old }
         ensures device { P.failures port.new ≡ failures_after result (P.failures port.old) }
     {
+        if self.buffer.unsaved().is_empty() {
+            return Ok(());
+        }
         if let Err(fault) = self.write_log(port) {
             self.whole = true;
             return Err(fault);

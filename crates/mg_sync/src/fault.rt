@@ -3,7 +3,7 @@ use mg_files::{LinkFault, PortFault};
 use rga_exchange::{ReceiveFault, SendFault};
 
 /// Why a buffer and a peer did not exchange all that they hold. What was taken of the peer stays.
-#[derive(Clone, Copy, PartialEq, Eq)]
+#[derive(Clone, Copy)]
 pub enum ExchangeFault {
     /// A save failed.
     Save(PortFault),

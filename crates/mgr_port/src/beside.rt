@@ -1,34 +1,44 @@
 //! The files that take the names of a log and of a text.
 use crate::disk::Disk;
-use crate::files::{Keeping, OWN, keep, set_mode, sync_folder, take_mode};
+use crate::files::{Keeping, OWN, keep, set_mode, stands_for, sync_folder, take_mode};
 use crate::log::Log;
-use crate::text::TextPaths;
+use crate::rewriting::{OpenLog, keep_as_read, sync_as_read};
 use std::fs::{File, Metadata};
 use std::io::Write;
 use std::rt::Files;
 use std::{fs, io};
 
-/// The next log of a note.
+/// A file beside a log or a text, whose name it is to take.
 #[derive(Drop)]
-pub(crate) struct NextLog<'a, R> {
+pub(crate) struct Beside<'a, R> {
     pub(crate) rt: &'a R,
     pub(crate) file: &'a mut File,
     pub(crate) path: &'a str,
-    pub(crate) log: &'a str,
-    /// The file whose owner and rights it gets; with none only its owner may read it.
-    pub(crate) like: &'a Option<Metadata>,
+    pub(crate) name: &'a str,
+    pub(crate) kind: Kind<'a>,
 }
 
-impl<'a, R: Files<File = File> + AllocGlobal> Disk for NextLog<'a, R> {
+/// What stands beside.
+#[derive(Clone, Copy)]
+pub(crate) enum Kind<'a> {
+    /// A log, which gets the owner and the rights of a file; with none only its owner may read it.
+    Log(&'a Option<Metadata>),
+    /// A text, which is dated by its log.
+    Text(&'a Option<Log>),
+    /// A log in the place of one that was read.
+    Rewritten(&'a OpenLog),
+}
+
+impl<'a, R: Files<File = File> + AllocGlobal> Disk for Beside<'a, R> {
     ghost use Rattle.std.specs.Prelude.{None};
 
     ghost steps = { λ _. None };
 
     fn empty(&mut self) -> io::Result<()> {
         self.file.set_len(0)?;
-        match self.like {
-            Some(standing) => take_mode(self.file, standing),
-            None => set_mode(self.file, OWN),
+        match self.kind {
+            Kind::Log(like) => take_rights(self.file, like),
+            Kind::Text(_) | Kind::Rewritten(_) => Ok(()),
         }
     }
 
@@ -37,58 +47,41 @@ impl<'a, R: Files<File = File> + AllocGlobal> Disk for NextLog<'a, R> {
     }
 
     fn sync(&mut self) -> io::Result<()> {
-        self.file.sync_all()
+        match self.kind {
+            Kind::Log(_) => self.file.sync_all(),
+            Kind::Text(log) => sync_dated(self.file, log),
+            Kind::Rewritten(read) => sync_as_read(self.file, read),
+        }
     }
 
     fn keep(&mut self) -> io::Result<()> {
-        keep(self.rt, self.log, Keeping::ByName)
+        match self.kind {
+            Kind::Rewritten(read) => keep_as_read(self.rt, read, self.name),
+            Kind::Log(_) | Kind::Text(_) => keep(self.rt, self.name, Keeping::ByName),
+        }
     }
 
     fn take_name(&mut self) -> io::Result<()> {
-        fs::rename(self.rt, self.path, self.log)
+        fs::rename(self.rt, self.path, self.name)
     }
 
     fn sync_folder(&mut self) -> io::Result<()> {
-        sync_folder(self.rt, self.log)
+        sync_folder(self.rt, self.name)
     }
 }
 
-/// The next text of a note, which is dated by its log.
-#[derive(Drop)]
-pub(crate) struct NextText<'a, R> {
-    pub(crate) rt: &'a R,
-    pub(crate) file: &'a mut File,
-    pub(crate) paths: TextPaths<'a>,
-    pub(crate) log: &'a Option<Log>,
+/// Gives a new log the owner and the rights of another file; with none only its owner may read it.
+fn take_rights(log: &File, like: &Option<Metadata>) -> io::Result<()> {
+    match like {
+        Some(standing) => take_mode(log, standing),
+        None => set_mode(log, OWN),
+    }
 }
 
-impl<'a, R: Files<File = File> + AllocGlobal> Disk for NextText<'a, R> {
-    ghost use Rattle.std.specs.Prelude.{None};
-
-    ghost steps = { λ _. None };
-
-    fn empty(&mut self) -> io::Result<()> {
-        self.file.set_len(0)
-    }
-
-    fn write(&mut self, bytes: &[u8]) -> io::Result<()> {
-        self.file.write_all(bytes)
-    }
-
-    fn sync(&mut self) -> io::Result<()> {
-        sync_dated(self.file, self.log)
-    }
-
-    fn keep(&mut self) -> io::Result<()> {
-        keep(self.rt, self.paths.text, Keeping::ByName)
-    }
-
-    fn take_name(&mut self) -> io::Result<()> {
-        fs::rename(self.rt, self.paths.next, self.paths.text)
-    }
-
-    fn sync_folder(&mut self) -> io::Result<()> {
-        sync_folder(self.rt, self.paths.text)
+/// Removes the next log of a path that has not got its name.
+pub(crate) fn remove_next<R: Files<File = File>>(rt: &R, path: &str, next: &File) {
+    if let Ok(true) = stands_for(rt, path, next) {
+        let _ = fs::remove_file(rt, path);
     }
 }
 

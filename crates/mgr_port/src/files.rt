@@ -1,5 +1,6 @@
 //! Files that are whole whenever the machine stops, and of which nothing is destroyed.
 use crate::stamp::Stamp;
+use std::alloc::Global;
 use std::fs::{File, Metadata, OpenOptions, Permissions, TryLockError};
 use std::io::{ErrorKind, Write};
 use std::os::unix::fs::{MetadataExt, OpenOptionsExt, PermissionsExt, fchown};
@@ -133,7 +134,7 @@ pub(crate) fn keep<R: Files<File = File> + AllocGlobal>(
     keeping: Keeping,
 ) -> io::Result<()> {
     for number in 0..MAX_KEPT {
-        let kept = kept_path(rt, path, number)?;
+        let kept = kept_path(rt.alloc(), path, number)?;
         match keep_as(rt, path, kept.as_str(), keeping) {
             Ok(()) => return Ok(()),
             Err(error) if error.kind() == ErrorKind::AlreadyExists => {}
@@ -143,11 +144,11 @@ pub(crate) fn keep<R: Files<File = File> + AllocGlobal>(
     Err(io::Error::from(ErrorKind::AlreadyExists))
 }
 
-fn kept_path<R: AllocGlobal>(rt: &R, path: &str, number: u32) -> io::Result<String> {
+fn kept_path(alloc: Global, path: &str, number: u32) -> io::Result<String> {
     let kept = if number == 0 {
-        format!(in rt.alloc(); "{path}~")
+        format!(in alloc; "{path}~")
     } else {
-        format!(in rt.alloc(); "{path}.~{number}~")
+        format!(in alloc; "{path}.~{number}~")
     };
     match kept {
         Ok(kept) => Ok(kept),

@@ -1,6 +1,7 @@
 //! The names of a note's files.
 use std::alloc::Global;
-use std::fmt;
+use std::io;
+use std::io::ErrorKind;
 
 /// The paths of a note's files. All but the first are made of it.
 #[derive(Drop)]
@@ -15,12 +16,21 @@ pub(crate) struct Paths {
 }
 
 impl Paths {
-    pub(crate) fn new(alloc: Global, name: &str) -> Result<Paths, fmt::Error> {
+    /// `OutOfMemory`, and no other error, where a growth of memory was refused.
+    pub(crate) fn new(alloc: Global, name: &str) -> io::Result<Paths> {
         Ok(Paths {
-            text: format!(in alloc; "{name}")?,
-            log: format!(in alloc; "{name}.ops")?,
-            next_log: format!(in alloc; "{name}.ops.new")?,
-            next_text: format!(in alloc; "{name}.ops.text")?,
+            text: path(alloc, name, "")?,
+            log: path(alloc, name, ".ops")?,
+            next_log: path(alloc, name, ".ops.new")?,
+            next_text: path(alloc, name, ".ops.text")?,
         })
+    }
+}
+
+/// A name with this behind it.
+fn path(alloc: Global, name: &str, end: &str) -> io::Result<String> {
+    match format!(in alloc; "{name}{end}") {
+        Ok(path) => Ok(path),
+        Err(_) => Err(io::Error::from(ErrorKind::OutOfMemory)),
     }
 }

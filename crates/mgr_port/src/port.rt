@@ -1,16 +1,18 @@
 //! A port of files and sockets.
-ghost use Rattle.std.specs.Prelude.{◌≡◌, ◌≢◌, ◌<◌, Bool, Err, IfOk, IfErr, length};
+ghost use Rattle.std.specs.Prelude.{◌≡◌, ◌≢◌, ◌<◌, Bool, Err, IfOk, IfErr, IfSome, length};
 ghost use Rattle.mg_files.specs.Calls.{failures_after, failures_after_link};
 ghost use Rattle.mg_files.specs.declared.port.LinkFault.TheVariants.{NoPort};
 ghost use Rattle.mg_files.specs.declared.port.PortFault.TheVariants.{Memory};
 
+use crate::beside::remove_next;
 use crate::disk::Named;
 use crate::logs::Logs;
 use crate::names::Paths;
 use crate::note::Note;
-use crate::rewriting::{OpenLog, make_next, name_next, remove_next};
+use crate::rewriting::{OpenLog, make_next, name_next};
 use crate::sockets::{accept_at, connect_to};
 use mg_files::{Found, LinkFault, Port, PortFault};
+use std::alloc::{AllocError, Global};
 use std::fs::File;
 use std::io;
 use std::io::ErrorKind;
@@ -60,87 +62,79 @@ impl<R: Files<File = File> + Net + AllocGlobal + Drop> FilePort<R> {
         }
     }
 
-    /// What a call for a file answered, in a port's words; a failure of the device is counted.
-    fn told<T: Drop>(&mut self, answer: io::Result<T>) -> Result<T, PortFault>
-        ensures device { self.new.failures ≡ failures_after result self.old.failures }
-        ensures number { self.new.number ≡ self.old.number }
-    {
-        match answer {
-            Ok(value) => Ok(value),
-            Err(error) if error.kind() == ErrorKind::OutOfMemory => Err(PortFault::Memory),
-            Err(_) => {
-                self.count_failure();
-                Err(PortFault::File)
-            }
-        }
-    }
-
-    /// The same of a call for a link.
-    fn link_told<T: Drop>(&mut self, answer: io::Result<T>) -> Result<T, LinkFault>
-        ensures device { self.new.failures ≡ failures_after_link result self.old.failures }
-        ensures port { result ≢ Err NoPort }
-        ensures number { self.new.number ≡ self.old.number }
-    {
-        match answer {
-            Ok(value) => Ok(value),
-            Err(error) if error.kind() == ErrorKind::OutOfMemory => Err(LinkFault::Memory),
-            Err(_) => {
-                self.count_failure();
-                Err(LinkFault::Socket)
-            }
-        }
-    }
-
-    /// Counts a failure.
-    fn count_failure(&mut self)
-        ensures device { let refused = Err PortFault.File in
-            self.new.failures ≡ failures_after {A = Bool} refused self.old.failures }
-        ensures number { self.new.number ≡ self.old.number }
-    {
-        self.failures = self.failures.saturating_add(1);
-    }
-
-    /// The index of a note, which need not be loaded.
-    fn note(&mut self, name: &str) -> Result<usize, PortFault>
-        ensures found { IfOk result (λ i. i < length self.new.notes.items) }
-        ensures memory { IfErr result (λ e. e ≡ Memory) }
-        ensures failures { self.new.failures ≡ self.old.failures }
-        ensures number { self.new.number ≡ self.old.number }
-    {
-        let known = self.notes.iter().position(|note| note.is_of(name));
-        if let Some(index) = known {
-            return Ok(index);
-        }
-        let note = self.new_note(name)?;
-        let index = self.notes.as_slice().len();
-        if self.notes.push(note).is_err() {
-            return Err(PortFault::Memory);
-        }
-        Ok(index)
-    }
-
-    fn new_note(&self, name: &str) -> Result<Note, PortFault>
-        ensures { IfErr result (λ e. e ≡ Memory) }
-    {
-        match Paths::new(self.rt.alloc(), name) {
-            Ok(paths) => Ok(Note::new(paths)),
-            Err(_) => Err(PortFault::Memory),
-        }
-    }
-
-    fn paths(&self, name: &str) -> io::Result<Paths> {
-        match Paths::new(self.rt.alloc(), name) {
-            Ok(paths) => Ok(paths),
-            Err(_) => Err(io::Error::from(ErrorKind::OutOfMemory)),
-        }
-    }
-
     /// Removes what stands in the place of logs that were never made.
     fn leave(&self) {
         for note in &self.notes {
-            note.leave(&self.rt);
+            note.files.leave(&self.rt, &note.paths);
         }
     }
+}
+
+/// What a call for a file answered, in a port's words; a failure of the device is counted.
+fn told<T: Drop>(failures: &mut u64, answer: io::Result<T>) -> Result<T, PortFault>
+    ensures { failures.new ≡ failures_after result failures.old }
+{
+    match answer {
+        Ok(value) => Ok(value),
+        Err(error) if error.kind() == ErrorKind::OutOfMemory => Err(PortFault::Memory),
+        Err(_) => {
+            count_failure(failures);
+            Err(PortFault::File)
+        }
+    }
+}
+
+/// The same of a call for a link.
+fn link_told<T: Drop>(failures: &mut u64, answer: io::Result<T>) -> Result<T, LinkFault>
+    ensures device { failures.new ≡ failures_after_link result failures.old }
+    ensures port { result ≢ Err NoPort }
+{
+    match answer {
+        Ok(value) => Ok(value),
+        Err(error) if error.kind() == ErrorKind::OutOfMemory => Err(LinkFault::Memory),
+        Err(_) => {
+            count_failure(failures);
+            Err(LinkFault::Socket)
+        }
+    }
+}
+
+/// Counts a failure.
+fn count_failure(failures: &mut u64)
+    ensures { let refused = Err PortFault.File in
+        failures.new ≡ failures_after {A = Bool} refused failures.old }
+{
+    *failures = failures.saturating_add(1);
+}
+
+/// The index of the note of a name, which need not be loaded.
+fn index_of(alloc: Global, notes: &mut Vec<Note>, name: &str) -> Result<usize, PortFault>
+    ensures found { IfOk result (λ i. i < length notes.new.items) }
+    ensures memory { IfErr result (λ e. e ≡ Memory) }
+{
+    if let Some(index) = known_index(notes, name) {
+        return Ok(index);
+    }
+    let Ok(paths) = Paths::new(alloc, name) else {
+        return Err(PortFault::Memory);
+    };
+    Ok(add_note(notes, paths)?)
+}
+
+/// The index of the note of a name that was asked for before.
+fn known_index(notes: &[Note], name: &str) -> Option<usize>
+    ensures { IfSome result (λ i. i < length notes.now) }
+{
+    notes.iter().position(|note| note.is_of(name))
+}
+
+/// One note more, and its index.
+fn add_note(notes: &mut Vec<Note>, paths: Paths) -> Result<usize, AllocError>
+    ensures { IfOk result (λ i. i < length notes.new.items) }
+{
+    let index = notes.as_slice().len();
+    notes.push(Note::new(paths))?;
+    Ok(index)
 }
 
 impl<R: Files<File = File> + Net + AllocGlobal + Drop> Port for FilePort<R> {
@@ -163,11 +157,10 @@ impl<R: Files<File = File> + Net + AllocGlobal + Drop> Port for FilePort<R> {
         ensures device { self.new.failures ≡ failures_after result self.old.failures }
         ensures number { self.new.number ≡ self.old.number }
     {
-        let index = self.note(name)?;
-        let note = self.new_note(name)?;
-        self.notes[index] = note;
-        let found = self.notes[index].load(&self.rt);
-        self.told(found)
+        let index = index_of(self.rt.alloc(), &mut self.notes, name)?;
+        let note = &mut self.notes[index];
+        let found = note.files.load(&self.rt, &note.paths);
+        told(&mut self.failures, found)
     }
 
     /// The bytes are on the device once it answers `Ok`. Nothing is written where the log is gone,
@@ -176,9 +169,10 @@ impl<R: Files<File = File> + Net + AllocGlobal + Drop> Port for FilePort<R> {
         ensures device { self.new.failures ≡ failures_after result self.old.failures }
         ensures number { self.new.number ≡ self.old.number }
     {
-        let index = self.note(name)?;
-        let answer = self.notes[index].append(&self.rt, bytes);
-        self.told(answer)
+        let index = index_of(self.rt.alloc(), &mut self.notes, name)?;
+        let note = &mut self.notes[index];
+        let answer = note.files.append(&self.rt, &note.paths, bytes);
+        told(&mut self.failures, answer)
     }
 
     /// Whenever the machine stops, the log is the old one or the new one, whole. The old one is
@@ -187,9 +181,10 @@ impl<R: Files<File = File> + Net + AllocGlobal + Drop> Port for FilePort<R> {
         ensures device { self.new.failures ≡ failures_after result self.old.failures }
         ensures number { self.new.number ≡ self.old.number }
     {
-        let index = self.note(name)?;
-        let answer = self.notes[index].replace(&self.rt, bytes);
-        self.told(answer)
+        let index = index_of(self.rt.alloc(), &mut self.notes, name)?;
+        let note = &mut self.notes[index];
+        let answer = note.files.replace(&self.rt, &note.paths, bytes);
+        told(&mut self.failures, answer)
     }
 
     /// So is the text, where it is a plain file in a folder that takes new ones. Its permissions
@@ -198,9 +193,10 @@ impl<R: Files<File = File> + Net + AllocGlobal + Drop> Port for FilePort<R> {
         ensures device { self.new.failures ≡ failures_after result self.old.failures }
         ensures number { self.new.number ≡ self.old.number }
     {
-        let index = self.note(name)?;
-        let answer = self.notes[index].put_text(&self.rt, bytes);
-        self.told(answer)
+        let index = index_of(self.rt.alloc(), &mut self.notes, name)?;
+        let note = &mut self.notes[index];
+        let answer = note.files.put_text(&self.rt, &note.paths, bytes);
+        told(&mut self.failures, answer)
     }
 
     /// To the peer that listens at the number. `NoPort` where there is none, and never else.
@@ -213,7 +209,7 @@ impl<R: Files<File = File> + Net + AllocGlobal + Drop> Port for FilePort<R> {
             return Err(LinkFault::NoPort);
         };
         let answer = connect_to(&self.rt, number);
-        self.link_told(answer)
+        link_told(&mut self.failures, answer)
     }
 
     /// Listens at the number until one peer has connected, and no longer. `NoPort` where there is
@@ -227,7 +223,7 @@ impl<R: Files<File = File> + Net + AllocGlobal + Drop> Port for FilePort<R> {
             return Err(LinkFault::NoPort);
         };
         let answer = accept_at(&self.rt, number);
-        self.link_told(answer)
+        link_told(&mut self.failures, answer)
     }
 
     fn finish(&mut self, link: &mut R::Stream) -> Result<(), LinkFault>
@@ -236,7 +232,7 @@ impl<R: Files<File = File> + Net + AllocGlobal + Drop> Port for FilePort<R> {
         ensures number { self.new.number ≡ self.old.number }
     {
         let answer = link.shutdown(Shutdown::Write);
-        self.link_told(answer)
+        link_told(&mut self.failures, answer)
     }
 
     fn failures(&self) -> u64 {
@@ -257,27 +253,23 @@ impl<R: Files<File = File> + Net + AllocGlobal + Drop> Logs for FilePort<R> {
 
     /// A log that may not be written is refused.
     fn open_log(&mut self, name: &str) -> io::Result<OpenLog> {
-        let paths = self.paths(name)?;
+        let paths = Paths::new(self.rt.alloc(), name)?;
         OpenLog::open(&self.rt, paths.log.as_str())
     }
 
     fn make_next(&mut self, name: &str, log: &OpenLog) -> io::Result<File> {
-        let paths = self.paths(name)?;
-        make_next(&self.rt, &paths, log)
+        let paths = Paths::new(self.rt.alloc(), name)?;
+        make_next(&self.rt, paths.next_log.as_str(), log)
     }
 
-    fn name_next(&mut self, name: &str, log: &OpenLog, mut next: File) -> io::Result<Named> {
-        let paths = self.paths(name)?;
-        let named = name_next(&self.rt, &paths, log, &mut next);
-        if named.is_err() {
-            remove_next(&self.rt, &paths, &next);
-        }
-        named
+    fn name_next(&mut self, name: &str, log: &OpenLog, next: File) -> io::Result<Named> {
+        let paths = Paths::new(self.rt.alloc(), name)?;
+        name_next(&self.rt, &paths, log, next)
     }
 
     fn leave_next(&mut self, name: &str, next: File) {
-        if let Ok(paths) = self.paths(name) {
-            remove_next(&self.rt, &paths, &next);
+        if let Ok(paths) = Paths::new(self.rt.alloc(), name) {
+            remove_next(&self.rt, paths.next_log.as_str(), &next);
         }
     }
 }

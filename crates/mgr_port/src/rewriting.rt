@@ -1,17 +1,17 @@
 //! A log that is read whole, and written anew beside.
-use crate::disk::{Disk, Named, name_written};
+use crate::beside::{Beside, Kind, remove_next};
+use crate::disk::{Named, name_written};
 use crate::files::{
-    Keeping, check_writable, keep, lock, metadata_if_there, open_beside, stands_for, sync_folder,
-    take_mode,
+    Keeping, check_writable, keep, lock, metadata_if_there, open_beside, take_mode,
 };
 use crate::log::Log;
 use crate::names::Paths;
 use crate::stamp::Stamp;
 use std::fs::File;
-use std::io::{ErrorKind, Read, Write};
+use std::io;
+use std::io::{ErrorKind, Read};
 use std::rt::Files;
 use std::time::SystemTime;
-use std::{fs, io};
 
 /// How often the log is looked for anew where its name changes meanwhile.
 const TRIES: u32 = 16;
@@ -70,91 +70,70 @@ impl OpenLog {
     }
 }
 
-/// The next log of a log that was read.
-#[derive(Drop)]
-struct Rewritten<'a, R> {
-    rt: &'a R,
-    log: &'a OpenLog,
-    next: &'a mut File,
-    paths: &'a Paths,
+/// Gives a log the time of change of the one that was read, by which a text that was put beside that
+/// is known, and waits until it is on the device. A file system that keeps no such times is no reason
+/// to stop.
+pub(crate) fn sync_as_read(next: &File, read: &OpenLog) -> io::Result<()> {
+    if let Ok(time) = read.changed() {
+        let _ = next.set_modified(time);
+    }
+    next.sync_all()
 }
 
-impl<'a, R: Files<File = File> + AllocGlobal> Disk for Rewritten<'a, R> {
-    ghost use Rattle.std.specs.Prelude.{None};
-
-    ghost steps = { λ _. None };
-
-    fn empty(&mut self) -> io::Result<()> {
-        self.next.set_len(0)
+/// Keeps a log of a path. Nothing gets the name of one that is not as it was read.
+pub(crate) fn keep_as_read<R: Files<File = File> + AllocGlobal>(
+    rt: &R,
+    read: &OpenLog,
+    path: &str,
+) -> io::Result<()> {
+    if !read.is_as_read(rt, path)? {
+        return Err(io::Error::from(ErrorKind::WouldBlock));
     }
-
-    fn write(&mut self, bytes: &[u8]) -> io::Result<()> {
-        self.next.write_all(bytes)
-    }
-
-    /// It gets the log's time of change, by which a text that was put beside the log is known. A file
-    /// system that keeps no such times is no reason to stop.
-    fn sync(&mut self) -> io::Result<()> {
-        if let Ok(time) = self.log.changed() {
-            let _ = self.next.set_modified(time);
-        }
-        self.next.sync_all()
-    }
-
-    /// Nothing gets the name of a log that is not as it was read.
-    fn keep(&mut self) -> io::Result<()> {
-        let path = self.paths.log.as_str();
-        if !self.log.is_as_read(self.rt, path)? {
-            return Err(io::Error::from(ErrorKind::WouldBlock));
-        }
-        keep(self.rt, path, Keeping::ByName)
-    }
-
-    fn take_name(&mut self) -> io::Result<()> {
-        fs::rename(
-            self.rt,
-            self.paths.next_log.as_str(),
-            self.paths.log.as_str(),
-        )
-    }
-
-    fn sync_folder(&mut self) -> io::Result<()> {
-        sync_folder(self.rt, self.paths.log.as_str())
-    }
+    keep(rt, path, Keeping::ByName)
 }
 
 /// An empty file beside a log, locked, with the owner and the rights of the log.
 pub(crate) fn make_next<R: Files<File = File>>(
     rt: &R,
-    paths: &Paths,
+    path: &str,
     log: &OpenLog,
 ) -> io::Result<File> {
-    let next = open_beside(rt, paths.next_log.as_str())?;
+    let next = open_beside(rt, path)?;
     lock(&next)?;
     next.set_len(0)?;
     take_mode(&next, &log.file.metadata()?)?;
     Ok(next)
 }
 
-/// Gives what was written beside a log the name of the log, which is kept.
+/// Gives what was written beside a log the name of the log, which is kept. Where that fails, there is
+/// no file beside any more.
 pub(crate) fn name_next<R: Files<File = File> + AllocGlobal>(
     rt: &R,
     paths: &Paths,
-    log: &OpenLog,
-    next: &mut File,
+    read: &OpenLog,
+    mut next: File,
 ) -> io::Result<Named> {
-    let mut disk = Rewritten {
-        rt,
-        log,
-        next,
-        paths,
-    };
-    name_written(&mut disk, true)
+    let path = paths.next_log.as_str();
+    let named = name_as(rt, read, &mut next, path, paths.log.as_str());
+    if named.is_err() {
+        remove_next(rt, path, &next);
+    }
+    named
 }
 
-/// Removes a file beside a log that has not got its name.
-pub(crate) fn remove_next<R: Files<File = File>>(rt: &R, paths: &Paths, next: &File) {
-    if let Ok(true) = stands_for(rt, paths.next_log.as_str(), next) {
-        let _ = fs::remove_file(rt, paths.next_log.as_str());
-    }
+fn name_as<R: Files<File = File> + AllocGlobal>(
+    rt: &R,
+    read: &OpenLog,
+    next: &mut File,
+    path: &str,
+    log: &str,
+) -> io::Result<Named> {
+    let mut disk = Beside {
+        rt,
+        file: next,
+        path,
+        name: log,
+        kind: Kind::Rewritten(read),
+    };
+    name_written(&mut disk, true)
 }

@@ -1,11 +1,12 @@
 //! A text, as this port found and left it.
-use crate::beside::{NextText, sync_dated};
+use crate::beside::{Beside, Kind, sync_dated};
 use crate::disk::{Named, put_whole};
 use crate::files::{
     Keeping, check_writable, keep, lock, make_beside, metadata_if_there, set_mode, stands_for,
     take_owner,
 };
 use crate::log::Log;
+use crate::names::Paths;
 use crate::stamp::Stamp;
 use std::fs::{File, Metadata};
 use std::io::{ErrorKind, Write};
@@ -18,13 +19,6 @@ const TRIES: u32 = 16;
 
 /// A text that is made gets the permissions that the user's mask leaves of these.
 const ALL: u32 = 0o666;
-
-/// The paths of a text, and of the file that is to take its name.
-#[derive(Clone, Copy)]
-pub(crate) struct TextPaths<'a> {
-    pub(crate) text: &'a str,
-    pub(crate) next: &'a str,
-}
 
 /// A text. It is locked for as long as it is open.
 #[derive(Drop)]
@@ -111,20 +105,17 @@ impl Text {
     pub(crate) fn put<R: Files<File = File> + AllocGlobal>(
         &mut self,
         rt: &R,
-        paths: TextPaths<'_>,
+        paths: &Paths,
         bytes: &[u8],
         log: &Option<Log>,
     ) -> io::Result<()> {
-        let there = metadata_if_there(rt, paths.text)?;
-        if let Some(there) = &there {
-            if there.is_file() {
-                check_writable(rt, paths.text)?;
-            }
-        }
-        let is_safe = self.is_safe(rt, paths.text, &there, bytes)?;
+        let path = paths.text.as_str();
+        let there = metadata_if_there(rt, path)?;
+        check_plain(rt, path, &there)?;
+        let is_safe = self.is_safe(rt, path, &there, bytes)?;
         match make_next(rt, paths, &there)? {
             Some(next) => self.put_beside(rt, paths, next, bytes, log, is_safe),
-            None => self.put_in_place(rt, paths.text, bytes, log, is_safe),
+            None => self.put_in_place(rt, path, bytes, log, is_safe),
         }
     }
 
@@ -153,7 +144,7 @@ impl Text {
     fn put_beside<R: Files<File = File> + AllocGlobal>(
         &mut self,
         rt: &R,
-        paths: TextPaths<'_>,
+        paths: &Paths,
         mut next: File,
         bytes: &[u8],
         log: &Option<Log>,
@@ -189,19 +180,32 @@ impl Text {
 /// Writes all of the next text, and gives it the text's name.
 fn name_next<R: Files<File = File> + AllocGlobal>(
     rt: &R,
-    paths: TextPaths<'_>,
+    paths: &Paths,
     next: &mut File,
     bytes: &[u8],
     log: &Option<Log>,
     keeps: bool,
 ) -> io::Result<Named> {
-    let mut disk = NextText {
+    let mut disk = Beside {
         rt,
         file: next,
-        paths,
-        log,
+        path: paths.next_text.as_str(),
+        name: paths.text.as_str(),
+        kind: Kind::Text(log),
     };
     put_whole(&mut disk, bytes, keeps)
+}
+
+/// Whether the text may be written, where it is a plain file. Nothing of it changes.
+fn check_plain<R: Files<File = File>>(
+    rt: &R,
+    path: &str,
+    there: &Option<Metadata>,
+) -> io::Result<()> {
+    match there {
+        Some(there) if there.is_file() => check_writable(rt, path),
+        _ => Ok(()),
+    }
 }
 
 /// A new file for a text, with its mode, owner and group; none where the text has to be written in
@@ -209,26 +213,33 @@ fn name_next<R: Files<File = File> + AllocGlobal>(
 /// new file.
 fn make_next<R: Files<File = File>>(
     rt: &R,
-    paths: TextPaths<'_>,
+    paths: &Paths,
     there: &Option<Metadata>,
 ) -> io::Result<Option<File>> {
-    let standing = match fs::symlink_metadata(rt, paths.text) {
-        Ok(standing) => standing,
+    let path = paths.next_text.as_str();
+    match fs::symlink_metadata(rt, paths.text.as_str()) {
+        Ok(standing) if there.is_some() && standing.is_file() => make_like(rt, path, &standing),
+        Ok(_) => Ok(None),
         Err(error) if error.kind() == ErrorKind::NotFound => {
-            return Ok(Some(make_beside(rt, paths.next, ALL)?));
+            Ok(Some(make_beside(rt, path, ALL)?))
         }
-        Err(error) => return Err(error),
-    };
-    if there.is_none() || !standing.is_file() {
-        return Ok(None);
+        Err(error) => Err(error),
     }
-    let Ok(next) = make_beside(rt, paths.next, 0) else {
-        return only_name(&standing);
+}
+
+/// A new file of a path, with the mode, the owner and the group of a text; none where it can't be had.
+fn make_like<R: Files<File = File>>(
+    rt: &R,
+    path: &str,
+    standing: &Metadata,
+) -> io::Result<Option<File>> {
+    let Ok(next) = make_beside(rt, path, 0) else {
+        return only_name(standing);
     };
-    if !take_owner(&next, &standing)? {
+    if !take_owner(&next, standing)? {
         drop(next);
-        fs::remove_file(rt, paths.next)?;
-        return only_name(&standing);
+        fs::remove_file(rt, path)?;
+        return only_name(standing);
     }
     set_mode(&next, standing.mode())?;
     Ok(Some(next))

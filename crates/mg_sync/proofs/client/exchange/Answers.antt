@@ -1,18 +1,94 @@
 use Rattle.std.proofs.Common.{rules, ◌≡◌, [], ◌∷◌, inr, Result, Ok, Err, sym, subst, ◌∙◌}
 use Rattle.mg_files.specs.declared.port.CallKind.TheVariants.{Connect, Finish}
-use Rattle.mg_files.specs.Calls.{link_call, Adds}
+use Rattle.mg_files.specs.Calls.{link_call, link_refusals, Adds}
 use Rattle.mg_files.specs.Links.{Opens, KeepsBytes}
-use Rattle.mg_files.specs.Saving.{save_calls, saved}
+use Rattle.mg_files.specs.Saving.{save_calls, saved, SaveFailed}
 use Rattle.mg_sync.specs.declared.fault.ExchangeFault.{ExchangeFault}
-use Rattle.mg_sync.specs.declared.fault.ExchangeFault.TheVariants.{Send}
+use Rattle.mg_sync.specs.declared.fault.ExchangeFault.TheVariants.{Save, Link, Send}
 use Rattle.mg_sync.specs.declared.talking.Exchanged.{Exchanged}
 use Rattle.mg_sync.specs.Talking.{SendsOver, HearsOver, Gains}
 use Rattle.mg_sync.specs.Meeting.{TakesTo, Turns}
 use Rattle.mg_sync.specs.Linking.{counted, HearsBehind, ExchangesOver}
 use Rattle.mg_sync.proofs.MeetingLaws.{adds_then, sends_saved, gains_saved, turn_fails}
 use Rattle.mg_sync.proofs.LessSaid.{exchanges_over}
-use Rattle.mg_sync.proofs.LinkLaws.{opens_among, gains_over, turns}
+use Rattle.mg_sync.proofs.LinkLaws.{exchange_unsaved, exchange_unopened, exchange_unended, opens_among, gains_over, turns}
 use Rattle.mg_sync.proofs.client.exchange.Goals as goal
+
+pub returns-in_err-save-clause-over : goal.returns-in_err-save-clause-over
+returns-in_err-save-clause-over g c =
+    let e = c.in_err-save.field-0.0 in
+    let remaining = g.P.Link.Read.remaining in
+    let contents = g.P.Link.Write.contents in
+    let b = c.args.opened.now in
+    let s = c.save.new.self in
+    let old = g.P.Port.calls c.args.port.now in
+    let first = g.P.Port.calls c.save.new.port in
+    let before = g.P.Port.links c.args.port.now in
+    let behind = g.P.Port.links c.save.new.port in
+    let failed : SaveFailed e old first b s = c.in_err-save.ensures.failed in
+    let over : ExchangesOver remaining contents before behind old first b s (Err (Save e)) =
+    exchange_unsaved remaining contents before behind old first first b s e c.in_err-save.ensures.links failed in
+    let is : c.from_residual.result ≡ Err (Save e) = search rules in
+    subst (λ (r : Result Exchanged ExchangeFault). ExchangesOver remaining contents before behind old first b s r) (sym is) over
+
+pub returns-in_err-save-clause-exchanges : goal.returns-in_err-save-clause-exchanges
+returns-in_err-save-clause-exchanges g c = exchanges_over g.P.Link.Read.remaining g.P.Link.Write.contents (returns-in_err-save-clause-over g c)
+
+pub returns-in_err-connect-clause-over : goal.returns-in_err-connect-clause-over
+returns-in_err-connect-clause-over g c =
+    let e = c.in_err-connect.field-0.0 in
+    let remaining = g.P.Link.Read.remaining in
+    let contents = g.P.Link.Write.contents in
+    let b = c.args.opened.now in
+    let s = c.save.new.self in
+    let old = g.P.Port.calls c.args.port.now in
+    let first = g.P.Port.calls c.save.new.port in
+    let new = g.P.Port.calls c.connect.new.self in
+    let before = g.P.Port.links c.args.port.now in
+    let behind = g.P.Port.links c.connect.new.self in
+    let left : s ≡ saved b = c.in_ok-save.ensures.saved in
+    let saves : Adds old first (save_calls b) = c.in_ok-save.ensures.calls in
+    let connects : Adds first new (link_refusals e (link_call Connect)) = c.in_err-connect.ensures.tells in
+    let same : behind ≡ before = c.in_err-connect.ensures.links ∙ c.in_ok-save.ensures.links in
+    let over : ExchangesOver remaining contents before behind old new b s (Err (Link e)) =
+    exchange_unopened remaining contents before behind old first new b s e same left saves connects in
+    let is : c.from_residual-in_err-connect.result ≡ Err (Link e) = search rules in
+    subst (λ (r : Result Exchanged ExchangeFault). ExchangesOver remaining contents before behind old new b s r) (sym is) over
+
+pub returns-in_err-connect-clause-exchanges : goal.returns-in_err-connect-clause-exchanges
+returns-in_err-connect-clause-exchanges g c = exchanges_over g.P.Link.Read.remaining g.P.Link.Write.contents (returns-in_err-connect-clause-over g c)
+
+pub returns-in_err-finish-clause-over : goal.returns-in_err-finish-clause-over
+returns-in_err-finish-clause-over g c =
+    let e = c.in_err-finish.field-0.0 in
+    let calls = g.P.Port.calls in
+    let links = g.P.Port.links in
+    let remaining = g.P.Link.Read.remaining in
+    let contents = g.P.Link.Write.contents in
+    let link = c.in_ok-connect.field-0 in
+    let b = c.args.opened.now in
+    let s = c.save.new.self in
+    let told = c.tell.new.writer in
+    let old = calls c.args.port.now in
+    let first = calls c.save.new.port in
+    let opened = calls c.connect.new.self in
+    let new = calls c.finish.new.self in
+    let before = links c.args.port.now in
+    let behind = links c.finish.new.self in
+    let left : s ≡ saved b = c.in_ok-save.ensures.saved in
+    let saves : Adds old first (save_calls b) = c.in_ok-save.ensures.calls in
+    let connects : Adds first opened (link_call Connect ∷ []) = c.in_ok-connect.ensures.tells in
+    let finishes : Adds opened new (link_refusals e (link_call Finish)) = c.in_err-finish.ensures.tells in
+    let made : Adds first new (link_call Connect ∷ link_refusals e (link_call Finish)) =
+    adds_then first opened new (link_call Connect ∷ []) (link_refusals e (link_call Finish)) connects finishes in
+    let opens : Opens before behind link = opens_among before (links c.save.new.port) (links c.connect.new.self) behind link c.in_ok-save.ensures.links c.in_ok-connect.ensures.opens c.finish.ensures.links in
+    let over : ExchangesOver remaining contents before behind old new b s (Err (Link e)) =
+    exchange_unended remaining contents before behind old first new b s e link told opens left saves made in
+    let is : c.from_residual-in_err-finish.result ≡ Err (Link e) = search rules in
+    subst (λ (r : Result Exchanged ExchangeFault). ExchangesOver remaining contents before behind old new b s r) (sym is) over
+
+pub returns-in_err-finish-clause-exchanges : goal.returns-in_err-finish-clause-exchanges
+returns-in_err-finish-clause-exchanges g c = exchanges_over g.P.Link.Read.remaining g.P.Link.Write.contents (returns-in_err-finish-clause-over g c)
 
 pub returns-in_err-sent-clause-over : goal.returns-in_err-sent-clause-over
 returns-in_err-sent-clause-over g c =

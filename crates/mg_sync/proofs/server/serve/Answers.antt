@@ -1,17 +1,62 @@
 use Rattle.std.proofs.Common.{rules, ◌≡◌, inr, Result, Ok, Err, sym, ap, subst, ◌∙◌}
-use Rattle.mg_files.specs.Calls.{Adds}
+use Rattle.mg_files.specs.declared.port.CallKind.TheVariants.{Accept}
+use Rattle.mg_files.specs.Calls.{link_call, link_refusals, Adds}
 use Rattle.mg_files.specs.Links.{Opens}
-use Rattle.mg_files.specs.Saving.{save_calls, saved}
+use Rattle.mg_files.specs.Saving.{save_calls, saved, SaveFailed}
 use Rattle.mg_sync.specs.declared.fault.ExchangeFault.{ExchangeFault}
-use Rattle.mg_sync.specs.declared.fault.ExchangeFault.TheVariants.{Send}
+use Rattle.mg_sync.specs.declared.fault.ExchangeFault.TheVariants.{Save, Link, Send}
 use Rattle.mg_sync.specs.declared.talking.Exchanged.{Exchanged}
 use Rattle.mg_sync.specs.Talking.{SendsOver, HearsOver}
 use Rattle.mg_sync.specs.Meeting.{TakesTo, Meets, accepting}
 use Rattle.mg_sync.specs.Linking.{counted, SendsBehind, ServesOver}
 use Rattle.mg_sync.proofs.MeetingLaws.{wait_fails}
 use Rattle.mg_sync.proofs.LessSaid.{serves_over}
-use Rattle.mg_sync.proofs.LinkLaws.{opens_among, gains_over, waits}
+use Rattle.mg_sync.proofs.LinkLaws.{serve_unsaved, serve_unopened, opens_among, gains_over, waits}
 use Rattle.mg_sync.proofs.server.serve.Goals as goal
+
+pub returns-in_err-save-clause-over : goal.returns-in_err-save-clause-over
+returns-in_err-save-clause-over g c =
+    let e = c.in_err-save.field-0.0 in
+    let remaining = g.P.Link.Read.remaining in
+    let contents = g.P.Link.Write.contents in
+    let b = c.args.opened.now in
+    let s = c.save.new.self in
+    let old = g.P.Port.calls c.args.port.now in
+    let first = g.P.Port.calls c.save.new.port in
+    let before = g.P.Port.links c.args.port.now in
+    let behind = g.P.Port.links c.save.new.port in
+    let failed : SaveFailed e old first b s = c.in_err-save.ensures.failed in
+    let over : ServesOver remaining contents before behind old first b s (Err (Save e)) =
+    serve_unsaved remaining contents before behind old first first b s e c.in_err-save.ensures.links failed in
+    let is : c.from_residual.result ≡ Err (Save e) = search rules in
+    subst (λ (r : Result Exchanged ExchangeFault). ServesOver remaining contents before behind old first b s r) (sym is) over
+
+pub returns-in_err-save-clause-serves : goal.returns-in_err-save-clause-serves
+returns-in_err-save-clause-serves g c = serves_over g.P.Link.Read.remaining g.P.Link.Write.contents (returns-in_err-save-clause-over g c)
+
+pub returns-in_err-accept-clause-over : goal.returns-in_err-accept-clause-over
+returns-in_err-accept-clause-over g c =
+    let e = c.in_err-accept.field-0.0 in
+    let remaining = g.P.Link.Read.remaining in
+    let contents = g.P.Link.Write.contents in
+    let b = c.args.opened.now in
+    let s = c.save.new.self in
+    let old = g.P.Port.calls c.args.port.now in
+    let first = g.P.Port.calls c.save.new.port in
+    let new = g.P.Port.calls c.accept.new.self in
+    let before = g.P.Port.links c.args.port.now in
+    let behind = g.P.Port.links c.accept.new.self in
+    let left : s ≡ saved b = c.in_ok-save.ensures.saved in
+    let saves : Adds old first (save_calls b) = c.in_ok-save.ensures.calls in
+    let accepts : Adds first new (link_refusals e (link_call Accept)) = c.in_err-accept.ensures.tells in
+    let same : behind ≡ before = c.in_err-accept.ensures.links ∙ c.in_ok-save.ensures.links in
+    let over : ServesOver remaining contents before behind old new b s (Err (Link e)) =
+    serve_unopened remaining contents before behind old first new b s e same left saves accepts in
+    let is : c.from_residual-in_err-accept.result ≡ Err (Link e) = search rules in
+    subst (λ (r : Result Exchanged ExchangeFault). ServesOver remaining contents before behind old new b s r) (sym is) over
+
+pub returns-in_err-accept-clause-serves : goal.returns-in_err-accept-clause-serves
+returns-in_err-accept-clause-serves g c = serves_over g.P.Link.Read.remaining g.P.Link.Write.contents (returns-in_err-accept-clause-over g c)
 
 pub returns-in_err-received-clause-over : goal.returns-in_err-received-clause-over
 returns-in_err-received-clause-over g c =
