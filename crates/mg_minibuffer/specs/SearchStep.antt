@@ -1,5 +1,6 @@
 -- What a step leads to while a pattern is searched as it is typed.
 use Rattle.std.specs.Prelude.{ℕ, ◌+◌, ◌-◌, ◌^◌, List, [], ◌∷◌, ◌++◌, length, Option, Some, None, nat_eq, nat_lt, if◌then◌else◌}
+use Rattle.std.specs.Option.{option_and_then, option_map}
 use Rattle.mg_plain.specs.Matches.{found_match}
 use Rattle.mg_plain.specs.declared.command.Command.{Command}
 use Rattle.mg_plain.specs.declared.command.Command.TheVariants.{SearchForward, SearchBackward}
@@ -67,15 +68,17 @@ with_pattern s pattern = record s { pattern = pattern }
 abbrev pub goes_to : Search → ℕ → ℕ → Reaction
 goes_to s start i = runs (command s start) (Open (Searching (with_match s i))) message.Nothing
 
--- point goes to the match that is found from the start on; where there is none, another reaction
-abbrev pub seek_at : List ℕ → Search → ℕ → Reaction → Reaction
-seek_at text s start otherwise = elim (found_match s.direction s.pattern text start) [
-  | Some i ↦ goes_to s start i
+-- the match that is found from a place, if there is one, behind that place
+abbrev pub sought : List ℕ → Search → Option ℕ → Option (ℕ × ℕ)
+sought text s start =
+    option_and_then (λ i. option_map (λ m. (i, m)) (found_match s.direction s.pattern text i)) start
+
+-- point goes to that match; where there is none, another reaction
+abbrev pub seek : List ℕ → Search → Option ℕ → Reaction → Reaction
+seek text s start otherwise = elim (sought text s start) [
+  | Some (i, m) ↦ goes_to s i m
   | None ↦ otherwise
 ]
-
-abbrev pub seek : List ℕ → Search → Option ℕ → Reaction → Reaction
-seek text s start otherwise = elim start [ Some i ↦ seek_at text s i otherwise | None ↦ otherwise ]
 
 abbrev pub failed : prompt_behind.Next → Reaction
 failed next = shows next (message.Refused SearchFailed)
@@ -105,11 +108,13 @@ returns origin next message = runs (SearchForward [] origin) next message
 abbrev pub shorter : Search → Search
 shorter s = record s { pattern = rubbed s.pattern; found = None }
 
+-- where a search that begins anew looks first: nowhere without a pattern
+abbrev pub first_start : Search → Option ℕ
+first_start s = if nat_eq (length s.pattern) 0 then None else Some s.origin
+
 -- from the origin on, in both directions; where there is no match point goes there
 abbrev pub anew : Search → List ℕ → Reaction
-anew s text =
-    let home = returns s.origin (Open (Searching s)) message.Nothing in
-    if nat_eq (length s.pattern) 0 then home else seek_at text s s.origin home
+anew s text = seek text s (first_start s) (returns s.origin (Open (Searching s)) message.Nothing)
 
 abbrev pub search_step : Search → Step → List ℕ → List ℕ → Reaction
 search_step s (step.Text c) text last = lengthened s c text

@@ -86,38 +86,20 @@ fn goes_to(alloc: Global, search: Search, start: usize, i: usize) -> Result<Reac
     Ok(runs(command, Next::Open(prompt), Message::Nothing))
 }
 
-/// The search from a place: where it finds no match, what else follows.
-fn seek_at(
-    alloc: Global,
-    text: &[char],
-    search: Search,
-    start: usize,
-    otherwise: Reaction,
-) -> Result<Reaction, AllocError>
-    ensures { let due = spec.seek_at text.now search start otherwise in
-        IfOk result (λ reaction. reaction ≡ due) }
+/// The match that a search finds from a place, if there is one, behind that place.
+fn sought(text: &[char], search: &Search, start: Option<usize>) -> Option<(usize, usize)>
+    ensures { result ≡ spec.sought text.now search.now start }
 {
-    match find(search.direction, text, search.pattern.as_slice(), start) {
-        Some(i) => goes_to(alloc, search, start, i),
-        None => Ok(otherwise),
-    }
+    let start = start?;
+    let i = find(search.direction, text, search.pattern.as_slice(), start)?;
+    Some((start, i))
 }
 
-/// The search from a place, if there is one: where it finds no match, what else follows.
-fn seek(
-    alloc: Global,
-    text: &[char],
-    search: Search,
-    start: Option<usize>,
-    otherwise: Reaction,
-) -> Result<Reaction, AllocError>
-    ensures { let due = spec.seek text.now search start otherwise in
-        IfOk result (λ reaction. reaction ≡ due) }
+/// There is no match.
+fn failed(next: Next) -> Reaction
+    ensures { result ≡ spec.failed next }
 {
-    match start {
-        Some(start) => seek_at(alloc, text, search, start, otherwise),
-        None => Ok(otherwise),
-    }
+    shows(next, Message::Refused(Notice::SearchFailed))
 }
 
 /// The search with another pattern and the same match.
@@ -146,8 +128,10 @@ fn lengthened(
         return Ok(shows(Next::Same, Message::Nothing));
     }
     let longer = with_pattern(search, typed(alloc, pattern, ch)?);
-    let failed = shows(Next::Same, Message::Refused(Notice::SearchFailed));
-    seek(alloc, text, longer, from_match(search), failed)
+    match sought(text, &longer, from_match(search)) {
+        Some((start, i)) => goes_to(alloc, longer, start, i),
+        None => Ok(failed(Next::Same)),
+    }
 }
 
 fn or_last(alloc: Global, pattern: &[char], last: &[char]) -> Result<Chars, AllocError>
@@ -178,21 +162,14 @@ fn turned(
     })
 }
 
-fn copied(alloc: Global, search: &Search) -> Result<Search, AllocError>
-    ensures { IfOk result (λ copy. copy ≡ search.now) }
-{
-    let pattern = Chars::from_slice(alloc, search.pattern.as_slice())?;
-    Ok(with_pattern(search, pattern))
-}
-
 fn goes_on(alloc: Global, search: Search, text: &[char]) -> Result<Reaction, AllocError>
     ensures { let due = spec.goes_on search text.now in
         IfOk result (λ reaction. reaction ≡ due) }
 {
-    let kept = Prompt::Searching(copied(alloc, &search)?);
-    let failed = shows(Next::Open(kept), Message::Refused(Notice::SearchFailed));
-    let start = past_match(&search);
-    seek(alloc, text, search, start, failed)
+    match sought(text, &search, past_match(&search)) {
+        Some((start, i)) => goes_to(alloc, search, start, i),
+        None => Ok(failed(Next::Open(Prompt::Searching(search)))),
+    }
 }
 
 /// Point goes back to where the search began.
@@ -216,17 +193,28 @@ fn shorter(alloc: Global, search: &Search) -> Result<Search, AllocError>
     })
 }
 
+/// Where a search that begins anew looks first; nowhere without a pattern.
+fn first_start(search: &Search) -> Option<usize>
+    ensures { result ≡ spec.first_start search.now }
+{
+    if search.pattern.as_slice().is_empty() {
+        return None;
+    }
+    Some(search.origin)
+}
+
 /// A search that begins anew at its origin; where there is no match, point goes there.
 fn anew(alloc: Global, search: Search, text: &[char]) -> Result<Reaction, AllocError>
     ensures { IfOk result (λ reaction. reaction ≡ spec.anew search text.now) }
 {
-    let kept = Prompt::Searching(copied(alloc, &search)?);
-    let origin = search.origin;
-    let home = returns(alloc, origin, Next::Open(kept), Message::Nothing);
-    if search.pattern.as_slice().is_empty() {
-        return Ok(home);
+    match sought(text, &search, first_start(&search)) {
+        Some((start, i)) => goes_to(alloc, search, start, i),
+        None => {
+            let origin = search.origin;
+            let kept = Next::Open(Prompt::Searching(search));
+            Ok(returns(alloc, origin, kept, Message::Nothing))
+        }
     }
-    seek_at(alloc, text, search, origin, home)
 }
 
 /// What a step leads to while a pattern is searched as it is typed.

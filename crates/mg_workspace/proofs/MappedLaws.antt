@@ -7,6 +7,11 @@ use Rattle.mg_workspace.specs.Mapped.{mapped_at}
 abbrev pub mapped_to : {A : Type 0} → (A → A) → ℕ → List A → List A
 mapped_to f i xs = map f (take i xs) ++ drop i xs
 
+pub length-mapped_at : {A : Type 0} (f : A → A) (xs : List A) (i : ℕ) → length (mapped_at f i xs) ≡ length xs
+length-mapped_at f [] i = refl
+length-mapped_at f (x ∷ xs) zero = refl
+length-mapped_at f (x ∷ xs) (suc i) = let rest = length-mapped_at f xs i in omega (arith, rest)
+
 pub length-mapped_to : {A : Type 0} (f : A → A) (xs : List A) (i : ℕ) → length (mapped_to f i xs) ≡ length xs
 length-mapped_to f xs zero = refl
 length-mapped_to f [] (suc i) = refl

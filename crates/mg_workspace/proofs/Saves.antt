@@ -7,7 +7,7 @@ use Rattle.mg_workspace.specs.Saving.{CurrentBecomes}
 
 -- the current buffer, set
 pub current_becomes : (R : OpenState → OpenState → Type 0) (old : Buffers) (xs : List OpenState) (i : ℕ) (x y : OpenState)
-    → old ≡ record { all = xs; current = i } → i < length xs → x ≡ get_or xs i x → R x y
+    → record { all = xs; current = i } ≡ old → i < length xs → x ≡ get_or xs i x → R x y
     → CurrentBecomes R old (record { all = slice_set xs i y; current = i })
 current_becomes R old xs i x y is inside value r =
     let new : Buffers = record { all = slice_set xs i y; current = i } in
@@ -18,4 +18,4 @@ current_becomes R old xs i x y is inside value r =
       became = r;
       is = refl;
     } in
-    subst (λ o. CurrentBecomes R o new) (sym is) here
+    subst (λ o. CurrentBecomes R o new) is here

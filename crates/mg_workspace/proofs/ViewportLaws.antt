@@ -144,6 +144,14 @@ left_at gone (w ∷ ws) (suc i) s x at is = ap (λ us. w ∷ us) (left_at gone w
 
 -- ---- the windows of a workspace show its buffers
 
+-- those that are kept in number, of which the same one is current
+pub kept_shown : (bs now : Buffers) (l : Layout Viewport) → AreShown bs l → length now.all ≡ length bs.all → now.current ≡ bs.current → AreShown now l
+kept_shown bs now l shown count at = record {
+  few = subst (λ n. n ≤ MAX_BUFFERS) (sym count) shown.few;
+  each = subst (λ n. ShowThese n l.windows) (sym count) shown.each;
+  current = shown.current ∙ sym at;
+}
+
 pub gone_shown : (bs : Buffers) (l new : Layout Viewport) (i : ℕ) → AreShown bs l → i < length bs.all → new ≡ turned i l → (current_viewport new).buffer ≡ i → AreShown (record bs { current = i }) new
 gone_shown bs l new i shown inside is here = record {
   few = shown.few;

@@ -134,13 +134,12 @@ impl<S: TextStore> Buffers<S> {
         requires others { 1 < length self.old.all }
         ensures { self.new ≡ spec.without_buffer index self.old }
     {
-        let current = moved(index, self.current);
-        let _removed = self.all.remove(index);
-        self.current = current;
+        self.current = moved(index, self.current);
+        self.all.remove(index);
     }
 
     /// The buffer at an index is listed.
-    fn list_at(&mut self, index: usize) -> Result<(), Refusal>
+    pub fn list_at(&mut self, index: usize) -> Result<(), Refusal>
         requires { index < length self.old.all }
         ensures listed { let all = mapped_at spec.listed index self.old.all in
             OnOk result (self.new ≡ record self.old { all = all }) }
@@ -167,15 +166,6 @@ impl<S: TextStore> Buffers<S> {
         ensures { result ≡ spec.are_changed self.now }
     {
         self.all.iter().any(|b| b.is_changed())
-    }
-
-    /// The current buffer is listed.
-    pub fn list(&mut self) -> Result<(), Refusal>
-        ensures listed { OnOk result (spec.AtCurrent spec.IsListed self.old self.new) }
-        ensures same { OnErr result (self.new ≡ self.old) }
-        ensures memory { IfErr result (λ e. e ≡ Refusal.Memory) }
-    {
-        self.all[self.current].buffer.list()
     }
 
     /// The current buffer runs a command.

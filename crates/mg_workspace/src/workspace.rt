@@ -89,7 +89,8 @@ impl<S: TextStore> Workspace<S> {
         ensures exact { IfOk result (λ w. w ≡ workspace settings.now opened) }
         ensures memory { IfErr result (λ e. e ≡ Memory) }
     {
-        opened.append_runs(settings.values().runs);
+        let values = settings.values();
+        opened.append_runs(values.runs);
         let buffers = Buffers::new(alloc, opened)?;
         let Ok(windows) = Windows::new(alloc, settings.rows(), BEGINNING) else {
             return Err(LoadFault::Memory);
@@ -99,11 +100,11 @@ impl<S: TextStore> Workspace<S> {
             buffers,
             memo: Memo::new(alloc),
             windows,
-            fill: settings.values().fill,
+            fill: values.fill,
             columns: settings.columns(),
-            replica: settings.values().replica,
-            limit: settings.values().limit,
-            runs: settings.values().runs,
+            replica: values.replica,
+            limit: values.limit,
+            runs: values.runs,
         })
     }
 
@@ -161,7 +162,8 @@ impl<S: TextStore> Workspace<S> {
         ensures same { OnErr result (self.new ≡ self.old) }
         ensures memory { IfErr result (λ e. e ≡ Refusal.Memory) }
     {
-        self.buffers.list()
+        let index = self.buffers.current_index();
+        self.buffers.list_at(index)
     }
 
     /// Lists all buffers. `Memory` alone: nothing changed then, but that some may be listed.

@@ -1,4 +1,4 @@
-use Rattle.std.proofs.Common.{rules, ◌≡◌, ◌<◌, length, Err, refl, sym, ap, subst, ◌∙◌}
+use Rattle.std.proofs.Common.{◌≡◌, ◌<◌, length, Err, refl, sym, ap, subst, ◌∙◌}
 use Rattle.mg_files.specs.OpenState.{OpenState}
 use Rattle.mg_workspace.specs.declared.fault.ActionFault.TheVariants.{Memory}
 use Rattle.mg_workspace.specs.Actions as spec
@@ -25,23 +25,19 @@ invariant_of-self-2 g c =
 pub returns-then-lacks_memory-clause-arranged : goal.returns-then-lacks_memory-clause-arranged
 returns-then-lacks_memory-clause-arranged g c =
     let s = c.self.inside in
-    let w = c.args.self.now in
     let was : Workspace = record { buffers = s.buffers; notes = s.memo; windows = s.windows; fill = s.fill; columns = s.columns; replica = s.replica; limit = s.limit; runs = s.runs } in
-    let is : w ≡ was = search rules in
     let a = c.args.arrangement in
     let now : Workspace = record was { windows = c.change_windows-answer.new.windows } in
     let answer = c.change_windows-answer.result in
     let changes = c.change_windows-answer.ensures in
     let same = on_err_map answer _ _ (λ kept. ap (λ l. record was { windows = l }) kept) changes.same in
     let here : spec.Arranged a was now (Err Memory) = unarranged answer a c.current-opened.result.now was now (Err Memory) (sym c.lacks_memory.ensures ∙ c.if-lacks_memory.true) c.current-opened.ensures changes.exact same refl in
-    subst (λ x. spec.Arranged a x now (Err Memory)) (sym is) here
+    subst (λ x. spec.Arranged a x now (Err Memory)) c.self.view_is here
 
 pub returns-clause-arranged : goal.returns-clause-arranged
 returns-clause-arranged g c =
     let s = c.self.inside in
-    let w = c.args.self.now in
     let was : Workspace = record { buffers = s.buffers; notes = s.memo; windows = s.windows; fill = s.fill; columns = s.columns; replica = s.replica; limit = s.limit; runs = s.runs } in
-    let is : w ≡ was = search rules in
     let a = c.args.arrangement in
     let b : OpenState = c.current-opened.result.now in
     let answer = c.change_windows-answer.result in
@@ -60,4 +56,4 @@ returns-clause-arranged g c =
       windows = rearranged answer a b was now l (sym c.lacks_memory.ensures ∙ c.if-lacks_memory.false) changes.windows changes.same ends;
       told = c.of_windows.ensures;
     } in
-    subst (λ x. spec.Arranged a x now c.of_windows.result) (sym is) here
+    subst (λ x. spec.Arranged a x now c.of_windows.result) c.self.view_is here

@@ -1,4 +1,4 @@
-use Rattle.std.proofs.Common.{rules, ◌≡◌, refl, sym, subst}
+use Rattle.std.proofs.Common.{refl, subst}
 use Rattle.mg_workspace.specs.Actions.{Idled}
 use Rattle.mg_workspace.specs.Workspaces.{Workspace}
 use Rattle.mg_workspace.proofs.workspace.Workspace.idle.Goals as goal
@@ -7,6 +7,5 @@ pub returns : goal.returns
 returns g c =
     let s = c.self.inside in
     let was : Workspace = record { buffers = s.buffers; notes = s.memo; windows = s.windows; fill = s.fill; columns = s.columns; replica = s.replica; limit = s.limit; runs = s.runs } in
-    let is : c.args.self.now ≡ was = search rules in
     let now : Workspace = record was { buffers = c.idle.new.self; notes = c.idle.new.memo } in
-    subst (λ w. Idled w now) (sym is) (record { buffers = c.idle.ensures; rest = refl })
+    subst (λ w. Idled w now) c.self.view_is (record { buffers = c.idle.ensures; rest = refl })

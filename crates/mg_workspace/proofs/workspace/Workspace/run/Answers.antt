@@ -1,25 +1,14 @@
-use Rattle.std.proofs.Common.{rules, ◌≡◌, refl, sym, subst}
+use Rattle.std.proofs.Common.{refl, subst}
 use Rattle.mg_workspace.specs.Actions.{Ran}
 use Rattle.mg_workspace.specs.Workspaces.{Workspace}
 use Rattle.mg_workspace.proofs.Keeping.{refused_run_keeps}
 use Rattle.mg_workspace.proofs.workspace.Workspace.run.Goals as goal
 
-pub returns-clause-ran : goal.returns-clause-ran
-returns-clause-ran g c =
+pub returns : goal.returns
+returns g c =
     let s = c.self.inside in
     let was : Workspace = record { buffers = s.buffers; notes = s.memo; windows = s.windows; fill = s.fill; columns = s.columns; replica = s.replica; limit = s.limit; runs = s.runs } in
-    let is : c.args.self.now ≡ was = search rules in
     let now : Workspace = record was { buffers = c.run-answer.new.self; notes = c.run-answer.new.memo } in
     let ran : Ran c.args.command.now c.args.argument c.args.self.now now c.of_buffer.result =
-    subst (λ w. Ran c.args.command.now c.args.argument w now c.of_buffer.result) (sym is) (record { answer = c.run-answer.result; buffers = c.run-answer.ensures; rest = refl; told = c.of_buffer.ensures }) in
-    ran
-
-pub returns-clause-kept : goal.returns-clause-kept
-returns-clause-kept g c memory =
-    let s = c.self.inside in
-    let was : Workspace = record { buffers = s.buffers; notes = s.memo; windows = s.windows; fill = s.fill; columns = s.columns; replica = s.replica; limit = s.limit; runs = s.runs } in
-    let is : c.args.self.now ≡ was = search rules in
-    let now : Workspace = record was { buffers = c.run-answer.new.self; notes = c.run-answer.new.memo } in
-    let ran : Ran c.args.command.now c.args.argument c.args.self.now now c.of_buffer.result =
-    subst (λ w. Ran c.args.command.now c.args.argument w now c.of_buffer.result) (sym is) (record { answer = c.run-answer.result; buffers = c.run-answer.ensures; rest = refl; told = c.of_buffer.ensures }) in
-    refused_run_keeps c.args.command.now c.args.argument c.args.self.now now c.of_buffer.result ran memory
+    subst (λ w. Ran c.args.command.now c.args.argument w now c.of_buffer.result) c.self.view_is (record { answer = c.run-answer.result; buffers = c.run-answer.ensures; rest = refl; told = c.of_buffer.ensures }) in
+    record { ran = ran; kept = refused_run_keeps c.args.command.now c.args.argument c.args.self.now now c.of_buffer.result ran }

@@ -1,25 +1,14 @@
-use Rattle.std.proofs.Common.{rules, ◌≡◌, refl, sym, subst}
+use Rattle.std.proofs.Common.{refl, subst}
 use Rattle.mg_workspace.specs.Actions.{Undid}
 use Rattle.mg_workspace.specs.Workspaces.{Workspace}
 use Rattle.mg_workspace.proofs.Keeping.{refused_undo_keeps}
 use Rattle.mg_workspace.proofs.workspace.Workspace.undo.Goals as goal
 
-pub returns-clause-undid : goal.returns-clause-undid
-returns-clause-undid g c =
+pub returns : goal.returns
+returns g c =
     let s = c.self.inside in
     let was : Workspace = record { buffers = s.buffers; notes = s.memo; windows = s.windows; fill = s.fill; columns = s.columns; replica = s.replica; limit = s.limit; runs = s.runs } in
-    let is : c.args.self.now ≡ was = search rules in
     let now : Workspace = record was { buffers = c.undo-answer.new.self; notes = c.undo-answer.new.memo } in
     let undid : Undid c.args.self.now now c.of_buffer.result =
-    subst (λ w. Undid w now c.of_buffer.result) (sym is) (record { answer = c.undo-answer.result; buffers = c.undo-answer.ensures; rest = refl; told = c.of_buffer.ensures }) in
-    undid
-
-pub returns-clause-kept : goal.returns-clause-kept
-returns-clause-kept g c memory =
-    let s = c.self.inside in
-    let was : Workspace = record { buffers = s.buffers; notes = s.memo; windows = s.windows; fill = s.fill; columns = s.columns; replica = s.replica; limit = s.limit; runs = s.runs } in
-    let is : c.args.self.now ≡ was = search rules in
-    let now : Workspace = record was { buffers = c.undo-answer.new.self; notes = c.undo-answer.new.memo } in
-    let undid : Undid c.args.self.now now c.of_buffer.result =
-    subst (λ w. Undid w now c.of_buffer.result) (sym is) (record { answer = c.undo-answer.result; buffers = c.undo-answer.ensures; rest = refl; told = c.of_buffer.ensures }) in
-    refused_undo_keeps c.args.self.now now c.of_buffer.result undid memory
+    subst (λ w. Undid w now c.of_buffer.result) c.self.view_is (record { answer = c.undo-answer.result; buffers = c.undo-answer.ensures; rest = refl; told = c.of_buffer.ensures }) in
+    record { undid = undid; kept = refused_undo_keeps c.args.self.now now c.of_buffer.result undid }
