@@ -8,7 +8,7 @@
 //! `undo-all` undoes that too; `take` has the buffer take an operation of another replica, and
 //! `store` its store alone. The number is how many identifiers are known in the end.
 use crate::fault::Fault;
-use crate::text::{document, number_at, paragraph};
+use crate::text::{document, named, number_at, paragraph};
 use mg_buffer::{Buffer, BufferFault, Memo};
 use mg_plain::{Chars, Command};
 use rga_flat::FlatStore;
@@ -46,25 +46,23 @@ struct Task {
     times: usize,
 }
 
-fn work_of(words: &[String]) -> Option<Work> {
-    match words.get(2)?.as_str() {
-        "insert" => Some(Work::Insert),
-        "motion" => Some(Work::Motion),
-        "kill-line" => Some(Work::KillLine),
-        "kill" => Some(Work::Kill),
-        "make" => Some(Work::Make),
-        "undo-line" => Some(Work::UndoLine),
-        "undo-insert" => Some(Work::UndoInsert),
-        "kill-all" => Some(Work::KillAll),
-        "undo-all" => Some(Work::UndoAll),
-        "take" => Some(Work::Take),
-        "store" => Some(Work::Store),
-        _ => None,
-    }
-}
+/// The names of work.
+const WORKS: [(&str, Work); 11] = [
+    ("insert", Work::Insert),
+    ("motion", Work::Motion),
+    ("kill-line", Work::KillLine),
+    ("kill", Work::Kill),
+    ("make", Work::Make),
+    ("undo-line", Work::UndoLine),
+    ("undo-insert", Work::UndoInsert),
+    ("kill-all", Work::KillAll),
+    ("undo-all", Work::UndoAll),
+    ("take", Work::Take),
+    ("store", Work::Store),
+];
 
 pub fn outcome(alloc: Global, words: &[String]) -> Result<usize, Fault> {
-    let Some(work) = work_of(words) else {
+    let Some(work) = named(words, &WORKS) else {
         return Err(Fault::Words);
     };
     let task = Task {
@@ -73,10 +71,9 @@ pub fn outcome(alloc: Global, words: &[String]) -> Result<usize, Fault> {
         times: number_at(words, 4)?,
     };
     let known = match task.work {
-        Work::Kill => made_again(alloc, &task, KILLS)?,
-        Work::Make => made_again(alloc, &task, 0)?,
+        Work::Kill | Work::Make => made_again(alloc, &task)?,
         Work::Store => taken_again(alloc, &task)?,
-        _ => done_again(alloc, &task)?,
+        _ => done(alloc, &task)?,
     };
     Ok(known)
 }
@@ -87,14 +84,37 @@ fn buffer_of(alloc: Global, size: usize) -> Result<Buffer<FlatStore>, Refusal> {
     Ok(Buffer::new(alloc, doc, String::new(alloc), Vec::new(alloc)))
 }
 
-/// Makes a buffer so many times, and kills so many lines in each.
-fn made_again(alloc: Global, task: &Task, kills: usize) -> Result<usize, BufferFault> {
+/// Does the work so many times, each in a buffer of its own.
+fn made_again(alloc: Global, task: &Task) -> Result<usize, BufferFault> {
     let mut known = 0;
     for _ in 0..task.times {
-        let mut buffer = buffer_of(alloc, task.size)?;
-        known = kill_lines(&mut buffer, &mut Memo::new(alloc), kills)?;
+        match buffer_of(alloc, task.size) {
+            Ok(mut buffer) => known = done_in(alloc, &mut buffer, task)?,
+            Err(refusal) => return Err(BufferFault::Store(refusal)),
+        }
     }
     Ok(known)
+}
+
+/// Makes a buffer, and does the work in it.
+fn done(alloc: Global, task: &Task) -> Result<usize, BufferFault> {
+    match buffer_of(alloc, task.size) {
+        Ok(mut buffer) => done_in(alloc, &mut buffer, task),
+        Err(refusal) => Err(BufferFault::Store(refusal)),
+    }
+}
+
+fn done_in(
+    alloc: Global,
+    buffer: &mut Buffer<FlatStore>,
+    task: &Task,
+) -> Result<usize, BufferFault> {
+    let mut memo = Memo::new(alloc);
+    match task.work {
+        Work::Kill => kill_lines(buffer, &mut memo, KILLS),
+        Work::Make => kill_lines(buffer, &mut memo, 0),
+        _ => do_again(alloc, buffer, &mut memo, task),
+    }
 }
 
 fn kill_lines(
@@ -104,8 +124,8 @@ fn kill_lines(
 ) -> Result<usize, BufferFault> {
     buffer.list()?;
     for _ in 0..kills {
-        run(buffer, memo, Command::KillLine)?;
-        run(buffer, memo, Command::NextLine)?;
+        run(buffer, memo, &Command::KillLine)?;
+        run(buffer, memo, &Command::NextLine)?;
     }
     Ok(buffer.store().known())
 }
@@ -118,16 +138,13 @@ fn taken_again(alloc: Global, task: &Task) -> Result<usize, Refusal> {
 }
 
 fn store_of(alloc: Global, size: usize) -> Result<FlatStore, Refusal> {
-    let buffer = buffer_of(alloc, size)?;
-    buffer.store().copy()
+    match buffer_of(alloc, size) {
+        Ok(buffer) => buffer.store().copy(),
+        Err(refusal) => Err(refusal),
+    }
 }
 
-/// Makes a buffer, and does the work in it again and again.
-fn done_again(alloc: Global, task: &Task) -> Result<usize, BufferFault> {
-    let mut buffer = buffer_of(alloc, task.size)?;
-    do_again(alloc, &mut buffer, &mut Memo::new(alloc), task)
-}
-
+/// Does the work in a buffer again and again, with point in the middle.
 fn do_again(
     alloc: Global,
     buffer: &mut Buffer<FlatStore>,
@@ -159,18 +176,18 @@ fn go_to(
 fn do_once(work: Work, buffer: &mut Buffer<FlatStore>, memo: &mut Memo) -> Result<(), BufferFault> {
     buffer.list()?;
     match work {
-        Work::Insert => run(buffer, memo, Command::Insert('a')),
+        Work::Insert => run(buffer, memo, &Command::Insert('a')),
         Work::Motion => {
-            run(buffer, memo, Command::ForwardChar)?;
-            run(buffer, memo, Command::BackwardChar)
+            run(buffer, memo, &Command::ForwardChar)?;
+            run(buffer, memo, &Command::BackwardChar)
         }
         Work::KillLine => {
-            run(buffer, memo, Command::KillLine)?;
-            run(buffer, memo, Command::Yank)?;
-            run(buffer, memo, Command::BeginningOfLine)
+            run(buffer, memo, &Command::KillLine)?;
+            run(buffer, memo, &Command::Yank)?;
+            run(buffer, memo, &Command::BeginningOfLine)
         }
-        Work::UndoLine => run_and_undo(buffer, memo, Command::KillLine),
-        Work::UndoInsert => run_and_undo(buffer, memo, Command::Insert('a')),
+        Work::UndoLine => run_and_undo(buffer, memo, &Command::KillLine),
+        Work::UndoInsert => run_and_undo(buffer, memo, &Command::Insert('a')),
         Work::KillAll => kill_all(buffer, memo),
         Work::UndoAll => {
             kill_all(buffer, memo)?;
@@ -184,9 +201,9 @@ fn do_once(work: Work, buffer: &mut Buffer<FlatStore>, memo: &mut Memo) -> Resul
 fn run(
     buffer: &mut Buffer<FlatStore>,
     memo: &mut Memo,
-    command: Command,
+    command: &Command,
 ) -> Result<(), BufferFault> {
-    buffer.run(&command, 1, memo, FILL)?;
+    buffer.run(command, 1, memo, FILL)?;
     buffer.list()?;
     let _place = buffer.view(memo).point;
     Ok(())
@@ -196,7 +213,7 @@ fn run(
 fn run_and_undo(
     buffer: &mut Buffer<FlatStore>,
     memo: &mut Memo,
-    command: Command,
+    command: &Command,
 ) -> Result<(), BufferFault> {
     run(buffer, memo, command)?;
     buffer.undo(memo)?;

@@ -6,7 +6,7 @@
 use crate::fault::Fault;
 use crate::text::{number_at, paragraph};
 use mg_plain::{Chars, Command, Kind, Notice, View, plan};
-use std::alloc::{AllocError, Global};
+use std::alloc::Global;
 
 /// The column to which the paragraph is filled: less than the lines have, so that all break anew.
 const FILL: u16 = 70;
@@ -16,10 +16,10 @@ pub fn outcome(alloc: Global, words: &[String]) -> Result<usize, Fault> {
     let Some(name) = words.get(2) else {
         return Err(Fault::Words);
     };
-    let Some(command) = command_of(alloc, name.as_str())? else {
-        return Err(Fault::Words);
-    };
-    Ok(planned(alloc, &command, size, times)?)
+    match command_of(alloc, name.as_str()) {
+        Ok(command) => Ok(planned(alloc, &command, size, times)?),
+        Err(fault) => Err(fault),
+    }
 }
 
 /// The view of a text with point at a place, or at its end.
@@ -36,7 +36,7 @@ fn view_of(text: &[char], point: usize) -> View<'_> {
 
 /// The command of that name. The search is for what the text does not hold, and what is replaced is
 /// the begin of each of its words.
-fn command_of(alloc: Global, name: &str) -> Result<Option<Command>, AllocError> {
+fn command_of(alloc: Global, name: &str) -> Result<Command, Fault> {
     let command = match name {
         "forward-char" => Command::ForwardChar,
         "insert" => Command::Insert('a'),
@@ -53,9 +53,9 @@ fn command_of(alloc: Global, name: &str) -> Result<Option<Command>, AllocError> 
             pattern: Chars::from_slice(alloc, &['w', 'o'])?,
             put: Chars::from_slice(alloc, &['W', 'O', 'O'])?,
         },
-        _ => return Ok(None),
+        _ => return Err(Fault::Words),
     };
-    Ok(Some(command))
+    Ok(command)
 }
 
 /// The middle; to replace all, the end of the match there.

@@ -6,7 +6,7 @@
 //! changes in one edit; `revert` deletes all of the text and reverts that. The number is how many
 //! elements there are in the end.
 use crate::fault::Fault;
-use crate::text::{document, number_at};
+use crate::text::{document, named, number_at};
 use rga_doc::{Doc, Splice};
 use rga_flat::FlatStore;
 use rga_ops::{Id, Op, Refusal};
@@ -28,19 +28,17 @@ enum Work {
     Revert,
 }
 
-fn work_of(words: &[String]) -> Option<Work> {
-    match words.get(2)?.as_str() {
-        "order" => Some(Work::Order),
-        "type" => Some(Work::Type),
-        "remote" => Some(Work::Remote),
-        "change" => Some(Work::Change),
-        "revert" => Some(Work::Revert),
-        _ => None,
-    }
-}
+/// The names of work.
+const WORKS: [(&str, Work); 5] = [
+    ("order", Work::Order),
+    ("type", Work::Type),
+    ("remote", Work::Remote),
+    ("change", Work::Change),
+    ("revert", Work::Revert),
+];
 
 pub fn outcome(alloc: Global, words: &[String]) -> Result<usize, Fault> {
-    let Some(work) = work_of(words) else {
+    let Some(work) = named(words, &WORKS) else {
         return Err(Fault::Words);
     };
     let (size, times) = (number_at(words, 3)?, number_at(words, 4)?);
@@ -49,8 +47,10 @@ pub fn outcome(alloc: Global, words: &[String]) -> Result<usize, Fault> {
 
 /// Makes a document, and does the work with it again and again.
 fn done_again(alloc: Global, work: Work, size: usize, times: usize) -> Result<usize, Refusal> {
-    let mut doc = document_of(alloc, size)?;
-    do_again(alloc, &mut doc, work, times)
+    match document_of(alloc, size) {
+        Ok(mut doc) => do_again(alloc, &mut doc, work, times),
+        Err(refusal) => Err(refusal),
+    }
 }
 
 fn do_again(alloc: Global, doc: &mut Document, work: Work, times: usize) -> Result<usize, Refusal> {
@@ -113,17 +113,21 @@ fn change(alloc: Global, doc: &mut Document) -> Result<(), Refusal> {
     let apart = doc.characters().len() / CHANGES;
     let mut splices = Vec::with_capacity(alloc, CHANGES)?;
     for k in (0..CHANGES).rev() {
-        let lo = k.saturating_mul(apart);
-        let mut put = Vec::new(alloc);
-        put.push('c')?;
-        splices.push(Splice {
-            lo,
-            hi: lo.saturating_add(1),
-            put,
-        })?;
+        splices.push(change_at(alloc, k.saturating_mul(apart))?)?;
     }
     let _ops = doc.splices(&splices)?;
     doc.list()
+}
+
+/// Another letter in the place of the one there.
+fn change_at(alloc: Global, lo: usize) -> Result<Splice, Refusal> {
+    let mut put = Vec::new(alloc);
+    put.push('c')?;
+    Ok(Splice {
+        lo,
+        hi: lo.saturating_add(1),
+        put,
+    })
 }
 
 /// Deletes all of the text, and reverts that.

@@ -5,9 +5,10 @@ use mg_screen::{FrameFault, WindowFault};
 use rga_exchange::{ReceiveFault, SendFault};
 use rga_ops::Refusal;
 use std::alloc::AllocError;
+use std::fmt;
 use thiserror::Error;
 
-#[derive(Debug, Drop, Error)]
+#[derive(Drop, Error)]
 pub enum Fault {
     #[error("say what is to be done: the head of the module says how")]
     Words,
@@ -29,4 +30,10 @@ pub enum Fault {
     Receiving(#[from] ReceiveFault),
     #[error("not written: {0:?}")]
     Sending(#[from] SendFault),
+}
+
+impl fmt::Debug for Fault {
+    fn fmt<W: fmt::Write>(&self, f: &mut fmt::Formatter<W>) -> fmt::Result {
+        fmt::Display::fmt(self, f)
+    }
 }

@@ -8,7 +8,7 @@ ghost use Rattle.std.specs.Prelude.{◌≡◌, ◌≤◌, length, IfOk};
 ghost use Rattle.mg_screen.specs.Frame.{rows_of};
 
 use crate::fault::Fault;
-use crate::text::{lines, number_at};
+use crate::text::{lines, named, number_at};
 use mg_screen::{FrameFault, Pane, Screen, WindowFault, Windows, cursor, first_line, frame};
 use std::alloc::{AllocError, Global};
 
@@ -18,7 +18,7 @@ const COLUMNS: usize = 80;
 /// The text rows of the one window.
 const HEIGHT: usize = 22;
 
-#[derive(Clone, Copy, PartialEq, Eq)]
+#[derive(Clone, Copy)]
 enum Work {
     FirstLine,
     Frame,
@@ -27,23 +27,21 @@ enum Work {
     Split,
 }
 
-fn work_of(words: &[String]) -> Option<Work> {
-    match words.get(2)?.as_str() {
-        "first-line" => Some(Work::FirstLine),
-        "frame" => Some(Work::Frame),
-        "cursor" => Some(Work::Cursor),
-        "all" => Some(Work::All),
-        "split" => Some(Work::Split),
-        _ => None,
-    }
-}
+/// The names of work.
+const WORKS: [(&str, Work); 5] = [
+    ("first-line", Work::FirstLine),
+    ("frame", Work::Frame),
+    ("cursor", Work::Cursor),
+    ("all", Work::All),
+    ("split", Work::Split),
+];
 
 pub fn outcome(alloc: Global, words: &[String]) -> Result<usize, Fault> {
-    let Some(work) = work_of(words) else {
+    let Some(work) = named(words, &WORKS) else {
         return Err(Fault::Words);
     };
     let times = number_at(words, 5)?;
-    if work == Work::Split {
+    if let Work::Split = work {
         return Ok(splits(alloc, times)?);
     }
     let text = lines(alloc, number_at(words, 3)?, number_at(words, 4)?)?;
@@ -74,22 +72,43 @@ fn work_at(
         Work::FirstLine | Work::All => first_line(text, point, old, HEIGHT),
         _ => old,
     };
-    let mut sum = first;
-    if work == Work::FirstLine {
-        return Ok(sum);
+    if let Work::FirstLine = work {
+        return Ok(first);
     }
     let screen = screen_over(alloc, text, point, first)?;
-    if work != Work::Cursor {
-        for row in &frame(alloc, ROWS, COLUMNS, &screen)? {
-            sum = sum.wrapping_add(row.len());
-        }
+    Ok(first.wrapping_add(look(alloc, work, &screen)?))
+}
+
+/// A sum over the rows, the place of the cursor, or both.
+fn look(alloc: Global, work: Work, screen: &Screen<'_>) -> Result<usize, FrameFault>
+    requires { rows_of screen.now ≡ 24 }
+{
+    match work {
+        Work::Cursor => Ok(cursor_sum(screen)),
+        Work::Frame => row_sum(alloc, screen),
+        _ => Ok(row_sum(alloc, screen)?.wrapping_add(cursor_sum(screen))),
     }
-    if work != Work::Frame {
-        if let Some(position) = cursor(COLUMNS, &screen, 0) {
-            sum = sum.wrapping_add(position.row).wrapping_add(position.column);
-        }
+}
+
+/// How long the rows are together.
+fn row_sum(alloc: Global, screen: &Screen<'_>) -> Result<usize, FrameFault>
+    requires { rows_of screen.now ≡ 24 }
+{
+    let mut sum: usize = 0;
+    for row in &frame(alloc, ROWS, COLUMNS, screen)? {
+        sum = sum.wrapping_add(row.len());
     }
     Ok(sum)
+}
+
+/// The row and the column of the cursor together.
+fn cursor_sum(screen: &Screen<'_>) -> usize
+    requires { rows_of screen.now ≡ 24 }
+{
+    match cursor(COLUMNS, screen, 0) {
+        Some(position) => position.row.wrapping_add(position.column),
+        None => 0,
+    }
 }
 
 /// A screen of one window.

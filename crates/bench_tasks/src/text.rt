@@ -6,6 +6,17 @@ use rga_ops::Refusal;
 use rga_store::{MAX_LIMIT, TextStore};
 use std::alloc::{AllocError, Global};
 
+/// What is to be done: what the third word names, by a table of names.
+pub fn named<T: Copy>(words: &[String], names: &[(&str, T)]) -> Option<T> {
+    let word = words.get(2)?;
+    for (name, work) in names {
+        if *name == word.as_str() {
+            return Some(*work);
+        }
+    }
+    None
+}
+
 /// The number that the word at an index says.
 pub fn number_at(words: &[String], index: usize) -> Result<usize, Fault> {
     let Some(word) = words.get(index) else {
@@ -53,7 +64,16 @@ pub fn lines(alloc: Global, line: usize, size: usize) -> Result<Vec<char>, Alloc
 
 /// A document with this text, put in at once.
 pub fn document(alloc: Global, text: &[char]) -> Result<Doc<FlatStore>, Refusal> {
-    let mut doc = Doc::new(alloc, FlatStore::new(alloc, MAX_LIMIT)?, 1)?;
-    let _ops = doc.splice(0, 0, text)?;
+    let mut doc = empty(alloc)?;
+    put(&mut doc, text)?;
     Ok(doc)
+}
+
+fn empty(alloc: Global) -> Result<Doc<FlatStore>, Refusal> {
+    Doc::new(alloc, FlatStore::new(alloc, MAX_LIMIT)?, 1)
+}
+
+fn put(doc: &mut Doc<FlatStore>, text: &[char]) -> Result<(), Refusal> {
+    let _ops = doc.splice(0, 0, text)?;
+    Ok(())
 }

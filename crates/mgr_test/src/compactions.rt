@@ -1,14 +1,16 @@
 //! Stores and logs that are compacted, to devices that fail, and logs that are written anew by a
 //! disk of which a step fails.
+use crate::disks::has_made;
+use crate::runs::holding;
+use crate::sending::{device, is_filled};
 use mgr_compact::compact_note;
 use mgr_show::{ShowFault, compact_log};
 use rga_exchange::{SendFault, compact};
 use rga_lines::Counted;
 use rga_ops::Refusal;
 use rga_store::{Taker, TextStore, TreeStore};
-use std::alloc::{AllocError, Global};
-use std::process::Abort;
-use test_fixtures::{Narrow, id, insertion, ops_of};
+use std::alloc::Global;
+use test_fixtures::{id, insertion};
 use test_ports::MemoryLogs;
 
 /// Two runs and a deletion.
@@ -23,29 +25,26 @@ const ALONE: &str = r#"{"char":"a","id":[1,1],"op":"ins","parent":[0,0]}
 {"char":"c","id":[4,2],"op":"ins","parent":[3,1]}
 "#;
 
-/// A store of these operations.
-fn holding(alloc: Global, words: &str) -> Result<TreeStore, Refusal> {
-    let mut store = TreeStore::new(alloc, 10000)?;
-    store.apply_all(&ops_of(alloc, words)?)?;
-    Ok(store)
+/// Whether a store of these operations is compacted to so many lines, of this text.
+fn compacts(alloc: Global, words: &str, lines: u64, text: &str) -> bool {
+    match holding(alloc, 10000, words) {
+        Ok(store) => {
+            let mut writer = Counted::new(Vec::new(alloc));
+            let answer = compact(alloc, &store, &mut writer);
+            answer == Ok(lines) && writer.into_inner().as_slice() == text.as_bytes()
+        }
+        Err(_) => false,
+    }
 }
 
-/// Whether a store is compacted to so many lines, of this text.
-fn compacts(alloc: Global, store: &TreeStore, lines: u64, text: &str) -> bool {
-    let mut writer = Counted::new(Vec::new(alloc));
-    let answer = compact(alloc, store, &mut writer);
-    answer == Ok(lines) && writer.into_inner().as_slice() == text.as_bytes()
-}
+/// The operations of the two runs and the deletion.
+const WORDS: &str = "a1.1<0.0 b2.1<1.1 c3.1<2.1 x1.2<0.0 y2.2<1.2 -2.1";
 
 #[test]
 fn a_store_is_compacted_to_runs_and_deletions(rt: HostRuntime) {
     for (words, lines, text) in [
         ("", 0, ""),
-        (
-            "a1.1<0.0 b2.1<1.1 c3.1<2.1 x1.2<0.0 y2.2<1.2 -2.1",
-            3,
-            THREE,
-        ),
+        (WORDS, 3, THREE),
         (
             "y2.2<1.2 -2.1 c3.1<2.1 x1.2<0.0 b2.1<1.1 a1.1<0.0",
             3,
@@ -53,8 +52,7 @@ fn a_store_is_compacted_to_runs_and_deletions(rt: HostRuntime) {
         ),
         ("a1.1<0.0 b3.1<1.1 c4.2<3.1", 3, ALONE),
     ] {
-        let store = holding(rt.alloc(), words).expect(&rt, "a store");
-        assert!(rt; compacts(rt.alloc(), &store, lines, text), "{words}");
+        assert!(rt; compacts(rt.alloc(), words, lines, text), "{words}");
     }
 }
 
@@ -67,50 +65,40 @@ fn chain(alloc: Global, count: u64) -> Result<TreeStore, Refusal> {
     Ok(store)
 }
 
-/// How many lines and bytes a chain of so many is compacted to.
-fn sizes(alloc: Global, count: u64) -> Option<(u64, usize)> {
-    let store = chain(alloc, count).ok()?;
-    let mut writer = Counted::new(Vec::new(alloc));
-    let lines = compact(alloc, &store, &mut writer).ok()?;
-    Some((lines, writer.into_inner().len()))
+/// Whether a chain of so many is compacted to so many lines and bytes.
+fn has_sizes(alloc: Global, count: u64, lines: u64, bytes: usize) -> bool {
+    match chain(alloc, count) {
+        Ok(store) => {
+            let mut writer = Counted::new(Vec::new(alloc));
+            let answer = compact(alloc, &store, &mut writer);
+            answer == Ok(lines) && writer.into_inner().len() == bytes
+        }
+        Err(_) => false,
+    }
 }
 
 #[test]
 fn a_run_has_4096_characters_at_most(rt: HostRuntime) {
     for (count, lines, bytes) in [(1, 1, 50), (4096, 1, 4145), (4097, 2, 4201)] {
-        assert!(rt; sizes(rt.alloc(), count) == Some((lines, bytes)), "{count}");
+        assert!(rt; has_sizes(rt.alloc(), count, lines, bytes), "{count}");
     }
 }
 
-/// A device that has room for so many bytes, and takes few of them in a write.
-fn device(alloc: Global, room: usize, flushes: bool) -> Narrow {
-    Narrow {
-        taken: Vec::new(alloc),
-        room,
-        most: 7,
-        writes: 0,
-        flushes,
+/// Whether this is answered where the store is compacted to a device that has room for so many
+/// bytes, and takes few of them in a write.
+fn fills(alloc: Global, room: usize, flushes: bool, expected: Result<u64, SendFault>) -> bool {
+    match holding(alloc, 10000, WORDS) {
+        Ok(store) => {
+            let mut writer = Counted::new(device(alloc, room, 7, flushes));
+            let answer = compact(alloc, &store, &mut writer);
+            is_filled(writer, room, answer, expected, THREE)
+        }
+        Err(_) => false,
     }
 }
 
-/// Whether this is answered where a store is compacted to the device, which counts as failed where
-/// that is a fault, and takes as much of the text as it has room for.
-fn fills(
-    alloc: Global,
-    store: &TreeStore,
-    device: Narrow,
-    answer: Result<u64, SendFault>,
-    text: &str,
-) -> bool {
-    let room = device.room;
-    let mut writer = Counted::new(device);
-    let answered = compact(alloc, store, &mut writer) == answer;
-    let counted = writer.failures() == u64::from(answer.is_err());
-    let taken = writer.into_inner().taken;
-    answered && counted && taken.len() == room && text.as_bytes().starts_with(&taken)
-}
-
-fn fill(rt: &impl Abort, alloc: Global, store: &TreeStore) {
+#[test]
+fn devices_that_fail_have_a_beginning_of_the_lines(rt: HostRuntime) {
     let all = THREE.len();
     for (room, flushes, answer) in [
         (all, true, Ok(3)),
@@ -118,16 +106,8 @@ fn fill(rt: &impl Abort, alloc: Global, store: &TreeStore) {
         (all.saturating_sub(1), true, Err(SendFault::Write)),
         (0, true, Err(SendFault::Write)),
     ] {
-        let device = device(alloc, room, flushes);
-        assert!(rt; fills(alloc, store, device, answer, THREE), "{room}");
+        assert!(rt; fills(rt.alloc(), room, flushes, answer), "{room}");
     }
-}
-
-#[test]
-fn devices_that_fail_have_a_beginning_of_the_lines(rt: HostRuntime) {
-    let words = "a1.1<0.0 b2.1<1.1 c3.1<2.1 x1.2<0.0 y2.2<1.2 -2.1";
-    let store = holding(rt.alloc(), words).expect(&rt, "a store");
-    fill(&rt, rt.alloc(), &store);
 }
 
 /// Lines of which two stand twice, and the last has no newline.
@@ -174,32 +154,22 @@ fn conflict() -> Result<(), ShowFault> {
     }
 }
 
-/// What is answered where a log is written anew by a disk that makes so many steps, and the steps,
-/// in words; and what the log is then.
-fn rewritten(
-    alloc: Global,
-    log: &str,
-    left: usize,
-) -> Result<(Result<(), ShowFault>, String, Vec<u8>), AllocError> {
-    let log = Vec::from_slice(alloc, log.as_bytes())?;
-    let mut logs = MemoryLogs::new(alloc, log, left);
-    let answer = compact_note(alloc, &mut logs, "note", false);
-    let mut line = String::new(alloc);
-    logs.disk.push_steps(&mut line)?;
-    Ok((answer, line, logs.log))
-}
-
+/// Whether this is answered where a log is written anew by a disk that makes so many steps, which
+/// are these, in words; and the log is this then.
 fn rewrites(
     alloc: Global,
     log: &str,
     left: usize,
     answer: Result<(), ShowFault>,
-    line: &str,
+    steps: &str,
     text: &str,
 ) -> bool {
-    match rewritten(alloc, log, left) {
-        Ok((answered, steps, bytes)) => {
-            answered == answer && steps.as_str() == line && bytes.as_slice() == text.as_bytes()
+    match Vec::from_slice(alloc, log.as_bytes()) {
+        Ok(log) => {
+            let mut logs = MemoryLogs::new(alloc, log, left);
+            compact_note(alloc, &mut logs, "note", false) == answer
+                && has_made(alloc, &logs.disk, steps)
+                && logs.log.as_slice() == text.as_bytes()
         }
         Err(_) => false,
     }

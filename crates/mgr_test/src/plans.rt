@@ -3,29 +3,28 @@ use mg_plain::{Chars, Command, Direction, Kind, Notice, View, count_matches, fin
 use std::alloc::{AllocError, Global};
 
 /// The characters of a text.
-fn chars_of(alloc: Global, text: &str) -> Result<Vec<char>, AllocError> {
+pub(crate) fn chars_of(alloc: Global, text: &str) -> Result<Vec<char>, AllocError> {
     text.chars().collect(alloc)
 }
 
-/// What refuses a command where point is at the begin of a text.
-fn refusal(alloc: Global, text: &str, command: &Command) -> Option<Notice> {
-    let text = chars_of(alloc, text).ok()?;
+/// Whether the command's search fails where point is at the begin of the text.
+fn is_refused(alloc: Global, text: &[char], command: &Command) -> bool {
     let view = View {
-        text: &text,
+        text,
         point: 0,
         mark: None,
         kill: &[],
         goal: 0,
         last: Kind::Plain,
     };
-    plan(alloc, command, 1, &view, 70).err()
+    plan(alloc, command, 1, &view, 70).err() == Some(Notice::SearchFailed)
 }
 
-/// Whether there is the command, and its search fails where point is at the begin of the text.
+/// Whether there is the command, and its search fails so.
 fn fails(alloc: Global, text: &str, command: Result<Command, AllocError>) -> bool {
-    match command {
-        Ok(command) => refusal(alloc, text, &command) == Some(Notice::SearchFailed),
-        Err(_) => false,
+    match (chars_of(alloc, text), command) {
+        (Ok(text), Ok(command)) => is_refused(alloc, &text, &command),
+        _ => false,
     }
 }
 

@@ -1,62 +1,54 @@
 //! Runs of insertions, which a store that is nearly full takes whole or not at all.
 use crate::cuts::shows;
-use rga_exchange::{LogEnd, ReceiveFault, read_log};
+use rga_exchange::read_log;
 use rga_lines::Counted;
 use rga_ops::Refusal;
 use rga_store::{Taker, TextStore, TreeStore};
 use std::alloc::Global;
-use test_fixtures::{id, ops_of};
+use test_fixtures::{ops_of, prints};
 
 const HELLO: &str = r#"{"id":[1,2],"op":"run","parent":[0,0],"text":"hello"}"#;
 
 /// A store of this limit that took these operations.
-fn holding(alloc: Global, limit: usize, words: &str) -> Result<TreeStore, Refusal> {
+pub(crate) fn holding(alloc: Global, limit: usize, words: &str) -> Result<TreeStore, Refusal> {
     let mut store = TreeStore::new(alloc, limit)?;
     store.apply_all(&ops_of(alloc, words)?)?;
     Ok(store)
 }
 
-/// What is answered to a log of the run `hello` alone, where the store then shows this text and
-/// knows so many identifiers.
-fn answered(
-    alloc: Global,
-    store: &mut TreeStore,
-    text: &str,
-    known: usize,
-) -> Option<Result<LogEnd, ReceiveFault>> {
+/// Whether this is answered to a log of the run `hello` alone, whose line ends without a newline.
+fn answers(alloc: Global, store: &mut TreeStore, answer: &str) -> bool {
     let mut reader = Counted::new(HELLO.as_bytes());
-    let answer = read_log(alloc, store, &mut reader);
-    if shows(alloc, store, text) && store.known() == known {
-        Some(answer)
-    } else {
-        None
+    prints(alloc, &read_log(alloc, store, &mut reader), answer)
+}
+
+/// Whether a store of this limit that took these operations answers so, and then shows this text and
+/// knows so many identifiers.
+fn takes(alloc: Global, limit: usize, words: &str, answer: &str, text: &str, known: usize) -> bool {
+    match holding(alloc, limit, words) {
+        Ok(mut store) => {
+            answers(alloc, &mut store, answer)
+                && shows(alloc, &store, text)
+                && store.known() == known
+        }
+        Err(_) => false,
     }
 }
 
-/// Why a store that holds this refuses the run, and then holds nothing of it.
-fn refusal(alloc: Global, limit: usize, words: &str, text: &str, known: usize) -> Option<Refusal> {
-    let mut store = holding(alloc, limit, words).ok()?;
-    match answered(alloc, &mut store, text, known) {
-        Some(Err(ReceiveFault::Refused(1, refusal))) => Some(refusal),
-        _ => None,
-    }
-}
-
-/// Whether a store that has room for the run takes it, though the line ends without a newline.
-fn takes(alloc: Global, limit: usize, words: &str) -> bool {
-    let Ok(mut store) = holding(alloc, limit, words) else {
-        return false;
-    };
-    answered(alloc, &mut store, "hello", 5) == Some(Ok(LogEnd::Bare))
-}
+/// What is answered where the third element of the run is another one.
+const CONFLICT: &str = "Err(Refused(1, Conflict(Id { counter: 3, replica: 2 })))";
 
 #[test]
 fn a_run_is_taken_whole_or_not_at_all(rt: HostRuntime) {
-    assert!(rt; takes(rt.alloc(), 5, ""));
-    assert!(rt; takes(rt.alloc(), 5, "h1.2<0.0 e2.2<1.2"));
-    let full = refusal(rt.alloc(), 4, "h1.2<0.0 e2.2<1.2", "he", 2);
-    assert!(rt; full == Some(Refusal::Full));
-    let third = id(3, 2).expect(&rt, "an identifier");
-    let conflict = refusal(rt.alloc(), 3, "z3.2<0.0", "z", 1);
-    assert!(rt; conflict == Some(Refusal::Conflict(third)));
+    for (limit, words, answer, text, known) in &[
+        (5usize, "", "Ok(Bare)", "hello", 5usize),
+        (5, "h1.2<0.0 e2.2<1.2", "Ok(Bare)", "hello", 5),
+        (4, "h1.2<0.0 e2.2<1.2", "Err(Refused(1, Full))", "he", 2),
+        (3, "z3.2<0.0", CONFLICT, "z", 1),
+    ] {
+        assert!(rt;
+            takes(rt.alloc(), *limit, words, answer, text, *known),
+            "{answer}"
+        );
+    }
 }

@@ -16,14 +16,6 @@ fn empty(alloc: Global) -> Option<VisitedBuffer<TreeStore>> {
     Some(opened)
 }
 
-/// The note in which `a` was typed.
-fn typed(alloc: Global) -> Option<VisitedBuffer<TreeStore>> {
-    let mut opened = empty(alloc)?;
-    let mut memo = Memo::new(alloc);
-    let typed = opened.buffer.run(&Command::Insert('a'), 1, &mut memo, 70);
-    typed.is_ok().then_some(opened)
-}
-
 /// Saves once for each letter, where the call that it stands for is refused: the append, the whole
 /// log, the text, or none.
 fn save_each(opened: &mut VisitedBuffer<TreeStore>, port: &mut MemoryPort, letters: &str) {
@@ -38,22 +30,30 @@ fn save_each(opened: &mut VisitedBuffer<TreeStore>, port: &mut MemoryPort, lette
     }
 }
 
-/// The calls of these saves, in words, and `*` behind them where something is still unsaved.
-fn told(alloc: Global, opened: &mut VisitedBuffer<TreeStore>, letters: &str) -> Option<String> {
+/// Whether these are the calls of the saves, in words, and whether something is still unsaved then.
+fn saves(
+    alloc: Global,
+    opened: &mut VisitedBuffer<TreeStore>,
+    letters: &str,
+    calls: &str,
+    unsaved: bool,
+) -> bool {
     let mut port = MemoryPort::new(alloc);
     save_each(opened, &mut port, letters);
     let mut line = String::new(alloc);
-    port.push_calls(&mut line).ok()?;
-    if opened.is_changed() {
-        line.push_str(" *").ok()?;
-    }
-    Some(line)
+    port.push_calls(&mut line).is_ok() && line.as_str() == calls && opened.is_changed() == unsaved
 }
 
-fn tells(alloc: Global, letters: &str, line: &str) -> bool {
-    match typed(alloc) {
+/// The same of a note in which `a` was typed.
+fn tells(alloc: Global, letters: &str, calls: &str, unsaved: bool) -> bool {
+    match empty(alloc) {
         Some(mut opened) => {
-            told(alloc, &mut opened, letters).is_some_and(|told| told.as_str() == line)
+            let mut memo = Memo::new(alloc);
+            opened
+                .buffer
+                .run(&Command::Insert('a'), 1, &mut memo, 70)
+                .is_ok()
+                && saves(alloc, &mut opened, letters, calls, unsaved)
         }
         None => false,
     }
@@ -61,17 +61,21 @@ fn tells(alloc: Global, letters: &str, line: &str) -> bool {
 
 #[test]
 fn what_a_refused_save_left_is_saved_by_the_next(rt: HostRuntime) {
-    for (letters, line) in [
-        ("-", " append 50 text 1"),
-        ("--", " append 50 text 1"),
-        ("a", " append 50! *"),
-        ("a-", " append 50! replace 50 text 1"),
-        ("aw", " append 50! replace 50! *"),
-        ("aw-", " append 50! replace 50! replace 50 text 1"),
-        ("awt-", " append 50! replace 50! replace 50 text 1! text 1"),
-        ("t", " append 50 text 1! *"),
-        ("tt-", " append 50 text 1! text 1! text 1"),
+    for (letters, calls, unsaved) in [
+        ("-", " append 50 text 1", false),
+        ("--", " append 50 text 1", false),
+        ("a", " append 50!", true),
+        ("a-", " append 50! replace 50 text 1", false),
+        ("aw", " append 50! replace 50!", true),
+        ("aw-", " append 50! replace 50! replace 50 text 1", false),
+        (
+            "awt-",
+            " append 50! replace 50! replace 50 text 1! text 1",
+            false,
+        ),
+        ("t", " append 50 text 1!", true),
+        ("tt-", " append 50 text 1! text 1! text 1", false),
     ] {
-        assert!(rt; tells(rt.alloc(), letters, line), "{letters}");
+        assert!(rt; tells(rt.alloc(), letters, calls, unsaved), "{letters}");
     }
 }

@@ -2,13 +2,9 @@
 ghost use Rattle.std.specs.Prelude.{◌≡◌, ◌≤◌, length, IfOk};
 ghost use Rattle.mg_screen.specs.Frame.{rows_of};
 
+use crate::plans::chars_of;
 use mg_screen::{FrameFault, Pane, Position, Screen, cursor};
 use std::alloc::{AllocError, Global};
-
-/// The characters of a text.
-fn characters(alloc: Global, text: &str) -> Result<Vec<char>, AllocError> {
-    text.chars().collect(alloc)
-}
 
 /// A window of two text rows.
 fn pane_over<'a>(
@@ -49,7 +45,7 @@ fn screen_over<'a>(alloc: Global, text: &'a [char], point: usize) -> Result<Scre
 
 /// The cursor in the window at an index, at 20 columns.
 fn cursor_of(alloc: Global, text: &str, point: usize, index: usize) -> Option<Position> {
-    let text = characters(alloc, text).ok()?;
+    let text = chars_of(alloc, text).ok()?;
     let text = text.as_slice();
     if point > text.len() {
         return None;

@@ -31,7 +31,7 @@ fn push_line(alloc: Global, text: &mut String, op: &Op) -> Result<(), LineFault>
 }
 
 /// A device that has room for so many bytes, and takes at most so many in a write.
-fn device(alloc: Global, room: usize, most: usize, flushes: bool) -> Narrow {
+pub(crate) fn device(alloc: Global, room: usize, most: usize, flushes: bool) -> Narrow {
     Narrow {
         taken: Vec::new(alloc),
         room,
@@ -65,21 +65,32 @@ fn many_lines_are_written_in_few_blocks(rt: HostRuntime) {
     assert!(rt; are_written_in_blocks(rt.alloc(), &ops));
 }
 
-/// Whether this is answered where these operations are appended to the device, which counts as
-/// failed where it is a fault, and takes as much of the text as it has room for.
+/// Whether lines are answered as expected, the device counts as failed where that is a fault, and it
+/// took as much of the text as it had room for.
+pub(crate) fn is_filled(
+    writer: Counted<Narrow>,
+    room: usize,
+    answer: Result<u64, SendFault>,
+    expected: Result<u64, SendFault>,
+    text: &str,
+) -> bool {
+    let counted = writer.failures() == u64::from(expected.is_err());
+    let taken = writer.into_inner().taken;
+    answer == expected && counted && taken.len() == room && text.as_bytes().starts_with(&taken)
+}
+
+/// Whether this is answered where these operations are appended to a device.
 fn fills(
     alloc: Global,
     ops: &[Op],
     device: Narrow,
-    answer: Result<u64, SendFault>,
+    expected: Result<u64, SendFault>,
     text: &str,
 ) -> bool {
     let room = device.room;
     let mut writer = Counted::new(device);
-    let answered = append_log(alloc, ops, &mut writer) == answer;
-    let counted = writer.failures() == u64::from(answer.is_err());
-    let taken = writer.into_inner().taken;
-    answered && counted && taken.len() == room && text.as_bytes().starts_with(&taken)
+    let answer = append_log(alloc, ops, &mut writer);
+    is_filled(writer, room, answer, expected, text)
 }
 
 /// Whether devices with room for all lines and for fewer, that take few bytes in a write, many, or

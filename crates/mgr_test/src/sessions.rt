@@ -1,4 +1,5 @@
 //! Frames that are not flushed.
+use crate::sending::device;
 use mg_session::{SessionFault, run_keys};
 use mg_settings::{Settings, Values};
 use rga_lines::Counted;
@@ -25,18 +26,12 @@ fn values(alloc: Global, trace: bool) -> Result<Values, AllocError> {
     })
 }
 
-/// What a session of these settings answers where its screen fails at a flush, and how many bytes
-/// the screen then took.
-fn ended(alloc: Global, settings: &Settings) -> (Result<(), SessionFault>, usize) {
+/// Whether a session of these settings ends where its screen fails at a flush, and the screen then
+/// took so many bytes.
+fn ends(alloc: Global, settings: &Settings, taken: usize) -> bool {
     let mut port = MemoryPort::new(alloc);
     let mut keys = Counted::new("abc".as_bytes());
-    let mut screen = Counted::new(Narrow {
-        taken: Vec::new(alloc),
-        room: 1000,
-        most: 65536,
-        writes: 0,
-        flushes: false,
-    });
+    let mut screen = Counted::new(device(alloc, 1000, 65536, false));
     let answer = run_keys::<TreeStore, &[u8], Narrow, MemoryPort>(
         alloc,
         &mut keys,
@@ -44,27 +39,25 @@ fn ended(alloc: Global, settings: &Settings) -> (Result<(), SessionFault>, usize
         &mut port,
         settings,
     );
-    (answer, screen.into_inner().taken.len())
-}
-
-fn settings(alloc: Global, trace: bool) -> Option<Settings> {
-    Settings::new(values(alloc, trace).ok()?)
+    answer == Err(SessionFault::Screen) && screen.into_inner().taken.len() == taken
 }
 
 /// Whether a session ends so, behind its first frame.
 fn ends_with(alloc: Global, trace: bool, taken: usize) -> bool {
-    match settings(alloc, trace) {
-        Some(settings) => ended(alloc, &settings) == (Err(SessionFault::Screen), taken),
-        None => false,
+    match values(alloc, trace) {
+        Ok(values) => match Settings::new(values) {
+            Some(settings) => ends(alloc, &settings, taken),
+            None => false,
+        },
+        Err(_) => false,
     }
 }
 
 #[test]
 fn each_frame_is_flushed(rt: HostRuntime) {
-    // A frame before the first key has 44 bytes, and each character adds one.
-    assert!(rt; ends_with(rt.alloc(), false, 47), "the last frame");
-    assert!(rt;
-        ends_with(rt.alloc(), true, 44),
-        "the first of those that are traced"
-    );
+    // A frame before the first key has 44 bytes, and each character adds one: the last frame, and
+    // the first of those that are traced.
+    for (trace, taken) in [(false, 47), (true, 44)] {
+        assert!(rt; ends_with(rt.alloc(), trace, taken), "{trace}");
+    }
 }

@@ -8,6 +8,40 @@ use std::cmp::Reverse;
 /// the beginning of a path first, else the path with the larger identifier at the first difference.
 type RootPath = Vec<Reverse<Id>>;
 
+/// What a store shows.
+#[derive(Drop)]
+pub struct Shown {
+    /// The complete elements.
+    pub order: Vec<Id>,
+    /// The last visible element up to each of them, in turn.
+    pub last: Vec<Id>,
+    pub visible: Vec<Id>,
+    pub text: Vec<char>,
+}
+
+impl Shown {
+    fn new(alloc: Global) -> Shown {
+        Shown {
+            order: Vec::new(alloc),
+            last: Vec::new(alloc),
+            visible: Vec::new(alloc),
+            text: Vec::new(alloc),
+        }
+    }
+
+    /// Adds an element, and its character where it is visible.
+    fn push(&mut self, id: Id, ch: Option<char>) -> Result<(), Refusal> {
+        if let Some(ch) = ch {
+            self.visible.push(id)?;
+            self.text.push(ch)?;
+        }
+        let last = self.visible.as_slice().last().copied();
+        self.order.push(id)?;
+        self.last.push(last.unwrap_or(Id::ROOT))?;
+        Ok(())
+    }
+}
+
 #[derive(Drop)]
 pub struct ListStore {
     alloc: Global,
@@ -69,39 +103,23 @@ impl ListStore {
         None
     }
 
-    /// The complete elements, by their root paths.
-    pub fn order(&self) -> Result<Vec<Id>, Refusal> {
-        let mut order = Vec::new(self.alloc);
+    /// The character of an element that is not deleted.
+    fn visible_character(&self, id: Id) -> Option<char> {
+        match self.element(id) {
+            Some((_, ch)) if !self.is_deleted(id) => Some(ch),
+            _ => None,
+        }
+    }
+
+    /// The complete elements, by their root paths, and what of them is visible.
+    pub fn shown(&self) -> Result<Shown, Refusal> {
+        let mut shown = Shown::new(self.alloc);
         for path in &self.root_paths()? {
             if let Some(Reverse(id)) = path.as_slice().last() {
-                order.push(*id)?;
+                shown.push(*id, self.visible_character(*id))?;
             }
         }
-        Ok(order)
-    }
-
-    /// The last element up to each in the order that is not deleted, by a walk of all of them.
-    pub fn last_visible_ones(&self) -> Result<Vec<Id>, Refusal> {
-        let mut found = Vec::new(self.alloc);
-        let mut last = Id::ROOT;
-        for id in &self.order()? {
-            if !self.is_deleted(*id) {
-                last = *id;
-            }
-            found.push(last)?;
-        }
-        Ok(found)
-    }
-
-    /// The characters of the complete elements that are not deleted.
-    pub fn text(&self) -> Result<Vec<char>, Refusal> {
-        let mut text = Vec::new(self.alloc);
-        for id in &self.order()? {
-            if let (Some((_, ch)), false) = (self.element(*id), self.is_deleted(*id)) {
-                text.push(ch)?;
-            }
-        }
-        Ok(text)
+        Ok(shown)
     }
 
     /// The root paths of all complete elements, sorted.
@@ -118,15 +136,17 @@ impl ListStore {
 
     /// Adds the root path of an element, if it is complete.
     fn push_root_path(&self, paths: &mut Vec<RootPath>, id: Id) -> Result<(), Refusal> {
-        if let Some(path) = self.root_path(id)? {
+        let mut path = Vec::new(self.alloc);
+        if self.climb(&mut path, id)? == Id::ROOT {
+            path.as_mut_slice().reverse();
             paths.push(path)?;
         }
         Ok(())
     }
 
-    /// The root path of an element, if it is complete.
-    fn root_path(&self, id: Id) -> Result<Option<RootPath>, Refusal> {
-        let mut path = Vec::new(self.alloc);
+    /// Adds an element and those above it to a path. The parent of the last, which is the root if the
+    /// element is complete.
+    fn climb(&self, path: &mut RootPath, id: Id) -> Result<Id, Refusal> {
         let mut at = id;
         for _ in 0..self.known() {
             if let Some((parent, _)) = self.element(at) {
@@ -134,10 +154,6 @@ impl ListStore {
                 at = parent;
             }
         }
-        if at != Id::ROOT {
-            return Ok(None);
-        }
-        path.as_mut_slice().reverse();
-        Ok(Some(path))
+        Ok(at)
     }
 }

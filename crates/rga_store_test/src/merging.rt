@@ -1,9 +1,9 @@
 //! Merges of small stores: answers, contents and orders.
-use crate::words::{alike, prints, store_of};
-use rga_flat::FlatStore;
-use rga_store::{TextStore, TreeStore};
+use crate::words::{alike, store_of};
+use rga_store::TextStore;
 use std::alloc::Global;
-use std::test::Fail;
+use std::process::Abort;
+use test_fixtures::prints;
 
 /// Two elements one behind the other.
 const HERE: &str = "a1.1<0.0 b2.1<1.1";
@@ -49,48 +49,33 @@ fn merges<S: TextStore>(
     }
 }
 
-#[test]
-fn a_merge_joins_either_way_round(rt: HostRuntime) {
-    for (own, other) in &[(HERE, THERE), (THERE, HERE)] {
-        assert!(rt;
-            merges::<TreeStore>(rt.alloc(), 3, own, other, "Ok(())", BOTH),
-            "{own}"
-        );
-        assert!(rt;
-            merges::<FlatStore>(rt.alloc(), 3, own, other, "Ok(())", BOTH),
-            "flat: {own}"
-        );
-    }
-}
-
-#[test]
-fn each_merge_has_its_answer(rt: HostRuntime) {
-    for (name, limit, there, answer, after) in &[
-        ("nothing", 2usize, "", "Ok(())", HERE),
+/// Each merge has its answer, and joins either way round.
+pub fn check_merges<S: TextStore, R: Abort>(rt: &R, alloc: Global) {
+    for (name, limit, own, other, answer, after) in &[
+        ("nothing", 2usize, HERE, "", "Ok(())", HERE),
         (
             "a known element deleted",
             2,
+            HERE,
             "-1.1",
             "Ok(())",
             "a1.1<0.0 b2.1<1.1 -1.1",
         ),
-        ("too many", 2, THERE, "Err(Full)", HERE),
-        ("just enough", 3, THERE, "Ok(())", BOTH),
+        ("too many", 2, HERE, THERE, "Err(Full)", HERE),
+        ("just enough", 3, HERE, THERE, "Ok(())", BOTH),
+        ("the other way round", 3, THERE, HERE, "Ok(())", BOTH),
         (
             "two conflicts",
             2,
+            HERE,
             "z2.1<0.0 q1.1<0.0",
             "Err(Conflict(Id { counter: 1, replica: 1 }))",
             HERE,
         ),
     ] {
         assert!(rt;
-            merges::<TreeStore>(rt.alloc(), *limit, HERE, there, answer, after),
+            merges::<S>(alloc, *limit, own, other, answer, after),
             "{name}"
-        );
-        assert!(rt;
-            merges::<FlatStore>(rt.alloc(), *limit, HERE, there, answer, after),
-            "flat: {name}"
         );
     }
 }
@@ -103,11 +88,10 @@ fn keeps_itself<S: TextStore>(store: &mut S) -> bool {
     }
 }
 
-#[test]
-fn a_merge_with_its_own_copy_changes_nothing(rt: HostRuntime) -> Result<(), Fail> {
-    let mut tree: TreeStore = store_of(rt.alloc(), 2, HERE)?;
-    assert!(rt; keeps_itself(&mut tree));
-    let mut flat: FlatStore = store_of(rt.alloc(), 2, HERE)?;
-    assert!(rt; keeps_itself(&mut flat));
-    Ok(())
+/// Whether a merge of a store with its own copy changes nothing.
+pub fn takes_its_copy<S: TextStore>(alloc: Global) -> bool {
+    match store_of::<S>(alloc, 2, HERE) {
+        Ok(mut store) => keeps_itself(&mut store),
+        Err(_) => false,
+    }
 }

@@ -1,22 +1,28 @@
 //! Both stores on worked examples.
-use crate::words::{holds, last_visible_ones, prints, shows, spell, store_of};
-use rga_flat::FlatStore;
-use rga_ops::{Id, Refusal};
-use rga_store::{MAX_LIMIT, TextStore, TreeStore, answer_at};
+use crate::words::{holds, last_visible_ones, shows, spell, store_of};
+use rga_ops::{Id, Op, Refusal};
+use rga_store::{MAX_LIMIT, TextStore, answer_at};
+use rga_walk::{text, visible_len};
 use std::alloc::Global;
 use std::process::Abort;
-use test_fixtures::{id, insertion, ops_of};
+use test_fixtures::{insertion, op_of, prints};
 
-/// Whether a store that took these operations shows the text, and so many elements wait.
-fn tells<S: TextStore>(alloc: Global, words: &str, text: &str, waiting: usize) -> bool {
+/// Whether a store that took these operations shows the text, also to a walk, and so many elements
+/// wait. Each character of the text has one byte.
+fn tells<S: TextStore>(alloc: Global, words: &str, expected: &str, waiting: usize) -> bool {
     match store_of::<S>(alloc, 100, words) {
-        Ok(store) => shows(alloc, &store, text) && store.waiting_count() == Ok(waiting),
+        Ok(store) => {
+            shows(alloc, &store, expected)
+                && spell(text(alloc, &store), expected)
+                && visible_len(&store) == Ok(expected.len())
+                && store.waiting_count() == Ok(waiting)
+        }
         Err(_) => false,
     }
 }
 
-#[test]
-fn the_text_follows_the_root_paths(rt: HostRuntime) {
+/// The text follows the root paths.
+pub fn check_texts<S: TextStore, R: Abort>(rt: &R, alloc: Global) {
     for (name, words, text, waiting) in &[
         ("nothing", "", "", 0usize),
         ("typing", "a1.1<0.0 b2.1<1.1", "ab", 0),
@@ -29,6 +35,12 @@ fn the_text_follows_the_root_paths(rt: HostRuntime) {
             "behind its parent, past larger ones",
             "a1.1<0.0 c3.1<1.1 d4.1<3.1 b2.2<1.1",
             "acdb",
+            0,
+        ),
+        (
+            "one of them deleted",
+            "a1.1<0.0 c3.1<1.1 d4.1<3.1 b2.2<1.1 -3.1",
+            "adb",
             0,
         ),
         ("two wait", "c3.1<2.1 b2.1<1.1", "", 2),
@@ -46,38 +58,39 @@ fn the_text_follows_the_root_paths(rt: HostRuntime) {
             0,
         ),
     ] {
-        assert!(rt;
-            tells::<TreeStore>(rt.alloc(), words, text, *waiting),
-            "{name}"
-        );
-        assert!(rt;
-            tells::<FlatStore>(rt.alloc(), words, text, *waiting),
-            "flat: {name}"
-        );
+        assert!(rt; tells::<S>(alloc, words, text, *waiting), "{name}");
     }
 }
 
-/// The characters of the last visible elements up to each element of the order, in turn; the root
-/// has a dot.
-fn last_characters<S: TextStore>(alloc: Global, store: &S) -> Result<Vec<char>, Refusal> {
-    let mut chars = Vec::new(alloc);
-    for id in &last_visible_ones(alloc, store)? {
-        chars.push(store.get(*id).map_or('.', |(_, ch)| ch))?;
+/// Whether these are the characters of the elements, in turn; the root has a dot.
+fn are_characters<S: TextStore>(store: &S, ids: &[Id], text: &str) -> bool {
+    let mut chars = text.chars();
+    for id in ids {
+        let ch = match store.get(*id) {
+            Some((_, ch)) => ch,
+            None => '.',
+        };
+        if chars.next() != Some(ch) {
+            return false;
+        }
     }
-    Ok(chars)
+    chars.next() == None
 }
 
-/// Whether these are the characters of the last visible elements of a store that took these
-/// operations.
+/// Whether these are the characters of the last visible elements up to each element of the order,
+/// in turn, of a store that took these operations.
 fn leads_back<S: TextStore>(alloc: Global, words: &str, text: &str) -> bool {
     match store_of::<S>(alloc, 100, words) {
-        Ok(store) => spell(last_characters(alloc, &store), text),
+        Ok(store) => match last_visible_ones(alloc, &store) {
+            Ok(ids) => are_characters(&store, &ids, text),
+            Err(_) => false,
+        },
         Err(_) => false,
     }
 }
 
-#[test]
-fn the_last_visible_element_is_found(rt: HostRuntime) {
+/// The last visible element is found.
+pub fn check_last_visible<S: TextStore, R: Abort>(rt: &R, alloc: Global) {
     for (name, words, text) in &[
         ("nothing", "", ""),
         ("visible itself", "a1.1<0.0 b2.1<1.1", "ab"),
@@ -114,89 +127,81 @@ fn the_last_visible_element_is_found(rt: HostRuntime) {
             "..",
         ),
     ] {
-        assert!(rt; leads_back::<TreeStore>(rt.alloc(), words, text), "{name}");
-        assert!(rt;
-            leads_back::<FlatStore>(rt.alloc(), words, text),
-            "flat: {name}"
-        );
+        assert!(rt; leads_back::<S>(alloc, words, text), "{name}");
     }
 }
 
-/// Whether the store has this answer to each of the operations, and tells it before it takes them.
-fn answers<S: TextStore>(alloc: Global, store: &mut S, words: &str, answer: &str) -> bool {
-    match ops_of(alloc, words) {
-        Ok(ops) => ops.as_slice().iter().all(|op| {
-            prints(alloc, &answer_at(store, *op), answer)
-                && prints(alloc, &store.apply(*op), answer)
-        }),
+/// Operations that are given to a store that may know three identifiers, in turn, and its answers.
+const ANSWERS: [(&str, &str); 13] = [
+    ("a0.0<0.0", "Err(BadId)"),
+    ("a1.1<1.2", "Err(BadOrder)"),
+    ("a1.1<0.0", "Ok(New)"),
+    ("a1.1<0.0", "Ok(Known)"),
+    ("b1.1<0.0", "Err(Conflict(Id { counter: 1, replica: 1 }))"),
+    ("b2.1<1.1", "Ok(New)"),
+    ("-3.1", "Ok(New)"),
+    ("d4.1<3.1", "Err(Full)"),
+    ("-9.9", "Err(Full)"),
+    ("c3.1<2.1", "Ok(New)"),
+    ("-3.1", "Ok(Known)"),
+    ("-2.1", "Ok(New)"),
+    ("-2.1", "Ok(Known)"),
+];
+
+/// The order of such a store then.
+const ORDER: &str = "Ok([Id { counter: 1, replica: 1 }, Id { counter: 2, replica: 1 }, \
+    Id { counter: 3, replica: 1 }])";
+
+/// The same where elements that wait fill the store: then it has no room for their parent, and one
+/// of them can be deleted.
+const WAITING: [(&str, &str); 6] = [
+    ("p5.1<4.1", "Ok(New)"),
+    ("q6.1<4.1", "Ok(New)"),
+    ("r7.1<4.1", "Ok(New)"),
+    ("s4.1<0.0", "Err(Full)"),
+    ("-4.1", "Err(Full)"),
+    ("-5.1", "Ok(New)"),
+];
+
+/// Whether the store has this answer to the operation, and tells it before it takes it.
+fn has_answer<S: TextStore>(alloc: Global, store: &mut S, op: &Op, answer: &str) -> bool {
+    prints(alloc, &answer_at(store, *op), answer) && prints(alloc, &store.apply(*op), answer)
+}
+
+/// The same of the operation that a word says.
+fn answers<S: TextStore>(alloc: Global, store: &mut S, word: &str, answer: &str) -> bool {
+    match op_of(word) {
+        Ok(op) => has_answer(alloc, store, &op, answer),
         Err(_) => false,
     }
 }
 
-/// Gives the operations to a store that may know three identifiers.
-fn ask<S: TextStore>(rt: &impl Abort, alloc: Global, store: &mut S) {
-    for (words, answer) in &[
-        ("a0.0<0.0", "Err(BadId)"),
-        ("a1.1<1.2", "Err(BadOrder)"),
-        ("a1.1<0.0", "Ok(New)"),
-        ("a1.1<0.0", "Ok(Known)"),
-        ("b1.1<0.0", "Err(Conflict(Id { counter: 1, replica: 1 }))"),
-        ("b2.1<1.1", "Ok(New)"),
-        ("-3.1", "Ok(New)"),
-        ("d4.1<3.1", "Err(Full)"),
-        ("-9.9", "Err(Full)"),
-        ("c3.1<2.1", "Ok(New)"),
-        ("-3.1", "Ok(Known)"),
-        ("-2.1", "Ok(New)"),
-        ("-2.1", "Ok(Known)"),
-    ] {
-        assert!(rt; answers(alloc, store, words, answer), "{words}");
+fn ask<S: TextStore, R: Abort>(rt: &R, alloc: Global, store: &mut S, rows: &[(&str, &str)]) {
+    for (word, answer) in rows {
+        assert!(rt; answers(alloc, store, word, answer), "{word}");
     }
 }
 
-#[test]
-fn each_operation_has_its_answer(rt: HostRuntime) {
-    let mut tree = TreeStore::new(rt.alloc(), 3).expect(&rt, "a store");
-    ask(&rt, rt.alloc(), &mut tree);
-    assert!(rt; has_order_of_three(&tree) == Ok(true));
-    let mut flat = FlatStore::new(rt.alloc(), 3).expect(&rt, "a store");
-    ask(&rt, rt.alloc(), &mut flat);
-    assert!(rt; has_order_of_three(&flat) == Ok(true));
-}
-
-/// Whether a store with room for three is filled by elements that wait: then it has no room for their
-/// parent, one of them can be deleted, and nothing is shown.
-fn is_filled_by_waiting_ones<S: TextStore>(alloc: Global) -> Result<bool, Refusal> {
-    let mut store = S::new(alloc, 3)?;
-    for (words, answer) in &[
-        ("p5.1<4.1 q6.1<4.1 r7.1<4.1", "Ok(New)"),
-        ("s4.1<0.0", "Err(Full)"),
-        ("-4.1", "Err(Full)"),
-        ("-5.1", "Ok(New)"),
-    ] {
-        if !answers(alloc, &mut store, words, answer) {
-            return Ok(false);
+/// Whether each operation has its answer, and the elements stand in their order then.
+pub fn has_each_answer<S: TextStore, R: Abort>(rt: &R, alloc: Global) -> bool {
+    match S::new(alloc, 3) {
+        Ok(mut store) => {
+            ask(rt, alloc, &mut store, &ANSWERS);
+            prints(alloc, &store.order(), ORDER)
         }
+        Err(_) => false,
     }
-    Ok(shows(alloc, &store, "") && store.waiting_count() == Ok(3))
 }
 
-#[test]
-fn elements_that_wait_fill_a_store(rt: HostRuntime) {
-    assert_eq!(rt;
-        is_filled_by_waiting_ones::<TreeStore>(rt.alloc()),
-        Ok(true)
-    );
-    assert_eq!(rt;
-        is_filled_by_waiting_ones::<FlatStore>(rt.alloc()),
-        Ok(true)
-    );
-}
-
-/// Whether the elements of the store are (1, 1), (2, 1) and (3, 1), in this order.
-fn has_order_of_three<S: TextStore>(store: &S) -> Result<bool, Refusal> {
-    let order = [id(1, 1)?, id(2, 1)?, id(3, 1)?];
-    Ok(store.order()?.as_slice() == order.as_slice())
+/// Whether elements that wait fill a store, which then shows nothing.
+pub fn is_filled_by_waiting_ones<S: TextStore, R: Abort>(rt: &R, alloc: Global) -> bool {
+    match S::new(alloc, 3) {
+        Ok(mut store) => {
+            ask(rt, alloc, &mut store, &WAITING);
+            shows(alloc, &store, "") && store.waiting_count() == Ok(3)
+        }
+        Err(_) => false,
+    }
 }
 
 /// The operations of a small tree, by identifier.
@@ -205,58 +210,42 @@ const TREE: &str = "a1.1<0.0 b2.2<1.1 c3.1<1.1 d4.1<3.1 -3.1 -7.2";
 /// The same in another order.
 const SHUFFLED: &str = "-7.2 a1.1<0.0 c3.1<1.1 -3.1 d4.1<3.1 b2.2<1.1";
 
-/// The clock of the store, how many identifiers it knows, and how many it may.
-fn numbers<S: TextStore>(store: &S) -> (u64, usize, usize) {
-    (store.clock(), store.known(), store.limit())
-}
-
-/// Whether the store has an element, a deletion, an insertion, and another one in its place.
-fn facts<S: TextStore>(store: &S) -> Result<[bool; 4], Refusal> {
-    let element = store.get(id(1, 1)?) == Some((Id::ROOT, 'a'));
-    let deletion = store.is_deleted(id(7, 2)?);
-    let insertion_of_c = store.contains(&insertion((3, 1), (1, 1), 'c')?);
-    let insertion_of_x = store.contains(&insertion((3, 1), (1, 1), 'x')?);
-    Ok([element, deletion, insertion_of_c, insertion_of_x])
-}
-
-/// Whether a store of the small tree tells its numbers and the facts.
-fn tells_content<S: TextStore>(alloc: Global) -> bool {
-    match store_of::<S>(alloc, 7, SHUFFLED) {
-        Ok(store) => numbers(&store) == (7, 5, 7) && facts(&store) == Ok([true, true, true, false]),
-        Err(_) => false,
-    }
-}
-
-#[test]
-fn a_store_tells_its_content(rt: HostRuntime) {
-    assert!(rt; tells_content::<TreeStore>(rt.alloc()));
-    assert!(rt; tells_content::<FlatStore>(rt.alloc()));
-}
-
-/// Whether there is a store, and it has the limit, the text and the operations of the small tree.
-fn is_tree<S: TextStore>(alloc: Global, store: Result<S, Refusal>) -> bool {
-    match store {
-        Ok(store) => {
-            store.limit() == 7 && shows(alloc, &store, "adb") && holds(alloc, &store, TREE)
+/// Whether the store has an element, a deletion and an insertion, and no other one in its place.
+fn has_facts<S: TextStore>(store: &S) -> bool {
+    match (
+        op_of("-1.1"),
+        op_of("-7.2"),
+        op_of("c3.1<1.1"),
+        op_of("x3.1<1.1"),
+    ) {
+        (Ok(a), Ok(deletion), Ok(insertion), Ok(other)) => {
+            store.get(a.id()) == Some((Id::ROOT, 'a'))
+                && store.is_deleted(deletion.id())
+                && store.contains(&insertion)
+                && !store.contains(&other)
         }
-        Err(_) => false,
+        _ => false,
     }
 }
 
-#[test]
-fn operations_come_by_identifier(rt: HostRuntime) {
-    assert!(rt; is_tree::<TreeStore>(rt.alloc(), store_of(rt.alloc(), 7, SHUFFLED)));
-    assert!(rt; is_tree::<FlatStore>(rt.alloc(), store_of(rt.alloc(), 7, SHUFFLED)));
+/// Whether a store tells the clock of the small tree, how many identifiers it knows, and how many it
+/// may; and the facts, the text and the operations.
+fn is_small_tree<S: TextStore>(alloc: Global, store: &S) -> bool {
+    (store.clock(), store.known(), store.limit()) == (7, 5, 7)
+        && has_facts(store)
+        && shows(alloc, store, "adb")
+        && holds(alloc, store, TREE)
 }
 
-fn copied<S: TextStore>(alloc: Global) -> Result<S, Refusal> {
-    store_of::<S>(alloc, 7, SHUFFLED)?.copy()
-}
-
-#[test]
-fn a_copy_has_the_same_content(rt: HostRuntime) {
-    assert!(rt; is_tree::<TreeStore>(rt.alloc(), copied(rt.alloc())));
-    assert!(rt; is_tree::<FlatStore>(rt.alloc(), copied(rt.alloc())));
+/// Whether a store and its copy tell their content, the operations by identifier.
+pub fn tells_small_tree<S: TextStore>(alloc: Global) -> bool {
+    match store_of::<S>(alloc, 7, SHUFFLED) {
+        Ok(store) => match store.copy() {
+            Ok(copy) => is_small_tree(alloc, &store) && is_small_tree(alloc, &copy),
+            Err(_) => false,
+        },
+        Err(_) => false,
+    }
 }
 
 /// Whether there may be a store with this limit.
@@ -264,19 +253,15 @@ fn fits<S: TextStore>(alloc: Global, limit: usize) -> bool {
     S::new(alloc, limit).is_ok()
 }
 
-#[test]
-fn a_limit_is_one_to_a_million(rt: HostRuntime) {
+/// A limit is one to a million.
+pub fn check_limits<S: TextStore, R: Abort>(rt: &R, alloc: Global) {
     for (limit, answer) in &[
         (0usize, false),
         (1, true),
         (MAX_LIMIT, true),
         (MAX_LIMIT + 1, false),
     ] {
-        assert!(rt; fits::<TreeStore>(rt.alloc(), *limit) == *answer, "{limit}");
-        assert!(rt;
-            fits::<FlatStore>(rt.alloc(), *limit) == *answer,
-            "flat: {limit}"
-        );
+        assert!(rt; fits::<S>(alloc, *limit) == *answer, "{limit}");
     }
 }
 
@@ -318,13 +303,8 @@ fn family_falls<S: TextStore>(alloc: Global, shape: usize) -> bool {
 }
 
 /// A large family stands by falling identifier, whichever way it came.
-#[test]
-fn many_siblings(rt: HostRuntime) {
+pub fn check_siblings<S: TextStore, R: Abort>(rt: &R, alloc: Global) {
     for shape in 0..3 {
-        assert!(rt; family_falls::<TreeStore>(rt.alloc(), shape), "{shape}");
-        assert!(rt;
-            family_falls::<FlatStore>(rt.alloc(), shape),
-            "flat: {shape}"
-        );
+        assert!(rt; family_falls::<S>(alloc, shape), "{shape}");
     }
 }

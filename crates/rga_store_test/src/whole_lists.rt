@@ -1,9 +1,15 @@
 //! Lists of operations that a store takes whole or not at all.
-use crate::words::{holds, prints, store_of};
-use rga_flat::FlatStore;
-use rga_store::{TextStore, TreeStore};
+use crate::words::{holds, store_of};
+use rga_store::TextStore;
 use std::alloc::Global;
-use test_fixtures::ops_of;
+use std::process::Abort;
+use test_fixtures::{ops_of, prints};
+
+/// An insertion.
+const A: &str = "a1.1<0.0";
+
+/// The same, and one behind it.
+const AB: &str = "a1.1<0.0 b2.1<1.1";
 
 /// The answer to another insertion of (1, 1).
 const CONFLICT: &str = "Err(Conflict(Id { counter: 1, replica: 1 }))";
@@ -32,15 +38,16 @@ fn takes<S: TextStore>(
     }
 }
 
-#[test]
-fn a_list_is_taken_whole(rt: HostRuntime) {
-    for (name, limit, before, list, after) in &[
-        ("nothing", 1usize, "", "", ""),
+/// A list is taken whole, or it is refused and changes nothing.
+pub fn check_lists<S: TextStore, R: Abort>(rt: &R, alloc: Global) {
+    for (name, limit, before, list, answer, after) in &[
+        ("nothing", 1usize, "", "", "Ok(())", ""),
         (
             "one identifier, twice",
             1,
             "",
             "-1.1 a1.1<0.0",
+            "Ok(())",
             "a1.1<0.0 -1.1",
         ),
         (
@@ -48,69 +55,35 @@ fn a_list_is_taken_whole(rt: HostRuntime) {
             2,
             "",
             "a1.1<0.0 b2.1<1.1 a1.1<0.0 b2.1<1.1",
-            "a1.1<0.0 b2.1<1.1",
+            "Ok(())",
+            AB,
         ),
         (
             "known ones",
             2,
             "a1.1<0.0 -1.1",
             "a1.1<0.0 b2.1<1.1 -1.1",
+            "Ok(())",
             "a1.1<0.0 b2.1<1.1 -1.1",
         ),
-        (
-            "a child first",
-            2,
-            "",
-            "b2.1<1.1 a1.1<0.0",
-            "a1.1<0.0 b2.1<1.1",
-        ),
-    ] {
-        assert!(rt;
-            takes::<TreeStore>(rt.alloc(), *limit, before, list, "Ok(())", after),
-            "{name}"
-        );
-        assert!(rt;
-            takes::<FlatStore>(rt.alloc(), *limit, before, list, "Ok(())", after),
-            "flat: {name}"
-        );
-    }
-}
-
-#[test]
-fn a_refused_list_changes_nothing(rt: HostRuntime) {
-    for (name, limit, before, list, answer) in &[
-        ("too many", 1usize, "", "a1.1<0.0 b2.1<1.1", "Err(Full)"),
-        ("a deletion too many", 1, "a1.1<0.0", "-2.1", "Err(Full)"),
+        ("a child first", 2, "", "b2.1<1.1 a1.1<0.0", "Ok(())", AB),
+        ("too many", 1, "", AB, "Err(Full)", ""),
+        ("a deletion too many", 1, A, "-2.1", "Err(Full)", A),
         (
             "two insertions",
             1,
             "",
             "a1.1<0.0 b2.1<1.1 b1.1<0.0",
             CONFLICT,
+            "",
         ),
-        (
-            "one of the store",
-            9,
-            "a1.1<0.0",
-            "b2.1<1.1 b1.1<0.0",
-            CONFLICT,
-        ),
-        (
-            "ill-formed",
-            9,
-            "a1.1<0.0",
-            "b1.1<0.0 c3.1<3.1",
-            "Err(BadOrder)",
-        ),
-        ("the root", 9, "", "-0.0 c3.1<3.1", "Err(BadId)"),
+        ("one of the store", 9, A, "b2.1<1.1 b1.1<0.0", CONFLICT, A),
+        ("ill-formed", 9, A, "b1.1<0.0 c3.1<3.1", "Err(BadOrder)", A),
+        ("the root", 9, "", "-0.0 c3.1<3.1", "Err(BadId)", ""),
     ] {
         assert!(rt;
-            takes::<TreeStore>(rt.alloc(), *limit, before, list, answer, before),
+            takes::<S>(alloc, *limit, before, list, answer, after),
             "{name}"
-        );
-        assert!(rt;
-            takes::<FlatStore>(rt.alloc(), *limit, before, list, answer, before),
-            "flat: {name}"
         );
     }
 }

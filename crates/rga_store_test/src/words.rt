@@ -2,19 +2,18 @@
 use rga_ops::{Id, Refusal};
 use rga_store::TextStore;
 use std::alloc::Global;
-use std::fmt::Debug;
-use test_fixtures::{ops_of, spells};
+use test_fixtures::{op_of, ops_of, spells};
 
 /// A store that took the operations of these words one by one.
 pub fn store_of<S: TextStore>(alloc: Global, limit: usize, words: &str) -> Result<S, Refusal> {
     let mut store = S::new(alloc, limit)?;
-    apply_each(alloc, &mut store, words)?;
+    apply_each(&mut store, words)?;
     Ok(store)
 }
 
-fn apply_each<S: TextStore>(alloc: Global, store: &mut S, words: &str) -> Result<(), Refusal> {
-    for op in &ops_of(alloc, words)? {
-        let _taken = store.apply(*op)?;
+fn apply_each<S: TextStore>(store: &mut S, words: &str) -> Result<(), Refusal> {
+    for word in words.split_whitespace() {
+        let _taken = store.apply(op_of(word)?)?;
     }
     Ok(())
 }
@@ -54,16 +53,16 @@ pub fn alike<S: TextStore>(a: &S, b: &S) -> bool {
 
 /// Whether there are both lists, and they are the same.
 pub fn same<T: PartialEq + Drop>(a: Result<Vec<T>, Refusal>, b: Result<Vec<T>, Refusal>) -> bool {
-    match (a, b) {
-        (Ok(a), Ok(b)) => a.as_slice() == b.as_slice(),
-        _ => false,
+    match b {
+        Ok(b) => is(a, &b),
+        Err(_) => false,
     }
 }
 
-/// Whether the answer is printed so.
-pub fn prints<T: Debug>(alloc: Global, answer: &T, text: &str) -> bool {
-    match format!(in alloc; "{answer:?}") {
-        Ok(printed) => printed.as_str() == text,
+/// Whether there is a list, and it is this one.
+pub fn is<T: PartialEq + Drop>(found: Result<Vec<T>, Refusal>, list: &[T]) -> bool {
+    match found {
+        Ok(found) => found.as_slice() == list,
         Err(_) => false,
     }
 }

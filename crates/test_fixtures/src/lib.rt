@@ -9,4 +9,4 @@ mod devices;
 mod operations;
 
 pub use devices::Narrow;
-pub use operations::{deletion, id, insertion, op_of, ops_of, spells};
+pub use operations::{deletion, id, insertion, op_of, ops_of, prints, spells};

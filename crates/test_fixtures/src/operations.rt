@@ -1,6 +1,7 @@
 //! Operations written short.
 use rga_ops::{Id, Op, Refusal};
 use std::alloc::Global;
+use std::fmt::Debug;
 
 /// The identifier with this counter and replica; the root where the counter is 0.
 pub fn id(counter: u64, replica: u16) -> Result<Id, Refusal> {
@@ -68,4 +69,12 @@ fn id_of(text: &str) -> Result<Id, Refusal> {
 /// Whether these are the characters of the text.
 pub fn spells(chars: &[char], text: &str) -> bool {
     text.chars().eq(chars.iter().copied())
+}
+
+/// Whether the answer is printed so.
+pub fn prints<T: Debug>(alloc: Global, answer: &T, text: &str) -> bool {
+    match format!(in alloc; "{answer:?}") {
+        Ok(printed) => printed.as_str() == text,
+        Err(_) => false,
+    }
 }

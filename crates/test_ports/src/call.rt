@@ -33,18 +33,32 @@ impl MadeCall {
     /// Adds the call to a line, as a word; with how many bytes it has, where it writes a file; `!`
     /// where it was refused.
     fn push_to(&self, line: &mut String, alloc: Global) -> Result<(), AllocError> {
-        let length = self.bytes.len();
-        let word = match self.kind {
-            CallKind::Load => format!(in alloc; " load"),
-            CallKind::Append => format!(in alloc; " append {length}"),
-            CallKind::Replace => format!(in alloc; " replace {length}"),
-            CallKind::PutText => format!(in alloc; " text {length}"),
-            CallKind::Connect => format!(in alloc; " connect"),
-            CallKind::Accept => format!(in alloc; " accept"),
-            CallKind::Finish => format!(in alloc; " finish"),
-        };
-        line.push_str(word.map_err(|_| AllocError)?.as_str())?;
+        let (word, writes) = word_of(self.kind);
+        line.push_str(word)?;
+        if writes {
+            push_length(line, alloc, self.bytes.len())?;
+        }
         line.push_str(if self.answered { "" } else { "!" })
+    }
+}
+
+/// The word of a kind of call, and whether such a call writes a file.
+fn word_of(kind: CallKind) -> (&'static str, bool) {
+    match kind {
+        CallKind::Load => (" load", false),
+        CallKind::Append => (" append", true),
+        CallKind::Replace => (" replace", true),
+        CallKind::PutText => (" text", true),
+        CallKind::Connect => (" connect", false),
+        CallKind::Accept => (" accept", false),
+        CallKind::Finish => (" finish", false),
+    }
+}
+
+fn push_length(line: &mut String, alloc: Global, length: usize) -> Result<(), AllocError> {
+    match format!(in alloc; " {length}") {
+        Ok(number) => line.push_str(number.as_str()),
+        Err(_) => Err(AllocError),
     }
 }
 

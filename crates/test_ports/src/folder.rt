@@ -32,44 +32,38 @@ impl Folder {
         self.entry(name)?.log.as_deref()
     }
 
-    pub(crate) fn text(&self, name: &str) -> Option<&[u8]> {
-        self.entry(name)?.text.as_deref()
-    }
-
     /// A copy of what is there under a name.
     pub(crate) fn found(&self, name: &str) -> Result<Found, AllocError> {
-        Ok(Found {
-            log: copy_of(self.alloc, self.log(name))?,
-            text: copy_of(self.alloc, self.text(name))?,
-        })
+        match self.entry(name) {
+            Some(entry) => Ok(Found {
+                log: twin_file(self.alloc, &entry.log)?,
+                text: twin_file(self.alloc, &entry.text)?,
+            }),
+            None => Ok(Found {
+                log: None,
+                text: None,
+            }),
+        }
     }
 
     fn entry(&self, name: &str) -> Option<&Entry> {
-        self.entries
-            .iter()
-            .find(|entry| entry.name.as_str() == name)
-    }
-
-    /// Puts files under a new name.
-    pub(crate) fn put(
-        &mut self,
-        name: &str,
-        log: Option<&[u8]>,
-        text: Option<&[u8]>,
-    ) -> Result<(), AllocError> {
-        let entry = Entry {
-            name: String::from_str(self.alloc, name)?,
-            log: copy_of(self.alloc, log)?,
-            text: copy_of(self.alloc, text)?,
-        };
-        self.entries.push(entry)?;
-        Ok(())
+        for entry in &self.entries {
+            if entry.name.as_str() == name {
+                return Some(entry);
+            }
+        }
+        None
     }
 
     /// Makes room for the files of a name.
     pub(crate) fn make_entry(&mut self, name: &str) -> Result<(), AllocError> {
         if self.entry(name).is_none() {
-            self.put(name, None, None)?;
+            let name = String::from_str(self.alloc, name)?;
+            self.entries.push(Entry {
+                name,
+                log: None,
+                text: None,
+            })?;
         }
         Ok(())
     }
@@ -108,13 +102,6 @@ impl Entry {
             CallKind::PutText => self.text = Some(file),
             CallKind::Load | CallKind::Connect | CallKind::Accept | CallKind::Finish => {}
         }
-    }
-}
-
-fn copy_of(alloc: Global, bytes: Option<&[u8]>) -> Result<Option<Vec<u8>>, AllocError> {
-    match bytes {
-        Some(bytes) => Ok(Some(Vec::from_slice(alloc, bytes)?)),
-        None => Ok(None),
     }
 }
 

@@ -1,6 +1,6 @@
 //! A port in memory.
 ghost use Rattle.std.specs.Prelude.{◌≡◌, [], ◌∷◌, ◌++◌, Some, IsErr, IfErr, OnOk, OnErr};
-ghost use Rattle.mg_files.specs.Calls.{call, load_call, found_call, link_call, refused, told, link_told, failures_after, failures_after_link};
+ghost use Rattle.mg_files.specs.Calls.{call, load_call, found_call, link_call, refused, told, load_told, link_told, failures_after, failures_after_link};
 
 use crate::call::{MadeCall, push_calls};
 use crate::folder::{Folder, twin};
@@ -18,8 +18,6 @@ pub struct MemoryPort {
     failures: u64,
     /// The kind of call that is refused from now on.
     pub refused: Option<CallKind>,
-    /// How many bytes a refused append adds all the same to a log that is there.
-    pub begun: usize,
 }
 
 impl MemoryPort {
@@ -31,34 +29,13 @@ impl MemoryPort {
             calls: Vec::new(alloc),
             failures: 0,
             refused: None,
-            begun: 0,
         }
-    }
-
-    /// The log of a name.
-    pub fn log(&self, name: &str) -> Option<&[u8]> {
-        self.folder.log(name)
-    }
-
-    /// The text of a name.
-    pub fn text(&self, name: &str) -> Option<&[u8]> {
-        self.folder.text(name)
     }
 
     /// Adds the calls so far to a line, in words: what each asks for, and how many bytes it has, where
     /// it writes a file; `!` where it was refused.
     pub fn push_calls(&self, line: &mut String) -> Result<(), AllocError> {
         push_calls(line, self.alloc, &self.calls)
-    }
-
-    /// Puts files under a new name. This is no call of the port.
-    pub fn put(
-        &mut self,
-        name: &str,
-        log: Option<&[u8]>,
-        text: Option<&[u8]>,
-    ) -> Result<(), AllocError> {
-        self.folder.put(name, log, text)
     }
 
     /// Whether calls of that kind are refused.
@@ -85,21 +62,37 @@ impl MemoryPort {
         Ok(())
     }
 
-    /// Refuses a call that writes, of which an append may have begun.
+    /// Refuses a call that writes.
     fn refuse(&mut self, kind: CallKind, name: &str, bytes: &[u8]) -> Result<(), PortFault>
         ensures tells { self.new.calls.items
             ≡ self.old.calls.items ++ told result (call kind name.now bytes.now) }
         ensures device { self.new.failures ≡ failures_after result self.old.failures }
     {
-        let front = &bytes[..self.begun.min(bytes.len())];
-        let file = self.folder.file_after(kind, name, front)?;
-        self.folder.make_entry(name)?;
         self.note(kind, name, bytes, false)?;
-        if matches!(kind, CallKind::Append) && self.folder.log(name).is_some() {
-            self.folder.keep(kind, name, file);
-        }
         self.failures = self.failures.saturating_add(1);
         Err(PortFault::File)
+    }
+
+    /// Refuses a load.
+    fn refuse_load(&mut self, name: &str) -> Result<Found, PortFault>
+        ensures tells { self.new.calls.items
+            ≡ self.old.calls.items ++ load_told result name.now }
+        ensures device { self.new.failures ≡ failures_after result self.old.failures }
+    {
+        self.note(CallKind::Load, name, &[], false)?;
+        self.failures = self.failures.saturating_add(1);
+        Err(PortFault::File)
+    }
+
+    /// Makes a load.
+    fn answer_load(&mut self, name: &str) -> Result<Found, PortFault>
+        ensures tells { self.new.calls.items
+            ≡ self.old.calls.items ++ load_told result name.now }
+        ensures device { self.new.failures ≡ failures_after result self.old.failures }
+    {
+        let found = self.folder.found(name)?;
+        self.note_found(name, twin(self.alloc, &found)?)?;
+        Ok(found)
     }
 
     /// Refuses a call for a link.
@@ -178,13 +171,9 @@ impl Port for MemoryPort {
 
     fn load(&mut self, name: &str) -> Result<Found, PortFault> {
         if self.refuses(CallKind::Load) {
-            self.note(CallKind::Load, name, &[], false)?;
-            self.failures = self.failures.saturating_add(1);
-            return Err(PortFault::File);
+            return self.refuse_load(name);
         }
-        let found = self.folder.found(name)?;
-        self.note_found(name, twin(self.alloc, &found)?)?;
-        Ok(found)
+        self.answer_load(name)
     }
 
     fn append(&mut self, name: &str, bytes: &[u8]) -> Result<(), PortFault> {
