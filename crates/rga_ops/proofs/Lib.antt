@@ -26,6 +26,7 @@ pub mod PlacementLaws
 pub mod SpliceLaws
 pub mod NewestTextLaws
 pub mod DeletionLaws
+pub mod PlaceLaws
 pub mod AgreeLaws
 pub mod ListAnswerLaws
 pub mod EarlyLaws

@@ -5,6 +5,7 @@
 mod content;
 mod identifiers;
 mod order;
+mod places;
 mod taking;
 
 pub use content::{
@@ -19,6 +20,7 @@ pub use order::{
     path_order_is_strict_and_total, places_in_words, the_order_is_for_good,
     the_text_is_of_the_visible_elements, there_is_one_order_list,
 };
+pub use places::{a_deletion_cuts_one_element_or_none, an_insertion_shows_one_element_or_none};
 pub use taking::{
     answers_in_words, answers_to_a_list_in_words, merging_in_words, new_operations_in_words,
     replicas_that_took_the_same_hold_the_same, taking_one_by_one_leads_to_the_content,

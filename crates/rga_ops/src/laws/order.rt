@@ -1,5 +1,5 @@
 //! The order of a content's elements, and its text.
-ghost use Rattle.std.specs.Prelude.{◌≡◌, ◌≢◌, ◌<◌, ◌↔◌, ◌⊎◌, ◌+◌, ℕ, List, true, false, Some, None, Ok, map, length, position, filter};
+ghost use Rattle.std.specs.Prelude.{◌≡◌, ◌≢◌, ◌<◌, ◌↔◌, ◌⊎◌, ◌+◌, ℕ, suc, List, true, false, Some, None, Ok, map, length, position, filter};
 ghost use Rattle.std.specs.List.{IsDistinct, list_any, slice_get};
 ghost use Rattle.std.specs.Ordering.{eq_by_cmp};
 ghost use Rattle.std.specs.declared.cmp.Ordering.TheVariants.{Less};
@@ -80,12 +80,14 @@ pub fn the_text_is_of_the_visible_elements()
 {}
 
 /// What is neither the root nor complete has no place. A visible element's place is one more than
-/// its index in the text.
+/// its index in the text, and so says its index.
 pub fn places_in_words()
     ensures none { (c : Content) (id : Identifier) →
         (place c id ≡ None) ↔ ((is_root id ≡ false) × (is_complete c id ≡ false)) }
     ensures of_visible { (c : Content) (id : Identifier) (i : ℕ) →
         position (λ x. is_id x id) (visible c) ≡ Some i → place c id ≡ Some (i + 1) }
+    ensures at_index { (c : Content) (id : Identifier) (i : ℕ) →
+        is_visible c id ≡ true → place c id ≡ Some (suc i) → slice_get (visible c) i ≡ Some id }
 {}
 
 /// A well-formed insertion of a new identifier, which no element waits for, puts it into the order

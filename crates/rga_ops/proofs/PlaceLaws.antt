@@ -1,0 +1,251 @@
+-- What one operation more does to the visible elements and the text, told by what a store counts: how many elements are
+-- visible, and the place of one.
+use Rattle.std.proofs.Common.{◌≡◌, ℕ, zero, suc, ◌+◌, ◌<◌, ◌≤◌, Bool, true, false, cond, not, ◌&&◌, ◌||◌, List, [], ◌∷◌, ◌++◌, map, filter, take, drop, length, refl, sym, ap, ◌∙◌, arith, append-nil, true≢false}
+use Rattle.std.specs.Prelude.{Option, Some, None, Ok}
+use Rattle.std.specs.Option.{option_map}
+use Rattle.std.specs.List.{list_any, slice_get, AllByRecursion}
+use Rattle.std.specs.FinMap as finite_map
+use Rattle.std.specs.FinSet as finite_set
+use Rattle.std.proofs.lemmas.Bool.{and_parts, false_from_ne_true}
+use Rattle.std.proofs.lemmas.List.{map-append, take-map, drop-map}
+use Rattle.std.proofs.lemmas.Option.{same_Some, none-some}
+use Rattle.rga_ops.specs.Identifier.{Identifier, is_id, is_root}
+use Rattle.rga_ops.specs.Content.{Element, Content, join, single, IsWithin}
+use Rattle.rga_ops.specs.RootPath.{is_complete}
+use Rattle.rga_ops.specs.Order.{order, text}
+use Rattle.rga_ops.specs.Places.{is_visible, visible, character, up_to, place}
+use Rattle.rga_ops.specs.Placement.{without}
+use Rattle.rga_ops.specs.Splice.{spliced}
+use Rattle.rga_ops.specs.Answer.{answer}
+use Rattle.rga_ops.specs.declared.op.Op.TheVariants.{Insert, Delete}
+use Rattle.rga_ops.specs.declared.refusal.Taken.TheVariants.{New}
+use Rattle.rga_ops.proofs.IdentifierLaws.{is, same_id, is_id-same}
+use Rattle.rga_ops.proofs.MemberLaws.{all_members}
+use Rattle.rga_ops.proofs.AnswerLaws.{new_insertion}
+use Rattle.rga_ops.proofs.ContentLaws.{within_join}
+use Rattle.rga_ops.proofs.PathLaws.{inserted_if_complete}
+use Rattle.rga_ops.proofs.GrowLaws.{order_within}
+use Rattle.rga_ops.proofs.InsertionLaws.{contains-insertion, get-inserted}
+use Rattle.rga_ops.proofs.VisibleLaws.{is_kept, visible_is, visible_elements, text_is, own_index, place_at}
+use Rattle.rga_ops.proofs.SpliceLaws.{same_characters}
+use Rattle.rga_ops.proofs.DeletionLaws.{visible-deletion, visible-deletion_at, text-deletion_at, character-deletion}
+
+-- ---- lists
+
+-- what is in a list stands at an index of it
+index_in : (id : Identifier) (xs : List Identifier) → list_any (is id) xs ≡ true → (i : ℕ) × (slice_get xs i ≡ Some id)
+index_in id [] m = absurd (true≢false (sym m))
+index_in id (x ∷ xs) m = elim (is id x) as (λ b. is id x ≡ b → (b || list_any (is id) xs) ≡ true → (i : ℕ) × (slice_get (x ∷ xs) i ≡ Some id)) [
+  | true ↦ λ t m. (0, ap Some (sym (same_id id x t)))
+  | false ↦ λ f m. let later : (i : ℕ) × (slice_get xs i ≡ Some id) = index_in id xs m in (suc later.0, later.1)
+] refl m
+
+twice_filtered : (p q : Identifier → Bool) (xs : List Identifier) → filter p (filter q xs) ≡ filter q (filter p xs)
+twice_filtered p q [] = refl
+twice_filtered p q (x ∷ xs) = elim (p x) as (λ b. p x ≡ b → filter p (cond (q x) (x ∷ filter q xs) (filter q xs)) ≡ filter q (cond b (x ∷ filter p xs) (filter p xs))) [
+  | true ↦ λ t. elim (q x) as (λ b. filter p (cond b (x ∷ filter q xs) (filter q xs)) ≡ cond b (x ∷ filter q (filter p xs)) (filter q (filter p xs))) [
+    | true ↦ ap (λ b. cond b (x ∷ filter p (filter q xs)) (filter p (filter q xs))) t ∙ ap (λ r. x ∷ r) (twice_filtered p q xs)
+    | false ↦ twice_filtered p q xs
+  ]
+  | false ↦ λ f. elim (q x) as (λ b. filter p (cond b (x ∷ filter q xs) (filter q xs)) ≡ filter q (filter p xs)) [
+    | true ↦ ap (λ b. cond b (x ∷ filter p (filter q xs)) (filter p (filter q xs))) f ∙ twice_filtered p q xs
+    | false ↦ twice_filtered p q xs
+  ]
+] refl
+
+no_longer : (p : Identifier → Bool) (xs : List Identifier) → length (filter p xs) ≤ length xs
+no_longer p [] = omega arith
+no_longer p (x ∷ xs) =
+    let rest = no_longer p xs in
+    elim (p x) as (λ b. length (cond b (x ∷ filter p xs) (filter p xs)) ≤ suc (length xs)) [
+      | true ↦ omega (arith, rest)
+      | false ↦ omega (arith, rest)
+    ]
+
+-- a filter that leaves as many leaves all
+all_left : (p : Identifier → Bool) (xs : List Identifier) → length xs ≡ length (filter p xs) → xs ≡ filter p xs
+all_left p [] h = refl
+all_left p (x ∷ xs) h =
+    let rest = no_longer p xs in
+    elim (p x) as (λ b. suc (length xs) ≡ length (cond b (x ∷ filter p xs) (filter p xs)) → x ∷ xs ≡ cond b (x ∷ filter p xs) (filter p xs)) [
+      | true ↦ λ e. ap (λ r. x ∷ r) (all_left p xs (omega (arith, e)))
+      | false ↦ λ e. absurd (omega (arith, e, rest))
+    ] h
+
+-- what does not pass is left out
+shorter : (p : Identifier → Bool) (xs : List Identifier) (k : ℕ) (id : Identifier) → slice_get xs k ≡ Some id → p id ≡ false → length (filter p xs) < length xs
+shorter p [] k id h out = absurd (none-some _ h)
+shorter p (x ∷ xs) zero id h out =
+    let rest = no_longer p xs in
+    let this : length (filter p (x ∷ xs)) ≡ length (filter p xs) = ap (λ b. length (cond b (x ∷ filter p xs) (filter p xs))) (ap p (same_Some x id h) ∙ out) in
+    omega (arith, this, rest)
+shorter p (x ∷ xs) (suc k) id h out =
+    let rest = shorter p xs k id h out in
+    elim (p x) as (λ b. length (cond b (x ∷ filter p xs) (filter p xs)) < suc (length xs)) [
+      | true ↦ omega (arith, rest)
+      | false ↦ omega (arith, rest)
+    ]
+
+-- where one item alone is left out, the list is the filtered one with that item put in at its index
+one_left_out : (p : Identifier → Bool) (xs : List Identifier) (k : ℕ) (id : Identifier) → slice_get xs k ≡ Some id → p id ≡ false → length xs ≡ suc (length (filter p xs)) → xs ≡ spliced (filter p xs) k k (id ∷ [])
+one_left_out p [] k id h out one = absurd (none-some _ h)
+one_left_out p (x ∷ xs) zero id h out one =
+    let same : x ≡ id = same_Some x id h in
+    let left : filter p (x ∷ xs) ≡ filter p xs = ap (λ b. cond b (x ∷ filter p xs) (filter p xs)) (ap p same ∙ out) in
+    let long : length (filter p (x ∷ xs)) ≡ length (filter p xs) = ap length left in
+    (λ j. same j ∷ all_left p xs (omega (arith, one, long)) j) ∙ ap (λ ys. id ∷ ys) (sym left)
+one_left_out p (x ∷ xs) (suc k) id h out one =
+    let less = shorter p xs k id h out in
+    elim (p x) as (λ b. suc (length xs) ≡ suc (length (cond b (x ∷ filter p xs) (filter p xs))) → x ∷ xs ≡ spliced (cond b (x ∷ filter p xs) (filter p xs)) (suc k) (suc k) (id ∷ [])) [
+      | true ↦ λ e. ap (λ r. x ∷ r) (one_left_out p xs k id h out (omega (arith, e)))
+      | false ↦ λ e. absurd (omega (arith, e, less))
+    ] one
+
+map-spliced : {A B : Type 0} (g : A → B) (xs ys : List A) (lo hi : ℕ) → map g (spliced xs lo hi ys) ≡ spliced (map g xs) lo hi (map g ys)
+map-spliced g xs ys lo hi =
+    map-append g (take lo xs ++ ys) (drop hi xs)
+    ∙ (λ k. (map-append g (take lo xs) ys ∙ ap (λ r. r ++ map g ys) (sym (take-map g lo xs))) k ++ sym (drop-map g hi xs) k)
+
+-- a text and its elements, spliced alike
+pub spliced_alike : (f : Identifier → Option ℕ) (characters put : List ℕ) (elements row : List Identifier) (lo hi : ℕ) → map Some characters ≡ map f elements → map Some put ≡ map f row → map Some (spliced characters lo hi put) ≡ map f (spliced elements lo hi row)
+spliced_alike f characters put elements row lo hi h p =
+    map-spliced Some characters put lo hi ∙ (λ k. spliced (h k) lo hi (p k)) ∙ sym (map-spliced f elements row lo hi)
+
+-- ---- places
+
+-- a visible element stands where its place says
+pub index_of_place : (c : Content) (id : Identifier) (k : ℕ) → is_visible c id ≡ true → place c id ≡ Some (suc k) → slice_get (visible c) k ≡ Some id
+index_of_place c id k shows h =
+    let at : (i : ℕ) × (slice_get (visible c) i ≡ Some id) = index_in id (visible c) (visible_elements c id ∙ shows) in
+    let same : at.0 + 1 ≡ suc k = same_Some _ _ (sym (place_at c id at.0 (own_index c id at.0 at.1)) ∙ h) in
+    let index : at.0 ≡ k = omega (arith, same) in
+    ap (slice_get (visible c)) (sym index) ∙ at.1
+
+-- what has a place past the front is complete
+complete_of_place : (c : Content) (id : Identifier) (k : ℕ) → place c id ≡ Some (suc k) → is_complete c id ≡ true
+complete_of_place c id k h = elim (is_root id) as (λ b. cond b (Some 0) (cond (is_complete c id) (Some (length (filter (is_visible c) (up_to id (order c))))) None) ≡ Some (suc k) → is_complete c id ≡ true) [
+  | true ↦ λ h. let no : 0 ≡ suc k = same_Some _ _ h in absurd (omega (arith, no))
+  | false ↦ λ h. elim (is_complete c id) as (λ b. cond b (Some (length (filter (is_visible c) (up_to id (order c))))) None ≡ Some (suc k) → b ≡ true) [
+    | true ↦ λ h. refl
+    | false ↦ λ h. absurd (none-some _ h)
+  ] h
+] h
+
+-- ---- a larger content
+
+module _ (c d : Content) (w : IsWithin c d) where
+  -- of a larger content with no deletion more, the visible elements are those that were, and perhaps others
+  visible_within : is_kept d ≡ is_kept c → visible c ≡ filter (is_complete c) (visible d)
+  visible_within same =
+      visible_is c ∙ ap (filter (is_kept c)) (order_within c d w)
+      ∙ twice_filtered (is_kept c) (is_complete c) (order d)
+      ∙ ap (filter (is_complete c)) (ap (λ p. filter p (order d)) (sym same) ∙ sym (visible_is d))
+
+  -- and keep their characters
+  characters_within : map Some (text c) ≡ map (character d) (visible c)
+  characters_within = text_is c ∙ among (visible c) (all_members (λ q. character c q ≡ character d q) (visible c) same)
+    where
+      among : (xs : List Identifier) → AllByRecursion (λ q. character c q ≡ character d q) xs → map (character c) xs ≡ map (character d) xs
+      among [] h = refl
+      among (x ∷ xs) h = λ k. h.0 k ∷ among xs h.1 k
+
+      same : (q : Identifier) → list_any (is q) (visible c) ≡ true → character c q ≡ character d q
+      same q m =
+          let complete : is_complete c q ≡ true = (and_parts (is_complete c q) (is_kept c q) (sym (visible_elements c q) ∙ m)).0 in
+          let at : (x : Element) × (finite_map.get c.inserted q ≡ Some x) = inserted_if_complete c q complete in
+          ap (option_map (λ (x : Element). x.ch)) (at.1 ∙ sym (w.inserted q at.0 at.1))
+
+-- ---- an insertion more
+
+-- an insertion that is new to a store
+pub absent_if_new : (limit : ℕ) (c : Content) (id parent : Identifier) (ch : ℕ) → answer limit c (Insert id parent ch) ≡ Ok New → finite_map.get c.inserted id ≡ None
+absent_if_new limit c id parent ch h = (new_insertion limit c id parent ch h).absent
+
+module _ (c : Content) (id parent : Identifier) (ch : ℕ) where
+  abbrev d : Content
+  d = join c (single (Insert id parent ch))
+
+  grows : IsWithin c d
+  grows = within_join c (single (Insert id parent ch))
+
+  kept_same : is_kept d ≡ is_kept c
+  kept_same = λ k q. not (contains-insertion c id parent ch q k)
+
+  among_new : visible c ≡ filter (is_complete c) (visible d)
+  among_new = visible_within c d grows kept_same
+
+  -- where as many are visible as before, they are the same
+  pub visible-insertion_hidden : length (visible d) ≡ length (visible c) → visible d ≡ visible c
+  visible-insertion_hidden as_many =
+      all_left (is_complete c) (visible d) (as_many ∙ ap length among_new) ∙ sym among_new
+
+  pub text-insertion_hidden : length (visible d) ≡ length (visible c) → text d ≡ text c
+  text-insertion_hidden as_many = same_characters _ _ (
+      text_is d ∙ ap (map (character d)) (visible-insertion_hidden as_many) ∙ sym (characters_within c d grows))
+
+  module _ (k : ℕ) (absent : finite_map.get c.inserted id ≡ None) where
+    not_complete : is_complete c id ≡ false
+    not_complete = false_from_ne_true (is_complete c id) (λ t.
+        let at : (x : Element) × (finite_map.get c.inserted id ≡ Some x) = inserted_if_complete c id t in
+        none-some _ (sym absent ∙ at.1))
+
+    -- Where one more is visible, and the new element is: it alone was put in, at its index.
+    pub visible-insertion_at : slice_get (visible d) k ≡ Some id → length (visible d) ≡ suc (length (visible c)) → visible d ≡ spliced (visible c) k k (id ∷ [])
+    visible-insertion_at there one_more =
+        one_left_out (is_complete c) (visible d) k id there not_complete (one_more ∙ ap (λ xs. suc (length xs)) among_new)
+        ∙ ap (λ xs. spliced xs k k (id ∷ [])) (sym among_new)
+
+    pub text-insertion_at : slice_get (visible d) k ≡ Some id → length (visible d) ≡ suc (length (visible c)) → text d ≡ spliced (text c) k k (ch ∷ [])
+    text-insertion_at there one_more = same_characters _ _ (
+        text_is d ∙ ap (map (character d)) (visible-insertion_at there one_more)
+        ∙ sym (spliced_alike (character d) (text c) (ch ∷ []) (visible c) (id ∷ []) k k (characters_within c d grows) (λ j. sym here j ∷ [])))
+      where
+        here : character d id ≡ Some ch
+        here = ap (option_map (λ (x : Element). x.ch)) (get-inserted c id parent ch absent)
+
+    -- the same by its place, where it is not deleted
+    module _ (kept : finite_set.contains c.deleted id ≡ false) (stands : place d id ≡ Some (suc k)) where
+      at_its_place : slice_get (visible d) k ≡ Some id
+      at_its_place = index_of_place d id k shows stands
+        where
+          shows : is_visible d id ≡ true
+          shows = λ j. complete_of_place d id k stands j && not ((contains-insertion c id parent ch id ∙ kept) j)
+
+      pub visible-insertion_place : length (visible d) ≡ suc (length (visible c)) → visible d ≡ spliced (visible c) k k (id ∷ [])
+      visible-insertion_place = visible-insertion_at at_its_place
+
+      pub text-insertion_place : length (visible d) ≡ suc (length (visible c)) → text d ≡ spliced (text c) k k (ch ∷ [])
+      text-insertion_place = text-insertion_at at_its_place
+
+-- ---- a deletion more
+
+cut_nothing : {A : Type 0} (xs : List A) (k : ℕ) → take k xs ++ drop (k + 1) xs ≡ spliced xs k (suc k) []
+cut_nothing xs k =
+    let next : k + 1 ≡ suc k = omega arith in
+    (λ j. sym (append-nil (take k xs)) j ++ drop (next j) xs)
+
+not_in_it : (id : Identifier) (xs : List Identifier) → list_any (is id) xs ≡ false → without id xs ≡ xs
+not_in_it id [] h = refl
+not_in_it id (x ∷ xs) h = elim (is id x) as (λ b. is id x ≡ b → (b || list_any (is id) xs) ≡ false → cond (not (is_id x id)) (x ∷ without id xs) (without id xs) ≡ x ∷ xs) [
+  | true ↦ λ t h. absurd (true≢false h)
+  | false ↦ λ f h. ap (λ b. cond (not b) (x ∷ without id xs) (without id xs)) (is_id-same x id ∙ f) ∙ ap (λ r. x ∷ r) (not_in_it id xs h)
+] refl h
+
+module _ (c : Content) (id : Identifier) where
+  abbrev less : Content
+  less = join c (single (Delete id))
+
+  -- what was visible is cut out at its index
+  pub visible-deletion_cut : (k : ℕ) → slice_get (visible c) k ≡ Some id → visible less ≡ spliced (visible c) k (suc k) []
+  visible-deletion_cut k h = visible-deletion_at c id k h ∙ cut_nothing (visible c) k
+
+  pub text-deletion_cut : (k : ℕ) → slice_get (visible c) k ≡ Some id → text less ≡ spliced (text c) k (suc k) []
+  text-deletion_cut k h = text-deletion_at c id k h ∙ cut_nothing (text c) k
+
+  -- and of what was not nothing is seen
+  pub visible-deletion_hidden : is_visible c id ≡ false → visible less ≡ visible c
+  visible-deletion_hidden h = visible-deletion c id ∙ not_in_it id (visible c) (visible_elements c id ∙ h)
+
+  pub text-deletion_hidden : is_visible c id ≡ false → text less ≡ text c
+  text-deletion_hidden h = same_characters _ _ (
+      text_is less ∙ (λ j. map (character-deletion c id j) (visible-deletion_hidden h j)) ∙ sym (text_is c))
