@@ -155,6 +155,27 @@ impl TextStore for FlatStore {
         }
     }
 
+    fn visible_len(&self) -> usize {
+        let _count = count_inserted(&self.records);
+        self.sequence.visible_len()
+    }
+
+    fn element_at(&self, k: usize) -> Option<Id> {
+        self.sequence.element_at(k)
+    }
+
+    fn elements(&self, alloc: Global, lo: usize, hi: usize) -> Result<Vec<Id>, Refusal> {
+        self.sequence.elements(alloc, lo, hi)
+    }
+
+    fn place_of(&self, id: Id) -> Option<usize> {
+        if id == Id::ROOT {
+            return Some(0);
+        }
+        let _count = count_inserted(&self.records);
+        self.sequence.place_of(id, self.records.block(id))
+    }
+
     fn waiting_count(&self) -> Result<usize, Refusal> {
         let count = count_inserted(&self.records);
         Ok(count - self.sequence.len())

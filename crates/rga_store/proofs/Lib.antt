@@ -11,5 +11,6 @@ pub mod RootedLaws
 pub mod MergingLaws
 pub mod BackLaws
 pub mod PrecedingLaws
+pub mod CountingLaws
 pub mod ElementSteps
 pub mod EarlySteps

@@ -29,7 +29,7 @@ use Rattle.rga_ops.proofs.OrderLaws.{order_list, precedes_irreflexive, precedes_
 use Rattle.rga_ops.specs.declared.op.Op.TheVariants.{Insert}
 use Rattle.rga_store.specs.Children.{has_child, IsRising, next_newer}
 use Rattle.rga_store.specs.Tree.{is_child, IsFamily}
-use Rattle.rga_store.specs.Preceding.{beginning, IsUnder, IsLastUnder}
+use Rattle.rga_store.specs.Preceding.{beginning, visible_up_to, IsUnder, IsLastUnder}
 use Rattle.rga_store.proofs.ChildListLaws.{has-any}
 use Rattle.rga_store.proofs.StepLaws.{IsChild, child_found}
 
@@ -235,12 +235,22 @@ pub record IsDescent (c : Content) (id at : Identifier) : Type 0 where
   pub under : IsUnder c id at
   pub further : (k : Identifier) → IsUnder c id k → Precedes c at k → IsUnder c at k
 
-pub descent_start : (c : Content) (id : Identifier) → is_complete c id ≡ true → IsDescent c id id
+-- an identifier is the root or complete
+abbrev pub Stands : Content → Identifier → Type 0
+Stands c id = is_root id ≡ false → is_complete c id ≡ true
+
+path_of_standing : (c : Content) (id : Identifier) → Stands c id → (p : Path) × (root_path c id ≡ Some p)
+path_of_standing c id h =
+    elim (is_root id) as (λ b. is_root id ≡ b → (b ≡ false → is_complete c id ≡ true) → (p : Path) × (root_path c id ≡ Some p)) [
+      | true ↦ λ r h. ([], root_path-root c id r)
+      | false ↦ λ r h. let up = path_of_complete ((is_complete-iff c id).0 (h refl)) in (up.0, is-root_path up.1)
+    ] refl h
+
+pub descent_start : (c : Content) (id : Identifier) → Stands c id → IsDescent c id id
 descent_start c id h =
-    let up = path_of_complete ((is_complete-iff c id).0 h) in
-    let path : root_path c id ≡ Some up.0 = is-root_path up.1 in
+    let up : (p : Path) × (root_path c id ≡ Some p) = path_of_standing c id h in
     record {
-      under = record { path = up.0; rest = []; path_first = path; path_second = path ∙ ap Some (sym (append-nil up.0)) };
+      under = record { path = up.0; rest = []; path_first = up.1; path_second = up.1 ∙ ap Some (sym (append-nil up.0)) };
       further = λ k u b. u;
     }
 
@@ -407,7 +417,7 @@ complete_if_pathed c id p path other = λ k. not (other k) && is_some (path k)
 
 -- ---- the order up to an element
 
-tail_in_order : (c : Content) (x : Identifier) (ys : List Identifier) → IsInOrder c (x ∷ ys) → IsInOrder c ys
+pub tail_in_order : (c : Content) (x : Identifier) (ys : List Identifier) → IsInOrder c (x ∷ ys) → IsInOrder c ys
 tail_in_order c x [] o = tt
 tail_in_order c x (y ∷ ys) o = o.1
 
@@ -443,11 +453,11 @@ up_to-next c e x (y ∷ ys) o me mx j =
           rest.1 ∙ ap (λ r. y ∷ r) (up_to-next c e x ys (tail_in_order c y ys o) me rest.0 j)
     ] refl me
 
-in_list : (c : Content) (id : Identifier) → is_complete c id ≡ true → has_child (order c) id ≡ true
+pub in_list : (c : Content) (id : Identifier) → is_complete c id ≡ true → has_child (order c) id ≡ true
 in_list c id h = has-any (order c) id ∙ (order_list c).elements id ∙ h
 
 -- each element of the order stands behind the root
-behind_root : (c : Content) (e z : Identifier) → is_root e ≡ true → has_child (order c) z ≡ true → Precedes c e z
+pub behind_root : (c : Content) (e z : Identifier) → is_root e ≡ true → has_child (order c) z ≡ true → Precedes c e z
 behind_root c e z r m =
     let whole = (is_complete-iff c z).0 (sym ((order_list c).elements z) ∙ sym (has-any (order c) z) ∙ m) in
     let up = path_of_complete whole in
@@ -469,11 +479,7 @@ beginning_before c e x j complete =
 
 -- ---- places
 
--- an identifier is the root or complete
-abbrev pub Stands : Content → Identifier → Type 0
-Stands c id = is_root id ≡ false → is_complete c id ≡ true
-
-place_by : (c : Content) (id : Identifier) → Stands c id → place c id ≡ Some (length (filter (is_visible c) (beginning c id)))
+pub place_by : (c : Content) (id : Identifier) → Stands c id → place c id ≡ Some (length (visible_up_to c id))
 place_by c id h =
     elim (is_root id) as (λ b. (b ≡ false → is_complete c id ≡ true) → cond b (Some 0) (cond (is_complete c id) (Some (length (filter (is_visible c) (up_to id (order c))))) None) ≡ Some (length (filter (is_visible c) (cond b [] (up_to id (order c)))))) [
       | true ↦ λ h. refl

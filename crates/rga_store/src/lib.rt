@@ -12,6 +12,8 @@
 
 mod answers;
 mod child_list;
+mod counting_back;
+mod elements;
 pub mod laws;
 mod list_answer;
 mod merging;

@@ -56,7 +56,7 @@ fn parent_of_deleted(nodes: &IndexMap<Id, Node>, near: &mut usize, id: Id) -> Op
 /// What stands directly before an element in the order; the root before the first. Of siblings the
 /// newest is first, and all that stands under one comes before the next. So it is the last under
 /// the next newer sibling, or else the parent.
-fn element_before(nodes: &IndexMap<Id, Node>, near: &mut usize, parent: Id, id: Id) -> Id
+pub(crate) fn element_before(nodes: &IndexMap<Id, Node>, near: &mut usize, parent: Id, id: Id) -> Id
     requires family { HasFamilies nodes.now.entries }
     requires sound { IsSound (content_of_nodes nodes.now.entries) }
     requires child { is_child (content_of_nodes nodes.now.entries) parent id ≡ true }
@@ -72,12 +72,13 @@ fn element_before(nodes: &IndexMap<Id, Node>, near: &mut usize, parent: Id, id: 
     }
 }
 
-/// The last in the order of a complete element and of what stands under it: the oldest child's
-/// oldest child, and so on.
-fn last_under(nodes: &IndexMap<Id, Node>, id: Id) -> Id
+/// The last in the order of the root or a complete element, and of what stands under it: the oldest
+/// child's oldest child, and so on.
+pub(crate) fn last_under(nodes: &IndexMap<Id, Node>, id: Id) -> Id
     requires family { HasFamilies nodes.now.entries }
     requires sound { IsSound (content_of_nodes nodes.now.entries) }
-    requires complete { is_complete (content_of_nodes nodes.now.entries) id ≡ true }
+    requires complete { is_root id ≡ false →
+        is_complete (content_of_nodes nodes.now.entries) id ≡ true }
     ensures { IsLastUnder (content_of_nodes nodes.now.entries) id result }
 {
     let mut last = id;
@@ -103,7 +104,11 @@ fn newer_sibling(nodes: &IndexMap<Id, Node>, near: &mut usize, parent: Id, id: I
 
 /// The node of an identifier. It is looked for first at the index `near`, whichever that is, which
 /// then becomes the index where it is.
-fn find_near<'a>(nodes: &'a IndexMap<Id, Node>, near: &mut usize, id: Id) -> Option<&'a Node>
+pub(crate) fn find_near<'a>(
+    nodes: &'a IndexMap<Id, Node>,
+    near: &mut usize,
+    id: Id,
+) -> Option<&'a Node>
     ensures { option_copied result ≡ lookup (is_id id) nodes.now.entries }
 {
     let found = find_node(nodes, near, id);

@@ -1,5 +1,5 @@
 //! What keeps a text.
-ghost use Rattle.std.specs.Prelude.{◌≡◌, ◌≢◌, ◌≤◌, ◌↔◌, ℕ, length, true, false, Ok, Err, IfOk, IfErr, MatchResult, string_bytes, encode_utf8_all};
+ghost use Rattle.std.specs.Prelude.{◌≡◌, ◌≢◌, ◌≤◌, ◌↔◌, ℕ, length, take, drop, slice_get, true, false, Ok, Err, IfOk, IfErr, MatchResult, string_bytes, encode_utf8_all};
 ghost use Rattle.std.specs.FinMap as finite_map;
 ghost use Rattle.std.specs.FinSet as finite_set;
 ghost use Rattle.rga_ops.specs.Prelude.{Identifier, IsSound, clock_of, is_root, join, known_count, merge_answer, nothing, operations, order, place, text};
@@ -86,6 +86,26 @@ pub trait TextStore: Taker + Sized + Drop {
         ensures place { place (Self.content self.now) result ≡ place (Self.content self.now) id }
         ensures visible { is_root result ≡ false →
             is_visible (Self.content self.now) result ≡ true };
+
+    /// How many elements are visible. Takes no memory.
+    fn visible_len(&self) -> usize
+        ensures { result ≡ length (visible (Self.content self.now)) };
+
+    /// The visible element at an index of the text; `None` past its end. Takes no memory.
+    fn element_at(&self, k: usize) -> Option<Id>
+        ensures { result ≡ slice_get (visible (Self.content self.now)) k };
+
+    /// The visible elements from index `lo` of the text to the one before `hi`, as far as there are
+    /// any. `Memory` alone.
+    fn elements(&self, alloc: Global, lo: usize, hi: usize) -> Result<Vec<Id>, Refusal>
+        ensures ok { IfOk result
+            (λ ids. ids.items ≡ drop lo (take hi (visible (Self.content self.now)))) }
+        ensures memory { IfErr result (λ e. e ≡ Refusal.Memory) };
+
+    /// How many visible elements are the element or stand before it; 0 for the root, and `None` for
+    /// what is neither the root nor complete. Takes no memory.
+    fn place_of(&self, id: Id) -> Option<usize>
+        ensures { result ≡ place (Self.content self.now) id };
 
     /// How many inserted elements wait for an ancestor, and so are not in the order. `Memory`
     /// alone.

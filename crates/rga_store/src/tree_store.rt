@@ -9,6 +9,8 @@ ghost use Rattle.rga_ops.specs.Found.{facts_of};
 mod removal;
 mod whole_list;
 
+use crate::counting_back::{element_at, place_of, visible_len};
+use crate::elements::elements;
 use crate::list_answer::answer_to_list;
 use crate::merging::{count_unknown, least_conflict};
 use crate::nodes::{Node, add_child, ensure_node, found_at, mark, set_element};
@@ -272,6 +274,22 @@ impl TextStore for TreeStore {
 
     fn last_visible(&self, id: Id) -> Id {
         last_visible(&self.nodes, id)
+    }
+
+    fn visible_len(&self) -> usize {
+        visible_len(&self.nodes)
+    }
+
+    fn element_at(&self, k: usize) -> Option<Id> {
+        element_at(&self.nodes, k)
+    }
+
+    fn elements(&self, alloc: Global, lo: usize, hi: usize) -> Result<Vec<Id>, Refusal> {
+        elements(alloc, &self.nodes, lo, hi)
+    }
+
+    fn place_of(&self, id: Id) -> Option<usize> {
+        place_of(&self.nodes, id)
     }
 
     fn waiting_count(&self) -> Result<usize, Refusal> {

@@ -9,6 +9,8 @@
 #[cfg(test)]
 mod comparison;
 #[cfg(test)]
+mod elements;
+#[cfg(test)]
 mod kinds;
 #[cfg(test)]
 mod list_store;

@@ -2,7 +2,6 @@
 ghost use Rattle.std.specs.Prelude.{◌≡◌, IfOk, IfErr, length};
 ghost use Rattle.rga_ops.specs.Prelude.{text};
 
-use crate::elements::visible_elements;
 use rga_ops::Refusal;
 use rga_store::TextStore;
 use std::alloc::Global;
@@ -15,11 +14,9 @@ pub fn text<S: TextStore>(alloc: Global, store: &S) -> Result<Vec<char>, Refusal
     store.text(alloc)
 }
 
-/// The number of characters of the text. `Memory` alone.
-pub fn visible_len<S: TextStore>(store: &S) -> Result<usize, Refusal>
-    ensures ok { IfOk result (λ n. n ≡ length (text (S.content store.now))) }
-    ensures memory { IfErr result (λ e. e ≡ Refusal.Memory) }
+/// The number of characters of the text. Takes no memory.
+pub fn visible_len<S: TextStore>(store: &S) -> usize
+    ensures { result ≡ length (text (S.content store.now)) }
 {
-    let ids = visible_elements(store)?;
-    Ok(ids.as_slice().len())
+    store.visible_len()
 }

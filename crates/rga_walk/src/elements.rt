@@ -1,5 +1,5 @@
 //! Visible elements by their index in the text.
-ghost use Rattle.std.specs.Prelude.{◌≡◌, ◌≤◌, ◌⊎◌, Ok, Err, Some, IfOk, IfErr, length, position};
+ghost use Rattle.std.specs.Prelude.{◌≡◌, ◌≤◌, Ok, Err, Some, IfOk, IfErr, length, position};
 ghost use Rattle.std.specs.List.{slice_get};
 ghost use Rattle.rga_ops.specs.Prelude.{is_id, text, visible};
 
@@ -17,15 +17,14 @@ pub fn visible_elements<S: TextStore>(store: &S) -> Result<Vec<Id>, Refusal>
 }
 
 /// The visible element at an index of the text. `Range` unless the index is below the text's
-/// length; `Memory` where the elements have no room.
+/// length. Takes no memory.
 pub fn element_at<S: TextStore>(store: &S, k: usize) -> Result<Id, Refusal>
     ensures ok { IfOk result (λ id. slice_get (visible (S.content store.now)) k ≡ Some id) }
-    ensures refused { IfErr result (λ e. (e ≡ Refusal.Memory)
-        ⊎ ((e ≡ Refusal.Range) × (length (text (S.content store.now)) ≤ k))) }
+    ensures refused { IfErr result (λ e. (e ≡ Refusal.Range)
+        × (length (text (S.content store.now)) ≤ k)) }
 {
-    let ids = visible_elements(store)?;
-    match ids.get(k) {
-        Some(id) => Ok(*id),
+    match store.element_at(k) {
+        Some(id) => Ok(id),
         None => Err(Refusal::Range),
     }
 }

@@ -4,7 +4,7 @@ use Rattle.rga_store.proofs.PrecedingLaws.{IsPathed, pathed, IsJustBefore, paren
 use Rattle.rga_store.proofs.preceding.element_before.Goals as goal
 
 pub last_under-requires-clause-complete : goal.last_under-requires-clause-complete
-last_under-requires-clause-complete c =
+last_under-requires-clause-complete c = λ r.
     let w : IsPathed (content_of_nodes c.args.nodes.now.entries) c.args.parent c.args.id = pathed (content_of_nodes c.args.nodes.now.entries) c.args.parent c.args.id c.requires.child c.requires.complete in
     sibling_complete (content_of_nodes c.args.nodes.now.entries) (children_of c.args.nodes.now.entries) c.requires.family c.requires.sound c.args.parent c.args.id w.above w.path_parent w.path c.in-Some.sibling
     (sym c.newer_sibling.ensures ∙ c.in-Some.is)

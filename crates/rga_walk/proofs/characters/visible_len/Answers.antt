@@ -1,7 +1,6 @@
-use Rattle.std.proofs.Common.{length, sym, ap, ◌∙◌}
+use Rattle.std.proofs.Common.{sym, ◌∙◌}
 use Rattle.rga_ops.proofs.VisibleLaws.{text_long}
 use Rattle.rga_walk.proofs.characters.visible_len.Goals as goal
 
-pub returns-clause-ok : goal.returns-clause-ok
-returns-clause-ok g c =
-    ap length c.as_slice.ensures.value ∙ ap length c.in_ok-ids.ensures.ok ∙ sym (text_long (g.S.Taker.content c.args.store.now))
+pub returns : goal.returns
+returns g c = c.visible_len.ensures ∙ sym (text_long (g.S.Taker.content c.args.store.now))
