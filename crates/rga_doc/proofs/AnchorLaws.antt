@@ -1,17 +1,13 @@
 -- The element left of a place in the visible elements is the one that the place is behind, and has that place.
-use Rattle.std.proofs.Common.{◌≡◌, ℕ, zero, suc, ◌+◌, ◌<◌, ◌≤◌, cond, List, filter, length, refl, sym, ap, ◌∙◌, arith}
-use Rattle.std.specs.Prelude.{Option, Some, None, IfSome}
+use Rattle.std.proofs.Common.{◌≡◌, ℕ, zero, suc, ◌+◌, ◌<◌, ◌≤◌, length, refl, sym, ap, ◌∙◌, arith}
+use Rattle.std.specs.Prelude.{Some}
 use Rattle.std.specs.Option.{unwrap_or}
 use Rattle.std.specs.List.{slice_get}
 use Rattle.std.proofs.lemmas.Option.{slice_get-get_or}
-use Rattle.rga_ops.specs.Identifier.{Identifier, root}
+use Rattle.rga_ops.specs.Identifier.{root}
 use Rattle.rga_ops.specs.Content.{Content}
-use Rattle.rga_ops.specs.RootPath.{is_complete}
-use Rattle.rga_ops.specs.Order.{order}
-use Rattle.rga_ops.specs.Places.{is_visible, visible, up_to, place}
+use Rattle.rga_ops.specs.Places.{visible, place}
 use Rattle.rga_ops.proofs.VisibleLaws.{own_index, place_at}
-use Rattle.rga_doc.specs.Listing.{IsListOf}
-use Rattle.rga_doc.specs.Relisting.{StandsLeft}
 use Rattle.rga_doc.specs.LocalEdit.{left_of, element_behind}
 
 left_there : (c : Content) (k : ℕ) → k < length (visible c) → slice_get (visible c) k ≡ Some (left_of (visible c) (suc k))
@@ -28,11 +24,3 @@ left_place c zero within = refl
 left_place c (suc k) within =
     let next : k + 1 ≡ suc k = omega arith in
     place_at c (left_of (visible c) (suc k)) k (own_index c (left_of (visible c) (suc k)) k (left_there c k (omega (arith, within)))) ∙ ap Some next
-
--- the element left of an index of a list has that place
-pub listed_left : (c : Content) (elements : List Identifier) (characters : List ℕ) (id : Identifier) (o : Option ℕ) → IsListOf c elements characters → IfSome o (λ k. StandsLeft elements k id) → IfSome o (λ k. place c id ≡ Some k)
-listed_left c elements characters id None all at = tt
-listed_left c elements characters id (Some zero) all at = ap (λ b. cond b (Some 0) (cond (is_complete c id) (Some (length (filter (is_visible c) (up_to id (order c))))) None)) at
-listed_left c elements characters id (Some (suc k)) all at =
-    let next : k + 1 ≡ suc k = omega arith in
-    place_at c id k (own_index c id k (ap (λ xs. slice_get xs k) (sym all.visible_ones) ∙ at)) ∙ ap Some next

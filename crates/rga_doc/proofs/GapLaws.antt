@@ -1,10 +1,7 @@
 -- A list with a gap of unused places: what moves the gap, makes it wider or puts something into it.
-use Rattle.std.proofs.Common.{◌≡◌, ℕ, zero, suc, ◌+◌, ◌-◌, ◌<◌, ◌≤◌, List, [], ◌∷◌, ◌++◌, take, drop, length, slice_get, refl, sym, ap, ◌∙◌, arith, append_assoc, append-nil, length-append, length-drop, length-take-le, take-append-drop, take_at, drop_at, take-take, drop-drop}
-use Rattle.std.specs.Prelude.{Some}
-use Rattle.std.proofs.lemmas.Option.{none-some}
+use Rattle.std.proofs.Common.{◌≡◌, ℕ, ◌+◌, ◌-◌, ◌<◌, ◌≤◌, List, [], ◌∷◌, ◌++◌, take, drop, length, refl, sym, ap, ◌∙◌, arith, append_assoc, append-nil, length-append, length-drop, length-take-le, take-append-drop, take_at, drop_at, take-take, drop-drop}
 use Rattle.std.specs.List.{copy_within}
 use Rattle.std.proofs.lemmas.List.{take-append-le, drop-append-le}
-use Rattle.rga_ops.specs.Identifier.{Identifier}
 use Rattle.rga_ops.specs.Splice.{spliced}
 use Rattle.rga_doc.specs.Gap.{around}
 use Rattle.rga_doc.proofs.SplicedLists.{splice_on, part, same_begin}
@@ -108,18 +105,3 @@ put_more xs row x gap next within at =
     let end : gap ≡ gap + 0 = omega arith in
     ap (λ ys. spliced ys next next row) (sym (append_assoc (take gap xs) (x ∷ []) (drop gap xs)))
     ∙ splice_on xs (x ∷ []) row gap gap next next 0 gap within at here end
-
--- ---- indexes
-
--- what stands in one of two parts stands in the whole
-pub stands_before : (xs ys : List Identifier) (i : ℕ) (x : Identifier) → slice_get xs i ≡ Some x → slice_get (xs ++ ys) i ≡ Some x
-stands_before [] ys i x h = absurd (none-some _ h)
-stands_before (y ∷ xs) ys zero x h = h
-stands_before (y ∷ xs) ys (suc i) x h = stands_before xs ys i x h
-
-pub stands_behind : (xs ys : List Identifier) (i k : ℕ) (x : Identifier) → slice_get ys i ≡ Some x → k ≡ length xs + i → slice_get (xs ++ ys) k ≡ Some x
-stands_behind [] ys i k x h at =
-    let same : k ≡ i = omega (arith, at) in
-    ap (slice_get ys) same ∙ h
-stands_behind (y ∷ xs) ys i zero x h at = absurd (omega (arith, at))
-stands_behind (y ∷ xs) ys i (suc k) x h at = stands_behind xs ys i k x h (omega (arith, at))

@@ -20,3 +20,4 @@ pub mod AnchorLaws
 pub mod AnewLaws
 pub mod GapLaws
 pub mod CharacterLaws
+pub mod FollowingLaws

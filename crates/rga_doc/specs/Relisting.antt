@@ -1,16 +1,19 @@
 -- What is listed while operations that the store has taken are still to be made in the lists, one after the other.
-use Rattle.std.specs.Prelude.{◌≡◌, ℕ, zero, suc, ◌+◌, ◌&&◌, ◌||◌, not, Bool, true, false, List, [], ◌∷◌, map, filter, Some}
+use Rattle.std.specs.Prelude.{◌≡◌, ℕ, zero, suc, ◌+◌, ◌&&◌, ◌||◌, not, Bool, true, false, List, [], ◌∷◌, map, filter, Some, Ok}
 use Rattle.std.specs.List.{list_any, slice_get}
 use Rattle.std.specs.Ordering.{eq_by_cmp}
 use Rattle.std.specs.FinSet as finite_set
 use Rattle.rga_ops.specs.Identifier.{Identifier, id_cmp, is_root}
-use Rattle.rga_ops.specs.Content.{Content}
+use Rattle.rga_ops.specs.Answer.{answer}
+use Rattle.rga_ops.specs.Content.{Content, join, single}
 use Rattle.rga_ops.specs.RootPath.{is_complete}
 use Rattle.rga_ops.specs.Order.{order}
 use Rattle.rga_ops.specs.Places.{is_visible, character, place}
 use Rattle.rga_ops.specs.Splice.{spliced}
 use Rattle.rga_ops.specs.declared.op.Op.{Op}
 use Rattle.rga_ops.specs.declared.op.Op.TheVariants.{Insert, Delete}
+use Rattle.rga_ops.specs.declared.refusal.Taken.TheVariants.{New}
+use Rattle.rga_doc.specs.Listing.{IsListOf}
 use Rattle.rga_doc.specs.Revert.{StandsDirectlyBehind}
 use Rattle.rga_doc.specs.UndoGroup.{inserted_elements, deleted_elements}
 
@@ -81,3 +84,13 @@ abbrev pub IsMade : Content → Op → List Identifier → List Identifier → L
 IsMade c (Delete id) elements now characters characters_now = IsTakenOut id elements now characters characters_now
 IsMade c (Insert id parent ch) elements now characters characters_now =
     (left : Identifier) × IsLastVisible c parent left × IsPutBehind left id ch elements now characters characters_now
+
+-- ---- one operation of another replica
+
+-- the operation was new to the content, and the lists are still those from before it
+pub record IsListBefore (c : Content) (op : Op) (elements : List Identifier) (characters : List ℕ) : Type 0 where
+  pub limit : ℕ
+  pub before : Content
+  pub new : answer limit before op ≡ Ok New
+  pub taken : c ≡ join before (single op)
+  pub lists : IsListOf before elements characters

@@ -54,7 +54,7 @@ impl GapList {
     }
 
     /// The element at an index.
-    fn get(&self, k: usize) -> Id
+    pub(crate) fn get(&self, k: usize) -> Id
         requires { k < length self.now.items }
         ensures { slice_get self.now.items k ≡ Some result }
     {
@@ -92,45 +92,23 @@ impl GapList {
         (&places[lo..self.gap], &places[self.gap + self.room..end])
     }
 
-    /// An index of an element, where it is there. It is looked for beside the gap first, where
-    /// edits in a row find theirs.
+    /// An index of an element, where it is there. It is looked for outward from the gap, on both
+    /// sides in turn: what stands near the last edit is found soon, however long the list is.
     pub(crate) fn index_of(&self, element: Id) -> Option<usize>
         ensures at { IfSome result (λ index. slice_get self.now.items index ≡ Some element) }
         ensures within { IfSome result (λ index. index + 1 ≤ usize.MAX) }
     {
-        match self.index_beside_gap(element) {
-            Some(index) => Some(index),
-            None => self.index_anywhere(element),
-        }
-    }
-
-    /// The index of an element that stands directly before or behind the gap.
-    fn index_beside_gap(&self, element: Id) -> Option<usize>
-        ensures at { IfSome result (λ index. slice_get self.now.items index ≡ Some element) }
-        ensures within { IfSome result (λ index. index + 1 ≤ usize.MAX) }
-    {
-        if self.gap > 0 && self.get(self.gap - 1) == element {
-            return Some(self.gap - 1);
-        }
-        if self.gap < self.len() && self.get(self.gap) == element {
-            return Some(self.gap);
+        let before = self.gap;
+        let behind = self.len() - before;
+        for distance in 0..before.max(behind) {
+            if distance < before && self.get(before - 1 - distance) == element {
+                return Some(before - 1 - distance);
+            }
+            if distance < behind && self.get(before + distance) == element {
+                return Some(before + distance);
+            }
         }
         None
-    }
-
-    /// An index of an element, where it is there.
-    fn index_anywhere(&self, element: Id) -> Option<usize>
-        ensures at { IfSome result (λ index. slice_get self.now.items index ≡ Some element) }
-        ensures within { IfSome result (λ index. index + 1 ≤ usize.MAX) }
-    {
-        let (before, behind) = self.parts(0, self.len());
-        match index_in(before, element) {
-            Some(index) => Some(index),
-            None => match index_in(behind, element) {
-                Some(index) => Some(before.len() + index),
-                None => None,
-            },
-        }
     }
 
     /// Adds elements at the end. `Memory` alone.
@@ -283,14 +261,6 @@ impl GapList {
         self.gap += 1;
         self.room -= 1;
     }
-}
-
-/// An index of an element in a list, where it is there.
-fn index_in(elements: &[Id], element: Id) -> Option<usize>
-    ensures at { IfSome result (λ index. slice_get elements.now index ≡ Some element) }
-    ensures within { IfSome result (λ index. index < length elements.now) }
-{
-    elements.iter().position(|x| *x == element)
 }
 
 /// Moves what stands between a gap and another place to the gap's other side.

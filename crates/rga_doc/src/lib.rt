@@ -18,6 +18,7 @@ mod doc;
 mod draft;
 mod edit;
 mod element_sets;
+mod following;
 mod gap_list;
 pub mod laws;
 mod listing;

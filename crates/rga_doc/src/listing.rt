@@ -1,5 +1,5 @@
 //! The visible elements and their characters, listed beside a store.
-ghost use Rattle.std.specs.Prelude.{◌≡◌, ◌≤◌, ◌<◌, ◌+◌, false, true, length, IfErr, IfSome, OnOk, OnErr};
+ghost use Rattle.std.specs.Prelude.{◌≡◌, ◌≤◌, ◌<◌, ◌+◌, ◌∷◌, [], false, true, length, IfErr, IfSome, OnOk, OnErr};
 ghost use Rattle.rga_ops.specs.Splice.{spliced, text_after, are_falling, new_characters};
 ghost use Rattle.rga_doc.specs.Listing.{IsListOf, IsListing, elements_after};
 ghost use Rattle.rga_doc.specs.LocalEdit.{left_of, new_ids};
@@ -17,6 +17,8 @@ pub(crate) struct Listing {
     pub(crate) elements: GapList,
     pub(crate) characters: Characters,
     pub(crate) listed: bool,
+    /// How many operations of other replicas were made in it since it was asked for.
+    pub(crate) followed: usize,
 }
 
 impl Listing {
@@ -28,6 +30,7 @@ impl Listing {
             elements: GapList::of(Vec::new(alloc)),
             characters: Characters::of(Vec::new(alloc)),
             listed: false,
+            followed: 0,
         }
     }
 
@@ -43,6 +46,7 @@ impl Listing {
         ensures kept { self.old.listed ≡ true → result ≡ Ok tt }
     {
         if self.listed {
+            self.followed = 0;
             return Ok(());
         }
         let (mut elements, mut characters) = store.visible(alloc)?;
@@ -52,6 +56,7 @@ impl Listing {
         self.elements = GapList::of(elements);
         self.characters = Characters::of(characters);
         self.listed = true;
+        self.followed = 0;
         Ok(())
     }
 
@@ -184,6 +189,39 @@ impl Listing {
             counter += put.len() as u64;
         }
         self.give_back();
+    }
+
+    /// Takes out the element at an index, and its character.
+    pub(crate) fn remove(&mut self, index: usize)
+        requires in_elements { index < length self.old.elements.items }
+        requires in_characters { index < length self.old.characters.items }
+        requires within { index + 1 ≤ usize.MAX }
+        ensures elements { self.new.elements.items
+            ≡ spliced self.old.elements.items index (index + 1) [] }
+        ensures characters { self.new.characters.items
+            ≡ spliced self.old.characters.items index (index + 1) [] }
+        ensures room_of_elements { self.old.elements.room ≤ self.new.elements.room }
+        ensures room_of_characters { self.old.characters.room ≤ self.new.characters.room }
+    {
+        self.elements.remove(index);
+        self.characters.replace(index, index + 1, &[]);
+    }
+
+    /// Puts an element and its character at a place. There is room.
+    pub(crate) fn insert(&mut self, place: usize, id: Id, ch: char)
+        requires in_elements { place ≤ length self.old.elements.items }
+        requires in_characters { place ≤ length self.old.characters.items }
+        requires elements_fit { 0 < self.old.elements.room }
+        requires characters_fit { 0 < self.old.characters.room }
+        ensures elements { self.new.elements.items
+            ≡ spliced self.old.elements.items place place (id ∷ []) }
+        ensures characters { self.new.characters.items
+            ≡ spliced self.old.characters.items place place (ch ∷ []) }
+        ensures room_of_elements { self.old.elements.room ≤ self.new.elements.room + 1 }
+        ensures room_of_characters { self.old.characters.room ≤ self.new.characters.room + 1 }
+    {
+        self.elements.insert(place, id);
+        self.characters.replace(place, place, &[ch]);
     }
 
     /// Gives up most of what is unused where it is much, so that what is listed costs at most 24 bytes

@@ -65,6 +65,7 @@ impl Listing {
             elements: GapList::of(elements),
             characters: Characters::of(characters),
             listed: true,
+            followed: 0,
         })
     }
 

@@ -45,6 +45,7 @@ impl Listing {
                 return false;
             }
         }
+        self.followed = 0;
         self.give_back();
         true
     }
@@ -86,8 +87,7 @@ impl Listing {
         let Some(index) = self.elements.index_of(id) else {
             return false;
         };
-        self.elements.remove(index);
-        self.characters.replace(index, index + 1, &[]);
+        self.remove(index);
         true
     }
 
@@ -105,8 +105,7 @@ impl Listing {
         let Some(place) = self.place_behind(left) else {
             return false;
         };
-        self.elements.insert(place, id);
-        self.characters.replace(place, place, &[ch]);
+        self.insert(place, id, ch);
         true
     }
 }

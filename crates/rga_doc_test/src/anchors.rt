@@ -25,35 +25,27 @@ fn moves_to(alloc: Global, doc: &mut Document, words: &str, place: usize) -> boo
     take(alloc, doc, words) == Ok(()) && place_of(doc, 2, 1) == Ok(place)
 }
 
-fn is_kept(alloc: Global) -> bool {
-    match document(alloc, (1, 100, ABC)) {
-        Ok(mut doc) => {
-            is_anchored(&doc, 2, id(2, 1))
-                && moves_to(alloc, &mut doc, "-2.1", 1)
-                && moves_to(alloc, &mut doc, "x4.2<1.1", 2)
-                && shows(&doc, "axc")
-        }
-        Err(_) => false,
-    }
+fn is_kept(alloc: Global, doc: &mut Document) -> bool {
+    is_anchored(doc, 2, id(2, 1))
+        && moves_to(alloc, doc, "-2.1", 1)
+        && moves_to(alloc, doc, "x4.2<1.1", 2)
+        && shows(doc, "axc")
 }
 
 #[test]
 fn anchor_keeps_its_place_under_remote_edits(rt: HostRuntime) {
-    assert!(rt; is_kept(rt.alloc()));
+    let mut doc = document(rt.alloc(), (1, 100, ABC)).expect(&rt, "a document");
+    assert!(rt; is_kept(rt.alloc(), &mut doc));
 }
 
-fn has_ends(alloc: Global) -> bool {
-    match document(alloc, (1, 100, AB)) {
-        Ok(doc) => {
-            is_anchored(&doc, 0, Ok(Id::ROOT))
-                && is_anchored(&doc, 3, Err(Refusal::Range))
-                && place_of(&doc, 9, 9) == Err(Refusal::Range)
-        }
-        Err(_) => false,
-    }
+fn has_ends(doc: &Document) -> bool {
+    is_anchored(doc, 0, Ok(Id::ROOT))
+        && is_anchored(doc, 3, Err(Refusal::Range))
+        && place_of(doc, 9, 9) == Err(Refusal::Range)
 }
 
 #[test]
 fn anchors_at_the_ends(rt: HostRuntime) {
-    assert!(rt; has_ends(rt.alloc()));
+    let doc = document(rt.alloc(), (1, 100, AB)).expect(&rt, "a document");
+    assert!(rt; has_ends(&doc));
 }

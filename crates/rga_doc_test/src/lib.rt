@@ -9,6 +9,8 @@ mod anchors;
 #[cfg(test)]
 mod documents;
 #[cfg(test)]
+mod following;
+#[cfg(test)]
 mod listing;
 #[cfg(test)]
 mod local_edits;

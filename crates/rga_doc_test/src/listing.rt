@@ -144,21 +144,17 @@ fn element_at(doc: &mut Document, place: usize) -> Result<Id, Refusal> {
     Ok(doc.listed_anchor(place).element)
 }
 
-fn agrees_with_the_list(alloc: Global) -> bool {
-    match document(alloc, (1, 100, ABC)) {
-        Ok(mut doc) => {
-            element_at(&mut doc, 2) == id(2, 1)
-                && place_of(&doc, 2, 1) == Ok(2)
-                && is_anchored(&doc, 4, Err(Refusal::Range))
-                && shows(&doc, "abc")
-        }
-        Err(_) => false,
-    }
+fn agrees_with_the_list(doc: &mut Document) -> bool {
+    element_at(doc, 2) == id(2, 1)
+        && place_of(doc, 2, 1) == Ok(2)
+        && is_anchored(doc, 4, Err(Refusal::Range))
+        && shows(doc, "abc")
 }
 
 #[test]
 fn anchors_by_the_list(rt: HostRuntime) {
-    assert!(rt; agrees_with_the_list(rt.alloc()));
+    let mut doc = document(rt.alloc(), (1, 100, ABC)).expect(&rt, "a document");
+    assert!(rt; agrees_with_the_list(&mut doc));
 }
 
 /// Whether a document lists these characters once two letters were put in.
@@ -169,17 +165,12 @@ fn lists(alloc: Global, doc: &mut Document, expected: &str) -> Result<bool, Refu
 }
 
 /// Whether two letters are put in, and no two more.
-fn takes_one_draft(alloc: Global) -> bool {
-    match document(alloc, (1, 4, AB)) {
-        Ok(mut doc) => {
-            lists(alloc, &mut doc, "acbd") == Ok(true)
-                && lists(alloc, &mut doc, "") == Err(Refusal::Full)
-        }
-        Err(_) => false,
-    }
+fn takes_one_draft(alloc: Global, doc: &mut Document) -> bool {
+    lists(alloc, doc, "acbd") == Ok(true) && lists(alloc, doc, "") == Err(Refusal::Full)
 }
 
 #[test]
 fn draft_is_taken(rt: HostRuntime) {
-    assert!(rt; takes_one_draft(rt.alloc()));
+    let mut doc = document(rt.alloc(), (1, 4, AB)).expect(&rt, "a document");
+    assert!(rt; takes_one_draft(rt.alloc(), &mut doc));
 }

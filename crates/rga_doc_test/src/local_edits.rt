@@ -1,23 +1,23 @@
 //! Splices by place, as a user meets them: the operations that they answer, and the text then.
 use crate::documents::{AB, ABC, Document, document, shows, splice};
-use crate::steps::{Step, answers, walk};
+use crate::steps::{Row, Step, answers, walk};
 use rga_ops::{Op, Refusal, Splice};
 use rga_store::TextStore;
 use std::alloc::Global;
 
 #[test]
 fn used_up_clock_allows_deletions_alone(rt: HostRuntime) {
-    let steps = [
+    const STEPS: &[Row] = &[
         (Step::Splice((1, 1), "q"), "Clock", "z"),
         (Step::Splice((0, 1), ""), "-9007199254740991.2", ""),
     ];
-    walk(&rt, rt.alloc(), (1, 100, "z9007199254740991.2<0.0"), &steps);
+    walk(&rt, rt.alloc(), (1, 100, "z9007199254740991.2<0.0"), STEPS);
 }
 
 #[test]
 fn clock_goes_on_from_a_deletion(rt: HostRuntime) {
-    let steps = [(Step::Splice((0, 0), "q"), "q8.1<0.0", "q")];
-    walk(&rt, rt.alloc(), (1, 100, "-7.1"), &steps);
+    const STEPS: &[Row] = &[(Step::Splice((0, 0), "q"), "q8.1<0.0", "q")];
+    walk(&rt, rt.alloc(), (1, 100, "-7.1"), STEPS);
 }
 
 /// One letter at each of the places.
@@ -47,7 +47,7 @@ pub fn put_letters(
 
 #[test]
 fn splices_of_falling_places_and_of_rising_ones(rt: HostRuntime) {
-    let steps = [
+    const STEPS: &[Row] = &[
         (Step::Letters([(1, 'c'), (2, 'd')]), "Range", "ab"),
         (
             Step::Letters([(2, 'd'), (1, 'c')]),
@@ -55,32 +55,28 @@ fn splices_of_falling_places_and_of_rising_ones(rt: HostRuntime) {
             "acbd",
         ),
     ];
-    walk(&rt, rt.alloc(), (1, 100, AB), &steps);
+    walk(&rt, rt.alloc(), (1, 100, AB), STEPS);
 }
 
 #[test]
 fn splices_that_are_refused(rt: HostRuntime) {
-    let steps = [
+    const STEPS: &[Row] = &[
         (Step::Splice((2, 1), ""), "Range", "abc"),
         (Step::Splice((2, 4), ""), "Range", "abc"),
         (Step::Splice((9, 9), "xyz"), "Full", "abc"),
     ];
-    walk(&rt, rt.alloc(), (2, 5, ABC), &steps);
+    walk(&rt, rt.alloc(), (2, 5, ABC), STEPS);
 }
 
-fn replaces(alloc: Global) -> bool {
-    match document(alloc, (2, 5, ABC)) {
-        Ok(mut doc) => {
-            let answer = splice(alloc, &mut doc, (1, 2), "xy");
-            answers(alloc, answer, "-2.1 x4.2<1.1 y5.2<4.2")
-                && shows(&doc, "axyc")
-                && (doc.replica(), doc.store().known()) == (2, 5)
-        }
-        Err(_) => false,
-    }
+fn replaces(alloc: Global, doc: &mut Document) -> bool {
+    let answer = splice(alloc, doc, (1, 2), "xy");
+    answers(alloc, answer, "-2.1 x4.2<1.1 y5.2<4.2")
+        && shows(doc, "axyc")
+        && (doc.replica(), doc.store().known()) == (2, 5)
 }
 
 #[test]
 fn splice_replaces_what_stands_between(rt: HostRuntime) {
-    assert!(rt; replaces(rt.alloc()));
+    let mut doc = document(rt.alloc(), (2, 5, ABC)).expect(&rt, "a document");
+    assert!(rt; replaces(rt.alloc(), &mut doc));
 }

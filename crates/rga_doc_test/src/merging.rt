@@ -8,15 +8,10 @@ use test_fixtures::id;
 
 /// Whether a note that Alice writes is this text, once Bob edited a copy of it apart, and each took
 /// the other's changes.
-fn two_people_write(alloc: Global, text: &str) -> bool {
-    match document(alloc, (1, 1000, "")) {
-        Ok(mut alice) => {
-            splice(alloc, &mut alice, (0, 0), "oats").is_ok()
-                && edit_apart(alloc, &mut alice) == Ok(())
-                && shows(&alice, text)
-        }
-        Err(_) => false,
-    }
+fn two_people_write(alloc: Global, alice: &mut Document, text: &str) -> bool {
+    splice(alloc, alice, (0, 0), "oats").is_ok()
+        && edit_apart(alloc, alice) == Ok(())
+        && shows(alice, text)
 }
 
 fn edit_apart(alloc: Global, alice: &mut Document) -> Result<(), Refusal> {
@@ -37,7 +32,8 @@ fn edit_both(alice: &mut Document, bob: &mut Document) -> Result<(), Refusal> {
 
 #[test]
 fn what_two_people_wrote_apart(rt: HostRuntime) {
-    assert!(rt; two_people_write(rt.alloc(), "Oats!"));
+    let mut alice = document(rt.alloc(), (1, 1000, "")).expect(&rt, "a document");
+    assert!(rt; two_people_write(rt.alloc(), &mut alice, "Oats!"));
 }
 
 /// The copy of a document that holds this.
@@ -46,13 +42,16 @@ fn copied(alloc: Global, held: Held) -> Result<Document, Refusal> {
 }
 
 /// Whether a document takes another, shows this text then, and has its limit and its replica still.
+fn takes(alloc: Global, doc: &mut Document, own: Held, other: Held, text: &str) -> bool {
+    merges(alloc, doc, other, Ok(()))
+        && shows(doc, text)
+        && (doc.replica(), doc.store().limit()) == (own.0, own.1)
+}
+
+/// The same of the copy of one that holds this.
 fn takes_other(alloc: Global, own: Held, other: Held, text: &str) -> bool {
     match copied(alloc, own) {
-        Ok(mut doc) => {
-            merges(alloc, &mut doc, other, Ok(()))
-                && shows(&doc, text)
-                && (doc.replica(), doc.store().limit()) == (own.0, own.1)
-        }
+        Ok(mut doc) => takes(alloc, &mut doc, own, other, text),
         Err(_) => false,
     }
 }
@@ -71,6 +70,7 @@ fn refuses(alloc: Global, doc: &mut Document, words: &'static str, refusal: Refu
     merges(alloc, doc, (2, 100, words), Err(refusal)) && shows(doc, "ab")
 }
 
+/// Whether a document that has no room refuses another, and one whose insertions are others.
 fn refuses_both(alloc: Global, doc: &mut Document) -> Result<bool, Refusal> {
     let taken = id(1, 1)?;
     Ok(
@@ -79,15 +79,8 @@ fn refuses_both(alloc: Global, doc: &mut Document) -> Result<bool, Refusal> {
     )
 }
 
-/// Whether a document that has no room refuses another, and one whose insertions are others.
-fn stays(alloc: Global) -> bool {
-    match document(alloc, (1, 2, AB)) {
-        Ok(mut doc) => refuses_both(alloc, &mut doc) == Ok(true),
-        Err(_) => false,
-    }
-}
-
 #[test]
 fn merge_that_is_refused_changes_nothing(rt: HostRuntime) {
-    assert!(rt; stays(rt.alloc()));
+    let mut doc = document(rt.alloc(), (1, 2, AB)).expect(&rt, "a document");
+    assert!(rt; refuses_both(rt.alloc(), &mut doc) == Ok(true));
 }

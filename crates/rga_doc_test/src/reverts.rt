@@ -1,6 +1,6 @@
 //! Reverts, as a user meets them: the operations that they answer, and the text then.
 use crate::documents::{ABC, Document};
-use crate::steps::{Step, walk};
+use crate::steps::{Row, Step, walk};
 use rga_ops::{Id, Op, Refusal};
 use std::alloc::Global;
 use test_fixtures::ops_of;
@@ -47,51 +47,57 @@ pub fn draft(alloc: Global, doc: &Document, gone: &str, back: &str) -> Result<Ve
 
 #[test]
 fn deleted_elements_come_back_around_what_others_put_between(rt: HostRuntime) {
-    let steps = [
+    const STEPS: &[Row] = &[
         (Step::Splice((0, 0), "abc"), ABC, "abc"),
         (Step::Splice((0, 3), ""), "-1.1 -2.1 -3.1", ""),
         (Step::Take("x4.2<2.1"), "", "x"),
         (Step::Revert("", ABC), "a5.1<1.1 b6.1<2.1 c7.1<3.1", "abxc"),
     ];
-    walk(&rt, rt.alloc(), (1, 100, ""), &steps);
+    walk(&rt, rt.alloc(), (1, 100, ""), STEPS);
 }
+
+/// Elements of which one is named twice, and two are not visible.
+const GONE: &str = "c3.1<2.1 a1.1<0.0 b2.1<1.1 c3.1<2.1 z9.2<8.2";
 
 #[test]
 fn inserted_elements_go_once_where_they_are_visible(rt: HostRuntime) {
-    let gone = "c3.1<2.1 a1.1<0.0 b2.1<1.1 c3.1<2.1 z9.2<8.2";
-    let steps = [
+    const STEPS: &[Row] = &[
         (Step::Take("-2.1 z9.2<8.2"), "", "ac"),
-        (Step::Draft(gone, "b2.1<1.1"), "-3.1 -1.1 b10.1<2.1", "ac"),
-        (Step::Revert(gone, "b2.1<1.1"), "-3.1 -1.1 b10.1<2.1", "b"),
+        (Step::Draft(GONE, "b2.1<1.1"), "-3.1 -1.1 b10.1<2.1", "ac"),
+        (Step::Revert(GONE, "b2.1<1.1"), "-3.1 -1.1 b10.1<2.1", "b"),
     ];
-    walk(&rt, rt.alloc(), (1, 100, ABC), &steps);
+    walk(&rt, rt.alloc(), (1, 100, ABC), STEPS);
 }
+
+const TOO_MANY: &str = "a1.1<0.0 b2.1<1.1 a1.1<0.0";
+
+const VISIBLE: &str = "a1.1<0.0 a1.1<0.0";
 
 #[test]
 fn reverts_that_are_refused(rt: HostRuntime) {
-    let too_many = "a1.1<0.0 b2.1<1.1 a1.1<0.0";
-    let visible = "a1.1<0.0 a1.1<0.0";
-    let steps = [
+    const STEPS: &[Row] = &[
         (Step::Take("z9.2<8.2"), "", "abc"),
-        (Step::Draft("", too_many), "Full", "abc"),
-        (Step::Revert("", too_many), "Full", "abc"),
-        (Step::Draft("", visible), "Range", "abc"),
-        (Step::Revert("", visible), "Range", "abc"),
+        (Step::Draft("", TOO_MANY), "Full", "abc"),
+        (Step::Revert("", TOO_MANY), "Full", "abc"),
+        (Step::Draft("", VISIBLE), "Range", "abc"),
+        (Step::Revert("", VISIBLE), "Range", "abc"),
         (Step::Draft("", "z9.2<8.2"), "Range", "abc"),
         (Step::Revert("", "z9.2<8.2"), "Range", "abc"),
         (Step::Draft("", "y7.2<0.0"), "Range", "abc"),
         (Step::Revert("", "y7.2<0.0"), "Range", "abc"),
     ];
-    walk(&rt, rt.alloc(), (1, 6, ABC), &steps);
+    walk(&rt, rt.alloc(), (1, 6, ABC), STEPS);
 }
+
+/// The last insertion that a clock allows.
+const LAST: &str = "z9007199254740991.2<0.0";
 
 #[test]
 fn used_up_clock_restores_nothing(rt: HostRuntime) {
-    let last = "z9007199254740991.2<0.0";
-    let steps = [
-        (Step::Draft("", last), "Clock", "z"),
-        (Step::Revert("", last), "Clock", "z"),
-        (Step::Revert(last, ""), "-9007199254740991.2", ""),
+    const STEPS: &[Row] = &[
+        (Step::Draft("", LAST), "Clock", "z"),
+        (Step::Revert("", LAST), "Clock", "z"),
+        (Step::Revert(LAST, ""), "-9007199254740991.2", ""),
     ];
-    walk(&rt, rt.alloc(), (1, 100, last), &steps);
+    walk(&rt, rt.alloc(), (1, 100, LAST), STEPS);
 }

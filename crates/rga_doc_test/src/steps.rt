@@ -23,6 +23,9 @@ pub enum Step {
     Draft(&'static str, &'static str),
 }
 
+/// A step, what it answers, and the text then.
+pub type Row = (Step, &'static str, &'static str);
+
 fn answer_to(alloc: Global, doc: &mut Document, step: Step) -> Result<Vec<Op>, Refusal> {
     match step {
         Step::Take(words) => take(alloc, doc, words).map(|_| Vec::new(alloc)),
@@ -58,7 +61,7 @@ pub fn answers(alloc: Global, answer: Result<Vec<Op>, Refusal>, words: &str) -> 
 }
 
 /// Does the steps; each has its answer, and behind it the text is this.
-fn go(rt: &impl Abort, alloc: Global, doc: &mut Document, steps: &[(Step, &str, &str)]) {
+fn go(rt: &impl Abort, alloc: Global, doc: &mut Document, steps: &[Row]) {
     for (step, answer, text) in steps {
         let answered = answer_to(alloc, doc, *step);
         assert!(rt; answers(alloc, answered, answer), "{answer}");
@@ -67,7 +70,7 @@ fn go(rt: &impl Abort, alloc: Global, doc: &mut Document, steps: &[(Step, &str, 
 }
 
 /// Does the steps with a document that holds this.
-pub fn walk(rt: &impl Abort, alloc: Global, held: Held, steps: &[(Step, &str, &str)]) {
+pub fn walk(rt: &impl Abort, alloc: Global, held: Held, steps: &[Row]) {
     let mut doc = document(alloc, held).expect(rt, "a document");
     go(rt, alloc, &mut doc, steps);
 }

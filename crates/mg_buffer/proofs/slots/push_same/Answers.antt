@@ -1,4 +1,4 @@
-use Rattle.std.proofs.Common.{◌≡◌, ℕ, ◌+◌, List, [], ◌∷◌, ◌++◌, map, take_all, get_or, sym, ap, ◌∙◌, arith}
+use Rattle.std.proofs.Common.{◌≡◌, ℕ, List, [], ◌∷◌, ◌++◌, map, take_all, get_or, sym, ap, ◌∙◌, arith}
 use Rattle.mg_buffer.proofs.SlotLaws.{mapped_more, read_again}
 use Rattle.mg_buffer.proofs.slots.push_same.Goals as goal
 

@@ -63,7 +63,7 @@ returns-clause-follows g c =
     let before : State = c.args.self.now in
     let new : answer before.limit before.content c.args.op ≡ Ok New = search rules in
     let old : Document = c.self.inside.doc in
-    let doc : c.apply.new.self ≡ document (join old.content (single c.args.op)) old.limit old.replica false = search rules in
+    let doc : c.apply.new.self ≡ document (join old.content (single c.args.op)) old.limit old.replica c.apply.new.self.listed = search rules in
     let whole : c.apply.new.self.content ≡ join before.content (single c.args.op) = search rules in
     record {
       content = whole ∙ ap (join before.content) (sym (join_nothing (single c.args.op)));
