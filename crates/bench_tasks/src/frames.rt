@@ -1,14 +1,16 @@
 //! Frames of a screen of 24 rows and 80 columns: `frames WORK LINE SIZE TIMES`.
 //!
-//! A text of SIZE characters in lines of LINE letters is made, and so many times, with point near
-//! its end: `first-line` places the window, `frame` makes the rows, `cursor` finds the cursor,
+//! A text of SIZE characters in lines of LINE letters is made, and so many times, with point at its
+//! end: `first-line` places the window, `frame` makes the rows, `cursor` finds the cursor,
 //! `all` does the three, and `split` splits a window and takes one away again. The number is a sum
 //! over what comes of it.
 ghost use Rattle.std.specs.Prelude.{◌≡◌, ◌≤◌, length, IfOk};
 ghost use Rattle.mg_screen.specs.Frame.{rows_of};
+ghost use Rattle.mg_screen.specs.Lines as spec;
 
 use crate::fault::Fault;
 use crate::text::{lines, named, number_at};
+use mg_buffer::line_of;
 use mg_screen::{FrameFault, Pane, Screen, WindowFault, Windows, cursor, first_line, frame};
 use std::alloc::{AllocError, Global};
 
@@ -49,11 +51,13 @@ pub fn outcome(alloc: Global, words: &[String]) -> Result<usize, Fault> {
 }
 
 fn shown(alloc: Global, work: Work, text: &[char], times: usize) -> Result<usize, FrameFault> {
-    let first = first_line(text, text.len(), 0, HEIGHT);
+    let point = text.len();
+    let line = line_of(text, point);
+    let first = first_line(line, 0, HEIGHT);
     let mut sum: usize = 0;
     for i in 0..times {
-        let point = text.len().saturating_sub(i % 8);
-        sum = sum.wrapping_add(work_at(alloc, work, text, point, first)?);
+        let old = first.saturating_sub(i % 8);
+        sum = sum.wrapping_add(work_at(alloc, work, text, point, line, old)?);
     }
     Ok(sum)
 }
@@ -64,18 +68,20 @@ fn work_at(
     work: Work,
     text: &[char],
     point: usize,
+    line: usize,
     old: usize,
 ) -> Result<usize, FrameFault>
-    requires { point ≤ length text.now }
+    requires within { point ≤ length text.now }
+    requires line { line ≡ spec.line_of text.now point }
 {
     let first = match work {
-        Work::FirstLine | Work::All => first_line(text, point, old, HEIGHT),
+        Work::FirstLine | Work::All => first_line(line, old, HEIGHT),
         _ => old,
     };
     if let Work::FirstLine = work {
         return Ok(first);
     }
-    let screen = screen_over(alloc, text, point, first)?;
+    let screen = screen_over(alloc, text, point, line, first)?;
     Ok(first.wrapping_add(look(alloc, work, &screen)?))
 }
 
@@ -116,14 +122,17 @@ fn screen_over<'a>(
     alloc: Global,
     text: &'a [char],
     point: usize,
+    line: usize,
     first: usize,
 ) -> Result<Screen<'a>, FrameFault>
-    requires { point ≤ length text.now }
+    requires within { point ≤ length text.now }
+    requires line { line ≡ spec.line_of text.now point }
     ensures { IfOk result (λ s. rows_of s ≡ 24) }
 {
     let pane = Pane {
         text,
         point,
+        line,
         first,
         height: HEIGHT,
         name: String::from_str(alloc, "notes")?,

@@ -22,15 +22,15 @@ module _ (xs ys : List Identifier) (gs hs : List Slotted) (elements : ys ≡ xs)
   pub within_still : (i : ℕ) (pasts : List Past) → pasts_by xs gs ≡ pasts → i < length pasts → i < length hs
   within_still i pasts same h = subst (λ n. i < n) (sym (ap length same) ∙ length-map gs (past_by xs) ∙ sym (ap length groups)) h
 
-  module _ (d e : Document) (point : Marker) (mark : Option Marker) (listed : Bool) (kept : IsKept d point mark xs gs listed) where
-    pub kept_still : e ≡ d → IsKept e point mark ys hs listed
+  module _ (d e : Document) (point : Marker) (line : ℕ) (mark : Option Marker) (listed : Bool) (kept : IsKept d point line mark xs gs listed) where
+    pub kept_still : e ≡ d → IsKept e point line mark ys hs listed
     kept_still same =
-        subst (λ f. IsKept f point mark ys hs listed) (sym same)
-        (subst (λ zs. IsKept d point mark zs hs listed) (sym elements)
-        (subst (λ fs. IsKept d point mark xs fs listed) (sym groups) kept))
+        subst (λ f. IsKept f point line mark ys hs listed) (sym same)
+        (subst (λ zs. IsKept d point line mark zs hs listed) (sym elements)
+        (subst (λ fs. IsKept d point line mark xs fs listed) (sym groups) kept))
 
     -- so it is where the document was listed, and the buffer is not
-    pub kept_unlisted : e.content ≡ d.content → IsKept e point mark ys hs false
+    pub kept_unlisted : e.content ≡ d.content → IsKept e point line mark ys hs false
     kept_unlisted same = record {
       point_stands = ap (λ c. stands c point) same ∙ kept.point_stands;
       mark_stands = ap (λ c. option_map_or (stands c) mark true) same ∙ kept.mark_stands;

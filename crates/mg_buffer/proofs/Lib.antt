@@ -1,5 +1,6 @@
 pub mod CharacterLaws
 pub mod PlaceLaws
+pub mod LineLaws
 pub mod RestorableLaws
 pub mod GroupLaws
 pub mod SlotLaws

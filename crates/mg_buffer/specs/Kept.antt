@@ -1,12 +1,14 @@
 -- What is true of each buffer.
-use Rattle.std.specs.Prelude.{◌≡◌, Bool, true, List, Option, Some, is_some}
+use Rattle.std.specs.Prelude.{◌≡◌, ℕ, Bool, true, List, Option, Some, is_some}
 use Rattle.std.specs.Option.{option_map_or, IfSome}
 use Rattle.rga_ops.specs.Content.{Content}
 use Rattle.rga_ops.specs.Identifier.{Identifier}
+use Rattle.rga_ops.specs.Order.{text}
 use Rattle.rga_ops.specs.Places.{place}
 use Rattle.rga_doc.specs.Document.{Document}
 use Rattle.mg_buffer.specs.declared.marker.Marker.{Marker}
 use Rattle.mg_buffer.specs.Groups.{are_revertible}
+use Rattle.mg_buffer.specs.LineNumbers.{line_of}
 use Rattle.mg_buffer.specs.Slots.{Slotted, AreFilled, AreOld, pasts_by}
 
 -- the element has a place
@@ -17,18 +19,19 @@ stands c s = is_some (place c s.element)
 abbrev pub IsPlaced : Content → Marker → Type 0
 IsPlaced c s = place c s.element ≡ Some s.place
 
--- the document is listed, and the places are those of point and mark
-pub record IsAtHand (d : Document) (point : Marker) (mark : Option Marker) : Type 0 where
+-- the document is listed, the places are those of point and mark, and the line is that of point
+pub record IsAtHand (d : Document) (point : Marker) (line : ℕ) (mark : Option Marker) : Type 0 where
   pub document : d.listed ≡ true
   pub place_of_point : IsPlaced d.content point
+  pub line_of_point : line ≡ line_of (text d.content) point.place
   pub place_of_mark : IfSome mark (IsPlaced d.content)
 
 -- point and mark have places; there are elements in the slots of the groups, none newer than the clock, by which every
 -- group can be reverted; and what is listed is at hand
-pub record IsKept (d : Document) (point : Marker) (mark : Option Marker) (elements : List Identifier) (groups : List Slotted) (listed : Bool) : Type 0 where
+pub record IsKept (d : Document) (point : Marker) (line : ℕ) (mark : Option Marker) (elements : List Identifier) (groups : List Slotted) (listed : Bool) : Type 0 where
   pub point_stands : stands d.content point ≡ true
   pub mark_stands : option_map_or (stands d.content) mark true ≡ true
   pub filled : AreFilled elements groups
   pub old : AreOld d.content elements
   pub revertible : are_revertible d.content (pasts_by elements groups) ≡ true
-  pub at_hand : listed ≡ true → IsAtHand d point mark
+  pub at_hand : listed ≡ true → IsAtHand d point line mark

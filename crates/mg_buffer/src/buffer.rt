@@ -5,11 +5,13 @@ ghost use Rattle.std.specs.String.{string_bytes};
 ghost use Rattle.rga_ops.specs.Prelude.{is_root, place, text};
 ghost use Rattle.rga_ops.specs.Identifier.{root};
 ghost use Rattle.mg_plain.specs.declared.view.Kind.TheVariants.{Plain};
-ghost use Rattle.mg_buffer.specs.Sight.{situation_of};
+ghost use Rattle.mg_buffer.specs.LineNumbers as lines;
+ghost use Rattle.mg_buffer.specs.Sight.{place_of, situation_of};
 ghost use Rattle.mg_buffer.specs.State.{state};
 
 use crate::characters::string_of;
 use crate::history::History;
+use crate::line_numbers::line_of;
 use crate::marker::{Marker, find, find_mark, mark_place};
 use crate::memo::Memo;
 use mg_plain::{Kind, View};
@@ -22,14 +24,16 @@ use std::marker::Model;
 /// A document that commands run on, over any store.
 ///
 /// Point and mark are behind elements, so others' edits move them with the text. While the buffer
-/// is listed, the text and the places of point and mark are at hand; what is taken from elsewhere
-/// ends that.
+/// is listed, the text, the places of point and mark and the line of point are at hand; what is
+/// taken from elsewhere ends that.
 #[derive(Drop)]
 pub struct Buffer<S: TextStore> {
     pub(crate) alloc: Global,
     pub(crate) doc: Doc<S>,
     pub(crate) name: String,
     pub(crate) point: Marker,
+    /// The line of point.
+    pub(crate) line: usize,
     pub(crate) mark: Option<Marker>,
     pub(crate) history: History,
     /// In a run of undos, the index of the group that was undone last.
@@ -54,7 +58,7 @@ impl<S: TextStore> Model for Buffer<S> {
         (pasts_by b.history.elements.keys b.history.groups.items)
         b.undone b.unsaved.items b.listed };
 
-    ghost invariant = { λ b. IsKept b.doc b.point b.mark
+    ghost invariant = { λ b. IsKept b.doc b.point b.line b.mark
         b.history.elements.keys b.history.groups.items b.listed };
 }
 
@@ -72,6 +76,7 @@ impl<S: TextStore> Buffer<S> {
                 element: Id::ROOT,
                 place: 0,
             },
+            line: 0,
             mark: None,
             history: History::new(alloc),
             undone: None,
@@ -110,8 +115,9 @@ impl<S: TextStore> Buffer<S> {
         self.unsaved.clear();
     }
 
-    /// Lists the text and the places of point and mark, so that `view` finds them. A command does
-    /// so too. `Memory` alone, and never where the buffer is listed; a refusal changes nothing.
+    /// Lists the text, the places of point and mark and the line of point, so that `view` and
+    /// `line` find them. A command does so too. `Memory` alone, and never where the buffer is
+    /// listed; a refusal changes nothing.
     pub fn list(&mut self) -> Result<(), Refusal>
         ensures listed { OnOk result (self.new ≡ record self.old { listed = true }) }
         ensures memory { IfErr result (λ e. e ≡ Refusal.Memory) }
@@ -124,6 +130,7 @@ impl<S: TextStore> Buffer<S> {
         self.doc.list()?;
         self.point = find(&self.doc, self.point)?;
         self.mark = find_mark(&self.doc, self.mark)?;
+        self.line = line_of(self.doc.characters(), self.point.place);
         self.listed = true;
         Ok(())
     }
@@ -154,6 +161,15 @@ impl<S: TextStore> Buffer<S> {
             goal: memo.goal,
             last: memo.kind,
         }
+    }
+
+    /// The line of point, from 0. Takes no memory, and counts nothing.
+    pub fn line(&self) -> usize
+        requires { self.now.listed ≡ true }
+        ensures { let b = self.now in
+            result ≡ lines.line_of (text b.content) (place_of b.content b.point) }
+    {
+        self.line
     }
 
     /// Does nothing, as a key that is no command on the text: ends a run of undos, and the kind

@@ -20,6 +20,7 @@ pub(crate) struct Marker {
 pub(crate) fn marker_at<S: TextStore>(doc: &Doc<S>, k: usize) -> Marker
     requires listed { doc.now.listed ≡ true }
     requires within { k ≤ length (text doc.now.content) }
+    ensures place { result.place ≡ k }
     ensures element { element_behind doc.now.content k ≡ Some result.element }
     ensures placed { IsPlaced doc.now.content result }
 {

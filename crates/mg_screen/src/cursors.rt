@@ -6,7 +6,7 @@ ghost use Rattle.mg_screen.specs.Frame.{rows_of};
 ghost use Rattle.mg_screen.specs.Cursor as spec;
 
 use crate::cells::{beginning_width, text_width, width_within};
-use crate::lines::{column_of, line_end, line_of};
+use crate::lines::{column_of, line_end};
 use crate::screen::{Pane, Position, Screen};
 
 /// How many columns the cells of a line take that its row shows.
@@ -51,7 +51,7 @@ fn pane_cursor(columns: usize, above: usize, pane: &Pane) -> Option<Position>
     requires above { above ≤ MAX_ROWS }
     ensures { result ≡ spec.pane_cursor columns above pane.now }
 {
-    let line = line_of(pane.text, pane.point);
+    let line = pane.line;
     if line < pane.first || line - pane.first >= pane.height {
         return None;
     }

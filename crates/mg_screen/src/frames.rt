@@ -6,7 +6,7 @@ ghost use Rattle.mg_screen.specs.Rows.{cut_row};
 ghost use Rattle.mg_screen.specs.Written.{Spells, SpellRows, AddsRows};
 ghost use Rattle.mg_screen.specs.Frame as spec;
 
-use crate::lines::{line_of, line_start};
+use crate::lines::line_start;
 use crate::mode_line::mode_row;
 use crate::rows::{characters, cut_row, push_row};
 use crate::screen::{FrameFault, Pane, Screen};
@@ -23,10 +23,9 @@ fn push_pane(
     ensures { OnOk result
         (AddsRows (spec.pane_rows columns pane.now) rows.old.items rows.new.items) }
 {
-    let line = line_of(pane.text, pane.point);
-    let begin = line_start(pane.text, pane.point, line, pane.first);
+    let begin = line_start(pane.text, pane.point, pane.line, pane.first);
     push_text_rows(alloc, columns, pane.height, pane.text, begin, rows)?;
-    push_row(rows, mode_row(alloc, columns, pane, line)?)
+    push_row(rows, mode_row(alloc, columns, pane)?)
 }
 
 fn echo_row(alloc: Global, columns: usize, echo: &str) -> Result<String, AllocError>

@@ -1,5 +1,5 @@
 //! The lines of a text, and where a window stands over them.
-ghost use Rattle.std.specs.Prelude.{◌≡◌, ◌≤◌, ◌+◌, ◌-◌, length, drop, count_by};
+ghost use Rattle.std.specs.Prelude.{◌≡◌, ℕ, ◌≤◌, ◌+◌, ◌-◌, List, length, drop, count_by};
 ghost use Rattle.std.specs.List.{position_or_len};
 ghost use Rattle.mg_screen.specs.declared.lines.TheConstants.{BLOCK};
 ghost use Rattle.mg_screen.specs.Lines as spec;
@@ -21,22 +21,6 @@ fn newlines(block: &[char]) -> u32
         }
     }
     count
-}
-
-/// The line in which a place stands.
-pub(crate) fn line_of(text: &[char], place: usize) -> usize
-    requires { place ≤ length text.now }
-    ensures exact { result ≡ spec.line_of text.now place }
-    ensures bound { result ≤ length text.now }
-{
-    let mut line = 0;
-    let mut rest = &text[..place];
-    while rest.len() > BLOCK {
-        let (block, behind) = rest.split_at(BLOCK);
-        line += newlines(block) as usize;
-        rest = behind;
-    }
-    line + newlines(rest) as usize
 }
 
 /// A place of the same line, some whole blocks before.
@@ -65,25 +49,23 @@ pub(crate) fn column_of(text: &[char], place: usize) -> usize
     place - begin
 }
 
-/// The first line of a window of so many text rows in whose middle point stands (mg(1), recenter).
-/// Lines count from 0, and point counts characters. Takes no memory.
-pub fn centred_line(text: &[char], point: usize, height: usize) -> usize
-    requires { point ≤ length text.now }
-    ensures { result ≡ spec.centred (spec.line_of text.now point) height }
+/// The first line of a window of so many text rows in whose middle a line stands (mg(1), recenter).
+/// Lines count from 0. Takes no memory.
+pub fn centred_line(line: usize, height: usize) -> usize
+    ensures { result ≡ spec.centred line height }
 {
-    line_of(text, point).saturating_sub(height / 2)
+    line.saturating_sub(height / 2)
 }
 
 /// The first line of a window before a frame: the old one, `first`, where the window shows point's
-/// line then, else the one that puts point's line in its middle. Lines count from 0, and point
-/// counts characters. Takes no memory.
-pub fn first_line(text: &[char], point: usize, first: usize, height: usize) -> usize
-    requires { point ≤ length text.now }
-    ensures { result ≡ spec.first_line text.now point first height }
+/// line then, else the one that puts point's line in its middle. `line` is that of point, in any
+/// text. Lines count from 0. Takes no memory.
+pub fn first_line(line: usize, first: usize, height: usize) -> usize
+    ensures { (text : List ℕ) (point : ℕ) → line ≡ spec.line_of text point →
+        result ≡ spec.first_line text point first height }
 {
-    let line = line_of(text, point);
     if line < first || line - first >= height {
-        line.saturating_sub(height / 2)
+        centred_line(line, height)
     } else {
         first
     }

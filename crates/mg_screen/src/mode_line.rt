@@ -1,6 +1,5 @@
 //! The mode line of a window.
-ghost use Rattle.std.specs.Prelude.{◌≡◌, ◌≤◌, length, IfOk, string_bytes, chars};
-ghost use Rattle.mg_screen.specs.Lines.{line_of};
+ghost use Rattle.std.specs.Prelude.{◌≡◌, IfOk, string_bytes, chars};
 ghost use Rattle.mg_screen.specs.Written.{Spells};
 ghost use Rattle.mg_screen.specs.Rows.{filled_row};
 ghost use Rattle.mg_screen.specs.Frame as spec;
@@ -30,13 +29,11 @@ fn mode_line(
     format!(in alloc; "{mark}Mg: {name} (fundamental) L{line} C{column} W{waiting}")
 }
 
-fn mode_text(alloc: Global, pane: &Pane, line: usize) -> Result<String, AllocError>
-    requires line { line ≡ line_of pane.now.text pane.now.point }
-    requires bound { line ≤ length pane.now.text }
+fn mode_text(alloc: Global, pane: &Pane) -> Result<String, AllocError>
     ensures { IfOk result (λ text. string_bytes text ≡ spec.mode_text pane.now) }
 {
     let mark = changed_mark(pane.changed);
-    let number = line + 1;
+    let number = pane.line + 1;
     let column = column_of(pane.text, pane.point);
     mode_line(
         alloc,
@@ -48,18 +45,11 @@ fn mode_text(alloc: Global, pane: &Pane, line: usize) -> Result<String, AllocErr
     )
 }
 
-/// What the mode line says, filled with hyphens or cut. `line` is that of point.
-pub(crate) fn mode_row(
-    alloc: Global,
-    columns: usize,
-    pane: &Pane,
-    line: usize,
-) -> Result<String, AllocError>
-    requires line { line ≡ line_of pane.now.text pane.now.point }
-    requires bound { line ≤ length pane.now.text }
+/// What the mode line says, filled with hyphens or cut.
+pub(crate) fn mode_row(alloc: Global, columns: usize, pane: &Pane) -> Result<String, AllocError>
     ensures { let said = chars (spec.mode_text pane.now) in
         IfOk result (λ row. Spells (filled_row columns said) row) }
 {
-    let text = mode_text(alloc, pane, line)?;
+    let text = mode_text(alloc, pane)?;
     filled_row(alloc, columns, &characters(alloc, text.as_str())?)
 }

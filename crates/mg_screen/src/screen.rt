@@ -3,12 +3,15 @@ use std::alloc::AllocError;
 use std::marker::Model;
 
 /// A window: the text that it shows from a line on, and what its mode line says. Point is a place
-/// of the text, and there are 1 to `MAX_ROWS` text rows.
+/// of the text, with its line beside it, so that a frame reads no more than it shows; there are 1
+/// to `MAX_ROWS` text rows.
 #[derive(Drop)]
 pub struct Pane<'a> {
     pub text: &'a [char],
     /// How many characters stand before point.
     pub point: usize,
+    /// The line of point, from 0: how many newlines stand before it.
+    pub line: usize,
     /// The line in the topmost row, from 0.
     pub first: usize,
     /// How many text rows the window has.
@@ -22,8 +25,9 @@ pub struct Pane<'a> {
 }
 
 impl<'a> Model for Pane<'a> {
-    ghost use Rattle.std.specs.Prelude.{◌≤◌, length, string_bytes};
+    ghost use Rattle.std.specs.Prelude.{◌≡◌, ◌≤◌, length, string_bytes};
     ghost use Rattle.mg_screen.specs.Screen as spec;
+    ghost use Rattle.mg_screen.specs.Lines.{line_of};
     ghost use Rattle.mg_screen.specs.declared.size.TheConstants.{MAX_ROWS};
 
     ghost Value = { spec.Pane };
@@ -39,7 +43,8 @@ impl<'a> Model for Pane<'a> {
     } };
 
     ghost invariant = { λ p.
-        (p.point ≤ length p.text.now) × (1 ≤ p.height) × (p.height ≤ MAX_ROWS) };
+        (p.point ≤ length p.text.now) × (1 ≤ p.height) × (p.height ≤ MAX_ROWS)
+        × (p.line ≡ line_of p.text.now p.point) };
 }
 
 /// The windows from the top on, and what the echo line says.

@@ -10,7 +10,6 @@ ghost use Rattle.mg_workspace.specs.Workspaces.{HasList};
 use crate::fault::{ActionFault, of_windows};
 use crate::viewport::Viewport;
 use crate::workspace::Workspace;
-use mg_buffer::Memo;
 use mg_files::VisitedBuffer;
 use mg_minibuffer::Arrangement;
 use mg_screen::{WindowFault, Windows, centred_line};
@@ -41,7 +40,7 @@ pub(crate) fn current_viewport(windows: &Windows<Viewport>) -> Viewport
 }
 
 /// The current window shows its buffer, which is this, with point's line in its middle.
-fn recenter<S: TextStore>(windows: &mut Windows<Viewport>, opened: &VisitedBuffer<S>, memo: &Memo)
+fn recenter<S: TextStore>(windows: &mut Windows<Viewport>, opened: &VisitedBuffer<S>)
     requires { opened.now.buffer.listed ≡ true }
     ensures exact { windows.new ≡ spec.arranged Arrangement.Recenter opened.now windows.old }
     ensures shown { (n : ℕ) → ShowThese n windows.old.windows → ShowThese n windows.new.windows }
@@ -49,8 +48,7 @@ fn recenter<S: TextStore>(windows: &mut Windows<Viewport>, opened: &VisitedBuffe
     let index = windows.current();
     let height = windows.heights()[index];
     let buffer = current_viewport(windows).buffer;
-    let view = opened.buffer.view(memo);
-    let first = centred_line(view.text, view.point, height);
+    let first = centred_line(opened.buffer.line(), height);
     windows.show(index, Viewport { buffer, first });
 }
 
@@ -58,7 +56,6 @@ fn change_windows<S: TextStore>(
     windows: &mut Windows<Viewport>,
     arrangement: Arrangement,
     opened: &VisitedBuffer<S>,
-    memo: &Memo,
 ) -> Result<(), WindowFault>
     requires { opened.now.buffer.listed ≡ true }
     ensures exact { spec.IsWindowAnswer result (spec.window_answer arrangement windows.old) }
@@ -79,7 +76,7 @@ fn change_windows<S: TextStore>(
             Ok(())
         }
         Arrangement::Recenter => {
-            recenter(windows, opened, memo);
+            recenter(windows, opened);
             Ok(())
         }
     }
@@ -103,7 +100,7 @@ impl<S: TextStore> Workspace<S> {
         ensures kept { result ≡ Err Memory → spec.Keeps self.old self.new }
     {
         let opened = self.buffers.current();
-        let answer = change_windows(&mut self.windows, arrangement, opened, &self.memo);
+        let answer = change_windows(&mut self.windows, arrangement, opened);
         if lacks_memory(answer) {
             return Err(ActionFault::Memory);
         }

@@ -19,17 +19,11 @@ use rga_store::TextStore;
 use std::alloc::{AllocError, Global};
 
 /// The first line of a window over a buffer, so that it shows the line of point.
-fn first_shown<S: TextStore>(
-    opened: &VisitedBuffer<S>,
-    memo: &Memo,
-    shown: Viewport,
-    height: usize,
-) -> usize
+fn first_shown<S: TextStore>(opened: &VisitedBuffer<S>, shown: Viewport, height: usize) -> usize
     requires { opened.now.buffer.listed ≡ true }
     ensures { result ≡ spec.first_over (Some opened.now) (window height shown) }
 {
-    let view = opened.buffer.view(memo);
-    first_line(view.text, view.point, shown.first, height)
+    first_line(opened.buffer.line(), shown.first, height)
 }
 
 /// What the window at an index shows once it is placed: its buffer, with the line of point.
@@ -37,7 +31,6 @@ fn placed_viewport<S: TextStore>(
     windows: &Windows<Viewport>,
     index: usize,
     buffers: &Buffers<S>,
-    memo: &Memo,
 ) -> Viewport
     requires listed { AreListed buffers.now.all }
     requires shown { ShowThese (length buffers.now.all) windows.now.windows }
@@ -49,17 +42,12 @@ fn placed_viewport<S: TextStore>(
     let opened = buffers.at(shown.buffer);
     Viewport {
         buffer: shown.buffer,
-        first: first_shown(opened, memo, shown, height),
+        first: first_shown(opened, shown, height),
     }
 }
 
 /// The window at an index shows the line of point.
-fn place_window<S: TextStore>(
-    windows: &mut Windows<Viewport>,
-    index: usize,
-    buffers: &Buffers<S>,
-    memo: &Memo,
-)
+fn place_window<S: TextStore>(windows: &mut Windows<Viewport>, index: usize, buffers: &Buffers<S>)
     requires listed { AreListed buffers.now.all }
     requires shown { ShowThese (length buffers.now.all) windows.old.windows }
     requires within { index < length windows.old.windows }
@@ -67,17 +55,17 @@ fn place_window<S: TextStore>(
       windows = mapped_at (spec.placed_window buffers.now.all) index windows.old.windows;
     } }
 {
-    let placed = placed_viewport(windows, index, buffers, memo);
+    let placed = placed_viewport(windows, index, buffers);
     windows.show(index, placed);
 }
 
-fn place_windows<S: TextStore>(windows: &mut Windows<Viewport>, buffers: &Buffers<S>, memo: &Memo)
+fn place_windows<S: TextStore>(windows: &mut Windows<Viewport>, buffers: &Buffers<S>)
     requires listed { AreListed buffers.now.all }
     requires shown { ShowThese (length buffers.now.all) windows.old.windows }
     ensures { windows.new ≡ spec.placed buffers.now.all windows.old }
 {
     for index in 0..windows.heights().len() {
-        place_window(windows, index, buffers, memo);
+        place_window(windows, index, buffers);
     }
 }
 
@@ -101,6 +89,7 @@ fn pane<'a, S: TextStore>(
     Ok(Pane {
         text: view.text,
         point: view.point,
+        line: opened.buffer.line(),
         first: shown.first,
         height,
         name: String::from_str(alloc, opened.buffer.name())?,
@@ -125,7 +114,7 @@ fn placed_pane<'a, S: TextStore>(
         let panes = spec.panes_of bs (spec.placed bs windows.now) in
         IfOk result (λ p. slice_get panes index ≡ Some p) }
 {
-    let placed = placed_viewport(windows, index, buffers, memo);
+    let placed = placed_viewport(windows, index, buffers);
     let height = height_at(windows, index);
     pane(alloc, buffers.at(placed.buffer), memo, placed, height)
 }
@@ -179,7 +168,7 @@ impl<S: TextStore> Workspace<S> {
         requires { HasLists self.old }
         ensures { self.new ≡ spec.placed_work self.old }
     {
-        place_windows(&mut self.windows, &self.buffers, &self.memo);
+        place_windows(&mut self.windows, &self.buffers);
     }
 
     /// The windows as they are shown once they are placed.

@@ -3,6 +3,7 @@ ghost use Rattle.std.specs.Prelude.{◌≡◌, ◌≤◌, length, IfOk};
 ghost use Rattle.mg_screen.specs.Frame.{rows_of};
 
 use crate::plans::chars_of;
+use mg_buffer::line_of;
 use mg_screen::{FrameFault, Pane, Position, Screen, cursor};
 use std::alloc::{AllocError, Global};
 
@@ -19,6 +20,7 @@ fn pane_over<'a>(
     Ok(Pane {
         text,
         point,
+        line: line_of(text, point),
         first,
         height: 2,
         name: String::from_str(alloc, "notes")?,

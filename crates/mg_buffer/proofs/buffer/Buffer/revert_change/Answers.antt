@@ -175,7 +175,7 @@ add_undo-requires-clause-filled g c =
 pub invariant_of-self-in_err-take_revert : goal.invariant_of-self-in_err-take_revert
 invariant_of-self-in_err-take_revert g c =
     kept_still c.self.inside.history.elements.keys c.prepare.new.history.elements.keys c.self.inside.history.groups.items c.prepare.new.history.groups.items c.prepare.ensures.elements c.prepare.ensures.groups
-    c.self.inside.doc c.take_revert.new.self c.self.inside.point c.self.inside.mark c.self.inside.listed c.self.invariant c.in_err-take_revert.ensures.same
+    c.self.inside.doc c.take_revert.new.self c.self.inside.point c.self.inside.line c.self.inside.mark c.self.inside.listed c.self.invariant c.in_err-take_revert.ensures.same
 
 pub returns-in_err-done-clause-same : goal.returns-in_err-done-clause-same
 returns-in_err-done-clause-same g c =

@@ -71,7 +71,7 @@ invariant_of-self-2 g c =
           let same : c.apply_all.new.self ≡ c.self.inside.doc =
           same_document c.self.inside.doc c.apply_all.new.self (whole ∙ ap (λ xs. join content (content_of xs)) none ∙ join_nothing content) c.apply_all.ensures.limit
           (subst (λ xs. Follows c.self.inside.doc xs c.apply_all.new.self) none follows) in
-          subst (λ d. IsAtHand d c.self.inside.point c.self.inside.mark) (sym same) (c.self.invariant.at_hand (c.stays_listed-self-inside.ensures.listed h));
+          subst (λ d. IsAtHand d c.self.inside.point c.self.inside.line c.self.inside.mark) (sym same) (c.self.invariant.at_hand (c.stays_listed-self-inside.ensures.listed h));
     }
 
 pub returns-clause-follows : goal.returns-clause-follows

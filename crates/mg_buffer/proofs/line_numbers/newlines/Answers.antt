@@ -1,8 +1,8 @@
 use Rattle.std.proofs.Common.{count_by, cond, ap, arith}
 use Rattle.std.proofs.lemmas.List.Sums.{sum_by-take-drop}
-use Rattle.mg_screen.specs.declared.lines.TheConstants.{BLOCK}
-use Rattle.mg_screen.specs.Lines.{is_newline}
-use Rattle.mg_screen.proofs.lines.line_of.Goals as goal
+use Rattle.mg_plain.specs.Characters.{is_newline}
+use Rattle.mg_buffer.specs.declared.line_numbers.TheConstants.{BLOCK}
+use Rattle.mg_buffer.proofs.line_numbers.newlines.Goals as goal
 
 pub loop-rest-preserved : goal.loop-rest-preserved
 loop-rest-preserved c =
@@ -10,6 +10,6 @@ loop-rest-preserved c =
     let block = ap (count_by is_newline) c.split_at.ensures.front in
     let behind = ap (count_by is_newline) c.split_at.ensures.back in
     record {
-      counted = omega (arith, parts, block, behind, c.newlines.ensures.exact, c.loop-rest.invariant.counted);
-      within = omega (arith, c.split_at.ensures.back_len, c.newlines.ensures.bound, c.loop-rest.invariant.within);
+      counted = omega (arith, parts, block, behind, c.newlines_of_block.ensures.exact, c.loop-rest.invariant.counted);
+      within = omega (arith, c.split_at.ensures.back_len, c.newlines_of_block.ensures.bound, c.loop-rest.invariant.within);
     }

@@ -1,0 +1,61 @@
+-- The line of a place, by that of another place, and what splices leave alone.
+use Rattle.std.proofs.Common.{◌≡◌, ℕ, zero, suc, ◌+◌, ◌-◌, ◌≤◌, List, [], ◌∷◌, ◌++◌, length, take, drop, min, count_by, cond, arith, refl, ap, ◌∙◌, drop-drop, append_assoc}
+use Rattle.std.proofs.lemmas.List.{length-take}
+use Rattle.std.proofs.lemmas.List.Sums.{sum_by-take-drop, sum_by-take-le, count_by-le-length}
+use Rattle.std.proofs.Math.Nat.{min-le_left, min-le_right, min-eq_left}
+use Rattle.rga_ops.specs.Splice.{Splice, spliced, text_after}
+use Rattle.mg_plain.specs.Characters.{is_newline}
+use Rattle.mg_buffer.specs.LineNumbers.{line_of, least_begin}
+
+-- of two places the one behind has the newlines between both more
+pub lines_between : (text : List ℕ) (from to : ℕ) → from ≤ to → line_of text from + count_by is_newline (take (to - from) (drop from text)) ≡ line_of text to
+lines_between text from to order =
+    let before = sum_by-take-drop (λ x. cond (is_newline x) 1 0) text from in
+    let all = sum_by-take-drop (λ x. cond (is_newline x) 1 0) text to in
+    let between = sum_by-take-drop (λ x. cond (is_newline x) 1 0) (drop from text) (to - from) in
+    let end : from + (to - from) ≡ to = omega (arith, order) in
+    let behind = ap (count_by is_newline) (drop-drop (to - from) from text ∙ ap (λ n. drop n text) end) in
+    omega (arith, before, all, between, behind)
+
+pub line_within : (text : List ℕ) (place : ℕ) → line_of text place ≤ length text
+line_within text place =
+    let some = sum_by-take-le (λ x. cond (is_newline x) 1 0) text place in
+    omega (arith, some, count_by-le-length is_newline text)
+
+-- ---- splices
+
+pub least_within : (place : ℕ) (splices : List Splice) → least_begin place splices ≤ place
+least_within place [] = omega arith
+least_within place (s ∷ splices) = omega (arith, least_within (min place s.lo) splices, min-le_left place s.lo)
+
+-- what begins as another list is as long
+within_same : (n : ℕ) (xs ys : List ℕ) → take n xs ≡ take n ys → n ≤ length ys → n ≤ length xs
+within_same n xs ys same within =
+    let long = length-take n ys ∙ min-eq_left within in
+    omega (arith, long, ap length same, length-take n xs, min-le_right n (length xs))
+
+take_front : (n lo : ℕ) (xs rest : List ℕ) → n ≤ lo → n ≤ length xs → take n (take lo xs ++ rest) ≡ take n xs
+take_front zero lo xs rest before within = refl
+take_front (suc n) lo [] rest before within = absurd (omega (arith, within))
+take_front (suc n) zero (x ∷ xs) rest before within = absurd (omega (arith, before))
+take_front (suc n) (suc lo) (x ∷ xs) rest before within = ap (λ t. x ∷ t) (take_front n lo xs rest (omega (arith, before)) (omega (arith, within)))
+
+pub front_stays : (place : ℕ) (chars : List ℕ) (splices : List Splice) → place ≤ length chars
+    → take (least_begin place splices) (text_after chars splices) ≡ take (least_begin place splices) chars
+front_stays place chars [] within = refl
+front_stays place chars (s ∷ splices) within =
+    let least = min place s.lo in
+    let first = min-le_left place s.lo in
+    let begin = min-le_right place s.lo in
+    let below = least_within least splices in
+    let after = spliced chars s.lo s.hi s.put in
+    let rest = s.put ++ drop s.hi chars in
+    let parts : after ≡ take s.lo chars ++ rest = append_assoc (take s.lo chars) s.put (drop s.hi chars) in
+    let kept : take least after ≡ take least chars = ap (take least) parts ∙ take_front least s.lo chars rest begin (omega (arith, first, within)) in
+    let inside = within_same least after chars kept (omega (arith, first, within)) in
+    front_stays least after splices inside ∙ ap (take (least_begin least splices)) parts
+    ∙ take_front (least_begin least splices) s.lo chars rest (omega (arith, below, begin)) (omega (arith, below, first, within))
+
+pub least_in_text : (place : ℕ) (chars : List ℕ) (splices : List Splice) → place ≤ length chars → least_begin place splices ≤ length (text_after chars splices)
+least_in_text place chars splices within =
+    within_same (least_begin place splices) (text_after chars splices) chars (front_stays place chars splices within) (omega (arith, least_within place splices, within))

@@ -1,0 +1,6 @@
+use Rattle.std.proofs.Common.{◌≡◌, drop}
+use Rattle.mg_buffer.specs.LineNumbers.{least_begin}
+use Rattle.mg_buffer.proofs.line_numbers.least_begin.Given as goal
+
+abbrev pub invariant-loop-splice : goal.invariant-loop-splice
+invariant-loop-splice l = least_begin l.least (drop l.splice-index l.splices) ≡ least_begin l.place l.splices
