@@ -2,7 +2,7 @@
 use crate::list_store::{ListStore, Shown};
 use crate::random::Random;
 use crate::words::{is, last_visible_ones};
-use rga_ops::{Id, Op};
+use rga_ops::Op;
 use rga_store::TextStore;
 use std::alloc::Global;
 use std::process::Abort;
@@ -27,7 +27,11 @@ fn shows<S: TextStore>(alloc: Global, store: &S, shown: &Shown) -> bool {
     is(store.order(), &shown.order)
         && is(store.text(alloc), &shown.text)
         && lists(alloc, store, shown)
-        && counts(alloc, store, &shown.visible)
+        && store.visible_len() == shown.visible.len()
+        && is(
+            store.elements(alloc, 0, shown.visible.len()),
+            &shown.visible,
+        )
         && is(last_visible_ones(alloc, store), &shown.last)
 }
 
@@ -39,11 +43,6 @@ fn lists<S: TextStore>(alloc: Global, store: &S, shown: &Shown) -> bool {
         }
         Err(_) => false,
     }
-}
-
-/// Whether the store counts these visible elements, and has them by index.
-fn counts<S: TextStore>(alloc: Global, store: &S, visible: &[Id]) -> bool {
-    store.visible_len() == visible.len() && is(store.elements(alloc, 0, visible.len()), visible)
 }
 
 /// Whether both take 80 operations alike, and show the same behind each.

@@ -1,6 +1,5 @@
 //! Each kind of store meets the worked examples, and answers as the plain list does.
 use crate::comparison::check_beside_a_list;
-use crate::elements::{check_elements, check_other_places};
 use crate::merging::{check_merges, takes_its_copy};
 use crate::stores::{
     check_last_visible, check_limits, check_siblings, check_texts, has_each_answer,
@@ -23,8 +22,6 @@ fn check<S: TextStore, R: Abort>(rt: &R, alloc: Global) {
     check_siblings::<S, R>(rt, alloc);
     assert!(rt; has_elements::<S>(alloc));
     check_places::<S, R>(rt, alloc);
-    check_elements::<S, R>(rt, alloc);
-    check_other_places::<S, R>(rt, alloc);
     check_lists::<S, R>(rt, alloc);
     check_merges::<S, R>(rt, alloc);
     assert!(rt; takes_its_copy::<S>(alloc));

@@ -9,8 +9,6 @@
 #[cfg(test)]
 mod comparison;
 #[cfg(test)]
-mod elements;
-#[cfg(test)]
 mod kinds;
 #[cfg(test)]
 mod list_store;

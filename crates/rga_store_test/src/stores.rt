@@ -1,5 +1,5 @@
 //! Both stores on worked examples.
-use crate::words::{are_characters, holds, last_visible_ones, shows, spell, store_of};
+use crate::words::{holds, last_visible_ones, shows, spell, store_of};
 use rga_ops::{Id, Op, Refusal};
 use rga_store::{MAX_LIMIT, TextStore, answer_at};
 use rga_walk::{text, visible_len};
@@ -60,6 +60,21 @@ pub fn check_texts<S: TextStore, R: Abort>(rt: &R, alloc: Global) {
     ] {
         assert!(rt; tells::<S>(alloc, words, text, *waiting), "{name}");
     }
+}
+
+/// Whether these are the characters of the elements, in turn; the root has a dot.
+fn are_characters<S: TextStore>(store: &S, ids: &[Id], text: &str) -> bool {
+    let mut chars = text.chars();
+    for id in ids {
+        let ch = match store.get(*id) {
+            Some((_, ch)) => ch,
+            None => '.',
+        };
+        if chars.next() != Some(ch) {
+            return false;
+        }
+    }
+    chars.next() == None
 }
 
 /// Whether these are the characters of the last visible elements up to each element of the order,

@@ -23,6 +23,7 @@ pub fn has_elements<S: TextStore>(alloc: Global) -> bool {
             prints(alloc, &visible_elements(&store), ELEMENTS)
                 && element_at(&store, 2) == id(2, 2)
                 && element_at(&store, 3) == Err(Refusal::Range)
+                && store.elements(alloc, 1, 9).map(|ids| ids.len()) == Ok(2)
         }
         Err(_) => false,
     }
@@ -54,6 +55,7 @@ pub fn check_places<S: TextStore, R: Abort>(rt: &R, alloc: Global) {
         (LEFT, (3, 1), "(Ok(1), Ok(None))"),
         (LEFT, (4, 1), "(Ok(2), Ok(Some(1)))"),
         (LEFT, (9, 9), "(Err(Range), Ok(None))"),
+        ("a1.1<0.0 w9.1<8.1", (9, 1), "(Err(Range), Ok(None))"),
     ] {
         assert!(rt;
             stands_at::<S>(alloc, words, *element, answers),

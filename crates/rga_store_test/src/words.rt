@@ -46,21 +46,6 @@ pub fn last_visible_ones<S: TextStore>(alloc: Global, store: &S) -> Result<Vec<I
     Ok(found)
 }
 
-/// Whether these are the characters of the elements, in turn; the root has a dot.
-pub fn are_characters<S: TextStore>(store: &S, ids: &[Id], text: &str) -> bool {
-    let mut chars = text.chars();
-    for id in ids {
-        let ch = match store.get(*id) {
-            Some((_, ch)) => ch,
-            None => '.',
-        };
-        if chars.next() != Some(ch) {
-            return false;
-        }
-    }
-    chars.next() == None
-}
-
 /// Whether both stores hold the same operations, and have the same order.
 pub fn alike<S: TextStore>(a: &S, b: &S) -> bool {
     same(a.ops(), b.ops()) && same(a.order(), b.order())
