@@ -91,7 +91,7 @@ fn type_letter(doc: &mut Document) -> Result<(), Refusal> {
     let _ops = doc.splice(middle, middle, &['b'])?;
     doc.list()?;
     let place = doc.characters().len() / 2;
-    let _anchor = doc.listed_anchor(place);
+    let _anchor = doc.anchor_within(place);
     Ok(())
 }
 

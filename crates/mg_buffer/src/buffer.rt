@@ -128,8 +128,8 @@ impl<S: TextStore> Buffer<S> {
             return Ok(());
         }
         self.doc.list()?;
-        self.point = find(&self.doc, self.point)?;
-        self.mark = find_mark(&self.doc, self.mark)?;
+        self.point = find(&self.doc, self.point);
+        self.mark = find_mark(&self.doc, self.mark);
         self.line = line_of(self.doc.characters(), self.point.place);
         self.listed = true;
         Ok(())

@@ -1,12 +1,12 @@
 //! Places of a document that last.
-ghost use Rattle.std.specs.Prelude.{◌≡◌, ◌≤◌, true, Some, length, is_some, IfOk, IfErr, IfSome, OnOk};
+ghost use Rattle.std.specs.Prelude.{◌≡◌, ◌≤◌, true, Some, length, IfSome};
 ghost use Rattle.std.specs.Option.{option_map, option_map_or};
 ghost use Rattle.rga_ops.specs.Prelude.{place, text};
 ghost use Rattle.rga_doc.specs.LocalEdit.{element_behind};
 ghost use Rattle.mg_buffer.specs.Kept.{IsPlaced, stands};
 
 use rga_doc::{Anchor, Doc};
-use rga_ops::{Id, Refusal};
+use rga_ops::Id;
 use rga_store::TextStore;
 
 /// A place behind an element, with the number that it had when it was last looked for.
@@ -16,25 +16,23 @@ pub(crate) struct Marker {
     pub(crate) place: usize,
 }
 
-/// The marker at a place of a listed document. Takes no memory.
+/// The marker at a place of the text. Takes no memory.
 pub(crate) fn marker_at<S: TextStore>(doc: &Doc<S>, k: usize) -> Marker
-    requires listed { doc.now.listed ≡ true }
-    requires within { k ≤ length (text doc.now.content) }
+    requires { k ≤ length (text doc.now.content) }
     ensures place { result.place ≡ k }
     ensures element { element_behind doc.now.content k ≡ Some result.element }
     ensures placed { IsPlaced doc.now.content result }
 {
-    let anchor = doc.listed_anchor(k);
+    let anchor = doc.anchor_within(k);
     Marker {
         element: anchor.element,
         place: k,
     }
 }
 
-/// The marker of a mark at a place of a listed document, if there is one. Takes no memory.
+/// The marker of a mark at a place of the text, if there is one. Takes no memory.
 pub(crate) fn mark_at<S: TextStore>(doc: &Doc<S>, k: Option<usize>) -> Option<Marker>
-    requires listed { doc.now.listed ≡ true }
-    requires within { IfSome k (λ n. n ≤ length (text doc.now.content)) }
+    requires { IfSome k (λ n. n ≤ length (text doc.now.content)) }
     ensures element { option_map (element_behind doc.now.content) k
         ≡ option_map Some (option_map (λ s. s.element) result) }
     ensures placed { IfSome result (IsPlaced doc.now.content) }
@@ -45,34 +43,28 @@ pub(crate) fn mark_at<S: TextStore>(doc: &Doc<S>, k: Option<usize>) -> Option<Ma
     }
 }
 
-/// The same marker with the number of its place now. `Memory` alone.
-pub(crate) fn find<S: TextStore>(doc: &Doc<S>, marker: Marker) -> Result<Marker, Refusal>
+/// The same marker with the number of its place now. Takes no memory.
+pub(crate) fn find<S: TextStore>(doc: &Doc<S>, marker: Marker) -> Marker
     requires { stands doc.now.content marker ≡ true }
-    ensures element { IfOk result (λ s. s.element ≡ marker.element) }
-    ensures placed { IfOk result (IsPlaced doc.now.content) }
-    ensures memory { IfErr result (λ e. e ≡ Refusal.Memory) }
+    ensures element { result.element ≡ marker.element }
+    ensures placed { IsPlaced doc.now.content result }
 {
     let element = marker.element;
     match doc.place(Anchor { element }) {
-        Ok(place) => Ok(Marker { element, place }),
-        Err(_) => Err(Refusal::Memory),
+        Ok(place) => Marker { element, place },
+        Err(_) => marker,
     }
 }
 
-/// The same for a mark, if there is one. `Memory` alone.
-pub(crate) fn find_mark<S: TextStore>(
-    doc: &Doc<S>,
-    mark: Option<Marker>,
-) -> Result<Option<Marker>, Refusal>
+/// The same for a mark, if there is one. Takes no memory.
+pub(crate) fn find_mark<S: TextStore>(doc: &Doc<S>, mark: Option<Marker>) -> Option<Marker>
     requires { option_map_or (stands doc.now.content) mark true ≡ true }
-    ensures element { IfOk result (λ m.
-        option_map (λ s. s.element) m ≡ option_map (λ s. s.element) mark) }
-    ensures placed { IfOk result (λ m. IfSome m (IsPlaced doc.now.content)) }
-    ensures memory { IfErr result (λ e. e ≡ Refusal.Memory) }
+    ensures element { option_map (λ s. s.element) result ≡ option_map (λ s. s.element) mark }
+    ensures placed { IfSome result (IsPlaced doc.now.content) }
 {
     match mark {
-        Some(marker) => Ok(Some(find(doc, marker)?)),
-        None => Ok(None),
+        Some(marker) => Some(find(doc, marker)),
+        None => None,
     }
 }
 

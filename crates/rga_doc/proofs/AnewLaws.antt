@@ -1,11 +1,8 @@
--- Lists that are made anew, splice by splice from the front: what stands behind a splice waits for none before it.
+-- A text that is listed anew, splice by splice from the front: what stands behind a splice waits for none before it.
 use Rattle.std.proofs.Common.{◌≡◌, ℕ, zero, suc, ◌+◌, ◌<◌, ◌≤◌, ◌&&◌, nat_le, true, get_or, List, [], ◌∷◌, ◌++◌, take, drop, length, refl, sym, ap, ◌∙◌, arith, append_assoc, append-nil, length-take-le, take-append-drop, take-take}
 use Rattle.std.proofs.lemmas.Bool.Decides.{nat_tests}
 use Rattle.std.proofs.lemmas.List.{take-append-le, drop-append-le, drop_all, drop_more}
-use Rattle.rga_ops.specs.Identifier.{Identifier}
 use Rattle.rga_ops.specs.Splice.{Splice, spliced, text_after, are_falling, end_of, new_characters}
-use Rattle.rga_doc.specs.LocalEdit.{new_ids}
-use Rattle.rga_doc.specs.Listing.{elements_after}
 use Rattle.rga_doc.proofs.SplicedLists.{long-spliced}
 use Rattle.rga_doc.proofs.EditLaws.{falls_first}
 use Rattle.rga_doc.proofs.EditAnswers.{fewer, characters_left}
@@ -74,15 +71,6 @@ text_front front back (s ∷ splices) h =
     ap (λ xs. text_after xs splices) (spliced_front front back s.put s.lo s.hi first.up first.within)
     ∙ text_front (spliced front s.lo s.hi s.put) back splices (falls_wider splices s.lo (length (spliced front s.lo s.hi s.put)) enough first.further)
 
-elements_front : (replica last : ℕ) (front back : List Identifier) (splices : List Splice) → are_falling (length front) splices ≡ true → elements_after replica last (front ++ back) splices ≡ elements_after replica last front splices ++ back
-elements_front replica last front back [] h = refl
-elements_front replica last front back (s ∷ splices) h =
-    let first = falls_first s splices (length front) h in
-    let row : List Identifier = new_ids replica last s.put in
-    let enough : s.lo ≤ length (spliced front s.lo s.hi row) = long-spliced front row s.lo s.hi (omega (arith, first.up, first.within)) in
-    ap (λ xs. elements_after replica (last + length s.put) xs splices) (spliced_front front back row s.lo s.hi first.up first.within)
-    ∙ elements_front replica (last + length s.put) (spliced front s.lo s.hi row) back splices (falls_wider splices s.lo (length (spliced front s.lo s.hi row)) enough first.further)
-
 -- ---- one splice more
 
 -- a splice that ends a list: what stands up to the end of those left of it, then what is kept between, then what it puts
@@ -104,25 +92,9 @@ text_more chars made s splices end is falling apart up within =
     ∙ sym (text_front (take end chars) (kept ++ s.put) splices (ap (λ n. are_falling n splices) long ∙ falling))
     ∙ ap (λ xs. text_after xs splices) (sym (spliced_last chars s.put end s.lo s.hi apart up within))
 
-pub elements_more : (replica last next : ℕ) (ids made : List Identifier) (s : Splice) (splices : List Splice) (end : ℕ) → next ≡ last + length s.put → made ≡ elements_after replica next (take end ids) splices → are_falling end splices ≡ true → end ≤ s.lo → s.lo ≤ s.hi → s.hi ≤ length ids
-    → (made ++ drop end (take s.lo ids)) ++ new_ids replica last s.put ≡ elements_after replica last (take s.hi ids) (s ∷ splices)
-elements_more replica last next ids made s splices end on is falling apart up within =
-    let kept : List Identifier = drop end (take s.lo ids) in
-    let row : List Identifier = new_ids replica last s.put in
-    let long : length (take end ids) ≡ end = length-take-le end ids (omega (arith, apart, up, within)) in
-    append_assoc made kept row ∙ ap (λ o. o ++ (kept ++ row)) (is ∙ ap (λ n. elements_after replica n (take end ids) splices) on)
-    ∙ sym (elements_front replica (last + length s.put) (take end ids) (kept ++ row) splices (ap (λ n. are_falling n splices) long ∙ falling))
-    ∙ ap (λ xs. elements_after replica (last + length s.put) xs splices) (sym (spliced_last ids row end s.lo s.hi apart up within))
-
 -- and what is left behind them all
 pub text_whole : (chars made : List ℕ) (splices : List Splice) (end : ℕ) → made ≡ text_after (take end chars) splices → are_falling end splices ≡ true → end ≤ length chars → made ++ drop end chars ≡ text_after chars splices
 text_whole chars made splices end is falling within =
     ap (λ o. o ++ drop end chars) is
     ∙ sym (text_front (take end chars) (drop end chars) splices (ap (λ n. are_falling n splices) (length-take-le end chars within) ∙ falling))
     ∙ ap (λ xs. text_after xs splices) (take-append-drop end chars)
-
-pub elements_whole : (replica last : ℕ) (ids made : List Identifier) (splices : List Splice) (end : ℕ) → made ≡ elements_after replica last (take end ids) splices → are_falling end splices ≡ true → end ≤ length ids → made ++ drop end ids ≡ elements_after replica last ids splices
-elements_whole replica last ids made splices end is falling within =
-    ap (λ o. o ++ drop end ids) is
-    ∙ sym (elements_front replica last (take end ids) (drop end ids) splices (ap (λ n. are_falling n splices) (length-take-le end ids within) ∙ falling))
-    ∙ ap (λ xs. elements_after replica last xs splices) (take-append-drop end ids)

@@ -176,11 +176,6 @@ splice_text limit replica lo hi c put h =
     let s = splicing limit replica lo hi c put h in
     ap text (sym s.0.leads.joined) ∙ s.0.shows.characters
 
-pub splice_visible : (limit replica lo hi : ℕ) (c : Content) (put : List ℕ) → splice_answer limit c lo hi put ≡ Ok tt → visible (join c (content_of (splice_operations replica c lo hi put))) ≡ spliced (visible c) lo hi (new_ids replica (clock_of c) put)
-splice_visible limit replica lo hi c put h =
-    let s = splicing limit replica lo hi c put h in
-    ap visible (sym s.0.leads.joined) ∙ s.0.shows.elements
-
 pub splice_order : (limit replica lo hi : ℕ) (c : Content) (put : List ℕ) → splice_answer limit c lo hi put ≡ Ok tt → order (join c (content_of (splice_operations replica c lo hi put))) ≡ order_after replica c lo put
 splice_order limit replica lo hi c put h =
     let s = splicing limit replica lo hi c put h in

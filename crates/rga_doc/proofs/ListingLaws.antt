@@ -1,27 +1,19 @@
--- Lists that are spliced with the text are the visible elements and the text of the new content.
-use Rattle.std.proofs.Common.{◌≡◌, ℕ, suc, ◌+◌, ◌≤◌, ◌&&◌, nat_le, true, List, [], ◌∷◌, length, refl, sym, ap, ◌∙◌, subst, arith}
+-- Elements that are spliced with the text are the visible elements of the new content.
+use Rattle.std.proofs.Common.{◌≡◌, ℕ, ◌+◌, ◌≤◌, ◌&&◌, nat_le, true, List, [], ◌∷◌, length, refl, sym, ap, ◌∙◌, subst, arith}
 use Rattle.std.specs.Prelude.{Ok}
 use Rattle.std.proofs.lemmas.Bool.Decides.{nat_tests}
 use Rattle.rga_ops.specs.Identifier.{Identifier}
 use Rattle.rga_ops.specs.Content.{Content, clock_of, join, content_of}
 use Rattle.rga_ops.specs.Order.{text}
 use Rattle.rga_ops.specs.Places.{visible}
-use Rattle.rga_ops.specs.Splice.{Splice, spliced, text_after, are_falling, new_characters}
+use Rattle.rga_ops.specs.Splice.{Splice, spliced, are_falling, new_characters}
 use Rattle.rga_ops.specs.declared.op.Op.{Op}
 use Rattle.rga_ops.proofs.ContentLaws.{join_assoc, join_nothing}
 use Rattle.rga_ops.proofs.OperationLaws.{content_of-append}
 use Rattle.rga_ops.proofs.VisibleLaws.{text_long}
-use Rattle.rga_doc.specs.LocalEdit.{splice_operations, splices_operations, splice_answer, splices_answer, new_ids}
-use Rattle.rga_doc.specs.Listing.{IsListOf, elements_after}
+use Rattle.rga_doc.specs.LocalEdit.{splice_operations, splices_operations, splices_answer, new_ids, elements_after}
 use Rattle.rga_doc.proofs.EditSteps.{shows_long}
-use Rattle.rga_doc.proofs.EditLaws.{allowed, splices_at, falls_first, splice_text, splice_visible, splices_text}
-
--- ---- lengths
-
--- a new element for each character
-pub new_ids_long : (replica last : ℕ) (put : List ℕ) → length (new_ids replica last put) ≡ length put
-new_ids_long replica last [] = refl
-new_ids_long replica last (ch ∷ put) = ap suc (new_ids_long replica (last + 1) put)
+use Rattle.rga_doc.proofs.EditLaws.{allowed, splices_at, falls_first}
 
 -- splices that fall within a bound fall within each greater one
 pub falls_wider : (splices : List Splice) (a b : ℕ) → a ≤ b → are_falling a splices ≡ true → are_falling b splices ≡ true
@@ -31,14 +23,6 @@ falls_wider (s ∷ splices) a b up h =
     let ordered : nat_le s.lo s.hi ≡ true = grind (arith, nat_tests) in
     let within : nat_le s.hi b ≡ true = grind (arith, nat_tests) in
     λ k. (ordered k && within k) && first.further k
-
--- ---- one splice
-
-pub list_spliced : (limit replica lo hi : ℕ) (c : Content) (put : List ℕ) (elements : List Identifier) (characters : List ℕ) → splice_answer limit c lo hi put ≡ Ok tt → IsListOf c elements characters → IsListOf (join c (content_of (splice_operations replica c lo hi put))) (spliced elements lo hi (new_ids replica (clock_of c) put)) (spliced characters lo hi put)
-list_spliced limit replica lo hi c put elements characters h all = record {
-  visible_ones = ap (λ xs. spliced xs lo hi (new_ids replica (clock_of c) put)) all.visible_ones ∙ sym (splice_visible limit replica lo hi c put h);
-  their_text = ap (λ xs. spliced xs lo hi put) all.their_text ∙ sym (splice_text limit replica lo hi c put h);
-}
 
 -- ---- several splices in turn
 
@@ -64,9 +48,3 @@ pub splices_visible : (limit replica : ℕ) (c : Content) (splices : List Splice
 splices_visible limit replica c splices h =
     let s = allowed limit c (are_falling (length (text c)) splices) (new_characters splices) h in
     elements_on splices c replica (clock_of c) (length (text c)) refl (omega (arith, text_long c)) s.1
-
-pub list_after : (limit replica : ℕ) (c : Content) (splices : List Splice) (elements : List Identifier) (characters : List ℕ) → splices_answer limit c splices ≡ Ok tt → IsListOf c elements characters → IsListOf (join c (content_of (splices_operations replica c splices))) (elements_after replica (clock_of c) elements splices) (text_after characters splices)
-list_after limit replica c splices elements characters h all = record {
-  visible_ones = ap (λ xs. elements_after replica (clock_of c) xs splices) all.visible_ones ∙ sym (splices_visible limit replica c splices h);
-  their_text = ap (λ xs. text_after xs splices) all.their_text ∙ sym (splices_text limit replica c splices h);
-}

@@ -1,28 +1,27 @@
 -- Reverts: the operations of an allowed revert are taken, and each restored element goes in directly behind its own.
 use Rattle.std.proofs.Common.{◌≡◌, ℕ, ◌+◌, ◌<◌, suc, Bool, true, false, cond, not, ◌&&◌, ◌||◌, is_some, List, [], ◌∷◌, map, filter, length, refl, sym, ap, ◌∙◌, subst, arith}
 use Rattle.std.specs.Prelude.{Some, None, Ok, Err}
-use Rattle.std.specs.Option.{option_map, option_map_or}
+use Rattle.std.specs.Option.{option_map_or}
 use Rattle.std.specs.List.{list_any, AllByRecursion}
 use Rattle.std.specs.FinMap as finite_map
 use Rattle.std.specs.FinSet as finite_set
 use Rattle.std.proofs.lemmas.Bool.{and_parts, or_right}
 use Rattle.rga_ops.specs.Identifier.{Identifier, identifier, is_id, is_root}
 use Rattle.rga_ops.specs.Operation.{checked}
-use Rattle.rga_ops.specs.Content.{Element, element, Content, known_ids, clock_of, join, single, content_of}
+use Rattle.rga_ops.specs.Content.{Content, known_ids, clock_of, join, single, content_of}
 use Rattle.rga_ops.specs.Answer.{is_element}
 use Rattle.rga_ops.specs.RootPath.{is_complete}
 use Rattle.rga_ops.specs.Order.{order}
-use Rattle.rga_ops.specs.Places.{is_visible, character}
+use Rattle.rga_ops.specs.Places.{is_visible}
 use Rattle.rga_ops.specs.ListAnswer.{and_check, list_answer}
-use Rattle.rga_ops.proofs.IdentifierLaws.{ids_total, is, is_itself}
-use Rattle.rga_ops.proofs.ContentLaws.{join_nothing, within_join}
+use Rattle.rga_ops.proofs.IdentifierLaws.{ids_total, is}
+use Rattle.rga_ops.proofs.ContentLaws.{join_nothing}
 use Rattle.rga_ops.proofs.PathLaws.{is_complete-iff, not_complete_root, inserted_if_complete}
 use Rattle.rga_ops.proofs.MemberLaws.{all_map, all_filter}
 use Rattle.rga_ops.proofs.OrderLaws.{order_list}
 use Rattle.rga_ops.proofs.AnswerLaws.{contains-known}
 use Rattle.rga_ops.proofs.KnownLaws.{known_taken}
 use Rattle.rga_ops.proofs.InsertionLaws.{is_root_or_complete, is_complete-insertion}
-use Rattle.rga_ops.proofs.ListSteps.{get-insertion}
 use Rattle.rga_ops.proofs.NewestLaws.{newest_absent, newest_kept, newest_leaf, order-newest}
 use Rattle.rga_ops.proofs.NewestTextLaws.{newest_well_formed, clock-newest}
 use Rattle.rga_ops.proofs.DeletionLaws.{order-deletion, clock-deletion_complete}
@@ -102,19 +101,13 @@ module _ (c : Content) (id parent : Identifier) (ch : ℕ) (next : id.counter �
         time = time ∙ next;
       }
 
--- the new elements have the characters of those that they restore
-abbrev pub AreShown : Content → ℕ → ℕ → List (Identifier × ℕ) → Type 0
-AreShown c replica last [] = Unit {0}
-AreShown c replica last (b ∷ back) = (character c (identifier (last + 1) replica) ≡ Some b.1) × AreShown c replica (last + 1) back
-
 record Restores (c : Content) (replica last : ℕ) (back : List (Identifier × ℕ)) : Type 0 where
   outcome : Content
   leads : Leads c outcome (restorations replica last back) (length back)
   stands : order outcome ≡ put_back replica last back (order c)
-  shows : AreShown outcome replica last back
 
 restores : (back : List (Identifier × ℕ)) (c : Content) (replica last : ℕ) → last ≡ clock_of c → AreComplete c (elements_of back) → Restores c replica last back
-restores [] c replica last now all = record { outcome = c; leads = leads_nowhere c; stands = refl; shows = tt }
+restores [] c replica last now all = record { outcome = c; leads = leads_nowhere c; stands = refl }
 restores (b ∷ back) c replica last now all =
     let id : Identifier = identifier (last + 1) replica in
     let next : last + 1 ≡ clock_of c + 1 = ap (λ n. n + 1) now in
@@ -124,15 +117,10 @@ restores (b ∷ back) c replica last now all =
     let further : AreComplete d (elements_of back) =
     all_map (λ q. is_complete c q ≡ true) (λ q. is_complete d q ≡ true) (λ q h. is_complete-insertion c id b.0 b.1 (newest_leaf c id newer) q ∙ or_right (is q id && is_root_or_complete c b.0) (is_complete c q) h) (elements_of back) all.1 in
     let later = restores back d replica (last + 1) (next ∙ sym leads.time) further in
-    let here : finite_map.get d.inserted id ≡ Some (element b.0 b.1) =
-    get-insertion c id b.0 b.1 id (newest_absent c id newer) ∙ ap (λ t. cond t (Some (element b.0 b.1)) (finite_map.get c.inserted id)) (is_itself id) in
-    let still : finite_map.get later.outcome.inserted id ≡ Some (element b.0 b.1) =
-    ap (λ (e : Content). finite_map.get e.inserted id) later.leads.joined ∙ (within_join d (content_of (restorations replica (last + 1) back))).inserted id (element b.0 b.1) here in
     record {
       outcome = later.outcome;
       leads = subst (λ n. Leads c later.outcome (restorations replica last (b ∷ back)) n) (one_more (length back)) (leads_on c d later.outcome (Insert id b.0 b.1 ∷ []) (restorations replica (last + 1) back) 1 (length back) leads later.leads);
       stands = later.stands ∙ ap (put_back replica (last + 1) back) (order-newest c id newer b.0 b.1);
-      shows = (ap (option_map (λ (x : Element). x.ch)) still, later.shows);
     }
   where
     one_more : (n : ℕ) → 1 + n ≡ suc n
@@ -193,13 +181,6 @@ revert_taken limit replica c gone back h =
     let s = allowed limit c (are_restorable c back) (length back) h in
     let done = reverts c replica gone back s.1 in
     taken_if limit c done.restored.outcome (revert_operations replica c gone back) (length back) done.leads s.0
-
--- the restored elements have the characters of their own
-pub revert_shows : (limit replica : ℕ) (c : Content) (gone : List Identifier) (back : List (Identifier × ℕ)) → revert_answer limit c back ≡ Ok tt → AreShown (join c (content_of (revert_operations replica c gone back))) replica (clock_of c) back
-revert_shows limit replica c gone back h =
-    let s = allowed limit c (are_restorable c back) (length back) h in
-    let done = reverts c replica gone back s.1 in
-    subst (λ e. AreShown e replica (clock_of c) back) done.leads.joined done.restored.shows
 
 pub revert_order : (limit replica : ℕ) (c : Content) (gone : List Identifier) (back : List (Identifier × ℕ)) → revert_answer limit c back ≡ Ok tt → order (join c (content_of (revert_operations replica c gone back))) ≡ put_back replica (clock_of c) back (order c)
 revert_order limit replica c gone back h =

@@ -25,7 +25,7 @@ use Rattle.rga_ops.proofs.PathLaws.{is_complete-iff, not_complete_root, inserted
 use Rattle.rga_ops.proofs.OrderLaws.{order_list, order_distinct}
 use Rattle.rga_ops.proofs.ClockLaws.{within_clock}
 use Rattle.rga_ops.proofs.OperationLaws.{content_of-append, get-single}
-use Rattle.rga_ops.proofs.VisibleLaws.{text_long, visible_elements}
+use Rattle.rga_ops.proofs.VisibleLaws.{text_long, filtered, visible_elements}
 use Rattle.rga_ops.proofs.InsertionLaws.{is_root_or_complete, is_complete-insertion, not_complete_before}
 use Rattle.rga_ops.proofs.NewestLaws.{newest_absent, newest_kept, newest_leaf, order-newest}
 use Rattle.rga_doc.specs.LocalEdit.{chain, splice_operations, splices_operations, draft_operations, splices_answer, new_ids, left_of}
@@ -35,7 +35,7 @@ use Rattle.rga_doc.proofs.EditSteps.{shows_long}
 use Rattle.rga_doc.proofs.EditLaws.{allowed, splices_at, falls_first, splices_drafted}
 use Rattle.rga_doc.proofs.RevertSets.{among, AreApart, not_among, apart_if_restorable, elements_of}
 use Rattle.rga_doc.proofs.RevertLaws.{AreComplete, restoration_leads, newest, Removes, removes, all_once, gone_complete, back_complete, complete_by_order}
-use Rattle.rga_doc.proofs.UndoLists.{Reading, reads_same, reads_behind, moved, reads_moved, apart_by_counter, AreNewer, not_among_newer, newer_still, new_ids-newer, inserted_elements-append, deleted_elements-append, inserted_elements-deletions, deleted_elements-deletions, inserted_elements-chain, deleted_elements-chain, contains-operations, get-operations_absent, all_take, all_drop, filtered, once_has, deleted_elements-restorations}
+use Rattle.rga_doc.proofs.UndoLists.{Reading, reads_same, reads_behind, moved, reads_moved, apart_by_counter, AreNewer, not_among_newer, newer_still, new_ids-newer, inserted_elements-append, deleted_elements-append, inserted_elements-deletions, deleted_elements-deletions, inserted_elements-chain, deleted_elements-chain, contains-operations, get-operations_absent, all_take, all_drop, once_has, deleted_elements-restorations}
 
 -- ---- complete elements are no newer than the clock
 

@@ -1,23 +1,24 @@
 -- What lists of elements read as, where elements are put in; and what the lists of an edit's operations have.
-use Rattle.std.proofs.Common.{◌≡◌, ℕ, zero, suc, ◌+◌, ◌<◌, ◌≤◌, Bool, true, false, cond, not, ◌&&◌, ◌||◌, List, [], ◌∷◌, ◌++◌, map, filter, take, drop, refl, sym, ap, ◌∙◌, subst, arith, true≢false}
+use Rattle.std.proofs.Common.{◌≡◌, ℕ, zero, suc, ◌+◌, ◌<◌, ◌≤◌, true, false, cond, not, ◌&&◌, ◌||◌, List, [], ◌∷◌, ◌++◌, map, filter, take, drop, length, refl, sym, ap, ◌∙◌, subst, arith, true≢false}
 use Rattle.std.specs.Prelude.{Option, Some, None}
 use Rattle.std.specs.Option.{option_or}
 use Rattle.std.specs.List.{list_any, AllByRecursion, IsDistinct, filter_map, cons_option}
 use Rattle.std.specs.FinMap as finite_map
 use Rattle.std.specs.FinSet as finite_set
-use Rattle.std.proofs.Math.Bool.{and-false}
 use Rattle.std.proofs.lemmas.Bool.{false_from_ne_true, or_parts}
 use Rattle.rga_ops.specs.Identifier.{Identifier, identifier, id_cmp, is_id, is_root}
-use Rattle.rga_ops.specs.Content.{element, single, content_of}
+use Rattle.rga_ops.specs.Content.{Content, element, clock_of, single, content_of}
+use Rattle.rga_ops.specs.Places.{is_visible}
 use Rattle.rga_ops.specs.Placement.{change_after, without}
 use Rattle.rga_ops.specs.declared.op.Op.{Op}
 use Rattle.rga_ops.specs.declared.op.Op.TheVariants.{Insert, Delete}
 use Rattle.rga_ops.proofs.IdentifierLaws.{is, same_id, is_itself, is_swap, is_id-same, is_id-is}
 use Rattle.rga_ops.proofs.MemberLaws.{all_map}
 use Rattle.rga_ops.proofs.ContentLaws.{get-join, contains-join}
+use Rattle.rga_ops.proofs.VisibleLaws.{filtered}
 use Rattle.rga_ops.proofs.OperationLaws.{get-single, contains-single}
 use Rattle.rga_doc.specs.LocalEdit.{chain, new_ids, put_row_behind}
-use Rattle.rga_doc.specs.Revert.{distinct_elements, restorations}
+use Rattle.rga_doc.specs.Revert.{distinct_elements, restorations, revert_operations}
 use Rattle.rga_doc.specs.UndoGroup.{inserted_elements, deleted_elements}
 
 abbrev pub Reading : Type 0
@@ -170,21 +171,6 @@ all_drop P (suc n) (x ∷ xs) h = all_drop P n xs h.1
 
 -- ---- members
 
-pub filtered : (p : Identifier → Bool) (id : Identifier) (xs : List Identifier) → list_any (is id) (filter p xs) ≡ (list_any (is id) xs && p id)
-filtered p id [] = refl
-filtered p id (x ∷ xs) = elim (p x) as (λ b. p x ≡ b → list_any (is id) (cond b (x ∷ filter p xs) (filter p xs)) ≡ ((is id x || list_any (is id) xs) && p id)) [
-  | true ↦ λ t. elim (is id x) as (λ b. is id x ≡ b → (b || list_any (is id) (filter p xs)) ≡ ((b || list_any (is id) xs) && p id)) [
-    | true ↦ λ s. sym (ap p (same_id id x s) ∙ t)
-    | false ↦ λ s. filtered p id xs
-  ] refl
-  | false ↦ λ t. elim (is id x) as (λ b. is id x ≡ b → list_any (is id) (filter p xs) ≡ ((b || list_any (is id) xs) && p id)) [
-    | true ↦ λ s.
-        let no : p id ≡ false = ap p (same_id id x s) ∙ t in
-        filtered p id xs ∙ ap (λ b. list_any (is id) xs && b) no ∙ and-false (list_any (is id) xs) ∙ sym no
-    | false ↦ λ s. filtered p id xs
-  ] refl
-] refl
-
 pub once_has : (id : Identifier) (xs : List Identifier) → list_any (is id) xs ≡ true → list_any (is id) (distinct_elements xs) ≡ true
 once_has id [] m = m
 once_has id (x ∷ xs) m = elim (is id x) as (λ b. is id x ≡ b → (b || list_any (is id) xs) ≡ true → (b || list_any (is id) (without x (distinct_elements xs))) ≡ true) [
@@ -195,3 +181,20 @@ once_has id (x ∷ xs) m = elim (is id x) as (λ b. is id x ≡ b → (b || list
 pub deleted_elements-restorations : (replica last : ℕ) (back : List (Identifier × ℕ)) → deleted_elements (restorations replica last back) ≡ []
 deleted_elements-restorations replica last [] = refl
 deleted_elements-restorations replica last (b ∷ back) = deleted_elements-restorations replica (last + 1) back
+
+-- ---- how many elements are inserted
+
+pub one_more : (op : Op) (ops : List Op) → length (inserted_elements (op ∷ ops)) ≡ length (inserted_elements (op ∷ [])) + length (inserted_elements ops)
+one_more (Delete id) ops = omega arith
+one_more (Insert id parent ch) ops = omega arith
+
+-- one for each that is restored
+pub as_many_inserted : (replica : ℕ) (c : Content) (gone : List Identifier) (back : List (Identifier × ℕ)) → length (inserted_elements (revert_operations replica c gone back)) ≡ length back
+as_many_inserted replica c gone back =
+    let ids : List Identifier = distinct_elements (filter (is_visible c) gone) in
+    ap length (inserted_elements-append (map Delete ids) (restorations replica (clock_of c) back) ∙ ap (λ xs. xs ++ inserted_elements (restorations replica (clock_of c) back)) (inserted_elements-deletions ids))
+    ∙ each (clock_of c) back
+  where
+    each : (last : ℕ) (back : List (Identifier × ℕ)) → length (inserted_elements (restorations replica last back)) ≡ length back
+    each last [] = refl
+    each last (b ∷ back) = ap suc (each (last + 1) back)

@@ -1,8 +1,8 @@
 pub mod Characters
 pub mod Complete
 pub mod Document
+pub mod Excerpt
 pub mod Following
-pub mod Gap
 pub mod Listing
 pub mod LocalEdit
 pub mod Relisting

@@ -3,7 +3,7 @@
 ghost use Rattle.std.specs.Prelude.{◌≡◌, ◌≤◌, ◌+◌, ◌++◌, length, drop, vec_capacity, IfErr, OnOk};
 ghost use Rattle.rga_ops.specs.Splice.{spliced};
 
-use crate::tail::move_tail;
+use crate::shifting::{move_tail, shift};
 use rga_ops::Refusal;
 use std::marker::Model;
 
@@ -88,7 +88,7 @@ impl Characters {
         if self.places.capacity() - count <= count / 5 {
             return;
         }
-        move_tail(&mut self.places, self.start, 0, ' ');
+        move_tail(&mut self.places, self.start, 0);
         self.start = 0;
         self.places.shrink_to_fit();
     }
@@ -133,7 +133,7 @@ fn replace_and_move_front(
     ensures capacity { vec_capacity places.old ≤ vec_capacity places.new }
 {
     let to = start + hi - (lo + put.len());
-    places.copy_within(start..start + lo, to);
+    shift(places, start, start + lo, to);
     overwrite(places, to + lo, put);
     to
 }
@@ -146,7 +146,7 @@ fn replace_and_move_tail(places: &mut Vec<char>, lo: usize, hi: usize, put: &[ch
     ensures items { places.new.items ≡ spliced places.old.items lo hi put.now }
     ensures capacity { vec_capacity places.old ≤ vec_capacity places.new }
 {
-    move_tail(places, hi, lo + put.len(), ' ');
+    move_tail(places, hi, lo + put.len());
     overwrite(places, lo, put);
 }
 

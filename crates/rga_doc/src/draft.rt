@@ -1,9 +1,10 @@
 //! The operations of an edit that is not taken yet.
 ghost use Rattle.std.specs.Prelude.{◌≡◌, ◌<◌, ◌≤◌, ◌+◌, ◌++◌, [], true, map, length, OnOk, IfErr};
 ghost use Rattle.rga_ops.specs.Splice.{are_falling, new_characters};
+ghost use Rattle.rga_doc.specs.Excerpt.{begin_of};
 ghost use Rattle.rga_doc.specs.LocalEdit.{chain, operations_at, draft_operations};
 
-use crate::gap_list::GapList;
+use crate::excerpt::Excerpt;
 use rga_ops::{Id, Op, Refusal, Splice};
 use std::alloc::Global;
 
@@ -36,11 +37,12 @@ impl Draft {
     /// in.
     pub(crate) fn splice(
         &mut self,
-        elements: &GapList,
+        elements: &Excerpt,
         lo: usize,
         hi: usize,
         put: &[char],
     ) -> Result<(), Refusal>
+        requires begin { elements.now.start ≤ lo }
         requires ordered { lo ≤ hi }
         requires in_text { hi ≤ length elements.now.items }
         requires counters { 0 < length put.now → self.old.last + length put.now ≤ Id.MAX_COUNTER }
@@ -50,14 +52,13 @@ impl Draft {
         ensures replica { self.new.replica ≡ self.old.replica }
         ensures memory { IfErr result (λ e. e ≡ Refusal.Memory) }
     {
-        let (before, behind) = elements.parts(lo, hi);
-        self.delete(before)?;
-        self.delete(behind)?;
+        self.delete(elements.between(lo, hi))?;
         self.insert(elements.left_of(lo), put)
     }
 
     /// The operations of several splices whose places are meant in the same text.
-    pub(crate) fn splices(&mut self, elements: &GapList, splices: &[Splice]) -> Result<(), Refusal>
+    pub(crate) fn splices(&mut self, elements: &Excerpt, splices: &[Splice]) -> Result<(), Refusal>
+        requires begin { elements.now.start ≤ begin_of splices.now }
         requires falling { are_falling (length elements.now.items) splices.now ≡ true }
         requires counters { 0 < new_characters splices.now
             → self.old.last + new_characters splices.now ≤ Id.MAX_COUNTER }

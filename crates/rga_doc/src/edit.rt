@@ -3,11 +3,13 @@ ghost use Rattle.std.specs.Prelude.{◌≡◌, ◌≤◌, min, true, length, Ok,
 ghost use Rattle.rga_ops.specs.Prelude.{content_of, join, order, text, IsAnswer};
 ghost use Rattle.rga_ops.specs.Splice.{spliced, text_after, are_falling, end_of, new_characters};
 ghost use Rattle.rga_store.specs.Limit.{is_limit};
+ghost use Rattle.rga_doc.specs.Excerpt.{begin_of};
 ghost use Rattle.rga_doc.specs.LocalEdit.{splice_operations, splices_operations, splice_answer, splices_answer, room_answer, place_answer, counter_answer, order_after};
 ghost use Rattle.rga_ops.specs.declared.refusal.Refusal.TheVariants.{Memory};
 
 use crate::doc::Doc;
 use crate::draft::Draft;
+use crate::excerpt::Excerpt;
 use rga_ops::{Id, Op, Refusal, Splice};
 use rga_store::{Taker, TextStore};
 
@@ -87,12 +89,12 @@ impl<S: TextStore> Doc<S> {
         ensures memory { IfErr result (λ e. e ≡ Refusal.Memory) }
         ensures same { OnErr result (self.new ≡ record self.old { listed = self.new.listed }) }
     {
-        let last = self.store.clock();
-        let mut draft = Draft::new(self.alloc, self.replica, last);
-        draft.splice(&self.listing.elements, lo, hi, put)?;
+        let elements = Excerpt::of(self.alloc, &self.store, lo, hi)?;
+        let mut draft = Draft::new(self.alloc, self.replica, self.store.clock());
+        draft.splice(&elements, lo, hi, put)?;
         self.listing.make_room(self.alloc, put.len());
         self.store.apply_all(&draft.ops)?;
-        self.listing.splice(lo, hi, put, self.replica, last);
+        self.listing.splice(lo, hi, put);
         Ok(draft.ops)
     }
 
@@ -172,16 +174,17 @@ impl<S: TextStore> Doc<S> {
         check_counters(&self.store, new)
     }
 
-    /// The operations of splices that are allowed, of a listed document. `Memory` alone.
+    /// The operations of splices that are allowed. `Memory` alone.
     fn write_splices(&self, splices: &[Splice]) -> Result<Vec<Op>, Refusal>
-        requires listed { self.now.listed ≡ true }
         requires allowed { splices_answer self.now.limit self.now.content splices.now ≡ Ok tt }
         ensures operations { IfOk result (λ ops. ops.items
             ≡ splices_operations self.now.replica self.now.content splices.now) }
         ensures memory { IfErr result (λ e. e ≡ Refusal.Memory) }
     {
+        let (lo, hi) = (begin_of(splices), end_of(splices));
+        let elements = Excerpt::of(self.alloc, &self.store, lo, hi)?;
         let mut draft = Draft::new(self.alloc, self.replica, self.store.clock());
-        draft.splices(&self.listing.elements, splices)?;
+        draft.splices(&elements, splices)?;
         Ok(draft.ops)
     }
 }
@@ -225,6 +228,16 @@ fn end_of(splices: &[Splice]) -> usize
 {
     match splices.first() {
         Some(splice) => splice.hi,
+        None => 0,
+    }
+}
+
+/// Where the last splice begins, and so no other before it where they fall; 0 where there is none.
+fn begin_of(splices: &[Splice]) -> usize
+    ensures { result ≡ begin_of splices.now }
+{
+    match splices.last() {
+        Some(splice) => splice.lo,
         None => 0,
     }
 }

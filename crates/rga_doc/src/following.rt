@@ -1,11 +1,9 @@
 //! What is listed, changed as one operation of another replica has changed the store.
-ghost use Rattle.std.specs.Prelude.{◌≡◌, ◌+◌, ◌≤◌, true, false, length, Some, IfSome};
-ghost use Rattle.std.specs.List.{slice_get};
-ghost use Rattle.std.specs.FinSet.{contains};
+ghost use Rattle.std.specs.Prelude.{◌≡◌, ◌+◌, ℕ, true, length, Option, Some, IfSome};
 ghost use Rattle.rga_ops.specs.Identifier.{Identifier};
+ghost use Rattle.rga_ops.specs.Order.{text};
 ghost use Rattle.rga_ops.specs.Places.{visible};
-ghost use Rattle.rga_doc.specs.Listing.{IsListOf};
-ghost use Rattle.rga_doc.specs.Relisting.{IsListBefore};
+ghost use Rattle.rga_doc.specs.Relisting.{DeletesLeft, IsTextBefore, StandsLeft};
 
 use crate::listing::Listing;
 use rga_ops::{Id, Op};
@@ -16,14 +14,16 @@ use rga_store::TextStore;
 const MOST_IN_A_ROW: usize = 64;
 
 impl Listing {
-    /// The place of the element that an operation deletes, where it is of use: it is asked before
-    /// the store takes the operation, and looked at again before something is taken out.
-    pub(crate) fn place_deleted<S: TextStore>(&self, store: &S, op: &Op) -> Option<usize> {
+    /// The place directly behind the visible element that an operation deletes, where it is of use:
+    /// it is asked before the store takes the operation.
+    pub(crate) fn place_deleted<S: TextStore>(&self, store: &S, op: &Op) -> Option<usize>
+        ensures { IfSome result (λ k. DeletesLeft (visible (S.content store.now)) op.now k) }
+    {
         if !self.listed || self.followed >= MOST_IN_A_ROW {
             return None;
         }
         match op {
-            Op::Delete { id } => place_of_kept(store, *id),
+            Op::Delete { id } => place_of_visible(store, *id),
             Op::Insert { .. } => None,
         }
     }
@@ -31,10 +31,10 @@ impl Listing {
     /// Makes a new operation in what is listed that the store has taken, or gives up what is
     /// listed. The place is what `place_deleted` answered.
     pub(crate) fn follow_one<S: TextStore>(&mut self, store: &S, op: &Op, place: Option<usize>)
-        requires { self.old.listed ≡ true → IsListBefore (S.content store.now) op.now
-            self.old.elements.items self.old.characters.items }
-        ensures { self.new.listed ≡ true → IsListOf (S.content store.now)
-            self.new.elements.items self.new.characters.items }
+        requires { self.old.listed ≡ true →
+            IsTextBefore (S.content store.now) op.now place self.old.characters.items }
+        ensures { self.new.listed ≡ true →
+            self.new.characters.items ≡ text (S.content store.now) }
     {
         if !self.listed {
             return;
@@ -45,96 +45,86 @@ impl Listing {
         }
         self.followed += 1;
         self.listed = self.make_new(store, op, place);
-        self.give_back();
+        self.characters.give_back();
     }
 
     /// Makes a new operation, where it is known what it changed.
     fn make_new<S: TextStore>(&mut self, store: &S, op: &Op, place: Option<usize>) -> bool
-        requires { IsListBefore (S.content store.now) op.now
-            self.old.elements.items self.old.characters.items }
-        ensures { result ≡ true → IsListOf (S.content store.now)
-            self.new.elements.items self.new.characters.items }
+        requires { IsTextBefore (S.content store.now) op.now place self.old.characters.items }
+        ensures { result ≡ true → self.new.characters.items ≡ text (S.content store.now) }
     {
         match op {
-            Op::Delete { id } => self.follow_deletion(store, *id, place),
+            Op::Delete { .. } => self.follow_deletion(store, place),
             Op::Insert { id, ch, .. } => self.follow_insertion(store, *id, *ch),
         }
     }
 
-    /// Takes out a deleted element that stood at the place. Where it did not, all stays if nothing
-    /// less is visible.
-    fn follow_deletion<S: TextStore>(&mut self, store: &S, id: Id, place: Option<usize>) -> bool
-        requires { IsListBefore (S.content store.now) (Op.Delete id)
-            self.old.elements.items self.old.characters.items }
-        ensures { result ≡ true → IsListOf (S.content store.now)
-            self.new.elements.items self.new.characters.items }
+    /// Takes out the character of a deleted element that stood left of the place. Where it was not
+    /// visible, all stays if nothing less is visible.
+    fn follow_deletion<S: TextStore>(&mut self, store: &S, place: Option<usize>) -> bool
+        requires { (id : Identifier) × IsTextBefore (S.content store.now) (Op.Delete id) place
+            self.old.characters.items }
+        ensures { result ≡ true → self.new.characters.items ≡ text (S.content store.now) }
     {
-        if let Some(index) = self.index_at(place, id) {
-            self.remove(index);
+        if let Some(place) = place {
+            self.characters.replace(place - 1, place, &[]);
             return true;
         }
-        store.visible_len() == self.len()
+        store.visible_len() == self.characters.len()
     }
 
-    /// The index of an element, where it stands at the place.
-    fn index_at(&self, place: Option<usize>, id: Id) -> Option<usize>
-        ensures at { IfSome result (λ index.
-            slice_get self.now.elements.items index ≡ Some id) }
-        ensures within { IfSome result (λ index. index + 1 ≤ usize.MAX) }
-    {
-        let place = place?;
-        if place == 0 || place > self.len() || self.elements.get(place - 1) != id {
-            return None;
-        }
-        Some(place - 1)
-    }
-
-    /// Puts in a new element where it alone is visible beside those that are listed. Where nothing
-    /// more is visible all stays: it is deleted, or waits for its parent. It may also have let
-    /// others go on that waited; then nothing is done.
+    /// Puts in the character of a new element where it alone is visible beside those that are
+    /// listed. Where nothing more is visible all stays: it is deleted, or waits for its parent. It
+    /// may also have let others go on that waited; then nothing is done.
     fn follow_insertion<S: TextStore>(&mut self, store: &S, id: Id, ch: char) -> bool
-        requires { (parent : Identifier) × IsListBefore (S.content store.now)
-            (Op.Insert id parent ch) self.old.elements.items self.old.characters.items }
-        ensures { result ≡ true → IsListOf (S.content store.now)
-            self.new.elements.items self.new.characters.items }
+        requires { (parent : Identifier) × (k : Option ℕ) × IsTextBefore (S.content store.now)
+            (Op.Insert id parent ch) k self.old.characters.items }
+        ensures { result ≡ true → self.new.characters.items ≡ text (S.content store.now) }
     {
         let count = store.visible_len();
-        if count == self.len() {
+        if count == self.characters.len() {
             return true;
         }
-        if count == 0 || count - 1 != self.len() || store.is_deleted(id) {
+        if count == 0 || count - 1 != self.characters.len() {
             return false;
         }
         self.put_at_its_place(store, id, ch)
     }
 
-    /// Puts in a new element that is visible and is one more, where its place is known and there is
-    /// room.
+    /// Puts in the character of a new element where one more is visible, if the element is, and
+    /// there is room.
     fn put_at_its_place<S: TextStore>(&mut self, store: &S, id: Id, ch: char) -> bool
-        requires lists { (parent : Identifier) × IsListBefore (S.content store.now)
-            (Op.Insert id parent ch) self.old.elements.items self.old.characters.items }
-        requires kept { contains (S.content store.now).deleted id ≡ false }
+        requires before { (parent : Identifier) × (k : Option ℕ) ×
+            IsTextBefore (S.content store.now) (Op.Insert id parent ch) k
+            self.old.characters.items }
         requires one_more { length (visible (S.content store.now))
-            ≡ length self.old.elements.items + 1 }
-        ensures { result ≡ true → IsListOf (S.content store.now)
-            self.new.elements.items self.new.characters.items }
+            ≡ length self.old.characters.items + 1 }
+        ensures { result ≡ true → self.new.characters.items ≡ text (S.content store.now) }
     {
-        let Some(place) = store.place_of(id) else {
+        let Some(place) = place_of_visible(store, id) else {
             return false;
         };
-        if place == 0 || self.reserve(1).is_err() {
+        if self.characters.make_room(1).is_err() {
             return false;
         }
-        self.insert(place - 1, id, ch);
+        self.characters.replace(place - 1, place - 1, &[ch]);
         true
     }
 }
 
-/// The place of an element that is inserted and not deleted: of others it is of no use, and may take
-/// a search through all.
-fn place_of_kept<S: TextStore>(store: &S, id: Id) -> Option<usize> {
+/// The place directly behind an element that is visible. One that is not inserted, or deleted, is
+/// not looked for: that may take a search through all.
+fn place_of_visible<S: TextStore>(store: &S, id: Id) -> Option<usize>
+    ensures { IfSome result (λ k. StandsLeft (visible (S.content store.now)) id k) }
+{
     if store.get(id).is_none() || store.is_deleted(id) {
         return None;
     }
-    store.place_of(id)
+    let Some(place) = store.place_of(id) else {
+        return None;
+    };
+    if place == 0 {
+        return None;
+    }
+    Some(place)
 }

@@ -7,8 +7,7 @@ ghost use Rattle.rga_ops.specs.Prelude.{Content, Identifier, clock_of, content_o
 ghost use Rattle.rga_ops.specs.Splice.{Splice, spliced, text_after};
 ghost use Rattle.rga_ops.specs.declared.op.Op.TheVariants.{Delete};
 ghost use Rattle.rga_doc.specs.Document.{Document};
-ghost use Rattle.rga_doc.specs.Listing.{elements_after};
-ghost use Rattle.rga_doc.specs.LocalEdit.{splice_operations, splices_operations, splice_answer, splices_answer, order_after};
+ghost use Rattle.rga_doc.specs.LocalEdit.{splice_operations, splices_operations, splice_answer, splices_answer, order_after, elements_after};
 
 mod reverting;
 

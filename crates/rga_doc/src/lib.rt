@@ -18,14 +18,14 @@ mod doc;
 mod draft;
 mod edit;
 mod element_sets;
+mod excerpt;
 mod following;
-mod gap_list;
 pub mod laws;
 mod listing;
 mod listing_anew;
-mod relisting;
+mod rereading;
 mod revert;
-mod tail;
+mod shifting;
 mod taking;
 
 pub use anchor::Anchor;

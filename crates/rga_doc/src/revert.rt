@@ -67,9 +67,13 @@ impl<S: TextStore> Doc<S> {
         ensures memory { IfErr result (λ e. e ≡ Refusal.Memory) }
         ensures same { OnErr result (self.new ≡ self.old) }
     {
-        let follows = self.listing.can_follow(gone.len(), back.len());
+        let (deletions, insertions) = ops.split_at(ops.len() - back.len());
+        let margins = self
+            .listing
+            .margins(&self.store, deletions, insertions.len());
         self.store.apply_all(ops)?;
-        self.listing.listed = follows && self.listing.follow(&self.store, ops);
+        self.listing
+            .follow(self.alloc, &self.store, margins, insertions);
         Ok(())
     }
 

@@ -9,7 +9,7 @@ use crate::edit::count_characters;
 use rga_ops::{Op, Refusal, Splice};
 use rga_store::{Taker, TextStore};
 
-/// Each of more splices would move much of what stands behind it: then the lists are made anew.
+/// Each of more splices would move much of what stands behind it: then all is listed anew.
 const MOST_IN_PLACE: usize = 16;
 
 impl<S: TextStore> Doc<S> {
@@ -46,10 +46,9 @@ impl<S: TextStore> Doc<S> {
         ensures same { OnErr result (self.new ≡ self.old) }
     {
         let new = count_characters(splices).min(self.store.limit());
-        let last = self.store.clock();
-        self.listing.reserve(new)?;
+        self.listing.characters.make_room(new)?;
         self.store.apply_all(ops)?;
-        self.listing.replace_all(splices, self.replica, last);
+        self.listing.replace_all(splices);
         Ok(())
     }
 
@@ -65,12 +64,9 @@ impl<S: TextStore> Doc<S> {
         ensures same { OnErr result (self.new ≡ self.old) }
     {
         let new = count_characters(splices);
-        let last = self.store.clock();
-        let listing = self
-            .listing
-            .spliced(self.alloc, splices, new, self.replica, last)?;
+        let characters = self.listing.characters.spliced(self.alloc, splices, new)?;
         self.store.apply_all(ops)?;
-        self.listing = listing;
+        self.listing.characters = characters;
         Ok(())
     }
 

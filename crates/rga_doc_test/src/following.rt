@@ -1,6 +1,6 @@
 //! Operations of another replica, taken one by one by a listed document.
-use crate::documents::{ABC, document, shows, splice};
-use rga_ops::Refusal;
+use crate::documents::{ABC, Document, document, shows, splice};
+use rga_ops::{Op, Refusal};
 use rga_store::{Taker, TextStore};
 use std::alloc::Global;
 use test_fixtures::{insertion, ops_of, spells};
@@ -20,39 +20,63 @@ const FOLLOWED: &[Row] = &[
     ("-2.1 -2.1 x4.2<1.1 x4.2<1.1", "axc", 1, "azxc"),
 ];
 
-/// Whether a listed document shows this once it took what is sent, and that once a `z` was put in,
-/// as its store does.
-fn follows(alloc: Global, (words, text, place, edited): &Row) -> Result<bool, Refusal> {
-    let mut doc = document(alloc, (1, 100, ABC))?;
+/// Has a document that is listed take the operations one by one.
+fn take_each(doc: &mut Document, ops: &[Op]) -> Result<(), Refusal> {
     doc.list()?;
-    for op in &ops_of(alloc, words)? {
+    for op in ops {
         let _taken = doc.apply(*op)?;
     }
-    let shown = shows(&doc, text);
-    let _ops = splice(alloc, &mut doc, (*place, *place), "z")?;
-    Ok(shown && shows(&doc, edited) && spells(&doc.store().text(alloc)?, edited))
+    Ok(())
+}
+
+/// Whether the store shows this text.
+fn stores(alloc: Global, doc: &Document, text: &str) -> bool {
+    match doc.store().text(alloc) {
+        Ok(chars) => spells(&chars, text),
+        Err(_) => false,
+    }
+}
+
+/// Whether a document shows this once it took what is sent, and that once a `z` was put in, as its
+/// store does.
+fn follows(alloc: Global, doc: &mut Document, row: &Row) -> Result<bool, Refusal> {
+    let (words, text, place, edited) = row;
+    take_each(doc, &ops_of(alloc, words)?)?;
+    let shown = shows(doc, text);
+    drop(splice(alloc, doc, (*place, *place), "z")?);
+    Ok(shown && shows(doc, edited) && stores(alloc, doc, edited))
 }
 
 #[test]
 fn listed_document_follows_operations(rt: HostRuntime) {
     for row in FOLLOWED {
-        assert!(rt; follows(rt.alloc(), row) == Ok(true), "{row:?}");
+        let mut doc = document(rt.alloc(), (1, 100, ABC)).expect(&rt, "a document");
+        assert!(rt; follows(rt.alloc(), &mut doc, row) == Ok(true), "{row:?}");
     }
 }
 
-/// Whether the text is the store's where so many insertions come in a row.
-fn follows_many(alloc: Global, count: u64) -> Result<bool, Refusal> {
-    let mut doc = document(alloc, (1, 1000, ABC))?;
+/// Has a document that is listed take insertions in a row, up to this counter.
+fn take_many(doc: &mut Document, count: u64) -> Result<(), Refusal> {
     doc.list()?;
     for counter in 4..count {
         let _taken = doc.apply(insertion((counter, 2), (2, 1), 'r')?)?;
     }
+    Ok(())
+}
+
+/// Whether the text is the store's where so many insertions come in a row.
+fn follows_many(alloc: Global, doc: &mut Document, count: u64) -> Result<bool, Refusal> {
+    take_many(doc, count)?;
     Ok(doc.text()? == doc.store().text(alloc)?)
 }
 
 #[test]
 fn long_exchange_is_listed_anew(rt: HostRuntime) {
     for count in 66..71 {
-        assert!(rt; follows_many(rt.alloc(), count) == Ok(true), "{count}");
+        let mut doc = document(rt.alloc(), (1, 1000, ABC)).expect(&rt, "a document");
+        assert!(rt;
+            follows_many(rt.alloc(), &mut doc, count) == Ok(true),
+            "{count}"
+        );
     }
 }

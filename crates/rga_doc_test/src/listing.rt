@@ -141,7 +141,7 @@ fn element_at(doc: &mut Document, place: usize) -> Result<Id, Refusal> {
     if place > doc.characters().len() {
         return Ok(Id::ROOT);
     }
-    Ok(doc.listed_anchor(place).element)
+    Ok(doc.anchor_within(place).element)
 }
 
 fn agrees_with_the_list(doc: &mut Document) -> bool {

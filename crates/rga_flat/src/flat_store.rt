@@ -1,6 +1,6 @@
 //! A store as records and one sequence.
 
-use crate::reading::{count_inserted, last_of, string_of};
+use crate::reading::{count_inserted, string_of};
 use crate::taking::take;
 use crate::waiting::clear_lists;
 use crate::whole_list::take_whole;
@@ -144,15 +144,6 @@ impl TextStore for FlatStore {
         let ids = self.sequence.elements(alloc, 0, count)?;
         let chars = self.sequence.text(alloc)?;
         Ok((ids, chars))
-    }
-
-    fn last_visible(&self, id: Id) -> Id {
-        let _count = count_inserted(&self.records);
-        let name = self.records.block(id);
-        match self.sequence.place_of(id, name) {
-            Some(count) => last_of(&self.sequence, count),
-            None => Id::ROOT,
-        }
     }
 
     fn visible_len(&self) -> usize {

@@ -1,14 +1,10 @@
-//! What is read from the sequence.
-ghost use Rattle.std.specs.Prelude.{◌≡◌, ◌≤◌, ◌<◌, ◌-◌, slice_get, IfOk, IfErr, string_bytes, encode_utf8_all};
-ghost use Rattle.std.specs.Option.{unwrap_or};
+//! Characters as a string, and how many identifiers are inserted.
+ghost use Rattle.std.specs.Prelude.{◌≡◌, ◌≤◌, IfOk, IfErr, string_bytes, encode_utf8_all};
 ghost use Rattle.std.specs.FinMap as finite_map;
-ghost use Rattle.rga_ops.specs.Identifier.{root};
-ghost use Rattle.rga_sequence.specs.Entries.{visible_ids};
 ghost use Rattle.rga_store.specs.declared.text_store.TheConstants.{MAX_LIMIT};
 
-use rga_ops::{Id, Refusal};
+use rga_ops::Refusal;
 use rga_records::Records;
-use rga_sequence::Sequence;
 use std::alloc::Global;
 
 /// Characters in UTF-8. `Memory` alone.
@@ -21,21 +17,6 @@ pub(crate) fn string_of(alloc: Global, chars: &[char]) -> Result<String, Refusal
         string.push(*ch)?;
     }
     Ok(string)
-}
-
-/// The last of so many visible entries; the root of none.
-pub(crate) fn last_of(sequence: &Sequence, count: usize) -> Id
-    ensures none { count ≡ 0 → result ≡ root }
-    ensures some { 0 < count →
-        result ≡ unwrap_or (slice_get (visible_ids sequence.now) (count - 1)) root }
-{
-    if count == 0 {
-        return Id::ROOT;
-    }
-    match sequence.element_at(count - 1) {
-        Some(id) => id,
-        None => Id::ROOT,
-    }
 }
 
 /// How many identifiers are inserted, which are no more than a limit may be.

@@ -1,10 +1,10 @@
 -- An insertion whose counter is above all others: which elements are complete and visible then, and the text as a splice.
-use Rattle.std.proofs.Common.{◌≡◌, ℕ, ◌+◌, ◌<◌, ◌≤◌, Bool, true, false, cond, not, ◌&&◌, ◌||◌, nat_le, List, [], ◌∷◌, ◌++◌, map, filter, take, drop, refl, sym, ap, ◌∙◌, arith, true≢false, inl, inr}
+use Rattle.std.proofs.Common.{◌≡◌, ℕ, ◌+◌, ◌<◌, ◌≤◌, Bool, true, false, cond, not, ◌&&◌, ◌||◌, nat_le, ◌∷◌, ◌++◌, map, filter, take, drop, refl, sym, ap, ◌∙◌, arith, true≢false, inl, inr}
 use Rattle.std.specs.Prelude.{Some, Ok, Err, max}
 use Rattle.std.specs.Option.{option_map}
-use Rattle.std.specs.List.{list_any, slice_get, AllByRecursion}
+use Rattle.std.specs.List.{slice_get}
 use Rattle.std.specs.FinMap as finite_map
-use Rattle.std.proofs.lemmas.Bool.{and_parts, or_cases, or_left, or_right, false_from_ne_true}
+use Rattle.std.proofs.lemmas.Bool.{and_parts, or_cases, or_left, or_right}
 use Rattle.std.proofs.lemmas.Bool.Decides.{nat_tests}
 use Rattle.rga_ops.specs.Identifier.{Identifier, root, is_root}
 use Rattle.rga_ops.specs.Operation.{checked}
@@ -13,15 +13,15 @@ use Rattle.rga_ops.specs.RootPath.{is_complete}
 use Rattle.rga_ops.specs.Order.{order, text}
 use Rattle.rga_ops.specs.Places.{visible, character}
 use Rattle.rga_ops.specs.Placement.{change_after, put_behind}
+use Rattle.rga_ops.proofs.ContentLaws.{within_join}
 use Rattle.rga_ops.proofs.PathLaws.{inserted_if_complete}
-use Rattle.rga_ops.proofs.IdentifierLaws.{is, same_id, is_id-is}
-use Rattle.rga_ops.proofs.MemberLaws.{all_members}
-use Rattle.rga_ops.proofs.VisibleLaws.{is_kept, visible_is, visible_elements, text_is, own_index}
+use Rattle.rga_ops.proofs.IdentifierLaws.{is_id-is}
+use Rattle.rga_ops.proofs.VisibleLaws.{is_kept, visible_is, visible_elements, text_is, characters_within, own_index}
 use Rattle.rga_ops.proofs.ClockLaws.{within_clock, clock_insertion}
-use Rattle.rga_ops.proofs.InsertionLaws.{not_complete_before, is_root_or_complete, contains-insertion, get-elsewhere, get-inserted}
+use Rattle.rga_ops.proofs.InsertionLaws.{is_root_or_complete, contains-insertion, get-inserted}
 use Rattle.rga_ops.proofs.PlacementLaws.{member_at, change_after-at, filter-put_after}
 use Rattle.rga_ops.proofs.SpliceLaws.{same_characters, characters_with}
-use Rattle.rga_ops.proofs.NewestLaws.{newest_element, newest_absent, newest_kept, newest_leaf, order-newest}
+use Rattle.rga_ops.proofs.NewestLaws.{newest_element, newest_absent, newest_kept, order-newest}
 use Rattle.rga_ops.specs.declared.op.Op.TheVariants.{Insert}
 use Rattle.rga_ops.specs.declared.refusal.Refusal.TheVariants.{BadId, BadOrder}
 
@@ -94,17 +94,7 @@ module _ (c : Content) (id parent : Identifier) (ch : ℕ) (newer : clock_of c <
   character_here = ap (option_map (λ (x : Element). x.ch)) get-newest
 
   characters_stay : map Some (text c) ≡ map (character d) (visible c)
-  characters_stay = text_is c ∙ among (visible c) (all_members (λ q. character c q ≡ character d q) (visible c) same)
-    where
-      among : (xs : List Identifier) → AllByRecursion (λ q. character c q ≡ character d q) xs → map (character c) xs ≡ map (character d) xs
-      among [] h = refl
-      among (x ∷ xs) h = λ k. h.0 k ∷ among xs h.1 k
-
-      same : (q : Identifier) → list_any (is q) (visible c) ≡ true → character c q ≡ character d q
-      same q m =
-          let complete : is_complete c q ≡ true = (and_parts (is_complete c q) (is_kept c q) (sym (visible_elements c q) ∙ m)).0 in
-          let other : is q id ≡ false = false_from_ne_true (is q id) (λ t. true≢false (sym complete ∙ ap (is_complete c) (same_id q id t) ∙ not_complete_before c id (newest_leaf c id newer))) in
-          ap (option_map (λ (x : Element). x.ch)) (sym (get-elsewhere c id parent ch q other))
+  characters_stay = characters_within c d (within_join c (single (Insert id parent ch)))
 
   pub text-newest_front : is_root parent ≡ true → text d ≡ ch ∷ text c
   text-newest_front at_root = same_characters _ _ (

@@ -3,10 +3,10 @@
 use Rattle.std.proofs.Common.{◌≡◌, ℕ, zero, suc, ◌+◌, ◌<◌, ◌≤◌, Bool, true, false, cond, not, ◌&&◌, ◌||◌, List, [], ◌∷◌, ◌++◌, map, filter, take, drop, length, refl, sym, ap, ◌∙◌, arith, append-nil, true≢false}
 use Rattle.std.specs.Prelude.{Option, Some, None, Ok}
 use Rattle.std.specs.Option.{option_map}
-use Rattle.std.specs.List.{list_any, slice_get, AllByRecursion}
+use Rattle.std.specs.List.{list_any, slice_get}
 use Rattle.std.specs.FinMap as finite_map
 use Rattle.std.specs.FinSet as finite_set
-use Rattle.std.proofs.lemmas.Bool.{and_parts, false_from_ne_true}
+use Rattle.std.proofs.lemmas.Bool.{false_from_ne_true}
 use Rattle.std.proofs.lemmas.List.{map-append, take-map, drop-map}
 use Rattle.std.proofs.lemmas.Option.{same_Some, none-some}
 use Rattle.rga_ops.specs.Identifier.{Identifier, is_id, is_root}
@@ -20,20 +20,19 @@ use Rattle.rga_ops.specs.Answer.{answer}
 use Rattle.rga_ops.specs.declared.op.Op.TheVariants.{Insert, Delete}
 use Rattle.rga_ops.specs.declared.refusal.Taken.TheVariants.{New}
 use Rattle.rga_ops.proofs.IdentifierLaws.{is, same_id, is_id-same}
-use Rattle.rga_ops.proofs.MemberLaws.{all_members}
 use Rattle.rga_ops.proofs.AnswerLaws.{new_insertion}
 use Rattle.rga_ops.proofs.ContentLaws.{within_join}
 use Rattle.rga_ops.proofs.PathLaws.{inserted_if_complete}
 use Rattle.rga_ops.proofs.GrowLaws.{order_within}
 use Rattle.rga_ops.proofs.InsertionLaws.{contains-insertion, get-inserted}
-use Rattle.rga_ops.proofs.VisibleLaws.{is_kept, visible_is, visible_elements, text_is, own_index, place_at}
+use Rattle.rga_ops.proofs.VisibleLaws.{is_kept, visible_is, visible_elements, text_is, characters_within, own_index, place_at}
 use Rattle.rga_ops.proofs.SpliceLaws.{same_characters}
 use Rattle.rga_ops.proofs.DeletionLaws.{visible-deletion, visible-deletion_at, text-deletion_at, character-deletion}
 
 -- ---- lists
 
 -- what is in a list stands at an index of it
-index_in : (id : Identifier) (xs : List Identifier) → list_any (is id) xs ≡ true → (i : ℕ) × (slice_get xs i ≡ Some id)
+pub index_in : (id : Identifier) (xs : List Identifier) → list_any (is id) xs ≡ true → (i : ℕ) × (slice_get xs i ≡ Some id)
 index_in id [] m = absurd (true≢false (sym m))
 index_in id (x ∷ xs) m = elim (is id x) as (λ b. is id x ≡ b → (b || list_any (is id) xs) ≡ true → (i : ℕ) × (slice_get (x ∷ xs) i ≡ Some id)) [
   | true ↦ λ t m. (0, ap Some (sym (same_id id x t)))
@@ -107,7 +106,7 @@ map-spliced g xs ys lo hi =
     ∙ (λ k. (map-append g (take lo xs) ys ∙ ap (λ r. r ++ map g ys) (sym (take-map g lo xs))) k ++ sym (drop-map g hi xs) k)
 
 -- a text and its elements, spliced alike
-pub spliced_alike : (f : Identifier → Option ℕ) (characters put : List ℕ) (elements row : List Identifier) (lo hi : ℕ) → map Some characters ≡ map f elements → map Some put ≡ map f row → map Some (spliced characters lo hi put) ≡ map f (spliced elements lo hi row)
+spliced_alike : (f : Identifier → Option ℕ) (characters put : List ℕ) (elements row : List Identifier) (lo hi : ℕ) → map Some characters ≡ map f elements → map Some put ≡ map f row → map Some (spliced characters lo hi put) ≡ map f (spliced elements lo hi row)
 spliced_alike f characters put elements row lo hi h p =
     map-spliced Some characters put lo hi ∙ (λ k. spliced (h k) lo hi (p k)) ∙ sym (map-spliced f elements row lo hi)
 
@@ -122,7 +121,7 @@ index_of_place c id k shows h =
     ap (slice_get (visible c)) (sym index) ∙ at.1
 
 -- what has a place past the front is complete
-complete_of_place : (c : Content) (id : Identifier) (k : ℕ) → place c id ≡ Some (suc k) → is_complete c id ≡ true
+pub complete_of_place : (c : Content) (id : Identifier) (k : ℕ) → place c id ≡ Some (suc k) → is_complete c id ≡ true
 complete_of_place c id k h = elim (is_root id) as (λ b. cond b (Some 0) (cond (is_complete c id) (Some (length (filter (is_visible c) (up_to id (order c))))) None) ≡ Some (suc k) → is_complete c id ≡ true) [
   | true ↦ λ h. let no : 0 ≡ suc k = same_Some _ _ h in absurd (omega (arith, no))
   | false ↦ λ h. elim (is_complete c id) as (λ b. cond b (Some (length (filter (is_visible c) (up_to id (order c))))) None ≡ Some (suc k) → b ≡ true) [
@@ -140,20 +139,6 @@ module _ (c d : Content) (w : IsWithin c d) where
       visible_is c ∙ ap (filter (is_kept c)) (order_within c d w)
       ∙ twice_filtered (is_kept c) (is_complete c) (order d)
       ∙ ap (filter (is_complete c)) (ap (λ p. filter p (order d)) (sym same) ∙ sym (visible_is d))
-
-  -- and keep their characters
-  characters_within : map Some (text c) ≡ map (character d) (visible c)
-  characters_within = text_is c ∙ among (visible c) (all_members (λ q. character c q ≡ character d q) (visible c) same)
-    where
-      among : (xs : List Identifier) → AllByRecursion (λ q. character c q ≡ character d q) xs → map (character c) xs ≡ map (character d) xs
-      among [] h = refl
-      among (x ∷ xs) h = λ k. h.0 k ∷ among xs h.1 k
-
-      same : (q : Identifier) → list_any (is q) (visible c) ≡ true → character c q ≡ character d q
-      same q m =
-          let complete : is_complete c q ≡ true = (and_parts (is_complete c q) (is_kept c q) (sym (visible_elements c q) ∙ m)).0 in
-          let at : (x : Element) × (finite_map.get c.inserted q ≡ Some x) = inserted_if_complete c q complete in
-          ap (option_map (λ (x : Element). x.ch)) (at.1 ∙ sym (w.inserted q at.0 at.1))
 
 -- ---- an insertion more
 

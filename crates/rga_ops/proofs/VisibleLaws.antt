@@ -11,13 +11,13 @@ use Rattle.std.proofs.lemmas.Bool.Decides.{nat_tests}
 use Rattle.std.proofs.lemmas.List.{length-map}
 use Rattle.std.proofs.lemmas.Option.{same_Some, none-some}
 use Rattle.rga_ops.specs.Identifier.{Identifier, is_root, is_id}
-use Rattle.rga_ops.specs.Content.{Element, Content}
+use Rattle.rga_ops.specs.Content.{Element, Content, IsWithin}
 use Rattle.rga_ops.specs.RootPath.{is_complete}
 use Rattle.rga_ops.specs.Order.{order, shown, text}
 use Rattle.rga_ops.specs.Places.{is_visible, visible, character, up_to, place}
 use Rattle.rga_ops.proofs.IdentifierLaws.{is, same_id, is_id-same, is_id-is, is_id-itself, is_swap}
 use Rattle.rga_ops.proofs.PathLaws.{is_complete-iff, not_complete_root, inserted_if_complete}
-use Rattle.rga_ops.proofs.MemberLaws.{all_members, distinct_filter}
+use Rattle.rga_ops.proofs.MemberLaws.{all_map, all_members, filter_alike, distinct_filter}
 use Rattle.rga_ops.proofs.OrderLaws.{order_list, order_distinct}
 
 -- ---- the test of an element of the order
@@ -30,8 +30,7 @@ pub order_complete : (c : Content) → AllByRecursion (λ id. is_complete c id �
 order_complete c = all_members (λ id. is_complete c id ≡ true) (order c) (λ id m. sym ((order_list c).elements id) ∙ m)
 
 visible_among : (c : Content) (xs : List Identifier) → AllByRecursion (λ id. is_complete c id ≡ true) xs → filter (is_visible c) xs ≡ filter (is_kept c) xs
-visible_among c [] h = refl
-visible_among c (x ∷ xs) h = λ k. cond (h.0 k && not (finite_set.contains c.deleted x)) (x ∷ visible_among c xs h.1 k) (visible_among c xs h.1 k)
+visible_among c xs h = filter_alike (is_visible c) (is_kept c) xs (all_map (λ id. is_complete c id ≡ true) (λ id. is_visible c id ≡ is_kept c id) (λ id complete. λ k. complete k && is_kept c id) xs h)
 
 -- the visible elements are those of the order that are not deleted
 pub visible_is : (c : Content) → visible c ≡ filter (is_kept c) (order c)
@@ -59,7 +58,7 @@ text_long c = sym (length-map (text c) Some) ∙ ap length (text_is c) ∙ lengt
 
 -- ---- which elements are visible
 
-filtered : (p : Identifier → Bool) (id : Identifier) (xs : List Identifier) → list_any (is id) (filter p xs) ≡ (list_any (is id) xs && p id)
+pub filtered : (p : Identifier → Bool) (id : Identifier) (xs : List Identifier) → list_any (is id) (filter p xs) ≡ (list_any (is id) xs && p id)
 filtered p id [] = refl
 filtered p id (x ∷ xs) = elim (p x) as (λ b. p x ≡ b → list_any (is id) (cond b (x ∷ filter p xs) (filter p xs)) ≡ ((is id x || list_any (is id) xs) && p id)) [
   | true ↦ λ t. elim (is id x) as (λ b. is id x ≡ b → (b || list_any (is id) (filter p xs)) ≡ ((b || list_any (is id) xs) && p id)) [
@@ -81,6 +80,22 @@ visible_elements c id =
     twice : (a b : Bool) → (a && (a && b)) ≡ (a && b)
     twice true b = refl
     twice false b = refl
+
+-- ---- a larger content
+
+-- the visible elements keep their characters in a larger content
+pub characters_within : (c d : Content) → IsWithin c d → map Some (text c) ≡ map (character d) (visible c)
+characters_within c d w = text_is c ∙ among (visible c) (all_members (λ q. character c q ≡ character d q) (visible c) same)
+  where
+    among : (xs : List Identifier) → AllByRecursion (λ q. character c q ≡ character d q) xs → map (character c) xs ≡ map (character d) xs
+    among [] h = refl
+    among (x ∷ xs) h = λ k. h.0 k ∷ among xs h.1 k
+
+    same : (q : Identifier) → list_any (is q) (visible c) ≡ true → character c q ≡ character d q
+    same q m =
+        let complete : is_complete c q ≡ true = (and_parts (is_complete c q) (is_kept c q) (sym (visible_elements c q) ∙ m)).0 in
+        let at : (x : Element) × (finite_map.get c.inserted q ≡ Some x) = inserted_if_complete c q complete in
+        ap (option_map (λ (x : Element). x.ch)) (at.1 ∙ sym (w.inserted q at.0 at.1))
 
 -- ---- places
 

@@ -140,15 +140,17 @@ is_some-mapped : {A B : Type 0} (f : A → B) (o : Option A) → is_some (option
 is_some-mapped f None = refl
 is_some-mapped f (Some x) = refl
 
--- the parent of an inserted element, and whether the element is deleted
-abbrev pub told : Bool → Element → Identifier × Bool
-told mark y = (y.parent, mark)
+-- the parent of an element, and whether the element is deleted
+abbrev pub element_parent_and_mark : Bool → Element → Identifier × Bool
+element_parent_and_mark mark y = (y.parent, mark)
 
+-- the same of an identifier, if it is inserted
 abbrev pub parent_and_mark : Content → Identifier → Option (Identifier × Bool)
-parent_and_mark c id = option_map (told (finite_set.contains c.deleted id)) (finite_map.get c.inserted id)
+parent_and_mark c id = option_map (element_parent_and_mark (finite_set.contains c.deleted id)) (finite_map.get c.inserted id)
 
-abbrev pub pair : Identifier → Bool → Identifier × Bool
-pair p mark = (p, mark)
+-- a parent and a mark, as such an answer
+abbrev given_parent_and_mark : Identifier → Bool → Identifier × Bool
+given_parent_and_mark p mark = (p, mark)
 
 pub record IsMarkedChild (c : Content) (x p : Identifier) (mark : Bool) : Type 0 where
   pub element : Element
@@ -156,12 +158,12 @@ pub record IsMarkedChild (c : Content) (x p : Identifier) (mark : Bool) : Type 0
   pub parent : element.parent ≡ p
   pub deleted : mark ≡ finite_set.contains c.deleted x
 
-pub marked_child : (c : Content) (x p : Identifier) (mark : Bool) → parent_and_mark c x ≡ Some (pair p mark) → IsMarkedChild c x p mark
+pub marked_child : (c : Content) (x p : Identifier) (mark : Bool) → parent_and_mark c x ≡ Some (given_parent_and_mark p mark) → IsMarkedChild c x p mark
 marked_child c x p mark h =
-    elim (finite_map.get c.inserted x) as (λ o. finite_map.get c.inserted x ≡ o → option_map (told (finite_set.contains c.deleted x)) o ≡ Some (pair p mark) → IsMarkedChild c x p mark) [
+    elim (finite_map.get c.inserted x) as (λ o. finite_map.get c.inserted x ≡ o → option_map (element_parent_and_mark (finite_set.contains c.deleted x)) o ≡ Some (given_parent_and_mark p mark) → IsMarkedChild c x p mark) [
       | None ↦ λ g h. absurd (none-some _ h)
       | Some y ↦ λ g h.
-          let same : told (finite_set.contains c.deleted x) y ≡ pair p mark = same_Some _ _ h in
+          let same : element_parent_and_mark (finite_set.contains c.deleted x) y ≡ given_parent_and_mark p mark = same_Some _ _ h in
           record { element = y; found = g; parent = ap (λ q. q.0) same; deleted = sym (ap (λ q. q.1) same) }
     ] refl h
 
@@ -171,7 +173,7 @@ child_of_parent c x p mark w =
 
 pub absent : (c : Content) (x : Identifier) → parent_and_mark c x ≡ None → finite_map.get c.inserted x ≡ None
 absent c x h =
-    elim (finite_map.get c.inserted x) as (λ o. option_map (told (finite_set.contains c.deleted x)) o ≡ None → o ≡ None) [
+    elim (finite_map.get c.inserted x) as (λ o. option_map (element_parent_and_mark (finite_set.contains c.deleted x)) o ≡ None → o ≡ None) [
       | None ↦ λ h. refl
       | Some y ↦ λ h. absurd (none-some _ (sym h))
     ] h

@@ -9,11 +9,8 @@ use Rattle.std.specs.declared.cmp.Ordering.TheVariants.{Less, Equal, Greater}
 use Rattle.std.specs.List.{AllByRecursion}
 use Rattle.std.specs.List.Sorted.{IsStrictlySortedBy}
 use Rattle.std.specs.FinMap as finite_map
-use Rattle.std.specs.FinSet as finite_set
-use Rattle.std.proofs.Math.Bool.{and-false}
 use Rattle.std.proofs.lemmas.Bool.{or_cases, or_left, or_right}
 use Rattle.std.proofs.lemmas.Bool.Decides.{nat_tests}
-use Rattle.std.proofs.lemmas.List.Elements.{filter-append}
 use Rattle.std.proofs.lemmas.Option.{same_Some, none-some}
 use Rattle.rga_ops.specs.Identifier.{Identifier, id_cmp, is_id, is_root, root}
 use Rattle.rga_ops.specs.Content.{Element, Content, IsSound, clock_of}
@@ -22,7 +19,7 @@ use Rattle.rga_ops.specs.RootPath.IsRootPath.{at_root, below}
 use Rattle.rga_ops.specs.Order.{order, Precedes, IsInOrder}
 use Rattle.rga_ops.specs.Places.{is_visible, up_to, place}
 use Rattle.rga_ops.proofs.IdentifierLaws.{ids_total, ids_exact, is_id-is, is_id-itself}
-use Rattle.rga_ops.proofs.PathLaws.{root_path-is, is-root_path, root_path-root, root_path-step, one_path, one_element, ends, is_complete-iff, path_of_complete, not_complete_root, inserted_if_complete}
+use Rattle.rga_ops.proofs.PathLaws.{root_path-is, is-root_path, root_path-root, root_path-step, one_path, one_element, ends, is_complete-iff, path_of_complete, not_complete_root}
 use Rattle.rga_ops.proofs.AnswerLaws.{well_formed_insertion}
 use Rattle.rga_ops.proofs.ClockLaws.{within_clock}
 use Rattle.rga_ops.proofs.OrderLaws.{order_list, precedes_irreflexive, precedes_transitive, precedes_later}
@@ -485,50 +482,3 @@ place_by c id h =
       | true ↦ λ h. refl
       | false ↦ λ h. ap (λ b. cond b (Some (length (filter (is_visible c) (up_to id (order c))))) None) (h refl)
     ] h
-
--- an element that is not visible has the place of what stands directly before it
-pub place_before : (c : Content) (e x : Identifier) → Stands c e → is_complete c x ≡ true → beginning c x ≡ beginning c e ++ x ∷ [] → is_visible c x ≡ false → place c e ≡ place c x
-place_before c e x stands complete before hidden =
-    let same : filter (is_visible c) (beginning c x) ≡ filter (is_visible c) (beginning c e) =
-    ap (filter (is_visible c)) before ∙ filter-append (is_visible c) (beginning c e) (x ∷ [])
-    ∙ ap (λ b. filter (is_visible c) (beginning c e) ++ cond b (x ∷ []) []) hidden ∙ append-nil (filter (is_visible c) (beginning c e)) in
-    place_by c e stands ∙ ap (λ xs. Some (length xs)) (sym same) ∙ sym (place_by c x (λ r. complete))
-
--- ---- elements that are deleted
-
--- the parent of an element that is deleted
-abbrev pub deleted_parent : Content → Identifier → Option Identifier
-deleted_parent c id = cond (finite_set.contains c.deleted id) (option_map (λ x. x.parent) (finite_map.get c.inserted id)) None
-
-pub record IsDeletedChild (c : Content) (p x : Identifier) : Type 0 where
-  pub child : is_child c p x ≡ true
-  pub hidden : is_visible c x ≡ false
-
-pub deleted_child : (c : Content) (p x : Identifier) → deleted_parent c x ≡ Some p → IsDeletedChild c p x
-deleted_child c p x h =
-    elim (finite_set.contains c.deleted x) as (λ b. finite_set.contains c.deleted x ≡ b → cond b (option_map (λ (y : Element). y.parent) (finite_map.get c.inserted x)) None ≡ Some p → IsDeletedChild c p x) [
-      | true ↦ λ t h. record {
-        child = by (finite_map.get c.inserted x) h;
-        hidden = ap (λ b. is_complete c x && not b) t ∙ and-false (is_complete c x);
-      }
-      | false ↦ λ t h. absurd (none-some _ h)
-    ] refl h
-  where
-    by : (o : Option Element) → option_map (λ (y : Element). y.parent) o ≡ Some p → option_map_or (λ (y : Element). is_id y.parent p) o false ≡ true
-    by None h = absurd (none-some _ h)
-    by (Some y) h = ap (λ i. is_id i p) (same_Some _ _ h) ∙ is_id-itself p
-
-pub not_deleted : (c : Content) (x : Identifier) → deleted_parent c x ≡ None → is_complete c x ≡ true → is_visible c x ≡ true
-not_deleted c x h complete =
-    let there : (y : Element) × (finite_map.get c.inserted x ≡ Some y) = inserted_if_complete c x complete in
-    let kept : finite_set.contains c.deleted x ≡ false =
-    elim (finite_set.contains c.deleted x) as (λ b. cond b (option_map (λ (y : Element). y.parent) (finite_map.get c.inserted x)) None ≡ None → b ≡ false) [
-      | true ↦ λ h. absurd (none-some _ (sym h ∙ ap (option_map (λ (y : Element). y.parent)) there.1))
-      | false ↦ λ h. refl
-    ] h in
-    λ k. complete k && not (kept k)
-
-pub child_no_root : (c : Content) (p x : Identifier) → IsSound c → is_child c p x ≡ true → is_root x ≡ false
-child_no_root c p x sound child =
-    let ch : IsChild c p x = child_found c p x child in
-    (well_formed_insertion x ch.element.parent ch.element.ch (sound (Insert x ch.element.parent ch.element.ch) ch.found)).0

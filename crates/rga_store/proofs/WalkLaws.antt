@@ -15,7 +15,7 @@ use Rattle.rga_ops.specs.RootPath.{Path, path_cmp, root_path, is_complete, IsRoo
 use Rattle.rga_ops.specs.RootPath.IsRootPath.{at_root, below}
 use Rattle.rga_ops.specs.Order.{order, Precedes, IsInOrder, IsOrderList}
 use Rattle.rga_ops.proofs.IdentifierLaws.{ids_total, is, is_itself, same_id, is_id-is, is_id-itself}
-use Rattle.rga_ops.proofs.MemberLaws.{all_map, all_append, all_members}
+use Rattle.rga_ops.proofs.MemberLaws.{all_map, all_append, all_members, of_member}
 use Rattle.rga_ops.proofs.BeforeLaws.{paths_total}
 use Rattle.rga_ops.proofs.PathLaws.{root_path-is, is-root_path, root_path-root, root_path-step}
 use Rattle.rga_ops.proofs.PlacedLaws.{IsPlaced, placed_key}
@@ -38,14 +38,6 @@ all_front P (x ∷ xs) ys h = (h.0, all_front P xs ys h.1)
 all_last : (P : Identifier → Type 0) (xs : List Identifier) (y : Identifier) → AllByRecursion P (xs ++ y ∷ []) → P y
 all_last P [] y h = h.0
 all_last P (x ∷ xs) y h = all_last P xs y h.1
-
-of_member : (P : Identifier → Type 0) (xs : List Identifier) (q : Identifier) → AllByRecursion P xs → list_any (is q) xs ≡ true → P q
-of_member P [] q h m = absurd (true≢false (sym m))
-of_member P (x ∷ xs) q h m =
-    elim (or_cases (is q x) (list_any (is q) xs) m) [
-      | inl here ↦ subst P (sym (same_id q x here)) h.0
-      | inr later ↦ of_member P xs q h.1 later
-    ]
 
 left_member : (xs ys : List Identifier) (q : Identifier) → list_any (is q) xs ≡ true → list_any (is q) (xs ++ ys) ≡ true
 left_member xs ys q m = list_any-append (is q) xs ys ∙ or_left (list_any (is q) xs) (list_any (is q) ys) m

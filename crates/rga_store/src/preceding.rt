@@ -1,57 +1,17 @@
 //! Back through the order, one element at a time, by look-ups. Takes no memory.
-ghost use Rattle.std.specs.Prelude.{◌≡◌, ◌++◌, ◌∷◌, [], if◌then◌else◌, slice_get, true, false, None};
+ghost use Rattle.std.specs.Prelude.{◌≡◌, ◌++◌, ◌∷◌, [], slice_get, true, false};
 ghost use Rattle.std.specs.Map.{lookup};
-ghost use Rattle.std.specs.Option.{option_copied, option_map};
-ghost use Rattle.std.specs.FinMap as finite_map;
-ghost use Rattle.std.specs.FinSet as finite_set;
-ghost use Rattle.rga_ops.specs.Prelude.{is_id, is_root, place, IsSound};
+ghost use Rattle.std.specs.Option.{option_copied};
+ghost use Rattle.rga_ops.specs.Prelude.{is_id, is_root, IsSound};
 ghost use Rattle.rga_ops.specs.RootPath.{is_complete};
-ghost use Rattle.rga_ops.specs.Places.{is_visible};
 ghost use Rattle.rga_store.specs.Children.{next_newer};
-ghost use Rattle.rga_store.specs.Nodes.{content_of_nodes, children_of, AreApart};
+ghost use Rattle.rga_store.specs.Nodes.{content_of_nodes, children_of};
 ghost use Rattle.rga_store.specs.Preceding.{beginning, IsLastUnder};
 ghost use Rattle.rga_store.specs.Tree.{is_child, HasFamilies};
 
 use crate::nodes::{Node, find_node};
 use indexmap::IndexMap;
 use rga_ops::Id;
-
-/// The last visible element that is a complete element or stands before it; the root where there
-/// is none.
-pub(crate) fn last_visible(nodes: &IndexMap<Id, Node>, id: Id) -> Id
-    requires apart { AreApart nodes.now.entries }
-    requires family { HasFamilies nodes.now.entries }
-    requires sound { IsSound (content_of_nodes nodes.now.entries) }
-    requires complete { is_complete (content_of_nodes nodes.now.entries) id ≡ true }
-    ensures place { place (content_of_nodes nodes.now.entries) result
-        ≡ place (content_of_nodes nodes.now.entries) id }
-    ensures visible { is_root result ≡ false →
-        is_visible (content_of_nodes nodes.now.entries) result ≡ true }
-{
-    let mut last = id;
-    let mut near = 0;
-    while let Some(parent) = parent_of_deleted(nodes, &mut near, last) {
-        last = element_before(nodes, &mut near, parent, last);
-    }
-    last
-}
-
-/// The parent of an element that is deleted; none of one that is not, or of the root. It leaves the
-/// index before the element's own at `near`: the parent's node mostly stands there.
-fn parent_of_deleted(nodes: &IndexMap<Id, Node>, near: &mut usize, id: Id) -> Option<Id>
-    requires { AreApart nodes.now.entries }
-    ensures { let content = content_of_nodes nodes.now.entries in result
-        ≡ (if finite_set.contains content.deleted id
-        then option_map (λ x. x.parent) (finite_map.get content.inserted id) else None) }
-{
-    let node = find_near(nodes, near, id)?;
-    *near = near.wrapping_sub(1);
-    if !node.deleted {
-        return None;
-    }
-    let (parent, _) = node.element?;
-    Some(parent)
-}
 
 /// What stands directly before an element in the order; the root before the first. Of siblings the
 /// newest is first, and all that stands under one comes before the next. So it is the last under

@@ -2,11 +2,10 @@
 ghost use Rattle.std.specs.Prelude.{◌≡◌, ◌≢◌, ◌≤◌, ◌↔◌, ℕ, length, take, drop, slice_get, true, false, Ok, Err, IfOk, IfErr, MatchResult, string_bytes, encode_utf8_all};
 ghost use Rattle.std.specs.FinMap as finite_map;
 ghost use Rattle.std.specs.FinSet as finite_set;
-ghost use Rattle.rga_ops.specs.Prelude.{Identifier, IsSound, clock_of, is_root, join, known_count, merge_answer, nothing, operations, order, place, text};
+ghost use Rattle.rga_ops.specs.Prelude.{Identifier, IsSound, clock_of, join, known_count, merge_answer, nothing, operations, order, place, text};
 ghost use Rattle.rga_ops.specs.Content.{element_at, Holds};
 ghost use Rattle.rga_ops.specs.Order.{waiting};
-ghost use Rattle.rga_ops.specs.Places.{is_visible, visible};
-ghost use Rattle.rga_ops.specs.RootPath.{is_complete};
+ghost use Rattle.rga_ops.specs.Places.{visible};
 ghost use Rattle.rga_ops.specs.declared.op.Op.TheVariants.{Delete};
 ghost use Rattle.rga_store.specs.Limit.{is_limit};
 
@@ -78,14 +77,6 @@ pub trait TextStore: Taker + Sized + Drop {
         ensures elements { IfOk result (λ p. p.0.items ≡ visible (Self.content self.now)) }
         ensures characters { IfOk result (λ p. p.1.items ≡ text (Self.content self.now)) }
         ensures memory { IfErr result (λ e. e ≡ Refusal.Memory) };
-
-    /// The last visible element that is a complete element or stands before it in the order; the
-    /// root where there is none. Takes no memory.
-    fn last_visible(&self, id: Id) -> Id
-        requires { is_complete (Self.content self.now) id ≡ true }
-        ensures place { place (Self.content self.now) result ≡ place (Self.content self.now) id }
-        ensures visible { is_root result ≡ false →
-            is_visible (Self.content self.now) result ≡ true };
 
     /// How many elements are visible. Takes no memory.
     fn visible_len(&self) -> usize

@@ -15,7 +15,6 @@ use crate::list_answer::answer_to_list;
 use crate::merging::{count_unknown, least_conflict};
 use crate::nodes::{Node, add_child, ensure_node, found_at, mark, set_element};
 use crate::operations::operations_of;
-use crate::preceding::last_visible;
 use crate::taker::Taker;
 use crate::text_store::{MAX_LIMIT, TextStore};
 use crate::walk::{walked, walked_text, walked_visible};
@@ -270,10 +269,6 @@ impl TextStore for TreeStore {
 
     fn visible(&self, alloc: Global) -> Result<(Vec<Id>, Vec<char>), Refusal> {
         walked_visible(alloc, &self.nodes)
-    }
-
-    fn last_visible(&self, id: Id) -> Id {
-        last_visible(&self.nodes, id)
     }
 
     fn visible_len(&self) -> usize {

@@ -1,7 +1,7 @@
 //! Each store answers and shows as the plain list does.
 use crate::list_store::{ListStore, Shown};
 use crate::random::Random;
-use crate::words::{is, last_visible_ones};
+use crate::words::{is, places};
 use rga_ops::Op;
 use rga_store::TextStore;
 use std::alloc::Global;
@@ -32,7 +32,7 @@ fn shows<S: TextStore>(alloc: Global, store: &S, shown: &Shown) -> bool {
             store.elements(alloc, 0, shown.visible.len()),
             &shown.visible,
         )
-        && is(last_visible_ones(alloc, store), &shown.last)
+        && is(places(alloc, store), &shown.places)
 }
 
 /// Whether the store lists these visible elements, and their text.

@@ -2,8 +2,8 @@
 use crate::comparison::check_beside_a_list;
 use crate::merging::{check_merges, takes_its_copy};
 use crate::stores::{
-    check_last_visible, check_limits, check_siblings, check_texts, has_each_answer,
-    is_filled_by_waiting_ones, tells_small_tree,
+    check_limits, check_siblings, check_texts, has_each_answer, is_filled_by_waiting_ones,
+    tells_small_tree,
 };
 use crate::walks::{check_places, has_elements};
 use crate::whole_lists::check_lists;
@@ -14,7 +14,6 @@ use std::process::Abort;
 
 fn check<S: TextStore, R: Abort>(rt: &R, alloc: Global) {
     check_texts::<S, R>(rt, alloc);
-    check_last_visible::<S, R>(rt, alloc);
     assert!(rt; has_each_answer::<S, R>(rt, alloc));
     assert!(rt; is_filled_by_waiting_ones::<S, R>(rt, alloc));
     assert!(rt; tells_small_tree::<S>(alloc));

@@ -13,8 +13,8 @@ type RootPath = Vec<Reverse<Id>>;
 pub struct Shown {
     /// The complete elements.
     pub order: Vec<Id>,
-    /// The last visible element up to each of them, in turn.
-    pub last: Vec<Id>,
+    /// The place of each of them, in turn.
+    pub places: Vec<Option<usize>>,
     pub visible: Vec<Id>,
     pub text: Vec<char>,
 }
@@ -23,7 +23,7 @@ impl Shown {
     fn new(alloc: Global) -> Shown {
         Shown {
             order: Vec::new(alloc),
-            last: Vec::new(alloc),
+            places: Vec::new(alloc),
             visible: Vec::new(alloc),
             text: Vec::new(alloc),
         }
@@ -35,10 +35,8 @@ impl Shown {
             self.visible.push(id)?;
             self.text.push(ch)?;
         }
-        let last = self.visible.as_slice().last().copied();
-        self.order.push(id)?;
-        self.last.push(last.unwrap_or(Id::ROOT))?;
-        Ok(())
+        self.places.push(Some(self.visible.len()))?;
+        Ok(self.order.push(id)?)
     }
 }
 

@@ -51,31 +51,25 @@ fn merges<S: TextStore>(
 
 /// Each merge has its answer, and joins either way round.
 pub fn check_merges<S: TextStore, R: Abort>(rt: &R, alloc: Global) {
-    for (name, limit, own, other, answer, after) in &[
-        ("nothing", 2usize, HERE, "", "Ok(())", HERE),
+    const ROWS: &[(usize, &str, &str, &str, &str)] = &[
+        (2, HERE, "", "Ok(())", HERE), // Nothing.
+        (2, HERE, "-1.1", "Ok(())", "a1.1<0.0 b2.1<1.1 -1.1"), // A known element deleted.
+        (2, HERE, THERE, "Err(Full)", HERE), // Too many.
+        (3, HERE, THERE, "Ok(())", BOTH), // Just enough.
+        (3, THERE, HERE, "Ok(())", BOTH), // The other way round.
+        // Two conflicts.
         (
-            "a known element deleted",
-            2,
-            HERE,
-            "-1.1",
-            "Ok(())",
-            "a1.1<0.0 b2.1<1.1 -1.1",
-        ),
-        ("too many", 2, HERE, THERE, "Err(Full)", HERE),
-        ("just enough", 3, HERE, THERE, "Ok(())", BOTH),
-        ("the other way round", 3, THERE, HERE, "Ok(())", BOTH),
-        (
-            "two conflicts",
             2,
             HERE,
             "z2.1<0.0 q1.1<0.0",
             "Err(Conflict(Id { counter: 1, replica: 1 }))",
             HERE,
         ),
-    ] {
+    ];
+    for (limit, own, other, answer, after) in ROWS {
         assert!(rt;
             merges::<S>(alloc, *limit, own, other, answer, after),
-            "{name}"
+            "{limit} {other}"
         );
     }
 }

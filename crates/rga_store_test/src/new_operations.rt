@@ -22,23 +22,14 @@ fn has_new(alloc: Global, before: &str, list: &str, new: &str) -> bool {
 
 #[test]
 fn what_is_held_and_repeats_are_not_new(rt: HostRuntime) {
-    for (name, before, list, new) in &[
-        ("nothing", "a1.1<0.0", "", ""),
-        ("all", "", "-1.1 a1.1<0.0", "-1.1 a1.1<0.0"),
-        (
-            "known ones",
-            "a1.1<0.0 -1.1",
-            "-1.1 b2.1<1.1 a1.1<0.0",
-            "b2.1<1.1",
-        ),
-        (
-            "repeats",
-            "",
-            "b2.1<1.1 -2.1 b2.1<1.1 -2.1",
-            "b2.1<1.1 -2.1",
-        ),
-        ("a conflict", "a1.1<0.0", "b1.1<0.0", "b1.1<0.0"),
-    ] {
-        assert!(rt; has_new(rt.alloc(), before, list, new), "{name}");
+    const ROWS: &[(&str, &str, &str)] = &[
+        ("a1.1<0.0", "", ""), // Nothing.
+        ("", "-1.1 a1.1<0.0", "-1.1 a1.1<0.0"), // All.
+        ("a1.1<0.0 -1.1", "-1.1 b2.1<1.1 a1.1<0.0", "b2.1<1.1"), // Known ones.
+        ("", "b2.1<1.1 -2.1 b2.1<1.1 -2.1", "b2.1<1.1 -2.1"), // Repeats.
+        ("a1.1<0.0", "b1.1<0.0", "b1.1<0.0"), // A conflict.
+    ];
+    for (before, list, new) in ROWS {
+        assert!(rt; has_new(rt.alloc(), before, list, new), "{list}");
     }
 }

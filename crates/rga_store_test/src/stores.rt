@@ -1,5 +1,5 @@
 //! Both stores on worked examples.
-use crate::words::{holds, last_visible_ones, shows, spell, store_of};
+use crate::words::{holds, shows, spell, store_of};
 use rga_ops::{Id, Op, Refusal};
 use rga_store::{MAX_LIMIT, TextStore, answer_at};
 use rga_walk::{text, visible_len};
@@ -23,111 +23,24 @@ fn tells<S: TextStore>(alloc: Global, words: &str, expected: &str, waiting: usiz
 
 /// The text follows the root paths.
 pub fn check_texts<S: TextStore, R: Abort>(rt: &R, alloc: Global) {
-    for (name, words, text, waiting) in &[
-        ("nothing", "", "", 0usize),
-        ("typing", "a1.1<0.0 b2.1<1.1", "ab", 0),
-        ("concurrent at the root", "a1.1<0.0 x1.2<0.0", "xa", 0),
-        ("the other way round", "x1.2<0.0 a1.1<0.0", "xa", 0),
-        ("waiting for its parent", "b2.1<1.1", "", 1),
-        ("the parent comes", "b2.1<1.1 a1.1<0.0", "ab", 0),
-        ("deleted early", "-1.1 a1.1<0.0", "", 0),
-        (
-            "behind its parent, past larger ones",
-            "a1.1<0.0 c3.1<1.1 d4.1<3.1 b2.2<1.1",
-            "acdb",
-            0,
-        ),
-        (
-            "one of them deleted",
-            "a1.1<0.0 c3.1<1.1 d4.1<3.1 b2.2<1.1 -3.1",
-            "adb",
-            0,
-        ),
-        ("two wait", "c3.1<2.1 b2.1<1.1", "", 2),
-        ("both go on", "c3.1<2.1 b2.1<1.1 a1.1<0.0", "abc", 0),
-        (
-            "two replicas",
-            "a1.1<0.0 b2.1<1.1 c3.1<2.1 x1.2<0.0 y2.2<1.2",
-            "xyabc",
-            0,
-        ),
-        (
-            "behind a deleted element",
-            "a1.1<0.0 b2.1<1.1 c3.1<2.1 -2.1 w4.2<2.1",
-            "awc",
-            0,
-        ),
-    ] {
-        assert!(rt; tells::<S>(alloc, words, text, *waiting), "{name}");
-    }
-}
-
-/// Whether these are the characters of the elements, in turn; the root has a dot.
-fn are_characters<S: TextStore>(store: &S, ids: &[Id], text: &str) -> bool {
-    let mut chars = text.chars();
-    for id in ids {
-        let ch = match store.get(*id) {
-            Some((_, ch)) => ch,
-            None => '.',
-        };
-        if chars.next() != Some(ch) {
-            return false;
-        }
-    }
-    chars.next() == None
-}
-
-/// Whether these are the characters of the last visible elements up to each element of the order,
-/// in turn, of a store that took these operations.
-fn leads_back<S: TextStore>(alloc: Global, words: &str, text: &str) -> bool {
-    match store_of::<S>(alloc, 100, words) {
-        Ok(store) => match last_visible_ones(alloc, &store) {
-            Ok(ids) => are_characters(&store, &ids, text),
-            Err(_) => false,
-        },
-        Err(_) => false,
-    }
-}
-
-/// The last visible element is found.
-pub fn check_last_visible<S: TextStore, R: Abort>(rt: &R, alloc: Global) {
-    for (name, words, text) in &[
-        ("nothing", "", ""),
-        ("visible itself", "a1.1<0.0 b2.1<1.1", "ab"),
-        ("behind its parent", "a1.1<0.0 b2.1<1.1 -2.1", "aa"),
-        ("all are deleted", "a1.1<0.0 b2.1<1.1 -1.1 -2.1", ".."),
-        (
-            "behind a newer sibling",
-            "a1.1<0.0 b2.1<1.1 c3.1<1.1 -2.1",
-            "acc",
-        ),
-        (
-            "behind all under a newer sibling",
-            "a1.1<0.0 b2.1<0.0 c3.1<2.1 d4.1<3.1 e5.1<2.1 -1.1",
-            "becdd",
-        ),
-        (
-            "a chain is deleted",
-            "a1.1<0.0 b2.1<1.1 c3.1<2.1 d4.1<3.1 -2.1 -3.1 -4.1",
-            "aaaa",
-        ),
-        (
-            "a chain under a newer sibling is deleted",
-            "a1.1<0.0 b2.1<1.1 c3.1<1.1 d4.1<3.1 e5.1<4.1 -2.1 -4.1 -5.1",
-            "acccc",
-        ),
-        (
-            "characters are restored behind deleted ones",
-            "a1.1<0.0 b2.1<1.1 c3.1<2.1 -2.1 -3.1 x4.1<3.1 y5.1<4.1",
-            "aaaxy",
-        ),
-        (
-            "what waits is not behind",
-            "a1.1<0.0 d4.1<1.1 c6.1<5.1 -1.1 -4.1",
-            "..",
-        ),
-    ] {
-        assert!(rt; leads_back::<S>(alloc, words, text), "{name}");
+    const ROWS: &[(&str, &str, usize)] = &[
+        ("", "", 0), // Nothing.
+        ("a1.1<0.0 b2.1<1.1", "ab", 0), // Typing.
+        ("a1.1<0.0 x1.2<0.0", "xa", 0), // Concurrent at the root.
+        ("x1.2<0.0 a1.1<0.0", "xa", 0), // The other way round.
+        ("b2.1<1.1", "", 1), // Waiting for its parent.
+        ("b2.1<1.1 a1.1<0.0", "ab", 0), // The parent comes.
+        ("-1.1 a1.1<0.0", "", 0), // Deleted early.
+        // Behind its parent, past larger ones.
+        ("a1.1<0.0 c3.1<1.1 d4.1<3.1 b2.2<1.1", "acdb", 0),
+        ("a1.1<0.0 c3.1<1.1 d4.1<3.1 b2.2<1.1 -3.1", "adb", 0), // One of them deleted.
+        ("c3.1<2.1 b2.1<1.1", "", 2), // Two wait.
+        ("c3.1<2.1 b2.1<1.1 a1.1<0.0", "abc", 0), // Both go on.
+        ("a1.1<0.0 b2.1<1.1 c3.1<2.1 x1.2<0.0 y2.2<1.2", "xyabc", 0), // Two replicas.
+        ("a1.1<0.0 b2.1<1.1 c3.1<2.1 -2.1 w4.2<2.1", "awc", 0), // Behind a deleted element.
+    ];
+    for (words, text, waiting) in ROWS {
+        assert!(rt; tells::<S>(alloc, words, text, *waiting), "{words}");
     }
 }
 

@@ -40,50 +40,30 @@ fn takes<S: TextStore>(
 
 /// A list is taken whole, or it is refused and changes nothing.
 pub fn check_lists<S: TextStore, R: Abort>(rt: &R, alloc: Global) {
-    for (name, limit, before, list, answer, after) in &[
-        ("nothing", 1usize, "", "", "Ok(())", ""),
+    const ROWS: &[(usize, &str, &str, &str, &str)] = &[
+        (1, "", "", "Ok(())", ""), // Nothing.
+        (1, "", "-1.1 a1.1<0.0", "Ok(())", "a1.1<0.0 -1.1"), // One identifier, twice.
+        (2, "", "a1.1<0.0 b2.1<1.1 a1.1<0.0 b2.1<1.1", "Ok(())", AB), // Repeats.
+        // Known ones.
         (
-            "one identifier, twice",
-            1,
-            "",
-            "-1.1 a1.1<0.0",
-            "Ok(())",
-            "a1.1<0.0 -1.1",
-        ),
-        (
-            "repeats",
-            2,
-            "",
-            "a1.1<0.0 b2.1<1.1 a1.1<0.0 b2.1<1.1",
-            "Ok(())",
-            AB,
-        ),
-        (
-            "known ones",
             2,
             "a1.1<0.0 -1.1",
             "a1.1<0.0 b2.1<1.1 -1.1",
             "Ok(())",
             "a1.1<0.0 b2.1<1.1 -1.1",
         ),
-        ("a child first", 2, "", "b2.1<1.1 a1.1<0.0", "Ok(())", AB),
-        ("too many", 1, "", AB, "Err(Full)", ""),
-        ("a deletion too many", 1, A, "-2.1", "Err(Full)", A),
-        (
-            "two insertions",
-            1,
-            "",
-            "a1.1<0.0 b2.1<1.1 b1.1<0.0",
-            CONFLICT,
-            "",
-        ),
-        ("one of the store", 9, A, "b2.1<1.1 b1.1<0.0", CONFLICT, A),
-        ("ill-formed", 9, A, "b1.1<0.0 c3.1<3.1", "Err(BadOrder)", A),
-        ("the root", 9, "", "-0.0 c3.1<3.1", "Err(BadId)", ""),
-    ] {
+        (2, "", "b2.1<1.1 a1.1<0.0", "Ok(())", AB), // A child first.
+        (1, "", AB, "Err(Full)", ""), // Too many.
+        (1, A, "-2.1", "Err(Full)", A), // A deletion too many.
+        (1, "", "a1.1<0.0 b2.1<1.1 b1.1<0.0", CONFLICT, ""), // Two insertions.
+        (9, A, "b2.1<1.1 b1.1<0.0", CONFLICT, A), // One of the store.
+        (9, A, "b1.1<0.0 c3.1<3.1", "Err(BadOrder)", A), // Ill-formed.
+        (9, "", "-0.0 c3.1<3.1", "Err(BadId)", ""), // The root.
+    ];
+    for (limit, before, list, answer, after) in ROWS {
         assert!(rt;
             takes::<S>(alloc, *limit, before, list, answer, after),
-            "{name}"
+            "{limit} {list}"
         );
     }
 }

@@ -1,5 +1,5 @@
 //! Stores that are made from words, and compared with words and with one another.
-use rga_ops::{Id, Refusal};
+use rga_ops::Refusal;
 use rga_store::TextStore;
 use std::alloc::Global;
 use test_fixtures::{op_of, ops_of, spells};
@@ -36,12 +36,11 @@ pub fn holds<S: TextStore>(alloc: Global, store: &S, words: &str) -> bool {
     same(store.ops(), ops_of(alloc, words))
 }
 
-/// The last visible element up to each element of the order, in turn.
-pub fn last_visible_ones<S: TextStore>(alloc: Global, store: &S) -> Result<Vec<Id>, Refusal> {
-    let order = store.order()?;
+/// The place of each element of the order, in turn.
+pub fn places<S: TextStore>(alloc: Global, store: &S) -> Result<Vec<Option<usize>>, Refusal> {
     let mut found = Vec::new(alloc);
-    for id in &order {
-        found.push(store.last_visible(*id))?;
+    for id in &store.order()? {
+        found.push(store.place_of(*id))?;
     }
     Ok(found)
 }

@@ -3,7 +3,7 @@ use Rattle.std.proofs.lemmas.List.{drop_all}
 use Rattle.rga_ops.specs.Identifier.{Identifier}
 use Rattle.rga_ops.specs.declared.op.Op.{Op}
 use Rattle.rga_doc.specs.UndoGroup.{inserted_elements}
-use Rattle.rga_doc.proofs.RelistingLaws.{one_more}
+use Rattle.rga_doc.proofs.UndoLists.{one_more}
 use Rattle.rga_doc.proofs.RevertSets.{from}
 use Rattle.mg_buffer.specs.Groups.{stand_in}
 use Rattle.mg_buffer.specs.Slots.{AreStandIns}

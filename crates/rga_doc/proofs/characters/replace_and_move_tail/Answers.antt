@@ -6,7 +6,7 @@ use Rattle.rga_doc.proofs.characters.replace_and_move_tail.Goals as goal
 pub returns-clause-items : goal.returns-clause-items
 returns-clause-items c =
     let old : List ℕ = c.args.places.now.items in
-    let now : List ℕ = c.move_tail.new.items.items in
+    let now : List ℕ = c.move_tail.new.characters.items in
     let put : List ℕ = c.args.put.now in
     let lo : ℕ = c.args.lo in
     let hi : ℕ = c.args.hi in

@@ -7,17 +7,17 @@ use Rattle.rga_ops.specs.Content.{element}
 use Rattle.rga_store.specs.declared.nodes.Node.{Node}
 use Rattle.rga_store.specs.Nodes.{Nodes, AreApart, content_of_nodes}
 use Rattle.rga_store.proofs.NodeLaws.{element_of, mark_of, inserted_at, deleted_at}
-use Rattle.rga_store.proofs.CountingLaws.{parent_and_mark, told}
+use Rattle.rga_store.proofs.CountingLaws.{parent_and_mark, element_parent_and_mark}
 use Rattle.rga_store.proofs.counting_back.parent_and_mark.Goals as goal
 
 -- what the nodes say of an identifier is what is found at it
 found_at : (ns : Nodes) (id : Identifier) (found : Option Node) → AreApart ns → lookup (is_id id) ns ≡ found
-    → option_map (told (mark_of found)) (element_of found) ≡ parent_and_mark (content_of_nodes ns) id
-found_at ns id found apart is = λ k. option_map (told (sym (deleted_at ns apart id ∙ ap mark_of is) k)) (sym (inserted_at ns apart id ∙ ap element_of is) k)
+    → option_map (element_parent_and_mark (mark_of found)) (element_of found) ≡ parent_and_mark (content_of_nodes ns) id
+found_at ns id found apart is = λ k. option_map (element_parent_and_mark (sym (deleted_at ns apart id ∙ ap mark_of is) k)) (sym (inserted_at ns apart id ∙ ap element_of is) k)
 
 -- a node's parent is that of its element
-parent_in : (node : Node) (e : Option (Identifier × ℕ)) → node.element ≡ e → option_map (told node.deleted) (option_map (λ (x : Identifier × ℕ). element x.0 x.1) e) ≡ option_map (told (mark_of (Some node))) (element_of (Some node))
-parent_in node e has = λ k. option_map (told node.deleted) (option_map (λ (x : Identifier × ℕ). element x.0 x.1) (sym has k))
+parent_in : (node : Node) (e : Option (Identifier × ℕ)) → node.element ≡ e → option_map (element_parent_and_mark node.deleted) (option_map (λ (x : Identifier × ℕ). element x.0 x.1) e) ≡ option_map (element_parent_and_mark (mark_of (Some node))) (element_of (Some node))
+parent_in node e has = λ k. option_map (element_parent_and_mark node.deleted) (option_map (λ (x : Identifier × ℕ). element x.0 x.1) (sym has k))
 
 pub returns-in_err-node : goal.returns-in_err-node
 returns-in_err-node c = c.from_residual.ensures ∙ found_at c.args.nodes.now.entries c.args.id None c.requires (sym c.find_near.ensures ∙ ap option_copied c.in_err-node.was)

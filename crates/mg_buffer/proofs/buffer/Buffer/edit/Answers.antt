@@ -70,14 +70,14 @@ invariant_of-self-in_err-take g c =
 
 -- ---- the places are in the new text
 
-pub marker_at-self-inside-requires-clause-within : goal.marker_at-self-inside-requires-clause-within
-marker_at-self-inside-requires-clause-within g c =
+pub marker_at-self-inside-requires : goal.marker_at-self-inside-requires
+marker_at-self-inside-requires g c =
     subst (λ xs. c.args.point ≤ length xs)
     (sym (c.in_ok-take.ensures.text ∙ ap (λ d. text_after (text d) c.args.splices.now) (ap (λ (d : Document). d.content) c.in_ok-ops.ensures.listed ∙ ap (λ (b : State). b.content) c.self.view_is)))
     c.requires.point
 
-pub mark_at-self-inside-requires-clause-within : goal.mark_at-self-inside-requires-clause-within
-mark_at-self-inside-requires-clause-within g c =
+pub mark_at-self-inside-requires : goal.mark_at-self-inside-requires
+mark_at-self-inside-requires g c =
     subst (λ xs. IfSome c.args.mark (λ n. n ≤ length xs))
     (sym (c.in_ok-take.ensures.text ∙ ap (λ d. text_after (text d) c.args.splices.now) (ap (λ (d : Document). d.content) c.in_ok-ops.ensures.listed ∙ ap (λ (b : State). b.content) c.self.view_is)))
     c.requires.mark

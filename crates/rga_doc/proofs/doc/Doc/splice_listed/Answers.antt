@@ -1,4 +1,4 @@
-use Rattle.std.proofs.Common.{◌≡◌, ◌≤◌, ◌+◌, ℕ, List, length, refl, sym, ap, ◌∙◌, arith}
+use Rattle.std.proofs.Common.{◌≡◌, ◌≤◌, ◌+◌, ℕ, length, refl, sym, ap, ◌∙◌, arith}
 use Rattle.std.specs.Prelude.{Ok, Err}
 use Rattle.std.proofs.lemmas.Result.{err_from_is_err_and}
 use Rattle.rga_ops.specs.Content.{Content, clock_of, join, content_of}
@@ -11,12 +11,15 @@ use Rattle.rga_ops.specs.declared.id.TheConstants.Id.{MAX_COUNTER}
 use Rattle.rga_ops.specs.declared.refusal.Refusal.{Refusal}
 use Rattle.rga_ops.specs.declared.refusal.Refusal.TheVariants.{Memory}
 use Rattle.rga_doc.specs.Document.{Document}
-use Rattle.rga_doc.specs.Listing.{IsListOf}
-use Rattle.rga_doc.specs.LocalEdit.{splice_answer, splice_operations, new_ids}
+use Rattle.rga_doc.specs.Excerpt.{Excerpted}
+use Rattle.rga_doc.specs.LocalEdit.{splice_answer, splice_operations}
 use Rattle.rga_doc.proofs.EditLaws.{splice_taken, splice_text, splice_order}
-use Rattle.rga_doc.proofs.EditAnswers.{splice_places, splice_counters, splice_made, memory_alone}
-use Rattle.rga_doc.proofs.ListingLaws.{list_spliced}
+use Rattle.rga_doc.proofs.EditAnswers.{splice_places, splice_counters, memory_alone}
+use Rattle.rga_doc.proofs.ExcerptLaws.{splice_by_excerpt, excerpt_long}
 use Rattle.rga_doc.proofs.doc.Doc.splice_listed.Goals as goal
+
+pub splice-requires-clause-begin : goal.splice-requires-clause-begin
+splice-requires-clause-begin g c = omega (arith, ap (λ (e : Excerpted). e.start) c.in_ok-elements.ensures.ok)
 
 pub splice-requires-clause-ordered : goal.splice-requires-clause-ordered
 splice-requires-clause-ordered g c = (splice_places c.args.self.now.limit c.args.lo c.args.hi c.args.self.now.content c.args.put.now c.requires.allowed).0
@@ -24,31 +27,30 @@ splice-requires-clause-ordered g c = (splice_places c.args.self.now.limit c.args
 pub splice-requires-clause-counters : goal.splice-requires-clause-counters
 splice-requires-clause-counters g c = λ some.
     let most : clock_of c.args.self.now.content + length c.args.put.now ≤ MAX_COUNTER = splice_counters c.args.self.now.limit c.args.lo c.args.hi c.args.self.now.content c.args.put.now c.requires.allowed some in
-    omega (arith, most, c.new-draft.ensures.last, c.clock-last.ensures, ap (λ (d : Document). clock_of d.content) c.self.view_is)
+    omega (arith, most, c.new-draft.ensures.last, c.clock.ensures, ap (λ (d : Document). clock_of d.content) c.self.view_is)
 
 pub splice-requires-clause-in_text : goal.splice-requires-clause-in_text
 splice-requires-clause-in_text g c =
     let content : Content = g.S.Taker.content c.self.inside.store in
-    let all : IsListOf content c.self.inside.listing.elements.items c.self.inside.listing.characters.items =
-    c.self.invariant.1 (ap (λ (d : Document). d.listed) c.self.view_is ∙ c.requires.listed) in
-    let within : c.args.hi ≤ length (text c.args.self.now.content) = (splice_places c.args.self.now.limit c.args.lo c.args.hi c.args.self.now.content c.args.put.now c.requires.allowed).1 in
-    omega (arith, within, ap (λ (d : Document). length (text d.content)) c.self.view_is, text_long content, ap length all.visible_ones)
+    let within : c.args.hi ≤ length (visible content) =
+    omega (arith, (splice_places c.args.self.now.limit c.args.lo c.args.hi c.args.self.now.content c.args.put.now c.requires.allowed).1, ap (λ (d : Document). length (text d.content)) c.self.view_is, text_long content) in
+    let up : c.args.lo ≤ c.args.hi = (splice_places c.args.self.now.limit c.args.lo c.args.hi c.args.self.now.content c.args.put.now c.requires.allowed).0 in
+    omega (arith, ap (λ (e : Excerpted). length e.items) c.in_ok-elements.ensures.ok, excerpt_long (visible content) c.args.lo c.args.hi up within)
 
 -- the store takes the operations of a splice that is allowed, but for want of memory
 pub returns-in_err-apply_all-clause-memory : goal.returns-in_err-apply_all-clause-memory
 returns-in_err-apply_all-clause-memory g c =
     let content : Content = g.S.Taker.content c.self.inside.store in
     let limit : ℕ = g.S.Taker.limit c.self.inside.store in
-    let replica : ℕ = c.self.inside.replica in
-    let all : IsListOf content c.self.inside.listing.elements.items c.self.inside.listing.characters.items =
-    c.self.invariant.1 (ap (λ (d : Document). d.listed) c.self.view_is ∙ c.requires.listed) in
+    let within : c.args.hi ≤ length (visible content) =
+    omega (arith, (splice_places c.args.self.now.limit c.args.lo c.args.hi c.args.self.now.content c.args.put.now c.requires.allowed).1, ap (λ (d : Document). length (text d.content)) c.self.view_is, text_long content) in
+    let up : c.args.lo ≤ c.args.hi = (splice_places c.args.self.now.limit c.args.lo c.args.hi c.args.self.now.content c.args.put.now c.requires.allowed).0 in
     let allowed : splice_answer limit content c.args.lo c.args.hi c.args.put.now ≡ Ok tt =
     ap (λ (d : Document). splice_answer d.limit d.content c.args.lo c.args.hi c.args.put.now) c.self.view_is ∙ c.requires.allowed in
-    let ops : c.splice.new.self.ops.items ≡ splice_operations replica content c.args.lo c.args.hi c.args.put.now =
-    splice_made replica c.args.lo c.args.hi content c.args.put.now c.splice.new.self.ops.items c.new-draft.result.ops.items c.self.inside.listing.elements.items c.new-draft.result.replica c.new-draft.result.last
-    c.new-draft.ensures.ops c.new-draft.ensures.replica (c.new-draft.ensures.last ∙ c.clock-last.ensures) all.visible_ones c.in_ok-splice.ensures.ops in
     let taken : list_answer limit content c.deref.result.now ≡ Ok tt =
-    ap (list_answer limit content) (c.deref.ensures.value ∙ ops) ∙ splice_taken limit replica c.args.lo c.args.hi content c.args.put.now allowed in
+    ap (list_answer limit content) (c.deref.ensures.value ∙ splice_by_excerpt c.self.inside.replica c.args.lo c.args.hi content c.args.put.now c.splice.new.self.ops.items c.new-draft.result.ops.items c.in_ok-elements.elements c.new-draft.result.replica c.new-draft.result.last
+    up within c.new-draft.ensures.ops c.new-draft.ensures.replica (c.new-draft.ensures.last ∙ c.clock.ensures) c.in_ok-elements.ensures.ok c.in_ok-splice.ensures.ops)
+    ∙ splice_taken limit c.self.inside.replica c.args.lo c.args.hi content c.args.put.now allowed in
     let p = err_from_is_err_and c.from_residual-in_err-apply_all.result c.from_residual-in_err-apply_all.ensures.1 in
     let e : Refusal = c.in_err-apply_all.field-0.0 in
     let memory : e ≡ Memory = memory_alone e (λ other. let clash : Err e ≡ Ok tt = c.in_err-apply_all.ensures.exact other ∙ taken in cc) in
@@ -57,62 +59,41 @@ returns-in_err-apply_all-clause-memory g c =
 pub splice-requires-2-clause-ordered : goal.splice-requires-2-clause-ordered
 splice-requires-2-clause-ordered g c = (splice_places c.args.self.now.limit c.args.lo c.args.hi c.args.self.now.content c.args.put.now c.requires.allowed).0
 
-pub splice-requires-2-clause-counters : goal.splice-requires-2-clause-counters
-splice-requires-2-clause-counters g c = λ some.
-    let most : clock_of c.args.self.now.content + length c.args.put.now ≤ MAX_COUNTER = splice_counters c.args.self.now.limit c.args.lo c.args.hi c.args.self.now.content c.args.put.now c.requires.allowed some in
-    omega (arith, most, c.clock-last.ensures, ap (λ (d : Document). clock_of d.content) c.self.view_is)
-
-pub splice-requires-2-clause-in_elements : goal.splice-requires-2-clause-in_elements
-splice-requires-2-clause-in_elements g c = λ kept.
+pub splice-requires-2-clause-in_text : goal.splice-requires-2-clause-in_text
+splice-requires-2-clause-in_text g c = λ kept.
     let content : Content = g.S.Taker.content c.self.inside.store in
-    let all : IsListOf content c.self.inside.listing.elements.items c.self.inside.listing.characters.items =
-    c.self.invariant.1 (ap (λ (d : Document). d.listed) c.self.view_is ∙ c.requires.listed) in
+    let all : c.self.inside.listing.characters.items ≡ text content = c.self.invariant.1 (ap (λ (d : Document). d.listed) c.self.view_is ∙ c.requires.listed) in
     let within : c.args.hi ≤ length (text c.args.self.now.content) = (splice_places c.args.self.now.limit c.args.lo c.args.hi c.args.self.now.content c.args.put.now c.requires.allowed).1 in
-    omega (arith, within, ap (λ (d : Document). length (text d.content)) c.self.view_is, text_long content, ap length (c.make_room.ensures.elements kept ∙ all.visible_ones))
+    omega (arith, within, ap (λ (d : Document). length (text d.content)) c.self.view_is, ap length (c.make_room.ensures.characters kept ∙ all))
 
-pub splice-requires-2-clause-in_characters : goal.splice-requires-2-clause-in_characters
-splice-requires-2-clause-in_characters g c = λ kept.
-    let content : Content = g.S.Taker.content c.self.inside.store in
-    let all : IsListOf content c.self.inside.listing.elements.items c.self.inside.listing.characters.items =
-    c.self.invariant.1 (ap (λ (d : Document). d.listed) c.self.view_is ∙ c.requires.listed) in
-    let within : c.args.hi ≤ length (text c.args.self.now.content) = (splice_places c.args.self.now.limit c.args.lo c.args.hi c.args.self.now.content c.args.put.now c.requires.allowed).1 in
-    omega (arith, within, ap (λ (d : Document). length (text d.content)) c.self.view_is, ap length (c.make_room.ensures.characters kept ∙ all.their_text))
-
--- the lists are spliced with the content
+-- the characters are spliced with the text
 pub invariant_of-self-2 : goal.invariant_of-self-2
 invariant_of-self-2 g c =
     let content : Content = g.S.Taker.content c.self.inside.store in
     let limit : ℕ = g.S.Taker.limit c.self.inside.store in
-    let replica : ℕ = c.self.inside.replica in
-    let lo : ℕ = c.args.lo in
-    let hi : ℕ = c.args.hi in
-    let put : List ℕ = c.args.put.now in
-    let all : IsListOf content c.self.inside.listing.elements.items c.self.inside.listing.characters.items =
-    c.self.invariant.1 (ap (λ (d : Document). d.listed) c.self.view_is ∙ c.requires.listed) in
-    let allowed : splice_answer limit content lo hi put ≡ Ok tt = ap (λ (d : Document). splice_answer d.limit d.content lo hi put) c.self.view_is ∙ c.requires.allowed in
-    let ops : c.splice.new.self.ops.items ≡ splice_operations replica content lo hi put =
-    splice_made replica lo hi content put c.splice.new.self.ops.items c.new-draft.result.ops.items c.self.inside.listing.elements.items c.new-draft.result.replica c.new-draft.result.last
-    c.new-draft.ensures.ops c.new-draft.ensures.replica (c.new-draft.ensures.last ∙ c.clock-last.ensures) all.visible_ones c.in_ok-splice.ensures.ops in
-    let joined : g.S.Taker.content c.apply_all.new.self ≡ join content (content_of (splice_operations replica content lo hi put)) =
-    c.in_ok-apply_all.ensures.whole refl ∙ ap (λ done. join content (content_of done)) (c.deref.ensures.value ∙ ops) in
-    let made = list_spliced limit replica lo hi content put c.self.inside.listing.elements.items c.self.inside.listing.characters.items allowed all in (
+    let within : c.args.hi ≤ length (visible content) =
+    omega (arith, (splice_places c.args.self.now.limit c.args.lo c.args.hi c.args.self.now.content c.args.put.now c.requires.allowed).1, ap (λ (d : Document). length (text d.content)) c.self.view_is, text_long content) in
+    let up : c.args.lo ≤ c.args.hi = (splice_places c.args.self.now.limit c.args.lo c.args.hi c.args.self.now.content c.args.put.now c.requires.allowed).0 in
+    let all : c.self.inside.listing.characters.items ≡ text content = c.self.invariant.1 (ap (λ (d : Document). d.listed) c.self.view_is ∙ c.requires.listed) in
+    let allowed : splice_answer limit content c.args.lo c.args.hi c.args.put.now ≡ Ok tt = ap (λ (d : Document). splice_answer d.limit d.content c.args.lo c.args.hi c.args.put.now) c.self.view_is ∙ c.requires.allowed in
+    let joined : g.S.Taker.content c.apply_all.new.self ≡ join content (content_of (splice_operations c.self.inside.replica content c.args.lo c.args.hi c.args.put.now)) =
+    c.in_ok-apply_all.ensures.whole refl ∙ ap (λ done. join content (content_of done)) (c.deref.ensures.value ∙ splice_by_excerpt c.self.inside.replica c.args.lo c.args.hi content c.args.put.now c.splice.new.self.ops.items c.new-draft.result.ops.items c.in_ok-elements.elements c.new-draft.result.replica c.new-draft.result.last
+    up within c.new-draft.ensures.ops c.new-draft.ensures.replica (c.new-draft.ensures.last ∙ c.clock.ensures) c.in_ok-elements.ensures.ok c.in_ok-splice.ensures.ops) in (
       c.self.invariant.0,
-      λ listed. record {
-        visible_ones =
-            c.splice-2.ensures.elements listed ∙ (λ k. spliced (c.make_room.ensures.elements (sym c.splice-2.ensures.listed ∙ listed) k) lo hi (new_ids replica (c.clock-last.ensures k) put))
-            ∙ made.visible_ones ∙ ap visible (sym joined);
-        their_text = c.splice-2.ensures.characters listed ∙ ap (λ xs. spliced xs lo hi put) (c.make_room.ensures.characters (sym c.splice-2.ensures.listed ∙ listed)) ∙ made.their_text ∙ ap text (sym joined);
-      },
+      λ listed. c.splice-2.ensures.characters listed
+          ∙ ap (λ xs. spliced xs c.args.lo c.args.hi c.args.put.now) (c.make_room.ensures.characters (sym c.splice-2.ensures.listed ∙ listed) ∙ all)
+          ∙ sym (splice_text limit c.self.inside.replica c.args.lo c.args.hi content c.args.put.now allowed) ∙ ap text (sym joined),
     )
 
 -- what is taken is the splice's operations
 pub returns-clause-operations : goal.returns-clause-operations
 returns-clause-operations g c =
     let content : Content = g.S.Taker.content c.self.inside.store in
-    let all : IsListOf content c.self.inside.listing.elements.items c.self.inside.listing.characters.items =
-    c.self.invariant.1 (ap (λ (d : Document). d.listed) c.self.view_is ∙ c.requires.listed) in
-    splice_made c.self.inside.replica c.args.lo c.args.hi content c.args.put.now c.splice.new.self.ops.items c.new-draft.result.ops.items c.self.inside.listing.elements.items c.new-draft.result.replica c.new-draft.result.last
-    c.new-draft.ensures.ops c.new-draft.ensures.replica (c.new-draft.ensures.last ∙ c.clock-last.ensures) all.visible_ones c.in_ok-splice.ensures.ops
+    let within : c.args.hi ≤ length (visible content) =
+    omega (arith, (splice_places c.args.self.now.limit c.args.lo c.args.hi c.args.self.now.content c.args.put.now c.requires.allowed).1, ap (λ (d : Document). length (text d.content)) c.self.view_is, text_long content) in
+    let up : c.args.lo ≤ c.args.hi = (splice_places c.args.self.now.limit c.args.lo c.args.hi c.args.self.now.content c.args.put.now c.requires.allowed).0 in
+    splice_by_excerpt c.self.inside.replica c.args.lo c.args.hi content c.args.put.now c.splice.new.self.ops.items c.new-draft.result.ops.items c.in_ok-elements.elements c.new-draft.result.replica c.new-draft.result.last
+    up within c.new-draft.ensures.ops c.new-draft.ensures.replica (c.new-draft.ensures.last ∙ c.clock.ensures) c.in_ok-elements.ensures.ok c.in_ok-splice.ensures.ops
     ∙ ap (λ (d : Document). splice_operations d.replica d.content c.args.lo c.args.hi c.args.put.now) c.self.view_is
 
 pub returns-clause-text : goal.returns-clause-text

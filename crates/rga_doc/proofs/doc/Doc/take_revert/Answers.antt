@@ -1,20 +1,25 @@
-use Rattle.std.proofs.Common.{◌≡◌, ℕ, List, length, refl, sym, ap, ◌∙◌, subst, arith}
+use Rattle.std.proofs.Common.{◌≡◌, ◌-◌, ℕ, List, take, drop, length, refl, sym, ap, ◌∙◌, subst, arith}
 use Rattle.std.specs.Prelude.{Ok, Err}
 use Rattle.std.proofs.lemmas.Result.{err_from_is_err_and}
 use Rattle.rga_ops.specs.Identifier.{Identifier}
-use Rattle.rga_ops.specs.Content.{Content, join, content_of}
+use Rattle.rga_ops.specs.Content.{Content, clock_of, join, content_of}
 use Rattle.rga_ops.specs.ListAnswer.{list_answer}
+use Rattle.rga_ops.specs.Order.{text}
+use Rattle.rga_ops.specs.declared.op.Op.{Op}
 use Rattle.rga_ops.specs.declared.refusal.Refusal.{Refusal}
 use Rattle.rga_ops.specs.declared.refusal.Refusal.TheVariants.{Memory}
 use Rattle.rga_doc.specs.Document.{Document}
-use Rattle.rga_doc.specs.Listing.{IsListOf}
-use Rattle.rga_doc.specs.Relisting.{AreTaken, IsListedYet}
-use Rattle.rga_doc.specs.Revert.{revert_operations, revert_answer}
-use Rattle.rga_doc.specs.UndoGroup.{inserted_elements}
+use Rattle.rga_doc.specs.Relisting.{AllBetween, AgreeOutside}
+use Rattle.rga_doc.specs.Revert.{restorations, revert_operations, revert_answer}
 use Rattle.rga_doc.proofs.RevertLaws.{revert_taken}
-use Rattle.rga_doc.proofs.RelistedReverts.{listed_at_first, revert_is_taken, as_many_inserted}
+use Rattle.rga_doc.proofs.RereadingLaws.{both_say, revert_long, revert_deletions, revert_insertions, revert_agrees}
 use Rattle.rga_doc.proofs.EditAnswers.{memory_alone}
 use Rattle.rga_doc.proofs.doc.Doc.take_revert.Goals as goal
+
+pub overflow_sub-ops : goal.overflow_sub-ops
+overflow_sub-ops g c =
+    let old : Document = c.args.self.now in
+    omega (arith, ap length c.requires.operations, revert_long old.limit old.replica old.content c.args.gone.now c.args.back.now c.requires.allowed)
 
 -- the store takes the operations of a revert that is allowed, but for want of memory
 pub returns-in_err-apply_all-clause-memory : goal.returns-in_err-apply_all-clause-memory
@@ -30,41 +35,25 @@ returns-in_err-apply_all-clause-memory g c =
     let memory : e ≡ Memory = memory_alone e (λ other. let clash : Err e ≡ Ok tt = c.in_err-apply_all.ensures.exact other ∙ taken in cc) in
     rw (p.1, p.2) memory
 
-pub follow-self-inside-requires-clause-taken : goal.follow-self-inside-requires-clause-taken
-follow-self-inside-requires-clause-taken g c =
-    let content : Content = g.S.Taker.content c.self.inside.store in
-    let limit : ℕ = g.S.Taker.limit c.self.inside.store in
-    let replica : ℕ = c.self.inside.replica in
-    let allowed : revert_answer limit content c.args.back.now ≡ Ok tt = ap (λ (d : Document). revert_answer d.limit d.content c.args.back.now) c.self.view_is ∙ c.requires.allowed in
-    let ops : c.args.ops.now ≡ revert_operations replica content c.args.gone.now c.args.back.now = c.requires.operations ∙ sym (ap (λ (d : Document). revert_operations d.replica d.content c.args.gone.now c.args.back.now) c.self.view_is) in
-    subst (λ d. AreTaken d c.args.ops.now) (sym (c.in_ok-apply_all.ensures.whole refl))
-    (subst (λ xs. AreTaken (join content (content_of xs)) xs) (sym ops) (revert_is_taken limit replica content c.args.gone.now c.args.back.now allowed))
-
-pub follow-self-inside-requires-clause-lists : goal.follow-self-inside-requires-clause-lists
-follow-self-inside-requires-clause-lists g c =
+-- the text stays outside the margins
+pub follow-requires : goal.follow-requires
+follow-requires g c =
     let content : Content = g.S.Taker.content c.self.inside.store in
     let limit : ℕ = g.S.Taker.limit c.self.inside.store in
     let replica : ℕ = c.self.inside.replica in
     let gone : List Identifier = c.args.gone.now in
     let back : List (Identifier × ℕ) = c.args.back.now in
-    let elements : List Identifier = c.self.inside.listing.elements.items in
-    let characters : List ℕ = c.self.inside.listing.characters.items in
+    let cut : ℕ = length c.args.ops.now - length back in
     let allowed : revert_answer limit content back ≡ Ok tt = ap (λ (d : Document). revert_answer d.limit d.content back) c.self.view_is ∙ c.requires.allowed in
     let ops : c.args.ops.now ≡ revert_operations replica content gone back = c.requires.operations ∙ sym (ap (λ (d : Document). revert_operations d.replica d.content gone back) c.self.view_is) in
-    let all : IsListOf content elements characters = c.self.invariant.1 (c.can_follow-follows.ensures.lists c.if-follows.true) in
-    let first : IsListedYet (join content (content_of c.args.ops.now)) c.args.ops.now elements characters =
-    subst (λ xs. IsListedYet (join content (content_of xs)) xs elements characters) (sym ops) (listed_at_first limit replica content gone back allowed elements characters all) in
-    let joined : g.S.Taker.content c.apply_all.new.self ≡ join content (content_of c.args.ops.now) = c.in_ok-apply_all.ensures.whole refl in
-    rw (joined, c.can_follow-follows.ensures.elements, c.can_follow-follows.ensures.characters) first
-
-pub follow-self-inside-requires-clause-elements_fit : goal.follow-self-inside-requires-clause-elements_fit
-follow-self-inside-requires-clause-elements_fit g c =
-    let count : length (inserted_elements c.args.ops.now) ≡ length c.args.back.now =
-    ap (λ xs. length (inserted_elements xs)) c.requires.operations ∙ as_many_inserted c.args.self.now.replica c.args.self.now.content c.args.gone.now c.args.back.now in
-    omega (arith, count, c.can_follow-follows.ensures.elements_fit c.if-follows.true)
-
-pub follow-self-inside-requires-clause-characters_fit : goal.follow-self-inside-requires-clause-characters_fit
-follow-self-inside-requires-clause-characters_fit g c =
-    let count : length (inserted_elements c.args.ops.now) ≡ length c.args.back.now =
-    ap (λ xs. length (inserted_elements xs)) c.requires.operations ∙ as_many_inserted c.args.self.now.replica c.args.self.now.content c.args.gone.now c.args.back.now in
-    omega (arith, count, c.can_follow-follows.ensures.characters_fit c.if-follows.true)
+    let joined : g.S.Taker.content c.apply_all.new.self ≡ join content (content_of (revert_operations replica content gone back)) =
+    c.in_ok-apply_all.ensures.whole refl ∙ ap (λ xs. join content (content_of xs)) ops in
+    let deletions = c.split_at.ensures.front ∙ ap (λ (xs : List Op). take (length xs - length back) xs) ops ∙ revert_deletions limit replica content gone back allowed in
+    let insertions = c.split_at.ensures.back ∙ ap (λ (xs : List Op). drop (length xs - length back) xs) ops ∙ revert_insertions limit replica content gone back allowed in
+    both_say c.margins-margins.result _ _ _ c.margins-margins.ensures.listed c.margins-margins.ensures.between
+    (λ m listed between. λ f b less fewer given.
+    subst (λ d. AgreeOutside f b c.self.inside.listing.characters.items (text d)) (sym joined)
+    (subst (λ xs. AgreeOutside f b xs (text (join content (content_of (revert_operations replica content gone back))))) (sym (c.self.invariant.1 listed))
+    (revert_agrees limit replica content gone back allowed m.front m.back f b less fewer
+    (subst (AllBetween content m.front m.back) deletions between)
+    (subst (λ d. AllBetween d f b (restorations replica (clock_of content) back)) joined (subst (AllBetween (g.S.Taker.content c.apply_all.new.self) f b) insertions given)))))

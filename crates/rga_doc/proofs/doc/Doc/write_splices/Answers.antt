@@ -1,27 +1,29 @@
-use Rattle.std.proofs.Common.{◌≡◌, ◌≤◌, ℕ, ◌+◌, List, length, sym, ap, ◌∙◌, arith}
+use Rattle.std.proofs.Common.{◌≡◌, ◌≤◌, ℕ, ◌+◌, List, length, ap, ◌∙◌, arith}
 use Rattle.std.specs.Prelude.{Ok}
 use Rattle.rga_ops.specs.Content.{Content, clock_of}
 use Rattle.rga_ops.specs.Order.{text}
+use Rattle.rga_ops.specs.Places.{visible}
 use Rattle.rga_ops.specs.Splice.{Splice, are_falling, new_characters}
-use Rattle.rga_ops.proofs.VisibleLaws.{text_long}
 use Rattle.rga_ops.specs.declared.id.TheConstants.Id.{MAX_COUNTER}
 use Rattle.rga_doc.specs.Document.{Document}
-use Rattle.rga_doc.specs.Listing.{IsListOf}
+use Rattle.rga_doc.specs.Excerpt.{Excerpted, excerpt}
 use Rattle.rga_doc.specs.LocalEdit.{splices_answer, splices_operations}
-use Rattle.rga_doc.proofs.EditLaws.{allowed, allowed_counters}
-use Rattle.rga_doc.proofs.EditAnswers.{counters_suffice, splices_made}
+use Rattle.rga_doc.proofs.EditLaws.{allowed_counters}
+use Rattle.rga_doc.proofs.EditAnswers.{counters_suffice}
+use Rattle.rga_doc.proofs.ExcerptLaws.{splices_by_excerpt, falls_in_excerpt}
 use Rattle.rga_doc.proofs.doc.Doc.write_splices.Goals as goal
+
+pub splices-requires-clause-begin : goal.splices-requires-clause-begin
+splices-requires-clause-begin g c =
+    omega (arith, ap (λ (e : Excerpted). e.start) c.in_ok-elements.ensures.ok, c.begin_of-lo.ensures)
 
 pub splices-requires-clause-falling : goal.splices-requires-clause-falling
 splices-requires-clause-falling g c =
     let content : Content = g.S.Taker.content c.self.inside.store in
-    let limit : ℕ = g.S.Taker.limit c.self.inside.store in
     let splices : List Splice = c.args.splices.now in
-    let all : IsListOf content c.self.inside.listing.elements.items c.self.inside.listing.characters.items =
-    c.self.invariant.1 (ap (λ (d : Document). d.listed) c.self.view_is ∙ c.requires.listed) in
-    let allowed_here : splices_answer limit content splices ≡ Ok tt = ap (λ (d : Document). splices_answer d.limit d.content splices) c.self.view_is ∙ c.requires.allowed in
-    ap (λ n. are_falling n splices) (ap length all.visible_ones ∙ sym (text_long content))
-    ∙ (allowed limit content (are_falling (length (text content)) splices) (new_characters splices) allowed_here).1
+    let allowed_here : splices_answer (g.S.Taker.limit c.self.inside.store) content splices ≡ Ok tt = ap (λ (d : Document). splices_answer d.limit d.content splices) c.self.view_is ∙ c.requires.allowed in
+    falls_in_excerpt (g.S.Taker.limit c.self.inside.store) content splices c.in_ok-elements.elements allowed_here
+    (c.in_ok-elements.ensures.ok ∙ (λ k. excerpt (visible content) (c.begin_of-lo.ensures k) (c.end_of-hi.ensures k)))
 
 pub splices-requires-clause-counters : goal.splices-requires-clause-counters
 splices-requires-clause-counters g c = λ some.
@@ -38,9 +40,8 @@ returns-clause-operations g c =
     let content : Content = g.S.Taker.content c.self.inside.store in
     let limit : ℕ = g.S.Taker.limit c.self.inside.store in
     let splices : List Splice = c.args.splices.now in
-    let all : IsListOf content c.self.inside.listing.elements.items c.self.inside.listing.characters.items =
-    c.self.invariant.1 (ap (λ (d : Document). d.listed) c.self.view_is ∙ c.requires.listed) in
     let allowed_here : splices_answer limit content splices ≡ Ok tt = ap (λ (d : Document). splices_answer d.limit d.content splices) c.self.view_is ∙ c.requires.allowed in
-    splices_made limit c.self.inside.replica content splices c.splices.new.self.ops.items c.new-draft.result.ops.items c.self.inside.listing.elements.items c.new-draft.result.replica c.new-draft.result.last
-    allowed_here c.new-draft.ensures.ops c.new-draft.ensures.replica (c.new-draft.ensures.last ∙ c.clock.ensures) all.visible_ones c.in_ok-splices.ensures.ops
+    splices_by_excerpt limit c.self.inside.replica content splices c.splices.new.self.ops.items c.new-draft.result.ops.items c.in_ok-elements.elements c.new-draft.result.replica c.new-draft.result.last
+    allowed_here c.new-draft.ensures.ops c.new-draft.ensures.replica (c.new-draft.ensures.last ∙ c.clock.ensures)
+    (c.in_ok-elements.ensures.ok ∙ (λ k. excerpt (visible content) (c.begin_of-lo.ensures k) (c.end_of-hi.ensures k))) c.in_ok-splices.ensures.ops
     ∙ ap (λ (d : Document). splices_operations d.replica d.content splices) c.self.view_is

@@ -12,5 +12,6 @@ follow_one-requires g c = λ listed.
       before = g.S.Taker.content c.self.inside.store;
       new = sym (c.in_ok-taken.ensures.exact (λ h. cc)) ∙ (λ k. Ok (is_new k));
       taken = c.in_ok-taken.ensures.new (λ k. Ok (is_new k));
-      lists = c.self.invariant.1 listed;
+      text_before = c.self.invariant.1 listed;
+      deleted_left = c.place_deleted-place.ensures;
     }

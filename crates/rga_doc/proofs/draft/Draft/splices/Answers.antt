@@ -1,8 +1,18 @@
 use Rattle.std.proofs.Common.{◌≡◌, ◌≤◌, ℕ, ◌+◌, List, drop, length, ap, ◌∙◌, arith}
 use Rattle.rga_ops.specs.Splice.{Splice, new_characters}
 use Rattle.rga_ops.specs.declared.id.TheConstants.Id.{MAX_COUNTER}
+use Rattle.rga_doc.specs.Excerpt.{begin_of}
+use Rattle.rga_doc.proofs.ExcerptLaws.{begins_first, begins_at}
 use Rattle.rga_doc.proofs.EditAnswers.{falls_within, fewer, characters_left}
 use Rattle.rga_doc.proofs.draft.Draft.splices.Goals as goal
+
+pub splice-requires-clause-begin : goal.splice-requires-clause-begin
+splice-requires-clause-begin c =
+    let splices : List Splice = c.args.splices.now in
+    let s : Splice = c.splice-item.result in
+    let first : begin_of splices ≤ s.lo = begins_at (λ x. begin_of splices ≤ x.lo) splices c.loop-splice.splice-index s (begins_first splices (length c.args.elements.now.items) c.requires.falling) c.loop-splice-test.true c.splice-item.is in
+    let begin : c.splice.inside.lo ≡ s.lo = ap (λ (x : Splice). x.lo) c.splice.view_is in
+    omega (arith, first, begin, c.requires.begin)
 
 pub splice-requires-clause-ordered : goal.splice-requires-clause-ordered
 splice-requires-clause-ordered c =

@@ -1,44 +1,25 @@
-use Rattle.std.proofs.Common.{◌≡◌, ◌-◌, ◌≤◌, ℕ, List, [], ◌∷◌, length, suc, sym, ap, ◌∙◌, arith}
-use Rattle.std.specs.Prelude.{Some}
-use Rattle.std.specs.List.{slice_get}
-use Rattle.rga_ops.specs.Identifier.{Identifier}
+use Rattle.std.proofs.Common.{◌-◌, ◌∷◌, [], length, ap, ◌∙◌, arith}
 use Rattle.rga_ops.specs.Content.{Content}
 use Rattle.rga_ops.specs.Places.{visible}
 use Rattle.rga_ops.specs.Splice.{spliced}
-use Rattle.rga_ops.specs.declared.op.Op.TheVariants.{Insert}
-use Rattle.rga_doc.proofs.FollowingLaws.{before_alike, index_if_placed, index_within, put_is_listed}
+use Rattle.rga_doc.proofs.FollowingLaws.{left_index, index_within, put_is_listed}
 use Rattle.rga_doc.proofs.listing.Listing.put_at_its_place.Goals as goal
 
-pub insert-requires-clause-in_elements : goal.insert-requires-clause-in_elements
-insert-requires-clause-in_elements g c =
-    let content : Content = g.S.Taker.content c.args.store.now in
-    let elements : List Identifier = c.args.self.now.elements.items in
-    let index : ℕ = c.in-Some.place - 1 in
-    let next : c.in-Some.place ≡ suc index = omega (arith, c.if-place-eq0.false) in
-    let there : slice_get (visible content) index ≡ Some c.args.id = index_if_placed content c.args.id index c.requires.kept (sym c.place_of.ensures ∙ c.in-Some.is ∙ ap Some next) in
-    let within : index ≤ length elements = index_within content c.args.id index (length elements) there c.requires.one_more in
-    omega (arith, within, ap length c.reserve.ensures.elements)
+pub overflow_sub-place : goal.overflow_sub-place
+overflow_sub-place g c =
+    let left = left_index (visible (g.S.Taker.content c.args.store.now)) c.args.id c.in-Some.place c.in-Some.ensures in
+    omega (arith, left.0)
 
-pub insert-requires-clause-in_characters : goal.insert-requires-clause-in_characters
-insert-requires-clause-in_characters g c =
+pub replace-requires-clause-in_list : goal.replace-requires-clause-in_list
+replace-requires-clause-in_list g c =
     let content : Content = g.S.Taker.content c.args.store.now in
-    let elements : List Identifier = c.args.self.now.elements.items in
-    let characters : List ℕ = c.args.self.now.characters.items in
-    let index : ℕ = c.in-Some.place - 1 in
-    let next : c.in-Some.place ≡ suc index = omega (arith, c.if-place-eq0.false) in
-    let there : slice_get (visible content) index ≡ Some c.args.id = index_if_placed content c.args.id index c.requires.kept (sym c.place_of.ensures ∙ c.in-Some.is ∙ ap Some next) in
-    let within : index ≤ length elements = index_within content c.args.id index (length elements) there c.requires.one_more in
-    let alike : length characters ≡ length elements = before_alike content (Insert c.args.id c.requires.lists.0 c.args.ch) elements characters c.requires.lists.1 in
-    omega (arith, within, alike, ap length c.reserve.ensures.characters)
+    let left = left_index (visible content) c.args.id c.in-Some.place c.in-Some.ensures in
+    omega (arith, index_within content c.args.id (c.in-Some.place - 1) (length c.args.self.now.characters.items) left.1 c.requires.one_more, ap length c.make_room.ensures.items)
 
 pub returns : goal.returns
 returns g c = λ _.
     let content : Content = g.S.Taker.content c.args.store.now in
-    let index : ℕ = c.in-Some.place - 1 in
-    let next : c.in-Some.place ≡ suc index = omega (arith, c.if-place-eq0.false) in
-    let there : slice_get (visible content) index ≡ Some c.args.id = index_if_placed content c.args.id index c.requires.kept (sym c.place_of.ensures ∙ c.in-Some.is ∙ ap Some next) in
-    put_is_listed content c.args.id c.requires.lists.0 c.args.ch index
-    c.args.self.now.elements.items c.insert.new.self.elements.items c.args.self.now.characters.items c.insert.new.self.characters.items
-    c.requires.lists.1 there c.requires.one_more
-    (c.insert.ensures.elements ∙ ap (λ xs. spliced xs index index (c.args.id ∷ [])) c.reserve.ensures.elements)
-    (c.insert.ensures.characters ∙ ap (λ xs. spliced xs index index (c.args.ch ∷ [])) c.reserve.ensures.characters)
+    let index = c.in-Some.place - 1 in
+    let left = left_index (visible content) c.args.id c.in-Some.place c.in-Some.ensures in
+    put_is_listed content c.args.id c.requires.before.0 c.args.ch index c.requires.before.1 c.args.self.now.characters.items c.replace.new.self.items c.requires.before.2 left.1 c.requires.one_more
+    (c.replace.ensures.items ∙ ap (λ xs. spliced xs index index (c.args.ch ∷ [])) c.make_room.ensures.items)

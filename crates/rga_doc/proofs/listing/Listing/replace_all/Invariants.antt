@@ -1,17 +1,12 @@
-use Rattle.std.proofs.Common.{◌≡◌, ◌≤◌, ◌+◌, true, drop, length}
+use Rattle.std.proofs.Common.{◌≡◌, ◌≤◌, true, drop, length}
 use Rattle.rga_ops.specs.Splice.{text_after, are_falling, new_characters}
-use Rattle.rga_doc.specs.Listing.{elements_after}
 use Rattle.rga_doc.proofs.listing.Listing.replace_all.Given as goal
 
 -- the splices that are left complete those that were wanted, and find their places and room
 abbrev pub invariant-loop-splice : goal.invariant-loop-splice
 invariant-loop-splice l = record {
-  elements : elements_after l.replica l.counter l.self.elements.items (drop l.splice-index l.splices) ≡ elements_after l.replica l.fn.last l.fn.self.elements.items l.splices;
   characters : text_after l.self.characters.items (drop l.splice-index l.splices) ≡ text_after l.fn.self.characters.items l.splices;
   listed : l.self.listed ≡ l.fn.self.listed;
-  falling : are_falling (length l.self.elements.items) (drop l.splice-index l.splices) ≡ true;
-  alike : length l.self.characters.items ≡ length l.self.elements.items;
-  counters : l.counter + new_characters (drop l.splice-index l.splices) ≡ l.fn.last + new_characters l.splices;
-  elements_fit : new_characters (drop l.splice-index l.splices) ≤ l.self.elements.room;
-  characters_fit : new_characters (drop l.splice-index l.splices) ≤ l.self.characters.room;
+  falling : are_falling (length l.self.characters.items) (drop l.splice-index l.splices) ≡ true;
+  room : new_characters (drop l.splice-index l.splices) ≤ l.self.characters.room;
 }
