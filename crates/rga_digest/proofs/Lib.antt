@@ -1,0 +1,5 @@
+pub mod RangeLaws
+pub mod CounterLaws
+pub mod DigestLaws
+pub mod SentLaws
+pub mod OneSummary

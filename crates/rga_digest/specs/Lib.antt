@@ -1,0 +1,3 @@
+pub mod Ranges
+pub mod Digest
+pub mod Summary

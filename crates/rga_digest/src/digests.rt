@@ -1,0 +1,55 @@
+//! Digests of the deletions in a block.
+ghost use Rattle.std.specs.Prelude.{◌≡◌, Some, IfOk, IfErr, OnOk, if◌then◌else◌};
+ghost use Rattle.std.specs.Option.{unwrap_or};
+ghost use Rattle.std.specs.BTreeMap.{get, IsOrdered};
+ghost use Rattle.rga_digest.specs.Digest.{block_cmp, block_digest, block_of, deleted_by, is_block, mixed};
+ghost use Rattle.rga_digest.specs.declared.block.Block.{Block as BlockName};
+
+use crate::block::Block;
+use rga_ops::{Id, Op, Refusal};
+use std::alloc::Global;
+use std::collections::BTreeMap;
+
+/// The digest of no deletions: the start of FNV-1a at 64 bits.
+pub(crate) const OF_NOTHING: u64 = 0xcbf29ce484222325;
+
+/// The multiplier of FNV-1a at 64 bits.
+pub(crate) const PRIME: u64 = 0x100000001b3;
+
+/// The digests of the deletions in a list of operations, by block. `Memory` alone.
+pub(crate) fn digests_of(alloc: Global, ops: &[Op]) -> Result<BTreeMap<Block, u64>, Refusal>
+    ensures ok { IfOk result (λ digests. (b : BlockName) →
+        get block_cmp digests b ≡ block_digest (deleted_by b ops.now)) }
+    ensures ordered { IfOk result (λ digests. IsOrdered block_cmp digests) }
+    ensures memory { IfErr result (λ e. e ≡ Refusal.Memory) }
+{
+    let mut digests = BTreeMap::new(alloc);
+    for op in ops {
+        if let Op::Delete { id } = op {
+            add_deletion(&mut digests, *id)?;
+        }
+    }
+    Ok(digests)
+}
+
+/// A deletion is mixed into the digest of its block. `Memory` alone.
+fn add_deletion(digests: &mut BTreeMap<Block, u64>, id: Id) -> Result<(), Refusal>
+    ensures ok { OnOk result ((b : BlockName) → get block_cmp digests.new b
+        ≡ (if is_block (block_of id) b
+        then Some (mixed (unwrap_or (get block_cmp digests.old b) OF_NOTHING) id.counter)
+        else get block_cmp digests.old b)) }
+    ensures ordered { OnOk result (IsOrdered block_cmp digests.new) }
+    ensures memory { IfErr result (λ e. e ≡ Refusal.Memory) }
+{
+    let block = Block::of(id);
+    let before = digests.get(&block).copied().unwrap_or(OF_NOTHING);
+    let _replaced = digests.insert(block, mix(before, id.counter()))?;
+    Ok(())
+}
+
+/// A digest with one deletion more: a round of FNV-1a.
+fn mix(digest: u64, counter: u64) -> u64
+    ensures { result ≡ mixed digest counter }
+{
+    (digest ^ (counter % Block::COUNTERS)).wrapping_mul(PRIME)
+}

@@ -1,0 +1,3 @@
+pub mod ClaimLaws
+pub mod LineLaws
+pub mod SummaryLaws

@@ -1,0 +1,2 @@
+pub mod Claims
+pub mod Summaries
