@@ -66,7 +66,7 @@ fn goes_on(alloc: Global, exchange: &'static str, reads: u64, text: &str) -> boo
 
 #[test]
 fn what_is_received_again_changes_nothing(rt: HostRuntime) {
-    for (exchange, reads, text) in [
+    const ROWS: &[(&str, u64, &str)] = &[
         (ABC, 0, ""),
         (ABC, 1, ""),
         (ABC, 2, "a"),
@@ -77,7 +77,8 @@ fn what_is_received_again_changes_nothing(rt: HostRuntime) {
         (HEAD_ABC, 2, "a"),
         (HEAD_ABC, 3, "a"),
         (HEAD_ABC, 4, "ab"),
-    ] {
-        assert!(rt; goes_on(rt.alloc(), exchange, reads, text), "{reads}");
+    ];
+    for (exchange, reads, text) in ROWS {
+        assert!(rt; goes_on(rt.alloc(), exchange, *reads, text), "{reads}");
     }
 }

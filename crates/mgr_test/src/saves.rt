@@ -61,7 +61,7 @@ fn tells(alloc: Global, letters: &str, calls: &str, unsaved: bool) -> bool {
 
 #[test]
 fn what_a_refused_save_left_is_saved_by_the_next(rt: HostRuntime) {
-    for (letters, calls, unsaved) in [
+    const ROWS: &[(&str, &str, bool)] = &[
         ("-", " append 50 text 1", false),
         ("--", " append 50 text 1", false),
         ("a", " append 50!", true),
@@ -75,7 +75,8 @@ fn what_a_refused_save_left_is_saved_by_the_next(rt: HostRuntime) {
         ),
         ("t", " append 50 text 1!", true),
         ("tt-", " append 50 text 1! text 1! text 1", false),
-    ] {
-        assert!(rt; tells(rt.alloc(), letters, calls, unsaved), "{letters}");
+    ];
+    for (letters, calls, unsaved) in ROWS {
+        assert!(rt; tells(rt.alloc(), letters, calls, *unsaved), "{letters}");
     }
 }
