@@ -75,7 +75,7 @@ const DIGEST: Claim = Claim::Deleted(
 #[test]
 fn digests_are_those_of_fnv_1a(rt: HostRuntime) -> Result<(), std::test::Fail> {
     let claims = claims_over(rt.alloc(), "-367.1 -358.1")?;
-    assert!(rt; claims.as_slice() == [DIGEST].as_slice(), "the digest of a block");
+    assert!(rt; claims.as_slice() == [DIGEST].as_slice(), "a digest");
     Ok(())
 }
 
