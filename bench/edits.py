@@ -12,10 +12,10 @@ import timing
 
 # How often each is repeated in a run. No document may know more than a million elements.
 TIMES = {
-    10_000: {"order": 500, "type": 2_000, "remote": 500, "change": 100, "revert": 2},
-    100_000: {"order": 50, "type": 5_000, "remote": 50, "change": 50, "revert": 2},
+    10_000: {"order": 500, "type": 2_000, "remote": 2_000, "change": 100, "revert": 2},
+    100_000: {"order": 50, "type": 5_000, "remote": 2_000, "change": 50, "revert": 2},
     300_000: {"revert": 2},
-    990_000: {"order": 5, "type": 1_000, "remote": 5, "change": 5},
+    990_000: {"order": 5, "type": 1_000, "remote": 500, "change": 5},
 }
 WORKS = ("order", "type", "remote", "change", "revert")
 
