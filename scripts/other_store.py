@@ -18,17 +18,11 @@ import tempfile
 TOP = pathlib.Path(__file__).resolve().parent.parent
 TESTS = ("rga_doc_test", "rga_world_test", "mg_buffer_test")
 LEFT_OUT = shutil.ignore_patterns("out", "must-fail", "wrong", "proofs")
-IMPORT = re.compile(r"use rga_store::(?:\{([\w, ]*)\}|TreeStore);")
 
 
 def over_flat(text):
-    """Returns a source that names the other store."""
-
-    def imports(found):
-        names = [name for name in (found[1] or "TreeStore").split(", ") if name != "TreeStore"]
-        return "use rga_flat::FlatStore;" + f"\nuse rga_store::{{{', '.join(names)}}};" * bool(names)
-
-    return IMPORT.sub(imports, text).replace("TreeStore", "FlatStore") if "TreeStore" in text else text
+    """Returns a text that names the other store, and its crate."""
+    return text.replace("rga_tree", "rga_flat").replace("TreeStore", "FlatStore")
 
 
 def copy_tree(to):
@@ -36,7 +30,7 @@ def copy_tree(to):
     shutil.copy(TOP / "HANDLES", to)
     rows = (TOP / "crates.txt").read_text()
     for name in TESTS:
-        rows = re.sub(rf"^({name}: .*\brga_store\b)", r"\1 rga_flat", rows, flags=re.M)
+        rows = re.sub(rf"^{name}: .*", lambda row: over_flat(row[0]), rows, flags=re.M)
         for source in (to / "crates" / name / "src").rglob("*.rt"):
             source.write_text(over_flat(source.read_text()))
     (to / "crates.txt").write_text(rows)

@@ -3,7 +3,8 @@ use mg_buffer::{Buffer, BufferFault, Memo};
 use mg_plain::Command;
 use rga_doc::Doc;
 use rga_ops::Refusal;
-use rga_store::{TextStore, TreeStore};
+use rga_store::TextStore;
+use rga_tree::TreeStore;
 use std::alloc::Global;
 
 /// The fill column of each session.

@@ -1,7 +1,8 @@
 //! Exchanges that a device cuts off, and received again from the start.
 use rga_exchange::{ReceiveFault, receive};
 use rga_lines::{Counted, Fuse};
-use rga_store::{TextStore, TreeStore};
+use rga_store::TextStore;
+use rga_tree::TreeStore;
 use std::alloc::Global;
 use std::io::{Read, Result as IoResult};
 use test_fixtures::spells;

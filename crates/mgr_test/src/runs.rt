@@ -3,7 +3,8 @@ use crate::cuts::shows;
 use rga_exchange::read_log;
 use rga_lines::Counted;
 use rga_ops::Refusal;
-use rga_store::{Taker, TextStore, TreeStore};
+use rga_store::{Taker, TextStore};
+use rga_tree::TreeStore;
 use std::alloc::Global;
 use test_fixtures::{ops_of, prints};
 

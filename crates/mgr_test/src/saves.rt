@@ -2,7 +2,7 @@
 use mg_buffer::Memo;
 use mg_files::{CallKind, Found, VisitedBuffer};
 use mg_plain::Command;
-use rga_store::TreeStore;
+use rga_tree::TreeStore;
 use std::alloc::Global;
 use test_ports::MemoryPort;
 

@@ -2,7 +2,8 @@
 use rga_digest::{Block, missing, summary_of};
 use rga_digest_lines::{Claim, claims_of, read_claim, summary_from, write_claim};
 use rga_ops::{Op, Refusal};
-use rga_store::{Taker, TextStore, TreeStore};
+use rga_store::{Taker, TextStore};
+use rga_tree::TreeStore;
 use std::alloc::Global;
 use test_fixtures::ops_of;
 

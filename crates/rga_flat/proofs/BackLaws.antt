@@ -15,8 +15,8 @@ use Rattle.rga_ops.specs.declared.op.Op.{Op}
 use Rattle.rga_ops.specs.declared.op.Op.TheVariants.{Insert, Delete}
 use Rattle.rga_ops.specs.declared.refusal.Taken.TheVariants.{New}
 use Rattle.rga_sequence.specs.declared.entry.Entry.{Entry}
-use Rattle.rga_store.specs.Back.{without}
-use Rattle.rga_store.proofs.BackLaws.{without_new, new_held}
+use Rattle.rga_store.specs.Without.{without}
+use Rattle.rga_store.proofs.WithoutLaws.{without_new, new_held}
 use Rattle.rga_flat.specs.declared.steps.Step.{Step}
 use Rattle.rga_flat.specs.Back.{gone_back, CanGoBack, IsLastStep}
 use Rattle.rga_flat.specs.Flat.{IsFlat}

@@ -26,8 +26,8 @@ use Rattle.rga_ops.specs.declared.op.Op.TheVariants.{Insert, Delete}
 use Rattle.rga_sequence.specs.declared.entry.Entry.{Entry}
 use Rattle.rga_sequence.specs.Entries.{ids, has, as_marked, mark_entry}
 use Rattle.rga_sequence.proofs.IdLaws.{ids_marked}
-use Rattle.rga_store.specs.Back.{without_insertion}
-use Rattle.rga_store.specs.Tree.{is_child}
+use Rattle.rga_store.specs.Without.{without_insertion}
+use Rattle.rga_store.specs.Child.{is_child}
 use Rattle.rga_store.proofs.StepLaws.{deleted_now, deleted_then, sound_within}
 use Rattle.rga_flat.specs.Flat.{is_above, IsEntryOf, AreMarked, IsFlat}
 use Rattle.rga_flat.specs.Placing.{IsPlacing}

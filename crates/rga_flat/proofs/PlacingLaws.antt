@@ -30,7 +30,7 @@ use Rattle.rga_ops.specs.declared.op.Op.TheVariants.{Insert}
 use Rattle.rga_sequence.specs.declared.entry.Entry.{Entry}
 use Rattle.rga_sequence.specs.Entries.{ids, has, put_entry}
 use Rattle.rga_sequence.proofs.IdLaws.{ids_put}
-use Rattle.rga_store.specs.Tree.{is_child}
+use Rattle.rga_store.specs.Child.{is_child}
 use Rattle.rga_store.proofs.StepLaws.{IsChild, child_found, sound_within}
 use Rattle.rga_flat.specs.Flat.{is_above, IsEntryOf, IsFlat, entry_for}
 use Rattle.rga_flat.specs.Placing.{IsClosed, IsReady, IsPlacing}

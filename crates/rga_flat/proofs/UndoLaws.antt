@@ -21,8 +21,8 @@ use Rattle.rga_ops.proofs.VisibleLaws.{order_complete}
 use Rattle.rga_sequence.specs.declared.entry.Entry.{Entry}
 use Rattle.rga_sequence.specs.Entries.{ids, without_entry, as_marked, mark_entry}
 use Rattle.rga_sequence.proofs.IdLaws.{ids_without, ids_marked}
-use Rattle.rga_store.specs.Back.{without_insertion, without_deletion}
-use Rattle.rga_store.specs.Tree.{is_child}
+use Rattle.rga_store.specs.Without.{without_insertion, without_deletion}
+use Rattle.rga_store.specs.Child.{is_child}
 use Rattle.rga_flat.specs.Flat.{is_above, IsEntryOf, IsFlat}
 use Rattle.rga_flat.specs.Based.{IsBased}
 use Rattle.rga_flat.specs.Undo.{IsGoingBack}

@@ -4,7 +4,7 @@ use Rattle.std.specs.List.{list_any, IsDistinct}
 use Rattle.std.specs.Ordering.{eq_by_cmp}
 use Rattle.rga_ops.specs.Identifier.{Identifier, id_cmp}
 use Rattle.rga_ops.specs.Content.{Content, IsWithin}
-use Rattle.rga_store.specs.Tree.{is_child}
+use Rattle.rga_store.specs.Child.{is_child}
 use Rattle.rga_flat.specs.Flat.{is_above, AreMarked}
 
 -- A content has grown from a base. In the list under what was not complete there are its children from there, and no others than

@@ -10,7 +10,7 @@ use Rattle.rga_ops.specs.RootPath.{is_complete}
 use Rattle.rga_ops.specs.Order.{order}
 use Rattle.rga_sequence.specs.declared.entry.Entry.{Entry}
 use Rattle.rga_sequence.specs.Entries.{ids}
-use Rattle.rga_store.specs.Tree.{is_child}
+use Rattle.rga_store.specs.Child.{is_child}
 
 -- whether an element below it would be complete
 abbrev pub is_above : Content → Identifier → Bool

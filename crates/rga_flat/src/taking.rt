@@ -7,7 +7,7 @@ ghost use Rattle.rga_ops.specs.Identifier.{Identifier, id_cmp};
 ghost use Rattle.rga_ops.specs.Content.{Content, element, join, single};
 ghost use Rattle.rga_ops.specs.Answer.{answer};
 ghost use Rattle.rga_ops.specs.RootPath.{is_complete};
-ghost use Rattle.rga_store.specs.Back.{without_insertion};
+ghost use Rattle.rga_store.specs.Without.{without_insertion};
 ghost use Rattle.rga_store.specs.Growth.{NeedsRoom};
 ghost use Rattle.rga_flat.specs.Based.{IsBased};
 ghost use Rattle.rga_flat.specs.Flat.{is_above, AreMarked, IsFlat};

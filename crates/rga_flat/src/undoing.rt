@@ -3,7 +3,7 @@ ghost use Rattle.std.specs.Prelude.{◌≡◌, not, filter};
 ghost use Rattle.std.specs.BTreeSet.{contains};
 ghost use Rattle.rga_ops.specs.Identifier.{Identifier, id_cmp};
 ghost use Rattle.rga_ops.specs.Content.{clock_of, Holds};
-ghost use Rattle.rga_store.specs.Back.{without};
+ghost use Rattle.rga_store.specs.Without.{without};
 ghost use Rattle.rga_flat.specs.Back.{gone_back, CanGoBack};
 ghost use Rattle.rga_flat.specs.Flat.{IsFlat};
 ghost use Rattle.rga_flat.specs.Undo.{undone_entries, undone_under, IsReturnable};

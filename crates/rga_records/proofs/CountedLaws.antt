@@ -10,17 +10,17 @@ use Rattle.rga_ops.specs.Answer.{answer}
 use Rattle.rga_ops.specs.declared.op.Op.TheVariants.{Insert, Delete}
 use Rattle.rga_ops.specs.declared.refusal.Taken.TheVariants.{New}
 use Rattle.rga_store.specs.Limit.{is_limit}
-use Rattle.rga_store.specs.Back.{without_insertion, without_deletion}
-use Rattle.rga_store.specs.Tree.{IsCounted}
+use Rattle.rga_store.specs.Without.{without_insertion, without_deletion}
+use Rattle.rga_store.specs.Counted.{IsCounted}
 use Rattle.rga_store.proofs.StepLaws.{counted_insertion, counted_deletion}
-use Rattle.rga_store.proofs.BackLaws.{counted_without_insertion, counted_without_deletion}
-use Rattle.rga_store.proofs.TreeLaws.{empty_tree}
+use Rattle.rga_store.proofs.WithoutLaws.{counted_without_insertion, counted_without_deletion}
+use Rattle.rga_store.proofs.CountedLaws.{counted_nothing}
 use Rattle.rga_records.specs.Records.{Entries, content_of_records, AreOrdered, AreRecords}
 
 -- no records
 pub no_records : (limit : ℕ) → is_limit limit ≡ true → AreRecords [] 0 0 0 limit
 unfolding IsStrictlySortedBy
-no_records limit h = record { ordered = tt; counted = (empty_tree limit h).counted }
+no_records limit h = record { ordered = tt; counted = counted_nothing limit h }
 
 -- the element of an identifier that is inserted
 pub record IsFound (c : Content) (id : Identifier) : Type 0 where

@@ -20,8 +20,8 @@ use Rattle.rga_ops.proofs.ListSteps.{get-insertion, get-deletion}
 use Rattle.rga_ops.specs.declared.op.Op.TheVariants.{Insert, Delete}
 use Rattle.rga_store.proofs.ElementSteps.{pair_of}
 use Rattle.rga_store.proofs.StepLaws.{deleted_then, deleted_now}
-use Rattle.rga_store.proofs.ChildLaws.{true_where}
-use Rattle.rga_store.specs.Back.{without_insertion, without_deletion}
+use Rattle.rga_store.proofs.CaseSteps.{true_where}
+use Rattle.rga_store.specs.Without.{without_insertion, without_deletion}
 use Rattle.rga_pages.specs.declared.entry.Record.{Record}
 use Rattle.rga_records.specs.Records.{Entries, element_in, insertion_in, ids_where, marked_ids, is_meaningful, content_of_records, AreOrdered}
 

@@ -9,7 +9,7 @@ use Rattle.rga_ops.specs.Identifier.{Identifier}
 use Rattle.rga_ops.specs.Content.{Element, element, Content, known_ids}
 use Rattle.rga_ops.specs.ListAnswer.{has_another}
 use Rattle.rga_ops.specs.Operations.{insertion_of}
-use Rattle.rga_store.specs.Tree.{IsCounted}
+use Rattle.rga_store.specs.Counted.{IsCounted}
 use Rattle.rga_pages.specs.declared.entry.Record.{Record}
 pub use Rattle.rga_pages.specs.Pages.{Entries, AreOrdered}
 

@@ -5,7 +5,7 @@ ghost use Rattle.std.specs.FinMap as finite_map;
 ghost use Rattle.std.specs.FinSet as finite_set;
 ghost use Rattle.rga_ops.specs.Prelude.{element_at, join, known_ids, single};
 ghost use Rattle.rga_ops.specs.declared.op.Op.TheVariants.{Insert, Delete};
-ghost use Rattle.rga_store.specs.Back.{without_insertion, without_deletion};
+ghost use Rattle.rga_store.specs.Without.{without_insertion, without_deletion};
 ghost use Rattle.rga_records.specs.Records.{content_of_records, element_in, is_meaningful, AreOrdered};
 
 use rga_ops::{Id, Refusal};

@@ -8,6 +8,7 @@ ghost use Rattle.rga_ops.specs.ListAnswer.{early_conflict, first_conflict};
 
 use crate::records_by_id::Records;
 use rga_ops::{Id, Op, Refusal};
+use rga_store::check_each;
 use std::alloc::Global;
 use std::collections::{BTreeMap, BTreeSet};
 
@@ -27,16 +28,6 @@ pub(crate) fn answer_to_list(alloc: Global, records: &Records, ops: &[Op]) -> Re
     }
     if count_new_ids(alloc, records, ops)? > records.limit() - records.known() {
         return Err(Refusal::Full);
-    }
-    Ok(())
-}
-
-/// What the first ill-formed operation is refused for.
-fn check_each(ops: &[Op]) -> Result<(), Refusal>
-    ensures { result ≡ all_checked ops.now }
-{
-    for op in ops {
-        op.check()?;
     }
     Ok(())
 }

@@ -9,7 +9,7 @@ ghost use Rattle.rga_ops.specs.Found.{facts_of};
 ghost use Rattle.rga_ops.specs.ListAnswer.{early_conflict, least_conflict};
 ghost use Rattle.rga_ops.specs.declared.refusal.Taken.TheVariants.{New};
 ghost use Rattle.rga_store.specs.Limit.{is_limit};
-ghost use Rattle.rga_store.specs.Back.{without, without_insertion, without_deletion};
+ghost use Rattle.rga_store.specs.Without.{without, without_insertion, without_deletion};
 
 use crate::counts::{count_unless, raise, uncount_unless};
 use crate::entries::{

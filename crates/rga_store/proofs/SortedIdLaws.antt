@@ -16,7 +16,7 @@ use Rattle.rga_ops.proofs.IdentifierLaws.{ids_total, ids_exact, is, is_swap}
 use Rattle.rga_ops.specs.Operations.{alone, rising}
 use Rattle.rga_ops.proofs.SortedLaws.{both_so, both_hold, less_of}
 use Rattle.rga_ops.proofs.OperationsLaws.{any-rising}
-use Rattle.rga_store.specs.Children.{IsRising}
+use Rattle.rga_store.specs.Rising.{IsRising}
 
 -- ---- what is sorted and distinct rises
 

@@ -1,17 +1,17 @@
--- What a new operation changes in a content: which operations are well-formed, how many are known, and whose children are whose.
-use Rattle.std.proofs.Common.{◌≡◌, ℕ, ◌+◌, ◌≤◌, Bool, true, false, cond, ◌&&◌, ◌||◌, List, [], ◌∷◌, length, is_some, refl, sym, ap, ◌∙◌, subst, arith, true≢false, inl, inr, add-one}
+-- What a new operation changes in a content: which operations are well-formed, and how many are known. And the element of a child.
+use Rattle.std.proofs.Common.{◌≡◌, ℕ, ◌+◌, ◌≤◌, Bool, true, false, cond, ◌||◌, List, [], ◌∷◌, length, is_some, refl, sym, ap, ◌∙◌, subst, arith, true≢false, inl, inr, add-one}
 use Rattle.std.specs.Prelude.{Option, Some, None, Ok, ◌≢◌, ◌⊎◌, max}
 use Rattle.std.specs.Option.{option_map_or}
 use Rattle.std.specs.List.{IsDistinct}
 use Rattle.std.specs.FinMap as finite_map
 use Rattle.std.specs.FinSet as finite_set
-use Rattle.std.proofs.Math.Bool.{or-false, and-true, and-false}
+use Rattle.std.proofs.Math.Bool.{or-false}
 use Rattle.std.proofs.lemmas.List.{length-map}
 use Rattle.rga_ops.specs.Identifier.{Identifier, id_cmp, is_id}
 use Rattle.rga_ops.specs.Operation.{id_of}
 use Rattle.rga_ops.specs.Content.{Element, element, Content, join, single, known_ids, IsSound, IsWithin}
 use Rattle.rga_ops.specs.Answer.{answer}
-use Rattle.rga_ops.proofs.IdentifierLaws.{ids_total, ids_exact, is, is_id-same, is_id-is}
+use Rattle.rga_ops.proofs.IdentifierLaws.{ids_total, ids_exact, is, is_id-is}
 use Rattle.rga_ops.proofs.ContentLaws.{contains-join}
 use Rattle.rga_ops.proofs.OperationLaws.{contains-single}
 use Rattle.rga_ops.proofs.MemberLaws.{none_among}
@@ -25,8 +25,8 @@ use Rattle.rga_ops.proofs.WaitingLaws.{distinct_inserted}
 use Rattle.rga_ops.specs.declared.op.Op.{Op}
 use Rattle.rga_ops.specs.declared.op.Op.TheVariants.{Insert, Delete}
 use Rattle.rga_ops.specs.declared.refusal.Taken.TheVariants.{New}
-use Rattle.rga_store.specs.Children.{has_child, IsRising}
-use Rattle.rga_store.specs.Tree.{is_child, IsFamily, IsCounted}
+use Rattle.rga_store.specs.Child.{is_child}
+use Rattle.rga_store.specs.Counted.{IsCounted}
 
 -- ---- what is well-formed
 
@@ -113,7 +113,7 @@ module _ (c : Content) (latest insertions identifiers limit : ℕ) (w : IsCounte
         limited = w.limited;
       }
 
--- ---- whose children are whose
+-- ---- the element of a child
 
 pub record IsChild (c : Content) (p k : Identifier) : Type 0 where
   pub element : Element
@@ -126,33 +126,3 @@ child_found c p k h =
       | None ↦ λ g h. absurd (true≢false (sym h))
       | Some x ↦ λ g h. record { element = x; found = g; parent = is_id-is x.parent p h }
     ] refl h
-
-child_now : (c : Content) (id parent : Identifier) (ch : ℕ) (p k : Identifier) → finite_map.get c.inserted id ≡ None → is_child (join c (single (Insert id parent ch))) p k ≡ (is_child c p k || (is_id parent p && is_id id k))
-child_now c id parent ch p k none =
-    ap (λ (o : Option Element). option_map_or (λ x. is_id x.parent p) o false) (get-insertion c id parent ch k none)
-    ∙ ap (λ b. option_map_or (λ x. is_id x.parent p) (cond b (Some (element parent ch)) (finite_map.get c.inserted k)) false) (sym (is_id-same id k))
-    ∙ elim (is_id id k) as (λ b. is_id id k ≡ b → option_map_or (λ x. is_id x.parent p) (cond b (Some (element parent ch)) (finite_map.get c.inserted k)) false ≡ (is_child c p k || (is_id parent p && b))) [
-      | true ↦ λ t. sym (ap (λ (o : Option Element). option_map_or (λ x. is_id x.parent p) o false || (is_id parent p && true)) (ap (finite_map.get c.inserted) (sym (is_id-is id k t)) ∙ none) ∙ and-true (is_id parent p))
-      | false ↦ λ t. sym (ap (λ b. is_child c p k || b) (and-false (is_id parent p)) ∙ or-false (is_child c p k))
-    ] refl
-
--- one child more
-pub family_insertion : (c : Content) (id parent : Identifier) (ch : ℕ) (old new : Identifier → List Identifier) → finite_map.get c.inserted id ≡ None → IsFamily c old
-    → ((p k : Identifier) → has_child (new p) k ≡ (has_child (old p) k || (is_id parent p && is_id id k))) → ((p : Identifier) → IsRising (new p)) → IsFamily (join c (single (Insert id parent ch))) new
-family_insertion c id parent ch old new none w h up = record {
-  children = λ p k. h p k ∙ ap (λ b. b || (is_id parent p && is_id id k)) (w.children p k) ∙ sym (child_now c id parent ch p k none);
-  rising = up;
-}
-
--- a deletion has no children
-pub family_deletion : (c : Content) (id : Identifier) (lists : Identifier → List Identifier) → IsFamily c lists → IsFamily (join c (single (Delete id))) lists
-family_deletion c id lists w = record {
-  children = λ p k. w.children p k ∙ ap (λ (o : Option Element). option_map_or (λ x. is_id x.parent p) o false) (sym (get-deletion c id k));
-  rising = w.rising;
-}
-
-pub family_same : (c : Content) (old new : Identifier → List Identifier) → IsFamily c old → ((p : Identifier) → new p ≡ old p) → IsFamily c new
-family_same c old new w h = record {
-  children = λ p k. ap (λ ks. has_child ks k) (h p) ∙ w.children p k;
-  rising = λ p. subst (λ ks. IsRising ks) (sym (h p)) (w.rising p);
-}

@@ -1,9 +1,8 @@
 pub mod Limit
 pub mod Kept
 pub mod Growth
-pub mod Children
-pub mod Nodes
-pub mod Tree
-pub mod Back
-pub mod Preceding
+pub mod Rising
+pub mod Child
+pub mod Counted
+pub mod Without
 pub mod Reached

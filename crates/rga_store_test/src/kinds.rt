@@ -8,7 +8,8 @@ use crate::stores::{
 use crate::walks::{check_places, has_elements};
 use crate::whole_lists::check_lists;
 use rga_flat::FlatStore;
-use rga_store::{TextStore, TreeStore};
+use rga_store::TextStore;
+use rga_tree::TreeStore;
 use std::alloc::Global;
 use std::process::Abort;
 

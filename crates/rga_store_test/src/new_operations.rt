@@ -1,6 +1,7 @@
 //! Lists of operations, and those of them that are new to a store.
 use crate::words::{same, store_of};
-use rga_store::{TreeStore, new_operations_at};
+use rga_store::new_operations_at;
+use rga_tree::TreeStore;
 use std::alloc::Global;
 use test_fixtures::ops_of;
 

@@ -1,6 +1,6 @@
 //! Random events.
 use crate::random::Random;
-use rga_store::TreeStore;
+use rga_tree::TreeStore;
 use rga_world::{Event, World};
 use std::alloc::Global;
 

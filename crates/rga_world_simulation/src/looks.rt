@@ -1,7 +1,8 @@
 //! What is looked at.
 use crate::events::{FIRST, SITES};
 use rga_ops::{Id, Refusal};
-use rga_store::{MAX_LIMIT, Taker, TextStore, TreeStore};
+use rga_store::{MAX_LIMIT, Taker, TextStore};
+use rga_tree::TreeStore;
 use rga_world::{World, WorldRefusal};
 use std::alloc::Global;
 

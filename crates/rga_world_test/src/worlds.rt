@@ -1,7 +1,7 @@
 //! Sites that edit, save, restart and take what others have saved.
 use crate::events::{deliver, edit, restart, save};
 use rga_ops::Refusal;
-use rga_store::TreeStore;
+use rga_tree::TreeStore;
 use rga_world::{World, WorldRefusal};
 use std::alloc::Global;
 use test_fixtures::ops_of;

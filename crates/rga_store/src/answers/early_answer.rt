@@ -3,9 +3,18 @@ ghost use Rattle.std.specs.Prelude.{◌≡◌, ℕ, None, Ok, Err, IfErr, OnOk};
 ghost use Rattle.rga_ops.specs.Prelude.{all_checked, list_answer};
 ghost use Rattle.rga_ops.specs.ListAnswer.{early_conflict};
 
-use crate::list_answer::check_each;
 use crate::text_store::TextStore;
 use rga_ops::{Id, Op, Refusal};
+
+/// What the first ill-formed operation is refused for.
+pub fn check_each(ops: &[Op]) -> Result<(), Refusal>
+    ensures { result ≡ all_checked ops.now }
+{
+    for op in ops {
+        op.check()?;
+    }
+    Ok(())
+}
 
 /// What a store answers to a list that is taken whole or not at all, as far as this is found
 /// without memory: `BadId` or `BadOrder` of the first operation that is ill-formed, and a

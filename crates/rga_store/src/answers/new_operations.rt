@@ -1,10 +1,11 @@
 //! The operations of a list that are new at a store.
 ghost use Rattle.std.specs.Prelude.{◌≡◌, [], not, IfOk, IfErr, OnOk};
-ghost use Rattle.rga_ops.specs.Prelude.{Content, join, single};
+ghost use Rattle.std.specs.Option.{option_or};
+ghost use Rattle.indexmap.specs.IndexMap.{get as get_added};
+ghost use Rattle.rga_ops.specs.Prelude.{Content, is_id, join, single};
 ghost use Rattle.rga_ops.specs.NewOperations.{holds, new_operations};
 ghost use Rattle.rga_store.specs.Reached.{Reaches, ReachesElements, ReachesDeletions};
 
-use crate::list_answer::stored_or_added;
 use crate::text_store::TextStore;
 use indexmap::{IndexMap, IndexSet};
 use rga_ops::{Id, Op, Refusal};
@@ -93,6 +94,18 @@ fn insertion_is_new<S: TextStore>(
             Ok(true)
         }
     }
+}
+
+/// The parent and the character of an element: those that the store has, or else those that were
+/// added.
+pub fn stored_or_added(
+    stored: Option<(Id, char)>,
+    added: &IndexMap<Id, (Id, char)>,
+    id: Id,
+) -> Option<(Id, char)>
+    ensures { result ≡ option_or stored (get_added is_id added.now id) }
+{
+    stored.or_else(|| added.get(&id).copied())
 }
 
 /// Whether neither the store has this deletion nor what was added. Then it is added. `Memory`

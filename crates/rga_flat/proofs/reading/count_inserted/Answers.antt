@@ -1,6 +1,6 @@
 use Rattle.std.proofs.Common.{arith}
 use Rattle.rga_store.proofs.StepLaws.{inserted_within}
-use Rattle.rga_store.proofs.TreeLaws.{within_limits}
+use Rattle.rga_store.proofs.CountedLaws.{within_limits}
 use Rattle.rga_flat.proofs.reading.count_inserted.Goals as goal
 
 pub returns-clause-few : goal.returns-clause-few

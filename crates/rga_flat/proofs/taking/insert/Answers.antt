@@ -6,8 +6,8 @@ use Rattle.rga_ops.specs.Content.{Content, element, clock_of}
 use Rattle.rga_ops.specs.declared.op.Op.TheVariants.{Insert}
 use Rattle.rga_ops.proofs.InsertionLaws.{contains-insertion}
 use Rattle.rga_store.specs.Kept.{Kept}
-use Rattle.rga_store.specs.Back.{without_insertion}
-use Rattle.rga_store.proofs.BackLaws.{without_new, new_held}
+use Rattle.rga_store.specs.Without.{without_insertion}
+use Rattle.rga_store.proofs.WithoutLaws.{without_new, new_held}
 use Rattle.rga_flat.specs.Based.{IsBased}
 use Rattle.rga_flat.specs.Flat.{is_above, IsFlat}
 use Rattle.rga_flat.specs.Waiting.{under, has_list, is_listed, AreInserted}

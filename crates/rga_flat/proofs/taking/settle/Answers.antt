@@ -1,5 +1,5 @@
 use Rattle.std.proofs.Common.{not, ◌&&◌, sym, ◌∙◌, subst}
-use Rattle.rga_store.specs.Back.{without_insertion}
+use Rattle.rga_store.specs.Without.{without_insertion}
 use Rattle.rga_flat.specs.Flat.{IsFlat}
 use Rattle.rga_flat.specs.Waiting.{under, has_list, is_listed}
 use Rattle.rga_flat.proofs.EntryLaws.{on_ok, on_err, on_ok_map, on_ok_both, on_err_map}

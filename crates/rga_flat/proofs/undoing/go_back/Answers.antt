@@ -2,7 +2,7 @@ use Rattle.std.proofs.Common.{◌≡◌, [], ◌++◌, ◌-◌, take, refl, sym,
 use Rattle.std.specs.BTreeSet.{contains}
 use Rattle.rga_ops.specs.Identifier.{id_cmp}
 use Rattle.rga_ops.specs.Content.{Content, IsWithin}
-use Rattle.rga_store.specs.Back.{without}
+use Rattle.rga_store.specs.Without.{without}
 use Rattle.rga_flat.specs.Back.{gone_back, CanGoBack, IsLastStep}
 use Rattle.rga_flat.specs.Flat.{IsFlat}
 use Rattle.rga_flat.specs.Undo.{IsGoingBack}

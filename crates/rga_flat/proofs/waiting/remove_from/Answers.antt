@@ -1,6 +1,6 @@
 use Rattle.std.proofs.Common.{rules, not}
 use Rattle.rga_ops.specs.Identifier.{is_id}
-use Rattle.rga_store.proofs.ChildListLaws.{filter_retained}
+use Rattle.rga_store.proofs.RetainLaws.{filter_retained}
 use Rattle.rga_flat.proofs.waiting.remove_from.Goals as goal
 
 pub returns : goal.returns

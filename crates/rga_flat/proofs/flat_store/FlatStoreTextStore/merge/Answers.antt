@@ -7,7 +7,7 @@ use Rattle.rga_ops.specs.declared.refusal.Refusal.{Refusal}
 use Rattle.rga_ops.specs.declared.refusal.Refusal.TheVariants.{Memory}
 use Rattle.rga_ops.proofs.ListAnswerLaws.{union_taken-iff}
 use Rattle.rga_ops.proofs.TakenLaws.{took, refused}
-use Rattle.rga_store.proofs.MergingLaws.{merge_one_by_one}
+use Rattle.rga_store.proofs.MergeSteps.{merge_one_by_one}
 use Rattle.rga_flat.proofs.flat_store.FlatStoreTextStore.merge.Goals as goal
 
 -- a list that can be taken is refused for want of memory alone

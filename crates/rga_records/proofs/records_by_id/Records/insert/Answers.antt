@@ -4,7 +4,7 @@ use Rattle.rga_ops.specs.Answer.{answer}
 use Rattle.rga_ops.specs.declared.op.Op.TheVariants.{Insert}
 use Rattle.rga_ops.specs.declared.refusal.Taken.TheVariants.{New}
 use Rattle.rga_store.specs.Kept.{Kept}
-use Rattle.rga_store.proofs.TreeLaws.{few_inserted}
+use Rattle.rga_store.proofs.CountedLaws.{few_inserted}
 use Rattle.rga_records.specs.Records.{content_of_records}
 use Rattle.rga_records.proofs.CountedLaws.{records_insertion}
 use Rattle.rga_records.proofs.records_by_id.Records.insert.Goals as goal

@@ -2,8 +2,8 @@ use Rattle.std.proofs.Common.{◌≤◌, ◌-◌, cond, sym, ap, ◌∙◌, subs
 use Rattle.std.specs.FinSet as finite_set
 use Rattle.rga_ops.specs.Content.{clock_of}
 use Rattle.rga_store.specs.Kept.{Kept}
-use Rattle.rga_store.specs.Back.{without_deletion}
-use Rattle.rga_store.proofs.BackLaws.{one_deletion_known}
+use Rattle.rga_store.specs.Without.{without_deletion}
+use Rattle.rga_store.proofs.WithoutLaws.{one_deletion_known}
 use Rattle.rga_records.specs.Records.{content_of_records}
 use Rattle.rga_records.proofs.CountedLaws.{records_without_deletion}
 use Rattle.rga_records.proofs.records_by_id.Records.remove_deletion.Goals as goal

@@ -2,8 +2,8 @@ use Rattle.std.proofs.Common.{◌≤◌, ◌-◌, cond, sym, ap, ◌∙◌, subs
 use Rattle.std.specs.FinMap as finite_map
 use Rattle.rga_ops.specs.Content.{Content, clock_of}
 use Rattle.rga_store.specs.Kept.{Kept}
-use Rattle.rga_store.specs.Back.{without_insertion}
-use Rattle.rga_store.proofs.BackLaws.{one_inserted, one_insertion_known}
+use Rattle.rga_store.specs.Without.{without_insertion}
+use Rattle.rga_store.proofs.WithoutLaws.{one_inserted, one_insertion_known}
 use Rattle.rga_records.specs.Records.{content_of_records}
 use Rattle.rga_records.proofs.CountedLaws.{IsFound, found_there, records_without_insertion}
 use Rattle.rga_records.proofs.records_by_id.Records.remove_insertion.Goals as goal

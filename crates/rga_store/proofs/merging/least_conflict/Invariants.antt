@@ -1,7 +1,0 @@
-use Rattle.rga_ops.specs.ListAnswer.{is_conflict}
-use Rattle.rga_store.specs.Nodes.{content_of_nodes}
-use Rattle.rga_store.proofs.MergingLaws.{IsLeastSoFar}
-use Rattle.rga_store.proofs.merging.least_conflict.Given as goal
-
-abbrev pub invariant-loop-i : goal.invariant-loop-i
-invariant-loop-i l = IsLeastSoFar (is_conflict (content_of_nodes l.others.entries) (content_of_nodes l.own.entries)) l.others.entries l.i l.least

@@ -1,8 +1,0 @@
-use Rattle.std.proofs.Common.{arith}
-use Rattle.rga_store.specs.Nodes.{content_of_nodes}
-use Rattle.rga_store.proofs.TreeLaws.{few_inserted}
-use Rattle.rga_store.proofs.tree_store.TreeStoreTextStore.place_of.Goals as goal
-
-pub place_of-requires-clause-few : goal.place_of-requires-clause-few
-place_of-requires-clause-few c =
-    omega (arith, c.self.invariant.counted.inserted, few_inserted (content_of_nodes c.self.inside.nodes.entries) c.self.inside.clock c.self.inside.inserted c.self.inside.known c.self.inside.limit c.self.invariant.counted)

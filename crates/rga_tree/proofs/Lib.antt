@@ -1,0 +1,13 @@
+pub mod ChildListLaws
+pub mod ChildLaws
+pub mod FamilyLaws
+pub mod NodeLaws
+pub mod PickedLaws
+pub mod WalkLaws
+pub mod ShownLaws
+pub mod TreeLaws
+pub mod RootedLaws
+pub mod MergingLaws
+pub mod BackLaws
+pub mod PrecedingLaws
+pub mod CountingLaws

@@ -1,0 +1,44 @@
+use Rattle.std.proofs.Common.{◌≡◌, false, is_some, refl, sym, ap, ◌∙◌}
+use Rattle.std.specs.Prelude.{Some, None}
+use Rattle.std.specs.Option.{option_copied_mut}
+use Rattle.std.specs.Map.{lookup}
+use Rattle.rga_ops.specs.Identifier.{is_id}
+use Rattle.rga_tree.specs.declared.nodes.Node.{Node}
+use Rattle.rga_tree.specs.Nodes.{Nodes, content_of_nodes}
+use Rattle.rga_tree.proofs.NodeLaws.{IsPut, element_of, is_some-mapped, inserted_at, content_undeleted, children_kept, nothing_undeleted}
+use Rattle.rga_tree.proofs.nodes.clear_mark.Goals as goal
+
+found : (c : goal.After-nodes-in-Some-1) → lookup (is_id c.args.id) c.args.nodes.now.entries ≡ Some c.in-Some.node.now
+found c = sym c.get_mut.ensures.value ∙ ap option_copied_mut c.in-Some.is
+
+abbrev written : (c : goal.After-nodes-in-Some-1) → Node
+written c = record { element = c.in-Some.node.now.element; deleted = false; children = c.in-Some.node.now.children }
+
+abbrev after : (c : goal.After-nodes-in-Some-1) → Nodes
+after c = (c.get_mut.follows.lender (written c)).entries
+
+put : (c : goal.After-nodes-in-Some-1) → IsPut c.args.nodes.now.entries (after c) c.args.id (Some c.in-Some.node.now) (written c)
+put c = record { found = found c; now = ((c.get_mut.follows.holds (written c)).3 (ap is_some (found c))).0 }
+
+pub returns-in-Some-clause-inserted : goal.returns-in-Some-clause-inserted
+returns-in-Some-clause-inserted c =
+    c.is_some.ensures ∙ sym (is_some-mapped c.in-Some.node.now.element)
+    ∙ sym (ap is_some (inserted_at c.args.nodes.now.entries c.get_mut.ensures.unique c.args.id ∙ ap element_of (found c)))
+
+pub returns-in-Some-clause-content : goal.returns-in-Some-clause-content
+returns-in-Some-clause-content c =
+    content_undeleted c.args.nodes.now.entries (after c) c.args.id (Some c.in-Some.node.now) (written c) c.get_mut.ensures.unique (c.get_mut.follows.holds (written c)).4 (put c) refl refl
+
+pub returns-in-Some-clause-children : goal.returns-in-Some-clause-children
+returns-in-Some-clause-children c =
+    children_kept c.args.nodes.now.entries (after c) c.args.id (Some c.in-Some.node.now) (written c) c.get_mut.ensures.unique (c.get_mut.follows.holds (written c)).4 (put c) refl
+
+none : (c : goal.After-nodes-in-None-2-1) → lookup (is_id c.args.id) c.args.nodes.now.entries ≡ None
+none c = sym c.get_mut.ensures.value ∙ ap option_copied_mut c.in-None.is
+
+pub returns-in-None-clause-inserted : goal.returns-in-None-clause-inserted
+returns-in-None-clause-inserted c = sym (ap is_some (inserted_at c.args.nodes.now.entries c.get_mut.ensures.unique c.args.id ∙ ap element_of (none c)))
+
+pub returns-in-None-clause-content : goal.returns-in-None-clause-content
+returns-in-None-clause-content c =
+    ap (λ m. content_of_nodes m.entries) c.get_mut.follows.holds-at-none ∙ sym (nothing_undeleted c.args.nodes.now.entries c.args.id c.get_mut.ensures.unique (none c))

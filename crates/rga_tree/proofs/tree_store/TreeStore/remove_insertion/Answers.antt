@@ -1,0 +1,39 @@
+use Rattle.std.proofs.Common.{◌≡◌, ◌≤◌, ◌-◌, true, cond, not, ◌&&◌, sym, ap, ◌∙◌, subst}
+use Rattle.rga_ops.specs.Identifier.{is_id}
+use Rattle.rga_ops.specs.Content.{Content, clock_of}
+use Rattle.rga_store.specs.Kept.{Kept}
+use Rattle.rga_store.specs.Without.{without_insertion}
+use Rattle.rga_tree.specs.Children.{has_child}
+use Rattle.rga_tree.specs.Nodes.{content_of_nodes}
+use Rattle.rga_store.specs.Child.{is_child}
+use Rattle.rga_store.proofs.StepLaws.{IsChild, child_found}
+use Rattle.rga_store.proofs.WithoutLaws.{one_inserted, one_insertion_known}
+use Rattle.rga_tree.proofs.BackLaws.{tree_without_insertion}
+use Rattle.rga_tree.proofs.tree_store.TreeStore.remove_insertion.Goals as goal
+
+pub overflow_sub-self : goal.overflow_sub-self
+overflow_sub-self c =
+    let held : Content = content_of_nodes c.self.inside.nodes.entries in
+    let its : is_child held c.args.parent c.args.id ≡ true = ap (λ (v : Kept). is_child v.content c.args.parent c.args.id) c.self.view_is ∙ c.requires.child in
+    let found : IsChild held c.args.parent c.args.id = child_found held c.args.parent c.args.id its in
+    one_inserted held c.self.inside.clock c.self.inside.inserted c.self.inside.known c.self.inside.limit c.self.invariant.counted c.args.id found.element found.found
+
+pub uncount_unless-requires : goal.uncount_unless-requires
+uncount_unless-requires c =
+    let held : Content = content_of_nodes c.self.inside.nodes.entries in
+    let its : is_child held c.args.parent c.args.id ≡ true = ap (λ (v : Kept). is_child v.content c.args.parent c.args.id) c.self.view_is ∙ c.requires.child in
+    let found : IsChild held c.args.parent c.args.id = child_found held c.args.parent c.args.id its in
+    subst (λ b. cond b 0 1 ≤ c.self.inside.known) (sym c.clear_element-deleted.ensures.deleted)
+    (one_insertion_known held c.self.inside.clock c.self.inside.inserted c.self.inside.known c.self.inside.limit c.self.invariant.counted c.args.id found.element found.found)
+
+pub invariant_of-self : goal.invariant_of-self
+invariant_of-self c =
+    let held : Content = content_of_nodes c.self.inside.nodes.entries in
+    tree_without_insertion c.self.inside.nodes.entries c.remove_child.new.nodes.entries c.self.inside.clock c.self.inside.inserted c.self.inside.known c.self.inside.limit c.self.invariant
+    c.remove_child.ensures.apart c.args.id c.args.parent c.args.clock c.uncount_unless.new.count
+    (ap (λ (v : Kept). is_child v.content c.args.parent c.args.id) c.self.view_is ∙ c.requires.child)
+    (c.remove_child.ensures.content ∙ c.clear_element-deleted.ensures.content)
+    (λ p k. c.remove_child.ensures.removed p k ∙ ap (λ ks. has_child ks k && not (is_id c.args.parent p && is_id c.args.id k)) (c.clear_element-deleted.ensures.children p))
+    c.remove_child.ensures.rising
+    (c.requires.clock ∙ ap (λ (v : Kept). clock_of (without_insertion c.args.id v.content)) (sym c.self.view_is))
+    (c.uncount_unless.ensures ∙ ap (λ b. cond b c.self.inside.known (c.self.inside.known - 1)) c.clear_element-deleted.ensures.deleted)

@@ -1,0 +1,5 @@
+pub mod Children
+pub mod Nodes
+pub mod Tree
+pub mod Back
+pub mod Preceding

@@ -1,0 +1,148 @@
+//! Visible elements counted from an element back through the order, by look-ups. Takes no memory.
+ghost use Rattle.std.specs.Prelude.{◌≡◌, ◌≤◌, ◌++◌, ◌∷◌, [], false, true, length, slice_get, is_some, None, IfSome};
+ghost use Rattle.std.specs.Option.{option_map};
+ghost use Rattle.std.specs.FinMap as finite_map;
+ghost use Rattle.std.specs.FinSet as finite_set;
+ghost use Rattle.rga_ops.specs.Prelude.{is_root, order, place, visible, IsSound};
+ghost use Rattle.rga_ops.specs.RootPath.{is_complete, root_path};
+ghost use Rattle.rga_ops.specs.Places.{is_visible};
+ghost use Rattle.rga_store.specs.declared.text_store.TheConstants.{MAX_LIMIT};
+ghost use Rattle.rga_tree.specs.Nodes.{content_of_nodes, AreApart};
+ghost use Rattle.rga_tree.specs.Preceding.{beginning, visible_up_to};
+ghost use Rattle.rga_tree.specs.Tree.{HasFamilies};
+
+use crate::nodes::Node;
+use crate::preceding::{element_before, find_near, last_under};
+use indexmap::IndexMap;
+use rga_ops::Id;
+
+/// How many elements are visible.
+pub(crate) fn visible_len(nodes: &IndexMap<Id, Node>) -> usize
+    requires apart { AreApart nodes.now.entries }
+    requires family { HasFamilies nodes.now.entries }
+    requires sound { IsSound (content_of_nodes nodes.now.entries) }
+    requires few { finite_map.len (content_of_nodes nodes.now.entries).inserted ≤ MAX_LIMIT }
+    ensures { result ≡ length (visible (content_of_nodes nodes.now.entries)) }
+{
+    count_up_to(nodes, last_element(nodes))
+}
+
+/// The visible element at an index; none past the end.
+pub(crate) fn element_at(nodes: &IndexMap<Id, Node>, k: usize) -> Option<Id>
+    requires apart { AreApart nodes.now.entries }
+    requires family { HasFamilies nodes.now.entries }
+    requires sound { IsSound (content_of_nodes nodes.now.entries) }
+    requires few { finite_map.len (content_of_nodes nodes.now.entries).inserted ≤ MAX_LIMIT }
+    ensures { result ≡ slice_get (visible (content_of_nodes nodes.now.entries)) k }
+{
+    let mut at = last_element(nodes);
+    let mut near = 0;
+    let mut count = count_up_to(nodes, at);
+    if count <= k {
+        return None;
+    }
+    while let Some(step) = step_back(nodes, &mut near, at) {
+        let (before, visible) = step;
+        count -= usize::from(visible);
+        if count <= k {
+            return Some(at);
+        }
+        at = before;
+    }
+    None
+}
+
+/// How many visible elements are the element or stand before it; 0 for the root, and none for what
+/// is neither the root nor complete.
+pub(crate) fn place_of(nodes: &IndexMap<Id, Node>, id: Id) -> Option<usize>
+    requires apart { AreApart nodes.now.entries }
+    requires family { HasFamilies nodes.now.entries }
+    requires sound { IsSound (content_of_nodes nodes.now.entries) }
+    requires few { finite_map.len (content_of_nodes nodes.now.entries).inserted ≤ MAX_LIMIT }
+    ensures { result ≡ place (content_of_nodes nodes.now.entries) id }
+{
+    if !reaches_root(nodes, id) {
+        return None;
+    }
+    Some(count_up_to(nodes, id))
+}
+
+/// How many visible elements there are up to the root or a complete element.
+fn count_up_to(nodes: &IndexMap<Id, Node>, id: Id) -> usize
+    requires apart { AreApart nodes.now.entries }
+    requires family { HasFamilies nodes.now.entries }
+    requires sound { IsSound (content_of_nodes nodes.now.entries) }
+    requires few { finite_map.len (content_of_nodes nodes.now.entries).inserted ≤ MAX_LIMIT }
+    requires complete { is_root id ≡ false →
+        is_complete (content_of_nodes nodes.now.entries) id ≡ true }
+    ensures { result ≡ length (visible_up_to (content_of_nodes nodes.now.entries) id) }
+{
+    let mut at = id;
+    let mut near = 0;
+    let mut count = 0;
+    while let Some(step) = step_back(nodes, &mut near, at) {
+        let (before, visible) = step;
+        count += usize::from(visible);
+        at = before;
+    }
+    count
+}
+
+/// What stands directly before an element, and whether the element is visible; none for the root.
+fn step_back(nodes: &IndexMap<Id, Node>, near: &mut usize, id: Id) -> Option<(Id, bool)>
+    requires apart { AreApart nodes.now.entries }
+    requires family { HasFamilies nodes.now.entries }
+    requires sound { IsSound (content_of_nodes nodes.now.entries) }
+    requires complete { is_root id ≡ false →
+        is_complete (content_of_nodes nodes.now.entries) id ≡ true }
+    ensures before { let content = content_of_nodes nodes.now.entries in IfSome result
+        (λ p. beginning content id ≡ beginning content p.0 ++ id ∷ []) }
+    ensures visible { let content = content_of_nodes nodes.now.entries in IfSome result
+        (λ p. p.1 ≡ is_visible content id) }
+    ensures complete { let content = content_of_nodes nodes.now.entries in IfSome result
+        (λ p. is_root p.0 ≡ false → is_complete content p.0 ≡ true) }
+    ensures root { result ≡ None → is_root id ≡ true }
+{
+    let (parent, deleted) = parent_and_mark(nodes, near, id)?;
+    Some((element_before(nodes, near, parent, id), !deleted))
+}
+
+/// The last element of the order; the root where there is none.
+fn last_element(nodes: &IndexMap<Id, Node>) -> Id
+    requires family { HasFamilies nodes.now.entries }
+    requires sound { IsSound (content_of_nodes nodes.now.entries) }
+    ensures last { beginning (content_of_nodes nodes.now.entries) result
+        ≡ order (content_of_nodes nodes.now.entries) }
+    ensures complete { is_root result ≡ false →
+        is_complete (content_of_nodes nodes.now.entries) result ≡ true }
+{
+    last_under(nodes, Id::ROOT)
+}
+
+/// Whether an identifier is the root or complete: up the parents from it.
+fn reaches_root(nodes: &IndexMap<Id, Node>, id: Id) -> bool
+    requires apart { AreApart nodes.now.entries }
+    requires sound { IsSound (content_of_nodes nodes.now.entries) }
+    ensures { result ≡ is_some (root_path (content_of_nodes nodes.now.entries) id) }
+{
+    let mut at = id;
+    let mut near = 0;
+    while let Some(child) = parent_and_mark(nodes, &mut near, at) {
+        at = child.0;
+    }
+    at == Id::ROOT
+}
+
+/// The parent of an inserted element, and whether the element is deleted. It leaves the index
+/// before the element's own at `near`: the parent's node mostly stands there.
+fn parent_and_mark(nodes: &IndexMap<Id, Node>, near: &mut usize, id: Id) -> Option<(Id, bool)>
+    requires { AreApart nodes.now.entries }
+    ensures { let content = content_of_nodes nodes.now.entries in result ≡ option_map
+        (λ x. (x.parent, finite_set.contains content.deleted id))
+        (finite_map.get content.inserted id) }
+{
+    let node = find_near(nodes, near, id)?;
+    *near = near.wrapping_sub(1);
+    let (parent, _) = node.element?;
+    Some((parent, node.deleted))
+}

@@ -1,0 +1,125 @@
+//! A content as a list of operations.
+ghost use Rattle.std.specs.Prelude.{◌≡◌, ◌++◌, map, IfOk, IfErr, OnOk};
+ghost use Rattle.std.specs.List.{filter_map};
+ghost use Rattle.std.specs.FinMap as finite_map;
+ghost use Rattle.std.specs.FinSet as finite_set;
+ghost use Rattle.rga_ops.specs.Operations.{operations, insertion_at, rising};
+ghost use Rattle.rga_tree.specs.Nodes.{content_of_nodes, inserted_ids, marked_ids, AreApart};
+
+use crate::nodes::Node;
+use indexmap::IndexMap;
+use rga_ops::{Id, Op, Refusal};
+use std::alloc::Global;
+
+/// The insertions by rising identifier, and then the deletions by rising identifier.
+pub(crate) fn operations_of(alloc: Global, nodes: &IndexMap<Id, Node>) -> Result<Vec<Op>, Refusal>
+    requires { AreApart nodes.now.entries }
+    ensures ok { IfOk result
+        (λ ops. ops.items ≡ operations (content_of_nodes nodes.now.entries)) }
+    ensures memory { IfErr result (λ e. e ≡ Refusal.Memory) }
+{
+    let mut ops = Vec::new(alloc);
+    list_insertions(alloc, &mut ops, nodes)?;
+    list_deletions(alloc, &mut ops, nodes)?;
+    Ok(ops)
+}
+
+/// Adds the insertions by rising identifier.
+fn list_insertions(
+    alloc: Global,
+    ops: &mut Vec<Op>,
+    nodes: &IndexMap<Id, Node>,
+) -> Result<(), Refusal>
+    requires { AreApart nodes.now.entries }
+    ensures ok { let content = content_of_nodes nodes.now.entries in
+        OnOk result (ops.new.items ≡ ops.old.items
+        ++ filter_map (insertion_at content) (finite_map.keys content.inserted)) }
+    ensures memory { IfErr result (λ e. e ≡ Refusal.Memory) }
+{
+    let mut ids = Vec::new(alloc);
+    push_inserted(&mut ids, nodes)?;
+    ids.sort_unstable();
+    push_insertions(ops, nodes, &ids)
+}
+
+/// Adds the deletions by rising identifier.
+fn list_deletions(
+    alloc: Global,
+    ops: &mut Vec<Op>,
+    nodes: &IndexMap<Id, Node>,
+) -> Result<(), Refusal>
+    requires { AreApart nodes.now.entries }
+    ensures ok { let content = content_of_nodes nodes.now.entries in
+        OnOk result (ops.new.items ≡ ops.old.items
+        ++ map Op.Delete (rising (finite_set.items content.deleted))) }
+    ensures memory { IfErr result (λ e. e ≡ Refusal.Memory) }
+{
+    let mut ids = Vec::new(alloc);
+    push_marked(&mut ids, nodes)?;
+    ids.sort_unstable();
+    push_deletions(ops, &ids)
+}
+
+/// The identifiers of the nodes that have an element.
+fn push_inserted(ids: &mut Vec<Id>, nodes: &IndexMap<Id, Node>) -> Result<(), Refusal>
+    ensures ok { OnOk result (ids.new.items ≡ ids.old.items ++ inserted_ids nodes.now.entries) }
+    ensures memory { IfErr result (λ e. e ≡ Refusal.Memory) }
+{
+    for i in 0..nodes.len() {
+        if let Some((id, node)) = nodes.get_index(i) {
+            let inserted = node.element.is_some();
+            if inserted {
+                ids.push(*id)?;
+            }
+        }
+    }
+    Ok(())
+}
+
+/// The identifiers of the nodes that are marked as deleted.
+fn push_marked(ids: &mut Vec<Id>, nodes: &IndexMap<Id, Node>) -> Result<(), Refusal>
+    ensures ok { OnOk result (ids.new.items ≡ ids.old.items ++ marked_ids nodes.now.entries) }
+    ensures memory { IfErr result (λ e. e ≡ Refusal.Memory) }
+{
+    for i in 0..nodes.len() {
+        if let Some((id, node)) = nodes.get_index(i) {
+            let deleted = node.deleted;
+            if deleted {
+                ids.push(*id)?;
+            }
+        }
+    }
+    Ok(())
+}
+
+fn push_insertions(ops: &mut Vec<Op>, nodes: &IndexMap<Id, Node>, ids: &[Id]) -> Result<(), Refusal>
+    requires { AreApart nodes.now.entries }
+    ensures ok { let content = content_of_nodes nodes.now.entries in OnOk result
+        (ops.new.items ≡ ops.old.items ++ filter_map (insertion_at content) ids.now) }
+    ensures memory { IfErr result (λ e. e ≡ Refusal.Memory) }
+{
+    for id in ids {
+        if let Some(op) = insertion_of(nodes, *id) {
+            ops.push(op)?;
+        }
+    }
+    Ok(())
+}
+
+fn insertion_of(nodes: &IndexMap<Id, Node>, id: Id) -> Option<Op>
+    requires { AreApart nodes.now.entries }
+    ensures { result ≡ insertion_at (content_of_nodes nodes.now.entries) id }
+{
+    let (parent, ch) = nodes.get(&id)?.element?;
+    Some(Op::Insert { id, parent, ch })
+}
+
+fn push_deletions(ops: &mut Vec<Op>, ids: &[Id]) -> Result<(), Refusal>
+    ensures ok { OnOk result (ops.new.items ≡ ops.old.items ++ map Op.Delete ids.now) }
+    ensures memory { IfErr result (λ e. e ≡ Refusal.Memory) }
+{
+    for id in ids {
+        ops.push(Op::Delete { id: *id })?;
+    }
+    Ok(())
+}

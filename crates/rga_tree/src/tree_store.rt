@@ -1,0 +1,319 @@
+//! A store as a tree: a node for each identifier, and under it its children.
+ghost use Rattle.std.specs.Prelude.{◌≡◌, ◌≢◌, ◌≤◌, ◌+◌, ◌⊎◌, ◌↔◌, if◌then◌else◌, [], length, Ok, Err, OnOk, OnErr, IfOk, IfErr, true, false, max};
+ghost use Rattle.std.specs.FinMap as finite_map;
+ghost use Rattle.rga_ops.specs.Content.{join, single};
+ghost use Rattle.rga_ops.specs.Answer.{answer, facts};
+ghost use Rattle.rga_ops.specs.Order.{waiting};
+ghost use Rattle.rga_ops.specs.Found.{facts_of};
+ghost use Rattle.rga_store.specs.declared.text_store.TheConstants.{MAX_LIMIT};
+
+mod removal;
+mod whole_list;
+
+use crate::counting_back::{element_at, place_of, visible_len};
+use crate::elements::elements;
+use crate::list_answer::answer_to_list;
+use crate::merging::{count_unknown, least_conflict};
+use crate::nodes::{Node, add_child, ensure_node, found_at, mark, set_element};
+use crate::operations::operations_of;
+use crate::walk::{walked, walked_text, walked_visible};
+use indexmap::IndexMap;
+use rga_ops::{Found, Id, Op, Refusal, Taken, answer_to};
+use rga_store::{MAX_LIMIT, Taker, TextStore};
+use std::alloc::Global;
+use std::marker::Model;
+use whole_list::take_one_by_one;
+
+/// The timestamped insertion tree of Attiya and others 2016: a node for each identifier that is
+/// inserted, deleted or named as a parent, the root among these, and under each node its children.
+/// So what comes early, be it a deletion or a child, waits in the node of what it waits for. A new
+/// insertion costs a search among its siblings, any other operation none.
+#[derive(Drop)]
+pub struct TreeStore {
+    alloc: Global,
+    nodes: IndexMap<Id, Node>,
+    clock: u64,
+    /// How many identifiers are inserted.
+    inserted: usize,
+    /// How many identifiers are inserted, deleted or both.
+    known: usize,
+    limit: usize,
+}
+
+impl Model for TreeStore {
+    ghost use Rattle.rga_store.specs.Kept.{Kept, kept_code};
+
+    ghost Value = { Kept };
+
+    ghost coded = { kept_code };
+
+    ghost use Rattle.rga_tree.specs.Nodes.{content_of_nodes};
+    ghost use Rattle.rga_tree.specs.Tree.{IsTree};
+
+    ghost view = { λ a. record { content = content_of_nodes a.nodes.entries; limit = a.limit } };
+
+    ghost invariant = { λ a. IsTree a.nodes.entries a.clock a.inserted a.known a.limit };
+}
+
+impl Taker for TreeStore {
+    ghost use Rattle.std.specs.Prelude.{◌≡◌, Ok, Err, false};
+    ghost use Rattle.rga_store.specs.Growth.{NeedsRoom};
+
+    ghost content = { λ s. s.content };
+
+    ghost limit = { λ s. s.limit };
+
+    ghost may_grow = { λ s op. NeedsRoom s.content op };
+
+    ghost follows = { λ s ops t. Unit {0} };
+
+    ghost follows_nothing = { λ s. tt };
+
+    ghost follows_on = { λ s t u xs ys a b. tt };
+
+    fn apply(&mut self, op: Op) -> Result<Taken, Refusal> {
+        let answer = self.answer(op);
+        if answer != Ok(Taken::New) {
+            return answer;
+        }
+        match &op {
+            Op::Insert { id, parent, ch } => self.insert(*id, *parent, *ch),
+            Op::Delete { id } => self.delete(*id),
+        }
+    }
+
+    fn apply_all(&mut self, ops: &[Op]) -> Result<(), Refusal> {
+        let alloc = self.alloc;
+        if self.take_whole(ops).is_ok() {
+            return Ok(());
+        }
+        // Which refusal comes first depends on the whole list, so it is looked for only now.
+        answer_to_list(alloc, self, ops)?;
+        Err(Refusal::Memory)
+    }
+}
+
+fn raise(clock: &mut u64, counter: u64)
+    ensures { clock.new ≡ max clock.old counter }
+{
+    if *clock < counter {
+        *clock = counter;
+    }
+}
+
+/// One more, unless it was counted.
+fn count_unless(counted: bool, count: &mut usize)
+    requires { (if counted then count.old else count.old + 1) ≤ MAX_LIMIT }
+    ensures { count.new ≡ (if counted then count.old else count.old + 1) }
+{
+    if !counted {
+        *count += 1;
+    }
+}
+
+impl TreeStore {
+    /// The answer to an operation, want of memory aside.
+    fn answer(&self, op: Op) -> Result<Taken, Refusal>
+        ensures { result ≡ answer self.now.limit self.now.content op }
+    {
+        answer_to(op, self.find(op.id()))
+    }
+
+    /// What is known of an identifier, by one search.
+    fn find(&self, id: Id) -> Found
+        ensures { facts_of result ≡ facts self.now.limit self.now.content id }
+    {
+        let known = self.known;
+        let limit = self.limit;
+        match self.nodes.get(&id) {
+            Some(node) => {
+                let element = node.element;
+                let deleted = node.deleted;
+                Found {
+                    element,
+                    deleted,
+                    known,
+                    limit,
+                }
+            }
+            None => Found {
+                element: None,
+                deleted: false,
+                known,
+                limit,
+            },
+        }
+    }
+
+    /// Whether the root has a node and each other node its element. So each parent but the root is
+    /// inserted, and nothing waits.
+    fn is_rooted(&self) -> bool
+        ensures { result ≡ true → waiting self.now.content ≡ [] }
+    {
+        if self.nodes.len() != self.inserted + 1 {
+            return false;
+        }
+        self.nodes.contains_key(&Id::ROOT)
+    }
+
+    /// Takes an insertion by one search for its identifier, and a new one stands among its siblings.
+    /// Memory may be wanting before any other answer is found. Until the element is there, a refusal
+    /// leaves no more than nodes that mean nothing.
+    fn insert(&mut self, id: Id, parent: Id, ch: char) -> Result<Taken, Refusal>
+        ensures exact { result ≢ Err Refusal.Memory →
+            result ≡ answer self.old.limit self.old.content (Op.Insert id parent ch) }
+        ensures new { result ≡ Ok Taken.New →
+            self.new.content ≡ join self.old.content (single (Op.Insert id parent ch)) }
+        ensures same { result ≢ Ok Taken.New → self.new.content ≡ self.old.content }
+        ensures limit { self.new.limit ≡ self.old.limit }
+    {
+        let above = ensure_node(self.alloc, &mut self.nodes, parent)?;
+        let index = ensure_node(self.alloc, &mut self.nodes, id)?;
+        let found = found_at(&self.nodes, index, id, self.known, self.limit);
+        let answer = answer_to(Op::Insert { id, parent, ch }, found);
+        if answer != Ok(Taken::New) {
+            return answer;
+        }
+        add_child(self.alloc, &mut self.nodes, above, parent, id)?;
+        let deleted = set_element(&mut self.nodes, index, id, parent, ch);
+        self.inserted += 1;
+        count_unless(deleted, &mut self.known);
+        raise(&mut self.clock, id.counter());
+        Ok(Taken::New)
+    }
+
+    /// Marks an identifier as deleted, which takes memory only where it has no node.
+    fn delete(&mut self, id: Id) -> Result<Taken, Refusal>
+        requires { answer self.old.limit self.old.content (Op.Delete id) ≡ Ok Taken.New }
+        ensures ok { OnOk result
+            (self.new.content ≡ join self.old.content (single (Op.Delete id))) }
+        ensures same { OnErr result (self.new.content ≡ self.old.content) }
+        ensures answer { (result ≡ Ok Taken.New) ⊎ (result ≡ Err Refusal.Memory) }
+        ensures growth { result ≡ Err Refusal.Memory →
+            finite_map.contains_key self.old.content.inserted id ≡ false }
+        ensures limit { self.new.limit ≡ self.old.limit }
+    {
+        let index = ensure_node(self.alloc, &mut self.nodes, id)?;
+        let inserted = mark(&mut self.nodes, index, id);
+        count_unless(inserted, &mut self.known);
+        raise(&mut self.clock, id.counter());
+        Ok(Taken::New)
+    }
+}
+
+impl TextStore for TreeStore {
+    ghost use Rattle.std.proofs.Common.{true≢false, sym, ◌∙◌};
+
+    ghost deletes_freely = { λ s id inserted grows. true≢false (sym inserted ∙ grows) };
+
+    fn new(alloc: Global, limit: usize) -> Result<TreeStore, Refusal> {
+        if limit < 1 || limit > MAX_LIMIT {
+            return Err(Refusal::Range);
+        }
+        Ok(TreeStore {
+            alloc,
+            nodes: IndexMap::new(alloc),
+            clock: 0,
+            inserted: 0,
+            known: 0,
+            limit,
+        })
+    }
+
+    fn get(&self, id: Id) -> Option<(Id, char)> {
+        self.nodes.get(&id)?.element
+    }
+
+    fn is_deleted(&self, id: Id) -> bool {
+        match self.nodes.get(&id) {
+            Some(node) => node.deleted,
+            None => false,
+        }
+    }
+
+    fn known(&self) -> usize {
+        self.known
+    }
+
+    fn contains(&self, op: &Op) -> bool {
+        match op {
+            Op::Insert { id, parent, ch } => match self.get(*id) {
+                Some(element) => element == (*parent, *ch),
+                None => false,
+            },
+            Op::Delete { id } => self.is_deleted(*id),
+        }
+    }
+
+    fn clock(&self) -> u64 {
+        self.clock
+    }
+
+    fn limit(&self) -> usize {
+        self.limit
+    }
+
+    fn order(&self) -> Result<Vec<Id>, Refusal> {
+        walked(self.alloc, &self.nodes)
+    }
+
+    fn text(&self, alloc: Global) -> Result<Vec<char>, Refusal> {
+        let room = Vec::with_capacity(alloc, self.nodes.len())?;
+        walked_text(alloc, room, &self.nodes)
+    }
+
+    fn text_string(&self, alloc: Global) -> Result<String, Refusal> {
+        let room = String::with_capacity(alloc, self.nodes.len())?;
+        walked_text(alloc, room, &self.nodes)
+    }
+
+    fn visible(&self, alloc: Global) -> Result<(Vec<Id>, Vec<char>), Refusal> {
+        walked_visible(alloc, &self.nodes)
+    }
+
+    fn visible_len(&self) -> usize {
+        visible_len(&self.nodes)
+    }
+
+    fn element_at(&self, k: usize) -> Option<Id> {
+        element_at(&self.nodes, k)
+    }
+
+    fn elements(&self, alloc: Global, lo: usize, hi: usize) -> Result<Vec<Id>, Refusal> {
+        elements(alloc, &self.nodes, lo, hi)
+    }
+
+    fn place_of(&self, id: Id) -> Option<usize> {
+        place_of(&self.nodes, id)
+    }
+
+    fn waiting_count(&self) -> Result<usize, Refusal> {
+        if self.is_rooted() {
+            return Ok(0);
+        }
+        let order = walked(self.alloc, &self.nodes)?;
+        Ok(self.inserted - order.as_slice().len())
+    }
+
+    fn ops(&self) -> Result<Vec<Op>, Refusal> {
+        operations_of(self.alloc, &self.nodes)
+    }
+
+    fn copy(&self) -> Result<TreeStore, Refusal> {
+        let ops = self.ops()?;
+        let mut copy = TreeStore::new(self.alloc, self.limit)?;
+        take_one_by_one(&mut copy, &ops)?;
+        Ok(copy)
+    }
+
+    fn merge(&mut self, other: &TreeStore) -> Result<(), Refusal> {
+        if let Some(id) = least_conflict(&self.nodes, &other.nodes) {
+            return Err(Refusal::Conflict(id));
+        }
+        if count_unknown(&self.nodes, &other.nodes) > self.limit - self.known {
+            return Err(Refusal::Full);
+        }
+        let ops = other.ops()?;
+        self.take_whole(&ops)
+    }
+}

@@ -1,0 +1,118 @@
+//! Lists of operations, taken whole or not at all. What was taken of a list is removed again where
+//! one of it is refused, and that takes no memory.
+ghost use Rattle.std.specs.Prelude.{◌≡◌, ◌≢◌, Ok, Err, IsOk, OnOk, OnErr, IfErr};
+ghost use Rattle.rga_ops.specs.Content.{join, single};
+ghost use Rattle.rga_ops.specs.Answer.{answer, taken, taken_one_by_one};
+ghost use Rattle.rga_store.specs.Without.{without};
+ghost use Rattle.rga_tree.specs.Back.{gone_back, CanGoBack, IsLastStep};
+
+use super::TreeStore;
+use rga_ops::{Op, Refusal, Taken};
+use rga_store::Taker;
+
+/// An operation that was new, and the clock from before it.
+#[derive(Drop)]
+pub(crate) struct Step {
+    op: Op,
+    clock: u64,
+}
+
+/// Takes the operations one by one, each of which can be taken. `Memory` alone, and then those
+/// before it are taken.
+pub(super) fn take_one_by_one(store: &mut TreeStore, ops: &[Op]) -> Result<(), Refusal>
+    requires { IsOk (taken_one_by_one store.old.limit store.old.content ops.now) }
+    ensures ok { OnOk result
+        (taken_one_by_one store.old.limit store.old.content ops.now ≡ Ok store.new.content) }
+    ensures memory { IfErr result (λ e. e ≡ Refusal.Memory) }
+    ensures limit { store.new.limit ≡ store.old.limit }
+{
+    for op in ops {
+        let _taken = store.apply(*op)?;
+    }
+    Ok(())
+}
+
+impl TreeStore {
+    /// Takes the operations one by one, or none of them: the first that is refused leaves all as it
+    /// was. `Memory` may be wanting before that one is found.
+    pub(super) fn take_whole(&mut self, ops: &[Op]) -> Result<(), Refusal>
+        ensures ok { OnOk result
+            (taken_one_by_one self.old.limit self.old.content ops.now ≡ Ok self.new.content) }
+        ensures refused { IfErr result (λ e. e ≢ Refusal.Memory →
+            taken_one_by_one self.old.limit self.old.content ops.now ≡ Err e) }
+        ensures same { OnErr result (self.new.content ≡ self.old.content) }
+        ensures limit { self.new.limit ≡ self.old.limit }
+    {
+        let mut steps = Vec::with_capacity(self.alloc, ops.len())?;
+        for op in ops {
+            if let Err(refusal) = self.take_noted(op, &mut steps) {
+                self.go_back(steps);
+                return Err(refusal);
+            }
+        }
+        Ok(())
+    }
+
+    /// Takes an operation, and notes it if it was new.
+    fn take_noted(&mut self, op: &Op, steps: &mut Vec<Step>) -> Result<(), Refusal>
+        requires { CanGoBack steps.old.items self.old.content }
+        ensures ok { OnOk result
+            (taken self.old.limit self.old.content op.now ≡ Ok self.new.content) }
+        ensures refused { IfErr result (λ e. e ≢ Refusal.Memory →
+            taken self.old.limit self.old.content op.now ≡ Err e) }
+        ensures steps { CanGoBack steps.new.items self.new.content }
+        ensures start { gone_back steps.new.items self.new.content
+            ≡ gone_back steps.old.items self.old.content }
+        ensures limit { self.new.limit ≡ self.old.limit }
+    {
+        let clock = self.clock;
+        match self.take(op)? {
+            Taken::Known => Ok(()),
+            Taken::New => self.note(op, clock, steps),
+        }
+    }
+
+    /// Takes an operation as `apply` does, an insertion by one search less. For an insertion
+    /// `Memory` may come in the place of any answer.
+    fn take(&mut self, op: &Op) -> Result<Taken, Refusal>
+        ensures exact { result ≢ Err Refusal.Memory →
+            result ≡ answer self.old.limit self.old.content op.now }
+        ensures new { result ≡ Ok Taken.New →
+            self.new.content ≡ join self.old.content (single op.now) }
+        ensures same { result ≢ Ok Taken.New → self.new.content ≡ self.old.content }
+        ensures limit { self.new.limit ≡ self.old.limit }
+    {
+        match op {
+            Op::Insert { id, parent, ch } => self.insert(*id, *parent, *ch),
+            Op::Delete { .. } => self.apply(*op),
+        }
+    }
+
+    /// Notes an operation that was new, or removes it where there is no memory for the note.
+    fn note(&mut self, op: &Op, clock: u64, steps: &mut Vec<Step>) -> Result<(), Refusal>
+        requires { IsLastStep steps.old.items op.now clock self.old.content }
+        ensures ok { OnOk result (self.new.content ≡ self.old.content) }
+        ensures steps { CanGoBack steps.new.items self.new.content }
+        ensures start { gone_back steps.new.items self.new.content
+            ≡ gone_back steps.old.items (without op.now self.old.content) }
+        ensures memory { IfErr result (λ e. e ≡ Refusal.Memory) }
+        ensures limit { self.new.limit ≡ self.old.limit }
+    {
+        if steps.push(Step { op: *op, clock }).is_err() {
+            self.remove(op, clock);
+            return Err(Refusal::Memory);
+        }
+        Ok(())
+    }
+
+    /// Removes the operations of the steps, the last first. Takes no memory.
+    fn go_back(&mut self, mut steps: Vec<Step>)
+        requires { CanGoBack steps.items self.old.content }
+        ensures content { self.new.content ≡ gone_back steps.items self.old.content }
+        ensures limit { self.new.limit ≡ self.old.limit }
+    {
+        while let Some(step) = steps.pop() {
+            self.remove(&step.op, step.clock);
+        }
+    }
+}
