@@ -3,11 +3,13 @@ use Rattle.std.proofs.Common.{◌≡◌, ◌<◌, ℕ, Bool, true, false, List, 
 use Rattle.std.specs.Option.{option_map_or}
 use Rattle.std.proofs.lemmas.List.{length-map}
 use Rattle.rga_ops.specs.Identifier.{Identifier}
+use Rattle.rga_ops.specs.Order.{text}
 use Rattle.rga_doc.specs.Document.{Document}
+use Rattle.mg_buffer.specs.declared.line_numbers.KnownLine.{KnownLine}
 use Rattle.mg_buffer.specs.declared.marker.Marker.{Marker}
 use Rattle.mg_buffer.specs.Groups.{Past, are_revertible}
 use Rattle.mg_buffer.specs.Slots.{Slotted, AreFilled, AreOld, past_by, pasts_by}
-use Rattle.mg_buffer.specs.Kept.{IsKept, stands}
+use Rattle.mg_buffer.specs.Kept.{IsKept, IsLine, stands}
 
 -- what holds anyway holds where there is an error
 pub on_err : {T E P : Type 0} (r : Result T E) → P → OnErr r P
@@ -22,7 +24,7 @@ module _ (xs ys : List Identifier) (gs hs : List Slotted) (elements : ys ≡ xs)
   pub within_still : (i : ℕ) (pasts : List Past) → pasts_by xs gs ≡ pasts → i < length pasts → i < length hs
   within_still i pasts same h = subst (λ n. i < n) (sym (ap length same) ∙ length-map gs (past_by xs) ∙ sym (ap length groups)) h
 
-  module _ (d e : Document) (point : Marker) (line : ℕ) (mark : Option Marker) (listed : Bool) (kept : IsKept d point line mark xs gs listed) where
+  module _ (d e : Document) (point : Marker) (line : KnownLine) (mark : Option Marker) (listed : Bool) (kept : IsKept d point line mark xs gs listed) where
     pub kept_still : e ≡ d → IsKept e point line mark ys hs listed
     kept_still same =
         subst (λ f. IsKept f point line mark ys hs listed) (sym same)
@@ -34,6 +36,7 @@ module _ (xs ys : List Identifier) (gs hs : List Slotted) (elements : ys ≡ xs)
     kept_unlisted same = record {
       point_stands = ap (λ c. stands c point) same ∙ kept.point_stands;
       mark_stands = ap (λ c. option_map_or (stands c) mark true) same ∙ kept.mark_stands;
+      line_known = subst (λ c. IsLine (text c) line) (sym same) kept.line_known;
       filled = filled_still kept.filled;
       old = subst (λ c. AreOld c ys) (sym same) (subst (AreOld d.content) (sym elements) kept.old);
       revertible = (λ k. are_revertible (same k) (pasts_by (elements k) (groups k))) ∙ kept.revertible;

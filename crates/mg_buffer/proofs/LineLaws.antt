@@ -1,10 +1,12 @@
 -- The line of a place, by that of another place, and what splices leave alone.
-use Rattle.std.proofs.Common.{◌≡◌, ℕ, zero, suc, ◌+◌, ◌-◌, ◌≤◌, List, [], ◌∷◌, ◌++◌, length, take, drop, min, count_by, cond, arith, refl, ap, ◌∙◌, drop-drop, append_assoc}
+use Rattle.std.proofs.Common.{◌≡◌, ℕ, zero, suc, ◌+◌, ◌-◌, ◌≤◌, List, [], ◌∷◌, ◌++◌, length, take, drop, min, count_by, cond, arith, refl, sym, ap, ◌∙◌, drop-drop, take-take, append_assoc}
 use Rattle.std.proofs.lemmas.List.{length-take}
 use Rattle.std.proofs.lemmas.List.Sums.{sum_by-take-drop, sum_by-take-le, count_by-le-length}
 use Rattle.std.proofs.Math.Nat.{min-le_left, min-le_right, min-eq_left}
 use Rattle.rga_ops.specs.Splice.{Splice, spliced, text_after}
 use Rattle.mg_plain.specs.Characters.{is_newline}
+use Rattle.mg_buffer.specs.declared.line_numbers.KnownLine.{KnownLine}
+use Rattle.mg_buffer.specs.Kept.{IsLine}
 use Rattle.mg_buffer.specs.LineNumbers.{line_of, least_begin}
 
 -- of two places the one behind has the newlines between both more
@@ -22,17 +24,37 @@ line_within text place =
     let some = sum_by-take-le (λ x. cond (is_newline x) 1 0) text place in
     omega (arith, some, count_by-le-length is_newline text)
 
--- ---- splices
-
-pub least_within : (place : ℕ) (splices : List Splice) → least_begin place splices ≤ place
-least_within place [] = omega arith
-least_within place (s ∷ splices) = omega (arith, least_within (min place s.lo) splices, min-le_left place s.lo)
-
 -- what begins as another list is as long
 within_same : (n : ℕ) (xs ys : List ℕ) → take n xs ≡ take n ys → n ≤ length ys → n ≤ length xs
 within_same n xs ys same within =
     let long = length-take n ys ∙ min-eq_left within in
     omega (arith, long, ap length same, length-take n xs, min-le_right n (length xs))
+
+-- ---- known lines
+
+pub first_line : (text : List ℕ) (line : KnownLine) → line.place ≡ 0 → line.number ≡ 0 → IsLine text line
+first_line text line at none = record { within = omega (arith, at); numbered = none ∙ ap (line_of text) (sym at) }
+
+-- a line stays where the text up to its place does
+pub line_stays : (old new : List ℕ) (line : KnownLine) → take line.place new ≡ take line.place old → IsLine old line → IsLine new line
+line_stays old new line same known = record {
+  within = within_same line.place new old same known.within;
+  numbered = known.numbered ∙ ap (count_by is_newline) (sym same);
+}
+
+-- and so where more of it does
+pub line_in_front : (old new : List ℕ) (front : ℕ) (line : KnownLine) → line.place ≤ front → take front new ≡ take front old → IsLine old line → IsLine new line
+line_in_front old new front line early same known =
+    line_stays old new line (sym (take_of_front new) ∙ ap (take line.place) same ∙ take_of_front old) known
+  where
+    take_of_front : (xs : List ℕ) → take line.place (take front xs) ≡ take line.place xs
+    take_of_front xs = take-take line.place front xs early
+
+-- ---- splices
+
+pub least_within : (place : ℕ) (splices : List Splice) → least_begin place splices ≤ place
+least_within place [] = omega arith
+least_within place (s ∷ splices) = omega (arith, least_within (min place s.lo) splices, min-le_left place s.lo)
 
 take_front : (n lo : ℕ) (xs rest : List ℕ) → n ≤ lo → n ≤ length xs → take n (take lo xs ++ rest) ≡ take n xs
 take_front zero lo xs rest before within = refl

@@ -1,11 +1,12 @@
 -- What is true of each buffer.
-use Rattle.std.specs.Prelude.{◌≡◌, ℕ, Bool, true, List, Option, Some, is_some}
+use Rattle.std.specs.Prelude.{◌≡◌, ◌≤◌, ℕ, Bool, true, List, Option, Some, is_some, length}
 use Rattle.std.specs.Option.{option_map_or, IfSome}
 use Rattle.rga_ops.specs.Content.{Content}
 use Rattle.rga_ops.specs.Identifier.{Identifier}
 use Rattle.rga_ops.specs.Order.{text}
 use Rattle.rga_ops.specs.Places.{place}
 use Rattle.rga_doc.specs.Document.{Document}
+use Rattle.mg_buffer.specs.declared.line_numbers.KnownLine.{KnownLine}
 use Rattle.mg_buffer.specs.declared.marker.Marker.{Marker}
 use Rattle.mg_buffer.specs.Groups.{are_revertible}
 use Rattle.mg_buffer.specs.LineNumbers.{line_of}
@@ -19,18 +20,24 @@ stands c s = is_some (place c s.element)
 abbrev pub IsPlaced : Content → Marker → Type 0
 IsPlaced c s = place c s.element ≡ Some s.place
 
+-- the number is that of the line in which the place stands, which is in the text
+pub record IsLine (text : List ℕ) (line : KnownLine) : Type 0 where
+  pub within : line.place ≤ length text
+  pub numbered : line.number ≡ line_of text line.place
+
 -- the document is listed, the places are those of point and mark, and the line is that of point
-pub record IsAtHand (d : Document) (point : Marker) (line : ℕ) (mark : Option Marker) : Type 0 where
+pub record IsAtHand (d : Document) (point : Marker) (line : KnownLine) (mark : Option Marker) : Type 0 where
   pub document : d.listed ≡ true
   pub place_of_point : IsPlaced d.content point
-  pub line_of_point : line ≡ line_of (text d.content) point.place
+  pub line_of_point : line.place ≡ point.place
   pub place_of_mark : IfSome mark (IsPlaced d.content)
 
--- point and mark have places; there are elements in the slots of the groups, none newer than the clock, by which every
+-- point and mark have places, and a line is known; there are elements in the slots of the groups, none newer than the clock, by which every
 -- group can be reverted; and what is listed is at hand
-pub record IsKept (d : Document) (point : Marker) (line : ℕ) (mark : Option Marker) (elements : List Identifier) (groups : List Slotted) (listed : Bool) : Type 0 where
+pub record IsKept (d : Document) (point : Marker) (line : KnownLine) (mark : Option Marker) (elements : List Identifier) (groups : List Slotted) (listed : Bool) : Type 0 where
   pub point_stands : stands d.content point ≡ true
   pub mark_stands : option_map_or (stands d.content) mark true ≡ true
+  pub line_known : IsLine (text d.content) line
   pub filled : AreFilled elements groups
   pub old : AreOld d.content elements
   pub revertible : are_revertible d.content (pasts_by elements groups) ≡ true

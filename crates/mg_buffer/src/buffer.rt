@@ -11,7 +11,7 @@ ghost use Rattle.mg_buffer.specs.State.{state};
 
 use crate::characters::string_of;
 use crate::history::History;
-use crate::line_numbers::line_of;
+use crate::line_numbers::KnownLine;
 use crate::marker::{Marker, find, find_mark, mark_place};
 use crate::memo::Memo;
 use mg_plain::{Kind, View};
@@ -24,16 +24,16 @@ use std::marker::Model;
 /// A document that commands run on, over any store.
 ///
 /// Point and mark are behind elements, so others' edits move them with the text. While the buffer
-/// is listed, the text, the places of point and mark and the line of point are at hand; what is
-/// taken from elsewhere ends that.
+/// is listed, the text, the places of point and mark and the line of point are at hand; an undo,
+/// and what is taken from elsewhere, end that.
 #[derive(Drop)]
 pub struct Buffer<S: TextStore> {
     pub(crate) alloc: Global,
     pub(crate) doc: Doc<S>,
     pub(crate) name: String,
     pub(crate) point: Marker,
-    /// The line of point.
-    pub(crate) line: usize,
+    /// The line of some place of the text; while the buffer is listed, that of point.
+    pub(crate) line: KnownLine,
     pub(crate) mark: Option<Marker>,
     pub(crate) history: History,
     /// In a run of undos, the index of the group that was undone last.
@@ -76,7 +76,7 @@ impl<S: TextStore> Buffer<S> {
                 element: Id::ROOT,
                 place: 0,
             },
-            line: 0,
+            line: KnownLine::FIRST,
             mark: None,
             history: History::new(alloc),
             undone: None,
@@ -130,7 +130,7 @@ impl<S: TextStore> Buffer<S> {
         self.doc.list()?;
         self.point = find(&self.doc, self.point);
         self.mark = find_mark(&self.doc, self.mark);
-        self.line = line_of(self.doc.characters(), self.point.place);
+        self.line = self.line.moved(self.doc.characters(), self.point.place);
         self.listed = true;
         Ok(())
     }
@@ -169,7 +169,7 @@ impl<S: TextStore> Buffer<S> {
         ensures { let b = self.now in
             result ≡ lines.line_of (text b.content) (place_of b.content b.point) }
     {
-        self.line
+        self.line.number
     }
 
     /// Does nothing, as a key that is no command on the text: ends a run of undos, and the kind

@@ -1,5 +1,6 @@
-//! The line of a place: counted, or moved with the place.
-ghost use Rattle.std.specs.Prelude.{◌≡◌, ◌≤◌, length, count_by};
+//! The line of a place: counted, or moved to another place.
+ghost use Rattle.std.specs.Prelude.{◌≡◌, ◌≤◌, ℕ, List, take, length, count_by};
+ghost use Rattle.mg_buffer.specs.Kept.{IsLine};
 ghost use Rattle.mg_buffer.specs.declared.line_numbers.TheConstants.{BLOCK};
 ghost use Rattle.mg_buffer.specs.LineNumbers as spec;
 ghost use Rattle.mg_plain.specs.Characters.{is_newline};
@@ -48,18 +49,46 @@ pub fn line_of(text: &[char], place: usize) -> usize
     newlines(&text[..place])
 }
 
-/// The line of the place `to` by that of the place `from`, so that no more is looked at than what
-/// stands between both.
-pub(crate) fn moved_line(text: &[char], line: usize, from: usize, to: usize) -> usize
-    requires from { from ≤ length text.now }
-    requires to { to ≤ length text.now }
-    requires line { line ≡ spec.line_of text.now from }
-    ensures { result ≡ spec.line_of text.now to }
-{
-    if to <= from {
-        return line - newlines(&text[to..from]);
+/// The line of a place of a text, from 0.
+#[derive(Clone, Copy)]
+pub(crate) struct KnownLine {
+    pub(crate) place: usize,
+    pub(crate) number: usize,
+}
+
+impl KnownLine {
+    /// That of the front.
+    pub(crate) const FIRST: KnownLine = KnownLine {
+        place: 0,
+        number: 0,
+    };
+
+    /// That of another place, so that no more is looked at than what stands between both.
+    pub(crate) fn moved(self, text: &[char], place: usize) -> KnownLine
+        requires line { IsLine text.now self }
+        requires place { place ≤ length text.now }
+        ensures line { IsLine text.now result }
+        ensures place { result.place ≡ place }
+    {
+        if place <= self.place {
+            let number = self.number - newlines(&text[place..self.place]);
+            return KnownLine { place, number };
+        }
+        let number = self.number + newlines(&text[self.place..place]);
+        KnownLine { place, number }
     }
-    line + newlines(&text[from..to])
+
+    /// The same where so many characters at the front stayed, and that of the front where its place
+    /// is behind them.
+    pub(crate) fn kept_in(self, front: usize) -> KnownLine
+        ensures { (old new : List ℕ) → take front new ≡ take front old → IsLine old self →
+            IsLine new result }
+    {
+        if self.place <= front {
+            return self;
+        }
+        KnownLine::FIRST
+    }
 }
 
 /// The least of a place and of those at which splices begin. What stands before it stays.

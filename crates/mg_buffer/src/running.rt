@@ -14,7 +14,7 @@ ghost use Rattle.mg_buffer.specs.declared.fault.BufferFault.TheVariants.{Store};
 use crate::buffer::Buffer;
 use crate::fault::BufferFault;
 use crate::kill_buffer::{make_room, put_in};
-use crate::line_numbers::{least_begin, moved_line};
+use crate::line_numbers::least_begin;
 use crate::marker::{mark_at, marker_at};
 use crate::memo::Memo;
 use crate::room::{add_all, prepare};
@@ -85,9 +85,9 @@ impl<S: TextStore> Buffer<S> {
             &ops,
         )?;
         let stays = least_begin(self.point.place, splices);
-        let line = moved_line(self.doc.characters(), self.line, self.point.place, stays);
+        let line = self.line.moved(self.doc.characters(), stays);
         self.doc.take(splices, &ops)?;
-        self.line = moved_line(self.doc.characters(), line, stays, point);
+        self.line = line.moved(self.doc.characters(), point);
         self.point = marker_at(&self.doc, point);
         self.mark = mark_at(&self.doc, mark);
         self.history.add(room, &change, &ops);

@@ -1,7 +1,9 @@
 //! Operations that a buffer takes from elsewhere.
-ghost use Rattle.std.specs.Prelude.{◌≡◌, [], true};
+ghost use Rattle.std.specs.Prelude.{◌≡◌, List, ℕ, [], true};
+ghost use Rattle.mg_buffer.specs.Kept.{IsLine};
 
 use crate::buffer::Buffer;
+use crate::line_numbers::KnownLine;
 use crate::room::add_all;
 use rga_ops::{Op, Refusal, Taken};
 use rga_store::{Taker, TextStore, answer_at, early_answer_at, new_operations_at};
@@ -28,6 +30,7 @@ impl<S: TextStore> Taker for Buffer<S> {
         self.unsaved.reserve(1)?;
         self.doc.apply(op)?;
         self.listed = false;
+        self.line = KnownLine::FIRST;
         add_all(&mut self.unsaved, &[op]);
         Ok(Taken::New)
     }
@@ -38,6 +41,7 @@ impl<S: TextStore> Taker for Buffer<S> {
         self.unsaved.reserve(new.len())?;
         self.doc.apply_all(ops)?;
         self.listed = stays_listed(self.listed, ops);
+        self.line = stays_known(self.line, ops);
         add_all(&mut self.unsaved, &new);
         Ok(())
     }
@@ -50,4 +54,16 @@ fn stays_listed(listed: bool, ops: &[Op]) -> bool
     ensures kept { ops.now ≡ [] → result ≡ listed }
 {
     listed && ops.is_empty()
+}
+
+/// The line that is known once operations were taken: where there was none, it is the same.
+fn stays_known(line: KnownLine, ops: &[Op]) -> KnownLine
+    ensures kept { ops.now ≡ [] → result ≡ line }
+    ensures known { (old new : List ℕ) → (ops.now ≡ [] → new ≡ old) → IsLine old line →
+        IsLine new result }
+{
+    if ops.is_empty() {
+        return line;
+    }
+    KnownLine::FIRST
 }

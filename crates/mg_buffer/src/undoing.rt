@@ -3,8 +3,10 @@ ghost use Rattle.std.specs.Prelude.{◌≡◌, ◌<◌, Some, Err, IsSome, lengt
 ghost use Rattle.std.specs.Option.{option_map};
 ghost use Rattle.std.specs.List.{slice_get};
 ghost use Rattle.rga_ops.specs.ListAnswer.{IsAnswer};
+ghost use Rattle.rga_ops.specs.Order.{text};
 ghost use Rattle.mg_buffer.specs.Faults.{IsAnswer as IsFaultAnswer, growth_answer, undo_answer};
 ghost use Rattle.mg_buffer.specs.Groups.{Past, group_to_undo};
+ghost use Rattle.mg_buffer.specs.Kept.{IsLine};
 ghost use Rattle.mg_buffer.specs.Undid.{Reverted, Undid};
 ghost use Rattle.rga_ops.specs.declared.refusal.Refusal.TheVariants.{Memory};
 ghost use Rattle.mg_buffer.specs.declared.fault.BufferFault.TheVariants.{Store};
@@ -12,11 +14,12 @@ ghost use Rattle.mg_buffer.specs.declared.fault.BufferFault.TheVariants.{Store};
 use crate::buffer::Buffer;
 use crate::change::Change;
 use crate::fault::BufferFault;
+use crate::line_numbers::KnownLine;
 use crate::marker::Marker;
 use crate::memo::Memo;
 use crate::room::{add_all, prepare};
 use mg_plain::{Kind, Notice};
-use rga_ops::Refusal;
+use rga_ops::{Id, Refusal};
 use rga_store::TextStore;
 
 impl<S: TextStore> Buffer<S> {
@@ -67,13 +70,20 @@ impl<S: TextStore> Buffer<S> {
         ensures same { OnErr result (self.new ≡ self.old) }
     {
         let undone = self.history.change_at(self.alloc, index)?;
-        self.revert_change(index, &undone)
+        let line = self.line_before(&undone.inserted);
+        self.revert_change(index, &undone, line)
     }
 
-    /// The same by what the group did.
-    fn revert_change(&mut self, index: usize, undone: &Change) -> Result<(), Refusal>
+    /// The same by what the group did, and a line that is known.
+    fn revert_change(
+        &mut self,
+        index: usize,
+        undone: &Change,
+        line: KnownLine,
+    ) -> Result<(), Refusal>
         requires within { index < length self.old.groups }
         requires at { slice_get self.old.groups index ≡ Some undone.now }
+        requires line { IsLine (text self.old.content) line }
         ensures exact { IsAnswer result (growth_answer self.old (length undone.now.deleted)) }
         ensures reverted { OnOk result (Reverted index undone.now self.old self.new) }
         ensures same { OnErr result (self.new ≡ self.old) }
@@ -86,8 +96,10 @@ impl<S: TextStore> Buffer<S> {
             &mut self.unsaved,
             &ops,
         )?;
-        self.doc
+        let front = self
+            .doc
             .take_revert(&undone.inserted, &undone.deleted, &ops)?;
+        self.line = line.kept_in(front);
         self.point = Marker {
             element: done.point_after(self.point.element),
             place: 0,
@@ -97,5 +109,32 @@ impl<S: TextStore> Buffer<S> {
         self.undone = Some(index);
         self.listed = false;
         Ok(())
+    }
+
+    /// The line of a place up to which the text most likely stays where elements go: before point,
+    /// and before the first and the last of them.
+    fn line_before(&self, gone: &[Id]) -> KnownLine
+        ensures { IsLine (text self.now.content) result }
+    {
+        if !self.listed {
+            return self.line;
+        }
+        let first = self.place_left_of(gone.first());
+        let last = self.place_left_of(gone.last());
+        let place = self.point.place.min(first).min(last);
+        self.line.moved(self.doc.characters(), place)
+    }
+
+    /// The place directly left of an element, as far as there is one.
+    fn place_left_of(&self, element: Option<&Id>) -> usize {
+        match element {
+            Some(id) => self
+                .doc
+                .store()
+                .place_of(*id)
+                .unwrap_or(0)
+                .saturating_sub(1),
+            None => usize::MAX,
+        }
     }
 }

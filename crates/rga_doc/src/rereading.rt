@@ -1,5 +1,5 @@
 //! What is listed, read anew where a revert has changed the text.
-ghost use Rattle.std.specs.Prelude.{◌≡◌, ◌≤◌, true, length, take, drop, IfSome, Option};
+ghost use Rattle.std.specs.Prelude.{◌≡◌, ◌≤◌, true, length, take, drop, None, IfSome, Option};
 ghost use Rattle.std.specs.List.{AllByRecursion};
 ghost use Rattle.rga_ops.specs.Order.{text};
 ghost use Rattle.rga_doc.specs.Relisting.{AgreeOutside, AllBetween, WillAgreeOutside};
@@ -73,27 +73,32 @@ impl Listing {
     }
 
     /// Reads anew what operations of a revert have changed that the store has taken, or gives up
-    /// what is listed. The margins are what `margins` answered.
+    /// what is listed. The margins are what `margins` answered. Answers how many characters at the
+    /// front are known to have stayed.
     pub(crate) fn follow<S: TextStore>(
         &mut self,
         alloc: Global,
         store: &S,
         margins: Option<Margins>,
         insertions: &[Op],
-    )
+    ) -> usize
         requires { IfSome margins (λ m. WillAgreeOutside (S.content store.now)
             m.front m.back insertions.now self.old.characters.items) }
-        ensures { self.new.listed ≡ true →
+        ensures listed { self.new.listed ≡ true →
             self.new.characters.items ≡ text (S.content store.now) }
+        ensures front { take result self.old.characters.items
+            ≡ take result (text (S.content store.now)) }
+        ensures unknown { margins ≡ None → result ≡ 0 }
     {
         self.listed = false;
         let Some(before) = margins else {
-            return;
+            return 0;
         };
         let Some(after) = before.round(store, insertions) else {
-            return;
+            return 0;
         };
         self.listed = self.reread(alloc, store, after);
+        after.front
     }
 
     /// Reads anew what stands between the margins. Whether that could be done; it is not where

@@ -1,7 +1,7 @@
 //! Edits that are reverted.
-ghost use Rattle.std.specs.Prelude.{◌≡◌, false, ◌+◌, ◌≤◌, ◌<◌, ◌++◌, filter, map, length, Ok, Err, IfOk, IfErr, OnOk, OnErr};
+ghost use Rattle.std.specs.Prelude.{◌≡◌, false, ◌+◌, ◌≤◌, ◌<◌, ◌++◌, filter, map, take, length, Ok, Err, IfOk, IfErr, OnOk, OnErr};
 ghost use Rattle.indexmap.specs.IndexSet.{contains};
-ghost use Rattle.rga_ops.specs.Prelude.{Identifier, clock_of, content_of, is_id, join, order, IsAnswer};
+ghost use Rattle.rga_ops.specs.Prelude.{Identifier, clock_of, content_of, is_id, join, order, text, IsAnswer};
 ghost use Rattle.rga_ops.specs.ListAnswer.{and_check};
 ghost use Rattle.rga_ops.specs.Places.{is_visible};
 ghost use Rattle.rga_ops.specs.declared.refusal.Refusal.TheVariants.{Memory};
@@ -46,24 +46,27 @@ impl<S: TextStore> Doc<S> {
             room_answer self.old.limit self.old.content (length back.now) ≡ Ok tt }
     {
         let ops = self.draft_revert(gone, back)?;
-        self.take_revert(gone, back, &ops)?;
+        let _front = self.take_revert(gone, back, &ops)?;
         Ok(ops)
     }
 
-    /// Takes the operations of a revert that `draft_revert` gave for this document as it is. A
-    /// listed document may be listed then or not. `Memory` alone; then nothing changes.
+    /// Takes the operations of a revert that `draft_revert` gave for this document as it is, and
+    /// answers how many characters at the front are known to have stayed. A listed document may be
+    /// listed then or not. `Memory` alone; then nothing changes.
     pub fn take_revert(
         &mut self,
         gone: &[Id],
         back: &[(Id, char)],
         ops: &[Op],
-    ) -> Result<(), Refusal>
+    ) -> Result<usize, Refusal>
         requires allowed { revert_answer self.old.limit self.old.content back.now ≡ Ok tt }
         requires operations { ops.now
             ≡ revert_operations self.old.replica self.old.content gone.now back.now }
 
         ensures content { OnOk result (self.new ≡ record self.old
             { content = join self.old.content (content_of ops.now); listed = self.new.listed }) }
+        ensures front { IfOk result (λ n. take n (text self.new.content)
+            ≡ take n (text self.old.content)) }
         ensures memory { IfErr result (λ e. e ≡ Refusal.Memory) }
         ensures same { OnErr result (self.new ≡ self.old) }
     {
@@ -72,9 +75,10 @@ impl<S: TextStore> Doc<S> {
             .listing
             .margins(&self.store, deletions, insertions.len());
         self.store.apply_all(ops)?;
-        self.listing
+        let front = self
+            .listing
             .follow(self.alloc, &self.store, margins, insertions);
-        Ok(())
+        Ok(front)
     }
 
     /// The operations of `revert`, which are not taken. The refusals are those of `revert`.

@@ -1,4 +1,4 @@
-use Rattle.std.proofs.Common.{rules, ◌≡◌, ◌≤◌, List, true, length, count_by, arith, ap, sym, subst, ◌∙◌}
+use Rattle.std.proofs.Common.{rules, ◌≡◌, ◌≤◌, List, true, take, length, arith, ap, sym, subst, ◌∙◌}
 use Rattle.std.specs.Option.{IfSome}
 use Rattle.rga_ops.specs.Content.{join, content_of}
 use Rattle.rga_ops.specs.Identifier.{Identifier}
@@ -7,16 +7,15 @@ use Rattle.rga_ops.specs.Order.{text}
 use Rattle.rga_ops.specs.Splice.{text_after}
 use Rattle.rga_doc.specs.Document.{Document}
 use Rattle.rga_doc.specs.LocalEdit.{splices_operations}
-use Rattle.mg_plain.specs.Characters.{is_newline}
 use Rattle.mg_buffer.specs.Groups.{past_of, with_group, are_revertible}
-use Rattle.mg_buffer.specs.Kept.{IsAtHand}
-use Rattle.mg_buffer.specs.LineNumbers.{line_of}
+use Rattle.mg_buffer.specs.Kept.{IsAtHand, IsLine}
+use Rattle.mg_buffer.specs.LineNumbers.{least_begin}
 use Rattle.mg_buffer.specs.Slots.{Slotted, AreOld, pasts_by, with_past}
 use Rattle.mg_buffer.specs.State.{State}
 use Rattle.mg_buffer.proofs.GroupLaws.{edited_revertible}
 use Rattle.mg_buffer.proofs.OldLaws.{past_old}
 use Rattle.mg_buffer.proofs.PlaceLaws.{stands_if_placed, mark_stands_if, placed_within}
-use Rattle.mg_buffer.proofs.LineLaws.{least_within, least_in_text, front_stays}
+use Rattle.mg_buffer.proofs.LineLaws.{least_within, front_stays, line_stays}
 use Rattle.mg_buffer.proofs.KeptLaws.{filled_still, kept_unlisted}
 use Rattle.mg_buffer.proofs.buffer.Buffer.edit.Goals as goal
 
@@ -39,6 +38,7 @@ invariant_of-self-2 g c =
     record {
       point_stands = search (rules, stands_if_placed);
       mark_stands = mark_stands_if c.take.new.self.content c.mark_at-self-inside.result c.mark_at-self-inside.ensures.placed;
+      line_known = subst (λ xs. IsLine xs c.moved-self-inside.result) c.characters-2.ensures c.moved-self-inside.ensures.line;
       filled = c.add.ensures.filled;
       old =
           subst (λ d. AreOld d c.add.new.self.elements.keys) (sym content)
@@ -48,7 +48,7 @@ invariant_of-self-2 g c =
       at_hand = λ _. record {
         document = ap (λ (d : Document). d.listed) (c.in_ok-take.ensures.content ∙ (λ k. record (drafted k) { content = join (drafted k).content (content_of c.deref-2.result.now) }));
         place_of_point = search rules;
-        line_of_point = c.moved_line-self-inside.ensures ∙ (λ k. line_of (c.characters-2.ensures k) (sym c.marker_at-self-inside.ensures.place k));
+        line_of_point = c.moved-self-inside.ensures.place ∙ sym c.marker_at-self-inside.ensures.place;
         place_of_mark = c.mark_at-self-inside.ensures.placed;
       };
     }
@@ -84,47 +84,21 @@ mark_at-self-inside-requires g c =
 
 -- ---- the line of point goes with it
 
-pub moved_line-line-requires-clause-from : goal.moved_line-line-requires-clause-from
-moved_line-line-requires-clause-from g c =
-    let at : IsAtHand c.self.inside.doc c.self.inside.point c.self.inside.line c.self.inside.mark =
-    c.self.invariant.at_hand (ap (λ (b : State). b.listed) c.self.view_is ∙ c.requires.listed) in
+pub moved-line-requires-clause-line : goal.moved-line-requires-clause-line
+moved-line-requires-clause-line g c =
     let chars : c.characters.result.now ≡ text c.self.inside.doc.content = c.characters.ensures ∙ ap (λ (d : Document). text d.content) c.in_ok-ops.ensures.listed in
-    placed_within c.self.inside.doc.content c.self.inside.point c.characters.result.now chars at.place_of_point
+    subst (λ xs. IsLine xs c.self.inside.line) (sym chars) c.self.invariant.line_known
 
-pub moved_line-line-requires-clause-to : goal.moved_line-line-requires-clause-to
-moved_line-line-requires-clause-to g c =
+pub moved-line-requires-clause-place : goal.moved-line-requires-clause-place
+moved-line-requires-clause-place g c =
     let at : IsAtHand c.self.inside.doc c.self.inside.point c.self.inside.line c.self.inside.mark =
     c.self.invariant.at_hand (ap (λ (b : State). b.listed) c.self.view_is ∙ c.requires.listed) in
     let chars : c.characters.result.now ≡ text c.self.inside.doc.content = c.characters.ensures ∙ ap (λ (d : Document). text d.content) c.in_ok-ops.ensures.listed in
     let from = placed_within c.self.inside.doc.content c.self.inside.point c.characters.result.now chars at.place_of_point in
     omega (arith, c.least_begin-stays.ensures, least_within c.self.inside.point.place c.args.splices.now, from)
 
-pub moved_line-line-requires-clause-line : goal.moved_line-line-requires-clause-line
-moved_line-line-requires-clause-line g c =
-    let at : IsAtHand c.self.inside.doc c.self.inside.point c.self.inside.line c.self.inside.mark =
-    c.self.invariant.at_hand (ap (λ (b : State). b.listed) c.self.view_is ∙ c.requires.listed) in
-    let chars : c.characters.result.now ≡ text c.self.inside.doc.content = c.characters.ensures ∙ ap (λ (d : Document). text d.content) c.in_ok-ops.ensures.listed in
-    at.line_of_point ∙ ap (λ xs. line_of xs c.self.inside.point.place) (sym chars)
-
-pub moved_line-self-inside-requires-clause-from : goal.moved_line-self-inside-requires-clause-from
-moved_line-self-inside-requires-clause-from g c =
-    let at : IsAtHand c.self.inside.doc c.self.inside.point c.self.inside.line c.self.inside.mark =
-    c.self.invariant.at_hand (ap (λ (b : State). b.listed) c.self.view_is ∙ c.requires.listed) in
-    let chars : c.characters.result.now ≡ text c.self.inside.doc.content = c.characters.ensures ∙ ap (λ (d : Document). text d.content) c.in_ok-ops.ensures.listed in
-    let from = placed_within c.self.inside.doc.content c.self.inside.point c.characters.result.now chars at.place_of_point in
-    let after : c.characters-2.result.now ≡ text_after c.characters.result.now c.args.splices.now =
-    c.characters-2.ensures ∙ c.in_ok-take.ensures.text ∙ ap (λ xs. text_after xs c.args.splices.now) (sym c.characters.ensures) in
-    let within = least_in_text c.self.inside.point.place c.characters.result.now c.args.splices.now from in
-    omega (arith, within, c.least_begin-stays.ensures, ap length after)
-
-pub moved_line-self-inside-requires-clause-to : goal.moved_line-self-inside-requires-clause-to
-moved_line-self-inside-requires-clause-to g c =
-    subst (λ xs. c.args.point ≤ length xs)
-    (sym (c.characters-2.ensures ∙ c.in_ok-take.ensures.text ∙ ap (λ d. text_after (text d) c.args.splices.now) (ap (λ (d : Document). d.content) c.in_ok-ops.ensures.listed ∙ ap (λ (b : State). b.content) c.self.view_is)))
-    c.requires.point
-
-pub moved_line-self-inside-requires-clause-line : goal.moved_line-self-inside-requires-clause-line
-moved_line-self-inside-requires-clause-line g c =
+pub moved-self-inside-requires-clause-line : goal.moved-self-inside-requires-clause-line
+moved-self-inside-requires-clause-line g c =
     let at : IsAtHand c.self.inside.doc c.self.inside.point c.self.inside.line c.self.inside.mark =
     c.self.invariant.at_hand (ap (λ (b : State). b.listed) c.self.view_is ∙ c.requires.listed) in
     let chars : c.characters.result.now ≡ text c.self.inside.doc.content = c.characters.ensures ∙ ap (λ (d : Document). text d.content) c.in_ok-ops.ensures.listed in
@@ -132,5 +106,13 @@ moved_line-self-inside-requires-clause-line g c =
     let after : c.characters-2.result.now ≡ text_after c.characters.result.now c.args.splices.now =
     c.characters-2.ensures ∙ c.in_ok-take.ensures.text ∙ ap (λ xs. text_after xs c.args.splices.now) (sym c.characters.ensures) in
     let front = front_stays c.self.inside.point.place c.characters.result.now c.args.splices.now from in
-    c.moved_line-line.ensures ∙ ap (line_of c.characters.result.now) c.least_begin-stays.ensures ∙ ap (count_by is_newline) (sym front)
-    ∙ (λ k. line_of (sym after k) (sym c.least_begin-stays.ensures k))
+    let there : c.moved-line.result.place ≡ least_begin c.self.inside.point.place c.args.splices.now = c.moved-line.ensures.place ∙ c.least_begin-stays.ensures in
+    line_stays c.characters.result.now c.characters-2.result.now c.moved-line.result
+    (ap (take c.moved-line.result.place) after ∙ subst (λ n. take n (text_after c.characters.result.now c.args.splices.now) ≡ take n c.characters.result.now) (sym there) front)
+    c.moved-line.ensures.line
+
+pub moved-self-inside-requires-clause-place : goal.moved-self-inside-requires-clause-place
+moved-self-inside-requires-clause-place g c =
+    subst (λ xs. c.args.point ≤ length xs)
+    (sym (c.characters-2.ensures ∙ c.in_ok-take.ensures.text ∙ ap (λ d. text_after (text d) c.args.splices.now) (ap (λ (d : Document). d.content) c.in_ok-ops.ensures.listed ∙ ap (λ (b : State). b.content) c.self.view_is)))
+    c.requires.point

@@ -7,7 +7,7 @@ use Rattle.std.proofs.lemmas.Result.{err_from_is_err_and}
 use Rattle.rga_ops.specs.Identifier.{Identifier, identifier}
 use Rattle.rga_ops.specs.Content.{clock_of, join, content_of}
 use Rattle.rga_ops.specs.ListAnswer.{IsAnswer}
-use Rattle.rga_ops.specs.Order.{order}
+use Rattle.rga_ops.specs.Order.{order, text}
 use Rattle.rga_ops.specs.Places.{place}
 use Rattle.rga_ops.specs.declared.op.Op.{Op}
 use Rattle.rga_doc.specs.Document.{Document}
@@ -16,7 +16,7 @@ use Rattle.rga_doc.proofs.PutBackLaws.{revert_behind}
 use Rattle.mg_buffer.specs.declared.marker.Marker.{Marker}
 use Rattle.mg_buffer.specs.Faults.{growth_answer}
 use Rattle.mg_buffer.specs.Groups.{Past, past_of, with_group, are_revertible, stand_in, all_substituted, point_after}
-use Rattle.mg_buffer.specs.Kept.{stands}
+use Rattle.mg_buffer.specs.Kept.{IsLine, stands}
 use Rattle.mg_buffer.specs.Slots.{Slotted, AreOld, AreStandIns, deleted_ones, past_by, pasts_by, with_elements}
 use Rattle.mg_buffer.specs.State.{State, state}
 use Rattle.mg_buffer.specs.Undid.{undo_operations}
@@ -92,7 +92,7 @@ invariant_of-self-2 g c =
     let allowed : revert_answer doc.limit doc.content undone.deleted ≡ Ok tt = ap (revert_answer doc.limit doc.content) (sym back) ∙ c.in_ok-ops.ensures.exact in
     let made : c.in_ok-ops.ops.items ≡ ops = c.in_ok-ops.ensures.operations ∙ (λ k. revert_operations doc.replica doc.content (gone k) (back k)) in
     let whole : c.take_revert.new.self.content ≡ join doc.content (content_of ops) =
-    ap (λ (d : Document). d.content) c.in_ok-take_revert.ensures.content ∙ ap (λ xs. join doc.content (content_of xs)) (c.deref-6.ensures.value ∙ made) in
+    ap (λ (d : Document). d.content) c.in_ok-front.ensures.content ∙ ap (λ xs. join doc.content (content_of xs)) (c.deref-6.ensures.value ∙ made) in
     let done : c.in_ok-done.done ≡ past_of doc.content ops =
     c.in_ok-done.ensures.change ∙ (λ k. past_of (c.store.ensures.content k) ((c.deref-3.ensures.value ∙ made) k)) in
     let known : c.add_undo.new.self.elements.keys ≡ map (stand_in ops) (with_elements elements (deleted_ones (past_of doc.content ops).deleted)) =
@@ -108,6 +108,8 @@ invariant_of-self-2 g c =
     record {
       point_stands = (λ k. is_some (place (whole k) (point k))) ∙ point_stands doc.limit doc.replica doc.content undone.inserted undone.deleted allowed c.self.inside.point.element c.self.invariant.point_stands;
       mark_stands = ap (λ d. option_map_or (stands d) c.self.inside.mark true) whole ∙ mark_stands_still doc.content (content_of ops) c.self.inside.mark c.self.invariant.mark_stands;
+      line_known = c.kept_in-self-inside.ensures (text doc.content) (text c.take_revert.new.self.content) c.in_ok-front.ensures.front
+          (subst (λ d. IsLine (text d) c.args.line) (sym (ap (λ (b : State). b.content) c.self.view_is)) c.requires.line);
       filled = c.add_undo.ensures.filled;
       old =
           subst (λ d. AreOld d c.add_undo.new.self.elements.keys) (sym whole)
@@ -137,7 +139,7 @@ returns-clause-reverted g c =
     sym (λ k. revert_answer (c.self.view_is k).limit (c.self.view_is k).content ((back ∙ ap (λ (x : Past). x.deleted) same) k)) ∙ c.in_ok-ops.ensures.exact in
     let made : c.in_ok-ops.ops.items ≡ mine = c.in_ok-ops.ensures.operations ∙ (λ k. revert_operations doc.replica doc.content (gone k) (back k)) in
     let whole : c.take_revert.new.self.content ≡ join before.content (content_of ops) =
-    ap (λ (d : Document). d.content) c.in_ok-take_revert.ensures.content ∙ (λ k. join (c.self.view_is k).content (content_of ((c.deref-6.ensures.value ∙ made ∙ alike) k))) in
+    ap (λ (d : Document). d.content) c.in_ok-front.ensures.content ∙ (λ k. join (c.self.view_is k).content (content_of ((c.deref-6.ensures.value ∙ made ∙ alike) k))) in
     let done : c.in_ok-done.done ≡ past_of doc.content mine =
     c.in_ok-done.ensures.change ∙ (λ k. past_of (c.store.ensures.content k) ((c.deref-3.ensures.value ∙ made) k)) in
     let pasts : pasts_by c.add_undo.new.self.elements.keys c.add_undo.new.self.groups.items ≡ all_substituted (stand_in mine) (with_group (pasts_by elements groups) (past_of doc.content mine) mine) =
@@ -157,8 +159,8 @@ returns-clause-reverted g c =
       point = c.point_after.ensures ∙ (λ k. point_after (c.self.view_is k).point (done k)) ∙ (λ k. point_after before.point (past_of (c.self.view_is k).content (alike k)));
       mark = ap (λ (b : State). b.mark) c.self.view_is;
       name = ap (λ (b : State). b.name) c.self.view_is;
-      limit = ap (λ (d : Document). d.limit) c.in_ok-take_revert.ensures.content ∙ ap (λ (b : State). b.limit) c.self.view_is;
-      replica = ap (λ (d : Document). d.replica) c.in_ok-take_revert.ensures.content ∙ ap (λ (b : State). b.replica) c.self.view_is;
+      limit = ap (λ (d : Document). d.limit) c.in_ok-front.ensures.content ∙ ap (λ (b : State). b.limit) c.self.view_is;
+      replica = ap (λ (d : Document). d.replica) c.in_ok-front.ensures.content ∙ ap (λ (b : State). b.replica) c.self.view_is;
     }
 
 -- ---- where room or memory is wanting all is as it was
@@ -172,10 +174,10 @@ pub add_undo-requires-clause-filled : goal.add_undo-requires-clause-filled
 add_undo-requires-clause-filled g c =
     filled_still c.self.inside.history.elements.keys c.prepare.new.history.elements.keys c.self.inside.history.groups.items c.prepare.new.history.groups.items c.prepare.ensures.elements c.prepare.ensures.groups c.self.invariant.filled
 
-pub invariant_of-self-in_err-take_revert : goal.invariant_of-self-in_err-take_revert
-invariant_of-self-in_err-take_revert g c =
+pub invariant_of-self-in_err-front : goal.invariant_of-self-in_err-front
+invariant_of-self-in_err-front g c =
     kept_still c.self.inside.history.elements.keys c.prepare.new.history.elements.keys c.self.inside.history.groups.items c.prepare.new.history.groups.items c.prepare.ensures.elements c.prepare.ensures.groups
-    c.self.inside.doc c.take_revert.new.self c.self.inside.point c.self.inside.line c.self.inside.mark c.self.inside.listed c.self.invariant c.in_err-take_revert.ensures.same
+    c.self.inside.doc c.take_revert.new.self c.self.inside.point c.self.inside.line c.self.inside.mark c.self.inside.listed c.self.invariant c.in_err-front.ensures.same
 
 pub returns-in_err-done-clause-same : goal.returns-in_err-done-clause-same
 returns-in_err-done-clause-same g c =
@@ -183,8 +185,8 @@ returns-in_err-done-clause-same g c =
     ((λ k. state c.self.inside.doc (string_bytes c.self.inside.name) c.self.inside.point.element (option_map (λ (m : Marker). m.element) c.self.inside.mark) (pasts_by (c.prepare.ensures.elements k) (c.prepare.ensures.groups k)) c.self.inside.undone (c.prepare.ensures.unsaved k) c.self.inside.listed)
     ∙ c.self.view_is)
 
-pub returns-in_err-take_revert-clause-same : goal.returns-in_err-take_revert-clause-same
-returns-in_err-take_revert-clause-same g c =
+pub returns-in_err-front-clause-same : goal.returns-in_err-front-clause-same
+returns-in_err-front-clause-same g c =
     on_err _
-    ((λ k. state (c.in_err-take_revert.ensures.same k) (string_bytes c.self.inside.name) c.self.inside.point.element (option_map (λ (m : Marker). m.element) c.self.inside.mark) (pasts_by (c.prepare.ensures.elements k) (c.prepare.ensures.groups k)) c.self.inside.undone (c.prepare.ensures.unsaved k) c.self.inside.listed)
+    ((λ k. state (c.in_err-front.ensures.same k) (string_bytes c.self.inside.name) c.self.inside.point.element (option_map (λ (m : Marker). m.element) c.self.inside.mark) (pasts_by (c.prepare.ensures.elements k) (c.prepare.ensures.groups k)) c.self.inside.undone (c.prepare.ensures.unsaved k) c.self.inside.listed)
     ∙ c.self.view_is)

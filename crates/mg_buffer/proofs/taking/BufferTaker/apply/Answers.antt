@@ -4,6 +4,7 @@ use Rattle.std.specs.Option.{option_map, option_map_or}
 use Rattle.std.specs.String.{string_bytes}
 use Rattle.rga_ops.specs.Content.{Content, join, single}
 use Rattle.rga_ops.specs.Answer.{answer}
+use Rattle.rga_ops.specs.Order.{text}
 use Rattle.rga_ops.specs.declared.op.Op.{Op}
 use Rattle.rga_ops.specs.declared.refusal.Taken.TheVariants.{New, Known}
 use Rattle.rga_ops.proofs.ContentLaws.{join_nothing}
@@ -17,6 +18,7 @@ use Rattle.mg_buffer.specs.Kept.{stands}
 use Rattle.mg_buffer.specs.State.{State, state}
 use Rattle.mg_buffer.specs.Following.{follows_nothing}
 use Rattle.mg_buffer.proofs.GroupLaws.{still_revertible, mark_stands_still}
+use Rattle.mg_buffer.proofs.LineLaws.{first_line}
 use Rattle.mg_buffer.proofs.OldLaws.{still_old}
 use Rattle.mg_buffer.proofs.TakingLaws.{match_err, follows_same, follows_known}
 use Rattle.mg_buffer.proofs.taking.BufferTaker.apply.Goals as goal
@@ -52,6 +54,7 @@ invariant_of-self-2 g c =
     record {
       point_stands = ap (λ d. stands d c.self.inside.point) whole ∙ stands_still content (single c.args.op) c.self.inside.point.element c.self.invariant.point_stands;
       mark_stands = ap (λ d. option_map_or (stands d) c.self.inside.mark true) whole ∙ mark_stands_still content (single c.args.op) c.self.inside.mark c.self.invariant.mark_stands;
+      line_known = first_line (text c.apply.new.self.content) _ refl refl;
       filled = c.self.invariant.filled;
       old = subst (λ d. AreOld d c.self.inside.history.elements.keys) (sym whole) (still_old content (single c.args.op) c.self.inside.history.elements.keys c.self.invariant.old);
       revertible = ap (λ d. are_revertible d pasts) whole ∙ still_revertible content (single c.args.op) pasts c.self.invariant.revertible;

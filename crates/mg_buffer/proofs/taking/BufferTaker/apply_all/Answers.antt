@@ -3,6 +3,7 @@ use Rattle.std.specs.Option.{option_map, option_map_or}
 use Rattle.std.specs.String.{string_bytes}
 use Rattle.std.proofs.lemmas.Result.{err_from_is_err_and}
 use Rattle.rga_ops.specs.Content.{Content, join, content_of}
+use Rattle.rga_ops.specs.Order.{text}
 use Rattle.rga_ops.specs.declared.op.Op.{Op}
 use Rattle.rga_ops.specs.NewOperations.{new_operations}
 use Rattle.rga_ops.proofs.AnswerLaws.{bad}
@@ -63,6 +64,9 @@ invariant_of-self-2 g c =
     record {
       point_stands = ap (λ d. stands d c.self.inside.point) whole ∙ stands_still content (content_of ops) c.self.inside.point.element c.self.invariant.point_stands;
       mark_stands = ap (λ d. option_map_or (stands d) c.self.inside.mark true) whole ∙ mark_stands_still content (content_of ops) c.self.inside.mark c.self.invariant.mark_stands;
+      line_known = c.stays_known-self-inside.ensures.known (text content) (text c.apply_all.new.self.content)
+          (λ none. ap text (whole ∙ ap (λ xs. join content (content_of xs)) none ∙ join_nothing content))
+          c.self.invariant.line_known;
       filled = c.self.invariant.filled;
       old = subst (λ d. AreOld d c.self.inside.history.elements.keys) (sym whole) (still_old content (content_of ops) c.self.inside.history.elements.keys c.self.invariant.old);
       revertible = ap (λ d. are_revertible d pasts) whole ∙ still_revertible content (content_of ops) pasts c.self.invariant.revertible;
@@ -71,7 +75,8 @@ invariant_of-self-2 g c =
           let same : c.apply_all.new.self ≡ c.self.inside.doc =
           same_document c.self.inside.doc c.apply_all.new.self (whole ∙ ap (λ xs. join content (content_of xs)) none ∙ join_nothing content) c.apply_all.ensures.limit
           (subst (λ xs. Follows c.self.inside.doc xs c.apply_all.new.self) none follows) in
-          subst (λ d. IsAtHand d c.self.inside.point c.self.inside.line c.self.inside.mark) (sym same) (c.self.invariant.at_hand (c.stays_listed-self-inside.ensures.listed h));
+          subst (λ d. IsAtHand d c.self.inside.point c.stays_known-self-inside.result c.self.inside.mark) (sym same)
+          (subst (λ line. IsAtHand c.self.inside.doc c.self.inside.point line c.self.inside.mark) (sym (c.stays_known-self-inside.ensures.kept none)) (c.self.invariant.at_hand (c.stays_listed-self-inside.ensures.listed h)));
     }
 
 pub returns-clause-follows : goal.returns-clause-follows

@@ -36,8 +36,8 @@ returns-in_err-apply_all-clause-memory g c =
     rw (p.1, p.2) memory
 
 -- the text stays outside the margins
-pub follow-requires : goal.follow-requires
-follow-requires g c =
+pub follow-front-requires : goal.follow-front-requires
+follow-front-requires g c =
     let content : Content = g.S.Taker.content c.self.inside.store in
     let limit : ℕ = g.S.Taker.limit c.self.inside.store in
     let replica : ℕ = c.self.inside.replica in
