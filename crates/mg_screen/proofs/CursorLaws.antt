@@ -1,5 +1,5 @@
 -- The cursor, and the frame that it stands in.
-use Rattle.std.proofs.Common.{◌≡◌, ℕ, zero, suc, ◌+◌, ◌-◌, ◌/◌, ◌≤◌, ◌<◌, List, [], ◌∷◌, ◌++◌, length, take, drop, get_or, arith, refl, sym, ◌∙◌, ap, Bool, true, false, ◌&&◌, nat_lt, nat_le, Option, Some, None, slice_get, sum_by, chars, append_assoc, append-nil, length-append, cond}
+use Rattle.std.proofs.Common.{◌≡◌, ℕ, zero, suc, ◌+◌, ◌-◌, ◌/◌, ◌≤◌, ◌<◌, List, [], ◌∷◌, ◌++◌, length, take, drop, get_or, arith, refl, sym, ◌∙◌, ap, Bool, true, false, ◌&&◌, nat_lt, nat_le, Option, Some, None, slice_get, sum_by, chars, append_assoc, append-nil, length-append, take-take, cond}
 use Rattle.std.specs.Option.{option_and_then}
 use Rattle.std.proofs.lemmas.List.{drop-drop, take_all, drop_more, get_or_append_left, get_or-append_right}
 use Rattle.std.proofs.lemmas.List.Sums.{sum_by-cons, sum_by_more_le, sum_by-take-le}
@@ -38,13 +38,6 @@ shown_at (y ∷ cs) zero x is = let same : y ≡ x = some_same y x is in ap (λ 
 shown_at (y ∷ cs) (suc k) x is =
     ap (λ t. y.shown ++ t) (shown_at cs k x is) ∙ sym (append_assoc y.shown (shown (take k cs)) (x.shown ++ shown (drop (suc k) cs)))
 
-take_take : {X : Type 0} (xs : List X) (k n : ℕ) → k ≤ n → take k (take n xs) ≡ take k xs
-take_take xs zero n less = refl
-take_take [] (suc k) zero less = refl
-take_take [] (suc k) (suc n) less = refl
-take_take (x ∷ xs) (suc k) zero less = absurd (omega (arith, less))
-take_take (x ∷ xs) (suc k) (suc n) less = ap (λ t. x ∷ t) (take_take xs k n (omega (arith, less)))
-
 -- the row of a line shows a beginning of its cells, and a dollar sign where that is not all
 row_begins : (columns : ℕ) (line : List ℕ) → row_cells columns line ≡ take (length (row_cells columns line)) (cells line)
 row_begins columns line = by_width (nat_le (width_of (cells line)) columns) refl
@@ -66,7 +59,7 @@ row_shows columns line = by_width (nat_le (width_of (cells line)) columns) refl
 before_cell : (columns : ℕ) (line : List ℕ) (k : ℕ) (x : Cell) → slice_get (row_cells columns line) k ≡ Some x → take k (row_cells columns line) ≡ cells (take k line)
 before_cell columns line k x is =
     let within = slice_get_within (row_cells columns line) k x is in
-    ap (take k) (row_begins columns line) ∙ take_take (cells line) k (length (row_cells columns line)) (omega (arith, within)) ∙ sym (cells_taken 0 line k)
+    ap (take k) (row_begins columns line) ∙ take-take k (length (row_cells columns line)) (cells line) (omega (arith, within)) ∙ sym (cells_taken 0 line k)
 
 column_at : (columns : ℕ) (line : List ℕ) (k : ℕ) (x : Cell) → slice_get (row_cells columns line) k ≡ Some x → width_of (take k (row_cells columns line)) < columns
     → column_behind columns line k ≡ width_of (take k (row_cells columns line))
@@ -96,7 +89,7 @@ row_shows_sign columns line k over behind =
     let cut : text_row columns line ≡ shown (row_cells columns line) ++ 36 ∷ [] = rw wide refl in
     let room : width_of (row_cells columns line) ≤ columns - 1 = omega (arith, ap width_of part, (is_longest (columns - 1) (cells line)).fits) in
     let front : row_cells columns line ≡ take (length (row_cells columns line)) (cells (take k line)) =
-    row_begins columns line ∙ sym (take_take (cells line) (length (row_cells columns line)) k behind) ∙ ap (take (length (row_cells columns line))) (sym (cells_taken 0 line k)) in
+    row_begins columns line ∙ sym (take-take (length (row_cells columns line)) k (cells line) behind) ∙ ap (take (length (row_cells columns line))) (sym (cells_taken 0 line k)) in
     let before : width_of (row_cells columns line) ≤ width_of (cells (take k line)) =
     omega (arith, ap width_of front, width_of-take (cells (take k line)) (length (row_cells columns line))) in
     let last : last_column columns line ≡ width_of (row_cells columns line) = min-eq_left room in

@@ -6,7 +6,7 @@ use Rattle.rga_ops.specs.Splice.{Splice, spliced, text_after, are_falling, end_o
 use Rattle.rga_doc.proofs.SplicedLists.{long-spliced}
 use Rattle.rga_doc.proofs.EditLaws.{falls_first}
 use Rattle.rga_doc.proofs.EditAnswers.{fewer, characters_left}
-use Rattle.rga_doc.proofs.ListingLaws.{falls_wider}
+use Rattle.rga_doc.proofs.SplicedElements.{falls_wider}
 
 -- ---- places that fall
 

@@ -13,7 +13,7 @@ pub mod RereadingLaws
 pub mod RevertedLaws
 pub mod UndoLaws
 pub mod UndoApart
-pub mod ListingLaws
+pub mod SplicedElements
 pub mod AnchorLaws
 pub mod AnewLaws
 pub mod ExcerptLaws

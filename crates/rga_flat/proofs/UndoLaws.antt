@@ -14,7 +14,7 @@ use Rattle.rga_ops.specs.RootPath.{is_complete}
 use Rattle.rga_ops.specs.Order.{order}
 use Rattle.rga_ops.specs.Placement as placement
 use Rattle.rga_ops.proofs.IdentifierLaws.{ids_total, is, is_itself, is_swap, same_id, is_id-same}
-use Rattle.rga_ops.proofs.MemberLaws.{all_filter, distinct_filter}
+use Rattle.rga_ops.proofs.MemberLaws.{all_map, all_filter, filter_alike, distinct_filter}
 use Rattle.rga_ops.proofs.PathLaws.{inserted_if_complete}
 use Rattle.rga_ops.proofs.GrowLaws.{order_within}
 use Rattle.rga_ops.proofs.VisibleLaws.{order_complete}
@@ -39,10 +39,6 @@ filter_both p q r same (x ∷ xs) =
       | true ↦ λ h. (λ i. cond (p x) (x ∷ rest i) (rest i)) ∙ ap (λ b. cond b (x ∷ filter r xs) (filter r xs)) (sym h)
       | false ↦ λ h. rest ∙ ap (λ b. cond b (x ∷ filter r xs) (filter r xs)) (sym h)
     ] (same x)
-
-filter_same : (P : Identifier → Type 0) (p q : Identifier → Bool) → ((x : Identifier) → P x → p x ≡ q x) → (xs : List Identifier) → AllByRecursion P xs → filter p xs ≡ filter q xs
-filter_same P p q same [] h = refl
-filter_same P p q same (x ∷ xs) h = (λ i. cond (same x h.0 i) (x ∷ filter_same P p q same xs h.1 i) (filter_same P p q same xs h.1 i))
 
 ids_filter : (p : Identifier → Bool) (es : List Entry) → ids (filter (λ e. p e.id) es) ≡ filter p (ids es)
 ids_filter p [] = refl
@@ -112,8 +108,8 @@ module _ (top base : Content) (es : List Entry) (K : Identifier → List Identif
   pub going_start : IsGoingBack top base top (filter (λ e. not (done e.id)) es) K E done
   going_start = record {
     listed = ids_filter (λ k. not (done k)) es ∙ ap (filter (λ k. not (done k))) flat.listed
-        ∙ filter_same (λ k. is_complete top k ≡ true) (λ k. not (done k)) (λ k. finite_map.contains_key top.inserted k && not (done k))
-        (λ k h. sym (ap (λ b. b && not (done k)) (inserted_there k h))) (order top) (order_complete top);
+        ∙ filter_alike (λ k. not (done k)) (λ k. finite_map.contains_key top.inserted k && not (done k)) (order top)
+        (all_map (λ k. is_complete top k ≡ true) _ (λ k h. sym (ap (λ b. b && not (done k)) (inserted_there k h))) (order top) (order_complete top));
     shown = all_filter (IsEntryOf top) (λ e. not (done e.id)) es flat.shown;
     based = based;
   }
@@ -277,7 +273,8 @@ module _ (top base : Content) (es : List Entry) (K : Identifier → List Identif
   listed_there : ids es ≡ order base
   listed_there =
       going.listed
-      ∙ filter_same (λ k. is_complete top k ≡ true) (λ k. finite_map.contains_key base.inserted k && not (done k)) (is_complete base) kept (order top) (order_complete top)
+      ∙ filter_alike (λ k. finite_map.contains_key base.inserted k && not (done k)) (is_complete base) (order top)
+      (all_map (λ k. is_complete top k ≡ true) _ kept (order top) (order_complete top))
       ∙ sym (order_within base top within)
 
   shown_there : (e : Entry) → IsEntryOf (record { inserted = top.inserted; deleted = base.deleted }) e → is_complete base e.id ≡ true → IsEntryOf base e

@@ -1,7 +1,6 @@
 -- The join of contents that all agree, and texts within its order.
-use Rattle.std.proofs.Common.{◌≡◌, ℕ, zero, suc, ◌⊎◌, Bool, true, false, cond, List, [], ◌∷◌, ◌++◌, map, filter, Option, Some, None, slice_get, refl, sym, ap, ◌∙◌, subst, inl, inr, arith, is_some, true≢false}
+use Rattle.std.proofs.Common.{◌≡◌, ℕ, zero, suc, ◌⊎◌, Bool, true, false, cond, List, [], ◌∷◌, ◌++◌, filter, Option, Some, None, slice_get, refl, sym, ap, ◌∙◌, subst, inl, inr, arith, is_some, true≢false}
 use Rattle.std.specs.Prelude.{Contains}
-use Rattle.std.specs.Option.{option_map}
 use Rattle.std.specs.FinMap as finite_map
 use Rattle.std.specs.FinSet as finite_set
 use Rattle.std.proofs.lemmas.Bool.{and_parts}
@@ -10,12 +9,10 @@ use Rattle.std.proofs.lemmas.List.Elements.{Contains-append_cases}
 use Rattle.rga_ops.specs.Identifier.{Identifier, id_cmp}
 use Rattle.rga_ops.specs.Content.{Element, Content, nothing, join, Agree, IsWithin}
 use Rattle.rga_ops.specs.RootPath.{is_complete}
-use Rattle.rga_ops.specs.Order.{order, text, Precedes}
-use Rattle.rga_ops.specs.Places.{is_visible, visible, character}
+use Rattle.rga_ops.specs.Order.{order, Precedes}
+use Rattle.rga_ops.specs.Places.{is_visible, visible}
 use Rattle.rga_ops.proofs.ContentLaws.{same_content, within_itself, within_chain, within_join, within_join_second, join_least}
 use Rattle.rga_ops.proofs.AgreeLaws.{agree_swap, agree_nothing, agree_joined, agree_within}
-use Rattle.rga_ops.proofs.PathLaws.{inserted_if_complete}
-use Rattle.rga_ops.proofs.VisibleLaws.{text_is}
 use Rattle.rga_ops.proofs.GrowLaws.{order_within, root_path_stays}
 use Rattle.rga_world.specs.Sites.{Site, World}
 use Rattle.rga_world.specs.Together.{held_contents, saved_contents, contents, AllAgree, join_of, HaveSameIdentifiers}
@@ -118,14 +115,6 @@ filter_within p q (x ∷ xs) h =
           ] refl
     ] refl
 
-map_filtered : {A : Type 0} (f g : Identifier → A) (p : Identifier → Bool) (xs : List Identifier) → ((x : Identifier) → p x ≡ true → f x ≡ g x) → map f (filter p xs) ≡ map g (filter p xs)
-map_filtered f g p [] h = refl
-map_filtered f g p (x ∷ xs) h =
-    elim (p x) as (λ b. p x ≡ b → map f (cond b (x ∷ filter p xs) (filter p xs)) ≡ map g (cond b (x ∷ filter p xs) (filter p xs))) [
-      | true ↦ λ t. λ k. h x t k ∷ map_filtered f g p xs h k
-      | false ↦ λ e. map_filtered f g p xs h
-    ] refl
-
 complete_if_visible : (c : Content) (id : Identifier) → is_visible c id ≡ true → is_complete c id ≡ true
 complete_if_visible c id h = (and_parts (is_complete c id) _ h).0
 
@@ -133,12 +122,6 @@ complete_if_visible c id h = (and_parts (is_complete c id) _ h).0
 pub visible_within : (c d : Content) → IsWithin c d → visible c ≡ filter (is_visible c) (order d)
 visible_within c d w =
     ap (filter (is_visible c)) (order_within c d w) ∙ filter_within (is_visible c) (is_complete c) (order d) (complete_if_visible c)
-
--- and have the characters that they have there
-pub characters_within : (c d : Content) → IsWithin c d → map Some (text c) ≡ map (character d) (visible c)
-characters_within c d w = text_is c ∙ map_filtered (character c) (character d) (is_visible c) (order c) (λ id h.
-    let (x, at) = inserted_if_complete c id (complete_if_visible c id h) in
-    ap (option_map (λ (e : Element). e.ch)) (at ∙ sym (w.inserted id x at)))
 
 pub precedes_within : (c d : Content) (a b : Identifier) → IsWithin c d → is_complete c a ≡ true → is_complete c b ≡ true → Precedes c a b → Precedes d a b
 precedes_within c d a b w h k s = record {

@@ -4,7 +4,7 @@ use Rattle.rga_ops.specs.Splice.{Splice, spliced, text_after, are_falling, new_c
 use Rattle.rga_doc.proofs.SplicedLists.{long-spliced}
 use Rattle.rga_doc.proofs.EditLaws.{falls_first}
 use Rattle.rga_doc.proofs.EditAnswers.{characters_left}
-use Rattle.rga_doc.proofs.ListingLaws.{falls_wider}
+use Rattle.rga_doc.proofs.SplicedElements.{falls_wider}
 use Rattle.rga_doc.proofs.listing.Listing.replace_all.Goals as goal
 
 -- the next splice is done, and the others are left
