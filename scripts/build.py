@@ -4,7 +4,8 @@
 `rt ci` does the work, in copies that have these crates alone, without wrong bodies: it proves side
 by side what does not wait for one another, and what it proves the gate need not prove again. But it
 shares the processors evenly among the crates that it may begin, and most crates wait for those of
-the text type. So these come first, in a run of their own that goes before what is proved beside it.
+the text type. So these come first, in a run of their own that goes before what is proved beside it;
+once they are proved all others follow, and what is still proved beside them is not proved twice.
 
 The prover's own words go to build/prove-NAME.log, whose end is shown where a crate fails.
 """
@@ -65,12 +66,15 @@ class Proving:
         self.count = len(lines_below(PROGRAM))
         self.told = set()
 
-    def prove_first(self):
+    def prove_all(self):
+        """Proves the program and all below it, and returns the folder in which it was built."""
         with concurrent.futures.ThreadPoolExecutor() as pool:
-            runs = [pool.submit(self.prove, FIRST)]
-            runs += [pool.submit(self.prove, name, "nice") for name in BESIDE]
-            for run in runs:
+            beside = [pool.submit(self.prove, name, "nice") for name in BESIDE]
+            self.prove(FIRST)
+            tree = self.prove(PROGRAM)
+            for run in beside:
                 run.result()
+        return tree
 
     def prove(self, name, *before):
         """Proves a crate and those below it, and says of each when it is done; ends the program where one fails."""
@@ -101,9 +105,7 @@ def main():
     begun.touch()
     with tempfile.TemporaryDirectory(prefix="mgr-build-") as folder:
         proving = Proving(folder)
-        if keeps():
-            proving.prove_first()
-        tree = proving.prove(PROGRAM)
+        tree = proving.prove_all() if keeps() else proving.prove(PROGRAM)
         # Moved into place, so that a program that runs goes on.
         new = BUILD / "mgr.new"
         shutil.copy(tree / "crates" / PROGRAM / "out" / PROGRAM, new)
