@@ -77,7 +77,8 @@ fn delete_and_draft(
     let back = elements_between(alloc, doc, lo, hi)?;
     let _deleted = doc.splice(lo, hi, &[])?;
     let ops = doc.draft_revert(&[], &back)?;
-    doc.take_revert(&[], &back, &ops)
+    let _front = doc.take_revert(&[], &back, &ops)?;
+    Ok(())
 }
 
 /// An edit that the number chooses.
