@@ -9,14 +9,21 @@ begin. Each sends all that it holds, also where the other knows it: the last row
 another one, with nothing new. From the time of both processes that of the same ones without it is
 taken off, and the least of the measurements counts. That both end with one text is tested. A call by
 hand may name another mgr, and fewer operations.
+
+A second table is of brief exchanges of two notes that have one log, but for 50 characters that each
+typed: the milliseconds by the clock, saves included, and, of another exchange through a relay that
+counts them, the bytes of both ways. One note is as it was typed, of another a tenth was deleted.
 """
 
 import argparse
+import json
 import os
 import pathlib
 import resource
 import shutil
+import socket
 import sys
+import threading
 import time
 
 from measure import BUILD
@@ -35,6 +42,12 @@ CASES = {
     "the one that waits": (1, 0),
     "each a half": (0.5, 0.5),
 }
+
+
+# How many characters are typed for one that is deleted, if any is.
+BRIEF_CASES = {"as it was typed": None, "a tenth deleted": 10}
+DIFFERENT = 100
+BRIEF_SECONDS, BRIEF_BYTES = 0.02, 50_000
 
 
 def processor_time():
@@ -105,6 +118,90 @@ def print_row(who, seconds, used, count):
     print(f"{who:<24} {seconds:>13.2f} {used:>15.2f} {count / seconds:>14,.0f} {WANTED:>9.2f}  {told}", flush=True)
 
 
+def lines_of(count, one_in):
+    """Returns so many operations of replica 9: a chain, of which one character in so many is deleted."""
+    typed = count if one_in is None else count * one_in // (one_in + 1)
+    for counter in range(1, typed + 1):
+        parent = [counter - 1, 9] if counter > 1 else [0, 0]
+        sign = LINE[(counter - 1) % len(LINE)]
+        yield json.dumps({"char": sign, "id": [counter, 9], "op": "ins", "parent": parent}, separators=(",", ":"))
+    for number in range(count - typed):
+        yield json.dumps({"id": [number * one_in + 1, 9], "op": "del"}, separators=(",", ":"))
+
+
+class Relay(threading.Thread):
+    """Hands on what one connection says to another port, both ways, and counts its bytes."""
+
+    def __init__(self, to):
+        super().__init__(daemon=True)
+        self.to, self.count = to, 0
+        self.listener = socket.create_server(("127.0.0.1", 0))
+        self.port = self.listener.getsockname()[1]
+        self.start()
+
+    def run(self):
+        near, _ = self.listener.accept()
+        far = socket.create_connection(("127.0.0.1", self.to))
+        ways = [threading.Thread(target=self._hand_on, args=way) for way in ((near, far), (far, near))]
+        for way in ways:
+            way.start()
+        for way in ways:
+            way.join()
+        near.close()
+        far.close()
+
+    def _hand_on(self, one, other):
+        while block := one.recv(65536):
+            self.count += len(block)
+            other.sendall(block)
+        other.shutdown(socket.SHUT_WR)
+
+
+def brief(mgr, count, one_in, counts_bytes):
+    """Returns the seconds by the clock of a brief exchange, or its bytes."""
+    shutil.rmtree(FOLDER, ignore_errors=True)
+    log = "".join(f"{line}\n" for line in lines_of(count - DIFFERENT // 2, one_in))
+    port = free_port()
+    relay = Relay(port) if counts_bytes else None
+    sides = []
+    for replica, asked in ((1, port), (2, relay.port if relay else port)):
+        folder = FOLDER / str(replica)
+        folder.mkdir(parents=True)
+        (folder / "note.ops").write_text(log)
+        side = Session(mgr, folder, replica, "--port", str(asked), "--brief")
+        side.settle()
+        side.press(b"x" * (DIFFERENT // 2))
+        sides.append(side)
+    server, client = sides
+    begin = time.monotonic()
+    server.send(SERVE)
+    await_listener(port)
+    client.send(EXCHANGE)
+    said = [side.settle() for side in (client, server)]
+    seconds = time.monotonic() - begin
+    for side in sides:
+        side.end()
+    if said != [f"Sent {DIFFERENT // 2}, received {DIFFERENT // 2}"] * 2:
+        sys.exit(f"no brief exchange: {said}")
+    texts = [(FOLDER / str(replica) / "note").read_bytes() for replica in (1, 2)]
+    if texts[0] != texts[1]:
+        sys.exit("the two did not end with one text")
+    if relay:
+        relay.join()
+        return relay.count
+    return seconds
+
+
+def print_brief(mgr, count):
+    print(f"A brief exchange of two notes of {count:,} operations that differ in {DIFFERENT}:")
+    print(f"{'':<24} {'by clock, ms':>13} {'bytes':>15} {'wanted, ms':>14} {'bytes':>9}")
+    for what, one_in in BRIEF_CASES.items():
+        seconds = min(brief(mgr, count, one_in, False) for _ in range(MEASUREMENTS))
+        size = brief(mgr, count, one_in, True)
+        told = "well" if seconds <= BRIEF_SECONDS and size <= BRIEF_BYTES else "MORE"
+        print(f"{what:<24} {seconds * 1000:>13.0f} {size:>15,} {BRIEF_SECONDS * 1000:>14.0f} {BRIEF_BYTES:>9,}  {told}", flush=True)
+
+
 def main():
     parser = argparse.ArgumentParser(description=__doc__)
     parser.add_argument("--mgr", metavar="PATH", default=BUILD / "mgr", help="another mgr")
@@ -119,6 +216,7 @@ def main():
         print_row(who, once[0], once[1] - none[1], count)
     again = least(mgr, sizes, 2)
     print_row("each a half, once more", again[0], again[1] - once[1], count)
+    print_brief(mgr, count)
 
 
 if __name__ == "__main__":

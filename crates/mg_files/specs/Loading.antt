@@ -79,6 +79,7 @@ opened name replica limit l = record {
   whole = ends_open l.end;
   text_waits = false;
   runs = false;
+  brief = false;
 }
 
 abbrev pub opened_and_end : List ℕ → ℕ → ℕ → Result Loaded LoadFault → Result (OpenState × LogEnd) LoadFault

@@ -2,7 +2,7 @@
 ghost use Rattle.std.specs.Prelude.{◌≡◌};
 ghost use Rattle.std.specs.Prelude.{false};
 ghost use Rattle.mg_files.specs.Loading.{ends_open};
-ghost use Rattle.mg_files.specs.OpenState.{with_runs};
+ghost use Rattle.mg_files.specs.OpenState.{with_brief, with_runs};
 ghost use Rattle.mg_files.specs.Saving.{is_changed};
 
 use mg_buffer::Buffer;
@@ -23,6 +23,8 @@ pub struct VisitedBuffer<S: TextStore> {
     pub(crate) text_waits: bool,
     /// Whether a save of many operations appends them in runs.
     pub(crate) runs: bool,
+    /// Whether an exchange tells first what is known, and sends only what the peer lacks.
+    pub(crate) brief: bool,
 }
 
 impl<S: TextStore> Model for VisitedBuffer<S> {
@@ -32,15 +34,26 @@ impl<S: TextStore> Model for VisitedBuffer<S> {
 
     ghost coded = { open_state_code };
 
-    ghost view = { λ o.
-        record { buffer = o.buffer; whole = o.whole; text_waits = o.text_waits; runs = o.runs } };
+    ghost view = { λ o. record {
+      buffer = o.buffer;
+      whole = o.whole;
+      text_waits = o.text_waits;
+      runs = o.runs;
+      brief = o.brief;
+    } };
 }
 
 impl<S: TextStore> VisitedBuffer<S> {
-    /// A buffer as it was loaded, by how its log ends. A save of it appends a line an operation.
+    /// A buffer as it was loaded, by how its log ends. A save of it appends a line an operation, and
+    /// an exchange sends all that it holds.
     pub(crate) fn new(alloc: Global, buffer: Buffer<S>, end: LogEnd) -> VisitedBuffer<S>
-        ensures { result
-            ≡ record { buffer = buffer; whole = ends_open end; text_waits = false; runs = false } }
+        ensures { result ≡ record {
+          buffer = buffer;
+          whole = ends_open end;
+          text_waits = false;
+          runs = false;
+          brief = false;
+        } }
     {
         VisitedBuffer {
             alloc,
@@ -48,6 +61,7 @@ impl<S: TextStore> VisitedBuffer<S> {
             whole: end != LogEnd::Whole,
             text_waits: false,
             runs: false,
+            brief: false,
         }
     }
 
@@ -57,6 +71,21 @@ impl<S: TextStore> VisitedBuffer<S> {
         ensures { self.new ≡ with_runs runs self.old }
     {
         self.runs = runs;
+    }
+
+    /// Whether an exchange tells first what is known, and sends only what the peer lacks. Takes no
+    /// memory.
+    pub fn exchange_briefly(&mut self, brief: bool)
+        ensures { self.new ≡ with_brief brief self.old }
+    {
+        self.brief = brief;
+    }
+
+    /// Whether `exchange_briefly` asked for that. Takes no memory.
+    pub fn is_brief(&self) -> bool
+        ensures { result ≡ self.now.brief }
+    {
+        self.brief
     }
 
     /// Whether there is something to save: operations are unsaved, or the text was not put since

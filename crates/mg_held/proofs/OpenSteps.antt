@@ -33,7 +33,7 @@ use Rattle.rga_exchange.proofs.OperationLaws.{IsRead, is_read, no_fault, log_joi
 use Rattle.rga_exchange.proofs.LogLaws.{log_stands}
 use Rattle.mg_files.specs.Files.{Files}
 use Rattle.mg_files.specs.Loading.{Loaded, loaded, of_log, log_loaded, insertions, text_loaded, either_loaded, files_loaded, opened, opened_and_end, opening_answer, after_opening, load_outcome, ends_open}
-use Rattle.mg_files.specs.OpenState.{OpenState, with_runs}
+use Rattle.mg_files.specs.OpenState.{OpenState, with_brief, with_runs}
 use Rattle.mg_files.specs.declared.fault.LoadFault.{LoadFault}
 use Rattle.mg_files.specs.declared.fault.LoadFault.TheVariants.{Log, NotText, Store}
 use Rattle.mg_files.proofs.LoadedLaws.{splice_of_nothing, limit_of}
@@ -205,9 +205,9 @@ opened_logged name replica limit found b end h is =
     subst (λ x. IsLoggedBy x found.log) (sym o.is)
     (files_read name replica limit found.log found.text o.loaded (limit_of replica limit o.opening) o.files (subst IsBuffer o.is is))
 
--- whether saves are to append runs changes nothing of what is kept
-pub opened_kept : (name : List ℕ) (replica limit : ℕ) (found : Files) (b : OpenState) (end : LogEnd) (runs : Bool) → load_outcome name replica limit found ≡ Ok (b, end) → IsBuffer b → IsLoggedBy (with_runs runs b) found.log
-opened_kept name replica limit found b end runs h is =
+-- whether saves are to append runs and exchanges to be brief changes nothing of what is kept
+pub opened_kept : (name : List ℕ) (replica limit : ℕ) (found : Files) (b : OpenState) (end : LogEnd) (runs brief : Bool) → load_outcome name replica limit found ≡ Ok (b, end) → IsBuffer b → IsLoggedBy (with_brief brief (with_runs runs b)) found.log
+opened_kept name replica limit found b end runs brief h is =
     let l = opened_logged name replica limit found b end h is in
     record {
       held = l.held;

@@ -5,7 +5,7 @@ ghost use Rattle.rga_exchange.specs.declared.log.LogEnd.{LogEnd};
 ghost use Rattle.mg_files.specs.Calls.{refusals, found_call};
 ghost use Rattle.mg_files.specs.Files.{Files, text_bytes};
 ghost use Rattle.mg_files.specs.Loading.{load_outcome, opening_answer};
-ghost use Rattle.mg_files.specs.OpenState.{OpenState, with_runs};
+ghost use Rattle.mg_files.specs.OpenState.{OpenState, with_brief, with_runs};
 ghost use Rattle.mg_files.specs.Saving.{is_changed, written, saved, save_calls, log_call};
 ghost use Rattle.mg_files.specs.declared.port.PortFault.{PortFault};
 ghost use Rattle.mg_held.specs.Held.{Held, Answers, MayLeave, MayLead};
@@ -24,12 +24,12 @@ pub fn every_buffer_is_sound<S: TextStore>(opened: &VisitedBuffer<S>)
     let _known = opened.buffer.store().known();
 }
 
-/// What is opened by what a load answered, whether saves of it are to append runs or not, is kept
-/// beside the log that was found.
+/// What is opened by what a load answered, whether saves of it are to append runs or not and its
+/// exchanges to be brief or not, is kept beside the log that was found.
 pub fn what_is_opened_is_logged()
     ensures { (name : List ℕ) (replica limit : ℕ) (found : Files) (b : OpenState) (end : LogEnd)
-        (runs : Bool) → load_outcome name replica limit found ≡ Ok (b, end)
-        → IsBuffer b → IsLoggedBy (with_runs runs b) found.log }
+        (runs brief : Bool) → load_outcome name replica limit found ≡ Ok (b, end)
+        → IsBuffer b → IsLoggedBy (with_brief brief (with_runs runs b)) found.log }
 {}
 
 /// What a log that is there stands for is loaded, and nothing of it is unsaved.

@@ -17,6 +17,7 @@ pub record Values : Type 0 where
   pub cursor : Bool
   pub resizable : Bool
   pub runs : Bool
+  pub brief : Bool
   pub limit : ℕ
 
 -- each value is within its limits

@@ -34,6 +34,8 @@ pub struct Values {
     pub resizable: bool,
     /// Whether a save of many operations appends them in runs.
     pub runs: bool,
+    /// Whether an exchange tells first what is known, and sends only what the peer lacks.
+    pub brief: bool,
     /// How many identifiers the buffer may know.
     pub limit: usize,
 }
@@ -56,6 +58,7 @@ impl Model for Values {
       cursor = v.cursor;
       resizable = v.resizable;
       runs = v.runs;
+      brief = v.brief;
       limit = v.limit;
     } };
 }

@@ -86,6 +86,19 @@ saved_content b = if_content (has_unsaved b) b
     if_content true b = refl
     if_content false b = refl
 
+-- and so does whether its exchanges are brief
+pub saved_brief : (b : OpenState) → (saved b).brief ≡ b.brief
+saved_brief b = if_brief (has_unsaved b) b
+  where
+    if_brief : (x : Bool) (b : OpenState) → (if x then written b else b).brief ≡ b.brief
+    if_brief true b = refl
+    if_brief false b = refl
+
+-- what is said of both, of a buffer that was saved
+pub asks_saved : (A : Bool → Content → Type 0) (b d : OpenState) → d ≡ saved b → A d.brief d.buffer.content → A b.brief b.buffer.content
+asks_saved A b d left a =
+    subst (λ c. A b.brief c) (ap (λ (o : OpenState). o.buffer.content) left ∙ saved_content b) (subst (λ x. A x d.buffer.content) (ap (λ (o : OpenState). o.brief) left ∙ saved_brief b) a)
+
 -- what is sent of a buffer that was saved
 pub sends_saved : (S : Result ℕ SendFault → Content → Type 0) (r : Result ℕ SendFault) (b d : OpenState) → d ≡ saved b → S r d.buffer.content → S r b.buffer.content
 sends_saved S r b d left s = subst (λ c. S r c) (ap (λ (o : OpenState). o.buffer.content) left ∙ saved_content b) s

@@ -1,3 +1,4 @@
 pub mod Talking
+pub mod Asking
 pub mod Meeting
 pub mod Linking

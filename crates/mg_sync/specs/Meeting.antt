@@ -1,9 +1,10 @@
 -- What an exchange asks of a port, and what it leaves of a buffer.
-use Rattle.std.specs.Prelude.{◌≡◌, ◌⊎◌, ℕ, Bool, List, [], ◌∷◌, ◌++◌, Option, Result, Ok, Err}
+use Rattle.std.specs.Prelude.{◌≡◌, ◌⊎◌, ⊤, ℕ, Bool, true, false, List, [], ◌∷◌, ◌++◌, Option, Some, None, Result, Ok, Err}
 use Rattle.rga_lines.specs.Counting.{one_more}
 use Rattle.rga_ops.specs.Content.{Content}
 use Rattle.rga_exchange.specs.declared.fault.ReceiveFault.{ReceiveFault}
 use Rattle.rga_exchange.specs.declared.fault.SendFault.{SendFault}
+use Rattle.rga_digest.specs.Summary.{Summary}
 use Rattle.mg_files.specs.declared.port.CallKind.TheVariants.{Connect, Accept, Finish}
 use Rattle.mg_files.specs.declared.port.PortFault.{PortFault}
 use Rattle.mg_files.specs.Calls.{Call, link_call, link_refusals, Adds, failures_after, failures_after_link}
@@ -77,13 +78,34 @@ module _ (Hears : Result ℕ ReceiveFault → OpenState → OpenState → Type 0
   ServesTo (Err (Send fault)) = ((received : ℕ) × Meets accepting (Ok received)) × Sends (Err fault) d.buffer.content
   ServesTo (Err (Receive fault)) = Meets accepting (Err (Receive fault))
 
-  -- Each whole: what came of it, and that nothing was lost, whatever was answered.
+-- what a brief exchange may fail at before anything else passes over the link
+abbrev pub IsTalk : ExchangeFault → Type 0
+IsTalk (Save fault) = ⊥
+IsTalk (Link fault) = ⊥
+IsTalk (Send fault) = ⊤
+IsTalk (Receive fault) = ⊤
+
+-- A brief exchange ended so, and behind the save no more was done than these calls.
+pub record StopsBriefly (old new : Option (List Call)) (b d : OpenState) (made : List Call) (answer : Result Exchanged ExchangeFault) : Type 0 where
+  pub brief : b.brief ≡ true
+  pub fault : ExchangeFault
+  pub is : answer ≡ Err fault
+  pub talk : IsTalk fault
+  pub ends : EndsBehind old new b d made
+
+-- what is said of what is sent, by the summary that the peer gave where the exchange is brief
+abbrev pub SendsTo : Bool → (Option Summary → Result ℕ SendFault → Content → Type 0) → Result ℕ SendFault → Content → Type 0
+SendsTo false Sends answer c = Sends None answer c
+SendsTo true Sends answer c = (peer : Summary) × Sends (Some peer) answer c
+
+-- Each whole: what came of it, and that nothing was lost, whatever was answered.
+module _ (Hears : Result ℕ ReceiveFault → OpenState → OpenState → Type 0) (Sends : Option Summary → Result ℕ SendFault → Content → Type 0) (old new : Option (List Call)) (b d : OpenState) where
   pub record Exchanges (answer : Result Exchanged ExchangeFault) : Type 0 where
-    pub came : ExchangesTo answer
+    pub came : ExchangesTo Hears (SendsTo b.brief Sends) old new b d answer ⊎ StopsBriefly old new b d (link_call Connect ∷ []) answer
     pub gains : Gains b d
 
   pub record Serves (answer : Result Exchanged ExchangeFault) : Type 0 where
-    pub came : ServesTo answer
+    pub came : ServesTo Hears (SendsTo b.brief Sends) old new b d answer ⊎ StopsBriefly old new b d accepting answer
     pub gains : Gains b d
 
 -- How many calls of a port failed. A save that fails behind a peer that was not heard to its end is not answered.

@@ -1,31 +1,45 @@
 -- What passes over a link, and what it leaves of a buffer.
-use Rattle.std.specs.Prelude.{◌≡◌, ◌≢◌, ⊤, ℕ, ◌≤◌, List, length, Option, Result, Ok, Err, OnOk, IfOk}
+use Rattle.std.specs.Prelude.{◌≡◌, ◌≢◌, ⊤, ℕ, ◌≤◌, List, length, Option, Some, None, Result, Ok, Err, OnOk, IfOk}
 use Rattle.rga_ops.specs.Content.{Content, IsWithin, IsSound, Agree, join, content_of, known_count}
 use Rattle.rga_ops.specs.Operations.{operations}
 use Rattle.rga_ops.specs.declared.op.Op.{Op}
 use Rattle.rga_lines.specs.Counting.{Calls, CountsAs, OnBytes, Writes, WritesFront}
 use Rattle.rga_lines.specs.Log.{stream_operations}
 use Rattle.rga_exchange.specs.Receiving.{exchange_outcome}
-use Rattle.rga_exchange.specs.Sending.{stream_text}
+use Rattle.rga_exchange.specs.Sending.{exchange_text}
 use Rattle.rga_exchange.specs.Taking.{HasTakenLines}
 use Rattle.rga_exchange.specs.declared.taking.Form.TheVariants.{Exchange}
 use Rattle.rga_exchange.specs.declared.fault.ReceiveFault.{ReceiveFault}
 use Rattle.rga_exchange.specs.declared.fault.ReceiveFault.TheVariants as receive
 use Rattle.rga_exchange.specs.declared.fault.SendFault.{SendFault}
 use Rattle.rga_exchange.specs.declared.fault.SendFault.TheVariants as send
+use Rattle.rga_digest.specs.Summary.{Summary, missing}
 use Rattle.mg_buffer.specs.Following.{Follows}
 use Rattle.mg_buffer.specs.State.{State}
 use Rattle.mg_files.specs.OpenState.{OpenState}
 
+-- ---- what is sent of what is held
+
+-- all, or what a peer lacks by the summary that it gave
+abbrev pub told_to : Option Summary → Content → List Op
+told_to None c = operations c
+told_to (Some peer) c = missing c peer
+
+abbrev pub told_content : Option Summary → Content → Content
+told_content None c = c
+told_content (Some peer) c = content_of (missing c peer)
+
 -- ---- from the one state of a link to the other
 
--- All that is held was sent, or a beginning of it: the link's known bytes grew by so much. Sent whole, it is received
--- whole by what agrees with it and has room. `Write` is answered exactly where a call of the link failed.
-pub record SendsOver {L : Type 0} (contents : L → Option (List ℕ)) (old new : Calls L) (answer : Result ℕ SendFault) (c : Content) : Type 0 where
-  pub number : IfOk answer (λ n. n ≡ length (operations c))
-  pub written : OnOk answer (Writes contents old new (stream_text c))
-  pub received : IfOk answer (λ n. (limit : ℕ) (d : Content) → IsSound c → Agree d c → known_count (join d c) ≤ limit → exchange_outcome limit d (stream_text c) ≡ (join d c, Ok n))
-  pub begun : WritesFront contents old new (stream_text c)
+-- What was told to the peer that gave this summary, or none, was sent, or a beginning of it: the link's known bytes grew by
+-- so much. Sent whole, it is received whole by what agrees with what is held and has room. `Write` is answered exactly
+-- where a call of the link failed.
+pub record SendsOver {L : Type 0} (peer : Option Summary) (contents : L → Option (List ℕ)) (old new : Calls L) (answer : Result ℕ SendFault) (c : Content) : Type 0 where
+  pub number : IfOk answer (λ n. n ≡ length (told_to peer c))
+  pub written : OnOk answer (Writes contents old new (exchange_text (told_to peer c)))
+  pub received : IfOk answer (λ n. (limit : ℕ) (d : Content) → IsSound c → Agree d c → known_count (join d (told_content peer c)) ≤ limit
+      → exchange_outcome limit d (exchange_text (told_to peer c)) ≡ (join d (told_content peer c), Ok n))
+  pub begun : WritesFront contents old new (exchange_text (told_to peer c))
   pub device : CountsAs send.Write answer old new
 
 -- A peer was heard: the first lines of what the link gave were taken into the buffer, and nothing else. However the reads
@@ -40,10 +54,10 @@ pub record HearsOver {L : Type 0} (remaining : L → Option (List ℕ)) (old new
 
 -- ---- between some states of a link
 
-pub record Sends {L : Type 0} (contents : L → Option (List ℕ)) (answer : Result ℕ SendFault) (c : Content) : Type 0 where
+pub record Sends {L : Type 0} (contents : L → Option (List ℕ)) (peer : Option Summary) (answer : Result ℕ SendFault) (c : Content) : Type 0 where
   pub old : Calls L
   pub new : Calls L
-  pub over : SendsOver contents old new answer c
+  pub over : SendsOver peer contents old new answer c
 
 pub record Hears {L : Type 0} (remaining : L → Option (List ℕ)) (answer : Result ℕ ReceiveFault) (b d : OpenState) : Type 0 where
   pub old : Calls L
@@ -65,5 +79,5 @@ pub record TakesSome (answer : Result ℕ ReceiveFault) (b d : OpenState) : Type
   pub follows : Follows b.buffer ops d.buffer
   pub rest : d ≡ record b { buffer = d.buffer }
 
-abbrev pub SendsSome : Result ℕ SendFault → Content → Type 0
-SendsSome answer c = ⊤
+abbrev pub SendsSome : Option Summary → Result ℕ SendFault → Content → Type 0
+SendsSome peer answer c = ⊤

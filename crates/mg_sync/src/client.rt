@@ -3,6 +3,7 @@ ghost use Rattle.mg_sync.specs.Meeting as spec;
 ghost use Rattle.mg_sync.specs.Linking.{ExchangesOver};
 ghost use Rattle.mg_sync.specs.Talking.{Sends, Hears};
 
+use crate::asking::ask;
 use crate::fault::ExchangeFault;
 use crate::talking::{Exchanged, hear_and_save, tell};
 use mg_files::{Port, VisitedBuffer};
@@ -19,6 +20,10 @@ use std::alloc::Global;
 /// fault, but for one: where the peer is not heard to its end, what was taken of it is saved all
 /// the same, and `Receive` is answered, whatever comes of that save. Whatever is answered, the
 /// buffer has what it had, and its name, replica, limit, point, mark and groups stay.
+///
+/// Where the buffer's exchanges are brief it first tells what it holds in short, and hears what the
+/// peer knows; then it sends only what the peer lacks by that. `Send` and `Receive` may come there
+/// too, and nothing else is done then.
 pub fn exchange<S: TextStore, P: Port>(
     alloc: Global,
     opened: &mut VisitedBuffer<S>,
@@ -33,7 +38,8 @@ pub fn exchange<S: TextStore, P: Port>(
 {
     opened.save(port)?;
     let mut writer = Counted::new(port.connect()?);
-    let sent = tell(alloc, opened, &mut writer)?;
+    let peer = ask(alloc, opened, &mut writer)?;
+    let sent = tell(alloc, opened, &peer, &mut writer)?;
     let mut link = writer.into_inner();
     port.finish(&mut link)?;
     let mut reader = Counted::new(link);

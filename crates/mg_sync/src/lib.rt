@@ -10,6 +10,7 @@
 //! what follows of links that tell their bytes: two that meet hold one content.
 #![tactic(auto)]
 
+mod asking;
 mod client;
 mod fault;
 pub mod laws;

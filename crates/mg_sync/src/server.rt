@@ -3,6 +3,7 @@ ghost use Rattle.mg_sync.specs.Meeting as spec;
 ghost use Rattle.mg_sync.specs.Linking.{ServesOver};
 ghost use Rattle.mg_sync.specs.Talking.{Sends, Hears};
 
+use crate::asking::answer;
 use crate::fault::ExchangeFault;
 use crate::talking::{Exchanged, hear_and_save, tell};
 use mg_files::{Port, VisitedBuffer};
@@ -19,6 +20,10 @@ use std::alloc::Global;
 /// not heard to its end, what was taken of it is saved all the same, and `Receive` is answered,
 /// whatever comes of that save; no reply is sent then. Whatever is answered, the buffer has what it
 /// had, and its name, replica, limit, point, mark and groups stay.
+///
+/// Where the buffer's exchanges are brief it first hears what the peer knows, and tells what it
+/// holds in short; its reply is then only what the peer lacks by that. `Receive` and `Send` may come
+/// there too, and nothing else is done then.
 pub fn serve<S: TextStore, P: Port>(
     alloc: Global,
     opened: &mut VisitedBuffer<S>,
@@ -33,8 +38,9 @@ pub fn serve<S: TextStore, P: Port>(
 {
     opened.save(port)?;
     let mut reader = Counted::new(port.accept()?);
+    let peer = answer(alloc, opened, &mut reader)?;
     let received = hear_and_save(alloc, opened, &mut reader, port)?;
     let mut writer = Counted::new(reader.into_inner());
-    let sent = tell(alloc, opened, &mut writer)?;
+    let sent = tell(alloc, opened, &peer, &mut writer)?;
     Ok(Exchanged { sent, received })
 }

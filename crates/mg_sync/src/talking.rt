@@ -5,6 +5,8 @@ ghost use Rattle.mg_sync.specs.Talking.{SendsOver, HearsOver};
 
 use crate::fault::ExchangeFault;
 use mg_files::{Port, VisitedBuffer};
+use rga_brief::send_missing;
+use rga_digest::Summary;
 use rga_exchange::{ReceiveFault, SendFault, receive, send};
 use rga_lines::Counted;
 use rga_store::TextStore;
@@ -18,15 +20,20 @@ pub struct Exchanged {
     pub received: u64,
 }
 
-/// Sends all that a buffer holds.
+/// Sends what a buffer holds: all of it, or what the peer lacks by the summary that it gave.
 pub(crate) fn tell<S: TextStore, L: Write>(
     alloc: Global,
     opened: &VisitedBuffer<S>,
+    peer: &Option<Summary>,
     writer: &mut Counted<L>,
 ) -> Result<u64, SendFault>
-    ensures { SendsOver L.contents writer.old writer.new result opened.now.buffer.content }
+    ensures { SendsOver peer.now L.contents writer.old writer.new result
+        opened.now.buffer.content }
 {
-    send(alloc, opened.buffer.store(), writer)
+    match peer {
+        None => send(alloc, opened.buffer.store(), writer),
+        Some(peer) => send_missing(alloc, opened.buffer.store(), peer, writer),
+    }
 }
 
 /// Takes what a peer says into a buffer, up to its end or to a fault, and saves what is then held

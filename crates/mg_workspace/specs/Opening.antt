@@ -2,7 +2,7 @@
 use Rattle.std.specs.Prelude.{◌≡◌, ◌-◌, Bool, [], ◌∷◌, length, nat_le, Result, Ok, Err}
 use Rattle.rga_exchange.specs.declared.log.LogEnd.{LogEnd}
 use Rattle.mg_plain.specs.declared.view.Kind.TheVariants.{Plain}
-use Rattle.mg_files.specs.OpenState.{OpenState, with_runs}
+use Rattle.mg_files.specs.OpenState.{OpenState, with_brief, with_runs}
 use Rattle.mg_files.specs.declared.fault.LoadFault.{LoadFault}
 use Rattle.mg_screen.specs.Layout.{layout, window}
 use Rattle.mg_settings.specs.Settings.{Values}
@@ -14,7 +14,7 @@ use Rattle.mg_workspace.specs.Workspaces.{Workspace}
 -- one buffer in one window, from its first line on
 abbrev pub workspace : Values → OpenState → Workspace
 workspace v b = record {
-  buffers = record { all = with_runs v.runs b ∷ []; current = 0 };
+  buffers = record { all = with_brief v.brief (with_runs v.runs b) ∷ []; current = 0 };
   notes = record { kill = []; kind = Plain; goal = 0 };
   windows = layout (window (v.rows - 2) (viewport 0 0) ∷ []) 0;
   fill = v.fill;
@@ -22,16 +22,17 @@ workspace v b = record {
   replica = v.replica;
   limit = v.limit;
   runs = v.runs;
+  brief = v.brief;
 }
 
 -- as many buffers are open as may be
 abbrev pub is_full : Workspace → Bool
 is_full w = nat_le MAX_BUFFERS (length w.buffers.all)
 
--- one more buffer, of which saves append runs or do not as of the first, and which is current and shown by the current
--- window
+-- one more buffer, of which saves append runs or do not, and exchanges are brief or not, as of the first, and which is
+-- current and shown by the current window
 abbrev pub with_opened : OpenState → Workspace → Workspace
-with_opened b w = record w { buffers = with_buffer (with_runs w.runs b) w.buffers; windows = turned (length w.buffers.all) w.windows }
+with_opened b w = record w { buffers = with_buffer (with_brief w.brief (with_runs w.runs b)) w.buffers; windows = turned (length w.buffers.all) w.windows }
 
 -- as what was found is loaded, or its fault
 abbrev pub OpensBy : Result (OpenState × LogEnd) LoadFault → Workspace → Workspace → Result LogEnd LoadFault → Type 0

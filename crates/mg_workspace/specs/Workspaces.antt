@@ -10,7 +10,8 @@ use Rattle.mg_workspace.specs.Buffers as buffers
 use Rattle.mg_workspace.specs.Buffers.{are_changed, AtCurrent}
 
 -- the buffers, what commands leave for the next one, the windows with what they show, the fill column, the columns of the
--- screen, the replica and the limit of buffers that are opened, and whether saves of these append runs
+-- screen, the replica and the limit of buffers that are opened, and whether saves of these append runs and their exchanges
+-- are brief
 pub record Workspace : Type 0 where
   pub buffers : buffers.Buffers
   pub notes : Notes
@@ -20,6 +21,7 @@ pub record Workspace : Type 0 where
   pub replica : ℕ
   pub limit : ℕ
   pub runs : Bool
+  pub brief : Bool
 
 -- that buffer is current
 abbrev pub IsCurrent : Workspace → OpenState → Type 0

@@ -127,8 +127,8 @@ impl<S: TextStore> Workspace<S> {
     }
 
     /// Opens a buffer by what was found under its name, as `VisitedBuffer::load` does, with the
-    /// replica and the limit of the workspace; its saves append runs where those of the first buffer
-    /// do. Answers how its log ends. It is current then, and the current window shows it.
+    /// replica and the limit of the workspace; its saves append runs, and its exchanges are brief,
+    /// where those of the first buffer do and are. Answers how its log ends. It is current then, and the current window shows it.
     ///
     /// Faults: those of `VisitedBuffer::load`, and nothing changes then.
     pub fn open(&mut self, name: String, found: Found) -> Result<LogEnd, LoadFault>
@@ -146,6 +146,7 @@ impl<S: TextStore> Workspace<S> {
             found,
         )?;
         opened.append_runs(self.runs);
+        opened.exchange_briefly(self.brief);
         self.buffers.open(opened)?;
         turn(&mut self.windows, self.buffers.current_index());
         Ok(end)

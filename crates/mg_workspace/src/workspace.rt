@@ -41,8 +41,9 @@ pub struct Workspace<S: TextStore> {
     /// The replica and the limit of buffers that are opened.
     pub(crate) replica: u16,
     pub(crate) limit: usize,
-    /// Whether saves of them append runs.
+    /// Whether saves of them append runs, and whether their exchanges are brief.
     pub(crate) runs: bool,
+    pub(crate) brief: bool,
 }
 
 /// The first buffer, from its first line on.
@@ -73,6 +74,7 @@ impl<S: TextStore> Model for Workspace<S> {
       replica = w.replica;
       limit = w.limit;
       runs = w.runs;
+      brief = w.brief;
     } };
 
     ghost invariant = { λ w.
@@ -91,6 +93,7 @@ impl<S: TextStore> Workspace<S> {
     {
         let values = settings.values();
         opened.append_runs(values.runs);
+        opened.exchange_briefly(values.brief);
         let buffers = Buffers::new(alloc, opened)?;
         let Ok(windows) = Windows::new(alloc, settings.rows(), BEGINNING) else {
             return Err(LoadFault::Memory);
@@ -105,6 +108,7 @@ impl<S: TextStore> Workspace<S> {
             replica: values.replica,
             limit: values.limit,
             runs: values.runs,
+            brief: values.brief,
         })
     }
 

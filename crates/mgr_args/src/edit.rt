@@ -84,16 +84,18 @@ fn add_trace<'a>(alloc: Global, args: &mut Vec<Arg<'a>>) -> Result<(), AllocErro
     add_flag(alloc, args, "newest", newest)
 }
 
-/// What stands in them, and in the log.
+/// What stands in them, in the log and in exchanges.
 fn add_contents<'a>(alloc: Global, args: &mut Vec<Arg<'a>>) -> Result<(), AllocError>
     ensures { OnOk result (Adds args.old.items args.new.items spec.content_rules) }
 {
     let cursor = "Write the cursor's row and column behind each frame";
     let resizable = "Take reports of the screen's size among the keys";
     let runs = "Append more than 32 operations to the log in runs";
+    let brief = "Exchange with a peer that does so too only what either lacks";
     add_flag(alloc, args, "cursor", cursor)?;
     add_flag(alloc, args, "resizable", resizable)?;
-    add_flag(alloc, args, "runs", runs)
+    add_flag(alloc, args, "runs", runs)?;
+    add_flag(alloc, args, "brief", brief)
 }
 
 /// The arguments of `edit`.

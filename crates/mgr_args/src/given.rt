@@ -74,6 +74,7 @@ fn values_of(name: String, found: &ArgMatches<'_>) -> Option<Values>
         cursor: found.get_flag("cursor"),
         resizable: found.get_flag("resizable"),
         runs: found.get_flag("runs"),
+        brief: found.get_flag("brief"),
         limit: MAX_LIMIT,
         name,
     })

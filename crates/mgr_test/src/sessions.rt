@@ -22,6 +22,7 @@ fn values(alloc: Global, trace: bool) -> Result<Values, AllocError> {
         newest: false,
         resizable: false,
         runs: false,
+        brief: false,
         limit: 1000,
     })
 }

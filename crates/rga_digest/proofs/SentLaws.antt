@@ -51,13 +51,13 @@ is_chosen p (x ∷ xs) op m h = elim (Contains-cases x op xs m) [
 pub sent_holds : (c : Content) (s : Summary) (op : Op) → Contains (missing c s) op → Holds c op
 sent_holds c s op m = operations_hold c op (from_chosen (lacks c s) (operations c) op m)
 
-sent_within : (c : Content) (s : Summary) → IsWithin (content_of (missing c s)) c
+pub sent_within : (c : Content) (s : Summary) → IsWithin (content_of (missing c s)) c
 sent_within c s = record {
   inserted = λ id x h. sent_holds c s (Insert id x.parent x.ch) (content_inserted (missing c s) id x h);
   deleted = λ id h. sent_holds c s (Delete id) (content_deleted (missing c s) id h);
 }
 
-sent_agreed : (c : Content) (s : Summary) → IsAgreed (missing c s)
+pub sent_agreed : (c : Content) (s : Summary) → IsAgreed (missing c s)
 sent_agreed c s = held_agree c (missing c s) (λ id parent ch m. sent_holds c s (Insert id parent ch) m)
 
 or_grows : (a b e : Option Element) (x : Element) → (a ≡ None → b ≡ Some x → e ≡ Some x) → option_or a b ≡ Some x → option_or a e ≡ Some x

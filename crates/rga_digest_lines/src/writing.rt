@@ -18,6 +18,7 @@ pub fn write_claim(alloc: Global, claim: Claim) -> Result<String, Refusal>
     ensures ok { IfOk result (λ text. string_bytes text ≡ claim_line claim) }
     ensures one_line { IfOk result (λ text. All (λ b. b ≢ 10) (string_bytes text)) }
     ensures reads_back { IfOk result (λ text. claim_in (string_bytes text) ≡ Some claim) }
+    ensures range { OnOk result (IsInRange claim) }
     ensures memory { IfErr result (λ e. e ≡ Refusal.Memory) }
 {
     let value = value_of(alloc, claim)?;

@@ -20,7 +20,7 @@ use Rattle.rga_lines.proofs.StreamLemmas.{is_cut, only_cut, lines-append_ended, 
 use Rattle.rga_lines.proofs.StandLemmas.{nothing_stands, line_stands, end_stands}
 use Rattle.rga_lines.proofs.NewlineLemmas.{line_has_none, head_has_none, end_has_none}
 use Rattle.rga_lines.proofs.ReadBack.{head_back}
-use Rattle.rga_exchange.specs.Sending.{log_text, exchange_lines, stream_text, AreWritable, StandsFor}
+use Rattle.rga_exchange.specs.Sending.{log_text, exchange_lines, exchange_text, AreWritable, StandsFor}
 use Rattle.rga_exchange.proofs.TakingLaws.{operations_of-append}
 
 -- ---- lines that are operations
@@ -127,27 +127,28 @@ stands_appended bytes c ops stands ended writable well joinable =
 abbrev pub lines_and_end : List Op → List (List ℕ)
 lines_and_end ops = map line ops ++ end_line (length ops) ∷ []
 
-stream_cut : (c : Content) → AreWritable (operations c) → length (operations c) < 2 ^ 64 → (exchange_lines (operations c) ≡ lines_of (stream_text c)) × ([] ≡ rest_of (stream_text c))
-stream_cut c writable few =
-    let ops : List Op = operations c in
+exchange_cut : (ops : List Op) → AreWritable ops → length ops < 2 ^ 64 → (exchange_lines ops ≡ lines_of (exchange_text ops)) × ([] ≡ rest_of (exchange_text ops))
+exchange_cut ops writable few =
     let end : All HasNoNewline (end_line (length ops) ∷ []) = All-cons HasNoNewline (end_line (length ops)) [] (end_has_none (length ops) few) (All-nil HasNoNewline) in
     cut_again (exchange_lines ops) (All-cons HasNoNewline head_line (lines_and_end ops) head_has_none (written_then ops (end_line (length ops) ∷ []) writable end))
 
-pub stream_lines : (c : Content) → AreWritable (operations c) → length (operations c) < 2 ^ 64 → lines_of (stream_text c) ≡ exchange_lines (operations c)
-stream_lines c writable few = sym (stream_cut c writable few).0
+pub exchange_lines-cut : (ops : List Op) → AreWritable ops → length ops < 2 ^ 64 → lines_of (exchange_text ops) ≡ exchange_lines ops
+exchange_lines-cut ops writable few = sym (exchange_cut ops writable few).0
 
-pub stream_rest : (c : Content) → AreWritable (operations c) → length (operations c) < 2 ^ 64 → rest_of (stream_text c) ≡ []
-stream_rest c writable few = sym (stream_cut c writable few).1
+pub exchange_rest : (ops : List Op) → AreWritable ops → length ops < 2 ^ 64 → rest_of (exchange_text ops) ≡ []
+exchange_rest ops writable few = sym (exchange_cut ops writable few).1
 
 behind_written_head : (lines : List (List ℕ)) → behind_head (head_line ∷ lines) ≡ lines
 behind_written_head lines = ap (λ r. cond (is_head r) lines (head_line ∷ lines)) head_back
 
-pub stream_says : (c : Content) → IsSound c → AreWritable (operations c) → length (operations c) < 2 ^ 64 → stream_operations (stream_text c) ≡ operations c
-stream_says c sound writable few =
-    let ops : List Op = operations c in
-    let well : AreWellFormed ops = λ op m. sound op (operations_hold c op m) in
-    ap (λ ls. operations_of (behind_head ls)) (stream_lines c writable few)
+pub exchange_says : (ops : List Op) → AreWellFormed ops → AreWritable ops → length ops < 2 ^ 64 → stream_operations (exchange_text ops) ≡ ops
+exchange_says ops well writable few =
+    ap (λ ls. operations_of (behind_head ls)) (exchange_lines-cut ops writable few)
     ∙ ap operations_of (behind_written_head (lines_and_end ops))
     ∙ operations_of-append (map line ops) (end_line (length ops) ∷ []) (are_operations-written ops writable well)
     ∙ (λ k. operations_of-written ops writable well k ++ then_operations (end_stands (length ops) few k) [])
     ∙ append-nil ops
+
+-- the operations of a sound content are well-formed
+pub sound_list : (c : Content) → IsSound c → AreWellFormed (operations c)
+sound_list c sound op m = sound op (operations_hold c op m)

@@ -2,13 +2,11 @@
 use Rattle.std.proofs.Common.{◌≡◌, ℕ, ◌+◌, ◌<◌, List, [], ◌∷◌, ◌++◌, map, length, drop, get_or, Option, sym, ap, ◌∙◌, subst, append_assoc, append-nil}
 use Rattle.std.proofs.lemmas.List.{drop_more}
 use Rattle.std.proofs.lemmas.List.Concat.{flat_map-append}
-use Rattle.rga_ops.specs.Content.{Content}
-use Rattle.rga_ops.specs.Operations.{operations}
 use Rattle.rga_ops.specs.declared.op.Op.{Op}
 use Rattle.rga_lines.specs.Spelling.{line, head_line, end_line}
 use Rattle.rga_lines.specs.Stream.{newline, bytes_of_lines}
 use Rattle.rga_lines.specs.Counting.{Calls, WritesFront, WritesAllBut}
-use Rattle.rga_exchange.specs.Sending.{log_text, exchange_lines, stream_text}
+use Rattle.rga_exchange.specs.Sending.{log_text, exchange_lines, exchange_text}
 use Rattle.rga_exchange.proofs.BegunLemmas.{begun_next, begun_longer, front_longer}
 
 -- the lines from an operation on are its line and the later ones
@@ -20,11 +18,10 @@ abbrev pub ended : List ℕ → List ℕ
 ended l = l ++ newline ∷ []
 
 -- the head, the lines of the operations, and then the end
-stream_text-is : (c : Content) (ops : List Op) → ops ≡ operations c → stream_text c ≡ (ended head_line ++ log_text ops) ++ ended (end_line (length ops))
-stream_text-is c ops are =
+exchange_text-is : (ops : List Op) → exchange_text ops ≡ (ended head_line ++ log_text ops) ++ ended (end_line (length ops))
+exchange_text-is ops =
     let end : List ℕ = end_line (length ops) in
-    ap (λ (os : List Op). bytes_of_lines (exchange_lines os)) (sym are)
-    ∙ ap (λ (l : List ℕ). ended head_line ++ l) (flat_map-append ended (map line ops) (end ∷ []) ∙ ap (λ (l : List ℕ). log_text ops ++ l) (append-nil (ended end)))
+    ap (λ (l : List ℕ). ended head_line ++ l) (flat_map-append ended (map line ops) (end ∷ []) ∙ ap (λ (l : List ℕ). log_text ops ++ l) (append-nil (ended end)))
     ∙ sym (append_assoc (ended head_line) (log_text ops) (ended end))
 
 module _ {W : Type 0} (contents : W → Option (List ℕ)) where
@@ -46,15 +43,15 @@ module _ {W : Type 0} (contents : W → Option (List ℕ)) where
   -- ---- an exchange
 
   -- Behind the head what was left of the operations was put before the end.
-  pub stream_begun : (a b : Calls W) (c : Content) (ops : List Op) (start left : List ℕ) (number : ℕ) (end last : List ℕ) → ops ≡ operations c → start ≡ ended head_line → number ≡ length ops → end ≡ end_line number → last ≡ left ++ ended end
-      → WritesAllBut contents a b (start ++ log_text ops) left → WritesAllBut contents a b (stream_text c) last
-  stream_begun a b c ops start left number end last are head count ends is h =
+  pub exchange_begun : (a b : Calls W) (ops : List Op) (start left : List ℕ) (number : ℕ) (end last : List ℕ) → start ≡ ended head_line → number ≡ length ops → end ≡ end_line number → last ≡ left ++ ended end
+      → WritesAllBut contents a b (start ++ log_text ops) left → WritesAllBut contents a b (exchange_text ops) last
+  exchange_begun a b ops start left number end last head count ends is h =
       let whole : WritesAllBut contents a b ((start ++ log_text ops) ++ ended end) (left ++ ended end) = begun_longer contents a b (start ++ log_text ops) left (ended end) h in
-      let text : (start ++ log_text ops) ++ ended end ≡ stream_text c = (λ k. (head k ++ log_text ops) ++ ended ((ends ∙ ap end_line count) k)) ∙ sym (stream_text-is c ops are) in
-      subst (WritesAllBut contents a b (stream_text c)) (sym is) (subst (λ (l : List ℕ). WritesAllBut contents a b l (left ++ ended end)) text whole)
+      let text : (start ++ log_text ops) ++ ended end ≡ exchange_text ops = (λ k. (head k ++ log_text ops) ++ ended ((ends ∙ ap end_line count) k)) ∙ sym (exchange_text-is ops) in
+      subst (WritesAllBut contents a b (exchange_text ops)) (sym is) (subst (λ (l : List ℕ). WritesAllBut contents a b l (left ++ ended end)) text whole)
 
   -- a beginning of the head and of the lines of the operations is one of all
-  pub stream_front : (a b : Calls W) (c : Content) (ops : List Op) (start : List ℕ) → ops ≡ operations c → start ≡ ended head_line → WritesFront contents a b (start ++ log_text ops) → WritesFront contents a b (stream_text c)
-  stream_front a b c ops start are head h =
-      subst (WritesFront contents a b) (sym (stream_text-is c ops are)) (front_longer contents a b (ended head_line ++ log_text ops) (ended (end_line (length ops)))
+  pub exchange_front : (a b : Calls W) (ops : List Op) (start : List ℕ) → start ≡ ended head_line → WritesFront contents a b (start ++ log_text ops) → WritesFront contents a b (exchange_text ops)
+  exchange_front a b ops start head h =
+      subst (WritesFront contents a b) (sym (exchange_text-is ops)) (front_longer contents a b (ended head_line ++ log_text ops) (ended (end_line (length ops)))
       (subst (λ (l : List ℕ). WritesFront contents a b (l ++ log_text ops)) head h))

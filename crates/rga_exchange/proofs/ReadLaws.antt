@@ -35,7 +35,7 @@ whole form limit n c d bytes w s none =
     are_taken form limit 0 n c d (lines_of bytes) (ap (lines_taken form limit 0 c) (all_lines form limit n c d bytes w s none) ∙ s.taken)
 
 -- what holds of all bytes that were read, whatever follows them, holds of what the reader is known to give
-on_all : (old now : Option (List ℕ)) (all : List ℕ) (P : List ℕ → Type 0) → Consumes old now all → ((more : List ℕ) → P (all ++ more)) → IfSome old P
+pub on_all : (old now : Option (List ℕ)) (all : List ℕ) (P : List ℕ → Type 0) → Consumes old now all → ((more : List ℕ) → P (all ++ more)) → IfSome old P
 on_all None now all P read holds = tt
 on_all (Some bytes) None all P read holds = absurd read
 on_all (Some bytes) (Some left) all P read holds = subst P (sym read) (holds left)

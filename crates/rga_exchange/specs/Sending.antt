@@ -19,9 +19,13 @@ log_text ops = bytes_of_lines (map line ops)
 abbrev pub exchange_lines : List Op → List (List ℕ)
 exchange_lines ops = head_line ∷ (map line ops ++ end_line (length ops) ∷ [])
 
--- what is sent of a content: the head, its operations and the end, each line with its newline
+-- the head, the operations and the end, each line with its newline
+abbrev pub exchange_text : List Op → List ℕ
+exchange_text ops = bytes_of_lines (exchange_lines ops)
+
+-- what is sent of a content: all its operations
 abbrev pub stream_text : Content → List ℕ
-stream_text c = bytes_of_lines (exchange_lines (operations c))
+stream_text c = exchange_text (operations c)
 
 -- each operation of the list can be written
 abbrev pub AreWritable : List Op → Type 0

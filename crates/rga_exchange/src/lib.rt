@@ -3,7 +3,7 @@
 //!
 //! A log is a stream of lines with an operation each, or a run of them; an exchange has one line
 //! more in front, its head, which may be absent, and one that ends it and names the number of
-//! operations. `append_log` and `send` write them; `read_log` and `receive` take them into whatever
+//! operations. `append_log` and `send` write them, `send_list` an exchange of some; `read_log` and `receive` take them into whatever
 //! takes operations, and `take_log` is the reader of logs within, which also tells how many lines
 //! there were. The crate stands on rga_lines for the lines and the devices, on the
 //! traits of rga_store for what takes operations (`Taker`) and what has them (`TextStore`), and on
@@ -30,5 +30,5 @@ pub use fault::{LogFault, ReceiveFault, SendFault};
 pub use log::{LogEnd, LogRead, read_log, take_log};
 pub use receiving::receive;
 pub use runs::append_runs;
-pub use sending::{append_log, send};
+pub use sending::{append_log, send, send_list};
 pub use taking::Form;

@@ -5,7 +5,7 @@ ghost use Rattle.rga_ops.specs.ListAnswer.{AreWellFormed, IsJoinable};
 ghost use Rattle.rga_lines.specs.Counting.{CountsAs, Writes, WritesFront, WritesAllBut};
 ghost use Rattle.rga_lines.specs.Spelling.{line as line_of, head_line, IsWritable};
 ghost use Rattle.rga_lines.specs.Stream.{newline, rest_of};
-ghost use Rattle.rga_exchange.specs.Sending.{log_text, stream_text, AreWritable, StandsFor};
+ghost use Rattle.rga_exchange.specs.Sending.{log_text, exchange_text, stream_text, AreWritable, StandsFor};
 ghost use Rattle.rga_exchange.specs.Sending.{AppendsFirst, WritesFirst};
 ghost use Rattle.rga_exchange.specs.Receiving.{exchange_outcome};
 
@@ -45,12 +45,36 @@ pub fn send<S: TextStore, W: Write>(
     let Ok(ops) = store.ops() else {
         return Err(SendFault::Memory);
     };
-    let number = ops.len() as u64;
+    send_list(alloc, &ops, writer)
+}
+
+/// Writes what `send` writes of a store of exactly these operations, in their order: the head of an
+/// exchange, the line of each operation, and the line that ends an exchange of so many. Answers how
+/// many there are. What is held beside them, and the calls of the device, are those of `send`.
+pub fn send_list<W: Write>(
+    alloc: Global,
+    list: &[Op],
+    writer: &mut Counted<W>,
+) -> Result<u64, SendFault>
+    ensures number { IfOk result (λ number. number ≡ length list.now) }
+    ensures written { OnOk result (Writes W.contents writer.old writer.new
+        (exchange_text list.now)) }
+    // Whatever holds a content to which they can be joined, and has room for both, receives them
+    // whole.
+    ensures received { IfOk result (λ number. let sent = content_of list.now in
+        (limit : ℕ) (c : Content) → AreWellFormed list.now → IsJoinable c list.now
+        → known_count (join c sent) ≤ limit
+        → exchange_outcome limit c (exchange_text list.now) ≡ (join c sent, Ok number)) }
+    ensures begun { WritesFront W.contents writer.old writer.new (exchange_text list.now) }
+    ensures flushed { OnOk result (writer.new.flushed ≡ true) }
+    ensures device { CountsAs SendFault.Write result writer.old writer.new }
+{
+    let number = list.len() as u64;
     let Ok(end) = write_end(alloc, number) else {
         return Err(SendFault::Memory);
     };
     let mut block = begin_exchange(alloc)?;
-    push_lines(alloc, &ops, &mut block, writer)?;
+    push_lines(alloc, list, &mut block, writer)?;
     block.push(&end)?;
     finish(block, writer)?;
     Ok(number)

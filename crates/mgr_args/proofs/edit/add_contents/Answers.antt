@@ -5,4 +5,5 @@ use Rattle.mgr_args.proofs.edit.add_contents.Goals as goal
 pub returns : goal.returns
 returns c =
     let two = both _ _ _ _ _ c.in_ok-add_flag.ensures c.in_ok-add_flag-2.ensures in
-    on_ok_weaker c.add_flag-3.result (λ is. both _ _ _ _ _ two is) c.add_flag-3.ensures
+    let three = both _ _ _ _ _ two c.in_ok-add_flag-3.ensures in
+    on_ok_weaker c.add_flag-4.result (λ is. both _ _ _ _ _ three is) c.add_flag-4.ensures

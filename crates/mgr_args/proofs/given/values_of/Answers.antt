@@ -25,5 +25,6 @@ returns-clause-options c =
       cursor = flag_read (found_of c.args.found.now) (codes "cursor") _ c.get_flag-3.ensures.none c.get_flag-3.ensures.value c.get_flag-3.ensures.other;
       resizable = flag_read (found_of c.args.found.now) (codes "resizable") _ c.get_flag-4.ensures.none c.get_flag-4.ensures.value c.get_flag-4.ensures.other;
       runs = flag_read (found_of c.args.found.now) (codes "runs") _ c.get_flag-5.ensures.none c.get_flag-5.ensures.value c.get_flag-5.ensures.other;
+      brief = flag_read (found_of c.args.found.now) (codes "brief") _ c.get_flag-6.ensures.none c.get_flag-6.ensures.value c.get_flag-6.ensures.other;
       limit = refl;
     }

@@ -15,7 +15,7 @@ returns g c =
     let xs = c.self.inside.all.items in
     let i = c.self.inside.current in
     let b = c.behind-self.inside in
-    let x : OpenState = record { buffer = b.buffer; whole = b.whole; text_waits = b.text_waits; runs = b.runs } in
+    let x : OpenState = record { buffer = b.buffer; whole = b.whole; text_waits = b.text_waits; runs = b.runs; brief = b.brief } in
     let value = read_at xs i x c.index_mut.result.now c.behind-self.view_is c.index_mut.ensures.value in
     at_current (λ b d. spec.IdlesTo b c.args.memo.now d c.idle.new.memo) c.args.self.now xs i x c.idle.new.self c.self.view_is c.self.invariant value
     (record { buffer = c.idle.ensures.buffer; notes = c.idle.ensures.memo })

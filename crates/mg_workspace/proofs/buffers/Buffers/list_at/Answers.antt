@@ -22,7 +22,7 @@ returns-clause-listed g c =
     let xs = c.self.inside.all.items in
     let i = c.args.index in
     let b = c.behind-self.inside in
-    let x : OpenState = record { buffer = b.buffer; whole = b.whole; text_waits = b.text_waits; runs = b.runs } in
+    let x : OpenState = record { buffer = b.buffer; whole = b.whole; text_waits = b.text_waits; runs = b.runs; brief = b.brief } in
     let value = read_at xs i x c.index_mut.result.now c.behind-self.view_is c.index_mut.ensures.value in
     let inside : i < length xs = subst (λ (bs : spec.Buffers). i < length bs.all) (sym c.self.view_is) c.requires in
     let at : slice_get xs i ≡ Some x = slice_get-get_or xs i x inside ∙ ap Some (sym value) in
@@ -35,7 +35,7 @@ returns-clause-same g c =
     let xs = c.self.inside.all.items in
     let i = c.args.index in
     let b = c.behind-self.inside in
-    let x : OpenState = record { buffer = b.buffer; whole = b.whole; text_waits = b.text_waits; runs = b.runs } in
+    let x : OpenState = record { buffer = b.buffer; whole = b.whole; text_waits = b.text_waits; runs = b.runs; brief = b.brief } in
     let value = read_at xs i x c.index_mut.result.now c.behind-self.view_is c.index_mut.ensures.value in
     on_err_map c.list.result _ _ (λ same. ap (λ (s : State). record { all = slice_set xs i (record x { buffer = s }); current = c.self.inside.current }) same
     ∙ ap (λ ys. record { all = ys; current = c.self.inside.current }) (set_same xs i x value) ∙ c.self.view_is) c.list.ensures.same

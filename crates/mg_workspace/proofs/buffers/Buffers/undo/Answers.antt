@@ -16,7 +16,7 @@ returns g c =
     let xs = c.self.inside.all.items in
     let i = c.self.inside.current in
     let b = c.behind-self.inside in
-    let x : OpenState = record { buffer = b.buffer; whole = b.whole; text_waits = b.text_waits; runs = b.runs } in
+    let x : OpenState = record { buffer = b.buffer; whole = b.whole; text_waits = b.text_waits; runs = b.runs; brief = b.brief } in
     let value = read_at xs i x c.index_mut.result.now c.behind-self.view_is c.index_mut.ensures.value in
     let r = c.undo.result in
     let came = match_result r _ _ c.undo.ensures.undid (both_on_err r _ _ c.undo.ensures.same c.undo.ensures.memo) in

@@ -25,7 +25,7 @@ invariant_of-self-2 g c =
 pub returns-then-lacks_memory-clause-arranged : goal.returns-then-lacks_memory-clause-arranged
 returns-then-lacks_memory-clause-arranged g c =
     let s = c.self.inside in
-    let was : Workspace = record { buffers = s.buffers; notes = s.memo; windows = s.windows; fill = s.fill; columns = s.columns; replica = s.replica; limit = s.limit; runs = s.runs } in
+    let was : Workspace = record { buffers = s.buffers; notes = s.memo; windows = s.windows; fill = s.fill; columns = s.columns; replica = s.replica; limit = s.limit; runs = s.runs; brief = s.brief } in
     let a = c.args.arrangement in
     let now : Workspace = record was { windows = c.change_windows-answer.new.windows } in
     let answer = c.change_windows-answer.result in
@@ -37,7 +37,7 @@ returns-then-lacks_memory-clause-arranged g c =
 pub returns-clause-arranged : goal.returns-clause-arranged
 returns-clause-arranged g c =
     let s = c.self.inside in
-    let was : Workspace = record { buffers = s.buffers; notes = s.memo; windows = s.windows; fill = s.fill; columns = s.columns; replica = s.replica; limit = s.limit; runs = s.runs } in
+    let was : Workspace = record { buffers = s.buffers; notes = s.memo; windows = s.windows; fill = s.fill; columns = s.columns; replica = s.replica; limit = s.limit; runs = s.runs; brief = s.brief } in
     let a = c.args.arrangement in
     let b : OpenState = c.current-opened.result.now in
     let answer = c.change_windows-answer.result in

@@ -23,7 +23,7 @@ invariant_of-self g c =
 pub returns-clause-listed : goal.returns-clause-listed
 returns-clause-listed g c =
     let s = c.self.inside in
-    let was : Workspace = record { buffers = s.buffers; notes = s.memo; windows = s.windows; fill = s.fill; columns = s.columns; replica = s.replica; limit = s.limit; runs = s.runs } in
+    let was : Workspace = record { buffers = s.buffers; notes = s.memo; windows = s.windows; fill = s.fill; columns = s.columns; replica = s.replica; limit = s.limit; runs = s.runs; brief = s.brief } in
     let now : Workspace = record was { buffers = c.list_at.new.self } in
     let index = c.current_index-index in
     on_ok_map c.list_at.result _ _ (λ is. subst (λ w. IsListed w now) c.self.view_is
@@ -32,7 +32,7 @@ returns-clause-listed g c =
 pub returns-clause-same : goal.returns-clause-same
 returns-clause-same g c =
     let s = c.self.inside in
-    let was : Workspace = record { buffers = s.buffers; notes = s.memo; windows = s.windows; fill = s.fill; columns = s.columns; replica = s.replica; limit = s.limit; runs = s.runs } in
+    let was : Workspace = record { buffers = s.buffers; notes = s.memo; windows = s.windows; fill = s.fill; columns = s.columns; replica = s.replica; limit = s.limit; runs = s.runs; brief = s.brief } in
     on_err_map c.list_at.result _ _ (λ same. ap (λ bs. record was { buffers = bs }) same ∙ c.self.view_is) c.list_at.ensures.same
 
 pub returns-clause-memory : goal.returns-clause-memory

@@ -8,7 +8,7 @@ use Rattle.mg_workspace.proofs.workspace.Workspace.open.Goals as goal
 pub invariant_of-self-2 : goal.invariant_of-self-2
 invariant_of-self-2 g c =
     let s = c.self.inside in
-    let b = c.append_runs.new.self in
+    let b = c.exchange_briefly.new.self in
     let now = c.turn.new.windows in
     let room : length s.buffers.all < MAX_BUFFERS = search rules in
     let opened : c.open.new.self ≡ with_buffer b s.buffers = c.in_ok-open.ensures.opened in

@@ -1,0 +1,4 @@
+pub mod LineLaws
+pub mod TellingLaws
+pub mod HearingLaws
+pub mod SentLaws

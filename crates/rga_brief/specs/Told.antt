@@ -1,0 +1,71 @@
+-- How a summary is told, and what it is told for.
+use Rattle.std.specs.Prelude.{◌≡◌, ℕ, ◌+◌, ◌==◌, nat_lt, List, [], ◌∷◌, ◌++◌, map, length, Option, Some, None, Result, Ok, Err, if◌then◌else◌}
+use Rattle.rga_ops.specs.Content.{Content}
+use Rattle.rga_lines.specs.Counting.{Calls, Writes}
+use Rattle.rga_lines.specs.Spelling.{end_line}
+use Rattle.rga_lines.specs.Stream.{bytes_of_lines, lines_of, rest_of}
+use Rattle.rga_lines.specs.declared.reading.TheConstants.{MAX_LINE}
+use Rattle.rga_lines.specs.declared.fault.LineFault.{LineFault}
+use Rattle.rga_lines.specs.declared.fault.LineFault.TheVariants as line_fault
+use Rattle.rga_exchange.specs.declared.fault.ReceiveFault.{ReceiveFault}
+use Rattle.rga_exchange.specs.declared.fault.ReceiveFault.TheVariants as fault
+use Rattle.rga_digest.specs.Summary.{Summary, IsSummary}
+use Rattle.rga_digest_lines.specs.Claims.{claim_line}
+use Rattle.rga_digest_lines.specs.Summaries.{claims_of, summary_from}
+use Rattle.rga_digest_lines.specs.declared.claim.Claim.{Claim}
+use Rattle.rga_brief.specs.Lines.{claim_line_at}
+use Rattle.rga_brief.specs.declared.claim_line.ClaimLine.{ClaimLine}
+use Rattle.rga_brief.specs.declared.claim_line.ClaimLine.TheVariants.{One, Last}
+
+-- ---- what is told
+
+-- the line of each claim, and the line that counts them
+abbrev pub claim_lines : List Claim → List (List ℕ)
+claim_lines claims = map claim_line claims ++ end_line (length claims) ∷ []
+
+-- what is told of a summary, each line with its newline
+abbrev pub summary_text : Summary → List ℕ
+summary_text s = bytes_of_lines (claim_lines (claims_of s))
+
+-- ---- what is heard
+
+-- claims that make no summary, as ranges that do not rise, are the fault of the line that ends them
+abbrev pub summary_or : ℕ → Option Summary → Result Summary ReceiveFault
+summary_or n (Some s) = Ok s
+summary_or n None = Err (fault.Line n line_fault.Order)
+
+-- the summary of claims that end with this number
+abbrev pub ended : List Claim → ℕ → Result Summary ReceiveFault
+ended claims number = if number == length claims then summary_or (length claims + 1) (summary_from claims) else Err fault.Count
+
+-- behind these claims, what comes of a line, and then of the lines behind it
+abbrev pub after_line : List Claim → Result ClaimLine LineFault → (List Claim → Result Summary ReceiveFault) → Result Summary ReceiveFault
+after_line claims (Ok (One claim)) behind = behind (claims ++ claim ∷ [])
+after_line claims (Ok (Last number)) behind = ended claims number
+after_line claims (Err e) behind = Err (fault.Line (length claims + 1) e)
+
+-- where all lines are claims; a rest that is too long is the fault of a line
+abbrev pub unended : List Claim → List ℕ → Result Summary ReceiveFault
+unended claims rest = if nat_lt MAX_LINE (length rest) then Err (fault.Line (length claims + 1) line_fault.Long) else Err fault.Cut
+
+-- behind these claims, what comes of lines in turn and a rest
+abbrev pub lines_heard : List Claim → List (List ℕ) → List ℕ → Result Summary ReceiveFault
+lines_heard claims [] rest = unended claims rest
+lines_heard claims (line ∷ lines) rest = after_line claims (claim_line_at line) (λ more. lines_heard more lines rest)
+
+-- and of bytes
+abbrev pub bytes_heard : List Claim → List ℕ → Result Summary ReceiveFault
+bytes_heard claims bytes = lines_heard claims (lines_of bytes) (rest_of bytes)
+
+-- what a peer's bytes say that it knows, or their first fault; what stands behind the end line is dropped
+abbrev pub summary_heard : List ℕ → Result Summary ReceiveFault
+summary_heard bytes = bytes_heard [] bytes
+
+-- ---- what is told of a content
+
+-- Known bytes grew by the claims of the content's summary, which is heard of them.
+pub record TellsSummary {W : Type 0} (contents : W → Option (List ℕ)) (old new : Calls W) (c : Content) : Type 0 where
+  pub own : Summary
+  pub is : IsSummary c own
+  pub written : Writes contents old new (summary_text own)
+  pub heard : summary_heard (summary_text own) ≡ Ok own

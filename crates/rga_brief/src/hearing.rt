@@ -1,0 +1,139 @@
+//! What a peer knows, heard of it.
+ghost use Rattle.std.specs.Prelude.{◌≡◌, ◌≢◌, ◌+◌, ◌≤◌, ◌++◌, ◌∷◌, ℕ, List, [], length, false, Ok, Err, Some, None, OnOk, IfErr};
+ghost use Rattle.rga_lines.specs.Counting.{CountsAs, OnBytes};
+ghost use Rattle.rga_lines.specs.Stream.{lines_of};
+ghost use Rattle.rga_lines.specs.declared.fault.LineFault.{LineFault as FaultOfLine};
+ghost use Rattle.rga_lines.specs.declared.reading.TheConstants.{MAX_LINE};
+ghost use Rattle.rga_exchange.specs.declared.fault.ReceiveFault.TheVariants.{Memory, Read as ReadFailed, Line as FaultyLine};
+ghost use Rattle.rga_digest_lines.specs.declared.claim.Claim.{Claim as ClaimName};
+ghost use Rattle.rga_brief.specs.Heard.{ReadsToBlock};
+ghost use Rattle.rga_brief.specs.Lines.{claim_line_at};
+ghost use Rattle.rga_brief.specs.Told.{bytes_heard, ended, summary_heard};
+ghost use Rattle.rga_brief.specs.declared.claim_line.ClaimLine.TheVariants.{One, Last};
+
+use crate::claim_line::{ClaimLine, read_claim_line};
+use rga_digest::Summary;
+use rga_digest_lines::{Claim, summary_from};
+use rga_exchange::ReceiveFault;
+use rga_lines::{Counted, LineFault, Splitter};
+use std::alloc::Global;
+use std::io::Read;
+
+/// The most bytes that a read asks for.
+const BLOCK: usize = 65536;
+
+/// Hears what a peer claims to know: lines of claims, up to the line that counts them. No read
+/// follows the one that brought that line, and what stands behind it in that read is dropped.
+///
+/// Faults, of which the first in the order of the lines is answered, a rest of more than 65536
+/// bytes counting as one: `Line`, where a line is neither a claim nor the end; `Count`, where the
+/// end names another number; `Line` with `Order` of the end line, where the ranges do not rise. Then
+/// `Cut`, where there is no end. `Read` and `Memory` come where the device fails and where a growth
+/// is refused.
+pub fn hear_summary<R: Read>(
+    alloc: Global,
+    reader: &mut Counted<R>,
+) -> Result<Summary, ReceiveFault>
+    // However the reads cut the bytes, they lead to what all of them lead to.
+    ensures outcome { result ≢ Err ReceiveFault.Read → result ≢ Err ReceiveFault.Memory
+        → OnBytes R.remaining reader.old (λ bytes. summary_heard bytes ≡ result) }
+    ensures last { OnOk result (ReadsToBlock R.remaining reader.old reader.new) }
+    ensures device { CountsAs ReceiveFault.Read result reader.old reader.new }
+{
+    let mut splitter = Splitter::new(alloc);
+    let mut claims = Vec::new(alloc);
+    let mut block = [0u8; BLOCK];
+    'reads: loop {
+        if let Some(number) = take_claims(alloc, &mut splitter, &mut claims)? {
+            return end_claims(alloc, &claims, number);
+        }
+        let Ok(count) = reader.read(&mut block) else {
+            return Err(ReceiveFault::Read);
+        };
+        if count == 0 {
+            return Err(ReceiveFault::Cut);
+        }
+        let Ok(()) = splitter.feed(&block[..count]) else {
+            return Err(ReceiveFault::Memory);
+        };
+    }
+}
+
+/// Takes the claims of the whole lines that the splitter has, up to the end line: then the number
+/// that it names is the answer.
+fn take_claims(
+    alloc: Global,
+    splitter: &mut Splitter,
+    claims: &mut Vec<Claim>,
+) -> Result<Option<u64>, ReceiveFault>
+    requires { splitter.old.broken ≡ false }
+    ensures all { result ≡ Ok None → (more : List ℕ) →
+        bytes_heard claims.old.items (splitter.old.waiting ++ more)
+        ≡ bytes_heard claims.new.items (splitter.new.waiting ++ more) }
+    ensures end { (number : ℕ) → result ≡ Ok (Some number) → (more : List ℕ) →
+        bytes_heard claims.old.items (splitter.old.waiting ++ more)
+        ≡ ended claims.new.items number }
+    ensures fault { IfErr result (λ e. e ≢ Memory → (more : List ℕ) →
+        bytes_heard claims.old.items (splitter.old.waiting ++ more) ≡ Err e) }
+    ensures device { IfErr result (λ e. e ≢ ReadFailed) }
+
+    ensures none_left { result ≡ Ok None → (lines_of splitter.new.waiting ≡ [])
+        × (length splitter.new.waiting ≤ MAX_LINE) }
+    ensures whole { result ≡ Ok None → splitter.new.broken ≡ false }
+{
+    'lines: loop {
+        let end = match splitter.find_line() {
+            Ok(Some(end)) => end,
+            Ok(None) => return Ok(None),
+            Err(fault) => return Err(ReceiveFault::Line(claims.len() as u64 + 1, fault)),
+        };
+        if let Some(number) = take_claim(alloc, splitter.line(end), claims)? {
+            return Ok(Some(number));
+        }
+        splitter.pass_line(end);
+    }
+}
+
+/// Takes the claim of a whole line behind others, or answers the number that the end line names.
+fn take_claim(
+    alloc: Global,
+    line: &[u8],
+    claims: &mut Vec<Claim>,
+) -> Result<Option<u64>, ReceiveFault>
+    ensures claim { result ≡ Ok None → (claim : ClaimName) × (claim_line_at line.now ≡ Ok (One claim))
+        × (claims.new.items ≡ claims.old.items ++ claim ∷ []) }
+    ensures end { (number : ℕ) → result ≡ Ok (Some number) →
+        claim_line_at line.now ≡ Ok (Last number) }
+    ensures same { result ≢ Ok None → claims.new.items ≡ claims.old.items }
+    ensures fault { IfErr result (λ e. e ≢ Memory → (fault : FaultOfLine) ×
+        (claim_line_at line.now ≡ Err fault)
+        × (e ≡ FaultyLine (length claims.old.items + 1) fault)) }
+    ensures device { IfErr result (λ e. e ≢ ReadFailed) }
+{
+    match read_claim_line(alloc, line) {
+        Ok(ClaimLine::One(claim)) => {
+            let Ok(()) = claims.push(claim) else {
+                return Err(ReceiveFault::Memory);
+            };
+            Ok(None)
+        }
+        Ok(ClaimLine::Last(number)) => Ok(Some(number)),
+        Err(LineFault::Memory) => Err(ReceiveFault::Memory),
+        Err(fault) => Err(ReceiveFault::Line(claims.len() as u64 + 1, fault)),
+    }
+}
+
+/// The summary of these claims, of which the end line names so many.
+fn end_claims(alloc: Global, claims: &[Claim], number: u64) -> Result<Summary, ReceiveFault>
+    ensures exact { result ≢ Err Memory → result ≡ ended claims.now number }
+    ensures device { IfErr result (λ e. e ≢ ReadFailed) }
+{
+    if number != claims.len() as u64 {
+        return Err(ReceiveFault::Count);
+    }
+    match summary_from(alloc, claims) {
+        Ok(Some(summary)) => Ok(summary),
+        Ok(None) => Err(ReceiveFault::Line(claims.len() as u64 + 1, LineFault::Order)),
+        Err(_) => Err(ReceiveFault::Memory),
+    }
+}

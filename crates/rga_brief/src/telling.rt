@@ -1,0 +1,139 @@
+//! What a replica knows, told, and what its peer lacks, sent.
+ghost use Rattle.std.specs.Prelude.{◌≡◌, ℕ, ◌≤◌, ◌<◌, ◌^◌, ◌++◌, ◌∷◌, [], map, length, true, Ok, IfOk, IfErr, OnOk, string_bytes};
+ghost use Rattle.std.specs.List.{AllByRecursion};
+ghost use Rattle.rga_ops.specs.Prelude.{Content, Agree, IsSound, join, known_count, content_of};
+ghost use Rattle.rga_lines.specs.Counting.{CountsAs, Writes, WritesFront};
+ghost use Rattle.rga_lines.specs.Stream.{bytes_of_lines, newline};
+ghost use Rattle.rga_exchange.specs.Sending.{exchange_text};
+ghost use Rattle.rga_exchange.specs.Receiving.{exchange_outcome};
+ghost use Rattle.rga_digest.specs.Summary.{Summary as SummaryValue, IsSummary, missing};
+ghost use Rattle.rga_digest_lines.specs.Claims.{IsInRange, claim_line};
+ghost use Rattle.rga_digest_lines.specs.Summaries.{claims_of};
+ghost use Rattle.rga_brief.specs.Told.{TellsSummary, summary_text};
+
+use rga_digest::{Summary, missing, summary_of};
+use rga_digest_lines::{Claim, claims_of, write_claim};
+use rga_exchange::{SendFault, send_list};
+use rga_lines::{Counted, write_end};
+use rga_ops::Refusal;
+use rga_store::TextStore;
+use std::alloc::Global;
+use std::io::Write;
+
+/// Writes what a store holds in short: the claims of its summary, a line each, and the line that
+/// ends an exchange, which counts them; each with its newline.
+///
+/// The lines are made in memory and given to the device at once. No failed call is made again, and
+/// the device is flushed at the end. `Write` comes exactly where a call failed, and `Memory` before
+/// anything was written.
+pub fn send_summary<S: TextStore, W: Write>(
+    alloc: Global,
+    store: &S,
+    writer: &mut Counted<W>,
+) -> Result<(), SendFault>
+    ensures told { OnOk result (TellsSummary W.contents writer.old writer.new
+        (S.content store.now)) }
+    ensures begun { (own : SummaryValue) → IsSummary (S.content store.now) own
+        → WritesFront W.contents writer.old writer.new (summary_text own) }
+    ensures flushed { OnOk result (writer.new.flushed ≡ true) }
+    ensures device { CountsAs SendFault.Write result writer.old writer.new }
+{
+    let Ok(own) = summary_of(alloc, store) else {
+        return Err(SendFault::Memory);
+    };
+    let Ok(text) = text_of(alloc, &own) else {
+        return Err(SendFault::Memory);
+    };
+    write_text(&text, writer)
+}
+
+/// Writes a text, and flushes the device.
+fn write_text<W: Write>(text: &[u8], writer: &mut Counted<W>) -> Result<(), SendFault>
+    ensures written { OnOk result (Writes W.contents writer.old writer.new text.now) }
+    ensures begun { WritesFront W.contents writer.old writer.new text.now }
+    ensures flushed { OnOk result (writer.new.flushed ≡ true) }
+    ensures device { CountsAs SendFault.Write result writer.old writer.new }
+{
+    let Ok(()) = writer.write_all(text) else {
+        return Err(SendFault::Write);
+    };
+    let Ok(()) = writer.flush() else {
+        return Err(SendFault::Write);
+    };
+    Ok(())
+}
+
+/// What is told of a summary. `Memory` alone.
+fn text_of(alloc: Global, summary: &Summary) -> Result<Vec<u8>, Refusal>
+    ensures ok { IfOk result (λ text. text.items ≡ summary_text summary.now) }
+    ensures range { OnOk result (AllByRecursion IsInRange (claims_of summary.now)) }
+    ensures few { OnOk result (length (claims_of summary.now) < 2 ^ 64) }
+    ensures memory { IfErr result (λ e. e ≡ Refusal.Memory) }
+{
+    let claims = claims_of(alloc, summary)?;
+    let mut text = Vec::new(alloc);
+    push_claims(alloc, &claims, &mut text)?;
+    let Ok(end) = write_end(alloc, claims.len() as u64) else {
+        return Err(Refusal::Memory);
+    };
+    push_line(&end, &mut text)?;
+    Ok(text)
+}
+
+/// Adds the line of each claim.
+fn push_claims(alloc: Global, claims: &[Claim], text: &mut Vec<u8>) -> Result<(), Refusal>
+    ensures ok { OnOk result
+        (text.new.items ≡ text.old.items ++ bytes_of_lines (map claim_line claims.now)) }
+    ensures range { OnOk result (AllByRecursion IsInRange claims.now) }
+    ensures memory { IfErr result (λ e. e ≡ Refusal.Memory) }
+{
+    for claim in claims {
+        let line = write_claim(alloc, *claim)?;
+        push_line(&line, text)?;
+    }
+    Ok(())
+}
+
+/// Adds a line with its newline.
+fn push_line(line: &str, text: &mut Vec<u8>) -> Result<(), Refusal>
+    ensures ok { OnOk result (text.new.items ≡ text.old.items ++ (line.now ++ newline ∷ [])) }
+    ensures memory { IfErr result (λ e. e ≡ Refusal.Memory) }
+{
+    text.extend_from_slice(line.as_bytes())?;
+    text.push(b'\n')?;
+    Ok(())
+}
+
+/// Writes an exchange of the operations of a store that a peer lacks, by the summary that it told:
+/// what `send` writes, of these alone. Answers how many there are.
+///
+/// Whatever the peer claims, nothing else is sent. `Memory` comes before anything was written where
+/// it is the list that finds no room; else the faults are those of `send`.
+pub fn send_missing<S: TextStore, W: Write>(
+    alloc: Global,
+    store: &S,
+    peer: &Summary,
+    writer: &mut Counted<W>,
+) -> Result<u64, SendFault>
+    ensures number { IfOk result
+        (λ number. number ≡ length (missing (S.content store.now) peer.now)) }
+    ensures written { OnOk result (Writes W.contents writer.old writer.new
+        (exchange_text (missing (S.content store.now) peer.now))) }
+    // Whatever holds a content that agrees with the store's, and has room for what is sent, receives
+    // it whole.
+    ensures received { IfOk result (λ number. let held = S.content store.now in
+        let sent = content_of (missing held peer.now) in
+        (limit : ℕ) (c : Content) → IsSound held → Agree c held
+        → known_count (join c sent) ≤ limit
+        → exchange_outcome limit c (exchange_text (missing held peer.now))
+        ≡ (join c sent, Ok number)) }
+    ensures begun { WritesFront W.contents writer.old writer.new
+        (exchange_text (missing (S.content store.now) peer.now)) }
+    ensures flushed { OnOk result (writer.new.flushed ≡ true) }
+    ensures device { CountsAs SendFault.Write result writer.old writer.new }
+{
+    let Ok(ops) = missing(alloc, store, peer) else {
+        return Err(SendFault::Memory);
+    };
+    send_list(alloc, &ops, writer)
+}
