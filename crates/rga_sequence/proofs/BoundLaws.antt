@@ -2,13 +2,12 @@
 use Rattle.std.proofs.Common.{nat_lt, ◌≡◌, ℕ, suc, zero, Bool, true, false, ◌+◌, ◌*◌, ◌≤◌, ◌<◌, List, [], ◌∷◌, ◌++◌, length, take, drop, slice_index_or, refl, sym, ap, ◌∙◌, subst, arith, append_assoc}
 use Rattle.std.specs.Prelude.{insert, remove, slice_set}
 use Rattle.std.specs.Ordering.{is_gt}
-use Rattle.std.proofs.lemmas.List.{length-set, length-append, get_or-set_same}
-use Rattle.std.proofs.lemmas.List.Edits.{get_or-insert_below, get_or-remove_below}
+use Rattle.std.proofs.lemmas.List.{length-set, get_or-set_same, get_or-take}
 use Rattle.rga_ops.specs.Identifier.{Identifier, id_cmp}
 use Rattle.rga_sequence.specs.declared.entry.Entry.{Entry}
-use Rattle.rga_sequence.specs.declared.bounds.TheConstants.{GROUP}
+use Rattle.rga_sequence.specs.declared.groups.TheConstants.{GROUP}
 use Rattle.rga_sequence.specs.Entries.{put_past_larger}
-use Rattle.rga_sequence.specs.Blocks.{Blocks, flat, before, behind, larger_at_front, mark_at_index, AreFrom, Passes, cut_in, AreBlocksFrom, AreLarger, AreBounds, IsLow}
+use Rattle.rga_sequence.specs.Blocks.{Blocks, flat, before, behind, larger_at_front, mark_at_index, AreFrom, Passes, AreBlocksFrom, AreLarger, AreBounds, IsLow}
 use Rattle.rga_sequence.proofs.ListLaws.{take_all, drop_all, passed}
 use Rattle.rga_sequence.proofs.PlaceLaws.{lt_so, le_so}
 use Rattle.rga_sequence.proofs.BlockLaws.{all_larger, itself, lesser_from, from_put, from_remove, from_marked}
@@ -33,9 +32,6 @@ bounds_put bounds bs b i e all low =
     bounds_set bounds bs b (insert (slice_index_or bs b []) i e) all
     (λ k d w lo hi from. from_put (slice_index_or bounds k d) e (slice_index_or bs b []) i from (low k d w lo hi))
 
-pub bounds_same : (bounds : List Identifier) (bs : Blocks) (b : ℕ) → AreBounds bounds bs → AreBounds bounds (slice_set bs b (slice_index_or bs b []))
-bounds_same bounds bs b all = bounds_set bounds bs b (slice_index_or bs b []) all (λ k d w lo hi from. from)
-
 pub bounds_without : (bounds : List Identifier) (bs : Blocks) (b i : ℕ) → AreBounds bounds bs → AreBounds bounds (slice_set bs b (remove (slice_index_or bs b []) i))
 bounds_without bounds bs b i all =
     bounds_set bounds bs b (remove (slice_index_or bs b []) i) all
@@ -48,27 +44,11 @@ bounds_marked mark bounds bs b i all =
 
 -- ---- blocks come and go behind the groups
 
-bounds_below : (bounds : List Identifier) (bs cs : Blocks) (b : ℕ) → AreBounds bounds bs → length bounds * GROUP ≤ b → ((i : ℕ) → i < b → slice_index_or cs i [] ≡ slice_index_or bs i []) → AreBounds bounds cs
+pub bounds_below : (bounds : List Identifier) (bs cs : Blocks) (b : ℕ) → AreBounds bounds bs → length bounds * GROUP ≤ b → take b cs ≡ take b bs → AreBounds bounds cs
 bounds_below bounds bs cs b all early same k d w i lo hi =
     let within : i < b = omega (arith, early, w, hi) in
-    subst (AreFrom (slice_index_or bounds k d)) (sym (same i within)) (all k d w i lo hi)
-
-pub bounds_insert : (bounds : List Identifier) (bs : Blocks) (b : ℕ) (y : List Entry) → AreBounds bounds bs → length bounds * GROUP ≤ b → b ≤ length bs → AreBounds bounds (insert bs b y)
-bounds_insert bounds bs b y all early w =
-    bounds_below bounds bs (insert bs b y) b all early (λ i h. get_or-insert_below bs b y [] i h w)
-
-pub bounds_remove : (bounds : List Identifier) (bs : Blocks) (b : ℕ) → AreBounds bounds bs → length bounds * GROUP ≤ b → b < length bs → AreBounds bounds (remove bs b)
-bounds_remove bounds bs b all early w =
-    bounds_below bounds bs (remove bs b) b all early (λ i h. get_or-remove_below bs b [] i h w)
-
-same_cut : (bs : Blocks) (b cut i : ℕ) → i < b → slice_index_or (cut_in bs b cut) i [] ≡ slice_index_or bs i []
-same_cut [] b cut i h = refl
-same_cut (x ∷ bs) zero cut i h = absurd (omega arith)
-same_cut (x ∷ bs) (suc b) cut zero h = refl
-same_cut (x ∷ bs) (suc b) cut (suc i) h = same_cut bs b cut i (omega arith)
-
-pub bounds_cut : (bounds : List Identifier) (bs : Blocks) (b cut : ℕ) → AreBounds bounds bs → length bounds * GROUP ≤ b → AreBounds bounds (cut_in bs b cut)
-bounds_cut bounds bs b cut all early = bounds_below bounds bs (cut_in bs b cut) b all early (λ i h. same_cut bs b cut i h)
+    let there : slice_index_or cs i [] ≡ slice_index_or bs i [] = sym (get_or-take b cs i [] within) ∙ ap (λ xs. slice_index_or xs i []) same ∙ get_or-take b bs i [] within in
+    subst (AreFrom (slice_index_or bounds k d)) (sym there) (all k d w i lo hi)
 
 -- ---- bounds change
 
@@ -90,61 +70,7 @@ is_low bounds g block l id first last w h k d v lo hi =
     subst (λ n. is_gt (id_cmp (slice_index_or (slice_set bounds g l) n d) id) ≡ false) same
     (subst (λ m. is_gt (id_cmp m id) ≡ false) (sym (get_or-set_same bounds g l d w)) h)
 
-pub is_low_past : (bounds : List Identifier) (g block : ℕ) (id : Identifier) → g * GROUP ≤ block → length bounds ≤ g → IsLow bounds block id
-is_low_past bounds g block id first past k d w lo hi = absurd (omega (arith, first, past, w, lo, hi))
-
-pub take_length : {A : Type 0} (n : ℕ) (xs : List A) → length (take n xs) ≤ n
-take_length zero xs = omega arith
-take_length (suc n) [] = omega arith
-take_length (suc n) (x ∷ xs) = let rest : length (take n xs) ≤ n = take_length n xs in omega arith
-
-take_fewer : {A : Type 0} (n : ℕ) (xs : List A) → length (take n xs) ≤ length xs
-take_fewer zero xs = omega arith
-take_fewer (suc n) [] = omega arith
-take_fewer (suc n) (x ∷ xs) = let rest : length (take n xs) ≤ length xs = take_fewer n xs in omega arith
-
-take_at : (n : ℕ) (xs : List Identifier) (k : ℕ) (d : Identifier) → k < length (take n xs) → slice_index_or (take n xs) k d ≡ slice_index_or xs k d
-take_at zero xs k d w = absurd (omega arith)
-take_at (suc n) [] k d w = refl
-take_at (suc n) (x ∷ xs) zero d w = refl
-take_at (suc n) (x ∷ xs) (suc k) d w = take_at n xs k d (omega arith)
-
-pub bounds_taken : (n : ℕ) (bounds : List Identifier) (bs : Blocks) → AreBounds bounds bs → AreBounds (take n bounds) bs
-bounds_taken n bounds bs all k d w i lo hi =
-    let fewer : length (take n bounds) ≤ length bounds = take_fewer n bounds in
-    subst (λ l. AreFrom l (slice_index_or bs i [])) (sym (take_at n bounds k d w)) (all k d (omega (arith, fewer, w)) i lo hi)
-
-before_push : (xs : List Identifier) (x : Identifier) (k : ℕ) (d : Identifier) → k < length xs → slice_index_or (xs ++ x ∷ []) k d ≡ slice_index_or xs k d
-before_push [] x k d w = absurd (omega arith)
-before_push (y ∷ xs) x zero d w = refl
-before_push (y ∷ xs) x (suc k) d w = before_push xs x k d (omega arith)
-
-at_push : (xs : List Identifier) (x d : Identifier) → slice_index_or (xs ++ x ∷ []) (length xs) d ≡ x
-at_push [] x d = refl
-at_push (y ∷ xs) x d = at_push xs x d
-
-pub bounds_more : (bounds : List Identifier) (l : Identifier) (bs : Blocks) → AreBounds bounds bs → AreBlocksFrom l (length bounds * GROUP) (length bounds * GROUP + GROUP) bs → AreBounds (bounds ++ l ∷ []) bs
-bounds_more bounds l bs all from k d w i lo hi =
-    let one : length (bounds ++ l ∷ []) ≡ length bounds + 1 = length-append bounds (l ∷ []) in
-    elim (nat_lt k (length bounds)) as (λ t. nat_lt k (length bounds) ≡ t → AreFrom (slice_index_or (bounds ++ l ∷ []) k d) (slice_index_or bs i [])) [
-      | true ↦ λ t. let v : k < length bounds = lt_so k (length bounds) t in
-          subst (λ m. AreFrom m (slice_index_or bs i [])) (sym (before_push bounds l k d v)) (all k d v i lo hi)
-      | false ↦ λ t. let past : length bounds ≤ k = le_so k (length bounds) t in
-          let last : length bounds ≡ k = omega (arith, past, one, w) in
-          subst (λ n. AreFrom (slice_index_or (bounds ++ l ∷ []) n d) (slice_index_or bs i [])) last
-          (subst (λ m. AreFrom m (slice_index_or bs i [])) (sym (at_push bounds l d))
-          (from i (subst (λ n. n * GROUP ≤ i) (sym last) lo) (subst (λ n. i < n * GROUP + GROUP) (sym last) hi)))
-    ] refl
-
-pub no_bounds : (bs : Blocks) → AreBounds [] bs
-no_bounds bs k d w = absurd (omega arith)
-
 -- ---- what none is less than in some blocks
-
-pub one_block : (least : Identifier) (lo : ℕ) (bs : Blocks) → AreFrom least (slice_index_or bs lo []) → AreBlocksFrom least lo (lo + 1) bs
-one_block least lo bs from i h k =
-    let same : lo ≡ i = omega (arith, h, k) in
-    subst (λ n. AreFrom least (slice_index_or bs n [])) same from
 
 pub blocks_more : (least less next : Identifier) (lo n : ℕ) (bs : Blocks) → is_gt (id_cmp less least) ≡ false → is_gt (id_cmp less next) ≡ false → AreFrom next (slice_index_or bs n []) → AreBlocksFrom least lo n bs → AreBlocksFrom less lo (n + 1) bs
 blocks_more least less next lo n bs h k from all i w v =
@@ -154,26 +80,6 @@ blocks_more least less next lo n bs h k from all i w v =
           let same : n ≡ i = omega (arith, past, v) in
           subst (λ m. AreFrom less (slice_index_or bs m [])) same (lesser_from next less (slice_index_or bs n []) k from)
     ] refl
-
-past_end : (least : Identifier) (bs : Blocks) (i : ℕ) → length bs ≤ i → AreFrom least (slice_index_or bs i [])
-past_end least [] i w = tt
-past_end least (x ∷ bs) zero w = absurd (omega arith)
-past_end least (x ∷ bs) (suc i) w = past_end least bs i (omega arith)
-
--- as far as the blocks go, and so as far as the group would
-pub blocks_all : (least : Identifier) (lo n hi : ℕ) (bs : Blocks) → AreBlocksFrom least lo n bs → (n < length bs → hi ≤ n) → AreBlocksFrom least lo hi bs
-blocks_all least lo n hi bs all enough i w v =
-    elim (nat_lt i n) as (λ t. nat_lt i n ≡ t → AreFrom least (slice_index_or bs i [])) [
-      | true ↦ λ t. all i w (lt_so i n t)
-      | false ↦ λ t. past_end least bs i (beyond (le_so i n t))
-    ] refl
-  where
-    beyond : n ≤ i → length bs ≤ i
-    beyond past =
-        elim (nat_lt n (length bs)) as (λ t. nat_lt n (length bs) ≡ t → length bs ≤ i) [
-          | true ↦ λ t. let far : hi ≤ n = enough (lt_so n (length bs) t) in absurd (omega (arith, far, past, v))
-          | false ↦ λ t. let end : length bs ≤ n = le_so n (length bs) t in omega (arith, end, past)
-        ] refl
 
 pub larger_by : (bound id : Identifier) (lo hi : ℕ) (bs : Blocks) → is_gt (id_cmp bound id) ≡ true → AreBlocksFrom bound lo hi bs → AreLarger id lo hi bs
 larger_by bound id lo hi bs big from i w v = all_larger bound id (slice_index_or bs i []) big (from i w v)

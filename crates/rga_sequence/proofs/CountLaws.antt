@@ -1,8 +1,8 @@
 -- How many entries are visible in a list that changes, and which these are.
-use Rattle.std.proofs.Common.{◌≡◌, ℕ, ◌+◌, ◌-◌, ◌<◌, ◌≤◌, suc, zero, Bool, true, false, cond, not, List, [], ◌∷◌, ◌++◌, length, take, drop, slice_index_or, refl, sym, ap, ◌∙◌, arith, length-append}
+use Rattle.std.proofs.Common.{min, ◌≡◌, ℕ, ◌+◌, ◌-◌, ◌<◌, ◌≤◌, suc, zero, Bool, true, false, cond, not, List, [], ◌∷◌, ◌++◌, length, take, drop, slice_index_or, refl, sym, ap, ◌∙◌, arith, length-append}
 use Rattle.std.specs.Prelude.{insert, remove}
 use Rattle.std.specs.List.{slice_get}
-use Rattle.std.proofs.lemmas.List.{take_more, drop_more, map-append}
+use Rattle.std.proofs.lemmas.List.{take_more, drop_more, map-append, take-append-drop, drop-take, length-take-le, take_min}
 use Rattle.std.proofs.lemmas.List.Elements.{filter-append}
 use Rattle.rga_ops.specs.Identifier.{Identifier}
 use Rattle.rga_sequence.specs.declared.entry.Entry.{Entry}
@@ -18,12 +18,12 @@ ids_both xs ys = ap ids (visible_both xs ys) ∙ map-append (λ e. e.id) (visibl
 pub count_both : (xs ys : List Entry) → visible_count (xs ++ ys) ≡ visible_count xs + visible_count ys
 count_both xs ys = ap length (visible_both xs ys) ∙ length-append (visible_entries xs) (visible_entries ys)
 
+length_ids : (xs : List Entry) → length (ids xs) ≡ length xs
+length_ids [] = refl
+length_ids (x ∷ xs) = ap (λ n. suc n) (length_ids xs)
+
 pub count_ids : (xs : List Entry) → length (visible_ids xs) ≡ visible_count xs
-count_ids xs = length_map (visible_entries xs)
-  where
-    length_map : (ys : List Entry) → length (ids ys) ≡ length ys
-    length_map [] = refl
-    length_map (y ∷ ys) = ap (λ n. suc n) (length_map ys)
+count_ids xs = length_ids (visible_entries xs)
 
 pub count_within : (xs : List Entry) → visible_count xs ≤ length xs
 count_within [] = omega arith
@@ -35,6 +35,21 @@ count_within (x ∷ xs) =
 
 one_first : (x : Entry) (xs : List Entry) → visible_count (x ∷ xs) ≡ visible_count (x ∷ []) + visible_count xs
 one_first x xs = count_both (x ∷ []) xs
+
+-- where as many are visible as there are, these are all
+pub all_visible : (xs : List Entry) → length xs ≤ visible_count xs → visible_entries xs ≡ xs
+all_visible [] h = refl
+all_visible (x ∷ xs) h =
+    elim x.deleted as (λ b. suc (length xs) ≤ length (cond (not b) (x ∷ visible_entries xs) (visible_entries xs)) → cond (not b) (x ∷ visible_entries xs) (visible_entries xs) ≡ x ∷ xs) [
+      | true ↦ λ k. absurd (omega (arith, count_within xs))
+      | false ↦ λ k. ap (λ r. x ∷ r) (all_visible xs (omega arith))
+    ] h
+
+pub count_all : (xs : List Entry) (i : ℕ) → i ≤ length xs → length xs ≤ visible_count xs → visible_count (take i xs) ≡ i
+count_all xs i w h =
+    let parts : visible_count (take i xs ++ drop i xs) ≡ visible_count xs = ap visible_count (take-append-drop i xs) in
+    let long : length (take i xs ++ drop i xs) ≡ length xs = ap length (take-append-drop i xs) in
+    omega (arith, parts, long, count_both (take i xs) (drop i xs), length-append (take i xs) (drop i xs), length-take-le i xs w, count_within (take i xs), count_within (drop i xs))
 
 -- ---- one entry more, one less, one deleted
 
@@ -107,7 +122,7 @@ slice_front [] ys k w = absurd (omega arith)
 slice_front (x ∷ xs) ys zero w = refl
 slice_front (x ∷ xs) ys (suc k) w = slice_front xs ys k (omega arith)
 
-slice_back : (xs ys : List Identifier) (k j : ℕ) → k ≡ length xs + j → slice_get (xs ++ ys) k ≡ slice_get ys j
+pub slice_back : (xs ys : List Identifier) (k j : ℕ) → k ≡ length xs + j → slice_get (xs ++ ys) k ≡ slice_get ys j
 slice_back [] ys k j e = let same : k ≡ j = omega arith in ap (slice_get ys) same
 slice_back (x ∷ xs) ys zero j e = absurd (omega arith)
 slice_back (x ∷ xs) ys (suc k) j e = slice_back xs ys k j (omega arith)
@@ -139,13 +154,13 @@ take_none : (n : ℕ) → take {A = Identifier} n [] ≡ []
 take_none zero = refl
 take_none (suc n) = refl
 
-none_left : (lo hi : ℕ) (xs : List Identifier) → hi ≤ lo → drop lo (take hi xs) ≡ []
+pub none_left : (lo hi : ℕ) (xs : List Identifier) → hi ≤ lo → drop lo (take hi xs) ≡ []
 none_left lo zero xs h = drop_none lo
 none_left zero (suc hi) xs h = absurd (omega arith)
 none_left (suc lo) (suc hi) [] h = refl
 none_left (suc lo) (suc hi) (x ∷ xs) h = none_left lo hi xs (omega arith)
 
-end_of : (xs : List Identifier) → xs ≡ xs ++ []
+pub end_of : (xs : List Identifier) → xs ≡ xs ++ []
 end_of [] = refl
 end_of (x ∷ xs) = ap (λ r. x ∷ r) (end_of xs)
 
@@ -160,6 +175,24 @@ range_both (x ∷ xs) ys lo zero lo_left hi_left e f =
 range_both (x ∷ xs) ys zero (suc hi) lo_left hi_left e f =
     ap (λ r. x ∷ r) (range_both xs ys zero hi lo_left hi_left (omega arith) (omega arith))
 range_both (x ∷ xs) ys (suc lo) (suc hi) lo_left hi_left e f = range_both xs ys lo hi lo_left hi_left (omega arith) (omega arith)
+
+pub ids_range : (xs : List Entry) (lo hi end : ℕ) → lo ≤ end → end ≡ min hi (length xs) → ids (take (end - lo) (drop lo xs)) ≡ drop lo (take hi (ids xs))
+ids_range xs lo hi end h e =
+    part xs lo (end - lo)
+    ∙ sym (drop-take lo (end - lo) (ids xs))
+    ∙ ap (λ n. drop lo (take n (ids xs))) (up lo end h ∙ e ∙ ap (min hi) (sym (length_ids xs)))
+    ∙ ap (drop lo) (take_min hi (ids xs))
+  where
+    part : (ys : List Entry) (i n : ℕ) → ids (take n (drop i ys)) ≡ take n (drop i (ids ys))
+    part ys zero zero = refl
+    part [] zero (suc n) = refl
+    part (y ∷ ys) zero (suc n) = ap (λ r. y.id ∷ r) (part ys zero n)
+    part [] (suc i) zero = refl
+    part [] (suc i) (suc n) = refl
+    part (y ∷ ys) (suc i) n = part ys i n
+
+    up : (i n : ℕ) → i ≤ n → i + (n - i) ≡ n
+    up i n w = omega arith
 
 pub range_none : (xs : List Identifier) (lo hi : ℕ) → length xs ≤ lo → drop lo (take hi xs) ≡ []
 range_none [] lo hi h = ap (drop lo) (take_none hi) ∙ drop_none lo
@@ -178,7 +211,7 @@ before_is (x ∷ xs) (suc b) i d w = ap (λ r. x ++ r) (before_is xs b i d (omeg
     assoc [] q r = refl
     assoc (y ∷ p) q r = ap (λ z. y ∷ z) (assoc p q r)
 
-flat_both : (xs ys : Blocks) → flat (xs ++ ys) ≡ flat xs ++ flat ys
+pub flat_both : (xs ys : Blocks) → flat (xs ++ ys) ≡ flat xs ++ flat ys
 flat_both [] ys = refl
 flat_both (x ∷ xs) ys = ap (λ r. x ++ r) (flat_both xs ys) ∙ sym (assoc x (flat xs) (flat ys))
   where

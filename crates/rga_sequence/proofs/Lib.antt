@@ -4,5 +4,6 @@ pub mod BlockLaws
 pub mod BoundLaws
 pub mod StandLaws
 pub mod CountLaws
+pub mod GroupLaws
 pub mod PutLaws
 pub mod IdLaws

@@ -176,11 +176,6 @@ room_next (x ∷ xs) (suc b) cut most e h k = room_next xs b cut most e h k
 pub room_second : (bs : Blocks) (b cut most : ℕ) → length (slice_index_or bs b []) ≡ most → 0 < cut → 0 < most → length (slice_index_or (cut_in bs b cut) (b + 1) []) < most
 room_second bs b cut most e h k = subst (λ n. length (slice_index_or (cut_in bs b cut) n []) < most) (one_up b) (room_next bs b cut most e h k)
 
-pub filled_at : (bs : Blocks) (b : ℕ) (d : List Entry) → AreFilled bs → b < length bs → 0 < length (slice_index_or bs b d)
-filled_at [] b d f w = absurd (omega arith)
-filled_at (x ∷ xs) zero d f w = f.0
-filled_at (x ∷ xs) (suc b) d f w = filled_at xs b d f.1 (omega arith)
-
 -- ---- what holds whether a call was answered or refused
 
 pub either_way : {T E X : Type 0} (P : X → Type 0) (r : Result T E) (new x y : X) → OnOk r (new ≡ x) → OnErr r (new ≡ y) → P x → P y → P new

@@ -6,7 +6,8 @@ use Rattle.rga_ops.specs.Identifier.{Identifier, id_cmp}
 use Rattle.rga_sequence.specs.declared.entry.Entry.{Entry}
 use Rattle.rga_sequence.specs.Entries.{ids, visible_count, put_past_larger, as_marked, AreApart}
 use Rattle.rga_sequence.specs.declared.block.TheConstants.{MOST}
-use Rattle.rga_sequence.specs.declared.bounds.TheConstants.{GROUP}
+use Rattle.rga_sequence.specs.declared.groups.TheConstants.{GROUP}
+use Rattle.rga_sequence.specs.declared.groups.Groups.{Groups}
 
 abbrev pub Blocks : Type 0
 Blocks = List (List Entry)
@@ -91,7 +92,12 @@ pub record IsSequence (bs : Blocks) : Type 0 where
   pub apart : AreApart (flat bs)
   pub filled : AreFilled bs
 
--- ---- bounds of groups of blocks
+-- ---- what is noted of groups of blocks
+
+-- each is noted of a group, which are the blocks from `lo` to the one before `hi`
+abbrev pub AreNotes : {A : Type 0} → (A → ℕ → ℕ → Blocks → Type 0) → List A → Blocks → Type 0
+AreNotes {A} IsNoted notes bs = (k : ℕ) (d : A) → k < length notes →
+    IsNoted (slice_index_or notes k d) (k * GROUP) (k * GROUP + GROUP) bs
 
 -- no identifier is less in the blocks from `lo` to the one before `hi`
 abbrev pub AreBlocksFrom : Identifier → ℕ → ℕ → Blocks → Type 0
@@ -104,11 +110,24 @@ AreLarger id lo hi bs = (b : ℕ) → lo ≤ b → b < hi →
 
 -- each bound is that of a group: no identifier in its blocks is less
 abbrev pub AreBounds : List Identifier → Blocks → Type 0
-AreBounds bounds bs = (k : ℕ) (d : Identifier) → k < length bounds →
-    AreBlocksFrom (slice_index_or bounds k d) (k * GROUP) (k * GROUP + GROUP) bs
+AreBounds bounds bs = AreNotes AreBlocksFrom bounds bs
 
 -- the bound of a block's group is not larger than an identifier
 abbrev pub IsLow : List Identifier → ℕ → Identifier → Type 0
 IsLow bounds block id = (k : ℕ) (d : Identifier) → k < length bounds →
     k * GROUP ≤ block → block < k * GROUP + GROUP →
     is_gt (id_cmp (slice_index_or bounds k d) id) ≡ false
+
+-- so many entries are visible in the blocks from `lo` to the one before `hi`
+abbrev pub IsCount : ℕ → ℕ → ℕ → Blocks → Type 0
+IsCount count lo hi bs = count ≡ visible_count (flat (drop lo (take hi bs)))
+
+-- each count is that of a group, which is whole
+pub record AreCounts (counts : List ℕ) (bs : Blocks) : Type 0 where
+  pub whole : length counts * GROUP ≤ length bs
+  pub counted : AreNotes IsCount counts bs
+
+-- the bounds and the counts
+pub record AreGroups (groups : Groups) (bs : Blocks) : Type 0 where
+  pub bounds : AreBounds groups.bounds.items bs
+  pub counts : AreCounts groups.counts.items bs

@@ -1,12 +1,15 @@
 //! Some entries in a row.
-ghost use Rattle.std.specs.Prelude.{◌≡◌, ◌≤◌, ◌<◌, ◌+◌, ◌∷◌, [], length, vec_len, slice_get, None, Some, IfSome, true, false, take, drop, insert, remove, IfOk, IfErr, OnOk, OnErr};
+ghost use Rattle.std.specs.Prelude.{◌≡◌, ◌≤◌, ◌<◌, ◌+◌, ◌++◌, ◌∷◌, [], length, vec_len, slice_get, None, Some, IfSome, true, false, take, drop, insert, remove, IfOk, IfErr, OnOk, OnErr};
 ghost use Rattle.std.specs.Ordering.{is_gt};
 ghost use Rattle.rga_ops.specs.Identifier.{id_cmp};
-ghost use Rattle.rga_sequence.specs.Entries.{ids, has, visible_count};
+ghost use Rattle.rga_sequence.specs.Entries.{ids, has, visible_count, visible_ids};
 ghost use Rattle.rga_sequence.specs.Blocks.{larger_at_front, mark_at_index, AreFrom};
 
 use crate::entry::Entry;
-use crate::scans::{count_one, count_visible, index_of, is_at, is_larger, least_of, past_larger};
+use crate::scans::{
+    count_one, count_visible, id_at, index_of, is_at, is_larger, least_of, past_larger,
+    push_id_range, push_visible, visible_at,
+};
 use crate::turning::turn_last;
 use rga_ops::{Id, Refusal};
 use std::alloc::Global;
@@ -135,7 +138,8 @@ impl Block {
 
     /// How many entries are visible.
     pub(crate) fn visible_len(&self) -> usize
-        ensures { result ≡ visible_count self.now }
+        ensures count { result ≡ visible_count self.now }
+        ensures most { result ≤ MOST }
     {
         self.visible
     }
@@ -145,7 +149,40 @@ impl Block {
         requires { index ≤ length self.now }
         ensures { result ≡ visible_count (take index self.now) }
     {
+        if self.visible >= self.entries.as_slice().len() {
+            return index;
+        }
         count_visible(&self.entries.as_slice()[..index])
+    }
+
+    /// The k-th visible entry.
+    pub(crate) fn visible_at(&self, k: usize) -> Option<Id>
+        ensures { result ≡ slice_get (visible_ids self.now) k }
+    {
+        if self.visible >= self.entries.as_slice().len() {
+            return id_at(self.entries.as_slice(), k);
+        }
+        visible_at(self.entries.as_slice(), k)
+    }
+
+    /// The visible entries from the lo-th to the one before the hi-th go behind a list.
+    pub(crate) fn push_visible(
+        &self,
+        list: &mut Vec<Id>,
+        lo: usize,
+        hi: usize,
+    ) -> Result<(), Refusal>
+        requires some { lo < hi }
+        requires within { lo < visible_count self.now }
+        ensures ok { OnOk result (list.new.items
+            ≡ list.old.items ++ drop lo (take hi (visible_ids self.now))) }
+        ensures memory { IfErr result (λ e. e ≡ Refusal.Memory) }
+    {
+        let entries = self.entries.as_slice();
+        if self.visible >= entries.len() {
+            return push_id_range(list, entries, lo, hi);
+        }
+        push_visible(list, entries, lo, hi)
     }
 
     /// The entries.

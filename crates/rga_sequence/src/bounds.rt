@@ -7,11 +7,9 @@ ghost use Rattle.rga_sequence.specs.Blocks.{Blocks, AreBlocksFrom, AreBounds, Is
 
 use crate::block::Block;
 use crate::entry::Entry;
+use crate::groups::{GROUP, push_note};
 use crate::scans::{is_larger, lesser};
 use rga_ops::Id;
-
-/// How many blocks are a group.
-const GROUP: usize = 32;
 
 /// The bound of a block's group is lowered to an identifier that comes in there.
 pub(crate) fn lower(bounds: &mut Vec<Id>, block: usize, id: Id)
@@ -22,14 +20,6 @@ pub(crate) fn lower(bounds: &mut Vec<Id>, block: usize, id: Id)
     if group < bounds.as_slice().len() {
         bounds[group] = lesser(bounds[group], id);
     }
-}
-
-/// The bounds of the groups that end before a block stay.
-pub(crate) fn forget_from(bounds: &mut Vec<Id>, block: usize)
-    ensures kept { (bs : Blocks) → AreBounds bounds.old.items bs → AreBounds bounds.new.items bs }
-    ensures early { length bounds.new.items * GROUP ≤ block }
-{
-    bounds.truncate(block / GROUP);
 }
 
 /// An identifier that none is less than in the group that begins with a block.
@@ -46,17 +36,6 @@ fn least_from(blocks: &Vec<Block>, from: usize) -> Id
     least
 }
 
-/// A further bound, where there is room.
-fn push_bound(bounds: &mut Vec<Id>, least: Id) -> bool
-    ensures pushed { result ≡ true → bounds.new.items ≡ bounds.old.items ++ least ∷ [] }
-    ensures same { result ≡ false → bounds.new.items ≡ bounds.old.items }
-{
-    if bounds.push(least).is_err() {
-        return false;
-    }
-    true
-}
-
 /// The bounds as far as that of a group, where there is room for them.
 fn note_bounds(blocks: &Vec<Block>, bounds: &mut Vec<Id>, group: usize)
     requires within { group * GROUP < vec_len blocks.now }
@@ -65,7 +44,7 @@ fn note_bounds(blocks: &Vec<Block>, bounds: &mut Vec<Id>, group: usize)
 {
     while bounds.as_slice().len() <= group {
         let least = least_from(blocks, bounds.as_slice().len() * GROUP);
-        if !push_bound(bounds, least) {
+        if !push_note(bounds, least) {
             return;
         }
     }

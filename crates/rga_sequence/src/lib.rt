@@ -11,8 +11,10 @@
 
 mod block;
 mod bounds;
+mod counts;
 mod entry;
 mod finding;
+mod groups;
 pub mod laws;
 mod listing;
 mod names;

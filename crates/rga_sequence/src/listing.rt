@@ -1,11 +1,13 @@
 //! What blocks have: how many entries, which are visible, and their text.
 ghost use Rattle.std.specs.Prelude.{◌≡◌, ◌≤◌, ◌<◌, ◌+◌, ◌^◌, ◌++◌, ◌∷◌, [], length, slice_get, slice_index_or, vec_len, take, drop, Some, IfOk, IfErr, OnOk};
 ghost use Rattle.rga_sequence.specs.Entries.{ids, up_to, visible_count, visible_ids, visible_text};
-ghost use Rattle.rga_sequence.specs.Blocks.{flat, before, IsPlace, Stands, IsSequence};
+ghost use Rattle.rga_sequence.specs.Blocks.{flat, before, IsPlace, Stands, IsSequence, AreCounts};
 
 use crate::block::{Block, MOST};
+use crate::counts::{InGroup, count_before, group_with};
+use crate::groups::GROUP;
 use crate::place::Place;
-use crate::scans::{push_ids, push_text, push_visible, visible_at};
+use crate::scans::{push_ids, push_text};
 use rga_ops::{Id, Refusal};
 use std::alloc::Global;
 
@@ -22,44 +24,39 @@ pub(crate) fn len(blocks: &Vec<Block>) -> usize
 }
 
 /// How many entries are visible.
-pub(crate) fn visible_len(blocks: &Vec<Block>) -> usize
-    requires { length (flat blocks.now.items) < 2 ^ 64 }
+pub(crate) fn visible_len(blocks: &Vec<Block>, counts: &Vec<usize>) -> usize
+    requires fits { length (flat blocks.now.items) < 2 ^ 64 }
+    requires counts { AreCounts counts.now.items blocks.now.items }
     ensures { result ≡ visible_count (flat blocks.now.items) }
 {
-    let mut count = 0;
-    for block in blocks {
-        count += block.visible_len();
-    }
-    count
+    count_before(blocks, counts, blocks.as_slice().len())
 }
 
 /// How many entries before a place are visible.
-pub(crate) fn visible_before(blocks: &Vec<Block>, at: Place) -> usize
+pub(crate) fn visible_before(blocks: &Vec<Block>, counts: &Vec<usize>, at: Place) -> usize
     requires fits { length (flat blocks.now.items) < 2 ^ 64 }
     requires block { at.block < vec_len blocks.now }
     requires place { IsPlace blocks.now.items at.block at.index }
+    requires counts { AreCounts counts.now.items blocks.now.items }
     ensures { result ≡ visible_count (before blocks.now.items at.block at.index) }
 {
-    let mut count = 0;
-    let mut block = 0;
-    while block < at.block {
-        count += blocks[block].visible_len();
-        block += 1;
-    }
+    let count = count_before(blocks, counts, at.block);
     count + blocks[at.block].visible_before(at.index)
 }
 
 /// How many visible entries are that at a place or stand before it.
-pub(crate) fn place_at(blocks: &Vec<Block>, at: Place, id: Id) -> usize
+pub(crate) fn place_at(blocks: &Vec<Block>, counts: &Vec<usize>, at: Place, id: Id) -> usize
     requires fits { length (flat blocks.now.items) < 2 ^ 64 }
     requires block { at.block < vec_len blocks.now }
     requires within { at.index < MOST }
     requires stands { Stands blocks.now.items at.block at.index id }
     requires kept { IsSequence blocks.now.items }
+    requires counts { AreCounts counts.now.items blocks.now.items }
     ensures { result ≡ visible_count (up_to id (flat blocks.now.items)) }
 {
     visible_before(
         blocks,
+        counts,
         Place {
             block: at.block,
             index: at.index + 1,
@@ -67,23 +64,33 @@ pub(crate) fn place_at(blocks: &Vec<Block>, at: Place, id: Id) -> usize
     )
 }
 
-/// The k-th visible entry.
-pub(crate) fn element_at(blocks: &Vec<Block>, k: usize) -> Option<Id>
-    ensures { result ≡ slice_get (visible_ids (flat blocks.now.items)) k }
+/// The k-th visible entry of some blocks.
+fn element_in(blocks: &[Block], k: usize) -> Option<Id>
+    ensures { result ≡ slice_get (visible_ids (flat blocks.now)) k }
 {
     let mut left = k;
     for block in blocks {
         let count = block.visible_len();
         if left < count {
-            return visible_at(block.entries(), left);
+            return block.visible_at(left);
         }
         left -= count;
     }
     None
 }
 
+/// The k-th visible entry.
+pub(crate) fn element_at(blocks: &Vec<Block>, counts: &Vec<usize>, k: usize) -> Option<Id>
+    requires { AreCounts counts.now.items blocks.now.items }
+    ensures { result ≡ slice_get (visible_ids (flat blocks.now.items)) k }
+{
+    let InGroup { group, rest } = group_with(counts.as_slice(), k);
+    element_in(&blocks.as_slice()[group * GROUP..], rest)
+}
+
 /// A block's visible entries from the lo-th to the one before the hi-th go behind a list.
 fn push_part(list: &mut Vec<Id>, block: &Block, lo: usize, hi: usize) -> Result<(), Refusal>
+    requires { lo < hi }
     ensures ok { OnOk result (list.new.items
         ≡ list.old.items ++ drop lo (take hi (visible_ids block.now))) }
     ensures memory { IfErr result (λ e. e ≡ Refusal.Memory) }
@@ -91,31 +98,45 @@ fn push_part(list: &mut Vec<Id>, block: &Block, lo: usize, hi: usize) -> Result<
     if lo >= block.visible_len() {
         return Ok(());
     }
-    push_visible(list, block.entries(), lo, hi)
+    block.push_visible(list, lo, hi)
+}
+
+/// The visible entries of some blocks from the lo-th to the one before the hi-th go behind a list.
+fn push_elements(list: &mut Vec<Id>, blocks: &[Block], lo: usize, hi: usize) -> Result<(), Refusal>
+    ensures ok { OnOk result (list.new.items
+        ≡ list.old.items ++ drop lo (take hi (visible_ids (flat blocks.now)))) }
+    ensures memory { IfErr result (λ e. e ≡ Refusal.Memory) }
+{
+    let mut skip = lo;
+    let mut end = hi;
+    for block in blocks {
+        if end <= skip {
+            return Ok(());
+        }
+        push_part(list, block, skip, end)?;
+        skip = skip.saturating_sub(block.visible_len());
+        end = end.saturating_sub(block.visible_len());
+    }
+    Ok(())
 }
 
 /// The visible entries from the lo-th to the one before the hi-th.
 pub(crate) fn elements(
     alloc: Global,
     blocks: &Vec<Block>,
+    counts: &Vec<usize>,
     lo: usize,
     hi: usize,
 ) -> Result<Vec<Id>, Refusal>
+    requires { AreCounts counts.now.items blocks.now.items }
     ensures ok { IfOk result (λ list.
         list.items ≡ drop lo (take hi (visible_ids (flat blocks.now.items)))) }
     ensures memory { IfErr result (λ e. e ≡ Refusal.Memory) }
 {
+    let InGroup { group, rest } = group_with(counts.as_slice(), lo);
+    let later = &blocks.as_slice()[group * GROUP..];
     let mut list = Vec::new(alloc);
-    let mut skip = lo;
-    let mut end = hi;
-    for block in blocks {
-        if end == 0 {
-            return Ok(list);
-        }
-        push_part(&mut list, block, skip, end)?;
-        skip = skip.saturating_sub(block.visible_len());
-        end = end.saturating_sub(block.visible_len());
-    }
+    push_elements(&mut list, later, rest, hi.saturating_sub(lo - rest))?;
     Ok(list)
 }
 

@@ -1,14 +1,16 @@
 //! An entry comes in at a place.
 ghost use Rattle.std.specs.Prelude.{◌≡◌, ◌≤◌, ◌<◌, ◌+◌, ◌++◌, ◌∷◌, ◌||◌, true, false, insert, length, vec_len, slice_index_or, [], IfSome, IfErr, OnOk, OnErr};
 ghost use Rattle.rga_sequence.specs.declared.entry.Entry.{Entry};
-ghost use Rattle.rga_sequence.specs.Blocks.{Blocks, flat, before, behind, IsPlace, cut_in, AreFilled, IsSequence, AreBounds};
+ghost use Rattle.rga_sequence.specs.Blocks.{Blocks, flat, before, behind, IsPlace, cut_in, AreFilled, IsSequence, AreGroups};
 ghost use Rattle.rga_sequence.specs.Entries.{has, put_entry};
 ghost use Rattle.rga_ops.specs.Identifier.{is_root};
 
 use crate::block::{Block, MOST};
-use crate::bounds::{forget_from, lower};
+use crate::bounds::lower;
+use crate::counts::recount;
 use crate::entry::Entry;
 use crate::finding::Hints;
+use crate::groups::Groups;
 use crate::names::{name_at, names_of_parts};
 use crate::place::Place;
 use crate::skipping::{behind_parent, skip};
@@ -27,31 +29,31 @@ const MANY: usize = 128;
 pub(crate) fn put_behind(
     alloc: Global,
     blocks: &mut Vec<Block>,
-    bounds: &mut Vec<Id>,
+    groups: &mut Groups,
     hints: Hints,
     parent: Id,
     name: usize,
     entry: &Entry,
 ) -> Result<Place, Refusal>
     requires kept { IsSequence blocks.old.items }
-    requires bounds { AreBounds bounds.old.items blocks.old.items }
+    requires groups { AreGroups groups.old blocks.old.items }
     requires parent { is_root parent || has parent (flat blocks.old.items) ≡ true }
     requires absent { has entry.now.id (flat blocks.old.items) ≡ false }
     ensures ok { OnOk result
         (flat blocks.new.items ≡ put_entry parent entry.now (flat blocks.old.items)) }
     ensures err { OnErr result (flat blocks.new.items ≡ flat blocks.old.items) }
     ensures kept { IsSequence blocks.new.items }
-    ensures bounds { AreBounds bounds.new.items blocks.new.items }
+    ensures groups { AreGroups groups.new blocks.new.items }
     ensures memory { IfErr result (λ e. e ≡ Refusal.Memory) }
 {
     if blocks.as_slice().len() == 0 {
-        put_first(alloc, blocks, bounds, name, entry)?;
+        put_first(alloc, blocks, groups, name, entry)?;
         return Ok(Place { block: 0, index: 0 });
     }
     match behind_parent(blocks, hints, parent) {
         Some(from) => {
-            let at = skip(blocks, bounds, from, entry);
-            put_at(alloc, blocks, bounds, at, name, entry)
+            let at = skip(blocks, &mut groups.bounds, from, entry);
+            put_at(alloc, blocks, groups, at, name, entry)
         }
         None => Err(Refusal::Memory),
     }
@@ -63,7 +65,7 @@ pub(crate) fn put_behind(
 fn put_at(
     alloc: Global,
     blocks: &mut Vec<Block>,
-    bounds: &mut Vec<Id>,
+    groups: &mut Groups,
     at: Place,
     name: usize,
     entry: &Entry,
@@ -71,27 +73,27 @@ fn put_at(
     requires block { at.block < vec_len blocks.old }
     requires place { IsPlace blocks.old.items at.block at.index }
     requires filled { AreFilled blocks.old.items }
-    requires bounds { AreBounds bounds.old.items blocks.old.items }
+    requires groups { AreGroups groups.old blocks.old.items }
     ensures ok { OnOk result (flat blocks.new.items
         ≡ before blocks.old.items at.block at.index
         ++ entry.now ∷ behind blocks.old.items at.block at.index) }
     ensures err { OnErr result (flat blocks.new.items ≡ flat blocks.old.items) }
     ensures filled { AreFilled blocks.new.items }
-    ensures bounds { AreBounds bounds.new.items blocks.new.items }
+    ensures groups { AreGroups groups.new blocks.new.items }
     ensures memory { IfErr result (λ e. e ≡ Refusal.Memory) }
 {
     if let Some(block) = own_block(blocks, at) {
-        put_own(alloc, blocks, bounds, block, name, entry)?;
+        put_own(alloc, blocks, groups, block, name, entry)?;
         return Ok(Place { block, index: 0 });
     }
     if has_room(blocks, at.block) {
-        put_in_block(blocks, bounds, at, entry)?;
+        put_in_block(blocks, groups, at, entry)?;
         return Ok(at);
     }
     let cut = cut_for(at.index);
-    cut_block(alloc, blocks, bounds, at.block, cut, name)?;
+    cut_block(alloc, blocks, groups, at.block, cut, name)?;
     let place = moved(at, cut);
-    put_in_block(blocks, bounds, place, entry)?;
+    put_in_block(blocks, groups, place, entry)?;
     Ok(place)
 }
 
@@ -99,19 +101,19 @@ fn put_at(
 fn put_first(
     alloc: Global,
     blocks: &mut Vec<Block>,
-    bounds: &mut Vec<Id>,
+    groups: &mut Groups,
     name: usize,
     entry: &Entry,
 ) -> Result<(), Refusal>
     requires none { blocks.old.items ≡ [] }
-    requires bounds { AreBounds bounds.old.items blocks.old.items }
+    requires groups { AreGroups groups.old blocks.old.items }
     ensures ok { OnOk result (flat blocks.new.items ≡ entry.now ∷ []) }
     ensures err { OnErr result (blocks.new.items ≡ blocks.old.items) }
     ensures filled { AreFilled blocks.new.items }
-    ensures bounds { AreBounds bounds.new.items blocks.new.items }
+    ensures groups { AreGroups groups.new blocks.new.items }
     ensures memory { IfErr result (λ e. e ≡ Refusal.Memory) }
 {
-    put_own(alloc, blocks, bounds, 0, name, entry)
+    put_own(alloc, blocks, groups, 0, name, entry)
 }
 
 /// Where the block of its own is to come in that an entry at a place gets: at the end of a full
@@ -152,7 +154,7 @@ fn has_room(blocks: &Vec<Block>, block: usize) -> bool
 /// An entry comes in at a place, where its block has room.
 fn put_in_block(
     blocks: &mut Vec<Block>,
-    bounds: &mut Vec<Id>,
+    groups: &mut Groups,
     at: Place,
     entry: &Entry,
 ) -> Result<(), Refusal>
@@ -160,41 +162,46 @@ fn put_in_block(
     requires place { IsPlace blocks.old.items at.block at.index }
     requires room { length (slice_index_or blocks.old.items at.block []) < MOST }
     requires filled { AreFilled blocks.old.items }
-    requires bounds { AreBounds bounds.old.items blocks.old.items }
+    requires groups { AreGroups groups.old blocks.old.items }
     ensures ok { OnOk result (flat blocks.new.items
         ≡ before blocks.old.items at.block at.index
         ++ entry.now ∷ behind blocks.old.items at.block at.index) }
     ensures err { OnErr result (flat blocks.new.items ≡ flat blocks.old.items) }
     ensures filled { AreFilled blocks.new.items }
-    ensures bounds { AreBounds bounds.new.items blocks.new.items }
+    ensures groups { AreGroups groups.new blocks.new.items }
     ensures memory { IfErr result (λ e. e ≡ Refusal.Memory) }
 {
-    lower(bounds, at.block, entry.id);
-    blocks[at.block].put(at.index, entry)
+    lower(&mut groups.bounds, at.block, entry.id);
+    let block = &mut blocks[at.block];
+    let before = block.visible_len();
+    block.put(at.index, entry)?;
+    recount(&mut groups.counts, at.block, before, block.visible_len());
+    Ok(())
 }
 
 /// An entry comes in as a block of its own.
 fn put_own(
     alloc: Global,
     blocks: &mut Vec<Block>,
-    bounds: &mut Vec<Id>,
+    groups: &mut Groups,
     block: usize,
     name: usize,
     entry: &Entry,
 ) -> Result<(), Refusal>
     requires block { block ≤ vec_len blocks.old }
     requires filled { AreFilled blocks.old.items }
-    requires bounds { AreBounds bounds.old.items blocks.old.items }
+    requires groups { AreGroups groups.old blocks.old.items }
     ensures ok { OnOk result
         (blocks.new.items ≡ insert blocks.old.items block (entry.now ∷ [])) }
     ensures err { OnErr result (blocks.new.items ≡ blocks.old.items) }
     ensures filled { AreFilled blocks.new.items }
-    ensures bounds { AreBounds bounds.new.items blocks.new.items }
+    ensures groups { AreGroups groups.new blocks.new.items }
     ensures memory { IfErr result (λ e. e ≡ Refusal.Memory) }
 {
-    forget_from(bounds, block);
     let own = Block::of_one(alloc, name, *entry)?;
-    put_block(blocks, block, own)
+    put_block(blocks, block, own)?;
+    groups.forget_from(block);
+    Ok(())
 }
 
 /// A block comes in.
@@ -230,7 +237,7 @@ fn cut_for(index: usize) -> usize
 fn cut_block(
     alloc: Global,
     blocks: &mut Vec<Block>,
-    bounds: &mut Vec<Id>,
+    groups: &mut Groups,
     block: usize,
     cut: usize,
     name: usize,
@@ -240,19 +247,19 @@ fn cut_block(
     requires first { 0 < cut }
     requires second { cut < MOST }
     requires filled { AreFilled blocks.old.items }
-    requires bounds { AreBounds bounds.old.items blocks.old.items }
+    requires groups { AreGroups groups.old blocks.old.items }
     ensures ok { OnOk result (blocks.new.items ≡ cut_in blocks.old.items block cut) }
     ensures len { OnOk result (vec_len blocks.new ≡ vec_len blocks.old + 1) }
     ensures err { OnErr result (blocks.new.items ≡ blocks.old.items) }
     ensures filled { AreFilled blocks.new.items }
-    ensures bounds { AreBounds bounds.new.items blocks.new.items }
+    ensures groups { AreGroups groups.new blocks.new.items }
     ensures memory { IfErr result (λ e. e ≡ Refusal.Memory) }
 {
-    forget_from(bounds, block);
     let names = names_of_parts(name_at(blocks, block), name, cut < MOST - cut);
     let tail = blocks[block].tail(alloc, cut, names.second)?;
     put_block(blocks, block + 1, tail)?;
     blocks[block].cut(cut, names.first);
+    groups.forget_from(block);
     Ok(())
 }
 

@@ -55,6 +55,16 @@ pub(crate) fn is_at(entries: &[Entry], index: usize, id: Id) -> bool
     entries[index].id == id
 }
 
+/// The k-th identifier.
+pub(crate) fn id_at(entries: &[Entry], k: usize) -> Option<Id>
+    ensures { result ≡ slice_get (ids entries.now) k }
+{
+    match entries.get(k) {
+        Some(entry) => Some(entry.id),
+        None => None,
+    }
+}
+
 /// How many of one entry are visible.
 pub(crate) fn count_one(entry: Entry) -> usize
     ensures { result ≡ visible_count (entry ∷ []) }
@@ -122,6 +132,22 @@ pub(crate) fn push_ids(list: &mut Vec<Id>, entries: &[Entry]) -> Result<(), Refu
     Ok(())
 }
 
+/// The identifiers from the lo-th to the one before the hi-th go behind a list.
+pub(crate) fn push_id_range(
+    list: &mut Vec<Id>,
+    entries: &[Entry],
+    lo: usize,
+    hi: usize,
+) -> Result<(), Refusal>
+    requires some { lo < hi }
+    requires within { lo < length entries.now }
+    ensures ok { OnOk result (list.new.items
+        ≡ list.old.items ++ drop lo (take hi (ids entries.now))) }
+    ensures memory { IfErr result (λ e. e ≡ Refusal.Memory) }
+{
+    push_ids(list, &entries[lo..hi.min(entries.len())])
+}
+
 /// The characters of the visible entries go behind a text.
 pub(crate) fn push_text(chars: &mut Vec<char>, entries: &[Entry]) -> Result<(), Refusal>
     ensures ok { OnOk result (chars.new.items ≡ chars.old.items ++ visible_text entries.now) }
@@ -135,20 +161,16 @@ pub(crate) fn push_text(chars: &mut Vec<char>, entries: &[Entry]) -> Result<(), 
     Ok(())
 }
 
-/// An entry's identifier goes behind a list, where the entry is visible, none is to be skipped and
-/// the end is not reached.
-fn push_one(list: &mut Vec<Id>, entry: Entry, skip: usize, end: usize) -> Result<(), Refusal>
+/// An entry's identifier goes behind a list, where the entry is visible and none is to be skipped.
+fn push_one(list: &mut Vec<Id>, entry: Entry, skip: usize) -> Result<(), Refusal>
     ensures ok { OnOk result (list.new.items
-        ≡ list.old.items ++ drop skip (take end (visible_ids (entry ∷ [])))) }
+        ≡ list.old.items ++ drop skip (visible_ids (entry ∷ []))) }
     ensures memory { IfErr result (λ e. e ≡ Refusal.Memory) }
 {
     if entry.deleted {
         return Ok(());
     }
     if skip > 0 {
-        return Ok(());
-    }
-    if end == 0 {
         return Ok(());
     }
     list.push(entry.id)?;
@@ -170,7 +192,10 @@ pub(crate) fn push_visible(
     let mut skip = lo;
     let mut end = hi;
     for entry in entries {
-        push_one(list, *entry, skip, end)?;
+        if end <= skip {
+            return Ok(());
+        }
+        push_one(list, *entry, skip)?;
         skip = skip.saturating_sub(count_one(*entry));
         end = end.saturating_sub(count_one(*entry));
     }

@@ -4,8 +4,10 @@ ghost use Rattle.rga_ops.specs.Identifier.{is_root};
 ghost use Rattle.rga_sequence.specs.Entries.{ids, has, entry_of, place_in, put_entry, without_entry, mark_entry, visible_count, visible_ids, visible_text, IsPart};
 
 use crate::block::Block;
+use crate::counts::note_counts;
 use crate::entry::Entry;
 use crate::finding::{entries_of, entry_at, find};
+use crate::groups::Groups;
 use crate::listing;
 use crate::names::{add_name, copy_names, hints_of, name_at, renumber};
 use crate::place::Place;
@@ -32,8 +34,7 @@ pub struct Put {
 pub struct Sequence {
     alloc: Global,
     blocks: Vec<Block>,
-    // Of groups of blocks, what none of their identifiers is less than.
-    bounds: Vec<Id>,
+    groups: Groups,
     // Where the block of each name stands, and where an entry was looked for last.
     names: Vec<usize>,
     last: Place,
@@ -42,14 +43,13 @@ pub struct Sequence {
 impl Model for Sequence {
     ghost use Rattle.std.specs.Prelude.{List};
     ghost use Rattle.rga_sequence.specs.declared.entry.Entry.{Entry};
-    ghost use Rattle.rga_sequence.specs.Blocks.{flat, IsSequence, AreBounds};
+    ghost use Rattle.rga_sequence.specs.Blocks.{flat, IsSequence, AreGroups};
 
     ghost Value = { List Entry };
 
     ghost view = { λ s. flat s.blocks.items };
 
-    ghost invariant = { λ s.
-        IsSequence s.blocks.items × AreBounds s.bounds.items s.blocks.items };
+    ghost invariant = { λ s. IsSequence s.blocks.items × AreGroups s.groups s.blocks.items };
 }
 
 impl Sequence {
@@ -60,7 +60,7 @@ impl Sequence {
         Sequence {
             alloc,
             blocks: Vec::new(alloc),
-            bounds: Vec::new(alloc),
+            groups: Groups::new(alloc),
             names: Vec::new(alloc),
             last: Place { block: 0, index: 0 },
         }
@@ -83,7 +83,7 @@ impl Sequence {
         let at = put_behind(
             self.alloc,
             &mut self.blocks,
-            &mut self.bounds,
+            &mut self.groups,
             hints,
             parent,
             new_name,
@@ -99,6 +99,7 @@ impl Sequence {
         add_name(&mut self.names);
         // Where a block was cut, it may be the one before that has the new name.
         renumber(&mut self.names, &self.blocks, at.block.saturating_sub(1));
+        note_counts(&self.blocks, &mut self.groups.counts);
         Ok(Put {
             name: name_at(&self.blocks, at.block),
             new_block: Some(new_name),
@@ -112,9 +113,10 @@ impl Sequence {
         let hints = hints_of(&self.names, self.last, name);
         let count = self.blocks.as_slice().len();
         if let Some(at) = find(&self.blocks, hints, id) {
-            remove_at(&mut self.blocks, &mut self.bounds, at, id);
+            remove_at(&mut self.blocks, &mut self.groups, at, id);
             if self.blocks.as_slice().len() < count {
                 renumber(&mut self.names, &self.blocks, at.block);
+                note_counts(&self.blocks, &mut self.groups.counts);
             }
         }
     }
@@ -125,7 +127,7 @@ impl Sequence {
     {
         let hints = hints_of(&self.names, self.last, name);
         if let Some(at) = find(&self.blocks, hints, id) {
-            mark_at(&mut self.blocks, at, id, deleted);
+            mark_at(&mut self.blocks, &mut self.groups, at, id, deleted);
             self.last = at;
         }
     }
@@ -165,14 +167,14 @@ impl Sequence {
         requires { length self.now < 2 ^ 64 }
         ensures { result ≡ visible_count self.now }
     {
-        listing::visible_len(&self.blocks)
+        listing::visible_len(&self.blocks, &self.groups.counts)
     }
 
     /// The k-th visible entry, from 0. Takes no memory.
     pub fn element_at(&self, k: usize) -> Option<Id>
         ensures { result ≡ slice_get (visible_ids self.now) k }
     {
-        listing::element_at(&self.blocks, k)
+        listing::element_at(&self.blocks, &self.groups.counts, k)
     }
 
     /// The visible entries from the lo-th to the one before the hi-th. `Memory` alone.
@@ -181,7 +183,7 @@ impl Sequence {
             list.items ≡ drop lo (take hi (visible_ids self.now))) }
         ensures memory { IfErr result (λ e. e ≡ Refusal.Memory) }
     {
-        listing::elements(alloc, &self.blocks, lo, hi)
+        listing::elements(alloc, &self.blocks, &self.groups.counts, lo, hi)
     }
 
     /// How many visible entries are that of an identifier or stand before it, if there is one.
@@ -192,7 +194,7 @@ impl Sequence {
     {
         let hints = hints_of(&self.names, self.last, name);
         match find(&self.blocks, hints, id) {
-            Some(at) => Some(listing::place_at(&self.blocks, at, id)),
+            Some(at) => Some(listing::place_at(&self.blocks, &self.groups.counts, at, id)),
             None => None,
         }
     }
@@ -220,10 +222,12 @@ impl Sequence {
     {
         let names = copy_names(alloc, &self.names)?;
         let blocks = listing::copy_of(alloc, &self.blocks)?;
+        let mut groups = Groups::new(alloc);
+        note_counts(&blocks, &mut groups.counts);
         Ok(Sequence {
             alloc,
             blocks,
-            bounds: Vec::new(alloc),
+            groups,
             names,
             last: self.last,
         })

@@ -1,7 +1,7 @@
 use Rattle.std.proofs.Common.{◌≡◌, ℕ, ◌≤◌, ◌<◌, ◌+◌, ◌-◌, ◌*◌, ◌/◌, ◌%◌, [], length, slice_index_or, sym, ◌∙◌, subst, arith}
 use Rattle.std.proofs.Math.Nat.{div-mul-le_self, mod-eq-sub-div-mul}
 use Rattle.rga_ops.specs.Identifier.{Identifier}
-use Rattle.rga_sequence.specs.declared.bounds.TheConstants.{GROUP}
+use Rattle.rga_sequence.specs.declared.groups.TheConstants.{GROUP}
 use Rattle.rga_sequence.specs.Blocks.{Blocks, AreFrom}
 use Rattle.rga_sequence.proofs.BoundLaws.{larger_by}
 use Rattle.rga_sequence.proofs.bounds.is_group_larger.Goals as goal

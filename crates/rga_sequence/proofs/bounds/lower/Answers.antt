@@ -2,7 +2,7 @@ use Rattle.std.proofs.Common.{◌≡◌, ◌<◌, ◌/◌, length, subst, arith,
 use Rattle.std.specs.Ordering.{is_gt}
 use Rattle.std.proofs.Math.Nat.{div-mul-le_self, lt-div-mul-add}
 use Rattle.rga_ops.specs.Identifier.{id_cmp}
-use Rattle.rga_sequence.specs.declared.bounds.TheConstants.{GROUP}
+use Rattle.rga_sequence.specs.declared.groups.TheConstants.{GROUP}
 use Rattle.rga_sequence.proofs.BoundLaws.{bounds_lowered, is_low}
 use Rattle.rga_sequence.proofs.bounds.lower.Goals as goal
 

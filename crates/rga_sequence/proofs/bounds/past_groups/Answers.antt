@@ -1,5 +1,5 @@
 use Rattle.std.proofs.Common.{◌∙◌, arith}
-use Rattle.rga_sequence.specs.declared.bounds.TheConstants.{GROUP}
+use Rattle.rga_sequence.specs.declared.groups.TheConstants.{GROUP}
 use Rattle.rga_sequence.proofs.BoundLaws.{pass_blocks}
 use Rattle.rga_sequence.proofs.bounds.past_groups.Goals as goal
 

@@ -1,24 +1,20 @@
-use Rattle.std.proofs.Common.{◌≡◌, ◌-◌, ◌<◌, length, slice_index_or, sym, ap, ◌∙◌, subst, arith}
-use Rattle.std.specs.List.{slice_get}
+use Rattle.std.proofs.Common.{◌≡◌, ℕ, ◌≤◌, ◌+◌, ◌-◌, ◌*◌, length, take, drop, sym, ap, ◌∙◌, subst}
+use Rattle.std.specs.Prelude.{sum, slice_get}
+use Rattle.std.proofs.lemmas.List.{take_rest}
+use Rattle.rga_sequence.specs.declared.groups.TheConstants.{GROUP}
 use Rattle.rga_sequence.specs.Entries.{visible_ids}
-use Rattle.rga_sequence.specs.Blocks.{Blocks}
-use Rattle.rga_sequence.proofs.CountLaws.{element_here, element_later}
+use Rattle.rga_sequence.specs.Blocks.{Blocks, flat}
+use Rattle.rga_sequence.proofs.GroupLaws.{element_behind}
 use Rattle.rga_sequence.proofs.listing.element_at.Goals as goal
 
-pub returns-then-left-count : goal.returns-then-left-count
-returns-then-left-count c =
-    let bs : Blocks = c.args.blocks.now.items in
-    let within : c.loop-block.block-index < length bs = subst (λ xs. c.loop-block.block-index < length xs) c.deref-block-items.ensures.value c.loop-block-test.true in
-    let is : c.block-item.result ≡ slice_index_or bs c.loop-block.block-index c.block-item.result = c.block-item.is ∙ ap (λ xs. slice_index_or xs c.loop-block.block-index c.block-item.result) c.deref-block-items.ensures.value in
-    c.visible_at.ensures
-    ∙ ap (λ xs. slice_get (visible_ids xs) c.loop-block.left) c.entries.ensures
-    ∙ sym (element_here bs c.loop-block.block-index c.loop-block.left c.block-item.result within is (subst (λ n. c.loop-block.left < n) c.visible_len-count.ensures c.if-left-count.true))
-    ∙ c.loop-block.invariant
-
-pub loop-block-preserved : goal.loop-block-preserved
-loop-block-preserved c =
-    let bs : Blocks = c.args.blocks.now.items in
-    let within : c.loop-block.block-index < length bs = subst (λ xs. c.loop-block.block-index < length xs) c.deref-block-items.ensures.value c.loop-block-test.true in
-    let is : c.block-item.result ≡ slice_index_or bs c.loop-block.block-index c.block-item.result = c.block-item.is ∙ ap (λ xs. slice_index_or xs c.loop-block.block-index c.block-item.result) c.deref-block-items.ensures.value in
-    element_later bs c.loop-block.block-index c.loop-block.left (c.loop-block.left - c.visible_len-count.result) c.block-item.result within is (omega (arith, c.visible_len-count.ensures, c.if-left-count.false))
-    ∙ c.loop-block.invariant
+pub returns : goal.returns
+returns c =
+    let bs : Blocks = c.as_slice-2.result.now in
+    let from : ℕ = c.group_with-group.result.group * GROUP in
+    let rest : ℕ = c.group_with-group.result.rest in
+    let later : take (length bs - from) (drop from bs) ≡ drop from c.args.blocks.now.items = take_rest bs from ∙ ap (drop from) c.as_slice-2.ensures.value in
+    c.element_in.ensures
+    ∙ ap (λ xs. slice_get (visible_ids (flat xs)) rest) later
+    ∙ element_behind c.args.counts.now.items c.args.blocks.now.items c.group_with-group.result.group rest c.args.k c.requires
+    (subst (λ xs. c.group_with-group.result.group ≤ length xs) c.as_slice.ensures.value c.group_with-group.ensures.within)
+    (ap (λ xs. sum (take c.group_with-group.result.group xs) + rest) (sym c.as_slice.ensures.value) ∙ c.group_with-group.ensures.rest)

@@ -1,23 +1,22 @@
-use Rattle.std.proofs.Common.{◌≡◌, ◌+◌, ◌-◌, ◌<◌, ◌++◌, List, length, take, drop, slice_index_or, sym, ap, ◌∙◌, subst, append_assoc}
-use Rattle.rga_ops.specs.Identifier.{Identifier}
-use Rattle.rga_sequence.specs.declared.entry.Entry.{Entry}
+use Rattle.std.proofs.Common.{◌≡◌, ℕ, ◌≤◌, ◌+◌, ◌-◌, ◌*◌, ◌++◌, length, take, drop, sym, ap, ◌∙◌, subst}
+use Rattle.std.specs.Prelude.{sum}
+use Rattle.std.proofs.lemmas.List.{take_rest}
+use Rattle.rga_sequence.specs.declared.groups.TheConstants.{GROUP}
 use Rattle.rga_sequence.specs.Entries.{visible_ids}
 use Rattle.rga_sequence.specs.Blocks.{Blocks, flat}
-use Rattle.rga_sequence.proofs.CountLaws.{range_both, rest_of, ids_both, count_ids}
+use Rattle.rga_sequence.proofs.GroupLaws.{range_behind}
 use Rattle.rga_sequence.proofs.listing.elements.Goals as goal
 
-pub loop-block-preserved : goal.loop-block-preserved
-loop-block-preserved c =
-    let bs : Blocks = c.args.blocks.now.items in
-    let b : List Entry = c.block-item.result in
-    let within : c.loop-block.block-index < length bs = subst (λ xs. c.loop-block.block-index < length xs) c.deref-block-items.ensures.value c.loop-block-test.true in
-    let is : b ≡ slice_index_or bs c.loop-block.block-index b = c.block-item.is ∙ ap (λ xs. slice_index_or xs c.loop-block.block-index b) c.deref-block-items.ensures.value in
-    let later : List Identifier = visible_ids (flat (drop (c.loop-block.block-index + 1) bs)) in
-    let all : visible_ids (flat (drop c.loop-block.block-index bs)) ≡ visible_ids b ++ later = ap visible_ids (rest_of bs c.loop-block.block-index b within is) ∙ ids_both b (flat (drop (c.loop-block.block-index + 1) bs)) in
-    ap (λ xs. xs ++ drop c.saturating_sub-skip.result (take c.saturating_sub-end.result later)) c.in_ok-push_part.ensures.ok
-    ∙ append_assoc c.loop-block.list.items (drop c.loop-block.skip (take c.loop-block.end (visible_ids b))) (drop c.saturating_sub-skip.result (take c.saturating_sub-end.result later))
-    ∙ ap (λ xs. c.loop-block.list.items ++ xs) (sym (range_both (visible_ids b) later c.loop-block.skip c.loop-block.end c.saturating_sub-skip.result c.saturating_sub-end.result
-    (c.saturating_sub-skip.ensures ∙ ap (λ n. c.loop-block.skip - n) (c.visible_len.ensures ∙ sym (count_ids b)))
-    (c.saturating_sub-end.ensures ∙ ap (λ n. c.loop-block.end - n) (c.visible_len-in-loop-block.ensures ∙ sym (count_ids b)))))
-    ∙ ap (λ xs. c.loop-block.list.items ++ drop c.loop-block.skip (take c.loop-block.end xs)) (sym all)
-    ∙ c.loop-block.invariant
+pub returns-clause-ok : goal.returns-clause-ok
+returns-clause-ok c =
+    let bs : Blocks = c.as_slice-2.result.now in
+    let from : ℕ = c.group_with-group.result.group * GROUP in
+    let rest : ℕ = c.group_with-group.result.rest in
+    let later : take (length bs - from) (drop from bs) ≡ drop from c.args.blocks.now.items = take_rest bs from ∙ ap (drop from) c.as_slice-2.ensures.value in
+    c.in_ok-push_elements.ensures.ok
+    ∙ ap (λ xs. xs ++ drop rest (take c.saturating_sub.result (visible_ids (flat (take (length bs - from) (drop from bs)))))) c.new-list.ensures.items
+    ∙ ap (λ xs. drop rest (take c.saturating_sub.result (visible_ids (flat xs)))) later
+    ∙ ap (λ n. drop rest (take n (visible_ids (flat (drop from c.args.blocks.now.items))))) c.saturating_sub.ensures
+    ∙ range_behind c.args.counts.now.items c.args.blocks.now.items c.group_with-group.result.group rest c.args.lo c.args.hi c.requires
+    (subst (λ xs. c.group_with-group.result.group ≤ length xs) c.as_slice.ensures.value c.group_with-group.ensures.within)
+    (ap (λ xs. sum (take c.group_with-group.result.group xs) + rest) (sym c.as_slice.ensures.value) ∙ c.group_with-group.ensures.rest)

@@ -1,10 +1,10 @@
 use Rattle.std.proofs.Common.{◌≡◌, ◌<◌, ◌+◌, length, take, drop, sym, ap, ◌∙◌, subst, slice_index_or, arith}
 use Rattle.std.specs.Prelude.{insert, slice_set, []}
 use Rattle.rga_sequence.specs.declared.block.TheConstants.{MOST}
-use Rattle.rga_sequence.specs.Blocks.{Blocks, AreFilled, AreBounds, cut_in}
+use Rattle.rga_sequence.specs.Blocks.{Blocks, AreFilled, AreGroups, cut_in}
 use Rattle.rga_sequence.proofs.PlaceLaws.{block_at, halved}
 use Rattle.rga_sequence.proofs.PutLaws.{filled_cut}
-use Rattle.rga_sequence.proofs.BoundLaws.{bounds_cut}
+use Rattle.rga_sequence.proofs.GroupLaws.{take_cut}
 use Rattle.rga_sequence.proofs.putting.cut_block.Goals as goal
 
 pub tail-requires : goal.tail-requires
@@ -34,8 +34,8 @@ returns-clause-filled c =
     ∙ halved bs c.args.block c.args.cut c.index.result.now c.index_mut.result.now within in
     subst AreFilled (sym cut) (filled_cut bs c.args.block c.args.cut [] c.requires.filled c.requires.first (omega (arith, c.requires.full, c.requires.second)))
 
-pub returns-clause-bounds : goal.returns-clause-bounds
-returns-clause-bounds c =
+pub returns-clause-groups : goal.returns-clause-groups
+returns-clause-groups c =
     let bs : Blocks = c.args.blocks.now.items in
     let within : c.args.block < length bs = subst (λ n. c.args.block < n) c.args.blocks.now.ok.0 c.requires.block in
     let put : c.put_block.new.blocks.items ≡ insert bs (c.args.block + 1) (drop c.args.cut (slice_index_or bs c.args.block c.index.result.now)) = c.in_ok-put_block.ensures.ok ∙ ap (λ y. insert bs (c.args.block + 1) y) (c.in_ok-tail.ensures.ok ∙ ap (λ y. drop c.args.cut y) c.index.ensures) in
@@ -43,11 +43,7 @@ returns-clause-bounds c =
     ap (λ y. slice_set c.put_block.new.blocks.items c.args.block y) (c.cut.ensures ∙ ap (λ y. take c.args.cut y) c.index_mut.ensures.value)
     ∙ ap (λ zs. slice_set zs c.args.block (take c.args.cut (slice_index_or zs c.args.block c.index_mut.result.now))) put
     ∙ halved bs c.args.block c.args.cut c.index.result.now c.index_mut.result.now within in
-    subst (AreBounds c.forget_from.new.bounds.items) (sym cut) (bounds_cut c.forget_from.new.bounds.items bs c.args.block c.args.cut (c.forget_from.ensures.kept bs c.requires.bounds) c.forget_from.ensures.early)
+    subst (AreGroups c.forget_from.new.self) (sym cut) (c.forget_from.ensures bs (cut_in bs c.args.block c.args.cut) c.requires.groups (omega (arith, within)) (take_cut bs c.args.block c.args.cut))
 
-pub returns-in_err-tail-clause-bounds : goal.returns-in_err-tail-clause-bounds
-returns-in_err-tail-clause-bounds c = c.forget_from.ensures.kept c.args.blocks.now.items c.requires.bounds
-
-pub returns-in_err-put_block-clause-bounds : goal.returns-in_err-put_block-clause-bounds
-returns-in_err-put_block-clause-bounds c =
-    subst (AreBounds c.forget_from.new.bounds.items) (sym c.in_err-put_block.ensures.err) (c.forget_from.ensures.kept c.args.blocks.now.items c.requires.bounds)
+pub returns-in_err-put_block-clause-groups : goal.returns-in_err-put_block-clause-groups
+returns-in_err-put_block-clause-groups c = subst (AreGroups c.args.groups.now) (sym c.in_err-put_block.ensures.err) c.requires.groups

@@ -1,30 +1,27 @@
 use Rattle.std.proofs.Common.{◌≤◌, ◌<◌, length, sym, ap, ◌∙◌, subst, arith}
 use Rattle.std.specs.Prelude.{insert}
-use Rattle.rga_sequence.specs.Blocks.{Blocks, AreFilled, AreBounds}
-use Rattle.rga_sequence.proofs.ListLaws.{on_ok_map}
-use Rattle.rga_sequence.proofs.PutLaws.{filled_insert, either_way}
-use Rattle.rga_sequence.proofs.BoundLaws.{bounds_insert}
+use Rattle.rga_sequence.specs.Blocks.{Blocks, AreFilled, AreGroups}
+use Rattle.rga_sequence.proofs.PutLaws.{filled_insert}
+use Rattle.rga_sequence.proofs.GroupLaws.{take_insert}
 use Rattle.rga_sequence.proofs.putting.put_own.Goals as goal
 
 pub returns-clause-ok : goal.returns-clause-ok
-returns-clause-ok c =
-    on_ok_map c.put_block.result
-    (λ e. e ∙ ap (insert c.args.blocks.now.items c.args.block) c.in_ok-own.ensures.ok)
-    c.put_block.ensures.ok
+returns-clause-ok c = c.in_ok-put_block.ensures.ok ∙ ap (insert c.args.blocks.now.items c.args.block) c.in_ok-own.ensures.ok
 
 pub returns-clause-filled : goal.returns-clause-filled
 returns-clause-filled c =
     let one : 0 < length c.in_ok-own.own = subst (λ y. 0 < length y) (sym c.in_ok-own.ensures.ok) (omega arith) in
-    either_way AreFilled c.put_block.result c.put_block.new.blocks.items _ _ c.put_block.ensures.ok c.put_block.ensures.err
-    (filled_insert c.args.blocks.now.items c.args.block c.in_ok-own.own c.requires.filled one) c.requires.filled
+    subst AreFilled (sym c.in_ok-put_block.ensures.ok) (filled_insert c.args.blocks.now.items c.args.block c.in_ok-own.own c.requires.filled one)
 
-pub returns-clause-bounds : goal.returns-clause-bounds
-returns-clause-bounds c =
+pub returns-clause-groups : goal.returns-clause-groups
+returns-clause-groups c =
     let bs : Blocks = c.args.blocks.now.items in
-    let kept : AreBounds c.forget_from.new.bounds.items bs = c.forget_from.ensures.kept bs c.requires.bounds in
     let within : c.args.block ≤ length bs = subst (λ n. c.args.block ≤ n) c.args.blocks.now.ok.0 c.requires.block in
-    either_way (AreBounds c.forget_from.new.bounds.items) c.put_block.result c.put_block.new.blocks.items _ _ c.put_block.ensures.ok c.put_block.ensures.err
-    (bounds_insert c.forget_from.new.bounds.items bs c.args.block c.in_ok-own.own kept c.forget_from.ensures.early within) kept
+    subst (AreGroups c.forget_from.new.self) (sym c.in_ok-put_block.ensures.ok)
+    (c.forget_from.ensures bs (insert bs c.args.block c.in_ok-own.own) c.requires.groups within (take_insert bs c.args.block c.in_ok-own.own within))
 
-pub returns-in_err-own-clause-bounds : goal.returns-in_err-own-clause-bounds
-returns-in_err-own-clause-bounds c = c.forget_from.ensures.kept c.args.blocks.now.items c.requires.bounds
+pub returns-in_err-put_block-clause-filled : goal.returns-in_err-put_block-clause-filled
+returns-in_err-put_block-clause-filled c = subst AreFilled (sym c.in_err-put_block.ensures.err) c.requires.filled
+
+pub returns-in_err-put_block-clause-groups : goal.returns-in_err-put_block-clause-groups
+returns-in_err-put_block-clause-groups c = subst (AreGroups c.args.groups.now) (sym c.in_err-put_block.ensures.err) c.requires.groups

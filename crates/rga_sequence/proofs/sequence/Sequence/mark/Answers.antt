@@ -5,6 +5,3 @@ use Rattle.rga_sequence.proofs.sequence.Sequence.mark.Goals as goal
 
 pub returns-in_default : goal.returns-in_default
 returns-in_default c = sym (mark_absent c.args.deleted c.args.id c.args.self.now (ap (has c.args.id) (sym c.self.view_is) ∙ c.in_default.ensures.none refl))
-
-pub invariant_of-self : goal.invariant_of-self
-invariant_of-self c = (c.mark_at.ensures.kept, c.mark_at.ensures.bounds c.self.inside.bounds.items c.self.invariant.1)

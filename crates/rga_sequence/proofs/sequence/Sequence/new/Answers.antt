@@ -1,11 +1,10 @@
 use Rattle.std.proofs.Common.{sym, subst}
-use Rattle.rga_sequence.specs.Blocks.{IsSequence, AreBounds}
+use Rattle.rga_sequence.specs.Blocks.{IsSequence}
 use Rattle.rga_sequence.proofs.PutLaws.{apart_none}
-use Rattle.rga_sequence.proofs.BoundLaws.{no_bounds}
 use Rattle.rga_sequence.proofs.sequence.Sequence.new.Goals as goal
 
 pub invariant_of-result : goal.invariant_of-result
 invariant_of-result c = (
   subst IsSequence (sym c.new.ensures.items) (record { apart = apart_none; filled = tt }),
-  subst (λ xs. AreBounds xs c.new.result.items) (sym c.new-2.ensures.items) (no_bounds c.new.result.items),
+  c.new-2.ensures c.new.result.items,
 )

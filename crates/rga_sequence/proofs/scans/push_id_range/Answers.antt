@@ -1,0 +1,10 @@
+use Rattle.std.proofs.Common.{◌++◌, ap, ◌∙◌, arith}
+use Rattle.rga_sequence.proofs.ListLaws.{on_ok_map}
+use Rattle.rga_sequence.proofs.CountLaws.{ids_range}
+use Rattle.rga_sequence.proofs.scans.push_id_range.Goals as goal
+
+pub returns-clause-ok : goal.returns-clause-ok
+returns-clause-ok c =
+    on_ok_map c.push_ids.result
+    (λ e. e ∙ ap (λ xs. c.args.list.now.items ++ xs) (ids_range c.args.entries.now c.args.lo c.args.hi c.min.result (omega (arith, c.min.ensures)) c.min.ensures))
+    c.push_ids.ensures.ok
