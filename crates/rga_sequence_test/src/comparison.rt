@@ -1,9 +1,9 @@
 //! A sequence beside a plain list.
 use crate::plain_list::PlainList;
-use crate::random::Random;
 use rga_ops::{Id, Refusal};
 use rga_sequence::{Entry, Put, Sequence};
 use std::alloc::Global;
+use test_fixtures::Random;
 
 /// How many steps a run has; a block has at most 256 entries.
 const STEPS: u64 = 900;

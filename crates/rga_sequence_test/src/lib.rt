@@ -9,5 +9,3 @@
 mod comparison;
 #[cfg(test)]
 mod plain_list;
-#[cfg(test)]
-mod random;

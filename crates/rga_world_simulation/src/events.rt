@@ -1,8 +1,8 @@
 //! Random events.
-use crate::random::Random;
 use rga_tree::TreeStore;
 use rga_world::{Event, World};
 use std::alloc::Global;
+use test_fixtures::Random;
 
 /// How many sites there are.
 pub const SITES: usize = 8;

@@ -10,7 +10,6 @@
 
 mod events;
 mod looks;
-mod random;
 mod simulation;
 
 use simulation::Simulation;

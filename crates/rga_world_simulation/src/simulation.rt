@@ -1,12 +1,12 @@
 //! A world, and what was seen of it.
 use crate::events::{FIRST, SITES, event};
 use crate::looks::{is_part, joined, places, rises};
-use crate::random::Random;
 use rga_ops::{Id, Refusal};
 use rga_store::{MAX_LIMIT, TextStore};
 use rga_tree::TreeStore;
 use rga_world::{World, WorldRefusal};
 use std::alloc::Global;
+use test_fixtures::Random;
 
 #[derive(Clone, Copy)]
 pub struct Counts {
