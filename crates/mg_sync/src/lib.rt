@@ -1,13 +1,16 @@
 //! Buffers that meet peers: what is exchanged over a link of a port, and what is saved around it.
 //!
 //! `exchange` is for the replica that connects, `serve` for the one that waits; both save the
-//! buffer first, and save it again once they have heard the peer. The crate stands on mg_files for
-//! buffers, ports and saves, and on rga_exchange and rga_lines for what passes over a link. It is
-//! generic over any `TextStore` and any port. The layer above may rest on one record of facts for
-//! each (`Exchanges`, `Serves`): which calls are made of the port, in which order and up to which
-//! fault; what passed over the link; and what was gained and what stayed, whatever was answered.
-//! Another (`ExchangesOver`, `ServesOver`) says so of the one link that the port opened, and `laws`
-//! what follows of links that tell their bytes: two that meet hold one content.
+//! buffer first, and save it again once they have heard the peer. Where the exchanges of a buffer
+//! are brief both tell first what they know, and then send only what the other lacks. The crate
+//! stands on mg_files for buffers, ports and saves, and on rga_exchange, rga_brief and rga_lines for
+//! what passes over a link. It is generic over any `TextStore` and any port. The layer above may
+//! rest on one record of facts for each (`Exchanges`, `Serves`): which calls are made of the port,
+//! in which order and up to which fault; what passed over the link; and what was gained and what
+//! stayed, whatever was answered. Another (`ExchangesOver`, `ServesOver`) says so of the one link
+//! that the port opened, and `laws` what follows of links that tell their bytes: two that meet hold
+//! one content, and whatever they tell each other of what they know, each takes a part of what the
+//! other holds.
 #![tactic(auto)]
 
 mod asking;
