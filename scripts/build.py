@@ -4,8 +4,8 @@
 `rt ci` does the work, in copies that have these crates alone, without wrong bodies: it proves side
 by side what does not wait for one another, and what it proves the gate need not prove again. But it
 shares the processors evenly among the crates that it may begin, and most crates wait for those of
-the text type. So these come first, in a run of their own that goes before what is proved beside it;
-once they are proved all others follow, and what is still proved beside them is not proved twice.
+the text type or of lines. So these come first, in runs of their own; once the text type is proved
+all others follow, and what is still proved beside them is not proved twice.
 
 The prover's own words go to build/prove-NAME.log, whose end is shown where a crate fails.
 """
@@ -69,20 +69,19 @@ class Proving:
     def prove_all(self):
         """Proves the program and all below it, and returns the folder in which it was built."""
         with concurrent.futures.ThreadPoolExecutor() as pool:
-            beside = [pool.submit(self.prove, name, "nice") for name in BESIDE]
+            beside = [pool.submit(self.prove, name) for name in BESIDE]
             self.prove(FIRST)
             tree = self.prove(PROGRAM)
             for run in beside:
                 run.result()
         return tree
 
-    def prove(self, name, *before):
+    def prove(self, name):
         """Proves a crate and those below it, and says of each when it is done; ends the program where one fails."""
         tree, log = self.folder / name, BUILD / f"prove-{name}.log"
         copy(lines_below(name), tree)
-        words = [*before, "rt", "ci"]
         how = {"stdin": subprocess.DEVNULL, "stdout": subprocess.PIPE, "stderr": subprocess.STDOUT}
-        with log.open("w") as kept, subprocess.Popen(words, cwd=tree, text=True, errors="replace", **how) as gate:
+        with log.open("w") as kept, subprocess.Popen(["rt", "ci"], cwd=tree, text=True, errors="replace", **how) as gate:
             for line in gate.stdout:
                 kept.write(line)
                 if told := TOLD.match(line):
