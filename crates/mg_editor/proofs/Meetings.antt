@@ -3,8 +3,8 @@ use Rattle.std.proofs.Common.{ℕ, List, Option}
 use Rattle.mg_sync.proofs.LessSaid.{exchanges_over, serves_over, exchanges_some, serves_some}
 use Rattle.mg_files.specs.Calls.{Call}
 use Rattle.mg_files.specs.OpenState.{OpenState}
-use Rattle.mg_workspace.specs.Saving.{Changes}
 use Rattle.mg_workspace.specs.Workspaces.{Workspace}
+use Rattle.mg_editor.specs.Current.{Changes}
 use Rattle.mg_editor.specs.Editors.{Editor}
 use Rattle.mg_editor.specs.Telling.{Answer}
 use Rattle.mg_editor.specs.Meeting.{Exchanged, Served, ExchangedOver, ServedOver}
@@ -12,14 +12,11 @@ use Rattle.mg_editor.specs.Meeting.{Exchanged, Served, ExchangedOver, ServedOver
 -- what the current buffer becomes, of which less is said
 changes : {R T : OpenState → OpenState → Type 0} → ((b d : OpenState) → R b d → T b d) → (w v : Workspace) → Changes R w v → Changes T w v
 changes f w v c = record {
-  buffers = record {
-    before = c.buffers.before;
-    after = c.buffers.after;
-    was = c.buffers.was;
-    became = f c.buffers.before c.buffers.after c.buffers.became;
-    is = c.buffers.is;
-  };
-  rest = c.rest;
+  before = c.before;
+  after = c.after;
+  was = c.was;
+  became = f c.before c.after c.became;
+  is = c.is;
 }
 
 module _ {L : Type 0} (remaining contents : L → Option (List ℕ)) {links opened : Option (List L)} {calls more : Option (List Call)} {old new : Editor} {r : Answer} where

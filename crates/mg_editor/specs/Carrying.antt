@@ -6,7 +6,7 @@ use Rattle.mg_minibuffer.specs.declared.ending.Request.{Request}
 use Rattle.mg_minibuffer.specs.declared.ending.Request.TheVariants.{Idle, Save, Find, Exchange, Serve, Quit}
 use Rattle.mg_minibuffer.specs.declared.message.Message.{Message}
 use Rattle.mg_minibuffer.specs.declared.message.Message.TheVariants.{Wrote, NoChanges}
-use Rattle.mg_workspace.specs.Saving.{Saves}
+use Rattle.mg_editor.specs.Current.{Saves}
 use Rattle.mg_editor.specs.Editors.{Editor}
 use Rattle.mg_editor.specs.Finding.{Found}
 use Rattle.mg_editor.specs.Meeting.{Exchanged, Served}

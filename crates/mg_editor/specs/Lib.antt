@@ -1,5 +1,6 @@
 pub mod Dialogues
 pub mod Editors
+pub mod Current
 pub mod Presses
 pub mod Opening
 pub mod Telling

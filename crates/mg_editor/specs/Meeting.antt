@@ -11,7 +11,7 @@ use Rattle.mg_minibuffer.specs.declared.ending.Request.{Request}
 use Rattle.mg_minibuffer.specs.declared.ending.Request.TheVariants as request
 use Rattle.mg_minibuffer.specs.declared.message.Message.{Message}
 use Rattle.mg_minibuffer.specs.declared.message.Message.TheVariants as message
-use Rattle.mg_workspace.specs.Saving.{Changes}
+use Rattle.mg_editor.specs.Current.{Changes}
 use Rattle.mg_editor.specs.Editors.{Editor}
 use Rattle.mg_editor.specs.Telling.{Answer, message_of_exchange, told}
 use Rattle.mg_editor.specs.declared.fault.CarryFault.TheVariants.{Exchange}

@@ -93,7 +93,7 @@ impl<S: TextStore> Editor<S> {
             (P.calls port.old) (P.calls port.new) self.old self.new result }
         ensures device { telling.CountsBehind result (P.failures port.old) (P.failures port.new) }
     {
-        let answer = self.work.save(port);
+        let answer = self.work.current_mut().save(port);
         self.talk.tell(message_of_save(answer));
         save_done(answer)
     }

@@ -40,7 +40,7 @@ impl<S: TextStore> Editor<S> {
             self.old self.new result }
         ensures device { telling.CountsBehind result (P.failures port.old) (P.failures port.new) }
     {
-        let answer = self.work.exchange(port);
+        let answer = mg_sync::exchange(self.alloc, self.work.current_mut(), port);
         self.talk.tell(message_of_meeting(&answer));
         meeting_done(answer)
     }
@@ -53,7 +53,7 @@ impl<S: TextStore> Editor<S> {
             self.old self.new result }
         ensures device { telling.CountsBehind result (P.failures port.old) (P.failures port.new) }
     {
-        let answer = self.work.serve(port);
+        let answer = mg_sync::serve(self.alloc, self.work.current_mut(), port);
         self.talk.tell(message_of_meeting(&answer));
         meeting_done(answer)
     }

@@ -6,5 +6,4 @@ pub mod Removals
 pub mod Arrangements
 pub mod Current
 pub mod Keeping
-pub mod Saves
 pub mod ShownWindows

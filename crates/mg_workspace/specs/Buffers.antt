@@ -29,6 +29,10 @@ with_buffer b bs = record { all = bs.all ++ b ∷ []; current = length bs.all }
 abbrev pub without_buffer : ℕ → Buffers → Buffers
 without_buffer gone bs = record { all = remove bs.all gone; current = moved gone bs.current }
 
+-- with another as the current one
+abbrev pub with_current : Buffers → OpenState → Buffers
+with_current bs b = record bs { all = slice_set bs.all bs.current b }
+
 -- ---- whether their texts and the places of point and mark are at hand
 
 abbrev pub listed : OpenState → OpenState

@@ -4,6 +4,5 @@ pub mod Buffers
 pub mod Viewports
 pub mod Workspaces
 pub mod Actions
-pub mod Saving
 pub mod Opening
 pub mod Showing

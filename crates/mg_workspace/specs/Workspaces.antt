@@ -27,6 +27,10 @@ pub record Workspace : Type 0 where
 abbrev pub IsCurrent : Workspace → OpenState → Type 0
 IsCurrent w b = slice_get w.buffers.all w.buffers.current ≡ Some b
 
+-- with another as the current buffer
+abbrev pub with_current : Workspace → OpenState → Workspace
+with_current w b = record w { buffers = buffers.with_current w.buffers b }
+
 -- the current buffer is listed, and nothing else changed
 abbrev pub IsListed : Workspace → Workspace → Type 0
 IsListed w v = AtCurrent buffers.IsListed w.buffers v.buffers × (v ≡ record w { buffers = v.buffers })

@@ -2,18 +2,12 @@
 ghost use Rattle.std.specs.Prelude.{[], ◌∷◌, IfOk, ◌≡◌, ◌<◌, Some, length, slice_get, chars, nat_eq, OnOk, OnErr, IfErr, IfSome};
 ghost use Rattle.std.specs.Cmp.Lexicographic.{pointwise};
 ghost use Rattle.mg_workspace.specs.Buffers as spec;
-ghost use Rattle.mg_workspace.specs.Saving.{CurrentBecomes};
-ghost use Rattle.mg_files.specs.Saving.{SavesTo};
-ghost use Rattle.mg_files.specs.Calls.{failures_after};
-ghost use Rattle.mg_sync.specs.Meeting.{CountsFaults};
-ghost use Rattle.mg_sync.specs.Linking.{ExchangesOver, ServesOver};
 ghost use Rattle.mg_workspace.specs.Mapped.{mapped_at};
 ghost use Rattle.mg_workspace.specs.Names as names;
 
 use mg_buffer::{BufferFault, Memo};
-use mg_files::{Port, PortFault, VisitedBuffer};
+use mg_files::VisitedBuffer;
 use mg_plain::Command;
-use mg_sync::{ExchangeFault, Exchanged};
 use rga_ops::Refusal;
 use rga_store::TextStore;
 use std::alloc::{AllocError, Global};
@@ -42,6 +36,10 @@ impl<S: TextStore> Model for Buffers<S> {
 }
 
 impl<S: TextStore> Buffers<S> {
+    ghost use Rattle.std.specs.Borrow.{Lends, sem};
+    ghost use Rattle.mg_files.specs.contracts.visited_buffer.VisitedBuffer.{the_row as of_buffer};
+    ghost use Rattle.mg_workspace.specs.contracts.buffers.Buffers.{the_row};
+
     /// One buffer, which is current. `AllocError` alone.
     pub fn new(alloc: Global, opened: VisitedBuffer<S>) -> Result<Buffers<S>, AllocError>
         ensures { IfOk result (λ b. b ≡ record { all = opened ∷ []; current = 0 }) }
@@ -56,6 +54,15 @@ impl<S: TextStore> Buffers<S> {
         ensures { slice_get self.now.all self.now.current ≡ Some result.now }
     {
         &self.all[self.current]
+    }
+
+    /// The current buffer, to be changed.
+    pub fn current_mut(&mut self) -> &mut VisitedBuffer<S>
+        ensures* writes_back { sem 𝓛 (Lends (the_row S.row S.Taker) (of_buffer S.row S.Taker)
+            self.entry result (spec.with_current self.old)) }
+        ensures value { slice_get self.old.all self.old.current ≡ Some result.now }
+    {
+        &mut self.all[self.current]
     }
 
     /// Its index.
@@ -196,43 +203,6 @@ impl<S: TextStore> Buffers<S> {
         ensures { spec.AtCurrent (λ b d. spec.IdlesTo b memo.old d memo.new) self.old self.new }
     {
         self.all[self.current].buffer.idle(memo);
-    }
-
-    /// The current buffer is saved.
-    pub fn save<P: Port>(&mut self, port: &mut P) -> Result<bool, PortFault>
-        ensures saves { CurrentBecomes
-            (SavesTo result (P.calls port.old) (P.calls port.new)) self.old self.new }
-        ensures device { P.failures port.new ≡ failures_after result (P.failures port.old) }
-    {
-        self.all[self.current].save(port)
-    }
-
-    /// The current buffer is exchanged with a peer that waits.
-    pub fn exchange<P: Port>(
-        &mut self,
-        alloc: Global,
-        port: &mut P,
-    ) -> Result<Exchanged, ExchangeFault>
-        ensures exchanges { CurrentBecomes (λ b d. ExchangesOver P.Link.remaining P.Link.contents
-            (P.links port.old) (P.links port.new) (P.calls port.old) (P.calls port.new) b d result)
-            self.old self.new }
-        ensures device { CountsFaults result (P.failures port.old) (P.failures port.new) }
-    {
-        mg_sync::exchange(alloc, &mut self.all[self.current], port)
-    }
-
-    /// The current buffer is exchanged with a peer that is waited for.
-    pub fn serve<P: Port>(
-        &mut self,
-        alloc: Global,
-        port: &mut P,
-    ) -> Result<Exchanged, ExchangeFault>
-        ensures serves { CurrentBecomes (λ b d. ServesOver P.Link.remaining P.Link.contents
-            (P.links port.old) (P.links port.new) (P.calls port.old) (P.calls port.new) b d result)
-            self.old self.new }
-        ensures device { CountsFaults result (P.failures port.old) (P.failures port.new) }
-    {
-        mg_sync::serve(alloc, &mut self.all[self.current], port)
     }
 }
 

@@ -1,23 +1,18 @@
 //! What is worked on: the buffers, what commands leave for the next one, and the windows.
 ghost use Rattle.std.specs.Prelude.{◌≡◌, ◌<◌, ◌≤◌, IfOk, OnOk, OnErr, IfErr};
-ghost use Rattle.mg_files.specs.Calls.{failures_after};
 ghost use Rattle.mg_files.specs.declared.fault.LoadFault.TheVariants.{Memory};
 ghost use Rattle.mg_screen.specs.declared.size.TheConstants.{MIN_COLUMNS, MAX_COLUMNS};
 ghost use Rattle.mg_workspace.specs.Actions.{Keeps};
 ghost use Rattle.mg_workspace.specs.Opening.{workspace};
-ghost use Rattle.mg_sync.specs.Meeting.{CountsFaults};
-ghost use Rattle.mg_sync.specs.Linking.{ExchangesOver, ServesOver};
-ghost use Rattle.mg_workspace.specs.Saving.{Saves, Changes};
 ghost use Rattle.mg_workspace.specs.Workspaces as spec;
 
 use crate::buffers::Buffers;
 use crate::viewport::Viewport;
 use mg_buffer::Memo;
-use mg_files::{LoadFault, Port, PortFault, VisitedBuffer};
+use mg_files::{LoadFault, VisitedBuffer};
 use mg_minibuffer::Scene;
 use mg_screen::Windows;
 use mg_settings::Settings;
-use mg_sync::{ExchangeFault, Exchanged};
 use rga_ops::Refusal;
 use rga_store::TextStore;
 use std::alloc::Global;
@@ -82,6 +77,10 @@ impl<S: TextStore> Model for Workspace<S> {
 }
 
 impl<S: TextStore> Workspace<S> {
+    ghost use Rattle.std.specs.Borrow.{Lends, sem};
+    ghost use Rattle.mg_files.specs.contracts.visited_buffer.VisitedBuffer.{the_row as of_buffer};
+    ghost use Rattle.mg_workspace.specs.contracts.workspace.Workspace.{the_row};
+
     /// One buffer in one window, from its first line on. `Memory` alone.
     pub fn new(
         alloc: Global,
@@ -119,44 +118,20 @@ impl<S: TextStore> Workspace<S> {
         self.buffers.current()
     }
 
+    /// The current buffer, to be changed: the windows go on showing it. Takes no memory.
+    pub fn current_mut(&mut self) -> &mut VisitedBuffer<S>
+        ensures* writes_back { sem 𝓛 (Lends (the_row S.row S.Taker) (of_buffer S.row S.Taker)
+            self.entry result (spec.with_current self.old)) }
+        ensures value { spec.IsCurrent self.old result.now }
+    {
+        self.buffers.current_mut()
+    }
+
     /// The index of the current window from the top, from 0. Takes no memory.
     pub fn window(&self) -> usize
         ensures { result ≡ self.now.windows.current }
     {
         self.windows.current()
-    }
-
-    /// Saves the current buffer, as `VisitedBuffer::save` does, and answers whether there was
-    /// something to save. Faults: those of `VisitedBuffer::save`.
-    pub fn save<P: Port>(&mut self, port: &mut P) -> Result<bool, PortFault>
-        ensures saves { Saves result (P.calls port.old) (P.calls port.new) self.old self.new }
-        ensures device { P.failures port.new ≡ failures_after result (P.failures port.old) }
-    {
-        self.buffers.save(port)
-    }
-
-    /// Exchanges the current buffer with the peer that the port connects to, as
-    /// `mg_sync::exchange` does, and answers how many operations were sent and how many
-    /// received. Faults: those of that call.
-    pub fn exchange<P: Port>(&mut self, port: &mut P) -> Result<Exchanged, ExchangeFault>
-        ensures exchanges { Changes (λ b d. ExchangesOver P.Link.remaining P.Link.contents
-            (P.links port.old) (P.links port.new) (P.calls port.old) (P.calls port.new) b d result)
-            self.old self.new }
-        ensures device { CountsFaults result (P.failures port.old) (P.failures port.new) }
-    {
-        self.buffers.exchange(self.alloc, port)
-    }
-
-    /// Exchanges the current buffer with the first peer that the port accepts, as
-    /// `mg_sync::serve` does, and answers how many operations were sent and how many received.
-    /// Faults: those of that call.
-    pub fn serve<P: Port>(&mut self, port: &mut P) -> Result<Exchanged, ExchangeFault>
-        ensures serves { Changes (λ b d. ServesOver P.Link.remaining P.Link.contents
-            (P.links port.old) (P.links port.new) (P.calls port.old) (P.calls port.new) b d result)
-            self.old self.new }
-        ensures device { CountsFaults result (P.failures port.old) (P.failures port.new) }
-    {
-        self.buffers.serve(self.alloc, port)
     }
 
     /// Lists the current buffer: its text and the places of point and mark are then at hand.

@@ -1,23 +1,32 @@
-use Rattle.std.proofs.Common.{rules, ◌≡◌, sym, subst}
+use Rattle.std.proofs.Common.{rules, ◌≡◌, refl, sym, subst}
 use Rattle.mg_sync.specs.Linking.{ServesOver}
 use Rattle.mg_files.specs.OpenState.{OpenState}
-use Rattle.mg_workspace.specs.Saving.{Changes}
-use Rattle.mg_workspace.specs.Workspaces.{Workspace}
+use Rattle.mg_workspace.specs.Workspaces.{Workspace, with_current}
+use Rattle.mg_editor.specs.Current.{Changes}
 use Rattle.mg_editor.proofs.Meetings.{served_some}
 use Rattle.mg_editor.proofs.editor.Editor.serve.Goals as goal
 
 pub returns-clause-over : goal.returns-clause-over
 returns-clause-over g c =
-    let is : c.args.self.now.work ≡ c.self.inside.work = search rules in
+    let work = c.self.inside.work in
+    let is : c.args.self.now.work ≡ work = search rules in
+    let d = c.serve-answer.new.opened in
     let r = c.serve-answer.result in
     let calls = g.P.Port.calls c.args.port.now in
     let more = g.P.Port.calls c.serve-answer.new.port in
     let links = g.P.Port.links c.args.port.now in
     let opened = g.P.Port.links c.serve-answer.new.port in
-    let became = λ (b d : OpenState). ServesOver g.P.Link.Read.remaining g.P.Link.Write.contents links opened calls more b d r in
+    let became = λ (x y : OpenState). ServesOver g.P.Link.Read.remaining g.P.Link.Write.contents links opened calls more x y r in
+    let changes : Changes became work (with_current work d) = record {
+      before = c.current_mut.result.now;
+      after = d;
+      was = c.current_mut.ensures.value;
+      became = c.serve-answer.ensures.over;
+      is = refl;
+    } in
     record {
       answer = r;
-      work = subst (λ (w : Workspace). Changes became w c.serve-answer.new.self) (sym is) c.serve-answer.ensures.serves;
+      work = subst (λ (w : Workspace). Changes became w (with_current work d)) (sym is) changes;
       rest = search rules;
       done = c.meeting_done.ensures;
     }
