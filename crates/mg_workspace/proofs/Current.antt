@@ -1,10 +1,9 @@
 -- The current buffer, set.
 use Rattle.std.proofs.Common.{◌≡◌, ℕ, zero, suc, true, ◌<◌, List, [], ◌∷◌, Some, length, get_or, slice_get, slice_set, refl, sym, subst, ap, ◌∙◌, arith}
 use Rattle.std.proofs.lemmas.List.{length-set}
-use Rattle.std.proofs.lemmas.Option.{slice_get-get_or}
 use Rattle.mg_buffer.specs.State.{State}
 use Rattle.mg_files.specs.OpenState.{OpenState}
-use Rattle.mg_workspace.specs.Buffers.{Buffers, AtCurrent, IsListed, listed}
+use Rattle.mg_workspace.specs.Buffers.{Buffers, AtCurrent, IsListed, listed, with_current}
 use Rattle.mg_workspace.specs.Mapped.{mapped_at}
 use Rattle.mg_workspace.proofs.MappedLaws.{set_mapped}
 
@@ -41,16 +40,5 @@ listed_current old new i is inside set =
       is = set ∙ ap (λ ys. record old { all = ys }) (ap (λ k. mapped_at listed k old.all) is ∙ sym (set_mapped listed old.all old.current x (listed x) at refl));
     }
 
-pub at_current : (R : State → State → Type 0) (old : Buffers) (xs : List OpenState) (i : ℕ) (x : OpenState) (y : State)
-    → record { all = xs; current = i } ≡ old → i < length xs → x ≡ get_or xs i x → R x.buffer y
-    → AtCurrent R old (record { all = slice_set xs i (record x { buffer = y }); current = i })
-at_current R old xs i x y is inside value r =
-    let new : Buffers = record { all = slice_set xs i (record x { buffer = y }); current = i } in
-    let here : AtCurrent R (record { all = xs; current = i }) new = record {
-      before = x;
-      after = y;
-      was = slice_get-get_or xs i x inside ∙ ap Some (sym value);
-      became = r;
-      is = refl;
-    } in
-    subst (λ o. AtCurrent R o new) is here
+pub at_current : (R : State → State → Type 0) (old : Buffers) (b : OpenState) (y : State) → slice_get old.all old.current ≡ Some b → R b.buffer y → AtCurrent R old (with_current old (record b { buffer = y }))
+at_current R old b y was became = record { before = b; after = y; was = was; became = became; is = refl }

@@ -36,8 +36,9 @@ impl<S: TextStore> Workspace<S> {
         ensures ran { spec.Ran command.now argument self.old self.new result }
         ensures kept { result ≡ Err Memory → spec.Keeps self.old self.new }
     {
-        let answer = self
-            .buffers
+        let current = self.buffers.current_mut();
+        let answer = current
+            .buffer
             .run(command, argument, &mut self.memo, self.fill);
         of_buffer(answer)
     }
@@ -47,7 +48,7 @@ impl<S: TextStore> Workspace<S> {
         ensures undid { spec.Undid self.old self.new result }
         ensures kept { result ≡ Err Memory → spec.Keeps self.old self.new }
     {
-        let answer = self.buffers.undo(&mut self.memo);
+        let answer = self.buffers.current_mut().buffer.undo(&mut self.memo);
         of_buffer(answer)
     }
 

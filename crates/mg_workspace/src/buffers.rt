@@ -5,9 +5,8 @@ ghost use Rattle.mg_workspace.specs.Buffers as spec;
 ghost use Rattle.mg_workspace.specs.Mapped.{mapped_at};
 ghost use Rattle.mg_workspace.specs.Names as names;
 
-use mg_buffer::{BufferFault, Memo};
+use mg_buffer::Memo;
 use mg_files::VisitedBuffer;
-use mg_plain::Command;
 use rga_ops::Refusal;
 use rga_store::TextStore;
 use std::alloc::{AllocError, Global};
@@ -175,34 +174,11 @@ impl<S: TextStore> Buffers<S> {
         self.all.iter().any(|b| b.is_changed())
     }
 
-    /// The current buffer runs a command.
-    pub fn run(
-        &mut self,
-        command: &Command,
-        argument: u16,
-        memo: &mut Memo,
-        fill: u16,
-    ) -> Result<(), BufferFault>
-        ensures { spec.AtCurrent
-            (λ b d. spec.RunsTo command.now argument fill b memo.old d memo.new result) self.old self.new }
-    {
-        let index = self.current;
-        self.all[index].buffer.run(command, argument, memo, fill)
-    }
-
-    /// The current buffer undoes.
-    pub fn undo(&mut self, memo: &mut Memo) -> Result<(), BufferFault>
-        ensures { spec.AtCurrent
-            (λ b d. spec.UndoesTo b memo.old d memo.new result) self.old self.new }
-    {
-        self.all[self.current].buffer.undo(memo)
-    }
-
     /// A run of commands ends.
     pub fn idle(&mut self, memo: &mut Memo)
         ensures { spec.AtCurrent (λ b d. spec.IdlesTo b memo.old d memo.new) self.old self.new }
     {
-        self.all[self.current].buffer.idle(memo);
+        self.current_mut().buffer.idle(memo);
     }
 }
 

@@ -1,21 +1,14 @@
-use Rattle.std.proofs.Common.{◌<◌, sym, subst}
+use Rattle.std.proofs.Common.{◌≡◌, Some, slice_get, sym, ap, ◌∙◌}
 use Rattle.mg_files.specs.OpenState.{OpenState}
 use Rattle.mg_workspace.specs.Buffers as spec
-use Rattle.mg_workspace.proofs.Current.{at_current, read_at, still_within}
+use Rattle.mg_workspace.proofs.Current.{at_current}
 use Rattle.mg_workspace.proofs.buffers.Buffers.idle.Goals as goal
-
-pub index_mut-requires : goal.index_mut-requires
-index_mut-requires g c = subst (λ n. c.self.inside.current < n) (sym c.self.inside.all.ok.0) c.self.invariant
-
-pub invariant_of-self : goal.invariant_of-self
-invariant_of-self g c = still_within c.self.inside.all.items c.self.inside.current c.self.inside.current _ c.self.invariant
 
 pub returns : goal.returns
 returns g c =
-    let xs = c.self.inside.all.items in
-    let i = c.self.inside.current in
+    let bs = c.args.self.now in
     let b = c.behind-self.inside in
     let x : OpenState = record { buffer = b.buffer; whole = b.whole; text_waits = b.text_waits; runs = b.runs; brief = b.brief } in
-    let value = read_at xs i x c.index_mut.result.now c.behind-self.view_is c.index_mut.ensures.value in
-    at_current (λ b d. spec.IdlesTo b c.args.memo.now d c.idle.new.memo) c.args.self.now xs i x c.idle.new.self c.self.view_is c.self.invariant value
+    let at : slice_get bs.all bs.current ≡ Some x = c.current_mut.ensures.value ∙ ap Some (sym c.behind-self.view_is) in
+    at_current (λ d e. spec.IdlesTo d c.args.memo.now e c.idle.new.memo) bs x c.idle.new.self at
     (record { buffer = c.idle.ensures.buffer; notes = c.idle.ensures.memo })
