@@ -216,7 +216,7 @@ fn place(
 
 /// The name of the block in which an identifier that is complete may stand; of the root, any. Takes
 /// no memory.
-fn block_above(
+pub(crate) fn block_above(
     records: &Records,
     waiting: &BTreeMap<Id, Vec<Id>>,
     done: &BTreeSet<Id>,
