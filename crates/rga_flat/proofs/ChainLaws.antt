@@ -1,16 +1,19 @@
 -- Insertions that are taken at once: where they lead, and what is shown then.
-use Rattle.std.proofs.Common.{◌≡◌, ℕ, ◌<◌, ◌||◌, Bool, true, false, List, [], ◌∷◌, ◌++◌, length, take, drop, refl, sym, ap, ◌∙◌, subst, arith, append_assoc, inl, inr}
-use Rattle.std.specs.Prelude.{Some, Ok, Err, not, ◌&&◌}
+use Rattle.std.proofs.lemmas.Bool.Decides.{nat_tests}
+use Rattle.std.proofs.Common.{◌≡◌, ℕ, ◌<◌, ◌+◌, nat_le, ◌||◌, Bool, true, false, List, [], ◌∷◌, ◌++◌, length, take, drop, slice_index_or, refl, sym, ap, ◌∙◌, subst, arith, append_assoc, length-append, inl, inr}
+use Rattle.std.specs.Prelude.{Result, Some, Ok, Err, IfErr, not, ◌&&◌}
 use Rattle.std.specs.FinMap as finite_map
 use Rattle.std.specs.FinSet as finite_set
 use Rattle.std.specs.Ordering.{is_gt, ordering_reverse}
 use Rattle.std.specs.BTreeSet.{BTreeSet, contains}
+use Rattle.std.proofs.lemmas.List.{take_more, drop_more, take-append-drop, take-append-le, drop-append-le}
 use Rattle.rga_ops.specs.Identifier.{Identifier, id_cmp, is_root}
 use Rattle.rga_ops.specs.Content.{Element, element, Content, IsSound, IsWithin, join, single, clock_of}
 use Rattle.rga_ops.specs.Answer.{answer, after_answer, taken, and_take, taken_one_by_one}
 use Rattle.rga_ops.specs.declared.op.Op.{Op}
 use Rattle.rga_ops.specs.declared.op.Op.TheVariants.{Insert}
 use Rattle.rga_ops.specs.declared.refusal.Taken.TheVariants.{New}
+use Rattle.rga_ops.specs.declared.refusal.Refusal.{Refusal}
 use Rattle.rga_ops.proofs.IdentifierLaws.{ids_total}
 use Rattle.rga_ops.proofs.AnswerLaws.{IsNew, new-iff, IsNewInsertion, new_insertion, well_formed_insertion}
 use Rattle.rga_ops.proofs.ContentLaws.{within_join, within_chain}
@@ -18,7 +21,7 @@ use Rattle.rga_ops.proofs.GrowLaws.{complete_stays}
 use Rattle.rga_ops.proofs.InsertionLaws.{contains-insertion}
 use Rattle.rga_ops.proofs.ListSteps.{get-insertion}
 use Rattle.rga_ops.proofs.NewestLaws.{lower_counter}
-use Rattle.rga_ops.proofs.SkipLaws.{falls}
+use Rattle.rga_store.specs.Without.{without}
 use Rattle.rga_store.proofs.WithoutLaws.{new_held}
 use Rattle.rga_sequence.specs.declared.entry.Entry.{Entry}
 use Rattle.rga_sequence.specs.Entries.{has, put_entry, put_chain, CanFollow, IsChain}
@@ -73,6 +76,25 @@ gathered_more limit base c d op ops before steps g answered joined =
       gone = gone_back-push g.own step d ∙ ap (gone_back g.own) (without_taken limit c d op answered joined) ∙ g.gone;
     }
 
+pub gathered_next : (limit : ℕ) (base c d : Content) (op item : Op) (ops : List Op) (i : ℕ) (before steps : List Step) → IsGathered limit base c (take i ops) before steps → i < length ops → item ≡ slice_index_or ops i item → item ≡ op
+    → answer limit c op ≡ Ok New → d ≡ join c (single op) → IsGathered limit base d (take (i + 1) ops) before (steps ++ record { op = op; clock = clock_of c } ∷ [])
+gathered_next limit base c d op item ops i before steps g w is same answered joined =
+    subst (λ xs. IsGathered limit base d xs before (steps ++ record { op = op; clock = clock_of c } ∷ [])) (sym (take_more ops i item w ∙ ap (λ x. take i ops ++ x ∷ []) (sym is ∙ same)))
+    (gathered_more limit base c d op (take i ops) before steps g answered joined)
+
+-- where the next one leads
+pub next_taken : (limit : ℕ) (base c d : Content) (item : Op) (ops : List Op) (i : ℕ) → taken_one_by_one limit base (take i ops) ≡ Ok c → i < length ops → item ≡ slice_index_or ops i item → taken limit c item ≡ Ok d → taken_one_by_one limit base (take (i + 1) ops) ≡ Ok d
+next_taken limit base c d item ops i first w is next =
+    ap (taken_one_by_one limit base) (take_more ops i item w ∙ ap (λ x. take i ops ++ x ∷ []) (sym is))
+    ∙ taken_on limit base c (take i ops) (item ∷ []) first
+    ∙ ap (λ r. and_take r (λ e. Ok e)) next
+
+pub next_refused : (limit : ℕ) (base c : Content) (item : Op) (ops : List Op) (i : ℕ) (e : Refusal) → taken_one_by_one limit base (take i ops) ≡ Ok c → i < length ops → item ≡ slice_index_or ops i item → taken limit c item ≡ Err e → taken_one_by_one limit base ops ≡ Err e
+next_refused limit base c item ops i e first w is next =
+    ap (taken_one_by_one limit base) (sym (take-append-drop i ops) ∙ ap (λ xs. take i ops ++ xs) (drop_more ops i item w ∙ ap (λ x. x ∷ drop (i + 1) ops) (sym is)))
+    ∙ taken_on limit base c (take i ops) (item ∷ drop (i + 1) ops) first
+    ∙ ap (λ r. and_take r (λ d. taken_one_by_one limit d (drop (i + 1) ops))) next
+
 -- the steps that were there lead where they led
 pub gathered_start : (limit : ℕ) (base c : Content) (ops : List Op) (before steps : List Step) → IsGathered limit base c ops before steps → gone_back steps c ≡ gone_back before base
 gathered_start limit base c ops before steps g = ap (λ ss. gone_back ss c) g.noted ∙ gone_back-both before g.own c ∙ ap (gone_back before) g.gone
@@ -90,6 +112,21 @@ gathered_gone limit base c ops before steps n is g = ap (λ ss. gone_back ss c) 
 
 pub gathered_before : (limit : ℕ) (base c : Content) (ops : List Op) (before steps : List Step) (n : ℕ) → n ≡ length before → IsGathered limit base c ops before steps → take n steps ≡ before
 gathered_before limit base c ops before steps n is g = (λ i. take (is i) (g.noted i)) ∙ take_front before g.own
+
+-- one step less behind those that stay
+pub left_gone : (from : ℕ) (ss : List Step) (s : Step) (c : Content) → from < length (ss ++ s ∷ []) → gone_back (drop from ss) (without s.op c) ≡ gone_back (drop from (ss ++ s ∷ [])) c
+left_gone from ss s c w =
+    let many : length (ss ++ s ∷ []) ≡ length ss + 1 = length-append ss (s ∷ []) in
+    sym (ap (λ ts. gone_back ts c) (drop-append-le from ss (s ∷ []) (omega (arith, many, w))) ∙ gone_back-push (drop from ss) s c)
+
+pub left_kept : (from : ℕ) (ss : List Step) (s : Step) → from < length (ss ++ s ∷ []) → take from ss ≡ take from (ss ++ s ∷ [])
+left_kept from ss s w =
+    let many : length (ss ++ s ∷ []) ≡ length ss + 1 = length-append ss (s ∷ []) in
+    sym (take-append-le from ss (s ∷ []) (omega (arith, many, w)))
+
+-- what holds of a refusal that was answered
+pub at_err : {A E : Type 0} (P : E → Type 0) (r : Result A E) (e : E) → r ≡ Err e → P e → IfErr r P
+at_err P r e is h = subst (λ x. IfErr x P) (sym is) h
 
 -- ---- one more in the chain
 
@@ -115,6 +152,9 @@ chain_more : (id : Identifier) (es : List Entry) (e : Entry) (s : List Entry) �
 chain_more id [] e s chain there proper up none = (there, none, tt)
 chain_more id (x ∷ es) e s chain there proper up none = (chain.0, chain.1, follows_more x.id es e (put_entry id x s) chain.2 (proper (omega arith)) up none)
 
+falls : (a b : ℕ) → nat_le a b ≡ false → b < a
+falls a b h = grind (arith, nat_tests)
+
 -- an identifier of a higher counter is larger
 larger_counter : (a b : Identifier) → b.counter < a.counter → is_gt (id_cmp a b) ≡ true
 larger_counter a b h = ap is_gt (ids_total.antisymm a b ∙ ap ordering_reverse (lower_counter b a h))
@@ -131,8 +171,8 @@ module _ (limit : ℕ) (c d : Content) (last : Identifier) (e : Entry) (sound : 
 
   formed : (is_root e.id ≡ false) × (last.counter < e.id.counter)
   formed =
-      let well : (is_root e.id ≡ false) × _ = well_formed_insertion e.id last e.ch ((new-iff limit c (Insert e.id last e.ch)).0 answered).well_formed in
-      (well.0, falls e.id last well.1)
+      let well : (is_root e.id ≡ false) × (nat_le e.id.counter last.counter ≡ false) = well_formed_insertion e.id last e.ch ((new-iff limit c (Insert e.id last e.ch)).0 answered).well_formed in
+      (well.0, falls e.id.counter last.counter well.1)
 
   pub own_proper : is_root e.id ≡ false
   own_proper = formed.0

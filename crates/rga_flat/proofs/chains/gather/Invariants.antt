@@ -12,8 +12,8 @@ invariant-loop-op l = record {
   count : length l.entries.items ≡ l.op-index;
   few : length l.entries.items ≤ MOST_AT_ONCE;
   gathered : IsGathered l.initial.records.limit l.initial.records.content l.records.content (take (length l.entries.items) l.ops) l.initial.steps.items l.steps.items;
-  shows : ChainShows l.initial.records.content l.records.content l.parent l.entries.items l.waiting;
-  last : l.last ≡ last_of l.parent l.entries.items;
+  shows : ChainShows l.initial.records.content l.records.content l.fn.parent l.entries.items l.waiting;
+  last : l.last ≡ last_of l.fn.parent l.entries.items;
   proper : 0 < length l.entries.items → is_root l.last ≡ false;
   above : is_above l.records.content l.last ≡ true;
   limit : l.records.limit ≡ l.initial.records.limit;

@@ -1,4 +1,4 @@
-use Rattle.std.proofs.Common.{refl, sym, ap, ◌∙◌, subst, true≢false, inl, inr}
+use Rattle.std.proofs.Common.{refl, sym, ap, ◌∙◌, subst, true≢false, inl, inr, arith}
 use Rattle.std.specs.BTreeSet.{contains}
 use Rattle.rga_ops.specs.Identifier.{id_cmp}
 use Rattle.rga_ops.specs.Content.{Content}
@@ -9,8 +9,9 @@ use Rattle.rga_flat.proofs.WaitingLaws.{none_done, listed_none, unlisted_done}
 use Rattle.rga_flat.proofs.FlatLaws.{based_self, flat_marked, flat_cleared}
 use Rattle.rga_flat.proofs.whole_list.take_whole.Goals as goal
 
-pub loop-op-init : goal.loop-op-init
-loop-op-init c = record {
+pub loop-index-init : goal.loop-index-init
+loop-index-init c = record {
+  within = omega arith;
   limit = refl;
   rest = refl;
   back = subst (λ ss. CanGoBack ss c.args.records.now.content) (sym c.in_ok-steps.ensures.items) tt;
@@ -24,21 +25,21 @@ loop-op-init c = record {
 
 pub go_back-requires-clause-returnable : goal.go_back-requires-clause-returnable
 go_back-requires-clause-returnable c =
-    subst (λ (base : Content). IsReturnable c.take_noted.new.records.content base c.take_noted.new.sequence c.take_noted.new.waiting c.take_noted.new.done)
-    (sym (c.take_noted.ensures.start ∙ c.loop-op.invariant.start))
+    subst (λ (base : Content). IsReturnable c.take_next.new.records.content base c.take_next.new.sequence c.take_next.new.waiting c.take_next.new.done)
+    (sym (c.take_next.ensures.start ∙ c.loop-index.invariant.start))
     (record {
-      settled = c.loop-op.done;
+      settled = c.loop-index.done;
       flat = c.in-Err.ensures.left;
-      more = c.take_noted.ensures.settles.grows;
-      listed = λ p t. elim (c.take_noted.ensures.settles.within p t) [
-        | inl old ↦ c.take_noted.ensures.lists p (c.loop-op.invariant.listed p old)
-        | inr has ↦ c.take_noted.ensures.lists p has
+      more = c.take_next.ensures.settles.grows;
+      listed = λ p t. elim (c.take_next.ensures.settles.within p t) [
+        | inl old ↦ c.take_next.ensures.lists p (c.loop-index.invariant.listed p old)
+        | inr has ↦ c.take_next.ensures.lists p has
       ];
-      based = c.take_noted.ensures.based c.args.records.now.content c.loop-op.invariant.based;
+      based = c.take_next.ensures.based c.args.records.now.content c.loop-index.invariant.based;
     })
 
 pub returns-clause-flat : goal.returns-clause-flat
 returns-clause-flat c =
-    flat_cleared c.loop-op.records.content c.loop-op.sequence (under c.loop-op.waiting) (under c.clear_lists.new.waiting)
-    (is_listed c.loop-op.waiting c.loop-op.done) (has_list c.clear_lists.new.waiting) (contains id_cmp c.loop-op.done) c.loop-op.invariant.flat
-    c.loop-op.invariant.inserted (unlisted_done c.loop-op.waiting c.loop-op.done) c.clear_lists.ensures.under c.clear_lists.ensures.lists
+    flat_cleared c.loop-index.records.content c.loop-index.sequence (under c.loop-index.waiting) (under c.clear_lists.new.waiting)
+    (is_listed c.loop-index.waiting c.loop-index.done) (has_list c.clear_lists.new.waiting) (contains id_cmp c.loop-index.done) c.loop-index.invariant.flat
+    c.loop-index.invariant.inserted (unlisted_done c.loop-index.waiting c.loop-index.done) c.clear_lists.ensures.under c.clear_lists.ensures.lists
