@@ -1,12 +1,12 @@
 -- Insertions that are taken at once: where they lead, and what is shown then.
 use Rattle.std.proofs.lemmas.Bool.Decides.{nat_tests}
-use Rattle.std.proofs.Common.{◌≡◌, ℕ, ◌<◌, ◌+◌, nat_le, ◌||◌, Bool, true, false, List, [], ◌∷◌, ◌++◌, length, take, drop, slice_index_or, refl, sym, ap, ◌∙◌, subst, arith, append_assoc, length-append, inl, inr}
+use Rattle.std.proofs.Common.{◌≡◌, ℕ, zero, suc, ◌<◌, ◌+◌, ◌-◌, nat_le, ◌||◌, Bool, true, false, List, [], ◌∷◌, ◌++◌, length, take, drop, slice_index_or, refl, sym, ap, ◌∙◌, subst, arith, append_assoc, length-append, inl, inr}
 use Rattle.std.specs.Prelude.{Result, Some, Ok, Err, IfErr, not, ◌&&◌}
 use Rattle.std.specs.FinMap as finite_map
 use Rattle.std.specs.FinSet as finite_set
 use Rattle.std.specs.Ordering.{is_gt, ordering_reverse}
 use Rattle.std.specs.BTreeSet.{BTreeSet, contains}
-use Rattle.std.proofs.lemmas.List.{take_more, drop_more, take-append-drop, take-append-le, drop-append-le}
+use Rattle.std.proofs.lemmas.List.{take_more, take_rest, drop_more, take-append-drop, take-append-le, drop-append-le}
 use Rattle.rga_ops.specs.Identifier.{Identifier, id_cmp, is_root}
 use Rattle.rga_ops.specs.Content.{Element, element, Content, IsSound, IsWithin, join, single, clock_of}
 use Rattle.rga_ops.specs.Answer.{answer, after_answer, taken, and_take, taken_one_by_one}
@@ -94,6 +94,28 @@ next_refused limit base c item ops i e first w is next =
     ap (taken_one_by_one limit base) (sym (take-append-drop i ops) ∙ ap (λ xs. take i ops ++ xs) (drop_more ops i item w ∙ ap (λ x. x ∷ drop (i + 1) ops) (sym is)))
     ∙ taken_on limit base c (take i ops) (item ∷ drop (i + 1) ops) first
     ∙ ap (λ r. and_take r (λ d. taken_one_by_one limit d (drop (i + 1) ops))) next
+
+drop_later : (i n : ℕ) (xs : List Op) → drop n (drop i xs) ≡ drop (i + n) xs
+drop_later zero n xs = ap (λ m. drop m xs) (none_more n)
+  where
+    none_more : (n : ℕ) → n ≡ 0 + n
+    none_more n = omega arith
+drop_later (suc i) n [] = drop_none n ∙ sym (drop_none (suc i + n))
+  where
+    drop_none : (n : ℕ) → drop {A = Op} n [] ≡ []
+    drop_none zero = refl
+    drop_none (suc n) = refl
+drop_later (suc i) n (x ∷ xs) = drop_later i n xs ∙ ap (λ m. drop m (x ∷ xs)) (one_more i n)
+  where
+    one_more : (i n : ℕ) → suc (i + n) ≡ suc i + n
+    one_more i n = omega arith
+
+-- what is left of a list leads on from where its first operations led
+pub list_later : (limit : ℕ) (c d : Content) (ops : List Op) (i n : ℕ) → taken_one_by_one limit c (take n (take (length ops - i) (drop i ops))) ≡ Ok d → taken_one_by_one limit d (drop (i + n) ops) ≡ taken_one_by_one limit c (drop i ops)
+list_later limit c d ops i n h =
+    ap (taken_one_by_one limit d) (sym (drop_later i n ops))
+    ∙ sym (taken_on limit c d (take n (drop i ops)) (drop n (drop i ops)) (ap (λ xs. taken_one_by_one limit c (take n xs)) (sym (take_rest ops i)) ∙ h))
+    ∙ ap (taken_one_by_one limit c) (take-append-drop n (drop i ops))
 
 -- the steps that were there lead where they led
 pub gathered_start : (limit : ℕ) (base c : Content) (ops : List Op) (before steps : List Step) → IsGathered limit base c ops before steps → gone_back steps c ≡ gone_back before base
@@ -198,21 +220,20 @@ module _ (limit : ℕ) (c d : Content) (last : Identifier) (e : Entry) (sound : 
         subst (λ b. IsPlacing b (under w) (is_listed w done) v (e.id ∷ [])) (sym joined)
         (place_start c sound e.id last e.ch new.absent above (subst (λ b. IsSound b) joined sound_now) v (under w) (is_listed w done) was.1) in
         let there : (is_root last || has last v) ≡ true = place_parent d (under w) (is_listed w done) v (e.id ∷ []) [] e.id refl placing (element last e.ch) found in
-        let none : has e.id v ≡ false = place_absent d (under w) (is_listed w done) v (e.id ∷ []) [] e.id refl placing in
-        (
+        let none : has e.id v ≡ false = place_absent d (under w) (is_listed w done) v (e.id ∷ []) [] e.id refl placing in (
           chain_more parent es e s was.0
-          (subst (λ k. (is_root k || has k v) ≡ true) last_is there)
-          (λ some. subst (λ k. is_root k ≡ false) last_is (proper some))
-          (subst (λ k. is_gt (id_cmp e.id k) ≡ true) last_is (larger_counter e.id last formed.1))
-          none,
+              (subst (λ k. (is_root k || has k v) ≡ true) last_is there)
+              (λ some. subst (λ k. is_root k ≡ false) last_is (proper some))
+              (subst (λ k. is_gt (id_cmp e.id k) ≡ true) last_is (larger_counter e.id last formed.1))
+              none,
           placed_flat d (under w) (is_listed w done) (put_chain parent (es ++ e ∷ []) s)
-          (place_step d (under w) (is_listed w done) (is_listed w done) v (e.id ∷ []) [] e.id refl placing
-          (ap (λ b. b && not (contains id_cmp done e.id)) unlisted) (λ k f. refl)
-          (put_chain parent (es ++ e ∷ []) s) [] (element last e.ch) found
-          (sym (under_none w e.id unlisted))
-          (put_chain-push parent es e s
-          ∙ ap (λ k. put_entry k e v) (sym last_is)
-          ∙ (λ i. put_entry last (record { id = e.id; ch = e.ch; deleted = deleted_now i }) v))),
+              (place_step d (under w) (is_listed w done) (is_listed w done) v (e.id ∷ []) [] e.id refl placing
+              (ap (λ b. b && not (contains id_cmp done e.id)) unlisted) (λ k f. refl)
+              (put_chain parent (es ++ e ∷ []) s) [] (element last e.ch) found
+              (sym (under_none w e.id unlisted))
+              (put_chain-push parent es e s
+              ∙ ap (λ k. put_entry k e v) (sym last_is)
+              ∙ (λ i. put_entry last (record { id = e.id; ch = e.ch; deleted = deleted_now i }) v))),
         )
 
 pub shows_none : (c : Content) (parent : Identifier) (w : Waiting) → ChainShows c c parent [] w

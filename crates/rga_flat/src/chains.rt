@@ -54,9 +54,7 @@ pub(crate) fn take_chain(
     };
     let before = steps.as_slice().len();
     let mut entries = Vec::with_capacity(alloc, MOST_AT_ONCE.min(ops.len()))?;
-    let gathered = gather(
-        records, waiting, parent, name, ops, steps, &mut entries,
-    );
+    let gathered = gather(records, waiting, parent, name, ops, steps, &mut entries);
     if gathered.is_err() {
         remove_from(records, steps, before);
         return Err(Refusal::Memory);
@@ -142,7 +140,12 @@ fn next_entry(
     ensures unlisted { IfSome result (λ e. has_list waiting.now e.id ≡ false) }
     ensures same { records.new ≡ records.old }
 {
-    let Op::Insert { id, parent: above, ch } = *op else {
+    let Op::Insert {
+        id,
+        parent: above,
+        ch,
+    } = *op
+    else {
         return None;
     };
     if above != parent {
@@ -174,9 +177,9 @@ fn add(
     ensures ok { OnOk result (records.new.content
         ≡ join records.old.content (single (Op.Insert entry.now.id parent entry.now.ch))) }
     ensures steps { OnOk result (steps.new.items ≡ steps.old.items ++ record {
-            op = Op.Insert entry.now.id parent entry.now.ch;
-            clock = clock_of records.old.content;
-        } ∷ []) }
+      op = Op.Insert entry.now.id parent entry.now.ch;
+      clock = clock_of records.old.content;
+    } ∷ []) }
     ensures entries { OnOk result (entries.new.items ≡ entries.old.items ++ entry.now ∷ []) }
     ensures same { OnErr result (records.new.content ≡ records.old.content) }
     ensures same_steps { OnErr result (steps.new.items ≡ steps.old.items) }
