@@ -174,6 +174,8 @@ fn add(
 ) -> Result<(), Refusal>
     requires new { answer records.old.limit records.old.content
         (Op.Insert entry.now.id parent entry.now.ch) ≡ Ok Taken.New }
+    requires deleted { entry.now.deleted
+        ≡ finite_set.contains records.old.content.deleted entry.now.id }
     ensures ok { OnOk result (records.new.content
         ≡ join records.old.content (single (Op.Insert entry.now.id parent entry.now.ch))) }
     ensures steps { OnOk result (steps.new.items ≡ steps.old.items ++ record {
@@ -190,7 +192,7 @@ fn add(
     entries.reserve(1)?;
     steps.reserve(1)?;
     let clock = records.clock();
-    records.insert(entry.id, parent, entry.ch, name)?;
+    records.insert(entry.id, parent, entry.ch, name, entry.deleted)?;
     let op = Op::Insert {
         id: entry.id,
         parent,
@@ -223,6 +225,9 @@ fn put_chain(
     let put = sequence.put_chain(parent, name, entries)?;
     if let Some(block) = put.new_block {
         note_block(records, sequence, block);
+        if block == put.name {
+            return Ok(());
+        }
     }
     if put.name != name {
         note_entries(records, entries, put.name);

@@ -1,5 +1,5 @@
 -- Entries that are put one behind the other stand in one piece.
-use Rattle.std.proofs.Common.{◌≡◌, ℕ, ◌<◌, Bool, true, false, cond, ◌||◌, List, [], ◌∷◌, ◌++◌, length, slice_index_or, refl, sym, ap, ◌∙◌, subst, arith, true≢false, append_assoc}
+use Rattle.std.proofs.Common.{◌≡◌, ◌<◌, Bool, true, false, cond, ◌||◌, List, [], ◌∷◌, ◌++◌, length, slice_index_or, refl, sym, ap, ◌∙◌, subst, arith, true≢false, append_assoc}
 use Rattle.std.specs.Ordering.{is_gt}
 use Rattle.std.specs.List.{IsDistinct}
 use Rattle.rga_ops.specs.Identifier.{Identifier, id_cmp, is_root}

@@ -1,5 +1,5 @@
 //! Some entries in a row.
-ghost use Rattle.std.specs.Prelude.{◌≡◌, ◌≤◌, ◌<◌, ◌+◌, ◌++◌, length, vec_len, slice_get, None, Some, IfSome, true, false, take, drop, remove, IfOk, IfErr, OnOk, OnErr};
+ghost use Rattle.std.specs.Prelude.{◌≡◌, ◌≤◌, ◌<◌, ◌+◌, ◌++◌, length, vec_len, vec_capacity, slice_get, None, Some, IfSome, true, false, take, drop, remove, IfOk, IfErr, OnOk, OnErr};
 ghost use Rattle.rga_sequence.specs.Entries.{ids, has, visible_count, visible_ids};
 ghost use Rattle.rga_sequence.specs.Blocks.{larger_at_front, insert_all, mark_at_index, AreFrom};
 
@@ -49,7 +49,23 @@ fn room_for(len: usize, more: usize) -> usize
     (len + more + (ROOM - 1)) / ROOM * ROOM - len
 }
 
-fn insert_into(entries: &mut Vec<Entry>, index: usize, more: &[Entry]) -> Result<(), Refusal>
+/// Entries go behind others, in room for them.
+fn push_all(entries: &mut Vec<Entry>, more: &[Entry])
+    requires { vec_len entries.old + length more.now ≤ vec_capacity entries.old }
+    ensures items { entries.new.items ≡ entries.old.items ++ more.now }
+    ensures capacity { vec_capacity entries.old ≤ vec_capacity entries.new }
+{
+    let _room = entries.extend_from_slice(more);
+}
+
+/// Entries come in at an index. Where it is one, those from there on are moved in one go; where it
+/// is more, they wait beside.
+fn insert_into(
+    alloc: Global,
+    entries: &mut Vec<Entry>,
+    index: usize,
+    more: &[Entry],
+) -> Result<(), Refusal>
     requires index { index ≤ vec_len entries.old }
     requires room { vec_len entries.old + length more.now ≤ MOST }
     ensures ok { OnOk result (entries.new.items ≡ insert_all entries.old.items index more.now) }
@@ -58,8 +74,15 @@ fn insert_into(entries: &mut Vec<Entry>, index: usize, more: &[Entry]) -> Result
 {
     let len = entries.as_slice().len();
     entries.reserve_exact(room_for(len, more.len()))?;
-    entries.extend_from_slice(more)?;
-    turn_last(entries.as_mut_slice(), index, more.len());
+    if more.len() == 1 {
+        entries.push(more[0])?;
+        turn_last(entries.as_mut_slice(), index);
+        return Ok(());
+    }
+    let behind = copy_from(alloc, entries.as_slice(), index)?;
+    entries.truncate(index);
+    push_all(entries, more);
+    push_all(entries, behind.as_slice());
     Ok(())
 }
 
@@ -235,7 +258,7 @@ impl Block {
     }
 
     /// Entries come in at an index. `Memory` alone.
-    pub(crate) fn put(&mut self, index: usize, more: &[Entry]) -> Result<(), Refusal>
+    pub(crate) fn put(&mut self, alloc: Global, index: usize, more: &[Entry]) -> Result<(), Refusal>
         requires index { index ≤ length self.old }
         requires room { length self.old + length more.now ≤ MOST }
         ensures ok { OnOk result (self.new ≡ insert_all self.old index more.now) }
@@ -244,7 +267,7 @@ impl Block {
     {
         let least = new_least(self.entries.as_slice(), self.least, more);
         let visible = self.visible + count_visible(more);
-        insert_into(&mut self.entries, index, more)?;
+        insert_into(alloc, &mut self.entries, index, more)?;
         self.least = least;
         self.visible = visible;
         Ok(())

@@ -92,13 +92,13 @@ fn put_at(
         return Ok(Place { block, index: 0 });
     }
     if has_room(blocks, at.block, count) {
-        put_in_block(blocks, groups, at, entries)?;
+        put_in_block(alloc, blocks, groups, at, entries)?;
         return Ok(at);
     }
     let cut = cut_for(at.index);
     cut_block(alloc, blocks, groups, at.block, cut, name)?;
     let place = moved(at, cut);
-    put_in_block(blocks, groups, place, entries)?;
+    put_in_block(alloc, blocks, groups, place, entries)?;
     Ok(place)
 }
 
@@ -139,6 +139,7 @@ fn has_room(blocks: &Vec<Block>, block: usize, count: usize) -> bool
 
 /// Entries come in at a place, where their block has room.
 fn put_in_block(
+    alloc: Global,
     blocks: &mut Vec<Block>,
     groups: &mut Groups,
     at: Place,
@@ -161,7 +162,7 @@ fn put_in_block(
     lower(&mut groups.bounds, at.block, least_of(entries));
     let block = &mut blocks[at.block];
     let before = block.visible_len();
-    block.put(at.index, entries)?;
+    block.put(alloc, at.index, entries)?;
     recount(&mut groups.counts, at.block, before, block.visible_len());
     Ok(())
 }
@@ -203,7 +204,7 @@ fn put_block(blocks: &mut Vec<Block>, index: usize, block: Block) -> Result<(), 
     if blocks.push(block).is_err() {
         return Err(Refusal::Memory);
     }
-    turn_last(blocks.as_mut_slice(), index, 1);
+    turn_last(blocks.as_mut_slice(), index);
     Ok(())
 }
 

@@ -1,8 +1,7 @@
 use Rattle.std.proofs.Common.{◌≡◌, ◌<◌, ◌+◌, length, take, drop, sym, ap, ◌∙◌, subst, slice_index_or, arith}
 use Rattle.std.specs.Prelude.{insert, slice_set, []}
-use Rattle.rga_sequence.specs.declared.block.TheConstants.{MOST}
 use Rattle.rga_sequence.specs.Blocks.{Blocks, AreFilled, AreGroups, cut_in}
-use Rattle.rga_sequence.proofs.PlaceLaws.{block_at, halved}
+use Rattle.rga_sequence.proofs.PlaceLaws.{halved}
 use Rattle.rga_sequence.proofs.PutLaws.{filled_cut}
 use Rattle.rga_sequence.proofs.GroupLaws.{take_cut}
 use Rattle.rga_sequence.proofs.putting.cut_block.Goals as goal

@@ -1,4 +1,4 @@
-use Rattle.std.proofs.Common.{◌≤◌, ◌<◌, length, sym, ap, ◌∙◌, subst, arith}
+use Rattle.std.proofs.Common.{◌≤◌, ◌<◌, length, sym, ap, ◌∙◌, subst}
 use Rattle.std.specs.Prelude.{insert}
 use Rattle.rga_sequence.specs.Blocks.{Blocks, AreFilled, AreGroups}
 use Rattle.rga_sequence.proofs.PutLaws.{filled_insert}
