@@ -18,7 +18,7 @@ use crate::undoing::go_back;
 use crate::waiting::clear_lists;
 use rga_ops::{Id, Op, Refusal, Taken};
 use rga_records::Records;
-use rga_sequence::Sequence;
+use rga_sequence::{MOST_AT_ONCE, Sequence};
 use std::alloc::Global;
 use std::collections::{BTreeMap, BTreeSet};
 
@@ -100,6 +100,10 @@ fn take_next(
     ensures limit { records.new.limit ≡ records.old.limit }
 {
     let count = take_chain(alloc, records, sequence, waiting, done, ops, steps)?;
+    // So many fill a quarter of a block; what is behind them may be a chain again.
+    if count >= MOST_AT_ONCE {
+        return Ok(count);
+    }
     if count >= ops.len() {
         return Ok(count);
     }

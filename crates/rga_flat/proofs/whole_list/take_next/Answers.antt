@@ -8,6 +8,13 @@ use Rattle.rga_flat.proofs.FlatLaws.{based_more}
 use Rattle.rga_flat.proofs.ChainLaws.{gathered_start, next_taken, next_refused, at_err}
 use Rattle.rga_flat.proofs.whole_list.take_next.Goals as goal
 
+pub returns-then-count-ge-MOST_AT_ONCE-clause-start : goal.returns-then-count-ge-MOST_AT_ONCE-clause-start
+returns-then-count-ge-MOST_AT_ONCE-clause-start c = gathered_start _ _ _ _ _ _ c.in_ok-count.ensures.gathered
+
+pub returns-then-count-ge-MOST_AT_ONCE-clause-based : goal.returns-then-count-ge-MOST_AT_ONCE-clause-based
+returns-then-count-ge-MOST_AT_ONCE-clause-based c = λ base b.
+    based_more base c.args.records.now.content c.take_chain.new.records.content (under c.args.waiting.now) (has_list c.args.waiting.now) c.in_ok-count.ensures.gathered.within b
+
 pub returns-then-count-ops-clause-start : goal.returns-then-count-ops-clause-start
 returns-then-count-ops-clause-start c = gathered_start _ _ _ _ _ _ c.in_ok-count.ensures.gathered
 
