@@ -6,3 +6,4 @@ pub mod FlatLaws
 pub mod ReadingLaws
 pub mod UndoLaws
 pub mod BackLaws
+pub mod ChainLaws

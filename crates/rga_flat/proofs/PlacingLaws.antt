@@ -461,7 +461,7 @@ module _ (c : Content) (sound : IsSound c) where
   complete_settled : (k : Identifier) → is_complete c k ≡ true → is_complete (settled c) k ≡ true
   complete_settled k h = (is_complete-iff (settled c) k).1 (still_settled ((is_complete-iff c k).0 h))
 
-  complete_of : (k : Identifier) (y : Element) → finite_map.get c.inserted k ≡ Some y → is_above c y.parent ≡ true → is_complete c k ≡ true
+  pub complete_of : (k : Identifier) (y : Element) → finite_map.get c.inserted k ≡ Some y → is_above c y.parent ≡ true → is_complete c k ≡ true
   complete_of k y g h = (is_complete-iff c k).1 (elim (above_cases c y.parent h) [
     | inl r ↦ below_root y (proper c sound k y g) g r
     | inr a ↦ below_element y (proper c sound k y g) g ((is_complete-iff c y.parent).0 a)

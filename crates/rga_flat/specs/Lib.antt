@@ -4,3 +4,4 @@ pub mod Placing
 pub mod Based
 pub mod Undo
 pub mod Back
+pub mod Chains

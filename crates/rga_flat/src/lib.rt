@@ -9,6 +9,7 @@
 //! meets: all that it answers is a function of its content and its limit.
 #![tactic(auto)]
 
+mod chains;
 mod flat_store;
 mod placing;
 mod reading;

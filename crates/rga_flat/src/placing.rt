@@ -149,7 +149,7 @@ pub(crate) fn put_behind(
 }
 
 /// The records of the entries of a block are told its name.
-fn note_block(records: &mut Records, sequence: &Sequence, block: usize)
+pub(crate) fn note_block(records: &mut Records, sequence: &Sequence, block: usize)
     ensures { records.new ≡ records.old }
 {
     if let Some(entries) = sequence.block(block) {
@@ -157,7 +157,8 @@ fn note_block(records: &mut Records, sequence: &Sequence, block: usize)
     }
 }
 
-fn note_entries(records: &mut Records, entries: &[Entry], block: usize)
+/// The records of some entries are told the name of their block.
+pub(crate) fn note_entries(records: &mut Records, entries: &[Entry], block: usize)
     ensures { records.new ≡ records.old }
 {
     for entry in entries {

@@ -115,7 +115,7 @@ fn insert(
     let block = block_above(records, waiting, done, parent);
     let above = block.is_some();
     let name = block.unwrap_or(0);
-    records.insert(entry.id, parent, entry.ch, name)?;
+    records.insert(entry.id, parent, entry.ch, name, entry.deleted)?;
     let settled = settle(
         alloc, records, sequence, waiting, done, parent, name, above, entry,
     );
@@ -216,7 +216,7 @@ fn place(
 
 /// The name of the block in which an identifier that is complete may stand; of the root, any. Takes
 /// no memory.
-fn block_above(
+pub(crate) fn block_above(
     records: &Records,
     waiting: &BTreeMap<Id, Vec<Id>>,
     done: &BTreeSet<Id>,

@@ -1,6 +1,6 @@
 //! Lists of operations, taken whole or not at all. What was taken of a list is removed again where
 //! one of it is refused, and that takes no memory.
-ghost use Rattle.std.specs.Prelude.{◌≡◌, ◌≢◌, true, Ok, Err, OnOk, OnErr, IfErr};
+ghost use Rattle.std.specs.Prelude.{◌≡◌, ◌≢◌, ◌≤◌, ◌<◌, true, length, take, Ok, Err, IfOk, OnOk, OnErr, IfErr};
 ghost use Rattle.std.specs.BTreeSet.{contains};
 ghost use Rattle.std.specs.FinMap as finite_map;
 ghost use Rattle.rga_ops.specs.Identifier.{Identifier, id_cmp};
@@ -11,13 +11,14 @@ ghost use Rattle.rga_flat.specs.Based.{IsBased};
 ghost use Rattle.rga_flat.specs.Flat.{IsFlat};
 ghost use Rattle.rga_flat.specs.Waiting.{StayListed, under, has_list, is_listed, Settles};
 
+use crate::chains::take_chain;
 use crate::steps::{Step, note};
 use crate::taking::take;
 use crate::undoing::go_back;
 use crate::waiting::clear_lists;
 use rga_ops::{Id, Op, Refusal, Taken};
 use rga_records::Records;
-use rga_sequence::Sequence;
+use rga_sequence::{MOST_AT_ONCE, Sequence};
 use std::alloc::Global;
 use std::collections::{BTreeMap, BTreeSet};
 
@@ -42,16 +43,72 @@ pub(crate) fn take_whole(
 {
     let mut steps = Vec::with_capacity(alloc, ops.len())?;
     let mut done = BTreeSet::new(alloc);
-    for op in ops {
-        if let Err(refusal) = take_noted(
-            alloc, records, sequence, waiting, &mut done, op, &mut steps,
+    let mut index = 0;
+    while index < ops.len() {
+        let left = &ops[index..];
+        match take_next(
+            alloc, records, sequence, waiting, &mut done, left, &mut steps,
         ) {
-            go_back(records, sequence, waiting, &done, steps);
-            return Err(refusal);
+            Ok(count) => index += count,
+            Err(refusal) => {
+                go_back(records, sequence, waiting, &done, steps);
+                return Err(refusal);
+            }
         }
     }
     clear_lists(waiting, &done);
     Ok(())
+}
+
+/// Takes a chain at the front of a list, if there is one, and the operation behind it, and answers
+/// how many these are. Notes those that were new.
+fn take_next(
+    alloc: Global,
+    records: &mut Records,
+    sequence: &mut Sequence,
+    waiting: &mut BTreeMap<Id, Vec<Id>>,
+    done: &mut BTreeSet<Id>,
+    ops: &[Op],
+    steps: &mut Vec<Step>,
+) -> Result<usize, Refusal>
+    requires some { 0 < length ops.now }
+    requires back { CanGoBack steps.old.items records.old.content }
+    requires inserted { (p : Identifier) → contains id_cmp done.old p ≡ true →
+        finite_map.contains_key records.old.content.inserted p ≡ true }
+    requires flat { IsFlat records.old.content sequence.old
+        (under waiting.old) (is_listed waiting.old done.old) }
+    ensures ok { IfOk result (λ count. taken_one_by_one records.old.limit records.old.content
+        (take count ops.now) ≡ Ok records.new.content) }
+    ensures some { IfOk result (λ count. 0 < count) }
+    ensures within { IfOk result (λ count. count ≤ length ops.now) }
+    ensures refused { IfErr result (λ e. e ≢ Refusal.Memory →
+        taken_one_by_one records.old.limit records.old.content ops.now ≡ Err e) }
+    ensures steps { CanGoBack steps.new.items records.new.content }
+    ensures start { gone_back steps.new.items records.new.content
+        ≡ gone_back steps.old.items records.old.content }
+    ensures flat { OnOk result (IsFlat records.new.content sequence.new
+        (under waiting.new) (is_listed waiting.new done.new)) }
+    ensures left { OnErr result (IsFlat records.new.content sequence.new
+        (under waiting.new) (is_listed waiting.new done.old)) }
+    ensures inserted { OnOk result ((p : Identifier) → contains id_cmp done.new p ≡ true →
+        finite_map.contains_key records.new.content.inserted p ≡ true) }
+    ensures settles { Settles waiting.old done.old done.new }
+    ensures lists { StayListed waiting.old waiting.new }
+    ensures based { (base : Content) →
+        IsBased base records.old.content (under waiting.old) (has_list waiting.old) →
+        IsBased base records.new.content (under waiting.new) (has_list waiting.new) }
+    ensures limit { records.new.limit ≡ records.old.limit }
+{
+    let count = take_chain(alloc, records, sequence, waiting, done, ops, steps)?;
+    // So many fill a quarter of a block; what is behind them may be a chain again.
+    if count >= MOST_AT_ONCE {
+        return Ok(count);
+    }
+    if count >= ops.len() {
+        return Ok(count);
+    }
+    take_noted(alloc, records, sequence, waiting, done, &ops[count], steps)?;
+    Ok(count + 1)
 }
 
 /// Takes an operation, and notes it if it was new.

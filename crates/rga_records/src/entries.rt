@@ -67,17 +67,18 @@ pub(crate) fn is_known(entries: &Pages, id: Id) -> bool
     }
 }
 
-/// An identifier gets its element and the name of a block. Says whether it is deleted already.
+/// An identifier gets its element and the name of a block. It may be deleted already.
 pub(crate) fn set_element(
     entries: &mut Pages,
     id: Id,
     parent: Id,
     ch: char,
     block: usize,
-) -> Result<bool, Refusal>
+    deleted: bool,
+) -> Result<(), Refusal>
     requires absent { finite_map.get (content_of_records entries.old).inserted id ≡ None }
-    ensures deleted { let content = content_of_records entries.old in
-        IfOk result (λ deleted. deleted ≡ finite_set.contains content.deleted id) }
+    requires deleted { deleted
+        ≡ finite_set.contains (content_of_records entries.old).deleted id }
     ensures content { OnOk result (content_of_records entries.new
         ≡ join (content_of_records entries.old) (single (Insert id parent ch))) }
     ensures same { OnErr result
@@ -85,7 +86,6 @@ pub(crate) fn set_element(
     ensures ordered { AreOrdered entries.new }
     ensures memory { IfErr result (λ e. e ≡ Refusal.Memory) }
 {
-    let deleted = found_or_new(entries.look_up(id)).deleted;
     let record = Record {
         parent,
         ch: Some(ch),
@@ -93,7 +93,7 @@ pub(crate) fn set_element(
         deleted,
     };
     entries.insert(id, record)?;
-    Ok(deleted)
+    Ok(())
 }
 
 /// An identifier gets its mark. Says whether it is inserted already. `Memory` only where it is not.

@@ -179,16 +179,25 @@ impl Records {
     }
 
     /// Takes an insertion that is new, and notes the name of the block in which the element may
-    /// come to stand. `Memory` alone, which changes nothing.
-    pub fn insert(&mut self, id: Id, parent: Id, ch: char, block: usize) -> Result<(), Refusal>
-        requires { answer self.old.limit self.old.content (Op.Insert id parent ch) ≡ Ok New }
+    /// come to stand. `deleted` says whether its identifier is deleted, as `find` told. `Memory`
+    /// alone, which changes nothing.
+    pub fn insert(
+        &mut self,
+        id: Id,
+        parent: Id,
+        ch: char,
+        block: usize,
+        deleted: bool,
+    ) -> Result<(), Refusal>
+        requires new { answer self.old.limit self.old.content (Op.Insert id parent ch) ≡ Ok New }
+        requires deleted { deleted ≡ finite_set.contains self.old.content.deleted id }
         ensures ok { OnOk result
             (self.new.content ≡ join self.old.content (single (Op.Insert id parent ch))) }
         ensures same { OnErr result (self.new.content ≡ self.old.content) }
         ensures memory { IfErr result (λ e. e ≡ Refusal.Memory) }
         ensures limit { self.new.limit ≡ self.old.limit }
     {
-        let deleted = set_element(&mut self.entries, id, parent, ch, block)?;
+        set_element(&mut self.entries, id, parent, ch, block, deleted)?;
         self.inserted += 1;
         count_unless(deleted, &mut self.known);
         raise(&mut self.clock, id.counter());

@@ -1,6 +1,6 @@
 -- What a block keeps: an identifier that none is less than.
 use Rattle.std.proofs.Common.{◌≡◌, ℕ, suc, zero, Bool, true, false, List, [], ◌∷◌, ◌++◌, take, drop, refl, sym, ap, ◌∙◌, true≢false, length, ◌<◌, ◌+◌, cond, subst, slice_index_or}
-use Rattle.std.specs.Prelude.{insert, remove}
+use Rattle.std.specs.Prelude.{remove}
 use Rattle.std.specs.Ordering.{is_gt, ordering_reverse}
 use Rattle.std.specs.declared.cmp.Ordering.{Ordering}
 use Rattle.std.specs.declared.cmp.Ordering.TheVariants.{Less, Equal, Greater}
@@ -8,7 +8,7 @@ use Rattle.std.proofs.lemmas.List.{take_more}
 use Rattle.rga_ops.specs.Identifier.{Identifier, id_cmp}
 use Rattle.rga_ops.proofs.IdentifierLaws.{ids_total, ids_exact}
 use Rattle.rga_sequence.specs.declared.entry.Entry.{Entry}
-use Rattle.rga_sequence.specs.Blocks.{AreFrom, larger_at_front, mark_at_index}
+use Rattle.rga_sequence.specs.Blocks.{AreFrom, larger_at_front, insert_all, mark_at_index}
 
 greater : (o : Ordering) → is_gt o ≡ true → o ≡ Greater
 greater Less h = absurd (true≢false (sym h))
@@ -45,7 +45,7 @@ lower least id [] big from = tt
 lower least id (x ∷ xs) big from = (lower_from least id x.id big from.0, lower least id xs big from.1)
 
 -- what is not larger than another, that is not larger than a third
-not_larger : (a b d : Identifier) → is_gt (id_cmp a b) ≡ false → is_gt (id_cmp b d) ≡ false → is_gt (id_cmp a d) ≡ false
+pub not_larger : (a b d : Identifier) → is_gt (id_cmp a b) ≡ false → is_gt (id_cmp b d) ≡ false → is_gt (id_cmp a d) ≡ false
 not_larger a b d h k =
     elim (is_gt (id_cmp a d)) as (λ t. is_gt (id_cmp a d) ≡ t → t ≡ false) [
       | true ↦ λ t. absurd (true≢false (sym (ap is_gt (above t)) ∙ h))
@@ -61,6 +61,10 @@ not_larger a b d h k =
           | Greater ↦ λ e. absurd (true≢false (sym (ap is_gt e) ∙ k))
         ] refl
 
+-- what is larger than another, than that the other is not larger
+pub never_less : (a b : Identifier) → is_gt (id_cmp a b) ≡ true → is_gt (id_cmp b a) ≡ false
+never_less a b h = ap is_gt (flip a b (greater (id_cmp a b) h))
+
 pub itself : (id : Identifier) → is_gt (id_cmp id id) ≡ false
 itself id =
     elim (id_cmp id id) as (λ o. id_cmp id id ≡ o → is_gt o ≡ false) [
@@ -69,11 +73,14 @@ itself id =
       | Greater ↦ λ e. let less : id_cmp id id ≡ Less = flip id id e in ap is_gt (sym e ∙ less)
     ] refl
 
-pub from_put : (least : Identifier) (e : Entry) (xs : List Entry) (i : ℕ) → AreFrom least xs → is_gt (id_cmp least e.id) ≡ false → AreFrom least (insert xs i e)
-from_put least e [] zero from h = (h, tt)
-from_put least e [] (suc i) from h = (h, tt)
-from_put least e (x ∷ xs) zero from h = (h, from)
-from_put least e (x ∷ xs) (suc i) from h = (from.0, from_put least e xs i from.1 h)
+from_both : (least : Identifier) (xs ys : List Entry) → AreFrom least xs → AreFrom least ys → AreFrom least (xs ++ ys)
+from_both least [] ys from h = h
+from_both least (x ∷ xs) ys from h = (from.0, from_both least xs ys from.1 h)
+
+pub from_put : (least : Identifier) (es xs : List Entry) (i : ℕ) → AreFrom least xs → AreFrom least es → AreFrom least (insert_all xs i es)
+from_put least es xs zero from h = from_both least es xs h from
+from_put least es [] (suc i) from h = from_both least es [] h tt
+from_put least es (x ∷ xs) (suc i) from h = (from.0, from_put least es xs i from.1 h)
 
 pub from_remove : (least : Identifier) (xs : List Entry) (i : ℕ) → AreFrom least xs → AreFrom least (remove xs i)
 from_remove least [] zero from = tt

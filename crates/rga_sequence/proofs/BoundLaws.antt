@@ -1,13 +1,13 @@
 -- Bounds of groups of blocks: how they stay, and what is passed by them.
 use Rattle.std.proofs.Common.{nat_lt, ◌≡◌, ℕ, suc, zero, Bool, true, false, ◌+◌, ◌*◌, ◌≤◌, ◌<◌, List, [], ◌∷◌, ◌++◌, length, take, drop, slice_index_or, refl, sym, ap, ◌∙◌, subst, arith, append_assoc}
-use Rattle.std.specs.Prelude.{insert, remove, slice_set}
+use Rattle.std.specs.Prelude.{remove, slice_set}
 use Rattle.std.specs.Ordering.{is_gt}
 use Rattle.std.proofs.lemmas.List.{length-set, get_or-set_same, get_or-take}
 use Rattle.rga_ops.specs.Identifier.{Identifier, id_cmp}
 use Rattle.rga_sequence.specs.declared.entry.Entry.{Entry}
 use Rattle.rga_sequence.specs.declared.groups.TheConstants.{GROUP}
 use Rattle.rga_sequence.specs.Entries.{put_past_larger}
-use Rattle.rga_sequence.specs.Blocks.{Blocks, flat, before, behind, larger_at_front, mark_at_index, AreFrom, Passes, AreBlocksFrom, AreLarger, AreBounds, IsLow}
+use Rattle.rga_sequence.specs.Blocks.{Blocks, flat, before, behind, larger_at_front, insert_all, mark_at_index, AreFrom, Passes, AreBlocksFrom, AreLarger, AreBounds, IsLow}
 use Rattle.rga_sequence.proofs.ListLaws.{take_all, drop_all, passed}
 use Rattle.rga_sequence.proofs.PlaceLaws.{lt_so, le_so}
 use Rattle.rga_sequence.proofs.BlockLaws.{all_larger, itself, lesser_from, from_put, from_remove, from_marked}
@@ -27,10 +27,10 @@ bounds_set bounds bs b y all on k d w i lo hi =
     set_at (AreFrom (slice_index_or bounds k d)) bs b i y (all k d w i lo hi)
     (λ e. on k d w (subst (λ n. k * GROUP ≤ n) e lo) (subst (λ n. n < k * GROUP + GROUP) e hi) (subst (λ n. AreFrom (slice_index_or bounds k d) (slice_index_or bs n [])) e (all k d w i lo hi)))
 
-pub bounds_put : (bounds : List Identifier) (bs : Blocks) (b i : ℕ) (e : Entry) → AreBounds bounds bs → IsLow bounds b e.id → AreBounds bounds (slice_set bs b (insert (slice_index_or bs b []) i e))
-bounds_put bounds bs b i e all low =
-    bounds_set bounds bs b (insert (slice_index_or bs b []) i e) all
-    (λ k d w lo hi from. from_put (slice_index_or bounds k d) e (slice_index_or bs b []) i from (low k d w lo hi))
+pub bounds_put : (bounds : List Identifier) (bs : Blocks) (b i : ℕ) (least : Identifier) (es : List Entry) → AreBounds bounds bs → AreFrom least es → IsLow bounds b least → AreBounds bounds (slice_set bs b (insert_all (slice_index_or bs b []) i es))
+bounds_put bounds bs b i least es all above low =
+    bounds_set bounds bs b (insert_all (slice_index_or bs b []) i es) all
+    (λ k d w lo hi from. from_put (slice_index_or bounds k d) es (slice_index_or bs b []) i from (lesser_from least (slice_index_or bounds k d) es (low k d w lo hi) above))
 
 pub bounds_without : (bounds : List Identifier) (bs : Blocks) (b i : ℕ) → AreBounds bounds bs → AreBounds bounds (slice_set bs b (remove (slice_index_or bs b []) i))
 bounds_without bounds bs b i all =

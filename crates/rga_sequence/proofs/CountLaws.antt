@@ -1,13 +1,13 @@
 -- How many entries are visible in a list that changes, and which these are.
 use Rattle.std.proofs.Common.{min, ◌≡◌, ℕ, ◌+◌, ◌-◌, ◌<◌, ◌≤◌, suc, zero, Bool, true, false, cond, not, List, [], ◌∷◌, ◌++◌, length, take, drop, slice_index_or, refl, sym, ap, ◌∙◌, arith, length-append}
-use Rattle.std.specs.Prelude.{insert, remove}
+use Rattle.std.specs.Prelude.{remove}
 use Rattle.std.specs.List.{slice_get}
 use Rattle.std.proofs.lemmas.List.{take_more, drop_more, map-append, take-append-drop, drop-take, length-take-le, take_min}
 use Rattle.std.proofs.lemmas.List.Elements.{filter-append}
 use Rattle.rga_ops.specs.Identifier.{Identifier}
 use Rattle.rga_sequence.specs.declared.entry.Entry.{Entry}
 use Rattle.rga_sequence.specs.Entries.{ids, visible_entries, visible_count, visible_ids}
-use Rattle.rga_sequence.specs.Blocks.{Blocks, flat, before, mark_at_index}
+use Rattle.rga_sequence.specs.Blocks.{Blocks, flat, before, insert_all, mark_at_index}
 
 pub visible_both : (xs ys : List Entry) → visible_entries (xs ++ ys) ≡ visible_entries xs ++ visible_entries ys
 visible_both xs ys = filter-append (λ e. not e.deleted) xs ys
@@ -51,25 +51,12 @@ count_all xs i w h =
     let long : length (take i xs ++ drop i xs) ≡ length xs = ap length (take-append-drop i xs) in
     omega (arith, parts, long, count_both (take i xs) (drop i xs), length-append (take i xs) (drop i xs), length-take-le i xs w, count_within (take i xs), count_within (drop i xs))
 
--- ---- one entry more, one less, one deleted
+-- ---- some entries more, one less, one deleted
 
-pub count_put : (xs : List Entry) (i : ℕ) (e : Entry) → visible_count (insert xs i e) ≡ visible_count xs + visible_count (e ∷ [])
-count_put xs zero e = one_first e xs ∙ swap (visible_count (e ∷ [])) (visible_count xs)
-  where
-    swap : (n m : ℕ) → n + m ≡ m + n
-    swap n m = omega arith
-count_put [] (suc i) e = none_first (visible_count (e ∷ []))
-  where
-    none_first : (n : ℕ) → n ≡ 0 + n
-    none_first n = omega arith
-count_put (x ∷ xs) (suc i) e =
-    one_first x (insert xs i e)
-    ∙ ap (λ n. visible_count (x ∷ []) + n) (count_put xs i e)
-    ∙ step (visible_count (x ∷ [])) (visible_count xs) (visible_count (e ∷ []))
-    ∙ ap (λ n. n + visible_count (e ∷ [])) (sym (one_first x xs))
-  where
-    step : (n m k : ℕ) → n + (m + k) ≡ (n + m) + k
-    step n m k = omega arith
+pub count_put : (xs : List Entry) (i : ℕ) (es : List Entry) → visible_count (insert_all xs i es) ≡ visible_count xs + visible_count es
+count_put xs i es =
+    let parts : visible_count (take i xs ++ drop i xs) ≡ visible_count xs = ap visible_count (take-append-drop i xs) in
+    omega (arith, parts, count_both (take i xs) (drop i xs), count_both (take i xs) (es ++ drop i xs), count_both es (drop i xs))
 
 pub count_remove : (xs : List Entry) (i : ℕ) (x : Entry) → i < length xs → x ≡ slice_index_or xs i x → visible_count xs ≡ visible_count (remove xs i) + visible_count (x ∷ [])
 count_remove [] i x w is = absurd (omega arith)
@@ -87,10 +74,10 @@ count_remove (y ∷ xs) (suc i) x w is =
     step : (n m k : ℕ) → n + (m + k) ≡ (n + m) + k
     step n m k = omega arith
 
-pub length_insert : (xs : List Entry) (i : ℕ) (e : Entry) → length (insert xs i e) ≡ length xs + 1
-length_insert xs zero e = omega arith
-length_insert [] (suc i) e = omega arith
-length_insert (x ∷ xs) (suc i) e = let rest : length (insert xs i e) ≡ length xs + 1 = length_insert xs i e in omega arith
+pub length_insert : (xs : List Entry) (i : ℕ) (es : List Entry) → length (insert_all xs i es) ≡ length xs + length es
+length_insert xs i es =
+    let parts : length (take i xs ++ drop i xs) ≡ length xs = ap length (take-append-drop i xs) in
+    omega (arith, parts, length-append (take i xs) (drop i xs), length-append (take i xs) (es ++ drop i xs), length-append es (drop i xs))
 
 pub length_remove : (xs : List Entry) (i : ℕ) → i < length xs → length (remove xs i) + 1 ≡ length xs
 length_remove [] i w = absurd (omega arith)

@@ -6,4 +6,5 @@ pub mod StandLaws
 pub mod CountLaws
 pub mod GroupLaws
 pub mod PutLaws
+pub mod ChainLaws
 pub mod IdLaws

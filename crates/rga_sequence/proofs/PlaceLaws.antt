@@ -4,7 +4,7 @@ use Rattle.std.proofs.Common.{nat_lt, true, false, subst, ◌≡◌, ℕ, ◌+�
 use Rattle.std.specs.Prelude.{insert, slice_set}
 use Rattle.rga_sequence.specs.declared.entry.Entry.{Entry}
 use Rattle.rga_sequence.specs.Entries.{put_past_larger}
-use Rattle.rga_sequence.specs.Blocks.{Blocks, flat, before, behind, IsPlace, larger_at_front, cut_in}
+use Rattle.rga_sequence.specs.Blocks.{Blocks, flat, before, behind, IsPlace, larger_at_front, insert_all, cut_in}
 use Rattle.rga_sequence.proofs.ListLaws.{take_early, drop_early, take_both, drop_both, drop_all, take_all, length_drop, passed, stopped}
 
 pub index_within : (bs : Blocks) (b i : ℕ) (d : List Entry) → IsPlace bs b i → i ≤ length (slice_index_or bs b d)
@@ -27,12 +27,12 @@ parted [] b i h = absurd h
 parted (x ∷ xs) zero i h = ap (λ y. y ++ flat xs) (sym (drop_early zero i x (omega arith))) ∙ append_assoc (take i x) (drop i x) (flat xs)
 parted (x ∷ xs) (suc b) i h = ap (λ r. x ++ r) (parted xs b i h) ∙ sym (append_assoc x (before xs b i) (behind xs b i))
 
--- ---- an entry comes in
+-- ---- entries come in
 
-pub put_there : (bs : Blocks) (b i : ℕ) (entry : Entry) (d : List Entry) → IsPlace bs b i → flat (slice_set bs b (insert (slice_index_or bs b d) i entry)) ≡ before bs b i ++ entry ∷ behind bs b i
-put_there [] b i entry d h = absurd h
-put_there (x ∷ xs) zero i entry d h = append_assoc (take i x) (entry ∷ drop i x) (flat xs)
-put_there (x ∷ xs) (suc b) i entry d h = ap (λ r. x ++ r) (put_there xs b i entry d h) ∙ sym (append_assoc x (before xs b i) (entry ∷ behind xs b i))
+pub put_there : (bs : Blocks) (b i : ℕ) (es d : List Entry) → IsPlace bs b i → flat (slice_set bs b (insert_all (slice_index_or bs b d) i es)) ≡ before bs b i ++ (es ++ behind bs b i)
+put_there [] b i es d h = absurd h
+put_there (x ∷ xs) zero i es d h = append_assoc (take i x) (es ++ drop i x) (flat xs) ∙ ap (λ r. take i x ++ r) (append_assoc es (drop i x) (flat xs))
+put_there (x ∷ xs) (suc b) i es d h = ap (λ r. x ++ r) (put_there xs b i es d h) ∙ sym (append_assoc x (before xs b i) (es ++ behind xs b i))
 
 -- ---- a block becomes two
 

@@ -1,12 +1,12 @@
 -- Blocks into which an entry comes or from which one goes: what stands in them, apart and in no empty block.
-use Rattle.std.proofs.Common.{◌≡◌, ℕ, ◌+◌, ◌<◌, ◌≤◌, suc, zero, Bool, true, false, cond, not, ◌||◌, List, [], ◌∷◌, ◌++◌, length, take, drop, slice_index_or, refl, sym, ap, ◌∙◌, subst, arith, true≢false, append_assoc}
+use Rattle.std.proofs.Common.{◌≡◌, ℕ, ◌+◌, ◌-◌, ◌<◌, ◌≤◌, suc, zero, Bool, true, false, cond, not, ◌||◌, List, [], ◌∷◌, ◌++◌, length, take, drop, slice_index_or, refl, sym, ap, ◌∙◌, subst, arith, true≢false, append_assoc, length-drop}
 use Rattle.std.specs.Prelude.{insert, remove, slice_set, Result, Ok, Err, OnOk, OnErr}
 use Rattle.std.specs.List.{AllByRecursion, IsDistinct}
 use Rattle.rga_ops.specs.Identifier.{Identifier, is_id}
 use Rattle.rga_sequence.specs.declared.entry.Entry.{Entry}
 use Rattle.rga_sequence.specs.Entries.{has, without_entry, as_marked, mark_entry, AreApart, IsPart}
 use Rattle.rga_sequence.specs.Blocks.{Blocks, flat, before, behind, cut_in, IsPlace, AreFilled}
-use Rattle.rga_sequence.proofs.PlaceLaws.{parted, other_place}
+use Rattle.rga_sequence.proofs.PlaceLaws.{parted}
 use Rattle.rga_sequence.proofs.StandLaws.{id_swap}
 
 -- ---- apart
@@ -101,9 +101,9 @@ filled_cut (x ∷ xs) (suc b) cut d f h w = (f.0, filled_cut xs b cut d f.1 h w)
 
 -- ---- what stands in blocks that change
 
-pub own_there : (bs : Blocks) (b : ℕ) (e : Entry) (d : List Entry) → b < length bs → flat (insert bs (suc b) (e ∷ [])) ≡ before bs b (length (slice_index_or bs b d)) ++ e ∷ behind bs b (length (slice_index_or bs b d))
-own_there [] b e d w = absurd (omega arith)
-own_there (x ∷ xs) zero e d w = (λ k. all x k ++ e ∷ (none x k ++ flat xs))
+own_there : (bs : Blocks) (b : ℕ) (es d : List Entry) → b < length bs → flat (insert bs (suc b) es) ≡ before bs b (length (slice_index_or bs b d)) ++ (es ++ behind bs b (length (slice_index_or bs b d)))
+own_there [] b es d w = absurd (omega arith)
+own_there (x ∷ xs) zero es d w = (λ k. all x k ++ (es ++ (none x k ++ flat xs)))
   where
     all : (y : List Entry) → y ≡ take (length y) y
     all [] = refl
@@ -112,9 +112,9 @@ own_there (x ∷ xs) zero e d w = (λ k. all x k ++ e ∷ (none x k ++ flat xs))
     none : (y : List Entry) → [] ≡ drop (length y) y
     none [] = refl
     none (z ∷ y) = none y
-own_there (x ∷ xs) (suc b) e d w =
-    ap (λ r. x ++ r) (own_there xs b e d (omega arith))
-    ∙ sym (append_assoc x (before xs b (length (slice_index_or xs b d))) (e ∷ behind xs b (length (slice_index_or xs b d))))
+own_there (x ∷ xs) (suc b) es d w =
+    ap (λ r. x ++ r) (own_there xs b es d (omega arith))
+    ∙ sym (append_assoc x (before xs b (length (slice_index_or xs b d))) (es ++ behind xs b (length (slice_index_or xs b d))))
 
 pub removed_there : (bs : Blocks) (b i : ℕ) (d : List Entry) → b < length bs → flat (slice_set bs b (remove (slice_index_or bs b d) i)) ≡ before bs b i ++ behind bs b (suc i)
 removed_there [] b i d w = absurd (omega arith)
@@ -138,13 +138,13 @@ block_gone (x ∷ xs) (suc b) i d w one h = ap (λ r. x ++ r) (block_gone xs b i
 one_up : (n : ℕ) → suc n ≡ n + 1
 one_up n = omega arith
 
-pub own_at : (bs : Blocks) (b : ℕ) (e : Entry) (d : List Entry) → b < length bs → flat (insert bs (b + 1) (e ∷ [])) ≡ before bs b (length (slice_index_or bs b d)) ++ e ∷ behind bs b (length (slice_index_or bs b d))
-own_at bs b e d w = ap (λ n. flat (insert bs n (e ∷ []))) (sym (one_up b)) ∙ own_there bs b e d w
+pub own_at : (bs : Blocks) (b : ℕ) (es d : List Entry) → b < length bs → flat (insert bs (b + 1) es) ≡ before bs b (length (slice_index_or bs b d)) ++ (es ++ behind bs b (length (slice_index_or bs b d)))
+own_at bs b es d w = ap (λ n. flat (insert bs n es)) (sym (one_up b)) ∙ own_there bs b es d w
 
-pub own_front : (bs : Blocks) (b : ℕ) (e : Entry) → b < length bs → flat (insert bs b (e ∷ [])) ≡ before bs b 0 ++ e ∷ behind bs b 0
-own_front [] b e w = absurd (omega arith)
-own_front (x ∷ xs) zero e w = refl
-own_front (x ∷ xs) (suc b) e w = ap (λ r. x ++ r) (own_front xs b e (omega arith)) ∙ sym (append_assoc x (before xs b 0) (e ∷ behind xs b 0))
+pub own_front : (bs : Blocks) (b : ℕ) (es : List Entry) → b < length bs → flat (insert bs b es) ≡ before bs b 0 ++ (es ++ behind bs b 0)
+own_front [] b es w = absurd (omega arith)
+own_front (x ∷ xs) zero es w = refl
+own_front (x ∷ xs) (suc b) es w = ap (λ r. x ++ r) (own_front xs b es (omega arith)) ∙ sym (append_assoc x (before xs b 0) (es ++ behind xs b 0))
 
 -- ---- both blocks of a cut one have room
 
@@ -153,28 +153,18 @@ length_take zero xs = omega arith
 length_take (suc n) [] = omega arith
 length_take (suc n) (x ∷ xs) = let rest : length (take n xs) ≤ n = length_take n xs in omega arith
 
-length_less : (n : ℕ) (xs : List Entry) → length (drop n xs) ≤ length xs
-length_less zero xs = omega arith
-length_less (suc n) [] = omega arith
-length_less (suc n) (x ∷ xs) = let rest : length (drop n xs) ≤ length xs = length_less n xs in omega arith
+pub room_first : (bs : Blocks) (b cut : ℕ) → length (slice_index_or (cut_in bs b cut) b []) ≤ cut
+room_first [] b cut = omega arith
+room_first (x ∷ xs) zero cut = length_take cut x
+room_first (x ∷ xs) (suc b) cut = room_first xs b cut
 
-pub room_first : (bs : Blocks) (b cut most : ℕ) → length (slice_index_or bs b []) ≡ most → cut < most → length (slice_index_or (cut_in bs b cut) b []) < most
-room_first [] b cut most e h = absurd (omega (arith, e, h))
-room_first (x ∷ xs) zero cut most e h = let few : length (take cut x) ≤ cut = length_take cut x in omega arith
-room_first (x ∷ xs) (suc b) cut most e h = room_first xs b cut most e h
+room_next : (bs : Blocks) (b cut : ℕ) → length (slice_index_or (cut_in bs b cut) (suc b) []) ≤ length (slice_index_or bs b []) - cut
+room_next [] b cut = omega arith
+room_next (x ∷ xs) zero cut = omega (arith, length-drop cut x)
+room_next (x ∷ xs) (suc b) cut = room_next xs b cut
 
-less : (n : ℕ) (y : List Entry) → 0 < n → 0 < length y → length (drop n y) < length y
-less zero y h k = absurd (omega arith)
-less (suc n) [] h k = absurd (omega arith)
-less (suc n) (z ∷ y) h k = let rest : length (drop n y) ≤ length y = length_less n y in omega arith
-
-room_next : (bs : Blocks) (b cut most : ℕ) → length (slice_index_or bs b []) ≡ most → 0 < cut → 0 < most → length (slice_index_or (cut_in bs b cut) (suc b) []) < most
-room_next [] b cut most e h k = absurd (omega (arith, e, k))
-room_next (x ∷ xs) zero cut most e h k = let few : length (drop cut x) < length x = less cut x h (omega (arith, e, k)) in omega arith
-room_next (x ∷ xs) (suc b) cut most e h k = room_next xs b cut most e h k
-
-pub room_second : (bs : Blocks) (b cut most : ℕ) → length (slice_index_or bs b []) ≡ most → 0 < cut → 0 < most → length (slice_index_or (cut_in bs b cut) (b + 1) []) < most
-room_second bs b cut most e h k = subst (λ n. length (slice_index_or (cut_in bs b cut) n []) < most) (one_up b) (room_next bs b cut most e h k)
+pub room_second : (bs : Blocks) (b cut : ℕ) → length (slice_index_or (cut_in bs b cut) (b + 1) []) ≤ length (slice_index_or bs b []) - cut
+room_second bs b cut = subst (λ n. length (slice_index_or (cut_in bs b cut) n []) ≤ length (slice_index_or bs b []) - cut) (one_up b) (room_next bs b cut)
 
 -- ---- what holds whether a call was answered or refused
 
@@ -197,12 +187,3 @@ pub apart_there : (bs : Blocks) (b i : ℕ) (e : Entry) → IsPlace bs b i → h
 apart_there bs b i e p h apart =
     let parts : flat bs ≡ before bs b i ++ behind bs b i = parted bs b i p in
     apart_put (before bs b i) e (behind bs b i) (subst (λ xs. has e.id xs ≡ false) parts h) (subst AreApart parts apart)
-
-pub apart_one : (e : Entry) → AreApart (e ∷ [])
-unfolding IsDistinct
-apart_one e = (tt, tt)
-
--- ---- a place in a block that is full
-
-pub half_place : (bs : Blocks) (b i cut most : ℕ) → IsPlace bs b i → length (slice_index_or bs b []) ≡ most → cut ≤ most → IsPlace bs b cut
-half_place bs b i cut most p full h = other_place bs b i cut [] p (omega (arith, full))

@@ -34,6 +34,10 @@ mark_at_index mark index [] = []
 mark_at_index mark zero (e ∷ es) = as_marked mark e ∷ es
 mark_at_index mark (suc index) (e ∷ es) = e ∷ mark_at_index mark index es
 
+-- a list comes in at an index
+abbrev pub insert_all : {A : Type 0} → List A → ℕ → List A → List A
+insert_all xs index ys = take index xs ++ (ys ++ drop index xs)
+
 -- what a block keeps of its entries
 pub record IsBlock (visible : ℕ) (least : Identifier) (es : List Entry) : Type 0 where
   pub counted : visible ≡ visible_count es

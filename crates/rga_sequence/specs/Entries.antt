@@ -1,5 +1,5 @@
 -- Entries in a row: what is told of them, and how they change.
-use Rattle.std.specs.Prelude.{◌≡◌, ℕ, Bool, List, [], ◌∷◌, ◌++◌, length, filter, map, not, Option, Some, None, if◌then◌else◌}
+use Rattle.std.specs.Prelude.{◌≡◌, ◌||◌, ℕ, Bool, true, false, List, [], ◌∷◌, ◌++◌, length, filter, map, not, Option, Some, None, if◌then◌else◌}
 use Rattle.std.specs.Ordering.{is_gt}
 use Rattle.std.specs.List.{list_any, IsDistinct}
 use Rattle.rga_ops.specs.Identifier.{Identifier, id_cmp, is_id, is_root}
@@ -64,6 +64,21 @@ put_past_larger e (x ∷ es) = if is_gt (id_cmp x.id e.id) then x ∷ put_past_l
 -- an entry behind its parent, and there past those of larger identifiers (Roh and others 2011)
 abbrev pub put_entry : Identifier → Entry → List Entry → List Entry
 put_entry parent e es = change_behind parent (put_past_larger e) es
+
+-- entries, each behind the one before it, and the first behind the parent
+abbrev pub put_chain : Identifier → List Entry → List Entry → List Entry
+put_chain parent [] s = s
+put_chain parent (e ∷ es) s = put_chain e.id es (put_entry parent e s)
+
+-- each can go behind the one before it, which is not the root, and than which it is larger; the first behind that of the identifier
+abbrev pub CanFollow : Identifier → List Entry → List Entry → Type 0
+CanFollow id [] s = Unit {0}
+CanFollow id (e ∷ es) s = (is_root id ≡ false) × (is_gt (id_cmp e.id id) ≡ true) × (has e.id s ≡ false) × CanFollow e.id es (put_entry id e s)
+
+-- the first can go behind the parent, and each other behind the one before it
+abbrev pub IsChain : Identifier → List Entry → List Entry → Type 0
+IsChain parent [] s = Unit {0}
+IsChain parent (e ∷ es) s = ((is_root parent || has parent s) ≡ true) × (has e.id s ≡ false) × CanFollow e.id es (put_entry parent e s)
 
 -- the entries without that of an identifier
 abbrev pub without_entry : Identifier → List Entry → List Entry

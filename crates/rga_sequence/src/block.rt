@@ -1,13 +1,11 @@
 //! Some entries in a row.
-ghost use Rattle.std.specs.Prelude.{◌≡◌, ◌≤◌, ◌<◌, ◌+◌, ◌++◌, ◌∷◌, [], length, vec_len, slice_get, None, Some, IfSome, true, false, take, drop, insert, remove, IfOk, IfErr, OnOk, OnErr};
-ghost use Rattle.std.specs.Ordering.{is_gt};
-ghost use Rattle.rga_ops.specs.Identifier.{id_cmp};
+ghost use Rattle.std.specs.Prelude.{◌≡◌, ◌≤◌, ◌<◌, ◌+◌, ◌++◌, length, vec_len, vec_capacity, slice_get, None, Some, IfSome, true, false, take, drop, remove, IfOk, IfErr, OnOk, OnErr};
 ghost use Rattle.rga_sequence.specs.Entries.{ids, has, visible_count, visible_ids};
-ghost use Rattle.rga_sequence.specs.Blocks.{larger_at_front, mark_at_index, AreFrom};
+ghost use Rattle.rga_sequence.specs.Blocks.{larger_at_front, insert_all, mark_at_index, AreFrom};
 
 use crate::entry::Entry;
 use crate::scans::{
-    count_one, count_visible, id_at, index_of, is_at, is_larger, least_of, past_larger,
+    count_one, count_visible, id_at, index_of, is_at, is_larger, least_of, lesser, past_larger,
     push_id_range, push_visible, visible_at,
 };
 use crate::turning::turn_last;
@@ -43,33 +41,62 @@ impl Model for Block {
     ghost invariant = { λ b. IsBlock b.visible b.least b.entries.items };
 }
 
-fn insert_into(entries: &mut Vec<Entry>, index: usize, entry: Entry) -> Result<(), Refusal>
-    requires { index ≤ vec_len entries.old }
-    ensures ok { OnOk result (entries.new.items ≡ insert entries.old.items index entry) }
+/// How much room is asked for where there are `len` and some come in.
+fn room_for(len: usize, more: usize) -> usize
+    requires { len + more ≤ MOST }
+    ensures { more ≤ result }
+{
+    (len + more + (ROOM - 1)) / ROOM * ROOM - len
+}
+
+/// Entries go behind others, in room for them.
+fn push_all(entries: &mut Vec<Entry>, more: &[Entry])
+    requires { vec_len entries.old + length more.now ≤ vec_capacity entries.old }
+    ensures items { entries.new.items ≡ entries.old.items ++ more.now }
+    ensures capacity { vec_capacity entries.old ≤ vec_capacity entries.new }
+{
+    let _room = entries.extend_from_slice(more);
+}
+
+/// Entries come in at an index. Where it is one, those from there on are moved in one go; where it
+/// is more, they wait beside.
+fn insert_into(
+    alloc: Global,
+    entries: &mut Vec<Entry>,
+    index: usize,
+    more: &[Entry],
+) -> Result<(), Refusal>
+    requires index { index ≤ vec_len entries.old }
+    requires room { vec_len entries.old + length more.now ≤ MOST }
+    ensures ok { OnOk result (entries.new.items ≡ insert_all entries.old.items index more.now) }
     ensures err { OnErr result (entries.new.items ≡ entries.old.items) }
     ensures memory { IfErr result (λ e. e ≡ Refusal.Memory) }
 {
     let len = entries.as_slice().len();
-    entries.reserve_exact(ROOM - len % ROOM)?;
-    entries.push(entry)?;
-    turn_last(entries.as_mut_slice(), index);
+    entries.reserve_exact(room_for(len, more.len()))?;
+    if more.len() == 1 {
+        entries.push(more[0])?;
+        turn_last(entries.as_mut_slice(), index);
+        return Ok(());
+    }
+    let behind = copy_from(alloc, entries.as_slice(), index)?;
+    entries.truncate(index);
+    push_all(entries, more);
+    push_all(entries, behind.as_slice());
     Ok(())
 }
 
-/// What none is less than, once an identifier is there too: as large as it can be where there was
-/// none.
-fn new_least(entries: &[Entry], least: Id, id: Id) -> Id
+/// What none is less than, once others are there too: as large as it can be where there was none.
+fn new_least(entries: &[Entry], least: Id, more: &[Entry]) -> Id
     requires { AreFrom least entries.now }
     ensures old { AreFrom result entries.now }
-    ensures new { is_gt (id_cmp result id) ≡ false }
+    ensures new { AreFrom result more.now }
 {
+    let new = least_of(more);
     if entries.len() == 0 {
-        return id;
+        return new;
     }
-    if is_larger(least, id) {
-        return id;
-    }
-    least
+    lesser(least, new)
 }
 
 /// The entries from an index on, in room for so many.
@@ -107,13 +134,14 @@ impl Block {
         }
     }
 
-    /// A block of one entry. `Memory` alone.
-    pub(crate) fn of_one(alloc: Global, name: usize, entry: Entry) -> Result<Block, Refusal>
-        ensures ok { IfOk result (λ b. b ≡ entry ∷ []) }
+    /// A block of some entries. `Memory` alone.
+    pub(crate) fn of_some(alloc: Global, name: usize, some: &[Entry]) -> Result<Block, Refusal>
+        requires { length some.now ≤ MOST }
+        ensures ok { IfOk result (λ b. b ≡ some.now) }
         ensures memory { IfErr result (λ e. e ≡ Refusal.Memory) }
     {
-        let mut entries = Vec::with_capacity(alloc, ROOM)?;
-        entries.push(entry)?;
+        let mut entries = Vec::with_capacity(alloc, room_for(0, some.len()))?;
+        entries.extend_from_slice(some)?;
         Ok(Block::of(entries, name))
     }
 
@@ -229,17 +257,17 @@ impl Block {
         is_at(self.entries.as_slice(), index, id)
     }
 
-    /// An entry comes in at an index. `Memory` alone.
-    pub(crate) fn put(&mut self, index: usize, entry: &Entry) -> Result<(), Refusal>
+    /// Entries come in at an index. `Memory` alone.
+    pub(crate) fn put(&mut self, alloc: Global, index: usize, more: &[Entry]) -> Result<(), Refusal>
         requires index { index ≤ length self.old }
-        requires room { length self.old < MOST }
-        ensures ok { OnOk result (self.new ≡ insert self.old index entry.now) }
+        requires room { length self.old + length more.now ≤ MOST }
+        ensures ok { OnOk result (self.new ≡ insert_all self.old index more.now) }
         ensures err { OnErr result (self.new ≡ self.old) }
         ensures memory { IfErr result (λ e. e ≡ Refusal.Memory) }
     {
-        let least = new_least(self.entries.as_slice(), self.least, entry.id);
-        let visible = self.visible + count_one(*entry);
-        insert_into(&mut self.entries, index, *entry)?;
+        let least = new_least(self.entries.as_slice(), self.least, more);
+        let visible = self.visible + count_visible(more);
+        insert_into(alloc, &mut self.entries, index, more)?;
         self.least = least;
         self.visible = visible;
         Ok(())

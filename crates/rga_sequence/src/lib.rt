@@ -27,4 +27,5 @@ mod skipping;
 mod turning;
 
 pub use entry::Entry;
+pub use putting::MOST_AT_ONCE;
 pub use sequence::{Put, Sequence};

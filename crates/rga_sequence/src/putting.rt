@@ -1,9 +1,8 @@
-//! An entry comes in at a place.
-ghost use Rattle.std.specs.Prelude.{◌≡◌, ◌≤◌, ◌<◌, ◌+◌, ◌++◌, ◌∷◌, ◌||◌, true, false, insert, length, vec_len, slice_index_or, [], IfSome, IfErr, OnOk, OnErr};
+//! Entries come in at a place.
+ghost use Rattle.std.specs.Prelude.{◌≡◌, ◌≤◌, ◌<◌, ◌+◌, ◌++◌, List, true, false, insert, length, vec_len, slice_index_or, [], IfSome, IfErr, OnOk, OnErr};
 ghost use Rattle.rga_sequence.specs.declared.entry.Entry.{Entry};
 ghost use Rattle.rga_sequence.specs.Blocks.{Blocks, flat, before, behind, IsPlace, cut_in, AreFilled, IsSequence, AreGroups};
-ghost use Rattle.rga_sequence.specs.Entries.{has, put_entry};
-ghost use Rattle.rga_ops.specs.Identifier.{is_root};
+ghost use Rattle.rga_sequence.specs.Entries.{put_chain, IsChain};
 
 use crate::block::{Block, MOST};
 use crate::bounds::lower;
@@ -13,19 +12,20 @@ use crate::finding::Hints;
 use crate::groups::Groups;
 use crate::names::{name_at, names_of_parts};
 use crate::place::Place;
+use crate::scans::least_of;
 use crate::skipping::{behind_parent, skip};
 use crate::turning::turn_last;
 use rga_ops::{Id, Refusal};
 use std::alloc::Global;
 
-/// How many entries each part of a full block keeps at least where it is cut.
-const FEWEST: usize = 64;
+/// How many entries may be put at once. So many fit into each part of a block that is cut.
+pub const MOST_AT_ONCE: usize = 64;
 
-/// Before how many entries an entry gets a block of its own.
+/// Before how many entries those that come in get a block of their own.
 const MANY: usize = 128;
 
-/// An entry goes behind its parent, past those of larger identifiers that stand there. A block that
-/// is new has the name `name`. Answers where the entry stands. `Memory` alone.
+/// Entries of a chain go behind the parent of the first, past those of larger identifiers that stand
+/// there. A block that is new has the name `name`. Answers where the first stands. `Memory` alone.
 pub(crate) fn put_behind(
     alloc: Global,
     blocks: &mut Vec<Block>,
@@ -33,172 +33,161 @@ pub(crate) fn put_behind(
     hints: Hints,
     parent: Id,
     name: usize,
-    entry: &Entry,
+    entries: &[Entry],
 ) -> Result<Place, Refusal>
     requires kept { IsSequence blocks.old.items }
     requires groups { AreGroups groups.old blocks.old.items }
-    requires parent { is_root parent || has parent (flat blocks.old.items) ≡ true }
-    requires absent { has entry.now.id (flat blocks.old.items) ≡ false }
+    requires some { 0 < length entries.now }
+    requires chain { IsChain parent entries.now (flat blocks.old.items) }
+    requires few { length entries.now ≤ MOST_AT_ONCE }
     ensures ok { OnOk result
-        (flat blocks.new.items ≡ put_entry parent entry.now (flat blocks.old.items)) }
+        (flat blocks.new.items ≡ put_chain parent entries.now (flat blocks.old.items)) }
     ensures err { OnErr result (flat blocks.new.items ≡ flat blocks.old.items) }
     ensures kept { IsSequence blocks.new.items }
     ensures groups { AreGroups groups.new blocks.new.items }
     ensures memory { IfErr result (λ e. e ≡ Refusal.Memory) }
 {
     if blocks.as_slice().len() == 0 {
-        put_first(alloc, blocks, groups, name, entry)?;
+        put_own(alloc, blocks, groups, 0, name, entries)?;
         return Ok(Place { block: 0, index: 0 });
     }
     match behind_parent(blocks, hints, parent) {
         Some(from) => {
-            let at = skip(blocks, &mut groups.bounds, from, entry);
-            put_at(alloc, blocks, groups, at, name, entry)
+            let first = &entries[0];
+            let at = skip(blocks, &mut groups.bounds, from, first, entries.len());
+            put_at(alloc, blocks, groups, at, name, entries)
         }
         None => Err(Refusal::Memory),
     }
 }
 
-/// An entry comes in at a place. A full block is cut in two first, at the place if that leaves
+/// Entries come in at a place. A block without room is cut in two first, at the place if that leaves
 /// enough to both parts: so what is typed on from there moves nothing. A block that is new has the
-/// name `name`. Answers where the entry stands. `Memory` alone.
+/// name `name`. Answers where the first entry stands. `Memory` alone.
 fn put_at(
     alloc: Global,
     blocks: &mut Vec<Block>,
     groups: &mut Groups,
     at: Place,
     name: usize,
-    entry: &Entry,
+    entries: &[Entry],
 ) -> Result<Place, Refusal>
     requires block { at.block < vec_len blocks.old }
     requires place { IsPlace blocks.old.items at.block at.index }
+    requires some { 0 < length entries.now }
+    requires few { length entries.now ≤ MOST_AT_ONCE }
     requires filled { AreFilled blocks.old.items }
     requires groups { AreGroups groups.old blocks.old.items }
     ensures ok { OnOk result (flat blocks.new.items
         ≡ before blocks.old.items at.block at.index
-        ++ entry.now ∷ behind blocks.old.items at.block at.index) }
+        ++ (entries.now ++ behind blocks.old.items at.block at.index)) }
     ensures err { OnErr result (flat blocks.new.items ≡ flat blocks.old.items) }
     ensures filled { AreFilled blocks.new.items }
     ensures groups { AreGroups groups.new blocks.new.items }
     ensures memory { IfErr result (λ e. e ≡ Refusal.Memory) }
 {
-    if let Some(block) = own_block(blocks, at) {
-        put_own(alloc, blocks, groups, block, name, entry)?;
+    let count = entries.len();
+    if let Some(block) = own_block(blocks, at, count) {
+        put_own(alloc, blocks, groups, block, name, entries)?;
         return Ok(Place { block, index: 0 });
     }
-    if has_room(blocks, at.block) {
-        put_in_block(blocks, groups, at, entry)?;
+    if has_room(blocks, at.block, count) {
+        put_in_block(alloc, blocks, groups, at, entries)?;
         return Ok(at);
     }
     let cut = cut_for(at.index);
     cut_block(alloc, blocks, groups, at.block, cut, name)?;
     let place = moved(at, cut);
-    put_in_block(blocks, groups, place, entry)?;
+    put_in_block(alloc, blocks, groups, place, entries)?;
     Ok(place)
 }
 
-/// The first entry comes in.
-fn put_first(
-    alloc: Global,
-    blocks: &mut Vec<Block>,
-    groups: &mut Groups,
-    name: usize,
-    entry: &Entry,
-) -> Result<(), Refusal>
-    requires none { blocks.old.items ≡ [] }
-    requires groups { AreGroups groups.old blocks.old.items }
-    ensures ok { OnOk result (flat blocks.new.items ≡ entry.now ∷ []) }
-    ensures err { OnErr result (blocks.new.items ≡ blocks.old.items) }
-    ensures filled { AreFilled blocks.new.items }
-    ensures groups { AreGroups groups.new blocks.new.items }
-    ensures memory { IfErr result (λ e. e ≡ Refusal.Memory) }
-{
-    put_own(alloc, blocks, groups, 0, name, entry)
-}
-
-/// Where the block of its own is to come in that an entry at a place gets: at the end of a full
-/// block, or where it would move many.
-fn own_block(blocks: &Vec<Block>, at: Place) -> Option<usize>
+/// Where the block of their own is to come in that so many entries at a place get: at the end of a
+/// block without room, or where they would move many.
+fn own_block(blocks: &Vec<Block>, at: Place, count: usize) -> Option<usize>
     requires block { at.block < vec_len blocks.now }
     requires place { IsPlace blocks.now.items at.block at.index }
     ensures within { IfSome result (λ k. k ≤ vec_len blocks.now) }
-    ensures there { IfSome result (λ k. (e : Entry) → flat (insert blocks.now.items k (e ∷ []))
+    ensures there { IfSome result (λ k. (es : List Entry) → flat (insert blocks.now.items k es)
         ≡ before blocks.now.items at.block at.index
-        ++ e ∷ behind blocks.now.items at.block at.index) }
+        ++ (es ++ behind blocks.now.items at.block at.index)) }
 {
-    let count = blocks[at.block].len();
-    if at.index >= MOST {
+    let len = blocks[at.block].len();
+    if at.index >= len && count > MOST - len {
         return Some(at.block + 1);
     }
     if at.index > 0 {
         return None;
     }
-    if count < MANY {
+    if len < MANY {
         return None;
     }
     Some(at.block)
 }
 
-/// Whether a block has room for one more entry.
-fn has_room(blocks: &Vec<Block>, block: usize) -> bool
+/// Whether a block has room for so many more entries.
+fn has_room(blocks: &Vec<Block>, block: usize, count: usize) -> bool
     requires { block < vec_len blocks.now }
-    ensures room { result ≡ true → length (slice_index_or blocks.now.items block []) < MOST }
-    ensures full { result ≡ false → length (slice_index_or blocks.now.items block []) ≡ MOST }
+    ensures room { result ≡ true →
+        length (slice_index_or blocks.now.items block []) + count ≤ MOST }
+    ensures full { result ≡ false →
+        MOST < length (slice_index_or blocks.now.items block []) + count }
+    ensures most { length (slice_index_or blocks.now.items block []) ≤ MOST }
 {
-    if blocks[block].len() < MOST {
-        return true;
-    }
-    false
+    count <= MOST - blocks[block].len()
 }
 
-/// An entry comes in at a place, where its block has room.
+/// Entries come in at a place, where their block has room.
 fn put_in_block(
+    alloc: Global,
     blocks: &mut Vec<Block>,
     groups: &mut Groups,
     at: Place,
-    entry: &Entry,
+    entries: &[Entry],
 ) -> Result<(), Refusal>
     requires block { at.block < vec_len blocks.old }
     requires place { IsPlace blocks.old.items at.block at.index }
-    requires room { length (slice_index_or blocks.old.items at.block []) < MOST }
+    requires some { 0 < length entries.now }
+    requires room { length (slice_index_or blocks.old.items at.block []) + length entries.now ≤ MOST }
     requires filled { AreFilled blocks.old.items }
     requires groups { AreGroups groups.old blocks.old.items }
     ensures ok { OnOk result (flat blocks.new.items
         ≡ before blocks.old.items at.block at.index
-        ++ entry.now ∷ behind blocks.old.items at.block at.index) }
+        ++ (entries.now ++ behind blocks.old.items at.block at.index)) }
     ensures err { OnErr result (flat blocks.new.items ≡ flat blocks.old.items) }
     ensures filled { AreFilled blocks.new.items }
     ensures groups { AreGroups groups.new blocks.new.items }
     ensures memory { IfErr result (λ e. e ≡ Refusal.Memory) }
 {
-    lower(&mut groups.bounds, at.block, entry.id);
+    lower(&mut groups.bounds, at.block, least_of(entries));
     let block = &mut blocks[at.block];
     let before = block.visible_len();
-    block.put(at.index, entry)?;
+    block.put(alloc, at.index, entries)?;
     recount(&mut groups.counts, at.block, before, block.visible_len());
     Ok(())
 }
 
-/// An entry comes in as a block of its own.
+/// Entries come in as a block of their own.
 fn put_own(
     alloc: Global,
     blocks: &mut Vec<Block>,
     groups: &mut Groups,
     block: usize,
     name: usize,
-    entry: &Entry,
+    entries: &[Entry],
 ) -> Result<(), Refusal>
     requires block { block ≤ vec_len blocks.old }
+    requires some { 0 < length entries.now }
+    requires few { length entries.now ≤ MOST_AT_ONCE }
     requires filled { AreFilled blocks.old.items }
     requires groups { AreGroups groups.old blocks.old.items }
-    ensures ok { OnOk result
-        (blocks.new.items ≡ insert blocks.old.items block (entry.now ∷ [])) }
+    ensures ok { OnOk result (blocks.new.items ≡ insert blocks.old.items block entries.now) }
     ensures err { OnErr result (blocks.new.items ≡ blocks.old.items) }
     ensures filled { AreFilled blocks.new.items }
     ensures groups { AreGroups groups.new blocks.new.items }
     ensures memory { IfErr result (λ e. e ≡ Refusal.Memory) }
 {
-    let own = Block::of_one(alloc, name, *entry)?;
+    let own = Block::of_some(alloc, name, entries)?;
     put_block(blocks, block, own)?;
     groups.forget_from(block);
     Ok(())
@@ -219,21 +208,21 @@ fn put_block(blocks: &mut Vec<Block>, index: usize, block: Block) -> Result<(), 
     Ok(())
 }
 
-/// Where a full block is cut for an entry that comes in at an index.
+/// Where a block is cut for entries that come in at an index.
 fn cut_for(index: usize) -> usize
-    ensures first { FEWEST ≤ result }
-    ensures second { result + FEWEST ≤ MOST }
+    ensures first { MOST_AT_ONCE ≤ result }
+    ensures second { result + MOST_AT_ONCE ≤ MOST }
 {
-    if index < FEWEST {
-        return FEWEST;
+    if index < MOST_AT_ONCE {
+        return MOST_AT_ONCE;
     }
-    if index > MOST - FEWEST {
-        return MOST - FEWEST;
+    if index > MOST - MOST_AT_ONCE {
+        return MOST - MOST_AT_ONCE;
     }
     index
 }
 
-/// A full block becomes two. The one with fewer entries has the name `name`.
+/// A block becomes two. The one with fewer entries has the name `name`.
 fn cut_block(
     alloc: Global,
     blocks: &mut Vec<Block>,
@@ -243,9 +232,8 @@ fn cut_block(
     name: usize,
 ) -> Result<(), Refusal>
     requires block { block < vec_len blocks.old }
-    requires full { length (slice_index_or blocks.old.items block []) ≡ MOST }
     requires first { 0 < cut }
-    requires second { cut < MOST }
+    requires second { cut < length (slice_index_or blocks.old.items block []) }
     requires filled { AreFilled blocks.old.items }
     requires groups { AreGroups groups.old blocks.old.items }
     ensures ok { OnOk result (blocks.new.items ≡ cut_in blocks.old.items block cut) }
@@ -255,7 +243,8 @@ fn cut_block(
     ensures groups { AreGroups groups.new blocks.new.items }
     ensures memory { IfErr result (λ e. e ≡ Refusal.Memory) }
 {
-    let names = names_of_parts(name_at(blocks, block), name, cut < MOST - cut);
+    let second = blocks[block].len() - cut;
+    let names = names_of_parts(name_at(blocks, block), name, cut < second);
     let tail = blocks[block].tail(alloc, cut, names.second)?;
     put_block(blocks, block + 1, tail)?;
     blocks[block].cut(cut, names.first);
@@ -263,16 +252,16 @@ fn cut_block(
     Ok(())
 }
 
-/// Where a place is, once its full block is two.
+/// Where a place is, once its block is two.
 fn moved(at: Place, cut: usize) -> Place
     requires block { at.block < 18446744073709551615 }
-    requires first { 0 < cut }
-    requires second { cut < MOST }
+    requires first { MOST_AT_ONCE ≤ cut }
+    requires second { cut + MOST_AT_ONCE ≤ MOST }
     ensures block { result.block ≤ at.block + 1 }
     ensures place { (bs : Blocks) → IsPlace bs at.block at.index → IsPlace bs at.block cut →
         IsPlace (cut_in bs at.block cut) result.block result.index }
-    ensures room { (bs : Blocks) → length (slice_index_or bs at.block []) ≡ MOST →
-        length (slice_index_or (cut_in bs at.block cut) result.block []) < MOST }
+    ensures room { (bs : Blocks) → length (slice_index_or bs at.block []) ≤ MOST →
+        length (slice_index_or (cut_in bs at.block cut) result.block []) + MOST_AT_ONCE ≤ MOST }
     ensures before { (bs : Blocks) → IsPlace bs at.block at.index →
         before (cut_in bs at.block cut) result.block result.index ≡ before bs at.block at.index }
     ensures behind { (bs : Blocks) → IsPlace bs at.block at.index →

@@ -1,7 +1,7 @@
 //! A sequence of entries.
-ghost use Rattle.std.specs.Prelude.{◌≡◌, ◌<◌, ◌^◌, ◌||◌, [], length, slice_get, take, drop, true, false, IfSome, IfOk, IfErr, OnOk, OnErr};
+ghost use Rattle.std.specs.Prelude.{◌≡◌, ◌≤◌, ◌<◌, ◌^◌, ◌||◌, [], length, slice_get, take, drop, true, false, IfSome, IfOk, IfErr, OnOk, OnErr};
 ghost use Rattle.rga_ops.specs.Identifier.{is_root};
-ghost use Rattle.rga_sequence.specs.Entries.{ids, has, entry_of, place_in, put_entry, without_entry, mark_entry, visible_count, visible_ids, visible_text, IsPart};
+ghost use Rattle.rga_sequence.specs.Entries.{ids, has, entry_of, place_in, put_chain, put_entry, without_entry, mark_entry, visible_count, visible_ids, visible_text, IsChain, IsPart};
 
 use crate::block::Block;
 use crate::counts::note_counts;
@@ -11,16 +11,16 @@ use crate::groups::Groups;
 use crate::listing;
 use crate::names::{add_name, copy_names, hints_of, name_at, renumber};
 use crate::place::Place;
-use crate::putting::put_behind;
+use crate::putting::{MOST_AT_ONCE, put_behind};
 use crate::removing::{mark_at, remove_at};
 use rga_ops::{Id, Refusal};
 use std::alloc::Global;
 use std::marker::Model;
 
-/// Where an entry was put, for whoever finds entries by the names of their blocks.
+/// Where entries were put, for whoever finds entries by the names of their blocks.
 #[derive(Clone, Copy, Debug)]
 pub struct Put {
-    /// The name of the block in which it stands.
+    /// The name of the block in which they stand.
     pub name: usize,
     /// The name of the block that is new, if there is one: all its entries have that name now.
     pub new_block: Option<usize>,
@@ -76,6 +76,21 @@ impl Sequence {
         ensures err { OnErr result (self.new ≡ self.old) }
         ensures memory { IfErr result (λ e. e ≡ Refusal.Memory) }
     {
+        self.put_chain(parent, name, &[entry])
+    }
+
+    /// Entries of which each is the parent of the next are put, one after another, into one block.
+    /// Each identifier is larger than the one before it: so all of them stand behind the first.
+    /// `name` is that of the block of the first one's parent. `Memory` alone, and then nothing is
+    /// changed.
+    pub fn put_chain(&mut self, parent: Id, name: usize, entries: &[Entry]) -> Result<Put, Refusal>
+        requires some { 0 < length entries.now }
+        requires chain { IsChain parent entries.now self.old }
+        requires few { length entries.now ≤ MOST_AT_ONCE }
+        ensures ok { OnOk result (self.new ≡ put_chain parent entries.now self.old) }
+        ensures err { OnErr result (self.new ≡ self.old) }
+        ensures memory { IfErr result (λ e. e ≡ Refusal.Memory) }
+    {
         self.names.reserve(1)?;
         let count = self.blocks.as_slice().len();
         let hints = hints_of(&self.names, self.last, name);
@@ -87,9 +102,12 @@ impl Sequence {
             hints,
             parent,
             new_name,
-            &entry,
+            entries,
         )?;
-        self.last = at;
+        self.last = Place {
+            block: at.block,
+            index: at.index.saturating_add(entries.len()).saturating_sub(1),
+        };
         if self.blocks.as_slice().len() == count {
             return Ok(Put {
                 name: name_at(&self.blocks, at.block),

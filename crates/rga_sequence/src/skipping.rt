@@ -65,8 +65,8 @@ fn goes_on(blocks: &Vec<Block>, block: usize, index: usize) -> bool
     block + 1 < blocks.as_slice().len()
 }
 
-/// The same place, as the end of the block before it where there is room.
-fn back(blocks: &Vec<Block>, at: Place) -> Place
+/// The same place, as the end of the block before it where there is room for so many.
+fn back(blocks: &Vec<Block>, at: Place, count: usize) -> Place
     requires block { at.block < vec_len blocks.now }
     requires place { IsPlace blocks.now.items at.block at.index }
     ensures block { result.block < vec_len blocks.now }
@@ -84,15 +84,21 @@ fn back(blocks: &Vec<Block>, at: Place) -> Place
     }
     let block = at.block - 1;
     let index = blocks[block].len();
-    if index == MOST {
+    if count > MOST - index {
         return at;
     }
     Place { block, index }
 }
 
-/// The place behind `from` and the identifiers larger than an entry's that stand there. The bounds
-/// that are missing on the way are noted.
-pub(crate) fn skip(blocks: &Vec<Block>, bounds: &mut Vec<Id>, from: Place, entry: &Entry) -> Place
+/// The place behind `from` and the identifiers larger than an entry's that stand there: where there
+/// are two, the one with room for `count` entries. The bounds that are missing on the way are noted.
+pub(crate) fn skip(
+    blocks: &Vec<Block>,
+    bounds: &mut Vec<Id>,
+    from: Place,
+    entry: &Entry,
+    count: usize,
+) -> Place
     requires block { from.block < vec_len blocks.now }
     requires place { IsPlace blocks.now.items from.block from.index }
     requires bounds { AreBounds bounds.old.items blocks.now.items }
@@ -102,6 +108,9 @@ pub(crate) fn skip(blocks: &Vec<Block>, bounds: &mut Vec<Id>, from: Place, entry
     ensures skipped { let bs = blocks.now.items in
         before bs from.block from.index ++ put_past_larger entry.now (behind bs from.block from.index)
         ≡ before bs result.block result.index ++ entry.now ∷ behind bs result.block result.index }
+    ensures stops { let bs = blocks.now.items in
+        put_past_larger entry.now (behind bs result.block result.index)
+        ≡ entry.now ∷ behind bs result.block result.index }
 {
     let mut block = from.block;
     let mut index = past_in_block(blocks, from, entry);
@@ -109,5 +118,5 @@ pub(crate) fn skip(blocks: &Vec<Block>, bounds: &mut Vec<Id>, from: Place, entry
         block = past_groups(blocks, bounds, block + 1, entry);
         index = past_in_block(blocks, Place { block, index: 0 }, entry);
     }
-    back(blocks, Place { block, index })
+    back(blocks, Place { block, index }, count)
 }

@@ -2,10 +2,11 @@
 use crate::list_store::{ListStore, Shown};
 use crate::random::Random;
 use crate::words::{is, places};
-use rga_ops::Op;
+use rga_ops::{Op, Refusal};
 use rga_store::TextStore;
 use std::alloc::Global;
 use std::process::Abort;
+use test_fixtures::insertion;
 
 /// Whether both answer the operation alike.
 fn answer_alike<S: TextStore>(store: &mut S, list: &mut ListStore, op: Op) -> bool {
@@ -80,5 +81,69 @@ pub fn check_beside_a_list<S: TextStore, R: Abort>(rt: &R, alloc: Global) {
         for seed in 0..5 {
             assert!(rt; are_alike::<S>(alloc, *limit, seed), "{limit} {seed}");
         }
+    }
+}
+
+/// The insertions of a chain, each the parent of the next.
+fn chain_of(
+    alloc: Global,
+    first: (u64, u16),
+    parent: (u64, u16),
+    count: u64,
+) -> Result<Vec<Op>, Refusal> {
+    let mut ops = Vec::new(alloc);
+    let mut above = parent;
+    for index in 0..count {
+        let id = (first.0.saturating_add(index), first.1);
+        ops.push(insertion(id, above, 'a')?)?;
+        above = id;
+    }
+    Ok(ops)
+}
+
+/// Whether the plain list takes the operations, or knows them.
+fn takes_each(list: &mut ListStore, ops: &[Op]) -> bool {
+    for op in ops {
+        if list.apply(*op).is_err() {
+            return false;
+        }
+    }
+    true
+}
+
+/// Whether both take the operations, the store as one list.
+fn take_list_alike<S: TextStore>(
+    store: &mut S,
+    list: &mut ListStore,
+    ops: Result<Vec<Op>, Refusal>,
+) -> bool {
+    match ops {
+        Ok(ops) => store.apply_all(&ops).is_ok() && takes_each(list, &ops),
+        Err(_) => false,
+    }
+}
+
+/// The store takes chains as the plain list takes their insertions. A block has at most 256 entries.
+pub fn check_chains<S: TextStore, R: Abort>(rt: &R, alloc: Global) {
+    const ROWS: &[(&str, (u64, u16), (u64, u16), u64)] = &[
+        ("longer than a block", (1, 1), (0, 0), 270),
+        ("in the middle of a full block", (400, 2), (20, 1), 70),
+        ("before that", (401, 3), (20, 1), 3),
+        ("behind the larger ones", (21, 3), (20, 1), 5),
+        ("behind a full block", (600, 1), (256, 1), 10),
+        ("known, and at the end", (260, 1), (259, 1), 20),
+        ("early", (700, 1), (650, 1), 2),
+        ("waited for in the middle", (645, 1), (20, 1), 10),
+        ("known", (1, 1), (0, 0), 270),
+    ];
+    let made = S::new(alloc, 1000);
+    assert!(rt; made.is_ok());
+    if let Ok(mut store) = made {
+        let mut list = ListStore::new(alloc, 1000);
+        for (name, first, parent, count) in ROWS {
+            let ops = chain_of(alloc, *first, *parent, *count);
+            assert!(rt; take_list_alike(&mut store, &mut list, ops), "{name}");
+        }
+        assert!(rt; show_alike(alloc, &store, &list));
     }
 }

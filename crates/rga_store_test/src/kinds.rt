@@ -1,5 +1,5 @@
 //! Each kind of store meets the worked examples, and answers as the plain list does.
-use crate::comparison::check_beside_a_list;
+use crate::comparison::{check_beside_a_list, check_chains};
 use crate::merging::{check_merges, takes_its_copy};
 use crate::stores::{
     check_limits, check_siblings, check_texts, has_each_answer, is_filled_by_waiting_ones,
@@ -26,6 +26,7 @@ fn check<S: TextStore, R: Abort>(rt: &R, alloc: Global) {
     check_merges::<S, R>(rt, alloc);
     assert!(rt; takes_its_copy::<S>(alloc));
     check_beside_a_list::<S, R>(rt, alloc);
+    check_chains::<S, R>(rt, alloc);
 }
 
 #[test]

@@ -57,6 +57,22 @@ pub fn check_lists<S: TextStore, R: Abort>(rt: &R, alloc: Global) {
         (1, A, "-2.1", "Err(Full)", A), // A deletion too many.
         (1, "", "a1.1<0.0 b2.1<1.1 b1.1<0.0", CONFLICT, ""), // Two insertions.
         (9, A, "b2.1<1.1 b1.1<0.0", CONFLICT, A), // One of the store.
+        (9, A, "b2.1<1.1 c3.1<2.1 b1.1<0.0", CONFLICT, A), // Behind a chain.
+        (2, "", "a1.1<0.0 b2.1<1.1 c3.1<2.1", "Err(Full)", ""), // In a chain.
+        (
+            9,
+            "",
+            "a1.1<0.0 b2.1<1.1 c1.2<2.1 d2.2<1.2",
+            "Err(BadOrder)",
+            "",
+        ), // Chains.
+        (
+            9,
+            "b2.1<1.1 -3.1",
+            "a1.1<0.0 b2.1<1.1 c3.1<2.1",
+            "Ok(())",
+            "a1.1<0.0 b2.1<1.1 c3.1<2.1 -3.1",
+        ),
         (9, A, "b1.1<0.0 c3.1<3.1", "Err(BadOrder)", A), // Ill-formed.
         (9, "", "-0.0 c3.1<3.1", "Err(BadId)", ""), // The root.
     ];

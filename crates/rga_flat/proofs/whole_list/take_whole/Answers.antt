@@ -1,16 +1,20 @@
-use Rattle.std.proofs.Common.{refl, sym, ap, ◌∙◌, subst, true≢false, inl, inr}
+use Rattle.std.proofs.Common.{◌≡◌, ◌+◌, ◌-◌, length, take, drop, refl, sym, ap, ◌∙◌, subst, true≢false, inl, inr, arith, length-drop}
+use Rattle.std.proofs.lemmas.List.{take_rest}
 use Rattle.std.specs.BTreeSet.{contains}
 use Rattle.rga_ops.specs.Identifier.{id_cmp}
 use Rattle.rga_ops.specs.Content.{Content}
+use Rattle.rga_ops.specs.Answer.{taken_one_by_one}
 use Rattle.rga_flat.specs.Back.{gone_back, CanGoBack}
 use Rattle.rga_flat.specs.Undo.{IsReturnable}
 use Rattle.rga_flat.specs.Waiting.{under, has_list, is_listed}
 use Rattle.rga_flat.proofs.WaitingLaws.{none_done, listed_none, unlisted_done}
 use Rattle.rga_flat.proofs.FlatLaws.{based_self, flat_marked, flat_cleared}
+use Rattle.rga_flat.proofs.ChainLaws.{list_later}
 use Rattle.rga_flat.proofs.whole_list.take_whole.Goals as goal
 
-pub loop-op-init : goal.loop-op-init
-loop-op-init c = record {
+pub loop-index-init : goal.loop-index-init
+loop-index-init c = record {
+  within = omega arith;
   limit = refl;
   rest = refl;
   back = subst (λ ss. CanGoBack ss c.args.records.now.content) (sym c.in_ok-steps.ensures.items) tt;
@@ -22,23 +26,44 @@ loop-op-init c = record {
   inserted = λ p t. absurd (true≢false (sym t ∙ none_done c.new-done.result c.new-done.ensures.empty p));
 }
 
+pub loop-index-preserved : goal.loop-index-preserved
+loop-index-preserved c =
+    let whole : length (take (length c.args.ops.now - c.loop-index.index) (drop c.loop-index.index c.args.ops.now)) ≡ length (drop c.loop-index.index c.args.ops.now) = ap length (take_rest c.args.ops.now c.loop-index.index) in
+    record {
+      within = omega (arith, whole, length-drop c.loop-index.index c.args.ops.now, c.in-Ok.ensures.within, c.loop-index-test.true);
+      limit = c.take_next.ensures.limit ∙ c.loop-index.invariant.limit;
+      rest =
+          ap (λ n. taken_one_by_one n c.take_next.new.records.content (drop (c.loop-index.index + c.in-Ok.count) c.args.ops.now)) c.take_next.ensures.limit
+          ∙ list_later c.loop-index.records.limit c.loop-index.records.content c.take_next.new.records.content c.args.ops.now c.loop-index.index c.in-Ok.count c.in-Ok.ensures.ok
+          ∙ c.loop-index.invariant.rest;
+      back = c.take_next.ensures.steps;
+      start = c.take_next.ensures.start ∙ c.loop-index.invariant.start;
+      flat = c.in-Ok.ensures.flat;
+      based = c.take_next.ensures.based c.args.records.now.content c.loop-index.invariant.based;
+      listed = λ p t. elim (c.take_next.ensures.settles.within p t) [
+        | inl old ↦ c.take_next.ensures.lists p (c.loop-index.invariant.listed p old)
+        | inr has ↦ c.take_next.ensures.lists p has
+      ];
+      inserted = c.in-Ok.ensures.inserted;
+    }
+
 pub go_back-requires-clause-returnable : goal.go_back-requires-clause-returnable
 go_back-requires-clause-returnable c =
-    subst (λ (base : Content). IsReturnable c.take_noted.new.records.content base c.take_noted.new.sequence c.take_noted.new.waiting c.take_noted.new.done)
-    (sym (c.take_noted.ensures.start ∙ c.loop-op.invariant.start))
+    subst (λ (base : Content). IsReturnable c.take_next.new.records.content base c.take_next.new.sequence c.take_next.new.waiting c.take_next.new.done)
+    (sym (c.take_next.ensures.start ∙ c.loop-index.invariant.start))
     (record {
-      settled = c.loop-op.done;
+      settled = c.loop-index.done;
       flat = c.in-Err.ensures.left;
-      more = c.take_noted.ensures.settles.grows;
-      listed = λ p t. elim (c.take_noted.ensures.settles.within p t) [
-        | inl old ↦ c.take_noted.ensures.lists p (c.loop-op.invariant.listed p old)
-        | inr has ↦ c.take_noted.ensures.lists p has
+      more = c.take_next.ensures.settles.grows;
+      listed = λ p t. elim (c.take_next.ensures.settles.within p t) [
+        | inl old ↦ c.take_next.ensures.lists p (c.loop-index.invariant.listed p old)
+        | inr has ↦ c.take_next.ensures.lists p has
       ];
-      based = c.take_noted.ensures.based c.args.records.now.content c.loop-op.invariant.based;
+      based = c.take_next.ensures.based c.args.records.now.content c.loop-index.invariant.based;
     })
 
 pub returns-clause-flat : goal.returns-clause-flat
 returns-clause-flat c =
-    flat_cleared c.loop-op.records.content c.loop-op.sequence (under c.loop-op.waiting) (under c.clear_lists.new.waiting)
-    (is_listed c.loop-op.waiting c.loop-op.done) (has_list c.clear_lists.new.waiting) (contains id_cmp c.loop-op.done) c.loop-op.invariant.flat
-    c.loop-op.invariant.inserted (unlisted_done c.loop-op.waiting c.loop-op.done) c.clear_lists.ensures.under c.clear_lists.ensures.lists
+    flat_cleared c.loop-index.records.content c.loop-index.sequence (under c.loop-index.waiting) (under c.clear_lists.new.waiting)
+    (is_listed c.loop-index.waiting c.loop-index.done) (has_list c.clear_lists.new.waiting) (contains id_cmp c.loop-index.done) c.loop-index.invariant.flat
+    c.loop-index.invariant.inserted (unlisted_done c.loop-index.waiting c.loop-index.done) c.clear_lists.ensures.under c.clear_lists.ensures.lists

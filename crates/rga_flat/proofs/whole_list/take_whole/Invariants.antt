@@ -1,4 +1,4 @@
-use Rattle.std.proofs.Common.{◌≡◌, true, drop}
+use Rattle.std.proofs.Common.{◌≡◌, ◌≤◌, ◌-◌, true, drop, length}
 use Rattle.std.specs.FinMap as finite_map
 use Rattle.std.specs.BTreeSet.{contains}
 use Rattle.rga_ops.specs.Identifier.{Identifier, id_cmp}
@@ -10,10 +10,11 @@ use Rattle.rga_flat.specs.Waiting.{under, has_list, is_listed}
 use Rattle.rga_flat.proofs.whole_list.take_whole.Given as goal
 
 -- what is left leads where the whole list leads, and the steps lead back
-abbrev pub invariant-loop-op : goal.invariant-loop-op
-invariant-loop-op l = record {
+abbrev pub invariant-loop-index : goal.invariant-loop-index
+invariant-loop-index l = record {
+  within : l.index ≤ length l.ops;
   limit : l.records.limit ≡ l.initial.records.limit;
-  rest : taken_one_by_one l.records.limit l.records.content (drop l.op-index l.ops) ≡ taken_one_by_one l.initial.records.limit l.initial.records.content l.ops;
+  rest : taken_one_by_one l.records.limit l.records.content (drop l.index l.ops) ≡ taken_one_by_one l.initial.records.limit l.initial.records.content l.ops;
   back : CanGoBack l.steps.items l.records.content;
   start : gone_back l.steps.items l.records.content ≡ l.initial.records.content;
   flat : IsFlat l.records.content l.sequence (under l.waiting) (is_listed l.waiting l.done);
@@ -21,3 +22,6 @@ invariant-loop-op l = record {
   listed : (p : Identifier) → contains id_cmp l.done p ≡ true → has_list l.waiting p ≡ true;
   inserted : (p : Identifier) → contains id_cmp l.done p ≡ true → finite_map.contains_key l.records.content.inserted p ≡ true;
 }
+
+abbrev pub decreases-loop-index : goal.decreases-loop-index
+decreases-loop-index l = length l.ops - l.index

@@ -1,48 +1,42 @@
 use Rattle.std.proofs.Common.{◌≡◌, ◌<◌, ◌+◌, length, take, drop, sym, ap, ◌∙◌, subst, slice_index_or, arith}
 use Rattle.std.specs.Prelude.{insert, slice_set, []}
-use Rattle.rga_sequence.specs.declared.block.TheConstants.{MOST}
 use Rattle.rga_sequence.specs.Blocks.{Blocks, AreFilled, AreGroups, cut_in}
-use Rattle.rga_sequence.proofs.PlaceLaws.{block_at, halved}
+use Rattle.rga_sequence.proofs.PlaceLaws.{halved}
 use Rattle.rga_sequence.proofs.PutLaws.{filled_cut}
 use Rattle.rga_sequence.proofs.GroupLaws.{take_cut}
 use Rattle.rga_sequence.proofs.putting.cut_block.Goals as goal
-
-pub tail-requires : goal.tail-requires
-tail-requires c =
-    let full : length c.index.result.now ≡ MOST = ap length (c.index.ensures ∙ block_at c.args.blocks.now.items c.args.block c.index.result.now [] (subst (λ n. c.args.block < n) c.args.blocks.now.ok.0 c.requires.block)) ∙ c.requires.full in
-    omega (arith, full, c.requires.second)
 
 pub returns-clause-ok : goal.returns-clause-ok
 returns-clause-ok c =
     let bs : Blocks = c.args.blocks.now.items in
     let within : c.args.block < length bs = subst (λ n. c.args.block < n) c.args.blocks.now.ok.0 c.requires.block in
-    let put : c.put_block.new.blocks.items ≡ insert bs (c.args.block + 1) (drop c.args.cut (slice_index_or bs c.args.block c.index.result.now)) = c.in_ok-put_block.ensures.ok ∙ ap (λ y. insert bs (c.args.block + 1) y) (c.in_ok-tail.ensures.ok ∙ ap (λ y. drop c.args.cut y) c.index.ensures) in
+    let put : c.put_block.new.blocks.items ≡ insert bs (c.args.block + 1) (drop c.args.cut (slice_index_or bs c.args.block c.index-2.result.now)) = c.in_ok-put_block.ensures.ok ∙ ap (λ y. insert bs (c.args.block + 1) y) (c.in_ok-tail.ensures.ok ∙ ap (λ y. drop c.args.cut y) c.index-2.ensures) in
     let cut : slice_set c.put_block.new.blocks.items c.args.block c.cut.new.self ≡ cut_in bs c.args.block c.args.cut =
     ap (λ y. slice_set c.put_block.new.blocks.items c.args.block y) (c.cut.ensures ∙ ap (λ y. take c.args.cut y) c.index_mut.ensures.value)
     ∙ ap (λ zs. slice_set zs c.args.block (take c.args.cut (slice_index_or zs c.args.block c.index_mut.result.now))) put
-    ∙ halved bs c.args.block c.args.cut c.index.result.now c.index_mut.result.now within in
+    ∙ halved bs c.args.block c.args.cut c.index-2.result.now c.index_mut.result.now within in
     cut
 
 pub returns-clause-filled : goal.returns-clause-filled
 returns-clause-filled c =
     let bs : Blocks = c.args.blocks.now.items in
     let within : c.args.block < length bs = subst (λ n. c.args.block < n) c.args.blocks.now.ok.0 c.requires.block in
-    let put : c.put_block.new.blocks.items ≡ insert bs (c.args.block + 1) (drop c.args.cut (slice_index_or bs c.args.block c.index.result.now)) = c.in_ok-put_block.ensures.ok ∙ ap (λ y. insert bs (c.args.block + 1) y) (c.in_ok-tail.ensures.ok ∙ ap (λ y. drop c.args.cut y) c.index.ensures) in
+    let put : c.put_block.new.blocks.items ≡ insert bs (c.args.block + 1) (drop c.args.cut (slice_index_or bs c.args.block c.index-2.result.now)) = c.in_ok-put_block.ensures.ok ∙ ap (λ y. insert bs (c.args.block + 1) y) (c.in_ok-tail.ensures.ok ∙ ap (λ y. drop c.args.cut y) c.index-2.ensures) in
     let cut : slice_set c.put_block.new.blocks.items c.args.block c.cut.new.self ≡ cut_in bs c.args.block c.args.cut =
     ap (λ y. slice_set c.put_block.new.blocks.items c.args.block y) (c.cut.ensures ∙ ap (λ y. take c.args.cut y) c.index_mut.ensures.value)
     ∙ ap (λ zs. slice_set zs c.args.block (take c.args.cut (slice_index_or zs c.args.block c.index_mut.result.now))) put
-    ∙ halved bs c.args.block c.args.cut c.index.result.now c.index_mut.result.now within in
-    subst AreFilled (sym cut) (filled_cut bs c.args.block c.args.cut [] c.requires.filled c.requires.first (omega (arith, c.requires.full, c.requires.second)))
+    ∙ halved bs c.args.block c.args.cut c.index-2.result.now c.index_mut.result.now within in
+    subst AreFilled (sym cut) (filled_cut bs c.args.block c.args.cut [] c.requires.filled c.requires.first c.requires.second)
 
 pub returns-clause-groups : goal.returns-clause-groups
 returns-clause-groups c =
     let bs : Blocks = c.args.blocks.now.items in
     let within : c.args.block < length bs = subst (λ n. c.args.block < n) c.args.blocks.now.ok.0 c.requires.block in
-    let put : c.put_block.new.blocks.items ≡ insert bs (c.args.block + 1) (drop c.args.cut (slice_index_or bs c.args.block c.index.result.now)) = c.in_ok-put_block.ensures.ok ∙ ap (λ y. insert bs (c.args.block + 1) y) (c.in_ok-tail.ensures.ok ∙ ap (λ y. drop c.args.cut y) c.index.ensures) in
+    let put : c.put_block.new.blocks.items ≡ insert bs (c.args.block + 1) (drop c.args.cut (slice_index_or bs c.args.block c.index-2.result.now)) = c.in_ok-put_block.ensures.ok ∙ ap (λ y. insert bs (c.args.block + 1) y) (c.in_ok-tail.ensures.ok ∙ ap (λ y. drop c.args.cut y) c.index-2.ensures) in
     let cut : slice_set c.put_block.new.blocks.items c.args.block c.cut.new.self ≡ cut_in bs c.args.block c.args.cut =
     ap (λ y. slice_set c.put_block.new.blocks.items c.args.block y) (c.cut.ensures ∙ ap (λ y. take c.args.cut y) c.index_mut.ensures.value)
     ∙ ap (λ zs. slice_set zs c.args.block (take c.args.cut (slice_index_or zs c.args.block c.index_mut.result.now))) put
-    ∙ halved bs c.args.block c.args.cut c.index.result.now c.index_mut.result.now within in
+    ∙ halved bs c.args.block c.args.cut c.index-2.result.now c.index_mut.result.now within in
     subst (AreGroups c.forget_from.new.self) (sym cut) (c.forget_from.ensures bs (cut_in bs c.args.block c.args.cut) c.requires.groups (omega (arith, within)) (take_cut bs c.args.block c.args.cut))
 
 pub returns-in_err-put_block-clause-groups : goal.returns-in_err-put_block-clause-groups

@@ -1,21 +1,20 @@
-use Rattle.std.proofs.Common.{◌<◌, [], length, slice_index_or, sym, ap, ◌∙◌, subst, arith}
+use Rattle.std.proofs.Common.{◌≤◌, ◌+◌, [], length, slice_index_or, sym, ap, ◌∙◌, subst, arith}
 use Rattle.rga_sequence.specs.declared.block.TheConstants.{MOST}
 use Rattle.rga_sequence.specs.Blocks.{Blocks, flat, IsPlace}
 use Rattle.rga_sequence.proofs.ListLaws.{on_err_always}
-use Rattle.rga_sequence.proofs.PlaceLaws.{cut_flat}
-use Rattle.rga_sequence.proofs.PutLaws.{half_place}
+use Rattle.rga_sequence.proofs.PlaceLaws.{cut_flat, other_place}
 use Rattle.rga_sequence.proofs.putting.put_at.Goals as goal
 
 pub put_in_block-requires-2-clause-place : goal.put_in_block-requires-2-clause-place
 put_in_block-requires-2-clause-place c =
     let bs : Blocks = c.args.blocks.now.items in
     subst (λ cs. IsPlace cs c.moved-place.result.block c.moved-place.result.index) (sym c.in_ok-cut_block.ensures.ok)
-    (c.moved-place.ensures.place bs c.requires.place (half_place bs c.args.at.block c.args.at.index c.cut_for-cut.result MOST c.requires.place (c.has_room.ensures.full c.if-has_room.false) (omega (arith, c.cut_for-cut.ensures.second))))
+    (c.moved-place.ensures.place bs c.requires.place (other_place bs c.args.at.block c.args.at.index c.cut_for-cut.result [] c.requires.place (omega (arith, c.has_room.ensures.full c.if-has_room.false, c.cut_for-cut.ensures.second, c.requires.few))))
 
 pub put_in_block-requires-2-clause-room : goal.put_in_block-requires-2-clause-room
 put_in_block-requires-2-clause-room c =
-    subst (λ cs. length (slice_index_or cs c.moved-place.result.block []) < MOST) (sym c.in_ok-cut_block.ensures.ok)
-    (c.moved-place.ensures.room c.args.blocks.now.items (c.has_room.ensures.full c.if-has_room.false))
+    subst (λ cs. length (slice_index_or cs c.moved-place.result.block []) + length c.args.entries.now ≤ MOST) (sym c.in_ok-cut_block.ensures.ok)
+    (omega (arith, c.moved-place.ensures.room c.args.blocks.now.items c.has_room.ensures.most, c.requires.few))
 
 pub returns-in_err-put_in_block-2-clause-err : goal.returns-in_err-put_in_block-2-clause-err
 returns-in_err-put_in_block-2-clause-err c =

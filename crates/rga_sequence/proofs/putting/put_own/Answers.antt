@@ -1,4 +1,4 @@
-use Rattle.std.proofs.Common.{◌≤◌, ◌<◌, length, sym, ap, ◌∙◌, subst, arith}
+use Rattle.std.proofs.Common.{◌≤◌, ◌<◌, length, sym, ap, ◌∙◌, subst}
 use Rattle.std.specs.Prelude.{insert}
 use Rattle.rga_sequence.specs.Blocks.{Blocks, AreFilled, AreGroups}
 use Rattle.rga_sequence.proofs.PutLaws.{filled_insert}
@@ -10,7 +10,7 @@ returns-clause-ok c = c.in_ok-put_block.ensures.ok ∙ ap (insert c.args.blocks.
 
 pub returns-clause-filled : goal.returns-clause-filled
 returns-clause-filled c =
-    let one : 0 < length c.in_ok-own.own = subst (λ y. 0 < length y) (sym c.in_ok-own.ensures.ok) (omega arith) in
+    let one : 0 < length c.in_ok-own.own = subst (λ y. 0 < length y) (sym c.in_ok-own.ensures.ok) c.requires.some in
     subst AreFilled (sym c.in_ok-put_block.ensures.ok) (filled_insert c.args.blocks.now.items c.args.block c.in_ok-own.own c.requires.filled one)
 
 pub returns-clause-groups : goal.returns-clause-groups

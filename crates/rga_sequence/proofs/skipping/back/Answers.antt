@@ -2,10 +2,10 @@ use Rattle.std.proofs.Common.{◌≡◌, ◌<◌, ◌-◌, length, slice_index_o
 use Rattle.rga_sequence.proofs.PlaceLaws.{place_at, back_before, back_behind}
 use Rattle.rga_sequence.proofs.skipping.back.Goals as goal
 
-count : (c : goal.Else-index-eq-MOST) → c.len-index.result ≡ length (slice_index_or c.args.blocks.now.items (c.args.at.block - 1) c.index.result.now)
+count : (c : goal.Else-count-index) → c.len-index.result ≡ length (slice_index_or c.args.blocks.now.items (c.args.at.block - 1) c.index.result.now)
 count c = c.len-index.ensures.len ∙ ap length c.index.ensures
 
-within : (c : goal.Else-index-eq-MOST) → c.args.at.block < length c.args.blocks.now.items
+within : (c : goal.Else-count-index) → c.args.at.block < length c.args.blocks.now.items
 within c = subst (λ n. c.args.at.block < n) c.args.blocks.now.ok.0 c.requires.block
 
 pub returns-clause-place : goal.returns-clause-place

@@ -1,0 +1,240 @@
+-- Insertions that are taken at once: where they lead, and what is shown then.
+use Rattle.std.proofs.lemmas.Bool.Decides.{nat_tests}
+use Rattle.std.proofs.Common.{◌≡◌, ℕ, zero, suc, ◌<◌, ◌+◌, ◌-◌, nat_le, ◌||◌, Bool, true, false, List, [], ◌∷◌, ◌++◌, length, take, drop, slice_index_or, refl, sym, ap, ◌∙◌, subst, arith, append_assoc, length-append, inl, inr}
+use Rattle.std.specs.Prelude.{Result, Some, Ok, Err, IfErr, not, ◌&&◌}
+use Rattle.std.specs.FinMap as finite_map
+use Rattle.std.specs.FinSet as finite_set
+use Rattle.std.specs.Ordering.{is_gt, ordering_reverse}
+use Rattle.std.specs.BTreeSet.{BTreeSet, contains}
+use Rattle.std.proofs.lemmas.List.{take_more, take_rest, drop_more, take-append-drop, take-append-le, drop-append-le}
+use Rattle.rga_ops.specs.Identifier.{Identifier, id_cmp, is_root}
+use Rattle.rga_ops.specs.Content.{Element, element, Content, IsSound, IsWithin, join, single, clock_of}
+use Rattle.rga_ops.specs.Answer.{answer, after_answer, taken, and_take, taken_one_by_one}
+use Rattle.rga_ops.specs.declared.op.Op.{Op}
+use Rattle.rga_ops.specs.declared.op.Op.TheVariants.{Insert}
+use Rattle.rga_ops.specs.declared.refusal.Taken.TheVariants.{New}
+use Rattle.rga_ops.specs.declared.refusal.Refusal.{Refusal}
+use Rattle.rga_ops.proofs.IdentifierLaws.{ids_total}
+use Rattle.rga_ops.proofs.AnswerLaws.{IsNew, new-iff, IsNewInsertion, new_insertion, well_formed_insertion}
+use Rattle.rga_ops.proofs.ContentLaws.{within_join, within_chain}
+use Rattle.rga_ops.proofs.GrowLaws.{complete_stays}
+use Rattle.rga_ops.proofs.InsertionLaws.{contains-insertion}
+use Rattle.rga_ops.proofs.ListSteps.{get-insertion}
+use Rattle.rga_ops.proofs.NewestLaws.{lower_counter}
+use Rattle.rga_store.specs.Without.{without}
+use Rattle.rga_store.proofs.WithoutLaws.{new_held}
+use Rattle.rga_sequence.specs.declared.entry.Entry.{Entry}
+use Rattle.rga_sequence.specs.Entries.{has, put_entry, put_chain, CanFollow, IsChain}
+use Rattle.rga_flat.specs.declared.steps.Step.{Step}
+use Rattle.rga_flat.specs.Back.{gone_back, CanGoBack}
+use Rattle.rga_flat.specs.Chains.{IsGathered, ChainShows}
+use Rattle.rga_flat.specs.Flat.{is_above, IsFlat}
+use Rattle.rga_flat.specs.Placing.{IsPlacing}
+use Rattle.rga_flat.specs.Waiting.{Waiting, under, has_list, is_listed}
+use Rattle.rga_flat.proofs.BackLaws.{gone_back-push, one_step_more, without_taken, last_taken}
+use Rattle.rga_flat.proofs.WaitingLaws.{under_none}
+use Rattle.rga_flat.proofs.PlacingLaws.{above_cases, of_root, of_complete, complete_of, place_start, place_step, place_absent, place_parent, placed_flat}
+
+-- ---- where the operations lead
+
+pub taken_on : (limit : ℕ) (c d : Content) (xs ys : List Op) → taken_one_by_one limit c xs ≡ Ok d → taken_one_by_one limit c (xs ++ ys) ≡ taken_one_by_one limit d ys
+taken_on limit c d [] ys h = let same : c ≡ d = cc in ap (λ e. taken_one_by_one limit e ys) same
+taken_on limit c d (x ∷ xs) ys h =
+    elim (taken limit c x) as (λ r. and_take r (λ e. taken_one_by_one limit e xs) ≡ Ok d → and_take r (λ e. taken_one_by_one limit e (xs ++ ys)) ≡ taken_one_by_one limit d ys) [
+      | Ok e ↦ λ k. taken_on limit e d xs ys k
+      | Err e ↦ λ k. absurd (cc)
+    ] h
+
+pub gone_back-both : (xs ys : List Step) (c : Content) → gone_back (xs ++ ys) c ≡ gone_back xs (gone_back ys c)
+gone_back-both [] ys c = refl
+gone_back-both (x ∷ xs) ys c = ap (gone_back (x ∷ [])) (gone_back-both xs ys c)
+
+end_of : (xs : List Step) → xs ≡ xs ++ []
+end_of [] = refl
+end_of (x ∷ xs) = ap (λ r. x ∷ r) (end_of xs)
+
+pub gathered_none : (limit : ℕ) (c : Content) (steps : List Step) → CanGoBack steps c → IsGathered limit c c [] steps steps
+gathered_none limit c steps back = record {
+  taken = refl;
+  within = record { inserted = λ k x g. g; deleted = λ k h. h };
+  back = back;
+  own = [];
+  noted = end_of steps;
+  gone = refl;
+}
+
+pub gathered_more : (limit : ℕ) (base c d : Content) (op : Op) (ops : List Op) (before steps : List Step) → IsGathered limit base c ops before steps → answer limit c op ≡ Ok New → d ≡ join c (single op)
+    → IsGathered limit base d (ops ++ op ∷ []) before (steps ++ record { op = op; clock = clock_of c } ∷ [])
+gathered_more limit base c d op ops before steps g answered joined =
+    let step : Step = record { op = op; clock = clock_of c } in
+    record {
+      taken = taken_on limit base c ops (op ∷ []) g.taken ∙ ap (λ r. and_take (after_answer c op r) (λ e. Ok e)) answered ∙ ap (λ e. Ok e) (sym joined);
+      within = within_chain base c d g.within (subst (λ e. IsWithin c e) (sym joined) (within_join c (single op)));
+      back = one_step_more steps step d (last_taken limit c d op answered joined steps (clock_of c) refl g.back);
+      own = g.own ++ step ∷ [];
+      noted = ap (λ ss. ss ++ step ∷ []) g.noted ∙ append_assoc before g.own (step ∷ []);
+      gone = gone_back-push g.own step d ∙ ap (gone_back g.own) (without_taken limit c d op answered joined) ∙ g.gone;
+    }
+
+pub gathered_next : (limit : ℕ) (base c d : Content) (op item : Op) (ops : List Op) (i : ℕ) (before steps : List Step) → IsGathered limit base c (take i ops) before steps → i < length ops → item ≡ slice_index_or ops i item → item ≡ op
+    → answer limit c op ≡ Ok New → d ≡ join c (single op) → IsGathered limit base d (take (i + 1) ops) before (steps ++ record { op = op; clock = clock_of c } ∷ [])
+gathered_next limit base c d op item ops i before steps g w is same answered joined =
+    subst (λ xs. IsGathered limit base d xs before (steps ++ record { op = op; clock = clock_of c } ∷ [])) (sym (take_more ops i item w ∙ ap (λ x. take i ops ++ x ∷ []) (sym is ∙ same)))
+    (gathered_more limit base c d op (take i ops) before steps g answered joined)
+
+-- where the next one leads
+pub next_taken : (limit : ℕ) (base c d : Content) (item : Op) (ops : List Op) (i : ℕ) → taken_one_by_one limit base (take i ops) ≡ Ok c → i < length ops → item ≡ slice_index_or ops i item → taken limit c item ≡ Ok d → taken_one_by_one limit base (take (i + 1) ops) ≡ Ok d
+next_taken limit base c d item ops i first w is next =
+    ap (taken_one_by_one limit base) (take_more ops i item w ∙ ap (λ x. take i ops ++ x ∷ []) (sym is))
+    ∙ taken_on limit base c (take i ops) (item ∷ []) first
+    ∙ ap (λ r. and_take r (λ e. Ok e)) next
+
+pub next_refused : (limit : ℕ) (base c : Content) (item : Op) (ops : List Op) (i : ℕ) (e : Refusal) → taken_one_by_one limit base (take i ops) ≡ Ok c → i < length ops → item ≡ slice_index_or ops i item → taken limit c item ≡ Err e → taken_one_by_one limit base ops ≡ Err e
+next_refused limit base c item ops i e first w is next =
+    ap (taken_one_by_one limit base) (sym (take-append-drop i ops) ∙ ap (λ xs. take i ops ++ xs) (drop_more ops i item w ∙ ap (λ x. x ∷ drop (i + 1) ops) (sym is)))
+    ∙ taken_on limit base c (take i ops) (item ∷ drop (i + 1) ops) first
+    ∙ ap (λ r. and_take r (λ d. taken_one_by_one limit d (drop (i + 1) ops))) next
+
+drop_later : (i n : ℕ) (xs : List Op) → drop n (drop i xs) ≡ drop (i + n) xs
+drop_later zero n xs = ap (λ m. drop m xs) (none_more n)
+  where
+    none_more : (n : ℕ) → n ≡ 0 + n
+    none_more n = omega arith
+drop_later (suc i) n [] = drop_none n ∙ sym (drop_none (suc i + n))
+  where
+    drop_none : (n : ℕ) → drop {A = Op} n [] ≡ []
+    drop_none zero = refl
+    drop_none (suc n) = refl
+drop_later (suc i) n (x ∷ xs) = drop_later i n xs ∙ ap (λ m. drop m (x ∷ xs)) (one_more i n)
+  where
+    one_more : (i n : ℕ) → suc (i + n) ≡ suc i + n
+    one_more i n = omega arith
+
+-- what is left of a list leads on from where its first operations led
+pub list_later : (limit : ℕ) (c d : Content) (ops : List Op) (i n : ℕ) → taken_one_by_one limit c (take n (take (length ops - i) (drop i ops))) ≡ Ok d → taken_one_by_one limit d (drop (i + n) ops) ≡ taken_one_by_one limit c (drop i ops)
+list_later limit c d ops i n h =
+    ap (taken_one_by_one limit d) (sym (drop_later i n ops))
+    ∙ sym (taken_on limit c d (take n (drop i ops)) (drop n (drop i ops)) (ap (λ xs. taken_one_by_one limit c (take n xs)) (sym (take_rest ops i)) ∙ h))
+    ∙ ap (taken_one_by_one limit c) (take-append-drop n (drop i ops))
+
+-- the steps that were there lead where they led
+pub gathered_start : (limit : ℕ) (base c : Content) (ops : List Op) (before steps : List Step) → IsGathered limit base c ops before steps → gone_back steps c ≡ gone_back before base
+gathered_start limit base c ops before steps g = ap (λ ss. gone_back ss c) g.noted ∙ gone_back-both before g.own c ∙ ap (gone_back before) g.gone
+
+drop_front : (xs ys : List Step) → drop (length xs) (xs ++ ys) ≡ ys
+drop_front [] ys = refl
+drop_front (x ∷ xs) ys = drop_front xs ys
+
+take_front : (xs ys : List Step) → take (length xs) (xs ++ ys) ≡ xs
+take_front [] ys = refl
+take_front (x ∷ xs) ys = ap (λ r. x ∷ r) (take_front xs ys)
+
+pub gathered_gone : (limit : ℕ) (base c : Content) (ops : List Op) (before steps : List Step) (n : ℕ) → n ≡ length before → IsGathered limit base c ops before steps → gone_back (drop n steps) c ≡ base
+gathered_gone limit base c ops before steps n is g = ap (λ ss. gone_back ss c) ((λ i. drop (is i) (g.noted i)) ∙ drop_front before g.own) ∙ g.gone
+
+pub gathered_before : (limit : ℕ) (base c : Content) (ops : List Op) (before steps : List Step) (n : ℕ) → n ≡ length before → IsGathered limit base c ops before steps → take n steps ≡ before
+gathered_before limit base c ops before steps n is g = (λ i. take (is i) (g.noted i)) ∙ take_front before g.own
+
+-- one step less behind those that stay
+pub left_gone : (from : ℕ) (ss : List Step) (s : Step) (c : Content) → from < length (ss ++ s ∷ []) → gone_back (drop from ss) (without s.op c) ≡ gone_back (drop from (ss ++ s ∷ [])) c
+left_gone from ss s c w =
+    let many : length (ss ++ s ∷ []) ≡ length ss + 1 = length-append ss (s ∷ []) in
+    sym (ap (λ ts. gone_back ts c) (drop-append-le from ss (s ∷ []) (omega (arith, many, w))) ∙ gone_back-push (drop from ss) s c)
+
+pub left_kept : (from : ℕ) (ss : List Step) (s : Step) → from < length (ss ++ s ∷ []) → take from ss ≡ take from (ss ++ s ∷ [])
+left_kept from ss s w =
+    let many : length (ss ++ s ∷ []) ≡ length ss + 1 = length-append ss (s ∷ []) in
+    sym (take-append-le from ss (s ∷ []) (omega (arith, many, w)))
+
+-- what holds of a refusal that was answered
+pub at_err : {A E : Type 0} (P : E → Type 0) (r : Result A E) (e : E) → r ≡ Err e → P e → IfErr r P
+at_err P r e is h = subst (λ x. IfErr x P) (sym is) h
+
+-- ---- one more in the chain
+
+-- the last identifier of a chain, or else its parent
+abbrev pub last_of : Identifier → List Entry → Identifier
+last_of id [] = id
+last_of id (e ∷ es) = last_of e.id es
+
+pub last_of-push : (id : Identifier) (es : List Entry) (e : Entry) → last_of id (es ++ e ∷ []) ≡ e.id
+last_of-push id [] e = refl
+last_of-push id (x ∷ es) e = last_of-push x.id es e
+
+pub put_chain-push : (id : Identifier) (es : List Entry) (e : Entry) (s : List Entry) → put_chain id (es ++ e ∷ []) s ≡ put_entry (last_of id es) e (put_chain id es s)
+put_chain-push id [] e s = refl
+put_chain-push id (x ∷ es) e s = put_chain-push x.id es e (put_entry id x s)
+
+follows_more : (id : Identifier) (es : List Entry) (e : Entry) (s : List Entry) → CanFollow id es s → is_root (last_of id es) ≡ false → is_gt (id_cmp e.id (last_of id es)) ≡ true → has e.id (put_chain id es s) ≡ false → CanFollow id (es ++ e ∷ []) s
+follows_more id [] e s can proper up none = (proper, up, none, tt)
+follows_more id (x ∷ es) e s can proper up none = (can.0, can.1, can.2, follows_more x.id es e (put_entry id x s) can.3 proper up none)
+
+chain_more : (id : Identifier) (es : List Entry) (e : Entry) (s : List Entry) → IsChain id es s → (is_root (last_of id es) || has (last_of id es) (put_chain id es s)) ≡ true
+    → (0 < length es → is_root (last_of id es) ≡ false) → is_gt (id_cmp e.id (last_of id es)) ≡ true → has e.id (put_chain id es s) ≡ false → IsChain id (es ++ e ∷ []) s
+chain_more id [] e s chain there proper up none = (there, none, tt)
+chain_more id (x ∷ es) e s chain there proper up none = (chain.0, chain.1, follows_more x.id es e (put_entry id x s) chain.2 (proper (omega arith)) up none)
+
+falls : (a b : ℕ) → nat_le a b ≡ false → b < a
+falls a b h = grind (arith, nat_tests)
+
+-- an identifier of a higher counter is larger
+larger_counter : (a b : Identifier) → b.counter < a.counter → is_gt (id_cmp a b) ≡ true
+larger_counter a b h = ap is_gt (ids_total.antisymm a b ∙ ap ordering_reverse (lower_counter b a h))
+
+above_later : (c d : Content) → IsWithin c d → (p : Identifier) → is_above c p ≡ true → is_above d p ≡ true
+above_later c d w p h = elim (above_cases c p h) [
+  | inl root ↦ of_root d p root
+  | inr complete ↦ of_complete d p (complete_stays c d w p complete)
+]
+
+module _ (limit : ℕ) (c d : Content) (last : Identifier) (e : Entry) (sound : IsSound c) (sound_now : IsSound d) (answered : answer limit c (Insert e.id last e.ch) ≡ Ok New) (joined : d ≡ join c (single (Insert e.id last e.ch))) (above : is_above c last ≡ true) where
+  new : IsNewInsertion limit c e.id last
+  new = new_insertion limit c e.id last e.ch answered
+
+  formed : (is_root e.id ≡ false) × (last.counter < e.id.counter)
+  formed =
+      let well : (is_root e.id ≡ false) × (nat_le e.id.counter last.counter ≡ false) = well_formed_insertion e.id last e.ch ((new-iff limit c (Insert e.id last e.ch)).0 answered).well_formed in
+      (well.0, falls e.id.counter last.counter well.1)
+
+  pub own_proper : is_root e.id ≡ false
+  own_proper = formed.0
+
+  found : finite_map.get d.inserted e.id ≡ Some (element last e.ch)
+  found = subst (λ b. finite_map.get b.inserted e.id ≡ Some (element last e.ch)) (sym joined) (new_held limit c (Insert e.id last e.ch) answered)
+
+  in_now : IsWithin c d
+  in_now = subst (λ b. IsWithin c b) (sym joined) (within_join c (single (Insert e.id last e.ch)))
+
+  pub own_above : is_above d e.id ≡ true
+  own_above = of_complete d e.id (complete_of d sound_now e.id (element last e.ch) found (above_later c d in_now last above))
+
+  module _ (w : Waiting) (shown : e.deleted ≡ finite_set.contains c.deleted e.id) (unlisted : has_list w e.id ≡ false) (base : Content) (parent : Identifier) (es : List Entry) (last_is : last ≡ last_of parent es) (proper : 0 < length es → is_root last ≡ false) where
+    deleted_now : e.deleted ≡ finite_set.contains d.deleted e.id
+    deleted_now = shown ∙ sym (ap (λ b. finite_set.contains b.deleted e.id) joined ∙ contains-insertion c e.id last e.ch e.id)
+
+    pub shows_more : ChainShows base c parent es w → ChainShows base d parent (es ++ e ∷ []) w
+    shows_more shows s done flat =
+        let v : List Entry = put_chain parent es s in
+        let was : IsChain parent es s × IsFlat c v (under w) (is_listed w done) = shows s done flat in
+        let placing : IsPlacing d (under w) (is_listed w done) v (e.id ∷ []) =
+        subst (λ b. IsPlacing b (under w) (is_listed w done) v (e.id ∷ [])) (sym joined)
+        (place_start c sound e.id last e.ch new.absent above (subst (λ b. IsSound b) joined sound_now) v (under w) (is_listed w done) was.1) in
+        let there : (is_root last || has last v) ≡ true = place_parent d (under w) (is_listed w done) v (e.id ∷ []) [] e.id refl placing (element last e.ch) found in
+        let none : has e.id v ≡ false = place_absent d (under w) (is_listed w done) v (e.id ∷ []) [] e.id refl placing in (
+          chain_more parent es e s was.0
+              (subst (λ k. (is_root k || has k v) ≡ true) last_is there)
+              (λ some. subst (λ k. is_root k ≡ false) last_is (proper some))
+              (subst (λ k. is_gt (id_cmp e.id k) ≡ true) last_is (larger_counter e.id last formed.1))
+              none,
+          placed_flat d (under w) (is_listed w done) (put_chain parent (es ++ e ∷ []) s)
+              (place_step d (under w) (is_listed w done) (is_listed w done) v (e.id ∷ []) [] e.id refl placing
+              (ap (λ b. b && not (contains id_cmp done e.id)) unlisted) (λ k f. refl)
+              (put_chain parent (es ++ e ∷ []) s) [] (element last e.ch) found
+              (sym (under_none w e.id unlisted))
+              (put_chain-push parent es e s
+              ∙ ap (λ k. put_entry k e v) (sym last_is)
+              ∙ (λ i. put_entry last (record { id = e.id; ch = e.ch; deleted = deleted_now i }) v))),
+        )
+
+pub shows_none : (c : Content) (parent : Identifier) (w : Waiting) → ChainShows c c parent [] w
+shows_none c parent w s done flat = (tt, flat)

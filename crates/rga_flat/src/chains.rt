@@ -1,0 +1,252 @@
+//! Insertions of a list of which each is the parent of the next, taken some at once: their entries
+//! go into the sequence in one piece.
+ghost use Rattle.std.specs.Prelude.{◌≡◌, ◌≢◌, ◌≤◌, ◌<◌, ◌++◌, ◌∷◌, [], Ok, true, false, length, vec_len, vec_capacity, take, drop, IfSome, IfOk, OnOk, OnErr, IfErr};
+ghost use Rattle.std.specs.FinSet as finite_set;
+ghost use Rattle.rga_ops.specs.Content.{join, single, clock_of};
+ghost use Rattle.rga_ops.specs.Answer.{answer};
+ghost use Rattle.rga_sequence.specs.Entries.{put_chain, IsChain};
+ghost use Rattle.rga_flat.specs.Back.{gone_back, CanGoBack};
+ghost use Rattle.rga_flat.specs.Chains.{ChainShows, IsGathered};
+ghost use Rattle.rga_flat.specs.Flat.{is_above, IsFlat};
+ghost use Rattle.rga_flat.specs.Waiting.{under, has_list, is_listed};
+
+use crate::placing::{note_block, note_entries};
+use crate::steps::{Step, note};
+use crate::taking::block_above;
+use crate::waiting::has_list;
+use rga_ops::{Id, Op, Refusal, Taken, answer_to};
+use rga_records::Records;
+use rga_sequence::{Entry, MOST_AT_ONCE, Sequence};
+use std::alloc::Global;
+use std::collections::{BTreeMap, BTreeSet};
+
+/// Takes the insertions at the front of a list of which each is the parent of the next, as far as
+/// they are new, wait for nothing and nothing waits for them, and answers how many: none where it
+/// does not begin with two such, and not more than may be put at once. `Memory` alone, which changes
+/// nothing.
+pub(crate) fn take_chain(
+    alloc: Global,
+    records: &mut Records,
+    sequence: &mut Sequence,
+    waiting: &BTreeMap<Id, Vec<Id>>,
+    done: &BTreeSet<Id>,
+    ops: &[Op],
+    steps: &mut Vec<Step>,
+) -> Result<usize, Refusal>
+    requires back { CanGoBack steps.old.items records.old.content }
+    requires flat { IsFlat records.old.content sequence.old
+        (under waiting.now) (is_listed waiting.now done.now) }
+    ensures gathered { IfOk result (λ count. IsGathered records.old.limit records.old.content
+        records.new.content (take count ops.now) steps.old.items steps.new.items) }
+    ensures within { IfOk result (λ count. count ≤ length ops.now) }
+    ensures flat { IsFlat records.new.content sequence.new
+        (under waiting.now) (is_listed waiting.now done.now) }
+    ensures same { OnErr result (records.new.content ≡ records.old.content) }
+    ensures same_steps { OnErr result (steps.new.items ≡ steps.old.items) }
+    ensures limit { records.new.limit ≡ records.old.limit }
+    ensures memory { IfErr result (λ e. e ≡ Refusal.Memory) }
+{
+    let Some(parent) = parent_of_chain(ops) else {
+        return Ok(0);
+    };
+    let Some(name) = block_above(records, waiting, done, parent) else {
+        return Ok(0);
+    };
+    let before = steps.as_slice().len();
+    let mut entries = Vec::with_capacity(alloc, MOST_AT_ONCE.min(ops.len()))?;
+    let gathered = gather(records, waiting, parent, name, ops, steps, &mut entries);
+    if gathered.is_err() {
+        remove_from(records, steps, before);
+        return Err(Refusal::Memory);
+    }
+    if put_chain(records, sequence, parent, name, entries.as_slice()).is_err() {
+        remove_from(records, steps, before);
+        return Err(Refusal::Memory);
+    }
+    Ok(entries.as_slice().len())
+}
+
+/// The parent of an insertion.
+fn parent_of(op: &Op) -> Option<Id> {
+    match op {
+        Op::Insert { parent, .. } => Some(*parent),
+        Op::Delete { .. } => None,
+    }
+}
+
+/// The parent of the first operation of a list, where that is an insertion and the parent of the
+/// second.
+fn parent_of_chain(ops: &[Op]) -> Option<Id> {
+    if ops.len() < 2 {
+        return None;
+    }
+    if parent_of(&ops[1]) != Some(ops[0].id()) {
+        return None;
+    }
+    parent_of(&ops[0])
+}
+
+/// Takes insertions into the records, the first behind a parent and each other behind the one before
+/// it, and notes them. `Memory` alone; those before stay.
+fn gather(
+    records: &mut Records,
+    waiting: &BTreeMap<Id, Vec<Id>>,
+    parent: Id,
+    name: usize,
+    ops: &[Op],
+    steps: &mut Vec<Step>,
+    entries: &mut Vec<Entry>,
+) -> Result<(), Refusal>
+    requires back { CanGoBack steps.old.items records.old.content }
+    requires above { is_above records.old.content parent ≡ true }
+    requires none { entries.old.items ≡ [] }
+    ensures gathered { IsGathered records.old.limit records.old.content records.new.content
+        (take (length entries.new.items) ops.now) steps.old.items steps.new.items }
+    ensures shows { ChainShows records.old.content records.new.content parent entries.new.items
+        waiting.now }
+    ensures few { length entries.new.items ≤ MOST_AT_ONCE }
+    ensures within { length entries.new.items ≤ length ops.now }
+    ensures limit { records.new.limit ≡ records.old.limit }
+    ensures memory { IfErr result (λ e. e ≡ Refusal.Memory) }
+{
+    let mut last = parent;
+    for op in ops {
+        if entries.as_slice().len() >= MOST_AT_ONCE {
+            return Ok(());
+        }
+        let Some(entry) = next_entry(records, waiting, last, op) else {
+            return Ok(());
+        };
+        let _before = records.known();
+        add(records, last, name, &entry, steps, entries)?;
+        let _now = records.known();
+        last = entry.id;
+    }
+    Ok(())
+}
+
+/// The entry of an insertion behind a parent, if it is new and nothing waits for it. Takes no memory.
+fn next_entry(
+    records: &mut Records,
+    waiting: &BTreeMap<Id, Vec<Id>>,
+    parent: Id,
+    op: &Op,
+) -> Option<Entry>
+    ensures op { IfSome result (λ e. op.now ≡ Op.Insert e.id parent e.ch) }
+    ensures new { IfSome result (λ e.
+        answer records.old.limit records.old.content op.now ≡ Ok Taken.New) }
+    ensures deleted { IfSome result (λ e.
+        e.deleted ≡ finite_set.contains records.old.content.deleted e.id) }
+    ensures unlisted { IfSome result (λ e. has_list waiting.now e.id ≡ false) }
+    ensures same { records.new ≡ records.old }
+{
+    let Op::Insert {
+        id,
+        parent: above,
+        ch,
+    } = *op
+    else {
+        return None;
+    };
+    if above != parent {
+        return None;
+    }
+    let found = records.find(id);
+    let deleted = found.deleted;
+    if answer_to(*op, found) != Ok(Taken::New) {
+        return None;
+    }
+    if has_list(waiting, id) {
+        return None;
+    }
+    Some(Entry { id, ch, deleted })
+}
+
+/// Takes an insertion that is new into the records, and notes it. `Memory` alone, which changes
+/// nothing.
+fn add(
+    records: &mut Records,
+    parent: Id,
+    name: usize,
+    entry: &Entry,
+    steps: &mut Vec<Step>,
+    entries: &mut Vec<Entry>,
+) -> Result<(), Refusal>
+    requires new { answer records.old.limit records.old.content
+        (Op.Insert entry.now.id parent entry.now.ch) ≡ Ok Taken.New }
+    requires deleted { entry.now.deleted
+        ≡ finite_set.contains records.old.content.deleted entry.now.id }
+    ensures ok { OnOk result (records.new.content
+        ≡ join records.old.content (single (Op.Insert entry.now.id parent entry.now.ch))) }
+    ensures steps { OnOk result (steps.new.items ≡ steps.old.items ++ record {
+      op = Op.Insert entry.now.id parent entry.now.ch;
+      clock = clock_of records.old.content;
+    } ∷ []) }
+    ensures entries { OnOk result (entries.new.items ≡ entries.old.items ++ entry.now ∷ []) }
+    ensures same { OnErr result (records.new.content ≡ records.old.content) }
+    ensures same_steps { OnErr result (steps.new.items ≡ steps.old.items) }
+    ensures same_entries { OnErr result (entries.new.items ≡ entries.old.items) }
+    ensures limit { records.new.limit ≡ records.old.limit }
+    ensures memory { IfErr result (λ e. e ≡ Refusal.Memory) }
+{
+    entries.reserve(1)?;
+    steps.reserve(1)?;
+    let clock = records.clock();
+    records.insert(entry.id, parent, entry.ch, name, entry.deleted)?;
+    let op = Op::Insert {
+        id: entry.id,
+        parent,
+        ch: entry.ch,
+    };
+    note(steps, &op, clock);
+    let _room = entries.push(*entry);
+    Ok(())
+}
+
+/// Puts the entries of a chain, and tells their records the name of their block. `name` is that of
+/// the parent's, which they were told. `Memory` alone, and then the sequence is as it was.
+fn put_chain(
+    records: &mut Records,
+    sequence: &mut Sequence,
+    parent: Id,
+    name: usize,
+    entries: &[Entry],
+) -> Result<(), Refusal>
+    requires chain { IsChain parent entries.now sequence.old }
+    requires few { length entries.now ≤ MOST_AT_ONCE }
+    ensures put { OnOk result (sequence.new ≡ put_chain parent entries.now sequence.old) }
+    ensures same { OnErr result (sequence.new ≡ sequence.old) }
+    ensures records { records.new ≡ records.old }
+    ensures memory { IfErr result (λ e. e ≡ Refusal.Memory) }
+{
+    if entries.len() == 0 {
+        return Ok(());
+    }
+    let put = sequence.put_chain(parent, name, entries)?;
+    if let Some(block) = put.new_block {
+        note_block(records, sequence, block);
+        if block == put.name {
+            return Ok(());
+        }
+    }
+    if put.name != name {
+        note_entries(records, entries, put.name);
+    }
+    Ok(())
+}
+
+/// The operations of the steps from one on leave the records, the last first. Takes no memory.
+fn remove_from(records: &mut Records, steps: &mut Vec<Step>, from: usize)
+    requires { CanGoBack steps.old.items records.old.content }
+    ensures content { records.new.content
+        ≡ gone_back (drop from steps.old.items) records.old.content }
+    ensures steps { steps.new.items ≡ take from steps.old.items }
+    ensures limit { records.new.limit ≡ records.old.limit }
+{
+    while steps.as_slice().len() > from {
+        match steps.pop() {
+            Some(step) => records.remove(&step.op, step.clock),
+            None => unreachable!(),
+        }
+    }
+}
