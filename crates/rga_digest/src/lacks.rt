@@ -66,7 +66,10 @@ impl Last {
     fn of(own: &BTreeMap<Block, u64>, summary: &Summary) -> Last
         ensures { result.lacks ≡ lacks_block (get block_cmp own.now) summary.now result.block }
     {
-        let block = Block { replica: 0, number: 0 };
+        let block = Block {
+            replica: 0,
+            number: 0,
+        };
         Last {
             range: 0,
             block,
@@ -76,12 +79,7 @@ impl Last {
 }
 
 /// Whether a replica of this summary lacks an operation, where these are the own digests.
-fn is_lacked(
-    own: &BTreeMap<Block, u64>,
-    summary: &Summary,
-    last: &mut Last,
-    op: &Op,
-) -> bool
+fn is_lacked(own: &BTreeMap<Block, u64>, summary: &Summary, last: &mut Last, op: &Op) -> bool
     requires { last.old.lacks ≡ lacks_block (get block_cmp own.now) summary.now last.old.block }
     ensures result { result ≡ lacks_by (get block_cmp own.now) summary.now op.now }
     ensures last { last.new.lacks ≡ lacks_block (get block_cmp own.now) summary.now last.new.block }

@@ -4,7 +4,6 @@ use Rattle.std.specs.Prelude.{Some}
 use Rattle.std.specs.Option.{unwrap_or}
 use Rattle.std.specs.BTreeMap.{get, IsOrdered}
 use Rattle.rga_ops.specs.declared.op.Op.{Op}
-use Rattle.rga_digest.specs.declared.block.Block.{Block}
 use Rattle.rga_digest.specs.declared.digests.TheConstants.{OF_NOTHING}
 use Rattle.rga_digest.specs.Digest.{block_cmp, block_digest, block_of, deleted_by, is_block, mixed, with_last}
 use Rattle.rga_digest.proofs.DigestLaws.{deletion_mixed, insertion_skipped}

@@ -1,7 +1,6 @@
-use Rattle.std.proofs.Common.{◌≡◌, true, sym, ap, ◌∙◌}
+use Rattle.std.proofs.Common.{◌≡◌, sym, ap, ◌∙◌}
 use Rattle.std.specs.BTreeMap.{get}
-use Rattle.rga_digest.specs.declared.block.Block.{Block}
-use Rattle.rga_digest.specs.Digest.{block_cmp, block_of, is_block}
+use Rattle.rga_digest.specs.Digest.{block_cmp, block_of}
 use Rattle.rga_digest.specs.Summary.{lacks_block, lacks_by}
 use Rattle.rga_digest.proofs.DigestLaws.{same_block}
 use Rattle.rga_digest.proofs.lacks.is_lacked.Goals as goal

@@ -1,9 +1,8 @@
-use Rattle.std.proofs.Common.{◌≡◌, List, filter, ap, ◌∙◌}
+use Rattle.std.proofs.Common.{◌≡◌, filter, ap, ◌∙◌}
 use Rattle.std.specs.BTreeMap.{get}
 use Rattle.std.proofs.lemmas.Result.{IfOk-weaker}
 use Rattle.rga_ops.specs.Content.{Content}
 use Rattle.rga_ops.specs.Operations.{operations}
-use Rattle.rga_ops.specs.declared.op.Op.{Op}
 use Rattle.rga_digest.specs.declared.block.Block.{Block}
 use Rattle.rga_digest.specs.Digest.{block_cmp, block_digest, deleted_by, own_digest}
 use Rattle.rga_digest.specs.Summary.{lacks_by, missing}

@@ -1,4 +1,4 @@
-use Rattle.std.proofs.Common.{◌≡◌, ◌++◌, true, sym, ap, ◌∙◌}
+use Rattle.std.proofs.Common.{◌≡◌, ◌++◌, sym, ap, ◌∙◌}
 use Rattle.std.proofs.lemmas.List.{drop_all}
 use Rattle.rga_digest.specs.Ranges.{are_rising, is_known}
 use Rattle.rga_digest.proofs.CounterLaws.{joined_all, joined_on, all_known, all_rising}

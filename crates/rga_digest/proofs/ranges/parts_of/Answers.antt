@@ -1,15 +1,13 @@
-use Rattle.std.proofs.Common.{◌≡◌, ◌+◌, true, ◌||◌, ◌++◌, ◌∷◌, [], List, take, sym, ap, ◌∙◌, subst, Vec}
+use Rattle.std.proofs.Common.{◌≡◌, ◌+◌, true, ◌||◌, ◌++◌, ◌∷◌, [], List, take, sym, ap, ◌∙◌, subst}
 use Rattle.std.specs.Prelude.{is_some}
-use Rattle.std.specs.List.{All}
 use Rattle.std.specs.FinMap as finite_map
 use Rattle.std.proofs.Math.Bool.{or-false}
 use Rattle.std.proofs.lemmas.List.{take_more}
 use Rattle.std.proofs.lemmas.List.Elements.{All-nil}
-use Rattle.rga_ops.specs.Identifier.{Identifier, id_cmp, is_id}
+use Rattle.rga_ops.specs.Identifier.{id_cmp, is_id}
 use Rattle.rga_ops.specs.Content.{content_of}
 use Rattle.rga_ops.specs.declared.op.Op.{Op}
 use Rattle.rga_ops.specs.declared.op.Op.TheVariants.{Insert, Delete}
-use Rattle.rga_digest.specs.declared.ranges.KnownRange.{KnownRange}
 use Rattle.rga_digest.specs.Ranges.{AreFilled, is_filled, is_known}
 use Rattle.rga_digest.proofs.CounterLaws.{inserted_more}
 use Rattle.rga_digest.proofs.ranges.parts_of.Goals.{in-Insert+in_ok-add_counter, in_default}

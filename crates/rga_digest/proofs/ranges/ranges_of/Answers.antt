@@ -11,7 +11,7 @@ join_parts-requires-clause-filled c =
 pub returns-clause-known : goal.returns-clause-known
 returns-clause-known c =
     IfOk-weaker c.join_parts.result _ _ (λ ranges known id.
-        known id ∙ ap (λ rs. is_known rs id) c.deref.ensures.value
-        ∙ sym (list_any-IsPermutation (λ r. is_in r id) c.in_ok-parts.parts.items c.sort_unstable.new.self.items c.sort_unstable.ensures.permutation)
-        ∙ c.in_ok-parts.ensures.known id)
+    known id ∙ ap (λ rs. is_known rs id) c.deref.ensures.value
+    ∙ sym (list_any-IsPermutation (λ r. is_in r id) c.in_ok-parts.parts.items c.sort_unstable.new.self.items c.sort_unstable.ensures.permutation)
+    ∙ c.in_ok-parts.ensures.known id)
     c.join_parts.ensures.known
