@@ -42,10 +42,10 @@ fn add_deletion(
     id: Id,
 ) -> Result<(Block, u64), Refusal>
     requires { IsOrdered block_cmp digests.old }
-    ensures ok { IfOk result (λ now. (b : BlockName) → with_last (Some now) (get block_cmp digests.new) b
+    ensures ok { let before = with_last last (get block_cmp digests.old) in
+        IfOk result (λ now. (b : BlockName) → with_last (Some now) (get block_cmp digests.new) b
         ≡ (if is_block (block_of id) b
-        then Some (mixed (unwrap_or (with_last last (get block_cmp digests.old) b) OF_NOTHING) id.counter)
-        else with_last last (get block_cmp digests.old) b)) }
+        then Some (mixed (unwrap_or (before b) OF_NOTHING) id.counter) else before b)) }
     ensures ordered { OnOk result (IsOrdered block_cmp digests.new) }
     ensures memory { IfErr result (λ e. e ≡ Refusal.Memory) }
 {

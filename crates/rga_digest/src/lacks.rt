@@ -52,7 +52,7 @@ fn lacked(
     Ok(lacked)
 }
 
-/// Where the last operations were found: what is asked next is mostly there.
+/// Where the last operations were found: the next are mostly there too.
 #[derive(Clone, Copy)]
 struct Last {
     /// The index of a range.
@@ -81,8 +81,9 @@ impl Last {
 /// Whether a replica of this summary lacks an operation, where these are the own digests.
 fn is_lacked(own: &BTreeMap<Block, u64>, summary: &Summary, last: &mut Last, op: &Op) -> bool
     requires { last.old.lacks ≡ lacks_block (get block_cmp own.now) summary.now last.old.block }
-    ensures result { result ≡ lacks_by (get block_cmp own.now) summary.now op.now }
-    ensures last { last.new.lacks ≡ lacks_block (get block_cmp own.now) summary.now last.new.block }
+    ensures exact { result ≡ lacks_by (get block_cmp own.now) summary.now op.now }
+    ensures last { let own = get block_cmp own.now in
+        last.new.lacks ≡ lacks_block own summary.now last.new.block }
 {
     match op {
         Op::Insert { id, .. } => !summary.knows(&mut last.range, *id),
