@@ -10,9 +10,9 @@ another one, with nothing new. From the time of both processes that of the same 
 taken off, and the least of the measurements counts. That both end with one text is tested. A call by
 hand may name another mgr, and fewer operations.
 
-A second table is of brief exchanges of two notes that have one log, but for 50 characters that each
-typed: the milliseconds by the clock, saves included, and, of another exchange through a relay that
-counts them, the bytes of both ways. One note is as it was typed, of another a tenth was deleted.
+A second table is of brief exchanges of two notes that have one log, which is on the disk before they
+begin, but for 50 characters that each typed: the milliseconds by the clock, saves included, and, of
+another exchange through a relay that counts them, the bytes of both ways. One note is as it was typed, of another a tenth was deleted.
 """
 
 import argparse
@@ -48,6 +48,7 @@ CASES = {
 BRIEF_CASES = {"as it was typed": None, "a tenth deleted": 10}
 DIFFERENT = 100
 BRIEF_SECONDS, BRIEF_BYTES = 0.02, 50_000
+PAUSE = 0.0002
 
 
 def processor_time():
@@ -129,6 +130,13 @@ def lines_of(count, one_in):
         yield json.dumps({"id": [number * one_in + 1, 9], "op": "del"}, separators=(",", ":"))
 
 
+def write_to_disk(path, text):
+    with open(path, "w") as file:
+        file.write(text)
+        file.flush()
+        os.fsync(file.fileno())
+
+
 class Relay(threading.Thread):
     """Hands on what one connection says to another port, both ways, and counts its bytes."""
 
@@ -167,7 +175,7 @@ def brief(mgr, count, one_in, counts_bytes):
     for replica, asked in ((1, port), (2, relay.port if relay else port)):
         folder = FOLDER / str(replica)
         folder.mkdir(parents=True)
-        (folder / "note.ops").write_text(log)
+        write_to_disk(folder / "note.ops", log)
         side = Session(mgr, folder, replica, "--port", str(asked), "--brief")
         side.settle()
         side.press(b"x" * (DIFFERENT // 2))
@@ -175,7 +183,7 @@ def brief(mgr, count, one_in, counts_bytes):
     server, client = sides
     begin = time.monotonic()
     server.send(SERVE)
-    await_listener(port)
+    await_listener(port, PAUSE)
     client.send(EXCHANGE)
     said = [side.settle() for side in (client, server)]
     seconds = time.monotonic() - begin

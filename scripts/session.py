@@ -136,8 +136,8 @@ def end_all():
         session.kill()
 
 
-def await_listener(number):
-    """Waits until somebody listens at a port.
+def await_listener(number, pause=0.005):
+    """Waits until somebody listens at a port, and looks again behind each pause, in seconds.
 
     The system's own table tells it: a connection that only looks would be taken as the peer.
     """
@@ -145,7 +145,7 @@ def await_listener(number):
     while not listens(number):
         if time.monotonic() > end:
             raise Unexpected(f"nobody listens at {number} for {SECONDS} seconds")
-        time.sleep(0.005)
+        time.sleep(pause)
 
 
 def listens(number):

@@ -1,13 +1,16 @@
 //! What passes over a link before an exchange that is brief.
-ghost use Rattle.std.specs.Prelude.{◌≡◌};
+ghost use Rattle.std.specs.Prelude.{◌≡◌, IfOk};
+ghost use Rattle.rga_ops.specs.Content.{Content};
+ghost use Rattle.rga_brief.specs.Told.{IsTold};
 ghost use Rattle.mg_sync.specs.Asking.{Answers, Asks, LearnsOver, SaysOver};
 
 use crate::fault::ExchangeFault;
 use mg_files::VisitedBuffer;
-use rga_brief::{hear_summary, send_summary};
+use rga_brief::{hear_summary, send_lines, summary_lines};
 use rga_digest::Summary;
 use rga_exchange::{ReceiveFault, SendFault};
 use rga_lines::Counted;
+use rga_ops::Refusal;
 use rga_store::TextStore;
 use std::alloc::Global;
 use std::io::{Read, Write};
@@ -25,7 +28,7 @@ pub(crate) fn ask<S: TextStore, L: Read + Write>(
     if !opened.is_brief() {
         return Ok(None);
     }
-    say(alloc, opened, link)?;
+    say(own_lines(alloc, opened), link)?;
     let peer = learn(alloc, link)?;
     Ok(Some(peer))
 }
@@ -44,20 +47,29 @@ pub(crate) fn answer<S: TextStore, L: Read + Write>(
     if !opened.is_brief() {
         return Ok(None);
     }
+    // They are made while the peer still makes its own.
+    let lines = own_lines(alloc, opened);
     let peer = learn(alloc, link)?;
-    say(alloc, opened, link)?;
+    say(lines, link)?;
     Ok(Some(peer))
 }
 
-/// Tells what a buffer holds in short.
-fn say<S: TextStore, L: Write>(
-    alloc: Global,
-    opened: &VisitedBuffer<S>,
-    writer: &mut Counted<L>,
-) -> Result<(), SendFault>
-    ensures { SaysOver L.contents writer.old writer.new result opened.now.buffer.content }
+/// What a buffer holds in short, as lines. `Memory` alone.
+fn own_lines<S: TextStore>(alloc: Global, opened: &VisitedBuffer<S>) -> Result<Vec<u8>, Refusal>
+    ensures { IfOk result (λ lines. IsTold lines.items opened.now.buffer.content) }
 {
-    send_summary(alloc, opened.buffer.store(), writer)
+    summary_lines(alloc, opened.buffer.store())
+}
+
+/// Tells what a buffer holds in short, by these lines, if there was memory for them.
+fn say<L: Write>(lines: Result<Vec<u8>, Refusal>, writer: &mut Counted<L>) -> Result<(), SendFault>
+    ensures { (c : Content) → IfOk lines (λ lines. IsTold lines.items c)
+        → SaysOver L.contents writer.old writer.new result c }
+{
+    let Ok(lines) = lines else {
+        return Err(SendFault::Memory);
+    };
+    send_lines(&lines, writer)
 }
 
 /// Hears what a peer knows.

@@ -1,6 +1,6 @@
 -- A summary is heard as it was told.
 use Rattle.std.proofs.Common.{◌≡◌, ℕ, ◌+◌, ◌/◌, ◌%◌, ◌<◌, ◌≤◌, ◌^◌, Bool, true, false, cond, List, [], ◌∷◌, ◌++◌, map, length, codes, decimal, refl, sym, ap, ◌∙◌, subst, append_assoc, append-nil, arith, lit≤}
-use Rattle.std.specs.Prelude.{All, Option, Some, None, Result, Ok, Err, OnOk, option_and_then}
+use Rattle.std.specs.Prelude.{All, Option, Some, None, Result, Ok, Err, IfOk, OnOk, Vec, option_and_then}
 use Rattle.std.specs.List.{AllByRecursion}
 use Rattle.std.specs.Str.{IsUtf8, is_utf8}
 use Rattle.std.proofs.Math.Nat.{div-le_self, mod-le}
@@ -31,7 +31,6 @@ use Rattle.rga_lines.proofs.SpellingLemmas.{end_data, compact_end}
 use Rattle.rga_exchange.proofs.AppendedLaws.{cut_again}
 use Rattle.rga_exchange.specs.declared.fault.ReceiveFault.{ReceiveFault}
 use Rattle.rga_exchange.specs.declared.fault.ReceiveFault.TheVariants.{Count}
-use Rattle.rga_exchange.specs.declared.fault.SendFault.{SendFault}
 use Rattle.rga_digest.specs.Summary.{Summary, IsSummary}
 use Rattle.rga_digest.proofs.OneSummary.{one_summary}
 use Rattle.rga_digest_lines.specs.declared.claim.Claim.{Claim}
@@ -43,7 +42,7 @@ use Rattle.rga_digest_lines.proofs.LineLaws.{line_of, one_line}
 use Rattle.rga_digest_lines.proofs.SummaryLaws.{comes_back}
 use Rattle.rga_brief.specs.Lines.{claim_line_at, end_said}
 use Rattle.rga_brief.proofs.LineLaws.{said}
-use Rattle.rga_brief.specs.Told.{TellsSummary, claim_lines, summary_text, summary_or, after_line, lines_heard, summary_heard}
+use Rattle.rga_brief.specs.Told.{IsTold, TellsSummary, claim_lines, summary_text, summary_or, after_line, lines_heard, summary_heard}
 use Rattle.rga_brief.specs.declared.claim_line.ClaimLine.TheVariants.{One, Last}
 
 -- the halves of a digest are numbers of the types
@@ -173,19 +172,15 @@ told_is_heard c s is range few =
 
 -- ---- what is written of them
 
-module _ {W : Type 0} (contents : W → Option (List ℕ)) (a b : Calls W) (c : Content) (s : Summary) (text : List ℕ) where
+pub lines_told : {A E : Type 0} (r : Result (Vec ℕ A) E) (c : Content) (s : Summary) → IsSummary c s → IfOk r (λ lines. lines.items ≡ summary_text s) → OnOk r (AllByRecursion IsInRange (claims_of s)) → OnOk r (length (claims_of s) < 2 ^ 64) → IfOk r (λ lines. IsTold lines.items c)
+lines_told (Err e) c s is same range few = tt
+lines_told (Ok lines) c s is same range few = record { own = s; is = is; text = same; heard = told_is_heard c s is range few }
+
+module _ {W : Type 0} (contents : W → Option (List ℕ)) (a b : Calls W) (text : List ℕ) (c : Content) (told : IsTold text c) where
   -- a beginning of what is told of the one summary of a content
-  pub begins_summary : IsSummary c s → text ≡ summary_text s → WritesFront contents a b text → (own : Summary) → IsSummary c own → WritesFront contents a b (summary_text own)
-  begins_summary is same front own other =
-      subst (WritesFront contents a b) (same ∙ ap summary_text (one_summary c s own is other)) front
+  pub begins_summary : WritesFront contents a b text → (own : Summary) → IsSummary c own → WritesFront contents a b (summary_text own)
+  begins_summary front own other = subst (WritesFront contents a b) (told.text ∙ ap summary_text (one_summary c told.own own told.is other)) front
 
   -- and all of it
-  pub tells_summary : (r : Result (Unit {0}) SendFault) → IsSummary c s → text ≡ summary_text s → AllByRecursion IsInRange (claims_of s) → length (claims_of s) < 2 ^ 64
-      → OnOk r (Writes contents a b text) → OnOk r (TellsSummary contents a b c)
-  tells_summary (Err e) is same range few written = tt
-  tells_summary (Ok u) is same range few written = record {
-    own = s;
-    is = is;
-    written = subst (Writes contents a b) same written;
-    heard = told_is_heard c s is range few;
-  }
+  pub tells_summary : Writes contents a b text → TellsSummary contents a b c
+  tells_summary written = record { own = told.own; is = told.is; written = subst (Writes contents a b) told.text written; heard = told.heard }

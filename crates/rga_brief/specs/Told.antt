@@ -63,6 +63,13 @@ summary_heard bytes = bytes_heard [] bytes
 
 -- ---- what is told of a content
 
+-- Bytes are what is told of the content's summary, which is heard of them.
+pub record IsTold (bytes : List ℕ) (c : Content) : Type 0 where
+  pub own : Summary
+  pub is : IsSummary c own
+  pub text : bytes ≡ summary_text own
+  pub heard : summary_heard (summary_text own) ≡ Ok own
+
 -- Known bytes grew by the claims of the content's summary, which is heard of them.
 pub record TellsSummary {W : Type 0} (contents : W → Option (List ℕ)) (old new : Calls W) (c : Content) : Type 0 where
   pub own : Summary

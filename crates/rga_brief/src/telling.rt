@@ -9,7 +9,7 @@ ghost use Rattle.rga_exchange.specs.Receiving.{exchange_outcome};
 ghost use Rattle.rga_digest.specs.Summary.{Summary as SummaryValue, IsSummary, missing};
 ghost use Rattle.rga_digest_lines.specs.Claims.{IsInRange, claim_line};
 ghost use Rattle.rga_digest_lines.specs.Summaries.{claims_of};
-ghost use Rattle.rga_brief.specs.Told.{TellsSummary, summary_text};
+ghost use Rattle.rga_brief.specs.Told.{IsTold, summary_text};
 
 use rga_digest::{Summary, missing, summary_of};
 use rga_digest_lines::{Claim, claims_of, write_claim};
@@ -20,41 +20,27 @@ use rga_store::TextStore;
 use std::alloc::Global;
 use std::io::Write;
 
-/// Writes what a store holds in short: the claims of its summary, a line each, and the line that
-/// ends an exchange, which counts them; each with its newline.
-///
-/// The lines are made in memory and given to the device at once. No failed call is made again, and
-/// the device is flushed at the end. `Write` comes exactly where a call failed, and `Memory` before
-/// anything was written.
-pub fn send_summary<S: TextStore, W: Write>(
-    alloc: Global,
-    store: &S,
-    writer: &mut Counted<W>,
-) -> Result<(), SendFault>
-    ensures told { OnOk result (TellsSummary W.contents writer.old writer.new
-        (S.content store.now)) }
-    ensures begun { (own : SummaryValue) → IsSummary (S.content store.now) own
-        → WritesFront W.contents writer.old writer.new (summary_text own) }
-    ensures flushed { OnOk result (writer.new.flushed ≡ true) }
-    ensures device { CountsAs SendFault.Write result writer.old writer.new }
+/// What is told of a store: the claims of its summary, a line each, and the line that ends an
+/// exchange, which counts them; each with its newline. `Memory` alone.
+pub fn summary_lines<S: TextStore>(alloc: Global, store: &S) -> Result<Vec<u8>, Refusal>
+    ensures ok { IfOk result (λ lines. IsTold lines.items (S.content store.now)) }
+    ensures memory { IfErr result (λ e. e ≡ Refusal.Memory) }
 {
-    let Ok(own) = summary_of(alloc, store) else {
-        return Err(SendFault::Memory);
-    };
-    let Ok(text) = text_of(alloc, &own) else {
-        return Err(SendFault::Memory);
-    };
-    write_text(&text, writer)
+    let own = summary_of(alloc, store)?;
+    text_of(alloc, &own)
 }
 
-/// Writes a text, and flushes the device.
-fn write_text<W: Write>(text: &[u8], writer: &mut Counted<W>) -> Result<(), SendFault>
-    ensures written { OnOk result (Writes W.contents writer.old writer.new text.now) }
-    ensures begun { WritesFront W.contents writer.old writer.new text.now }
+/// Writes the lines that are told of a store, which are given to the device at once. No failed call
+/// is made again, and the device is flushed at the end. `Write` is the only fault, and comes exactly
+/// where a call failed.
+pub fn send_lines<W: Write>(lines: &[u8], writer: &mut Counted<W>) -> Result<(), SendFault>
+    ensures written { OnOk result (Writes W.contents writer.old writer.new lines.now) }
+    ensures begun { WritesFront W.contents writer.old writer.new lines.now }
     ensures flushed { OnOk result (writer.new.flushed ≡ true) }
     ensures device { CountsAs SendFault.Write result writer.old writer.new }
+    ensures write { IfErr result (λ e. e ≡ SendFault.Write) }
 {
-    let Ok(()) = writer.write_all(text) else {
+    let Ok(()) = writer.write_all(lines) else {
         return Err(SendFault::Write);
     };
     let Ok(()) = writer.flush() else {

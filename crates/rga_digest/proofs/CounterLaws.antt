@@ -1,17 +1,15 @@
--- One counter more: how it joins the ranges, and the counters in order.
-use Rattle.std.proofs.Common.{◌≡◌, ℕ, zero, suc, ◌+◌, ◌<◌, Bool, true, false, cond, ◌&&◌, ◌||◌, ◌==◌, nat_le, nat_lt, List, [], ◌∷◌, ◌++◌, length, take, slice_index_or, refl, sym, ap, ◌∙◌, arith, subst, inl, inr}
+-- Ranges that grow by one counter, and how those in order are joined.
+use Rattle.std.proofs.Common.{◌≡◌, ℕ, zero, suc, ◌+◌, ◌<◌, Bool, true, false, cond, ◌&&◌, ◌||◌, ◌==◌, nat_le, nat_lt, List, [], ◌∷◌, ◌++◌, length, slice_index_or, slice_set, refl, sym, ap, ◌∙◌, subst, add-one, arith}
 use Rattle.std.specs.Prelude.{Option, Some, None, is_some}
 use Rattle.std.specs.Option.{option_or}
-use Rattle.std.specs.Cmp.{both_tied, unsigned_ties}
-use Rattle.std.specs.List.{AllByRecursion}
-use Rattle.std.specs.List.Sorted.{IsStrictlySortedBy}
-use Rattle.std.specs.Ordering.{eq_by_cmp, nat_cmp, ordering_then}
+use Rattle.std.specs.List.Sorted.{IsSorted}
+use Rattle.std.specs.Ordering.{is_lt, ordering_then}
 use Rattle.std.specs.FinMap as finite_map
+use Rattle.std.specs.declared.cmp.Ordering.{Ordering}
 use Rattle.std.specs.declared.cmp.Ordering.TheVariants.{Less, Equal, Greater}
-use Rattle.std.proofs.Math.Bool.{or-false, and-true, and_assoc, and_comm}
-use Rattle.std.proofs.lemmas.Bool.{and_parts, or_cases, or_left, or_right}
+use Rattle.std.proofs.Math.Bool.{or-false, or_assoc}
+use Rattle.std.proofs.lemmas.Bool.{and_parts}
 use Rattle.std.proofs.lemmas.Bool.Decides.{nat_tests}
-use Rattle.std.proofs.lemmas.List.{take_more}
 use Rattle.std.proofs.lemmas.List.Folds.{list_any-append}
 use Rattle.rga_ops.specs.Identifier.{Identifier, identifier, id_cmp, is_id}
 use Rattle.rga_ops.specs.Content.{Content, join, single, content_of, element}
@@ -21,177 +19,170 @@ use Rattle.rga_ops.proofs.OperationLaws.{get-single, content_of-append}
 use Rattle.rga_ops.specs.declared.op.Op.{Op}
 use Rattle.rga_ops.specs.declared.op.Op.TheVariants.{Insert, Delete}
 use Rattle.rga_digest.specs.declared.ranges.KnownRange.{KnownRange}
-use Rattle.rga_digest.specs.Ranges.{is_in, is_known, is_apart, rise_behind, are_rising, pair_cmp, has_pair, touches}
-use Rattle.rga_digest.proofs.RangeLaws.{alike, filled_first, rest_rises}
-
--- ---- the last range
+use Rattle.rga_digest.specs.Ranges.{is_in, is_filled, AreFilled, is_known, is_apart, rise_behind, are_rising, starts_by, range_cmp, touches, meets, joined}
 
 both_hold : (a b : Bool) → a ≡ true → b ≡ true → (a && b) ≡ true
 both_hold a b p q = λ k. p k && q k
 
--- what is behind a range that rises has to rise behind it
-rises_on : (p : Option KnownRange) (zs : List KnownRange) (a : KnownRange) (ys : List KnownRange) → rise_behind p ((zs ++ a ∷ []) ++ ys) ≡ (rise_behind p (zs ++ a ∷ []) && rise_behind (Some a) ys)
-rises_on p [] a ys = ap (λ b. b && rise_behind (Some a) ys) (sym (and-true (is_apart p a && nat_le a.first a.last)))
-rises_on p (z ∷ zs) a ys =
-    ap (λ b. (is_apart p z && nat_le z.first z.last) && b) (rises_on (Some z) zs a ys)
-    ∙ sym (and_assoc (is_apart p z && nat_le z.first z.last) (rise_behind (Some z) (zs ++ a ∷ [])) (rise_behind (Some a) ys))
-
-last_filled : (p : Option KnownRange) (zs : List KnownRange) (a : KnownRange) → rise_behind p (zs ++ a ∷ []) ≡ true → nat_le a.first a.last ≡ true
-last_filled p [] a up = filled_first p a [] up
-last_filled p (z ∷ zs) a up = last_filled (Some z) zs a (rest_rises p z (zs ++ a ∷ []) up)
-
-same_apart : (p : Option KnownRange) (a b : KnownRange) → a.replica ≡ b.replica → a.first ≡ b.first → is_apart p a ≡ is_apart p b
-same_apart None a b r f = refl
-same_apart (Some z) a b r f = λ k. nat_lt z.replica (r k) || ((z.replica == r k) && nat_lt (z.last + 1) (f k))
-
-extended : (p : Option KnownRange) (zs : List KnownRange) (a b : KnownRange) → a.replica ≡ b.replica → a.first ≡ b.first → nat_le b.first b.last ≡ true → rise_behind p (zs ++ a ∷ []) ≡ true → rise_behind p (zs ++ b ∷ []) ≡ true
-extended p [] a b r f filled up =
-    both_hold (is_apart p b && nat_le b.first b.last) true
-    (both_hold (is_apart p b) (nat_le b.first b.last) (sym (same_apart p a b r f) ∙ (and_parts (is_apart p a) (nat_le a.first a.last) (and_parts (is_apart p a && nat_le a.first a.last) true up).0).0) filled) refl
-extended p (z ∷ zs) a b r f filled up =
-    both_hold (is_apart p z && nat_le z.first z.last) (rise_behind (Some z) (zs ++ b ∷ []))
-    (and_parts (is_apart p z && nat_le z.first z.last) (rise_behind (Some z) (zs ++ a ∷ [])) up).0
-    (extended (Some z) zs a b r f filled (rest_rises p z (zs ++ a ∷ []) up))
-
 -- ---- one counter more
 
-longer : (x l : ℕ) → nat_le x l ≡ true → nat_le x (l + 1) ≡ true
-longer x l h = grind (arith, nat_tests)
+-- a range that ends elsewhere
+abbrev pub ending : KnownRange → ℕ → KnownRange
+ending r last = record { replica = r.replica; first = r.first; last = last }
 
-in_longer : (r q x l m : ℕ) → nat_le x l ≡ true → ((r == q) && (nat_le x m && nat_le m (l + 1))) ≡ (((r == q) && (nat_le x m && nat_le m l)) || (((l + 1) == m) && (r == q)))
-in_longer r q x l m h = grind (arith, nat_tests)
+grown : (r q k x l m n : ℕ) → nat_le x l ≡ true → ((r == k) && ((l + 1) == n)) ≡ true → ((r == q) && (nat_le x m && nat_le m n)) ≡ (((r == q) && (nat_le x m && nat_le m l)) || ((n == m) && (k == q)))
+grown r q k x l m n f h = grind (arith, nat_tests)
+
+move_in : (a d k : Bool) → ((a || d) || k) ≡ ((a || k) || d)
+move_in true d k = refl
+move_in false true true = refl
+move_in false true false = refl
+move_in false false true = refl
+move_in false false false = refl
+
+-- a range has the identifier behind it too, once it ends there
+pub grown_knows : (rs : List KnownRange) (i : ℕ) (r : KnownRange) (id other : Identifier) → i < length rs → r ≡ slice_index_or rs i r → is_filled r ≡ true → touches r id ≡ true → is_known (slice_set rs i (ending r id.counter)) other ≡ (is_known rs other || is_id id other)
+grown_knows [] i r id other l is filled h = absurd (omega arith)
+grown_knows (x ∷ rs) zero r id other l is filled h =
+    ap (λ b. b || is_known rs other) (grown r.replica other.replica id.replica r.first r.last other.counter id.counter filled h)
+    ∙ move_in (is_in r other) (is_id id other) (is_known rs other)
+    ∙ ap (λ (y : KnownRange). (is_in y other || is_known rs other) || is_id id other) is
+grown_knows (x ∷ rs) (suc i) r id other l is filled h =
+    ap (λ b. is_in x other || b) (grown_knows rs i r id other (omega arith) is filled h)
+    ∙ sym (or_assoc (is_in x other) (is_known rs other) (is_id id other))
+
+still_filled : (r k x l n : ℕ) → nat_le x l ≡ true → ((r == k) && ((l + 1) == n)) ≡ true → nat_le x n ≡ true
+still_filled r k x l n f h = grind (arith, nat_tests)
+
+pub grown_filled : (r : KnownRange) (id : Identifier) → is_filled r ≡ true → touches r id ≡ true → is_filled (ending r id.counter) ≡ true
+grown_filled r id filled h = still_filled r.replica id.replica r.first r.last id.counter filled h
 
 in_one : (r q n m : ℕ) → ((r == q) && (nat_le n m && nat_le m n)) ≡ ((n == m) && (r == q))
 in_one r q n m = grind (arith, nat_tests)
 
-regroup : (k a d : Bool) → (k || ((a || d) || false)) ≡ ((k || (a || false)) || d)
-regroup true a d = refl
-regroup false true d = refl
-regroup false false d = or-false d
+-- an identifier as a range
+abbrev pub range_of : Identifier → KnownRange
+range_of id = record { replica = id.replica; first = id.counter; last = id.counter }
 
--- the new range, alone or in place of the last one
-abbrev pub ending : ℕ → ℕ → ℕ → KnownRange
-ending replica first last = record { replica = replica; first = first; last = last }
+pub one_more : (rs : List KnownRange) (id other : Identifier) → is_known (rs ++ range_of id ∷ []) other ≡ (is_known rs other || is_id id other)
+one_more rs id other =
+    list_any-append (λ r. is_in r other) rs (range_of id ∷ [])
+    ∙ ap (λ b. is_known rs other || b) (or-false (is_in (range_of id) other) ∙ in_one id.replica other.replica id.counter other.counter)
 
--- what a list of ranges is that a counter joined
-pub record Joins (old new : List KnownRange) (replica counter : ℕ) : Type 0 where
-  pub rising : are_rising new ≡ true
-  pub known : (id : Identifier) → is_known new id ≡ (is_known old id || is_id (identifier counter replica) id)
+-- ---- ranges in order
 
--- the same by other names of the lists
-pub joins_so : (old new before after : List KnownRange) (replica counter : ℕ) → old ≡ before → new ≡ after → Joins before after replica counter → Joins old new replica counter
-joins_so old new before after replica counter p q j =
-    subst (λ xs. Joins xs new replica counter) (sym p) (subst (λ ys. Joins before ys replica counter) (sym q) j)
+-- a range, and others by where they begin
+abbrev pub in_order : KnownRange → List KnownRange → Bool
+in_order r [] = true
+in_order r (p ∷ ps) = starts_by (identifier p.first p.replica) r && in_order p ps
 
-touching : (a : KnownRange) (replica counter : ℕ) → touches a replica counter ≡ true → (a.replica ≡ replica) × (a.last + 1 ≡ counter)
-touching a replica counter h =
-    let s : ((a.replica == replica) ≡ true) × (((a.last + 1) == counter) ≡ true) = and_parts (a.replica == replica) ((a.last + 1) == counter) h in
-    (grind (arith, nat_tests, s.0), grind (arith, nat_tests, s.1))
+-- the others joined to it
+abbrev pub joined_on : KnownRange → List KnownRange → List KnownRange
+joined_on r [] = r ∷ []
+joined_on r (p ∷ ps) = cond (meets r p) (joined_on (joined r p) ps) (r ∷ joined_on p ps)
 
--- the counter next to the last range goes into it
-pub joins_last : (zs : List KnownRange) (a : KnownRange) (replica counter : ℕ) → are_rising (zs ++ a ∷ []) ≡ true → touches a replica counter ≡ true → Joins (zs ++ a ∷ []) (zs ++ ending replica a.first counter ∷ []) replica counter
-joins_last zs a replica counter up touch =
-    let s : (a.replica ≡ replica) × (a.last + 1 ≡ counter) = touching a replica counter touch in
-    subst (λ n. Joins (zs ++ a ∷ []) (zs ++ ending replica a.first n ∷ []) replica n) s.1
-    (subst (λ r. Joins (zs ++ a ∷ []) (zs ++ ending r a.first (a.last + 1) ∷ []) r (a.last + 1)) s.0 same)
+abbrev pub joined_all : List KnownRange → List KnownRange
+joined_all [] = []
+joined_all (r ∷ rs) = joined_on r rs
+
+not_less : (p q s t : Bool) (o : Ordering) → is_lt (ordering_then (cond p Less (cond q Equal Greater)) (ordering_then (cond s Less (cond t Equal Greater)) o)) ≡ false → (p ≡ false) × ((q && s) ≡ false)
+not_less true q s t o h = absurd (cc)
+not_less false true true t o h = absurd (cc)
+not_less false true false t o h = (refl, refl)
+not_less false false s t o h = (refl, refl)
+
+begins_so : (a b x y : ℕ) → nat_lt b a ≡ false → ((b == a) && nat_lt y x) ≡ false → (nat_lt a b || ((a == b) && nat_le x y)) ≡ true
+begins_so a b x y h k = grind (arith, nat_tests)
+
+behind_first : (x : KnownRange) (xs : List KnownRange) (k : ℕ) (d : KnownRange) → slice_index_or (x ∷ xs) (k + 1) d ≡ slice_index_or xs k d
+behind_first x xs k d = ap (λ n. slice_index_or (x ∷ xs) n d) (add-one k)
+
+-- what is sorted is in order
+order_from_sorted : (r : KnownRange) (ps : List KnownRange) → IsSorted range_cmp (r ∷ ps) → in_order r ps ≡ true
+order_from_sorted r [] up = refl
+order_from_sorted r (p ∷ ps) up =
+    let least : (nat_lt p.replica r.replica ≡ false) × (((p.replica == r.replica) && nat_lt p.first r.first) ≡ false) =
+    not_less (nat_lt p.replica r.replica) (p.replica == r.replica) (nat_lt p.first r.first) (p.first == r.first) _ (up 0 r (omega arith) (omega arith)) in
+    both_hold (starts_by (identifier p.first p.replica) r) (in_order p ps) (begins_so r.replica p.replica r.first p.first least.0 least.1)
+    (order_from_sorted p ps rest)
   where
-    filled : nat_le a.first a.last ≡ true
-    filled = last_filled None zs a up
+    rest : IsSorted range_cmp (p ∷ ps)
+    rest k d a b =
+        subst (λ (x : KnownRange). is_lt (range_cmp x (slice_index_or (p ∷ ps) k d)) ≡ false) (behind_first r (p ∷ ps) (suc k) d ∙ sym (behind_first p ps k d))
+        (up (suc k) d (omega arith) (omega arith))
 
-    same : Joins (zs ++ a ∷ []) (zs ++ ending a.replica a.first (a.last + 1) ∷ []) a.replica (a.last + 1)
-    same = record {
-      rising = extended None zs a (ending a.replica a.first (a.last + 1)) refl refl (longer a.first a.last filled) up;
-      known = λ id.
-          list_any-append (λ r. is_in r id) zs (ending a.replica a.first (a.last + 1) ∷ [])
-          ∙ ap (λ b. is_known zs id || (b || false)) (in_longer a.replica id.replica a.first a.last id.counter filled)
-          ∙ regroup (is_known zs id) (is_in a id) (((a.last + 1) == id.counter) && (a.replica == id.replica))
-          ∙ ap (λ b. b || is_id (identifier (a.last + 1) a.replica) id) (sym (list_any-append (λ r. is_in r id) zs (a ∷ [])));
-    }
+starts_on : (a x b y c z : ℕ) → (nat_lt a b || ((a == b) && nat_le x y)) ≡ true → (nat_lt b c || ((b == c) && nat_le y z)) ≡ true → (nat_lt a c || ((a == c) && nat_le x z)) ≡ true
+starts_on a x b y c z h k = grind (arith, nat_tests)
 
-known_one : (ys : List KnownRange) (replica counter : ℕ) (id : Identifier) → is_known (ys ++ ending replica counter counter ∷ []) id ≡ (is_known ys id || is_id (identifier counter replica) id)
-known_one ys replica counter id =
-    list_any-append (λ r. is_in r id) ys (ending replica counter counter ∷ [])
-    ∙ ap (λ b. is_known ys id || b) (or-false (is_in (ending replica counter counter) id) ∙ in_one replica id.replica counter id.counter)
+-- what begins earlier is in order too
+earlier : (r p : KnownRange) (ps : List KnownRange) (last : ℕ) → starts_by (identifier p.first p.replica) r ≡ true → in_order p ps ≡ true → in_order (ending r last) ps ≡ true
+earlier r p [] last h up = refl
+earlier r p (q ∷ qs) last h up =
+    let parts : (starts_by (identifier q.first q.replica) p ≡ true) × (in_order q qs ≡ true) = and_parts (starts_by (identifier q.first q.replica) p) (in_order q qs) up in
+    both_hold (starts_by (identifier q.first q.replica) r) (in_order q qs) (starts_on r.replica r.first p.replica p.first q.replica q.first h parts.0) parts.1
 
--- the first counter begins a range
-pub joins_nothing : (replica counter : ℕ) → Joins [] (ending replica counter counter ∷ []) replica counter
-joins_nothing replica counter = record {
-  rising = both_hold (nat_le counter counter) true (alike counter) refl;
-  known = known_one [] replica counter;
-}
-
-less_pair : (p q s t : Bool) → ordering_then (cond p Less (cond q Equal Greater)) (cond s Less (cond t Equal Greater)) ≡ Less → (p || (q && s)) ≡ true
-less_pair true q s t h = refl
-less_pair false true true t h = refl
-less_pair false true false true h = cc
-less_pair false true false false h = cc
-less_pair false false s t h = cc
-
-left_out : (a l r n : ℕ) → (nat_lt a r || ((a == r) && nat_lt l n)) ≡ true → ((a == r) && ((l + 1) == n)) ≡ false → (nat_lt a r || ((a == r) && nat_lt (l + 1) n)) ≡ true
-left_out a l r n h k = grind (arith, nat_tests)
-
-in_itself : (r x l : ℕ) → nat_le x l ≡ true → ((r == r) && (nat_le x l && nat_le l l)) ≡ true
-in_itself r x l h = grind (arith, nat_tests)
-
--- a counter that is behind the last range, and not next to it, begins a range
-pub joins_apart : (zs : List KnownRange) (a : KnownRange) (replica counter : ℕ) → are_rising (zs ++ a ∷ []) ≡ true → touches a replica counter ≡ false → ((id : Identifier) → is_known (zs ++ a ∷ []) id ≡ true → pair_cmp (id.replica, id.counter) (replica, counter) ≡ Less) → Joins (zs ++ a ∷ []) ((zs ++ a ∷ []) ++ ending replica counter counter ∷ []) replica counter
-joins_apart zs a replica counter up touch behind = record {
-  rising = rises_on None zs a (ending replica counter counter ∷ []) ∙ both_hold (rise_behind None (zs ++ a ∷ [])) (rise_behind (Some a) (ending replica counter counter ∷ [])) up rest;
-  known = known_one (zs ++ a ∷ []) replica counter;
-}
+in_both : (a b x l y m c n : ℕ) → (nat_lt a b || ((a == b) && nat_le x y)) ≡ true → ((a == b) && nat_le y (l + 1)) ≡ true → ((a == c) && (nat_le x n && nat_le n (cond (nat_lt l m) m l))) ≡ (((a == c) && (nat_le x n && nat_le n l)) || ((b == c) && (nat_le y n && nat_le n m)))
+in_both a b x l y m c n h k = by (nat_lt l m) refl
   where
-    has_last : is_known (zs ++ a ∷ []) (identifier a.last a.replica) ≡ true
-    has_last =
-        list_any-append (λ r. is_in r (identifier a.last a.replica)) zs (a ∷ [])
-        ∙ or_right (is_known zs (identifier a.last a.replica)) (is_in a (identifier a.last a.replica) || false)
-        (or_left (is_in a (identifier a.last a.replica)) false (in_itself a.replica a.first a.last (last_filled None zs a up)))
+    by : (longer : Bool) → nat_lt l m ≡ longer → ((a == c) && (nat_le x n && nat_le n (cond longer m l))) ≡ (((a == c) && (nat_le x n && nat_le n l)) || ((b == c) && (nat_le y n && nat_le n m)))
+    by true e = grind (arith, nat_tests, e)
+    by false e = grind (arith, nat_tests, e)
 
-    apart : is_apart (Some a) (ending replica counter counter) ≡ true
-    apart = left_out a.replica a.last replica counter
-        (less_pair (nat_lt a.replica replica) (a.replica == replica) (nat_lt a.last counter) (a.last == counter) (behind (identifier a.last a.replica) has_last)) touch
+-- what is joined has the same identifiers
+joined_knows : (r : KnownRange) (ps : List KnownRange) (id : Identifier) → in_order r ps ≡ true → is_known (joined_on r ps) id ≡ is_known (r ∷ ps) id
+joined_knows r [] id up = refl
+joined_knows r (p ∷ ps) id up =
+    let parts : (starts_by (identifier p.first p.replica) r ≡ true) × (in_order p ps ≡ true) = and_parts (starts_by (identifier p.first p.replica) r) (in_order p ps) up in
+    by (meets r p) refl parts.0
+    (joined_knows (joined r p) ps id (earlier r p ps (cond (nat_lt r.last p.last) p.last r.last) parts.0 parts.1))
+    (joined_knows p ps id parts.1)
+  where
+    by : (b : Bool) → meets r p ≡ b → starts_by (identifier p.first p.replica) r ≡ true → is_known (joined_on (joined r p) ps) id ≡ is_known (joined r p ∷ ps) id → is_known (joined_on p ps) id ≡ is_known (p ∷ ps) id
+        → is_known (cond b (joined_on (joined r p) ps) (r ∷ joined_on p ps)) id ≡ is_known (r ∷ p ∷ ps) id
+    by true e h one two =
+        one ∙ ap (λ b. b || is_known ps id) (in_both r.replica p.replica r.first r.last p.first p.last id.replica id.counter h e)
+        ∙ or_assoc (is_in r id) (is_in p id) (is_known ps id)
+    by false e h one two = ap (λ b. is_in r id || b) two
 
-    rest : rise_behind (Some a) (ending replica counter counter ∷ []) ≡ true
-    rest = both_hold (is_apart (Some a) (ending replica counter counter) && nat_le counter counter) true
-        (both_hold (is_apart (Some a) (ending replica counter counter)) (nat_le counter counter) apart (alike counter)) refl
+left_out : (a b x l y : ℕ) → (nat_lt a b || ((a == b) && nat_le x y)) ≡ true → ((a == b) && nat_le y (l + 1)) ≡ false → (nat_lt a b || ((a == b) && nat_lt (l + 1) y)) ≡ true
+left_out a b x l y h k = grind (arith, nat_tests)
 
--- ---- the counters in order
+longer : (x l m : ℕ) → nat_le x l ≡ true → nat_le x (cond (nat_lt l m) m l) ≡ true
+longer x l m h = by (nat_lt l m) refl
+  where
+    by : (b : Bool) → nat_lt l m ≡ b → nat_le x (cond b m l) ≡ true
+    by true e = grind (arith, nat_tests, e)
+    by false e = h
 
-flipped : (q r m n : ℕ) → ((q == r) && (m == n)) ≡ ((n == m) && (r == q))
-flipped q r m n = grind (arith, nat_tests)
+same_apart : (before : Option KnownRange) (r : KnownRange) (last : ℕ) → is_apart before (ending r last) ≡ is_apart before r
+same_apart None r last = refl
+same_apart (Some z) r last = refl
 
--- pairs compare alike where the identifiers are one
-pub same_pair : (id : Identifier) (replica counter : ℕ) → eq_by_cmp pair_cmp (id.replica, id.counter) (replica, counter) ≡ is_id (identifier counter replica) id
-same_pair id replica counter =
-    sym (both_tied (id.replica == replica) (id.counter == counter) (nat_cmp id.replica replica) (nat_cmp id.counter counter) (unsigned_ties id.replica replica) (unsigned_ties id.counter counter))
-    ∙ flipped id.replica replica id.counter counter
+-- and rises
+joined_rises : (before : Option KnownRange) (r : KnownRange) (ps : List KnownRange) → is_apart before r ≡ true → is_filled r ≡ true → AreFilled ps → in_order r ps ≡ true → rise_behind before (joined_on r ps) ≡ true
+joined_rises before r [] apart filled all up = both_hold (is_apart before r && is_filled r) true (both_hold (is_apart before r) (is_filled r) apart filled) refl
+joined_rises before r (p ∷ ps) apart filled all up =
+    let parts : (starts_by (identifier p.first p.replica) r ≡ true) × (in_order p ps ≡ true) = and_parts (starts_by (identifier p.first p.replica) r) (in_order p ps) up in
+    let rest : AreFilled ps = λ k d l. all (suc k) d (omega arith) in
+    let last : ℕ = cond (nat_lt r.last p.last) p.last r.last in
+    by (meets r p) refl parts.0
+    (joined_rises before (joined r p) ps (same_apart before r last ∙ apart) (longer r.first r.last p.last filled) rest (earlier r p ps last parts.0 parts.1))
+    (λ on. joined_rises (Some r) p ps on (all 0 p (omega arith)) rest parts.1)
+  where
+    by : (b : Bool) → meets r p ≡ b → starts_by (identifier p.first p.replica) r ≡ true → rise_behind before (joined_on (joined r p) ps) ≡ true → (is_apart (Some r) p ≡ true → rise_behind (Some r) (joined_on p ps) ≡ true)
+        → rise_behind before (cond b (joined_on (joined r p) ps) (r ∷ joined_on p ps)) ≡ true
+    by true e h one two = one
+    by false e h one two =
+        both_hold (is_apart before r && is_filled r) (rise_behind (Some r) (joined_on p ps)) (both_hold (is_apart before r) (is_filled r) apart filled)
+        (two (left_out r.replica p.replica r.first r.last p.first h e))
 
-pub has_more : (ps : List (ℕ × ℕ)) (i : ℕ) (d : ℕ × ℕ) (id : Identifier) → i < length ps → has_pair (take (i + 1) ps) id ≡ (has_pair (take i ps) id || is_id (identifier (slice_index_or ps i d).1 (slice_index_or ps i d).0) id)
-has_more ps i d id l =
-    ap (λ xs. has_pair xs id) (take_more ps i d l)
-    ∙ list_any-append (eq_by_cmp pair_cmp (id.replica, id.counter)) (take i ps) (slice_index_or ps i d ∷ [])
-    ∙ ap (λ b. has_pair (take i ps) id || b) (or-false _ ∙ same_pair id (slice_index_or ps i d).0 (slice_index_or ps i d).1)
+pub all_known : (ps : List KnownRange) (id : Identifier) → IsSorted range_cmp ps → is_known (joined_all ps) id ≡ is_known ps id
+all_known [] id up = refl
+all_known (r ∷ rs) id up = joined_knows r rs id (order_from_sorted r rs up)
 
-all_at : (P : ℕ × ℕ → Type 0) (ps : List (ℕ × ℕ)) → AllByRecursion P ps → (i : ℕ) (d : ℕ × ℕ) → i < length ps → P (slice_index_or ps i d)
-all_at P [] h i d l = absurd (omega arith)
-all_at P (p ∷ ps) h zero d l = h.0
-all_at P (p ∷ ps) h (suc i) d l = all_at P ps h.1 i d (omega arith)
-
-same_parts : (id : Identifier) (p : ℕ × ℕ) → eq_by_cmp pair_cmp (id.replica, id.counter) p ≡ true → (id.replica, id.counter) ≡ p
-same_parts id p h =
-    let s : ((p.1 == id.counter) ≡ true) × ((p.0 == id.replica) ≡ true) = and_parts (p.1 == id.counter) (p.0 == id.replica) (sym (same_pair id p.0 p.1) ∙ h) in
-    let r : id.replica ≡ p.0 = grind (arith, nat_tests, s.1) in
-    let n : id.counter ≡ p.1 = grind (arith, nat_tests, s.0) in
-    λ k. (r k, n k)
-
--- what is among the first of rising pairs is less than the next
-pub before_next : (ps : List (ℕ × ℕ)) (i : ℕ) (d : ℕ × ℕ) (id : Identifier) → IsStrictlySortedBy pair_cmp ps → i < length ps → has_pair (take i ps) id ≡ true → pair_cmp (id.replica, id.counter) (slice_index_or ps i d) ≡ Less
-unfolding IsStrictlySortedBy
-before_next [] i d id up l h = absurd (omega arith)
-before_next (p ∷ ps) zero d id up l h = cc
-before_next (p ∷ ps) (suc i) d id up l h = elim (or_cases (eq_by_cmp pair_cmp (id.replica, id.counter) p) (has_pair (take i ps) id) h) [
-  | inl here ↦ subst (λ (x : ℕ × ℕ). pair_cmp x (slice_index_or ps i d) ≡ Less) (sym (same_parts id p here)) (all_at (λ y. pair_cmp p y ≡ Less) ps up.0 i d (omega arith))
-  | inr later ↦ before_next ps i d id up.1 (omega arith) later
-]
+pub all_rising : (ps : List KnownRange) → IsSorted range_cmp ps → AreFilled ps → are_rising (joined_all ps) ≡ true
+all_rising [] up all = refl
+all_rising (r ∷ rs) up all = joined_rises None r rs refl (all 0 r (omega arith)) (λ k d l. all (suc k) d (omega arith)) (order_from_sorted r rs up)
 
 -- ---- the insertions of a list
 
@@ -218,18 +209,3 @@ inserted_more ops op id =
     ∙ ap is_some (get-join (content_of ops) (single op) id)
     ∙ some_or (finite_map.get (content_of ops).inserted id) (finite_map.get (single op).inserted id)
     ∙ ap (λ b. finite_map.contains_key (content_of ops).inserted id || b) (single_inserts op id)
-
--- pairs of two identifiers compare alike where these are one
-same_ids : (i id : Identifier) → eq_by_cmp pair_cmp (i.replica, i.counter) (id.replica, id.counter) ≡ is_id i id
-same_ids i id =
-    sym (both_tied (i.replica == id.replica) (i.counter == id.counter) (nat_cmp i.replica id.replica) (nat_cmp i.counter id.counter) (unsigned_ties i.replica id.replica) (unsigned_ties i.counter id.counter))
-    ∙ and_comm (i.replica == id.replica) (i.counter == id.counter)
-
-else_or : (t b : Bool) → cond t true b ≡ (b || t)
-else_or true true = refl
-else_or true false = refl
-else_or false b = sym (or-false b)
-
--- what a set has that one more identifier was put into
-pub put_in : (ks : List (ℕ × ℕ)) (i id : Identifier) → cond (eq_by_cmp pair_cmp (i.replica, i.counter) (id.replica, id.counter)) true (has_pair ks id) ≡ (has_pair ks id || is_id i id)
-put_in ks i id = ap (λ t. cond t true (has_pair ks id)) (same_ids i id) ∙ else_or (is_id i id) (has_pair ks id)

@@ -1,10 +1,11 @@
 -- Digests, deletion by deletion.
-use Rattle.std.proofs.Common.{◌≡◌, ℕ, Bool, true, false, cond, List, [], ◌∷◌, ◌++◌, map, filter, refl, ap, ◌∙◌}
+use Rattle.std.proofs.Common.{◌≡◌, ℕ, ◌==◌, Bool, true, false, cond, eqb-true, List, [], ◌∷◌, ◌++◌, map, filter, refl, ap, ◌∙◌}
 use Rattle.std.specs.Prelude.{Some, None}
 use Rattle.std.specs.Option.{unwrap_or}
 use Rattle.std.specs.List.{cons_option}
 use Rattle.std.specs.FinMap as finite_map
 use Rattle.std.specs.FinSet as finite_set
+use Rattle.std.proofs.lemmas.Bool.{and_parts}
 use Rattle.std.proofs.lemmas.List.{append-nil}
 use Rattle.std.proofs.lemmas.List.Elements.{filter_map-append}
 use Rattle.std.proofs.lemmas.List.Sums.{fold-append}
@@ -34,6 +35,12 @@ deletion_mixed block ops id =
 -- an insertion more changes nothing
 pub insertion_skipped : (block : Block) (ops : List Op) (id parent : Identifier) (ch : ℕ) → deleted_by block (ops ++ Insert id parent ch ∷ []) ≡ deleted_by block ops
 insertion_skipped block ops id parent ch = filter_map-append (deleted_counter block) ops (Insert id parent ch ∷ []) ∙ append-nil (deleted_by block ops)
+
+-- a block is known by its replica and its number
+pub same_block : (a b : Block) → is_block a b ≡ true → a ≡ b
+same_block a b h =
+    let parts : ((a.replica == b.replica) ≡ true) × ((a.number == b.number) ≡ true) = and_parts (a.replica == b.replica) (a.number == b.number) h in
+    λ k. record { replica = eqb-true a.replica b.replica parts.0 k; number = eqb-true a.number b.number parts.1 k }
 
 -- ---- the deletions of a content
 

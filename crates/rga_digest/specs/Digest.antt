@@ -25,9 +25,9 @@ is_block a b = (a.replica == b.replica) && (a.number == b.number)
 abbrev pub deleted_in : Content → Block → List ℕ
 deleted_in c block = map (λ id. id.counter) (filter (λ id. is_block (block_of id) block) (rising (finite_set.items c.deleted)))
 
--- a digest with one counter more: a round of FNV-1a over its lowest byte, as the others are the same in all of a block
+-- a digest with one counter more: a round of FNV-1a over the whole number
 unfoldable pub mixed : ℕ → ℕ → ℕ
-mixed digest counter = (bit_xor digest (counter % COUNTERS) * PRIME) % 2 ^ 64
+mixed digest counter = (bit_xor digest counter * PRIME) % 2 ^ 64
 
 -- a round for each counter, from the first to the last
 abbrev pub digest : List ℕ → ℕ
@@ -50,6 +50,11 @@ block_cmp a b = ordering_then (nat_cmp a.replica b.replica) (nat_cmp a.number b.
 
 abbrev pub digest_at : List (Block × ℕ) → Block → Option ℕ
 digest_at digests block = lookup (eq_by_cmp block_cmp block) digests
+
+-- the digests with that of the last block, if there is one
+abbrev pub with_last : Option (Block × ℕ) → (Block → Option ℕ) → Block → Option ℕ
+with_last None digests block = digests block
+with_last (Some last) digests block = if is_block last.0 block then Some last.1 else digests block
 
 -- the counter of a deletion in the block
 abbrev pub deleted_counter : Block → Op → Option ℕ

@@ -1,7 +1,7 @@
 -- Ranges of counters whose insertions a replica has.
-use Rattle.std.specs.Prelude.{ℕ, ◌+◌, ◌&&◌, ◌||◌, ◌==◌, nat_le, nat_lt, Bool, true, List, [], ◌∷◌, Option, Some, None}
-use Rattle.std.specs.List.{list_any}
-use Rattle.std.specs.Ordering.{nat_cmp, ordering_then, eq_by_cmp}
+use Rattle.std.specs.Prelude.{◌≡◌, ◌+◌, ◌&&◌, ◌||◌, ◌==◌, nat_le, nat_lt, Bool, true, List, [], ◌∷◌, Option, Some, None, if◌then◌else◌}
+use Rattle.std.specs.List.{All, list_any}
+use Rattle.std.specs.Ordering.{nat_cmp, ordering_then}
 use Rattle.std.specs.declared.cmp.Ordering.{Ordering}
 use Rattle.rga_ops.specs.Identifier.{Identifier}
 use Rattle.rga_digest.specs.declared.ranges.KnownRange.{KnownRange}
@@ -19,9 +19,13 @@ abbrev pub is_apart : Option KnownRange → KnownRange → Bool
 is_apart None r = true
 is_apart (Some before) r = nat_lt before.replica r.replica || ((before.replica == r.replica) && nat_lt (before.last + 1) r.first)
 
+-- the range has a counter
+abbrev pub is_filled : KnownRange → Bool
+is_filled r = nat_le r.first r.last
+
 abbrev pub rise_behind : Option KnownRange → List KnownRange → Bool
 rise_behind before [] = true
-rise_behind before (r ∷ rs) = (is_apart before r && nat_le r.first r.last) && rise_behind (Some r) rs
+rise_behind before (r ∷ rs) = (is_apart before r && is_filled r) && rise_behind (Some r) rs
 
 -- The ranges rise by replica and then by counter, none is empty, and none touches the next. So there is one such list for
 -- each set of identifiers.
@@ -34,13 +38,21 @@ are_rising ranges = rise_behind None ranges
 abbrev pub starts_by : Identifier → KnownRange → Bool
 starts_by id r = nat_lt r.replica id.replica || ((r.replica == id.replica) && nat_le r.first id.counter)
 
--- the counter is the next one behind the range
-abbrev pub touches : KnownRange → ℕ → ℕ → Bool
-touches r replica counter = (r.replica == replica) && (r.last + 1 == counter)
+-- the identifier is the next one behind the range
+abbrev pub touches : KnownRange → Identifier → Bool
+touches r id = (r.replica == id.replica) && (r.last + 1 == id.counter)
 
--- replicas with counters, by replica and then by counter
-abbrev pub pair_cmp : ℕ × ℕ → ℕ × ℕ → Ordering
-pair_cmp a b = ordering_then (nat_cmp a.0 b.0) (nat_cmp a.1 b.1)
+abbrev pub AreFilled : List KnownRange → Type 0
+AreFilled rs = All (λ r. is_filled r ≡ true) rs
 
-abbrev pub has_pair : List (ℕ × ℕ) → Identifier → Bool
-has_pair pairs id = list_any (eq_by_cmp pair_cmp (id.replica, id.counter)) pairs
+-- by replica, by the first counter and then by the last
+abbrev pub range_cmp : KnownRange → KnownRange → Ordering
+range_cmp r s = ordering_then (nat_cmp r.replica s.replica) (ordering_then (nat_cmp r.first s.first) (nat_cmp r.last s.last))
+
+-- a range that does not begin before another begins in it or next to it
+abbrev pub meets : KnownRange → KnownRange → Bool
+meets r next = (r.replica == next.replica) && nat_le next.first (r.last + 1)
+
+-- and both as one
+abbrev pub joined : KnownRange → KnownRange → KnownRange
+joined r next = record { replica = r.replica; first = r.first; last = if nat_lt r.last next.last then next.last else r.last }

@@ -30,10 +30,14 @@ pub record IsSummary (c : Content) (s : Summary) : Type 0 where
   pub in_order : IsStrictlySortedBy block_cmp (keys_of s.digests)
   pub digests : (block : Block) → digest_at s.digests block ≡ own_digest c block
 
--- who gave the summary lacks an operation, where these are the digests of the own deletions
+-- who gave the summary lacks the deletions of a block, where these are the digests of the own ones
+abbrev pub lacks_block : (Block → Option ℕ) → Summary → Block → Bool
+lacks_block own s block = not (option_eq (λ a b. a == b) (digest_at s.digests block) (own block))
+
+-- and an operation
 abbrev pub lacks_by : (Block → Option ℕ) → Summary → Op → Bool
 lacks_by own s (Insert id parent ch) = not (is_known s.ranges id)
-lacks_by own s (Delete id) = not (option_eq (λ a b. a == b) (digest_at s.digests (block_of id)) (own (block_of id)))
+lacks_by own s (Delete id) = lacks_block own s (block_of id)
 
 -- The same by the own content: an insertion that is in no range; a deletion, where the digest of its block is not that of
 -- the own deletions there.

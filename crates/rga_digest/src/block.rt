@@ -4,7 +4,7 @@ ghost use Rattle.rga_digest.specs.Digest.{block_of};
 
 use rga_ops::Id;
 
-/// Some counters in a row, of one replica: those from `256 * number` to `256 * number + 255`.
+/// Some counters in a row, of one replica: those from `512 * number` to `512 * number + 511`.
 #[derive(Clone, Copy, Debug, PartialEq, Eq, PartialOrd, Ord)]
 pub struct Block {
     pub replica: u16,
@@ -13,7 +13,7 @@ pub struct Block {
 
 impl Block {
     /// How many counters a block has.
-    pub const COUNTERS: u64 = 256;
+    pub const COUNTERS: u64 = 512;
 
     /// The block of an identifier.
     pub fn of(id: Id) -> Block

@@ -2,7 +2,7 @@
 ghost use Rattle.std.specs.Prelude.{◌≡◌, Some, IfOk, IfErr, OnOk, if◌then◌else◌};
 ghost use Rattle.std.specs.Option.{unwrap_or};
 ghost use Rattle.std.specs.BTreeMap.{get, IsOrdered};
-ghost use Rattle.rga_digest.specs.Digest.{block_cmp, block_digest, block_of, deleted_by, is_block, mixed};
+ghost use Rattle.rga_digest.specs.Digest.{block_cmp, block_digest, block_of, deleted_by, is_block, mixed, with_last};
 ghost use Rattle.rga_digest.specs.declared.block.Block.{Block as BlockName};
 
 use crate::block::Block;
@@ -24,26 +24,54 @@ pub(crate) fn digests_of(alloc: Global, ops: &[Op]) -> Result<BTreeMap<Block, u6
     ensures memory { IfErr result (λ e. e ≡ Refusal.Memory) }
 {
     let mut digests = BTreeMap::new(alloc);
+    let mut last = None;
     for op in ops {
         if let Op::Delete { id } = op {
-            add_deletion(&mut digests, *id)?;
+            last = Some(add_deletion(&mut digests, last, *id)?);
         }
     }
+    put(&mut digests, last)?;
     Ok(digests)
 }
 
-/// A deletion is mixed into the digest of its block. `Memory` alone.
-fn add_deletion(digests: &mut BTreeMap<Block, u64>, id: Id) -> Result<(), Refusal>
-    ensures ok { OnOk result ((b : BlockName) → get block_cmp digests.new b
+/// A deletion is mixed into the digest of its block, which is the last one then. The one that was
+/// the last, if it is another, is put among the others. `Memory` alone.
+fn add_deletion(
+    digests: &mut BTreeMap<Block, u64>,
+    last: Option<(Block, u64)>,
+    id: Id,
+) -> Result<(Block, u64), Refusal>
+    requires { IsOrdered block_cmp digests.old }
+    ensures ok { let before = with_last last (get block_cmp digests.old) in
+        IfOk result (λ now. (b : BlockName) → with_last (Some now) (get block_cmp digests.new) b
         ≡ (if is_block (block_of id) b
-        then Some (mixed (unwrap_or (get block_cmp digests.old b) OF_NOTHING) id.counter)
-        else get block_cmp digests.old b)) }
+        then Some (mixed (unwrap_or (before b) OF_NOTHING) id.counter) else before b)) }
     ensures ordered { OnOk result (IsOrdered block_cmp digests.new) }
     ensures memory { IfErr result (λ e. e ≡ Refusal.Memory) }
 {
     let block = Block::of(id);
+    if let Some((same, digest)) = last {
+        if same == block {
+            return Ok((block, mix(digest, id.counter())));
+        }
+    }
+    put(digests, last)?;
     let before = digests.get(&block).copied().unwrap_or(OF_NOTHING);
-    let _replaced = digests.insert(block, mix(before, id.counter()))?;
+    Ok((block, mix(before, id.counter())))
+}
+
+/// The digest of the last block, if there is one, is put among the others. `Memory` alone.
+fn put(digests: &mut BTreeMap<Block, u64>, last: Option<(Block, u64)>) -> Result<(), Refusal>
+    requires { IsOrdered block_cmp digests.old }
+    ensures ok { OnOk result ((b : BlockName) →
+        get block_cmp digests.new b ≡ with_last last (get block_cmp digests.old) b) }
+    ensures ordered { OnOk result (IsOrdered block_cmp digests.new) }
+    ensures memory { IfErr result (λ e. e ≡ Refusal.Memory) }
+{
+    let Some((block, digest)) = last else {
+        return Ok(());
+    };
+    let _replaced = digests.insert(block, digest)?;
     Ok(())
 }
 
@@ -51,5 +79,5 @@ fn add_deletion(digests: &mut BTreeMap<Block, u64>, id: Id) -> Result<(), Refusa
 fn mix(digest: u64, counter: u64) -> u64
     ensures { result ≡ mixed digest counter }
 {
-    (digest ^ (counter % Block::COUNTERS)).wrapping_mul(PRIME)
+    (digest ^ counter).wrapping_mul(PRIME)
 }

@@ -1,18 +1,21 @@
 //! Ranges of counters whose insertions a replica has.
-ghost use Rattle.std.specs.Prelude.{◌≡◌, ◌||◌, ◌&&◌, true, nat_le, IfOk, IfErr, OnOk};
-ghost use Rattle.std.specs.declared.cmp.Ordering.TheVariants.{Less};
-ghost use Rattle.std.specs.List.Sorted.{IsStrictlySortedBy};
+ghost use Rattle.std.specs.Prelude.{◌≡◌, ◌||◌, ◌&&◌, ◌<◌, true, length, nat_le, slice_index_or, Some, None, IfSome, IfOk, IfErr, OnOk, if◌then◌else◌};
+ghost use Rattle.std.specs.List.Sorted.{IsSorted};
 ghost use Rattle.std.specs.FinMap as finite_map;
-ghost use Rattle.rga_ops.specs.Identifier.{Identifier, identifier, is_id};
+ghost use Rattle.rga_ops.specs.Identifier.{Identifier, is_id};
 ghost use Rattle.rga_ops.specs.Content.{content_of};
-ghost use Rattle.rga_digest.specs.Ranges.{is_in, is_known, is_apart, are_rising, starts_by, pair_cmp, has_pair, touches};
+ghost use Rattle.rga_digest.specs.Ranges.{is_in, is_filled, AreFilled, is_known, is_apart, are_rising, starts_by, range_cmp, touches, meets, joined};
+ghost use Rattle.rga_digest.specs.declared.ranges.KnownRange.{KnownRange as RangeName};
 
 use rga_ops::{Id, Op, Refusal};
 use std::alloc::Global;
-use std::collections::BTreeSet;
+
+/// How many of the last ranges a counter may go on, so that replicas which wrote at the same time
+/// may take turns.
+const LAST: usize = 8;
 
 /// The counters from `first` to `last` of one replica.
-#[derive(Clone, Copy, Debug, PartialEq, Eq)]
+#[derive(Clone, Copy, Debug, PartialEq, Eq, PartialOrd, Ord)]
 pub struct KnownRange {
     pub replica: u16,
     pub first: u64,
@@ -34,16 +37,38 @@ impl KnownRange {
         self.replica < id.replica() || (self.replica == id.replica() && self.first <= id.counter())
     }
 
-    /// Whether the next counter is this one.
-    fn touches(self, replica: u16, counter: u64) -> bool
-        ensures { result ≡ touches self replica counter }
+    /// Whether the counter behind the range is that of the identifier.
+    fn touches(self, id: Id) -> bool
+        ensures { result ≡ touches self id }
     {
-        self.replica == replica && self.last < counter && counter - self.last == 1
+        self.replica == id.replica() && self.last < id.counter() && id.counter() - self.last == 1
+    }
+
+    /// The range with one that begins in it or next to it.
+    fn joined(self, next: KnownRange) -> Option<KnownRange>
+        ensures { result ≡ (if meets self next then Some (joined self next) else None) }
+    {
+        if self.replica != next.replica {
+            return None;
+        }
+        if self.last < next.first && next.first - self.last > 1 {
+            return None;
+        }
+        let last = if self.last < next.last {
+            next.last
+        } else {
+            self.last
+        };
+        Some(KnownRange {
+            replica: self.replica,
+            first: self.first,
+            last,
+        })
     }
 
     /// Whether the range is not empty, and neither touches the one before it nor stands before it.
     fn follows(self, before: Option<KnownRange>) -> bool
-        ensures { result ≡ (is_apart before self && nat_le self.first self.last) }
+        ensures { result ≡ (is_apart before self && is_filled self) }
     {
         if self.last < self.first {
             return false;
@@ -72,16 +97,21 @@ pub(crate) fn are_apart(ranges: &[KnownRange]) -> bool
     true
 }
 
-/// Whether an identifier is in one of the ranges: a binary search.
-pub(crate) fn have(ranges: &[KnownRange], id: Id) -> bool
+/// Whether an identifier is in one of the ranges. The range at the index, where the one before was
+/// found, is looked at first, and then there is a binary search.
+pub(crate) fn have(ranges: &[KnownRange], index: &mut usize, id: Id) -> bool
     requires { are_rising ranges.now ≡ true }
     ensures { result ≡ is_known ranges.now id }
 {
-    let index = ranges.partition_point(|range| range.starts_by(id));
-    if index == 0 {
+    if *index < ranges.len() && ranges[*index].has(id) {
+        return true;
+    }
+    let behind = ranges.partition_point(|range| range.starts_by(id));
+    if behind == 0 {
         return false;
     }
-    ranges[index - 1].has(id)
+    *index = behind - 1;
+    ranges[behind - 1].has(id)
 }
 
 /// The ranges of the insertions in a list of operations. `Memory` alone.
@@ -91,73 +121,86 @@ pub(crate) fn ranges_of(alloc: Global, ops: &[Op]) -> Result<Vec<KnownRange>, Re
         is_known ranges.items id ≡ finite_map.contains_key (content_of ops.now).inserted id) }
     ensures memory { IfErr result (λ e. e ≡ Refusal.Memory) }
 {
-    let known = inserted_in(alloc, ops)?;
-    join_counters(alloc, known.as_slice())
+    let mut parts = parts_of(alloc, ops)?;
+    parts.sort_unstable();
+    join_parts(alloc, &parts)
 }
 
-/// The replicas and counters of the insertions in a list of operations, rising.
-fn inserted_in(alloc: Global, ops: &[Op]) -> Result<Vec<(u16, u64)>, Refusal>
-    ensures sorted { IfOk result (λ pairs. IsStrictlySortedBy pair_cmp pairs.items) }
-    ensures known { IfOk result (λ pairs. (id : Identifier) →
-        has_pair pairs.items id ≡ finite_map.contains_key (content_of ops.now).inserted id) }
+/// Ranges of the insertions in a list of operations, which stand in any order and may touch.
+/// `Memory` alone.
+fn parts_of(alloc: Global, ops: &[Op]) -> Result<Vec<KnownRange>, Refusal>
+    ensures filled { IfOk result (λ parts. AreFilled parts.items) }
+    ensures known { IfOk result (λ parts. (id : Identifier) →
+        is_known parts.items id ≡ finite_map.contains_key (content_of ops.now).inserted id) }
     ensures memory { IfErr result (λ e. e ≡ Refusal.Memory) }
 {
-    let mut set = BTreeSet::new(alloc);
+    let mut parts = Vec::new(alloc);
     for op in ops {
         if let Op::Insert { id, .. } = op {
-            let _is_new = set.insert((id.replica(), id.counter()))?;
+            add_counter(&mut parts, *id)?;
         }
     }
-    listed(alloc, &set)
+    Ok(parts)
 }
 
-/// What is in a set, in its order.
-fn listed(alloc: Global, set: &BTreeSet<(u16, u64)>) -> Result<Vec<(u16, u64)>, Refusal>
-    ensures items { IfOk result (λ pairs. pairs.items ≡ set.now.keys) }
-    ensures sorted { IfOk result (λ pairs. IsStrictlySortedBy pair_cmp pairs.items) }
+/// An identifier goes on one of the last ranges, or begins one. `Memory` alone.
+fn add_counter(parts: &mut Vec<KnownRange>, id: Id) -> Result<(), Refusal>
+    requires { AreFilled parts.old.items }
+    ensures filled { OnOk result (AreFilled parts.new.items) }
+    ensures known { OnOk result ((other : Identifier) →
+        is_known parts.new.items other ≡ (is_known parts.old.items other || is_id id other)) }
     ensures memory { IfErr result (λ e. e ≡ Refusal.Memory) }
 {
-    let pairs = set.iter().copied().collect(alloc)?;
-    Ok(pairs)
+    if let Some(index) = touched(parts, id) {
+        parts[index].last = id.counter();
+        return Ok(());
+    }
+    parts.push(KnownRange {
+        replica: id.replica(),
+        first: id.counter(),
+        last: id.counter(),
+    })?;
+    Ok(())
 }
 
-/// Rising counters as ranges. `Memory` alone.
-fn join_counters(alloc: Global, pairs: &[(u16, u64)]) -> Result<Vec<KnownRange>, Refusal>
-    requires { IsStrictlySortedBy pair_cmp pairs.now }
+/// Which of the last ranges an identifier stands behind.
+fn touched(parts: &Vec<KnownRange>, id: Id) -> Option<usize>
+    ensures { IfSome result (λ index. (index < length parts.now.items)
+        × ((d : RangeName) → touches (slice_index_or parts.now.items index d) id ≡ true)) }
+{
+    let mut index = parts.len();
+    let end = index.saturating_sub(LAST);
+    while index > end {
+        index -= 1;
+        if parts[index].touches(id) {
+            return Some(index);
+        }
+    }
+    None
+}
+
+/// Ranges in order, as ranges of the same that rise and do not touch. `Memory` alone.
+fn join_parts(alloc: Global, parts: &[KnownRange]) -> Result<Vec<KnownRange>, Refusal>
+    requires sorted { IsSorted range_cmp parts.now }
+    requires filled { AreFilled parts.now }
     ensures rising { IfOk result (λ ranges. are_rising ranges.items ≡ true) }
     ensures known { IfOk result (λ ranges. (id : Identifier) →
-        is_known ranges.items id ≡ has_pair pairs.now id) }
+        is_known ranges.items id ≡ is_known parts.now id) }
     ensures memory { IfErr result (λ e. e ≡ Refusal.Memory) }
 {
     let mut ranges = Vec::new(alloc);
-    for (replica, counter) in pairs {
-        push_counter(&mut ranges, *replica, *counter)?;
-    }
-    Ok(ranges)
-}
-
-/// A counter behind all others joins the last range, or begins one. `Memory` alone.
-fn push_counter(ranges: &mut Vec<KnownRange>, replica: u16, counter: u64) -> Result<(), Refusal>
-    requires rising { are_rising ranges.old.items ≡ true }
-    requires behind { (id : Identifier) → is_known ranges.old.items id ≡ true →
-        pair_cmp (id.replica, id.counter) (replica, counter) ≡ Less }
-    ensures rising { OnOk result (are_rising ranges.new.items ≡ true) }
-    ensures known { OnOk result ((id : Identifier) → is_known ranges.new.items id
-        ≡ (is_known ranges.old.items id || is_id (identifier counter replica) id)) }
-    ensures memory { IfErr result (λ e. e ≡ Refusal.Memory) }
-{
-    let mut range = KnownRange {
-        replica,
-        first: counter,
-        last: counter,
+    let Some((first, rest)) = parts.split_first() else {
+        return Ok(ranges);
     };
-    if let Some(last) = ranges.pop() {
-        if last.touches(replica, counter) {
-            range.first = last.first;
+    let mut last = *first;
+    for part in rest {
+        if let Some(whole) = last.joined(*part) {
+            last = whole;
         } else {
             ranges.push(last)?;
+            last = *part;
         }
     }
-    ranges.push(range)?;
-    Ok(())
+    ranges.push(last)?;
+    Ok(ranges)
 }

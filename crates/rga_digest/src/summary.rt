@@ -16,8 +16,8 @@ use std::marker::Model;
 /// What a replica knows, in short: the ranges of counters whose insertions it has, and for each
 /// block in which something is deleted a digest of these deletions.
 ///
-/// A digest is FNV-1a, at 64 bits, of the deleted counters of the block, rising, each by its lowest
-/// byte. It is no cryptographic digest: who chooses what is deleted can make two sets with one
+/// A digest is FNV-1a, at 64 bits, of the deleted counters of the block, rising, each mixed in as a
+/// whole. It is no cryptographic digest: who chooses what is deleted can make two sets with one
 /// digest, and by chance two sets share one in 2 ^ 64 cases. Where they do, the deletions of that
 /// block are taken for known: they are not sent, and the replicas differ in them until one of the
 /// two sets grows.
@@ -71,11 +71,12 @@ impl Summary {
         &self.digests
     }
 
-    /// Whether an insertion of this identifier is known. Takes no memory.
-    pub(crate) fn knows(&self, id: Id) -> bool
+    /// Whether an insertion of this identifier is known. The range at the index, where the one before
+    /// was found, is looked at first. Takes no memory.
+    pub(crate) fn knows(&self, index: &mut usize, id: Id) -> bool
         ensures { result ≡ is_known self.now.ranges id }
     {
-        have(&self.ranges, id)
+        have(&self.ranges, index, id)
     }
 
     /// The digest of a block. Takes no memory.

@@ -49,8 +49,8 @@ const MISSING: &[(&str, &str, &str)] = &[
         "b2.1<1.1",
     ),
     ("b1.2<0.0", "a1.1<0.0 c1.3<0.0", "b1.2<0.0"),
-    ("-1.1 -255.1 -256.1", "-1.1 -256.1", "-1.1 -255.1"),
-    ("-1.1 -256.1", "-1.1 -255.1 -256.1", "-1.1"),
+    ("-1.1 -511.1 -512.1", "-1.1 -512.1", "-1.1 -511.1"),
+    ("-1.1 -512.1", "-1.1 -511.1 -512.1", "-1.1"),
     ("-1.1 -1.2", "-1.1", "-1.2"),
 ];
 
@@ -68,14 +68,14 @@ fn what_the_other_lacks_is_missing(rt: HostRuntime) -> Result<(), std::test::Fai
 const DIGEST: Claim = Claim::Deleted(
     Block {
         replica: 1,
-        number: 1,
+        number: 0,
     },
     0x08985907b541d342,
 );
 
 #[test]
 fn digests_are_those_of_fnv_1a(rt: HostRuntime) -> Result<(), std::test::Fail> {
-    let claims = claims_over(rt.alloc(), "-367.1 -358.1")?;
+    let claims = claims_over(rt.alloc(), "-111.1 -102.1")?;
     assert!(rt; claims.as_slice() == [DIGEST].as_slice(), "a digest");
     Ok(())
 }

@@ -9,16 +9,42 @@ use rga_ops::{Id, Op, Refusal};
 use rga_pages::{Page, Pages, Record};
 use std::alloc::Global;
 
-/// The insertions by rising identifier, and then the deletions by rising identifier. There is room
-/// for so many at first.
-pub(crate) fn operations_of(alloc: Global, entries: &Pages, room: usize) -> Result<Vec<Op>, Refusal>
+/// The insertions by rising identifier, of which there may be so many, and then the deletions by
+/// rising identifier. There is room for all at first, so that the list is not moved while it grows.
+pub(crate) fn operations_of(
+    alloc: Global,
+    entries: &Pages,
+    inserted: usize,
+) -> Result<Vec<Op>, Refusal>
     ensures ok { IfOk result (λ ops. ops.items ≡ operations (content_of_records entries.now)) }
     ensures memory { IfErr result (λ e. e ≡ Refusal.Memory) }
 {
+    let pages = entries.pages();
+    let room = inserted.saturating_add(count_marked(pages));
     let mut ops = Vec::with_capacity(alloc, room)?;
-    push_insertions(&mut ops, entries.pages())?;
-    push_deletions(&mut ops, entries.pages())?;
+    push_insertions(&mut ops, pages)?;
+    push_deletions(&mut ops, pages)?;
     Ok(ops)
+}
+
+/// How many records are marked.
+fn count_marked(pages: &Vec<Page>) -> usize {
+    let mut count = 0usize;
+    for page in pages {
+        count = count.saturating_add(count_marked_in(page.entries()));
+    }
+    count
+}
+
+/// How many of some records are marked.
+fn count_marked_in(entries: &[(Id, Record)]) -> usize {
+    let mut count = 0usize;
+    for (_, record) in entries {
+        if record.deleted {
+            count = count.saturating_add(1);
+        }
+    }
+    count
 }
 
 /// The insertions of the records, in their order.

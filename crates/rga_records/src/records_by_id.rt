@@ -266,7 +266,7 @@ impl Records {
         ensures ok { IfOk result (λ ops. ops.items ≡ operations self.now.content) }
         ensures memory { IfErr result (λ e. e ≡ Refusal.Memory) }
     {
-        operations_of(alloc, &self.entries, self.known)
+        operations_of(alloc, &self.entries, self.inserted)
     }
 
     /// The least identifier that names two insertions, one in each. Takes no memory.

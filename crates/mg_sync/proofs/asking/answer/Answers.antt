@@ -15,7 +15,7 @@ returns-in_err-say g c =
     let new = c.say.new.writer in
     let b = c.args.opened.now in
     let brief : b.brief ≡ true = sym c.is_brief.ensures ∙ search rules in
-    let came : LearnsThenSays remaining contents old new b.buffer.content peer (Err e) = record { mid = c.learn.new.reader; learns = c.in_ok-peer.ensures; says = c.in_err-say.ensures } in
+    let came : LearnsThenSays remaining contents old new b.buffer.content peer (Err e) = record { mid = c.learn.new.reader; learns = c.in_ok-peer.ensures; says = c.in_err-say.ensures b.buffer.content c.own_lines-lines.ensures } in
     let answers : Answers remaining contents b.brief old new b.buffer.content (Err (Send e)) = subst (λ x. Answers remaining contents x old new b.buffer.content (Err (Send e))) (sym brief) (peer, came) in
     let is : c.from_residual-in_err-say.result ≡ Err (Send e) = search rules in
     subst (λ (r : Result (Option Summary) ExchangeFault). Answers remaining contents b.brief old new b.buffer.content r) (sym is) answers
@@ -29,5 +29,5 @@ returns g c =
     let new = c.say.new.writer in
     let b = c.args.opened.now in
     let brief : b.brief ≡ true = sym c.is_brief.ensures ∙ search rules in
-    let came : LearnsThenSays remaining contents old new b.buffer.content peer (Ok tt) = record { mid = c.learn.new.reader; learns = c.in_ok-peer.ensures; says = c.in_ok-say.ensures } in
+    let came : LearnsThenSays remaining contents old new b.buffer.content peer (Ok tt) = record { mid = c.learn.new.reader; learns = c.in_ok-peer.ensures; says = c.in_ok-say.ensures b.buffer.content c.own_lines-lines.ensures } in
     subst (λ x. Answers remaining contents x old new b.buffer.content (Ok (Some peer))) (sym brief) came

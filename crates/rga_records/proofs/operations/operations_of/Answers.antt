@@ -10,6 +10,6 @@ pub returns-clause-ok : goal.returns-clause-ok
 returns-clause-ok c =
     let es : Entries = c.args.entries.now in
     c.in_ok-push_deletions.ensures.ok
-    ∙ ap (λ fs. c.push_insertions.new.ops.items ++ map Delete (marked_ids fs)) c.pages-2.ensures.pages
-    ∙ ap (λ ops. ops ++ map Delete (marked_ids es)) (c.in_ok-push_insertions.ensures.ok ∙ (λ k. c.in_ok-ops.ensures.items k ++ map insertion_of (filter_map insertion_in (c.pages.ensures.pages k))))
-    ∙ sym (operations_listed es c.pages.ensures.ordered)
+    ∙ ap (λ fs. c.push_insertions.new.ops.items ++ map Delete (marked_ids fs)) c.pages-pages.ensures.pages
+    ∙ ap (λ ops. ops ++ map Delete (marked_ids es)) (c.in_ok-push_insertions.ensures.ok ∙ (λ k. c.in_ok-ops.ensures.items k ++ map insertion_of (filter_map insertion_in (c.pages-pages.ensures.pages k))))
+    ∙ sym (operations_listed es c.pages-pages.ensures.ordered)
