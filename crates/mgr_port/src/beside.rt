@@ -1,8 +1,6 @@
 //! The files that take the names of a log and of a text.
 use crate::disk::Disk;
-use crate::files::{
-    Keeping, OWN, keep, set_mode, stands_for, sync_folder, take_mode, write_lines,
-};
+use crate::files::{Keeping, OWN, keep, set_mode, stands_for, sync_folder, take_mode, write_lines};
 use crate::log::Log;
 use crate::rewriting::{OpenLog, keep_as_read, sync_as_read};
 use mg_files::LogLines;

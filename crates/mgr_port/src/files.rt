@@ -126,6 +126,7 @@ pub(crate) fn write_lines(file: &mut File, lines: &LogLines) -> io::Result<()> {
 }
 
 /// A file that takes all of what it is given at once, however often it is interrupted.
+#[derive(Drop)]
 struct Patient<'a> {
     file: &'a mut File,
 }
