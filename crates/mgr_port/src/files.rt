@@ -115,12 +115,14 @@ pub(crate) fn fill_with(file: &mut File, lines: &LogLines) -> io::Result<()> {
     file.sync_all()
 }
 
-/// Writes lines at the end of a file. `OutOfMemory` comes before anything is written.
+/// Writes lines at the end of a file. Where memory is wanting, nothing is written.
 pub(crate) fn write_lines(file: &mut File, lines: &LogLines) -> io::Result<()> {
-    let mut writer = Counted::new(Patient { file });
-    match lines.write_to(&mut writer) {
+    let mut writer = Counted::new(Patient { file, failed: None });
+    let written = lines.write_to(&mut writer);
+    let Patient { file: _, failed } = writer.into_inner();
+    match written {
         Ok(()) => Ok(()),
-        Err(PortFault::File) => Err(io::Error::from(ErrorKind::Other)),
+        Err(PortFault::File) => Err(io::Error::from(failed.unwrap_or(ErrorKind::Other))),
         Err(PortFault::Memory) => Err(io::Error::from(ErrorKind::OutOfMemory)),
     }
 }
@@ -129,6 +131,8 @@ pub(crate) fn write_lines(file: &mut File, lines: &LogLines) -> io::Result<()> {
 #[derive(Drop)]
 struct Patient<'a> {
     file: &'a mut File,
+    /// Of which kind a failure was.
+    failed: Option<ErrorKind>,
 }
 
 impl<'a> Write for Patient<'a> {
@@ -137,8 +141,13 @@ impl<'a> Write for Patient<'a> {
     ghost contents = { λ _. None };
 
     fn write(&mut self, buf: &[u8]) -> io::Result<usize> {
-        self.file.write_all(buf)?;
-        Ok(buf.len())
+        match self.file.write_all(buf) {
+            Ok(()) => Ok(buf.len()),
+            Err(error) => {
+                self.failed = Some(error.kind());
+                Err(error)
+            }
+        }
     }
 
     fn flush(&mut self) -> io::Result<()> {
