@@ -95,6 +95,7 @@ fn put_deletion(bytes: &mut [u8], id: &Id) -> usize
 }
 
 /// Puts an identifier as two numbers between brackets, from a place on, and answers where it ends.
+#[inline(always)]
 fn put_pair(bytes: &mut [u8], at: usize, id: &Id) -> usize
     requires room { at + 28 ≤ length bytes.old }
     ensures put { take result bytes.new ≡ take at bytes.old ++ pair_text id.now }
@@ -145,6 +146,7 @@ fn put_code(bytes: &mut [u8], at: usize, ch: char) -> usize
 }
 
 /// Puts the digits of a number.
+#[inline(always)]
 fn put_number(bytes: &mut [u8], at: usize, number: u64) -> usize
     requires room { at + length (decimal number) ≤ length bytes.old }
     ensures put { take result bytes.new ≡ take at bytes.old ++ decimal number }
@@ -156,6 +158,7 @@ fn put_number(bytes: &mut [u8], at: usize, number: u64) -> usize
 }
 
 /// How many digits a number has.
+#[inline(always)]
 fn count_digits(number: u64) -> usize
     ensures { result ≡ length (decimal number) }
 {
@@ -169,6 +172,7 @@ fn count_digits(number: u64) -> usize
 }
 
 /// The same of a number of at most four.
+#[inline(always)]
 fn count_few(number: u64) -> usize
     requires { number < 10000 }
     ensures { result ≡ length (decimal number) }
