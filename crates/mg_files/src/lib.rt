@@ -18,6 +18,6 @@ mod saving;
 mod visited_buffer;
 
 pub use fault::LoadFault;
-pub use lines::MAX_SINGLE;
+pub use lines::{LogLines, MAX_SINGLE};
 pub use port::{CallKind, Found, LinkFault, Port, PortFault};
 pub use visited_buffer::VisitedBuffer;

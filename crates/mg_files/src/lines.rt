@@ -1,35 +1,91 @@
 //! What is written to a log.
-ghost use Rattle.std.specs.Prelude.{◌≡◌, IfOk, IfErr};
-ghost use Rattle.rga_ops.specs.Operations.{operations};
+ghost use Rattle.std.specs.Prelude.{◌≡◌, Err, IfOk, IfErr, OnOk};
+ghost use Rattle.rga_lines.specs.Counting.{CountsAs, Writes, WritesFront, WritesNothing};
 ghost use Rattle.rga_exchange.specs.RunLines.{runs_text};
-ghost use Rattle.rga_exchange.specs.Sending.{log_text};
 ghost use Rattle.mg_files.specs.Saving.{appended_text};
 ghost use Rattle.mg_files.specs.declared.port.PortFault.TheVariants.{Memory};
 
 use crate::port::PortFault;
-use rga_exchange::{append_log, append_runs};
+use rga_exchange::{SendFault, append_log, append_runs};
 use rga_lines::Counted;
 use rga_ops::Op;
-use rga_store::TextStore;
-use std::alloc::Global;
-
-/// The room that is made for each line before: hardly one has more bytes.
-const LINE_ROOM: usize = 64;
+use std::alloc::{AllocError, Global};
+use std::io::Write;
+use std::marker::Model;
 
 /// The most operations that a save always appends a line each: where the lines are few, each stands
 /// by itself.
 pub const MAX_SINGLE: usize = 32;
 
-/// The lines of operations that are appended, each with its newline: of more than `MAX_SINGLE`,
-/// where runs are asked for, those in a row that are a run in one.
-pub(crate) fn appended_lines_of(alloc: Global, runs: bool, ops: &[Op]) -> Result<Vec<u8>, PortFault>
-    ensures ok { IfOk result (λ bytes. bytes.items ≡ appended_text runs ops.now) }
-    ensures memory { IfErr result (λ e. e ≡ Memory) }
-{
-    if runs && ops.len() > MAX_SINGLE {
-        return runs_of(alloc, ops);
+/// Operations on their way to a log, as lines, each with its newline. The lines are made where they
+/// are written. To its callers it is their bytes.
+#[derive(Drop)]
+pub struct LogLines<'a> {
+    alloc: Global,
+    runs: bool,
+    ops: &'a [Op],
+}
+
+impl<'a> Model for LogLines<'a> {
+    ghost use Rattle.std.specs.Prelude.{ℕ, List};
+    ghost use Rattle.mg_files.specs.Saving.{appended_text};
+
+    ghost Value = { List ℕ };
+
+    ghost view = { λ lines. appended_text lines.runs lines.ops.now };
+}
+
+impl<'a> LogLines<'a> {
+    /// Those of operations: of more than `MAX_SINGLE`, where runs are asked for, those in a row that
+    /// are a run in one. Takes no memory.
+    pub(crate) fn new(alloc: Global, runs: bool, ops: &'a [Op]) -> LogLines<'a>
+        ensures { result ≡ appended_text runs ops.now }
+    {
+        LogLines { alloc, runs, ops }
     }
-    lines_of(alloc, ops)
+
+    /// Writes the lines, where each stands by itself in blocks of some 64 KiB. `Memory` comes before
+    /// anything is written, and `File` exactly where a call of the device failed.
+    pub fn write_to<W: Write>(&self, writer: &mut Counted<W>) -> Result<(), PortFault>
+        ensures written { OnOk result (Writes W.contents writer.old writer.new self.now) }
+        ensures begun { WritesFront W.contents writer.old writer.new self.now }
+        ensures memory { result ≡ Err Memory → WritesNothing W.contents writer.old writer.new }
+        ensures device { CountsAs PortFault.File result writer.old writer.new }
+    {
+        if self.runs && self.ops.len() > MAX_SINGLE {
+            return write_runs(self.alloc, self.ops, writer);
+        }
+        match append_log(self.alloc, self.ops, writer) {
+            Ok(_) => Ok(()),
+            Err(SendFault::Write) => Err(PortFault::File),
+            Err(SendFault::Memory) => Err(PortFault::Memory),
+        }
+    }
+
+    /// The lines in memory.
+    pub fn to_vec(&self) -> Result<Vec<u8>, AllocError>
+        ensures ok { IfOk result (λ bytes. bytes.items ≡ self.now) }
+    {
+        let mut writer = Counted::new(Vec::new(self.alloc));
+        let Ok(()) = self.write_to(&mut writer) else {
+            return Err(AllocError);
+        };
+        Ok(writer.into_inner())
+    }
+}
+
+/// Writes the lines of operations in runs, once all are made.
+fn write_runs<W: Write>(alloc: Global, ops: &[Op], writer: &mut Counted<W>) -> Result<(), PortFault>
+    ensures written { OnOk result (Writes W.contents writer.old writer.new (runs_text ops.now)) }
+    ensures begun { WritesFront W.contents writer.old writer.new (runs_text ops.now) }
+    ensures memory { result ≡ Err Memory → WritesNothing W.contents writer.old writer.new }
+    ensures device { CountsAs PortFault.File result writer.old writer.new }
+{
+    let lines = runs_of(alloc, ops)?;
+    let Ok(()) = writer.write_all(&lines) else {
+        return Err(PortFault::File);
+    };
+    Ok(())
 }
 
 /// The lines of operations in runs.
@@ -42,28 +98,4 @@ fn runs_of(alloc: Global, ops: &[Op]) -> Result<Vec<u8>, PortFault>
         return Err(PortFault::Memory);
     };
     Ok(writer.into_inner())
-}
-
-/// The lines of operations, each with its newline.
-pub(crate) fn lines_of(alloc: Global, ops: &[Op]) -> Result<Vec<u8>, PortFault>
-    ensures ok { IfOk result (λ bytes. bytes.items ≡ log_text ops.now) }
-    ensures memory { IfErr result (λ e. e ≡ Memory) }
-{
-    let room = Vec::with_capacity(alloc, ops.len().saturating_mul(LINE_ROOM))?;
-    let mut writer = Counted::new(room);
-    let Ok(_) = append_log(alloc, ops, &mut writer) else {
-        return Err(PortFault::Memory);
-    };
-    Ok(writer.into_inner())
-}
-
-/// The lines of all operations of a store.
-pub(crate) fn all_lines_of<S: TextStore>(alloc: Global, store: &S) -> Result<Vec<u8>, PortFault>
-    ensures ok { IfOk result (λ bytes. bytes.items ≡ log_text (operations (S.content store.now))) }
-    ensures memory { IfErr result (λ e. e ≡ Memory) }
-{
-    let Ok(ops) = store.ops() else {
-        return Err(PortFault::Memory);
-    };
-    lines_of(alloc, &ops)
 }

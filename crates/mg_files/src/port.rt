@@ -3,6 +3,7 @@ ghost use Rattle.std.specs.Prelude.{◌≡◌, ℕ, List, Option, IfOk, OnErr};
 ghost use Rattle.mg_files.specs.Links.{Opens, KeepsBytes};
 ghost use Rattle.mg_files.specs.Calls.{Call, call, link_call, Adds, told, load_told, link_told, failures_after, failures_after_link};
 
+use crate::lines::LogLines;
 use std::alloc::AllocError;
 use std::io::{Read, Write};
 use std::marker::Model;
@@ -108,20 +109,20 @@ pub trait Port {
         ensures links { links self.new ≡ links self.old }
         ensures device { failures self.new ≡ failures_after result (failures self.old) };
 
-    /// Adds bytes at the end of the log, which is made where there is none. Where it answers `File`
-    /// any beginning of the bytes may have been added to a log that was there; one that was not is
+    /// Adds lines at the end of the log, which is made where there is none. Where it answers `File`
+    /// any beginning of their bytes may have been added to a log that was there; one that was not is
     /// made with all of them or not at all. The text stays.
-    fn append(&mut self, name: &str, bytes: &[u8]) -> Result<(), PortFault>
+    fn append(&mut self, name: &str, lines: &LogLines) -> Result<(), PortFault>
         ensures tells { Adds (calls self.old) (calls self.new)
-            (told result (call CallKind.Append name.now bytes.now)) }
+            (told result (call CallKind.Append name.now lines.now)) }
         ensures links { links self.new ≡ links self.old }
         ensures device { failures self.new ≡ failures_after result (failures self.old) };
 
-    /// Makes these bytes the whole log. Where it answers `File` the log is the old one or this one.
+    /// Makes these lines the whole log. Where it answers `File` the log is the old one or this one.
     /// The text stays.
-    fn replace(&mut self, name: &str, bytes: &[u8]) -> Result<(), PortFault>
+    fn replace(&mut self, name: &str, lines: &LogLines) -> Result<(), PortFault>
         ensures tells { Adds (calls self.old) (calls self.new)
-            (told result (call CallKind.Replace name.now bytes.now)) }
+            (told result (call CallKind.Replace name.now lines.now)) }
         ensures links { links self.new ≡ links self.old }
         ensures device { failures self.new ≡ failures_after result (failures self.old) };
 

@@ -3,7 +3,7 @@ ghost use Rattle.std.specs.Prelude.{◌≡◌, false, IfOk, IfErr, OnOk, OnErr};
 ghost use Rattle.mg_files.specs.Calls.{Adds, told, failures_after};
 ghost use Rattle.mg_files.specs.Saving.{is_changed, log_call, log_calls, text_call, save_calls, logged, saved, unlogged, written, FailsAtLog, SaveFailed};
 
-use crate::lines::{all_lines_of, appended_lines_of};
+use crate::lines::LogLines;
 use crate::port::{Port, PortFault};
 use crate::visited_buffer::VisitedBuffer;
 use rga_store::TextStore;
@@ -68,10 +68,13 @@ impl<S: TextStore> VisitedBuffer<S> {
         ensures device { P.failures port.new ≡ failures_after result (P.failures port.old) }
     {
         if self.whole {
-            let lines = all_lines_of(self.alloc, self.buffer.store())?;
+            let Ok(ops) = self.buffer.store().ops() else {
+                return Err(PortFault::Memory);
+            };
+            let lines = LogLines::new(self.alloc, false, &ops);
             return port.replace(self.buffer.name(), &lines);
         }
-        let lines = appended_lines_of(self.alloc, self.runs, self.buffer.unsaved())?;
+        let lines = LogLines::new(self.alloc, self.runs, self.buffer.unsaved());
         port.append(self.buffer.name(), &lines)
     }
 

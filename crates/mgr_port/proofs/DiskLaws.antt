@@ -1,6 +1,6 @@
 -- What stands under a name behind each beginning of the steps that give it a file.
 use Rattle.std.proofs.Common.{◌≡◌, ◌⊎◌, inl, inr, ℕ, List, [], ◌∷◌, ◌++◌, Bool, true, false, Option, Some, None, refl, sym, ap, ◌∙◌, subst, append_assoc, append-nil}
-use Rattle.mgr_port.specs.Disk.{Step, Empties, Writes, Syncs, Keeps, TakesName, SyncsFolder, Begins, Place, behind_step, behind, MayStand, MayBeFound, IsUntouched, naming_steps, named_steps, whole_steps, Tells, WritesFront, StopsBefore}
+use Rattle.mgr_port.specs.Disk.{Step, Empties, Writes, Syncs, Keeps, TakesName, SyncsFolder, Begins, Place, behind_step, behind, MayStand, MayBeFound, IsUntouched, naming_steps, whole_steps, Tells, WritesFront, StopsBefore}
 
 -- What holds of a place, holds of it behind a part of the first step where that is a write, and behind that step and any
 -- beginning of the others, holds behind any beginning of all.

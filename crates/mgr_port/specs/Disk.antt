@@ -1,5 +1,5 @@
 -- The steps by which a file gets new bytes, and what stands under its name if the machine stops behind one of them.
-use Rattle.std.specs.Prelude.{◌≡◌, ◌⊎◌, ⊤, ℕ, List, [], ◌∷◌, ◌++◌, Bool, true, false, Option, Some, IfSome, Result, Ok, Err}
+use Rattle.std.specs.Prelude.{◌≡◌, ◌⊎◌, ℕ, List, [], ◌∷◌, ◌++◌, Bool, true, false, Option, Some, IfSome, Result, Ok, Err}
 use Rattle.mgr_port.specs.declared.disk.Named.{Named}
 use Rattle.mgr_port.specs.declared.disk.Named.TheVariants.{Settled, Unsettled}
 

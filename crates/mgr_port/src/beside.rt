@@ -1,8 +1,9 @@
 //! The files that take the names of a log and of a text.
 use crate::disk::Disk;
-use crate::files::{Keeping, OWN, keep, set_mode, stands_for, sync_folder, take_mode};
+use crate::files::{Keeping, OWN, keep, set_mode, stands_for, sync_folder, take_mode, write_lines};
 use crate::log::Log;
 use crate::rewriting::{OpenLog, keep_as_read, sync_as_read};
+use mg_files::LogLines;
 use std::fs::{File, Metadata};
 use std::io::Write;
 use std::rt::Files;
@@ -44,6 +45,10 @@ impl<'a, R: Files<File = File> + AllocGlobal> Disk for Beside<'a, R> {
 
     fn write(&mut self, bytes: &[u8]) -> io::Result<()> {
         self.file.write_all(bytes)
+    }
+
+    fn write_lines(&mut self, lines: &LogLines) -> io::Result<()> {
+        write_lines(self.file, lines)
     }
 
     fn sync(&mut self) -> io::Result<()> {

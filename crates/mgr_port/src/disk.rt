@@ -3,6 +3,7 @@ ghost use Rattle.std.specs.Prelude.{List, Option, IfOk, OnOk, OnErr};
 ghost use Rattle.mgr_port.specs.Disk.{Step, Empties, Syncs, Keeps, TakesName, SyncsFolder};
 ghost use Rattle.mgr_port.specs.Disk.{Does, DoesWrite, Tells, StopsBefore, naming_steps, synced_steps, last_steps, named_steps, steps_to};
 
+use mg_files::LogLines;
 use std::io;
 
 /// A file beside another, whose name it is to take. A disk may tell its steps, in their order.
@@ -17,6 +18,10 @@ pub trait Disk {
     /// Puts bytes at its end. Where that fails, a beginning of them may be there.
     fn write(&mut self, bytes: &[u8]) -> io::Result<()>
         ensures { DoesWrite result bytes.now (steps self.old) (steps self.new) };
+
+    /// Puts lines at its end, as `write` does their bytes.
+    fn write_lines(&mut self, lines: &LogLines) -> io::Result<()>
+        ensures { DoesWrite result lines.now (steps self.old) (steps self.new) };
 
     /// Waits until all of it is on the device.
     fn sync(&mut self) -> io::Result<()>
@@ -66,6 +71,19 @@ pub fn put_whole<D: Disk>(disk: &mut D, bytes: &[u8], keeps: bool) -> io::Result
 {
     disk.empty()?;
     disk.write(bytes)?;
+    name_written(disk, keeps)
+}
+
+/// Makes these lines the whole file under a name, as `put_whole` does bytes.
+#[tactic(auto, using(crate::proofs::DiskLaws::stops_here, crate::proofs::DiskLaws::stops_in_write, crate::proofs::DiskLaws::stops_behind))]
+pub fn put_log<D: Disk>(disk: &mut D, lines: &LogLines, keeps: bool) -> io::Result<Named>
+    ensures named { IfOk result (λ named.
+        Tells (D.steps disk.old) (D.steps disk.new) (steps_to named keeps lines.now)) }
+    ensures unnamed { OnErr result
+        (StopsBefore (D.steps disk.old) (D.steps disk.new) (named_steps keeps lines.now)) }
+{
+    disk.empty()?;
+    disk.write_lines(lines)?;
     name_written(disk, keeps)
 }
 

@@ -1,5 +1,7 @@
 //! Files that are whole whenever the machine stops, and of which nothing is destroyed.
 use crate::stamp::Stamp;
+use mg_files::{LogLines, PortFault};
+use rga_lines::Counted;
 use std::alloc::Global;
 use std::fs::{File, Metadata, OpenOptions, Permissions, TryLockError};
 use std::io::{ErrorKind, Write};
@@ -105,6 +107,52 @@ pub(crate) fn take_owner(file: &File, standing: &Metadata) -> io::Result<bool> {
 pub(crate) fn fill(file: &mut File, bytes: &[u8]) -> io::Result<()> {
     file.write_all(bytes)?;
     file.sync_all()
+}
+
+/// Writes lines at the end of a file, and waits until it is on the device.
+pub(crate) fn fill_with(file: &mut File, lines: &LogLines) -> io::Result<()> {
+    write_lines(file, lines)?;
+    file.sync_all()
+}
+
+/// Writes lines at the end of a file. Where memory is wanting, nothing is written.
+pub(crate) fn write_lines(file: &mut File, lines: &LogLines) -> io::Result<()> {
+    let mut writer = Counted::new(Patient { file, failed: None });
+    let written = lines.write_to(&mut writer);
+    let Patient { file: _, failed } = writer.into_inner();
+    match written {
+        Ok(()) => Ok(()),
+        Err(PortFault::File) => Err(io::Error::from(failed.unwrap_or(ErrorKind::Other))),
+        Err(PortFault::Memory) => Err(io::Error::from(ErrorKind::OutOfMemory)),
+    }
+}
+
+/// A file that takes all of what it is given at once, however often it is interrupted.
+#[derive(Drop)]
+struct Patient<'a> {
+    file: &'a mut File,
+    /// Of which kind a failure was.
+    failed: Option<ErrorKind>,
+}
+
+impl<'a> Write for Patient<'a> {
+    ghost use Rattle.std.specs.Prelude.{None};
+
+    ghost contents = { λ _. None };
+
+    fn write(&mut self, buf: &[u8]) -> io::Result<usize> {
+        match self.file.write_all(buf) {
+            Ok(()) => Ok(buf.len()),
+            Err(error) => {
+                self.failed = Some(error.kind());
+                Err(error)
+            }
+        }
+    }
+
+    fn flush(&mut self) -> io::Result<()> {
+        Ok(())
+    }
 }
 
 /// Waits until the names in a file's folder are on the device.

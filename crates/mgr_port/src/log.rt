@@ -1,6 +1,7 @@
 //! A log that this port has open.
-use crate::files::{fill, lock, metadata_if_there, open_to_add, stands_for};
+use crate::files::{fill_with, lock, metadata_if_there, open_to_add, stands_for};
 use crate::stamp::Stamp;
+use mg_files::LogLines;
 use std::fs::File;
 use std::io;
 use std::io::{ErrorKind, Read};
@@ -65,14 +66,19 @@ impl Log {
         Ok(bytes)
     }
 
-    /// Adds bytes at the end, and waits until they are on the device. Nothing is written where the
+    /// Adds lines at the end, and waits until they are on the device. Nothing is written where the
     /// path stands for another file, or the log is not as it was left and at most something whole
     /// behind it.
-    pub(crate) fn append<R: Files>(&mut self, rt: &R, path: &str, bytes: &[u8]) -> io::Result<()> {
+    pub(crate) fn append<R: Files>(
+        &mut self,
+        rt: &R,
+        path: &str,
+        lines: &LogLines,
+    ) -> io::Result<()> {
         if !self.only_grew(rt, path)? {
             return Err(io::Error::from(ErrorKind::NotFound));
         }
-        fill(&mut self.file, bytes)?;
+        fill_with(&mut self.file, lines)?;
         self.stamp = Stamp::of(&self.file.metadata()?);
         self.end = End::of(&self.file, self.stamp.length)?;
         Ok(())

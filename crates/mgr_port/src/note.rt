@@ -1,11 +1,11 @@
 //! The files of one note, as this port found and left them.
 use crate::beside::{Beside, Kind, remove_next};
-use crate::disk::{Named, put_whole};
+use crate::disk::{Named, put_log};
 use crate::files::{lock, metadata_if_there, open_beside, stands_for};
 use crate::log::Log;
 use crate::names::Paths;
 use crate::text::Text;
-use mg_files::Found;
+use mg_files::{Found, LogLines};
 use std::fs::{File, Metadata};
 use std::io::ErrorKind;
 use std::rt::Files;
@@ -107,46 +107,46 @@ impl NoteFiles {
         })
     }
 
-    /// Adds bytes at the end of the log, which is made where there is none; whenever the machine
-    /// stops then, it is there with all of the bytes or not at all.
+    /// Adds lines at the end of the log, which is made where there is none; whenever the machine
+    /// stops then, it is there with all of the lines or not at all.
     pub(crate) fn append<R: Files<File = File> + AllocGlobal>(
         &mut self,
         rt: &R,
         paths: &Paths,
-        bytes: &[u8],
+        lines: &LogLines,
     ) -> io::Result<()> {
         let path = paths.log.as_str();
         if let Some(log) = &mut self.log {
-            return log.append(rt, path, bytes);
+            return log.append(rt, path, lines);
         }
         if metadata_if_there(rt, path)?.is_some() {
             return Err(io::Error::from(ErrorKind::AlreadyExists));
         }
-        self.make_log(rt, paths, bytes, &None)
+        self.make_log(rt, paths, lines, &None)
     }
 
-    /// Makes these bytes the whole log. What stands there is kept.
+    /// Makes these lines the whole log. What stands there is kept.
     pub(crate) fn replace<R: Files<File = File> + AllocGlobal>(
         &mut self,
         rt: &R,
         paths: &Paths,
-        bytes: &[u8],
+        lines: &LogLines,
     ) -> io::Result<()> {
         let standing = metadata_if_there(rt, paths.log.as_str())?;
-        self.make_log(rt, paths, bytes, &standing)
+        self.make_log(rt, paths, lines, &standing)
     }
 
-    /// Writes bytes beside the log, under a name that then becomes the log's. The new log is locked
+    /// Writes lines beside the log, under a name that then becomes the log's. The new log is locked
     /// before, and the one that stands there is kept.
     fn make_log<R: Files<File = File> + AllocGlobal>(
         &mut self,
         rt: &R,
         paths: &Paths,
-        bytes: &[u8],
+        lines: &LogLines,
         standing: &Option<Metadata>,
     ) -> io::Result<()> {
         let mut next = take_next(rt, paths.next_log.as_str(), &mut self.next)?;
-        match name_next(rt, paths, &mut next, bytes, standing) {
+        match name_next(rt, paths, &mut next, lines, standing) {
             Ok(named) => {
                 self.log = Some(Log::new(next)?);
                 named.settled()
@@ -246,14 +246,14 @@ fn name_next<R: Files<File = File> + AllocGlobal>(
     rt: &R,
     paths: &Paths,
     next: &mut File,
-    bytes: &[u8],
+    lines: &LogLines,
     standing: &Option<Metadata>,
 ) -> io::Result<Named> {
     if standing.is_some() {
-        return name_like(rt, paths, next, bytes, standing, true);
+        return name_like(rt, paths, next, lines, standing, true);
     }
     let text = metadata_if_there(rt, paths.text.as_str())?;
-    name_like(rt, paths, next, bytes, &text, false)
+    name_like(rt, paths, next, lines, &text, false)
 }
 
 /// The same with the owner and the rights of a file.
@@ -261,7 +261,7 @@ fn name_like<R: Files<File = File> + AllocGlobal>(
     rt: &R,
     paths: &Paths,
     next: &mut File,
-    bytes: &[u8],
+    lines: &LogLines,
     like: &Option<Metadata>,
     keeps: bool,
 ) -> io::Result<Named> {
@@ -272,5 +272,5 @@ fn name_like<R: Files<File = File> + AllocGlobal>(
         name: paths.log.as_str(),
         kind: Kind::Log(like),
     };
-    put_whole(&mut disk, bytes, keeps)
+    put_log(&mut disk, lines, keeps)
 }

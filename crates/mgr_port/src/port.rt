@@ -11,7 +11,7 @@ use crate::names::Paths;
 use crate::note::Note;
 use crate::rewriting::{OpenLog, make_next, name_next};
 use crate::sockets::{accept_at, connect_to};
-use mg_files::{Found, LinkFault, Port, PortFault};
+use mg_files::{Found, LinkFault, LogLines, Port, PortFault};
 use std::alloc::{AllocError, Global};
 use std::fs::File;
 use std::io;
@@ -163,27 +163,27 @@ impl<R: Files<File = File> + Net + AllocGlobal + Drop> Port for FilePort<R> {
         told(&mut self.failures, found)
     }
 
-    /// The bytes are on the device once it answers `Ok`. Nothing is written where the log is gone,
+    /// The lines are on the device once it answers `Ok`. Nothing is written where the log is gone,
     /// is another file, or is not as it was left, but for lines that were put behind it.
-    fn append(&mut self, name: &str, bytes: &[u8]) -> Result<(), PortFault>
+    fn append(&mut self, name: &str, lines: &LogLines) -> Result<(), PortFault>
         ensures device { self.new.failures ≡ failures_after result self.old.failures }
         ensures number { self.new.number ≡ self.old.number }
     {
         let index = index_of(self.rt.alloc(), &mut self.notes, name)?;
         let note = &mut self.notes[index];
-        let answer = note.files.append(&self.rt, &note.paths, bytes);
+        let answer = note.files.append(&self.rt, &note.paths, lines);
         told(&mut self.failures, answer)
     }
 
     /// Whenever the machine stops, the log is the old one or the new one, whole. The old one is
     /// kept.
-    fn replace(&mut self, name: &str, bytes: &[u8]) -> Result<(), PortFault>
+    fn replace(&mut self, name: &str, lines: &LogLines) -> Result<(), PortFault>
         ensures device { self.new.failures ≡ failures_after result self.old.failures }
         ensures number { self.new.number ≡ self.old.number }
     {
         let index = index_of(self.rt.alloc(), &mut self.notes, name)?;
         let note = &mut self.notes[index];
-        let answer = note.files.replace(&self.rt, &note.paths, bytes);
+        let answer = note.files.replace(&self.rt, &note.paths, lines);
         told(&mut self.failures, answer)
     }
 

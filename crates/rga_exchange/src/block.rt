@@ -18,15 +18,20 @@ pub(crate) struct Block {
 }
 
 impl Model for Block {
-    ghost use Rattle.std.specs.Prelude.{ℕ, List};
+    ghost use Rattle.std.specs.Prelude.{ℕ, List, ◌+◌, ◌≤◌};
+    ghost use Rattle.std.specs.Vec.{vec_capacity};
+    ghost use Rattle.rga_exchange.specs.declared.block.TheConstants.{BLOCK, END};
 
     ghost Value = { List ℕ };
 
     ghost view = { λ block. block.text.items };
+
+    ghost invariant = { λ block. BLOCK + END ≤ vec_capacity block.text };
 }
 
 impl Block {
-    ghost use Rattle.std.specs.Prelude.{◌≡◌, ◌++◌, ◌∷◌, [], IfOk, OnOk, IfErr};
+    ghost use Rattle.std.specs.Prelude.{◌≡◌, ◌<◌, ◌+◌, ◌++◌, ◌∷◌, [], length, IfOk, IsOk, OnOk, IfErr};
+    ghost use Rattle.rga_exchange.specs.declared.block.TheConstants.{BLOCK, END};
     ghost use Rattle.rga_lines.specs.Counting.{Writes, WritesFront, WritesAllBut, CountsAs};
     ghost use Rattle.rga_lines.specs.Stream.{newline};
 
@@ -39,10 +44,11 @@ impl Block {
     }
 
     /// Takes a line, whether there is room for it or not.
-    pub(crate) fn push(&mut self, line: &str) -> Result<(), AllocError>
-        ensures { OnOk result (self.new ≡ self.old ++ (line.now ++ newline ∷ [])) }
+    pub(crate) fn push(&mut self, line: &[u8]) -> Result<(), AllocError>
+        ensures pushed { OnOk result (self.new ≡ self.old ++ (line.now ++ newline ∷ [])) }
+        ensures room { length self.old + length line.now < BLOCK + END → IsOk result }
     {
-        self.text.extend_from_slice(line.as_bytes())?;
+        self.text.extend_from_slice(line)?;
         self.text.push(b'\n')?;
         Ok(())
     }
@@ -50,12 +56,13 @@ impl Block {
     /// Takes a line, of any length: where there is no room for it, what it has is written before.
     pub(crate) fn take_line<W: Write>(
         &mut self,
-        line: &str,
+        line: &[u8],
         writer: &mut Counted<W>,
     ) -> Result<(), SendFault>
         ensures ok { OnOk result (WritesAllBut W.contents writer.old writer.new
             (self.old ++ (line.now ++ newline ∷ [])) self.new) }
         ensures begun { WritesFront W.contents writer.old writer.new self.old }
+        ensures room { length line.now < END → IfErr result (λ e. e ≡ SendFault.Write) }
         ensures device { CountsAs SendFault.Write result writer.old writer.new }
     {
         if self.text.len() + line.len() >= BLOCK {

@@ -145,7 +145,7 @@ fn push_last<W: Write>(
     let Ok(line) = deletion_line(alloc, &run) else {
         return Err(SendFault::Memory);
     };
-    block.take_line(&line, writer)?;
+    block.take_line(line.as_bytes(), writer)?;
     Ok(1)
 }
 
@@ -176,7 +176,7 @@ fn push_operation<S: TextStore, W: Write>(
     let Some(line) = next_line(alloc, store, dels, op, ends, last)? else {
         return Ok(0);
     };
-    block.take_line(&line, writer)?;
+    block.take_line(line.as_bytes(), writer)?;
     Ok(1)
 }
 

@@ -121,7 +121,7 @@ fn push_front<W: Write>(
     ensures device { CountsAs SendFault.Write result writer.old writer.new }
 {
     let (line, count) = first_line(alloc, op, behind)?;
-    block.take_line(&line, writer)?;
+    block.take_line(line.as_bytes(), writer)?;
     Ok(count)
 }
 

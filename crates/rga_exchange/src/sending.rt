@@ -1,8 +1,8 @@
 //! Operations sent: as lines, in blocks.
-ghost use Rattle.std.specs.Prelude.{◌≡◌, ℕ, ◌≤◌, ◌++◌, ◌∷◌, List, [], length, true, Ok, IfOk, IfErr, OnOk};
+ghost use Rattle.std.specs.Prelude.{◌≡◌, ℕ, ◌≤◌, ◌++◌, ◌∷◌, List, [], length, true, Ok, Err, IfOk, IfErr, OnOk};
 ghost use Rattle.rga_ops.specs.Prelude.{checked, operations, Content, Agree, IsSound, join, known_count, content_of};
 ghost use Rattle.rga_ops.specs.ListAnswer.{AreWellFormed, IsJoinable};
-ghost use Rattle.rga_lines.specs.Counting.{CountsAs, Writes, WritesFront, WritesAllBut};
+ghost use Rattle.rga_lines.specs.Counting.{CountsAs, Writes, WritesFront, WritesAllBut, WritesNothing};
 ghost use Rattle.rga_lines.specs.Spelling.{line as line_of, head_line, IsWritable};
 ghost use Rattle.rga_lines.specs.Stream.{newline, rest_of};
 ghost use Rattle.rga_exchange.specs.Sending.{log_text, exchange_text, stream_text, AreWritable, StandsFor};
@@ -11,7 +11,7 @@ ghost use Rattle.rga_exchange.specs.Receiving.{exchange_outcome};
 
 use crate::block::Block;
 use crate::fault::SendFault;
-use rga_lines::{Counted, write_end, write_head, write_line};
+use rga_lines::{Counted, OperationLine, write_end, write_head};
 use rga_ops::Op;
 use rga_store::TextStore;
 use std::alloc::Global;
@@ -74,8 +74,8 @@ pub fn send_list<W: Write>(
         return Err(SendFault::Memory);
     };
     let mut block = begin_exchange(alloc)?;
-    push_lines(alloc, list, &mut block, writer)?;
-    block.push(&end)?;
+    push_lines(list, &mut block, writer)?;
+    block.push(end.as_bytes())?;
     finish(block, writer)?;
     Ok(number)
 }
@@ -89,7 +89,7 @@ fn begin_exchange(alloc: Global) -> Result<Block, SendFault>
         return Err(SendFault::Memory);
     };
     let mut block = Block::new(alloc)?;
-    block.push(&head)?;
+    block.push(head.as_bytes())?;
     Ok(block)
 }
 
@@ -98,7 +98,7 @@ fn begin_exchange(alloc: Global) -> Result<Block, SendFault>
 ///
 /// Only one block of some 64 KiB is held. The device is given as many lines at once as a block has,
 /// no failed call is made again, and the device is flushed at the end. `Write` comes exactly where
-/// a call failed.
+/// a call failed, and `Memory` before anything is written.
 pub fn append_log<W: Write>(
     alloc: Global,
     ops: &[Op],
@@ -115,18 +115,19 @@ pub fn append_log<W: Write>(
     // Whatever is answered, such a log, with what was written behind it, stands for that content
     // joined with the first so many of the operations.
     ensures gained { AppendsFirst W.contents writer.old writer.new ops.now }
+    ensures memory { result ≡ Err SendFault.Memory →
+        WritesNothing W.contents writer.old writer.new }
     ensures flushed { OnOk result (writer.new.flushed ≡ true) }
     ensures device { CountsAs SendFault.Write result writer.old writer.new }
 {
     let mut block = Block::new(alloc)?;
-    push_lines(alloc, ops, &mut block, writer)?;
+    push_lines(ops, &mut block, writer)?;
     finish(block, writer)?;
     Ok(ops.len() as u64)
 }
 
 /// Adds the lines of the operations to the block, which is written whenever it is full.
 fn push_lines<W: Write>(
-    alloc: Global,
     ops: &[Op],
     block: &mut Block,
     writer: &mut Counted<W>,
@@ -136,31 +137,25 @@ fn push_lines<W: Write>(
     ensures writable { OnOk result (AreWellFormed ops.now → AreWritable ops.now) }
     ensures begun { WritesFront W.contents writer.old writer.new (block.old ++ log_text ops.now) }
     ensures first { WritesFirst W.contents writer.old writer.new block.old ops.now }
+    ensures fault { IfErr result (λ e. e ≡ SendFault.Write) }
     ensures device { CountsAs SendFault.Write result writer.old writer.new }
 {
     for op in ops {
-        push_line(alloc, op, block, writer)?;
+        push_line(op, block, writer)?;
     }
     Ok(())
 }
 
 /// Adds the line of an operation to the block, which is written before where it has no room.
-fn push_line<W: Write>(
-    alloc: Global,
-    op: &Op,
-    block: &mut Block,
-    writer: &mut Counted<W>,
-) -> Result<(), SendFault>
+fn push_line<W: Write>(op: &Op, block: &mut Block, writer: &mut Counted<W>) -> Result<(), SendFault>
     ensures ok { OnOk result (WritesAllBut W.contents writer.old writer.new
         (block.old ++ (line_of op.now ++ newline ∷ [])) block.new) }
     ensures writable { OnOk result (checked op.now ≡ Ok tt → IsWritable op.now) }
     ensures begun { WritesFront W.contents writer.old writer.new block.old }
+    ensures fault { IfErr result (λ e. e ≡ SendFault.Write) }
     ensures device { CountsAs SendFault.Write result writer.old writer.new }
 {
-    let Ok(line) = write_line(alloc, op) else {
-        return Err(SendFault::Memory);
-    };
-    block.take_line(&line, writer)
+    block.take_line(OperationLine::of(op).as_bytes(), writer)
 }
 
 /// Writes the lines that are left, and flushes the device.
@@ -168,6 +163,7 @@ pub(crate) fn finish<W: Write>(mut rest: Block, writer: &mut Counted<W>) -> Resu
     ensures ok { OnOk result (Writes W.contents writer.old writer.new rest) }
     ensures begun { WritesFront W.contents writer.old writer.new rest }
     ensures flushed { OnOk result (writer.new.flushed ≡ true) }
+    ensures fault { IfErr result (λ e. e ≡ SendFault.Write) }
     ensures device { CountsAs SendFault.Write result writer.old writer.new }
 {
     rest.write_to(writer)?;

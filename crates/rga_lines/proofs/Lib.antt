@@ -14,6 +14,7 @@ pub mod BeginningLemmas
 pub mod RunBack
 pub mod RunLemmas
 pub mod DeletionLemmas
+mod DigitsLemmas
 pub mod DeletionBack
 pub mod SpelledRun
 pub mod StandLemmas

@@ -226,7 +226,7 @@ fn push_code(text: &mut String, ch: char) -> Result<(), AllocError>
 }
 
 /// The lower-case digit of a number below 16.
-fn hex_digit(value: u32) -> char
+pub(crate) fn hex_digit(value: u32) -> char
     requires { value < 16 }
     ensures value { result ≡ digit_char value }
     ensures ascii { result < 128 }

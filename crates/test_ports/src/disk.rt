@@ -1,4 +1,5 @@
 //! A disk in memory.
+use mg_files::LogLines;
 use mgr_port::Disk;
 use std::alloc::{AllocError, Global};
 use std::io;
@@ -114,6 +115,13 @@ impl Disk for MemoryDisk {
 
     fn write(&mut self, bytes: &[u8]) -> io::Result<()> {
         self.make(StepKind::Write, bytes)
+    }
+
+    fn write_lines(&mut self, lines: &LogLines) -> io::Result<()> {
+        match lines.to_vec() {
+            Ok(bytes) => self.make(StepKind::Write, &bytes),
+            Err(_) => Err(io::Error::from(ErrorKind::OutOfMemory)),
+        }
     }
 
     fn sync(&mut self) -> io::Result<()> {

@@ -5,7 +5,7 @@ ghost use Rattle.mg_files.specs.Calls.{call, load_call, found_call, link_call, r
 use crate::call::{MadeCall, push_calls};
 use crate::folder::{Folder, twin};
 use crate::link::NoLink;
-use mg_files::{CallKind, Found, LinkFault, Port, PortFault};
+use mg_files::{CallKind, Found, LinkFault, LogLines, Port, PortFault};
 use std::alloc::{AllocError, Global};
 
 /// Holds files by name, meets nobody, and tells its calls.
@@ -176,12 +176,14 @@ impl Port for MemoryPort {
         self.answer_load(name)
     }
 
-    fn append(&mut self, name: &str, bytes: &[u8]) -> Result<(), PortFault> {
-        self.call(CallKind::Append, name, bytes)
+    fn append(&mut self, name: &str, lines: &LogLines) -> Result<(), PortFault> {
+        let bytes = lines.to_vec()?;
+        self.call(CallKind::Append, name, &bytes)
     }
 
-    fn replace(&mut self, name: &str, bytes: &[u8]) -> Result<(), PortFault> {
-        self.call(CallKind::Replace, name, bytes)
+    fn replace(&mut self, name: &str, lines: &LogLines) -> Result<(), PortFault> {
+        let bytes = lines.to_vec()?;
+        self.call(CallKind::Replace, name, &bytes)
     }
 
     fn put_text(&mut self, name: &str, bytes: &[u8]) -> Result<(), PortFault> {

@@ -1,4 +1,4 @@
-use Rattle.std.proofs.Common.{rules, ◌≡◌, [], ◌∷◌, ◌⊎◌}
+use Rattle.std.proofs.Common.{rules, [], ◌∷◌, ◌⊎◌}
 use Rattle.mgr_port.specs.Disk.{Empties, Writes, Tells, WritesFront, StopsBefore, synced_steps, named_steps}
 use Rattle.std.proofs.lemmas.Result.{on_err_weaker}
 use Rattle.mgr_port.proofs.DiskLaws.{stops_in_write, stops_behind}

@@ -1,4 +1,4 @@
-use Rattle.mgr_port.proofs.DiskLaws.{one_of_them, the_new_one, kept_before}
+use Rattle.mgr_port.proofs.DiskLaws.{one_of_them, kept_before}
 use Rattle.mgr_port.proofs.laws.a_file_is_whole_whenever_the_machine_stops.Goals as goal
 
 pub returns-clause-whole : goal.returns-clause-whole

@@ -1,6 +1,5 @@
-use Rattle.std.proofs.Common.{◌≡◌, ◌∙◌, length, ap, subst}
-use Rattle.std.specs.Prelude.{IfOk, OnOk, List, ℕ}
-use Rattle.rga_ops.specs.Operations.{operations}
+use Rattle.std.proofs.Common.{◌≡◌, ◌∙◌, length, subst}
+use Rattle.std.specs.Prelude.{IfOk, OnOk, List}
 use Rattle.rga_ops.specs.declared.op.Op.{Op}
 use Rattle.rga_lines.specs.Counting.{Writes, WritesFront}
 use Rattle.rga_exchange.specs.Sending.{exchange_text}
