@@ -1,25 +1,24 @@
 -- Insertions that are taken at once: where they lead, and what is shown then.
 use Rattle.std.proofs.lemmas.Bool.Decides.{nat_tests}
-use Rattle.std.proofs.Common.{◌≡◌, ℕ, zero, suc, ◌<◌, ◌+◌, ◌-◌, nat_le, ◌||◌, Bool, true, false, List, [], ◌∷◌, ◌++◌, length, take, drop, slice_index_or, refl, sym, ap, ◌∙◌, subst, arith, append_assoc, length-append, inl, inr}
+use Rattle.std.proofs.Common.{◌≡◌, ℕ, zero, suc, ◌<◌, ◌+◌, ◌-◌, nat_le, ◌||◌, true, false, List, [], ◌∷◌, ◌++◌, length, take, drop, slice_index_or, refl, sym, ap, ◌∙◌, subst, arith, append_assoc, length-append, inl, inr}
 use Rattle.std.specs.Prelude.{Result, Some, Ok, Err, IfErr, not, ◌&&◌}
 use Rattle.std.specs.FinMap as finite_map
 use Rattle.std.specs.FinSet as finite_set
 use Rattle.std.specs.Ordering.{is_gt, ordering_reverse}
-use Rattle.std.specs.BTreeSet.{BTreeSet, contains}
+use Rattle.std.specs.BTreeSet.{contains}
 use Rattle.std.proofs.lemmas.List.{take_more, take_rest, drop_more, take-append-drop, take-append-le, drop-append-le}
 use Rattle.rga_ops.specs.Identifier.{Identifier, id_cmp, is_root}
-use Rattle.rga_ops.specs.Content.{Element, element, Content, IsSound, IsWithin, join, single, clock_of}
+use Rattle.rga_ops.specs.Content.{element, Content, IsSound, IsWithin, join, single, clock_of}
 use Rattle.rga_ops.specs.Answer.{answer, after_answer, taken, and_take, taken_one_by_one}
 use Rattle.rga_ops.specs.declared.op.Op.{Op}
 use Rattle.rga_ops.specs.declared.op.Op.TheVariants.{Insert}
 use Rattle.rga_ops.specs.declared.refusal.Taken.TheVariants.{New}
 use Rattle.rga_ops.specs.declared.refusal.Refusal.{Refusal}
 use Rattle.rga_ops.proofs.IdentifierLaws.{ids_total}
-use Rattle.rga_ops.proofs.AnswerLaws.{IsNew, new-iff, IsNewInsertion, new_insertion, well_formed_insertion}
+use Rattle.rga_ops.proofs.AnswerLaws.{new-iff, IsNewInsertion, new_insertion, well_formed_insertion}
 use Rattle.rga_ops.proofs.ContentLaws.{within_join, within_chain}
 use Rattle.rga_ops.proofs.GrowLaws.{complete_stays}
 use Rattle.rga_ops.proofs.InsertionLaws.{contains-insertion}
-use Rattle.rga_ops.proofs.ListSteps.{get-insertion}
 use Rattle.rga_ops.proofs.NewestLaws.{lower_counter}
 use Rattle.rga_store.specs.Without.{without}
 use Rattle.rga_store.proofs.WithoutLaws.{new_held}

@@ -1,6 +1,6 @@
 //! Insertions of a list of which each is the parent of the next, taken some at once: their entries
 //! go into the sequence in one piece.
-ghost use Rattle.std.specs.Prelude.{◌≡◌, ◌≢◌, ◌≤◌, ◌<◌, ◌++◌, ◌∷◌, [], Ok, true, false, length, vec_len, vec_capacity, take, drop, IfSome, IfOk, OnOk, OnErr, IfErr};
+ghost use Rattle.std.specs.Prelude.{◌≡◌, ◌≢◌, ◌≤◌, ◌++◌, ◌∷◌, [], Ok, true, false, length, take, drop, IfSome, IfOk, OnOk, OnErr, IfErr};
 ghost use Rattle.std.specs.FinSet as finite_set;
 ghost use Rattle.rga_ops.specs.Content.{join, single, clock_of};
 ghost use Rattle.rga_ops.specs.Answer.{answer};

@@ -1,14 +1,12 @@
-use Rattle.std.proofs.Common.{◌≡◌, ◌≤◌, ◌<◌, ◌+◌, ◌++◌, ◌∷◌, List, [], length, take, slice_index_or, sym, ap, ◌∙◌, subst, arith, length-append}
+use Rattle.std.proofs.Common.{◌≡◌, ◌<◌, ◌+◌, ◌++◌, ◌∷◌, List, [], length, take, slice_index_or, sym, ap, ◌∙◌, subst, arith, length-append}
 use Rattle.rga_ops.specs.Content.{Content, IsSound, join, single, clock_of}
 use Rattle.rga_ops.specs.Answer.{answer}
-use Rattle.rga_ops.specs.Identifier.{is_root}
 use Rattle.rga_ops.specs.declared.op.Op.{Op}
 use Rattle.rga_ops.specs.declared.op.Op.TheVariants.{Insert}
 use Rattle.rga_ops.specs.declared.refusal.Taken.TheVariants.{New}
 use Rattle.rga_ops.proofs.AnswerLaws.{ok}
 use Rattle.rga_store.specs.Kept.{Kept}
 use Rattle.rga_sequence.specs.declared.entry.Entry.{Entry}
-use Rattle.rga_flat.specs.declared.steps.Step.{Step}
 use Rattle.rga_flat.specs.Chains.{IsGathered, ChainShows}
 use Rattle.rga_flat.proofs.ChainLaws.{last_of, last_of-push, gathered_next, shows_more, own_proper, own_above}
 use Rattle.rga_flat.proofs.chains.gather.Goals as goal

@@ -1,5 +1,4 @@
-use Rattle.std.proofs.Common.{◌≡◌, ◌<◌, ◌++◌, ◌∷◌, [], length, take, drop, sym, ap, ◌∙◌, subst}
-use Rattle.rga_store.specs.Without.{without}
+use Rattle.std.proofs.Common.{◌<◌, ◌++◌, ◌∷◌, [], length, take, drop, sym, ap, ◌∙◌, subst}
 use Rattle.rga_flat.specs.Back.{gone_back, CanGoBack, IsLastStep}
 use Rattle.rga_flat.proofs.BackLaws.{last_step}
 use Rattle.rga_flat.proofs.ChainLaws.{left_gone, left_kept}
