@@ -128,7 +128,8 @@ impl<S: TextStore> Workspace<S> {
 
     /// Opens a buffer by what was found under its name, as `VisitedBuffer::load` does, with the
     /// replica and the limit of the workspace; its saves append runs, and its exchanges are brief,
-    /// where those of the first buffer do and are. Answers how its log ends. It is current then, and the current window shows it.
+    /// where those of the first buffer do and are. Answers how its log ends. It is current then,
+    /// and the current window shows it.
     ///
     /// Faults: those of `VisitedBuffer::load`, and nothing changes then.
     pub fn open(&mut self, name: String, found: Found) -> Result<LogEnd, LoadFault>

@@ -1,11 +1,11 @@
 -- What is heard of claims, as they are read.
-use Rattle.std.proofs.Common.{◌≡◌, ℕ, ◌+◌, ◌<◌, ◌≤◌, cond, List, [], ◌∷◌, ◌++◌, length, refl, sym, ap, ◌∙◌, subst, append_assoc, append-nil, arith}
-use Rattle.std.specs.Prelude.{Option, Result, Ok, Err}
+use Rattle.std.proofs.Common.{◌≡◌, ℕ, ◌+◌, ◌≤◌, cond, List, [], ◌∷◌, ◌++◌, length, refl, sym, ap, ◌∙◌, append_assoc, append-nil, arith}
+use Rattle.std.specs.Prelude.{Option, Result, Err}
 use Rattle.std.specs.Io.KnownBytes.{Consumes, IsAtEnd}
 use Rattle.std.proofs.KnownBytes.{Consumes-nil, Consumes-trans, Consumes-whole}
 use Rattle.std.proofs.lemmas.Bool.{lt-ltb, le-ltb}
 use Rattle.rga_lines.specs.Counting.{Calls, OnBytes}
-use Rattle.rga_lines.specs.Stream.{BeginsLong, Splitting, lines_of, rest_of}
+use Rattle.rga_lines.specs.Stream.{BeginsLong, Splitting, lines_of}
 use Rattle.rga_lines.specs.declared.reading.TheConstants.{MAX_LINE}
 use Rattle.rga_lines.specs.declared.fault.LineFault.{LineFault}
 use Rattle.rga_lines.specs.declared.fault.LineFault.TheVariants as line_fault
@@ -15,7 +15,7 @@ use Rattle.rga_exchange.specs.declared.fault.ReceiveFault.TheVariants as fault
 use Rattle.rga_exchange.proofs.ReadLaws.{on_all}
 use Rattle.rga_digest.specs.Summary.{Summary}
 use Rattle.rga_digest_lines.specs.declared.claim.Claim.{Claim}
-use Rattle.rga_brief.specs.Heard.{ReadsToBlock, HasHeard}
+use Rattle.rga_brief.specs.Heard.{HasHeard}
 use Rattle.rga_brief.specs.Lines.{claim_line_at}
 use Rattle.rga_brief.proofs.LineLaws.{too_long}
 use Rattle.rga_brief.specs.Told.{after_line, lines_heard, bytes_heard, summary_heard}

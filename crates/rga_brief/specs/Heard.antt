@@ -1,5 +1,5 @@
 -- What was read of a peer's claims, and what it led to.
-use Rattle.std.specs.Prelude.{◌≡◌, ℕ, ◌≤◌, List, [], ◌++◌, length, Option, Err}
+use Rattle.std.specs.Prelude.{◌≡◌, ℕ, ◌≤◌, List, ◌++◌, length, Option, Err}
 use Rattle.std.specs.Io.KnownBytes.{Consumes}
 use Rattle.rga_lines.specs.Counting.{Calls}
 use Rattle.rga_exchange.specs.declared.fault.ReceiveFault.TheVariants.{Cut}

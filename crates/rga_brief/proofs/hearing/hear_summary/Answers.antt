@@ -2,8 +2,7 @@ use Rattle.std.proofs.Common.{◌≡◌, ◌∙◌, ◌++◌, ap, take, arith, r
 use Rattle.std.proofs.lemmas.List.{length-take}
 use Rattle.rga_lines.specs.Stream.{Splitting, holds}
 use Rattle.rga_lines.proofs.SplitterLemmas.{fed_holds}
-use Rattle.rga_brief.specs.Heard.{HasHeard}
-use Rattle.rga_brief.proofs.HearingLaws.{heard_nothing, heard_lines, heard_piece, heard_all, heard_to_end}
+use Rattle.rga_brief.proofs.HearingLaws.{heard_nothing, heard_lines, heard_piece, heard_to_end}
 use Rattle.rga_brief.proofs.hearing.hear_summary.Goals as goal
 
 pub reads-init : goal.reads-init
