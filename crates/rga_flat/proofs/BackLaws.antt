@@ -27,25 +27,25 @@ use Rattle.rga_flat.proofs.UndoLaws.{going_insertion, going_deletion, going_end}
 
 -- ---- steps
 
-pub gone_back-push : (ss : List Step) (s : Step) (c : Content) → gone_back (ss ++ s ∷ []) c ≡ gone_back ss (without s.op c)
+pub gone_back-push : (ss : List Step) (s : Step) (c : Content) → gone_back (ss ++ s ∷ []) c ≡ gone_back ss (without s.op.now c)
 gone_back-push [] s c = refl
-gone_back-push (t ∷ ss) s c = ap (without t.op) (gone_back-push ss s c)
+gone_back-push (t ∷ ss) s c = ap (without t.op.now) (gone_back-push ss s c)
 
-pub last_step : (ss : List Step) (s : Step) (c : Content) → CanGoBack (ss ++ s ∷ []) c → IsLastStep ss s.op s.clock c
+pub last_step : (ss : List Step) (s : Step) (c : Content) → CanGoBack (ss ++ s ∷ []) c → IsLastStep ss s.op.now s.clock c
 last_step [] s c h = record { held = h.1.0; clocked = h.1.1; rest = tt }
 last_step (t ∷ ss) s c h =
-    let last : IsLastStep ss s.op s.clock c = last_step ss s c h.0 in
+    let last : IsLastStep ss s.op.now s.clock c = last_step ss s c h.0 in
     record {
       held = last.held;
       clocked = last.clocked;
-      rest = (last.rest, subst (λ d. Holds d t.op × (t.clock ≡ clock_of (without t.op d))) (gone_back-push ss s c) h.1);
+      rest = (last.rest, subst (λ d. Holds d t.op.now × (t.clock ≡ clock_of (without t.op.now d))) (gone_back-push ss s c) h.1);
     }
 
-pub one_step_more : (ss : List Step) (s : Step) (c : Content) → IsLastStep ss s.op s.clock c → CanGoBack (ss ++ s ∷ []) c
+pub one_step_more : (ss : List Step) (s : Step) (c : Content) → IsLastStep ss s.op.now s.clock c → CanGoBack (ss ++ s ∷ []) c
 one_step_more [] s c last = (tt, (last.held, last.clocked))
 one_step_more (t ∷ ss) s c last = (
   one_step_more ss s c (record { held = last.held; clocked = last.clocked; rest = last.rest.0 }),
-  subst (λ d. Holds d t.op × (t.clock ≡ clock_of (without t.op d))) (sym (gone_back-push ss s c)) last.rest.1,
+  subst (λ d. Holds d t.op.now × (t.clock ≡ clock_of (without t.op.now d))) (sym (gone_back-push ss s c)) last.rest.1,
 )
 
 module _ (limit : ℕ) (n m : Content) (op : Op) (answered : answer limit n op ≡ Ok New) (joined : m ≡ join n (single op)) where
@@ -79,7 +79,7 @@ without_within (Delete id) c = record {
 
 pub gone_within : (ss : List Step) (c : Content) → IsWithin (gone_back ss c) c
 gone_within [] c = record { inserted = λ k x g. g; deleted = λ k h. h }
-gone_within (s ∷ ss) c = within_chain (without s.op (gone_back ss c)) (gone_back ss c) c (without_within s.op (gone_back ss c)) (gone_within ss c)
+gone_within (s ∷ ss) c = within_chain (without s.op.now (gone_back ss c)) (gone_back ss c) c (without_within s.op.now (gone_back ss c)) (gone_within ss c)
 
 -- ---- an operation goes
 

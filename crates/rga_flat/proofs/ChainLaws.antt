@@ -62,24 +62,25 @@ gathered_none limit c steps back = record {
   gone = refl;
 }
 
-pub gathered_more : (limit : ℕ) (base c d : Content) (op : Op) (ops : List Op) (before steps : List Step) → IsGathered limit base c ops before steps → answer limit c op ≡ Ok New → d ≡ join c (single op)
-    → IsGathered limit base d (ops ++ op ∷ []) before (steps ++ record { op = op; clock = clock_of c } ∷ [])
-gathered_more limit base c d op ops before steps g answered joined =
-    let step : Step = record { op = op; clock = clock_of c } in
+pub gathered_more : (limit : ℕ) (base c d : Content) (step : Step) (ops : List Op) (before steps : List Step) → IsGathered limit base c ops before steps → answer limit c step.op.now ≡ Ok New → d ≡ join c (single step.op.now) → step.clock ≡ clock_of c
+    → IsGathered limit base d (ops ++ step.op.now ∷ []) before (steps ++ step ∷ [])
+gathered_more limit base c d step ops before steps g answered joined clocked =
+    let op = step.op.now in
     record {
       taken = taken_on limit base c ops (op ∷ []) g.taken ∙ ap (λ r. and_take (after_answer c op r) (λ e. Ok e)) answered ∙ ap (λ e. Ok e) (sym joined);
       within = within_chain base c d g.within (subst (λ e. IsWithin c e) (sym joined) (within_join c (single op)));
-      back = one_step_more steps step d (last_taken limit c d op answered joined steps (clock_of c) refl g.back);
+      back = one_step_more steps step d (last_taken limit c d op answered joined steps step.clock clocked g.back);
       own = g.own ++ step ∷ [];
       noted = ap (λ ss. ss ++ step ∷ []) g.noted ∙ append_assoc before g.own (step ∷ []);
       gone = gone_back-push g.own step d ∙ ap (gone_back g.own) (without_taken limit c d op answered joined) ∙ g.gone;
     }
 
-pub gathered_next : (limit : ℕ) (base c d : Content) (op item : Op) (ops : List Op) (i : ℕ) (before steps : List Step) → IsGathered limit base c (take i ops) before steps → i < length ops → item ≡ slice_index_or ops i item → item ≡ op
-    → answer limit c op ≡ Ok New → d ≡ join c (single op) → IsGathered limit base d (take (i + 1) ops) before (steps ++ record { op = op; clock = clock_of c } ∷ [])
-gathered_next limit base c d op item ops i before steps g w is same answered joined =
-    subst (λ xs. IsGathered limit base d xs before (steps ++ record { op = op; clock = clock_of c } ∷ [])) (sym (take_more ops i item w ∙ ap (λ x. take i ops ++ x ∷ []) (sym is ∙ same)))
-    (gathered_more limit base c d op (take i ops) before steps g answered joined)
+pub gathered_next : (limit : ℕ) (base c d : Content) (step : Step) (item : Op) (ops : List Op) (i : ℕ) (before steps later : List Step) → later ≡ steps ++ step ∷ [] → IsGathered limit base c (take i ops) before steps → i < length ops → item ≡ slice_index_or ops i item → item ≡ step.op.now
+    → answer limit c step.op.now ≡ Ok New → d ≡ join c (single step.op.now) → step.clock ≡ clock_of c → IsGathered limit base d (take (i + 1) ops) before later
+gathered_next limit base c d step item ops i before steps later noted g w is same answered joined clocked =
+    subst (λ ss. IsGathered limit base d (take (i + 1) ops) before ss) (sym noted)
+    (subst (λ xs. IsGathered limit base d xs before (steps ++ step ∷ [])) (sym (take_more ops i item w ∙ ap (λ x. take i ops ++ x ∷ []) (sym is ∙ same)))
+    (gathered_more limit base c d step (take i ops) before steps g answered joined clocked))
 
 -- where the next one leads
 pub next_taken : (limit : ℕ) (base c d : Content) (item : Op) (ops : List Op) (i : ℕ) → taken_one_by_one limit base (take i ops) ≡ Ok c → i < length ops → item ≡ slice_index_or ops i item → taken limit c item ≡ Ok d → taken_one_by_one limit base (take (i + 1) ops) ≡ Ok d
@@ -135,7 +136,7 @@ pub gathered_before : (limit : ℕ) (base c : Content) (ops : List Op) (before s
 gathered_before limit base c ops before steps n is g = (λ i. take (is i) (g.noted i)) ∙ take_front before g.own
 
 -- one step less behind those that stay
-pub left_gone : (from : ℕ) (ss : List Step) (s : Step) (c : Content) → from < length (ss ++ s ∷ []) → gone_back (drop from ss) (without s.op c) ≡ gone_back (drop from (ss ++ s ∷ [])) c
+pub left_gone : (from : ℕ) (ss : List Step) (s : Step) (c : Content) → from < length (ss ++ s ∷ []) → gone_back (drop from ss) (without s.op.now c) ≡ gone_back (drop from (ss ++ s ∷ [])) c
 left_gone from ss s c w =
     let many : length (ss ++ s ∷ []) ≡ length ss + 1 = length-append ss (s ∷ []) in
     sym (ap (λ ts. gone_back ts c) (drop-append-le from ss (s ∷ []) (omega (arith, many, w))) ∙ gone_back-push (drop from ss) s c)

@@ -8,12 +8,12 @@ use Rattle.rga_flat.specs.declared.steps.Step.{Step}
 -- what is left once the operations of the steps are removed, the last first
 abbrev pub gone_back : List Step → Content → Content
 gone_back [] c = c
-gone_back (s ∷ ss) c = without s.op (gone_back ss c)
+gone_back (s ∷ ss) c = without s.op.now (gone_back ss c)
 
 -- the content holds each step's operation when its turn comes, and the step's clock is that of what is left then
 abbrev pub CanGoBack : List Step → Content → Type 0
 CanGoBack [] c = Unit {0}
-CanGoBack (s ∷ ss) c = CanGoBack ss c × (Holds (gone_back ss c) s.op × (s.clock ≡ clock_of (without s.op (gone_back ss c))))
+CanGoBack (s ∷ ss) c = CanGoBack ss c × (Holds (gone_back ss c) s.op.now × (s.clock ≡ clock_of (without s.op.now (gone_back ss c))))
 
 -- the operation was the last one, with the clock before it, and those of the steps before it can be removed after it
 pub record IsLastStep (ss : List Step) (op : Op) (before : ℕ) (c : Content) : Type 0 where

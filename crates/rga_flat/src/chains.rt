@@ -24,14 +24,14 @@ use std::collections::{BTreeMap, BTreeSet};
 /// they are new, wait for nothing and nothing waits for them, and answers how many: none where it
 /// does not begin with two such, and not more than may be put at once. `Memory` alone, which changes
 /// nothing.
-pub(crate) fn take_chain(
+pub(crate) fn take_chain<'a>(
     alloc: Global,
     records: &mut Records,
     sequence: &mut Sequence,
     waiting: &BTreeMap<Id, Vec<Id>>,
     done: &BTreeSet<Id>,
-    ops: &[Op],
-    steps: &mut Vec<Step>,
+    ops: &'a [Op],
+    steps: &mut Vec<Step<'a>>,
 ) -> Result<usize, Refusal>
     requires back { CanGoBack steps.old.items records.old.content }
     requires flat { IsFlat records.old.content sequence.old
@@ -88,13 +88,13 @@ fn parent_of_chain(ops: &[Op]) -> Option<Id> {
 
 /// Takes insertions into the records, the first behind a parent and each other behind the one before
 /// it, and notes them. `Memory` alone; those before stay.
-fn gather(
+fn gather<'a>(
     records: &mut Records,
     waiting: &BTreeMap<Id, Vec<Id>>,
     parent: Id,
     name: usize,
-    ops: &[Op],
-    steps: &mut Vec<Step>,
+    ops: &'a [Op],
+    steps: &mut Vec<Step<'a>>,
     entries: &mut Vec<Entry>,
 ) -> Result<(), Refusal>
     requires back { CanGoBack steps.old.items records.old.content }
@@ -118,7 +118,7 @@ fn gather(
             return Ok(());
         };
         let _before = records.known();
-        add(records, last, name, &entry, steps, entries)?;
+        add(records, last, name, op, &entry, steps, entries)?;
         let _now = records.known();
         last = entry.id;
     }
@@ -164,14 +164,16 @@ fn next_entry(
 
 /// Takes an insertion that is new into the records, and notes it. `Memory` alone, which changes
 /// nothing.
-fn add(
+fn add<'a>(
     records: &mut Records,
     parent: Id,
     name: usize,
+    op: &'a Op,
     entry: &Entry,
-    steps: &mut Vec<Step>,
+    steps: &mut Vec<Step<'a>>,
     entries: &mut Vec<Entry>,
 ) -> Result<(), Refusal>
+    requires op { op.now ≡ Op.Insert entry.now.id parent entry.now.ch }
     requires new { answer records.old.limit records.old.content
         (Op.Insert entry.now.id parent entry.now.ch) ≡ Ok Taken.New }
     requires deleted { entry.now.deleted
@@ -179,7 +181,7 @@ fn add(
     ensures ok { OnOk result (records.new.content
         ≡ join records.old.content (single (Op.Insert entry.now.id parent entry.now.ch))) }
     ensures steps { OnOk result (steps.new.items ≡ steps.old.items ++ record {
-      op = Op.Insert entry.now.id parent entry.now.ch;
+      op = op.entry;
       clock = clock_of records.old.content;
     } ∷ []) }
     ensures entries { OnOk result (entries.new.items ≡ entries.old.items ++ entry.now ∷ []) }
@@ -193,12 +195,7 @@ fn add(
     steps.reserve(1)?;
     let clock = records.clock();
     records.insert(entry.id, parent, entry.ch, name, entry.deleted)?;
-    let op = Op::Insert {
-        id: entry.id,
-        parent,
-        ch: entry.ch,
-    };
-    note(steps, &op, clock);
+    note(steps, op, clock);
     let _room = entries.push(*entry);
     Ok(())
 }
@@ -236,7 +233,7 @@ fn put_chain(
 }
 
 /// The operations of the steps from one on leave the records, the last first. Takes no memory.
-fn remove_from(records: &mut Records, steps: &mut Vec<Step>, from: usize)
+fn remove_from(records: &mut Records, steps: &mut Vec<Step<'_>>, from: usize)
     requires { CanGoBack steps.old.items records.old.content }
     ensures content { records.new.content
         ≡ gone_back (drop from steps.old.items) records.old.content }
@@ -245,7 +242,7 @@ fn remove_from(records: &mut Records, steps: &mut Vec<Step>, from: usize)
 {
     while steps.as_slice().len() > from {
         match steps.pop() {
-            Some(step) => records.remove(&step.op, step.clock),
+            Some(step) => records.remove(step.op, step.clock),
             None => unreachable!(),
         }
     }

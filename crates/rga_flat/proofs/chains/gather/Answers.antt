@@ -1,4 +1,4 @@
-use Rattle.std.proofs.Common.{◌≡◌, ◌<◌, ◌+◌, ◌++◌, ◌∷◌, List, [], length, take, slice_index_or, sym, ap, ◌∙◌, subst, arith, length-append}
+use Rattle.std.proofs.Common.{◌≡◌, ◌<◌, ◌+◌, ◌∷◌, List, [], length, take, slice_index_or, refl, sym, ap, ◌∙◌, subst, arith, length-append}
 use Rattle.rga_ops.specs.Content.{Content, IsSound, join, single, clock_of}
 use Rattle.rga_ops.specs.Answer.{answer}
 use Rattle.rga_ops.specs.declared.op.Op.{Op}
@@ -32,18 +32,18 @@ loop-op-preserved c =
     let joined : now ≡ join was (single op) = c.in_ok-add.ensures.ok ∙ ap (λ (r : Kept). join r.content (single op)) c.next_entry.ensures.same in
     let sound : IsSound was = subst (λ (r : Kept). IsSound r.content) c.next_entry.ensures.same c.known-before.ensures.sound in
     let more : length c.add.new.entries.items ≡ length es + 1 = ap length c.in_ok-add.ensures.entries ∙ length-append es (e ∷ []) in
-    let noted : c.add.new.steps.items ≡ c.loop-op.steps.items ++ record { op = op; clock = clock_of was } ∷ [] =
-    c.in_ok-add.ensures.steps ∙ ap (λ (r : Kept). c.loop-op.steps.items ++ record { op = op; clock = clock_of r.content } ∷ []) c.next_entry.ensures.same in
     let room : c.loop-op.op-index < length c.args.ops.now = c.loop-op-test.true in
     record {
       count = omega (arith, more, c.loop-op.invariant.count);
       few = omega (arith, more, ap length c.as_slice.ensures.value, c.if-as_slice-ge-MOST_AT_ONCE.false);
       gathered =
           subst (λ n. IsGathered c.args.records.now.limit c.args.records.now.content now (take n c.args.ops.now) c.args.steps.now.items c.add.new.steps.items) (sym more)
-          (subst (λ ss. IsGathered c.args.records.now.limit c.args.records.now.content now (take (length es + 1) c.args.ops.now) c.args.steps.now.items ss) (sym noted)
-          (gathered_next c.args.records.now.limit c.args.records.now.content was now op c.op-item.result c.args.ops.now (length es) c.args.steps.now.items c.loop-op.steps.items c.loop-op.invariant.gathered
-          (omega (arith, room, c.loop-op.invariant.count)) (c.op-item.is ∙ ap (λ n. slice_index_or c.args.ops.now n c.op-item.result) (sym c.loop-op.invariant.count)) c.in-Some.ensures.op
-          (subst (λ n. answer n was op ≡ ok New) c.loop-op.invariant.limit answered) joined));
+          (gathered_next c.args.records.now.limit c.args.records.now.content was now _ c.op-item.result c.args.ops.now (length es) c.args.steps.now.items c.loop-op.steps.items c.add.new.steps.items
+          c.in_ok-add.ensures.steps c.loop-op.invariant.gathered
+          (omega (arith, room, c.loop-op.invariant.count)) (c.op-item.is ∙ ap (λ n. slice_index_or c.args.ops.now n c.op-item.result) (sym c.loop-op.invariant.count)) refl
+          (subst (λ n. answer n was c.op-item.result ≡ ok New) c.loop-op.invariant.limit c.in-Some.ensures.new)
+          (subst (λ o. now ≡ join was (single o)) (sym c.in-Some.ensures.op) joined)
+          (ap (λ (r : Kept). clock_of r.content) c.next_entry.ensures.same));
       shows = subst (λ xs. ChainShows c.args.records.now.content now c.args.parent xs c.args.waiting.now) (sym c.in_ok-add.ensures.entries)
           (shows_more c.loop-op.records.limit was now c.loop-op.last e sound c.known-now.ensures.sound answered joined c.loop-op.invariant.above
           c.args.waiting.now c.in-Some.ensures.deleted c.in-Some.ensures.unlisted c.args.records.now.content c.args.parent es c.loop-op.invariant.last c.loop-op.invariant.proper c.loop-op.invariant.shows);

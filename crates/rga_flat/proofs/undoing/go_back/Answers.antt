@@ -32,10 +32,10 @@ undo-requires-clause-clock c =
 
 pub loop-step-preserved : goal.loop-step-preserved
 loop-step-preserved c =
-    let was_last : IsLastStep c.pop.new.self.items c.in-Some.step.op c.in-Some.step.clock c.loop-step.records.content =
+    let was_last : IsLastStep c.pop.new.self.items c.in-Some.step.op.now c.in-Some.step.clock c.loop-step.records.content =
     last_step c.pop.new.self.items c.in-Some.step c.loop-step.records.content (subst (λ ss. CanGoBack ss c.loop-step.records.content) c.in-Some.ensures.items c.loop-step.invariant.left) in
     let base : Content = gone_back c.args.steps.items c.args.records.now.content in
-    let then : gone_back c.pop.new.self.items (without c.in-Some.step.op c.loop-step.records.content) ≡ base =
+    let then : gone_back c.pop.new.self.items (without c.in-Some.step.op.now c.loop-step.records.content) ≡ base =
     sym (gone_back-push c.pop.new.self.items c.in-Some.step c.loop-step.records.content)
     ∙ ap (λ ss. gone_back ss c.loop-step.records.content) (sym c.in-Some.ensures.items) ∙ c.loop-step.invariant.start in
     record {
@@ -43,10 +43,10 @@ loop-step-preserved c =
       left = subst (λ d. CanGoBack c.pop.new.self.items d) (sym c.undo.ensures.content) was_last.rest;
       start = ap (gone_back c.pop.new.self.items) c.undo.ensures.content ∙ then;
       going = subst (λ d. IsGoingBack c.args.records.now.content base d c.undo.new.sequence (under c.undo.new.waiting) (has_list c.undo.new.waiting) (contains id_cmp c.args.done.now)) (sym c.undo.ensures.content)
-          (subst (λ es. IsGoingBack c.args.records.now.content base (without c.in-Some.step.op c.loop-step.records.content) es (under c.undo.new.waiting) (has_list c.undo.new.waiting) (contains id_cmp c.args.done.now)) (sym c.undo.ensures.entries)
-          (going_undone c.in-Some.step.op c.args.records.now.content base c.loop-step.records.content c.loop-step.sequence (under c.loop-step.waiting) (under c.undo.new.waiting) (has_list c.loop-step.waiting) (has_list c.undo.new.waiting) (contains id_cmp c.args.done.now)
+          (subst (λ es. IsGoingBack c.args.records.now.content base (without c.in-Some.step.op.now c.loop-step.records.content) es (under c.undo.new.waiting) (has_list c.undo.new.waiting) (contains id_cmp c.args.done.now)) (sym c.undo.ensures.entries)
+          (going_undone c.in-Some.step.op.now c.args.records.now.content base c.loop-step.records.content c.loop-step.sequence (under c.loop-step.waiting) (under c.undo.new.waiting) (has_list c.loop-step.waiting) (has_list c.undo.new.waiting) (contains id_cmp c.args.done.now)
           c.loop-step.invariant.going was_last.held
-          (subst (λ d. IsWithin d (without c.in-Some.step.op c.loop-step.records.content)) then (gone_within c.pop.new.self.items (without c.in-Some.step.op c.loop-step.records.content)))
+          (subst (λ d. IsWithin d (without c.in-Some.step.op.now c.loop-step.records.content)) then (gone_within c.pop.new.self.items (without c.in-Some.step.op.now c.loop-step.records.content)))
           c.undo.ensures.under c.undo.ensures.lists));
     }
 
