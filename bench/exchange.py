@@ -12,7 +12,8 @@ hand may name another mgr, and fewer operations.
 
 A second table is of brief exchanges of two notes that have one log, which is on the disk before they
 begin, but for 50 characters that each typed: the milliseconds by the clock, saves included, and, of
-another exchange through a relay that counts them, the bytes of both ways. One note is as it was typed, of another a tenth was deleted.
+another exchange through a relay that counts them, the bytes of both ways. One note is as it was
+typed, of another a tenth was deleted.
 """
 
 import argparse
