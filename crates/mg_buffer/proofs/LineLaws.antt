@@ -4,7 +4,7 @@ use Rattle.std.proofs.lemmas.List.{length-take}
 use Rattle.std.proofs.lemmas.List.Sums.{sum_by-take-drop, sum_by-take-le, count_by-le-length}
 use Rattle.std.proofs.Math.Nat.{min-le_left, min-le_right, min-eq_left}
 use Rattle.rga_ops.specs.Splice.{Splice, spliced, text_after}
-use Rattle.mg_plain.specs.Characters.{is_newline}
+use Rattle.mg_text.specs.Characters.{is_newline}
 use Rattle.mg_buffer.specs.declared.line_numbers.KnownLine.{KnownLine}
 use Rattle.mg_buffer.specs.Kept.{IsLine}
 use Rattle.mg_buffer.specs.LineNumbers.{line_of, least_begin}

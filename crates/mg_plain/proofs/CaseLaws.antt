@@ -4,7 +4,7 @@ use Rattle.std.specs.List.{prefix_len, slice_index, take_while}
 use Rattle.std.proofs.lemmas.Bool.{eq-eqb}
 use Rattle.rga_ops.specs.Splice.{Splice}
 use Rattle.mg_plain.specs.Cases.{character_splices}
-use Rattle.mg_plain.specs.Effect.{splice}
+use Rattle.mg_text.specs.Splices.{splice}
 use Rattle.mg_plain.proofs.MatchLaws.{front}
 
 -- the last of these characters stays

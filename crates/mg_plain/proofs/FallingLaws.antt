@@ -6,10 +6,11 @@ use Rattle.std.proofs.lemmas.Bool.{cases_Bool, le-leb, leb-true}
 use Rattle.std.proofs.lemmas.List.{reverse-append}
 use Rattle.std.proofs.lemmas.Option.{none-some, same_Some}
 use Rattle.rga_ops.specs.Splice.{Splice, are_falling, text_after}
-use Rattle.mg_plain.specs.Effect.{Effect, carried_place, edit_effect, motion, one_splice, place_after, splice}
+use Rattle.mg_plain.specs.Effect.{Effect, carried_place, edit_effect, motion, one_splice, place_after}
+use Rattle.mg_text.specs.Splices.{splice}
 use Rattle.mg_plain.specs.Replacement.{last_end, replacement}
 use Rattle.mg_plain.specs.Situation.{IsView, Situation}
-use Rattle.mg_plain.specs.Spans.{AreRising, Span}
+use Rattle.mg_text.specs.Spans.{AreRising, Span}
 
 -- splices that fall and keep apart, in parts
 abbrev pub AreFalling : ℕ → List Splice → Type 0

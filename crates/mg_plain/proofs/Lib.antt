@@ -1,12 +1,6 @@
-pub mod ScanLaws
 pub mod StepLaws
 pub mod MatchLaws
 pub mod ReplacementLaws
-pub mod GapLaws
 pub mod CaseLaws
-pub mod RangeLaws
-pub mod WordLaws
 pub mod FallingLaws
 pub mod EffectLaws
-pub mod BlankLaws
-pub mod LayoutLaws

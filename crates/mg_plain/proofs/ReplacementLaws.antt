@@ -2,18 +2,12 @@
 use Rattle.std.proofs.Common.{List, None, Option, Some, [], ap, append-nil, append_assoc, arith, false, if◌then◌else◌, length, map, nat_eq, ne_eqb, option_map, refl, reverse, suc, sym, true, true≢false, zero, ℕ, ◌++◌, ◌+◌, ◌-◌, ◌<◌, ◌∙◌, ◌∷◌, ◌≡◌, ◌≤◌}
 use Rattle.std.proofs.lemmas.List.{map_push}
 use Rattle.rga_ops.specs.Splice.{Splice}
-use Rattle.mg_plain.specs.Effect.{splice}
+use Rattle.mg_text.specs.Splices.{splice}
 use Rattle.mg_plain.specs.Matches.{first_match, match_at, match_count, matches, next_match, stands_at}
 use Rattle.mg_plain.specs.Replacement.{all_matches, current_match, last_end, replacement, replacements}
-use Rattle.mg_plain.specs.Spans.{Span, chain}
-use Rattle.mg_plain.proofs.ScanLaws.{found_nowhere}
-
-pub chain_more : (find : ℕ → Option Span) (most from : ℕ) (s : Span) → find from ≡ Some s → chain find (suc most) from ≡ s ∷ chain find most s.hi
-chain_more find most from s h = ap (λ (o : Option Span). elim o [ None ↦ [] | Some r ↦ r ∷ chain find most r.hi ]) h
-
-pub chain_ends : (find : ℕ → Option Span) (most from : ℕ) → find from ≡ None → chain find most from ≡ []
-chain_ends find zero from h = refl
-chain_ends find (suc most) from h = ap (λ (o : Option Span). elim o [ None ↦ [] | Some r ↦ r ∷ chain find most r.hi ]) h
+use Rattle.mg_text.specs.Spans.{Span, chain}
+use Rattle.mg_text.proofs.RangeLaws.{chain_ends, chain_more}
+use Rattle.mg_text.proofs.ScanLaws.{found_nowhere}
 
 last_end-push : (q : ℕ) (spans : List Span) (s : Span) → last_end q (spans ++ s ∷ []) ≡ s.hi
 last_end-push q [] s = refl

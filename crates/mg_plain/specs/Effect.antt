@@ -6,6 +6,7 @@ use Rattle.rga_ops.specs.Splice.{Splice, text_after, are_falling}
 use Rattle.mg_plain.specs.declared.view.Kind.{Kind}
 use Rattle.mg_plain.specs.declared.view.Kind.TheVariants.{Plain}
 use Rattle.mg_plain.specs.Situation.{Situation}
+use Rattle.mg_text.specs.Splices.{splice}
 
 -- the splices, falling; point and mark in the new text; what goes into the kill buffer, if anything does; goal and kind
 pub record Effect : Type 0 where
@@ -15,9 +16,6 @@ pub record Effect : Type 0 where
   pub kill : Option (List ℕ)
   pub goal : ℕ
   pub kind : Kind
-
-abbrev pub splice : ℕ → ℕ → List ℕ → Splice
-splice lo hi put = record { lo = lo; hi = hi; put = put }
 
 -- that splice, or none where nothing goes and nothing comes
 abbrev pub one_splice : ℕ → ℕ → List ℕ → List Splice

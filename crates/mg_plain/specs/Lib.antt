@@ -1,10 +1,7 @@
-pub mod Scans
-pub mod Spans
 pub mod Situation
 pub mod Effect
 pub mod Answer
 pub mod NoticeMessage
-pub mod Characters
 pub mod Lines
 pub mod Words
 pub mod Steps
@@ -15,8 +12,6 @@ pub mod Kills
 pub mod Mark
 pub mod Cases
 pub mod Replacement
-pub mod Paragraphs
 pub mod Filling
-pub mod Layout
 pub mod Commands
 pub mod Examples

@@ -5,10 +5,11 @@ ghost use Rattle.mg_plain.specs.Answer.{IsAnswer};
 ghost use Rattle.mg_plain.specs.Cases as spec;
 
 use crate::characters::{lower, upper};
-use crate::edit::{edit, splice};
+use crate::edit::edit;
 use crate::outcome::{Notice, Plan};
 use crate::view::View;
 use crate::words::{has_word_character, word_end};
+use mg_text::splice;
 use rga_ops::Splice;
 use std::alloc::{AllocError, Global};
 

@@ -1,37 +1,13 @@
 //! Splices, and what they do to places.
 ghost use Rattle.std.specs.Prelude.{◌≡◌, ◌≤◌, ◌+◌, ◌^◌, length, None, IfSome, IfOk, IfErr};
 ghost use Rattle.rga_ops.specs.Splice.{new_characters};
-ghost use Rattle.mg_plain.specs.Effect.{splice, one_splice, carried_place, place_after, edit_effect};
+ghost use Rattle.mg_text.specs.Splices.{splice};
+ghost use Rattle.mg_plain.specs.Effect.{one_splice, carried_place, place_after, edit_effect};
 
 use crate::outcome::Plan;
 use crate::view::{Kind, View};
 use rga_ops::Splice;
 use std::alloc::{AllocError, Global};
-
-/// A copy of characters.
-pub(crate) fn copy(alloc: Global, chars: &[char]) -> Result<Vec<char>, AllocError>
-    ensures { IfOk result (λ v. v.items ≡ chars.now) }
-{
-    let mut copy = Vec::new(alloc);
-    copy.extend_from_slice(chars)?;
-    Ok(copy)
-}
-
-/// The splice that puts a copy of those characters there.
-pub(crate) fn splice(
-    alloc: Global,
-    lo: usize,
-    hi: usize,
-    put: &[char],
-) -> Result<Splice, AllocError>
-    ensures { IfOk result (λ s. s ≡ splice lo hi put.now) }
-{
-    Ok(Splice {
-        lo,
-        hi,
-        put: copy(alloc, put)?,
-    })
-}
 
 /// Where a place goes as a splice is done; none past the greatest number.
 fn carry(splice: &Splice, q: usize) -> Option<usize>

@@ -1,13 +1,13 @@
 //! Insertions at point.
 ghost use Rattle.std.specs.Prelude.{◌≡◌, ◌∷◌, replicate, take_while, IfOk};
-ghost use Rattle.mg_plain.specs.Characters.{is_blank, newline};
+ghost use Rattle.mg_text.specs.Characters.{is_blank, newline};
 ghost use Rattle.mg_plain.specs.Insertions as spec;
 
 use crate::characters::is_blank;
-use crate::edit::{change, copy};
-use crate::lines::line_begin;
+use crate::edit::change;
 use crate::outcome::Plan;
 use crate::view::View;
+use mg_text::{copy, line_begin};
 use std::alloc::{AllocError, Global};
 
 /// Characters at point, which stays.

@@ -4,11 +4,11 @@ ghost use Rattle.std.specs.Prelude.{◌≡◌, ◌≤◌, length, IfOk};
 ghost use Rattle.mg_plain.specs.Answer.{IsAnswer};
 ghost use Rattle.mg_plain.specs.Kills as spec;
 
-use crate::edit::{change, copy};
-use crate::lines::line_end;
+use crate::edit::change;
 use crate::outcome::{Notice, Plan};
 use crate::view::{Kind, View};
 use crate::words::word_end;
+use mg_text::{copy, line_end};
 use std::alloc::{AllocError, Global};
 
 fn delete(alloc: Global, view: &View<'_>, lo: usize, hi: usize) -> Result<Plan, AllocError>

@@ -13,6 +13,6 @@ pub use examples::{
     edits_of_a_line, kills_and_yanks, scrolls_over_five_lines, searches_replacements_and_filling,
     steps_over_words, the_goal_stays_over_a_short_line,
 };
-pub use filling::{filling_makes_the_layout, filling_touches_no_word, words_are_the_greatest_runs};
-pub use places::{places_in_words, scans_find_the_least_and_the_greatest};
+pub use filling::filling_touches_no_word;
+pub use places::places_in_words;
 pub use searches::searches_in_words;

@@ -3,10 +3,11 @@
 //! `plan` says what each command of mg(1) does to a text: which splices it makes, where point and
 //! mark go, what the kill buffer becomes; or the notice that is given instead. There is no replica,
 //! no key and no screen in sight, and nothing is changed: a plan is a value. The crate stands on
-//! rga_ops, for the splices alone. The layer above may rest on one equation: what `plan` answers is
-//! the `effect` of the command, a total function with one line a command, want of memory aside,
-//! which comes last. The laws say in words what that function is: least and greatest places, one
-//! layout of a paragraph's words, splices that fall within the text.
+//! mg_text for lines and the filling of a paragraph, and on rga_ops for the splices alone. The
+//! layer above may rest on one equation: what `plan` answers is the `effect` of the command, a
+//! total function with one line a command, want of memory aside, which comes last. The laws say in
+//! words what that function is: least and greatest places, filling that touches no word, splices
+//! that fall within the text.
 #![tactic(auto)]
 
 mod cases;
@@ -23,7 +24,6 @@ mod mark;
 mod matching;
 mod motions;
 mod outcome;
-mod paragraphs;
 mod planning;
 mod replacement;
 mod search;

@@ -3,10 +3,10 @@ ghost use Rattle.std.specs.Prelude.{◌≡◌, ◌≤◌, length, IfOk};
 ghost use Rattle.mg_plain.specs.Answer.{IsAnswer};
 ghost use Rattle.mg_plain.specs.Mark as spec;
 
-use crate::edit::copy;
 use crate::motions::move_to;
 use crate::outcome::{Notice, Plan};
 use crate::view::View;
+use mg_text::copy;
 use std::alloc::{AllocError, Global};
 
 fn mark_at(alloc: Global, view: &View<'_>, point: usize, mark: usize) -> Plan

@@ -3,10 +3,10 @@ ghost use Rattle.std.specs.Prelude.{◌≡◌, ◌≤◌, length};
 ghost use Rattle.mg_plain.specs.Effect.{motion};
 ghost use Rattle.mg_plain.specs.Motions as spec;
 
-use crate::lines::{line_begin, line_end};
 use crate::outcome::{Notice, Plan};
 use crate::steps::{Direction, Piece, step, steps, steps_up_to};
 use crate::view::{Kind, View};
+use mg_text::{line_begin, line_end};
 use std::alloc::Global;
 
 /// Point alone goes there.

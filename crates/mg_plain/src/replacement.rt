@@ -4,10 +4,11 @@ ghost use Rattle.mg_plain.specs.Answer.{IsAnswer};
 ghost use Rattle.mg_plain.specs.Effect.{edit_effect};
 ghost use Rattle.mg_plain.specs.Replacement as spec;
 
-use crate::edit::{carry_over, edit, splice};
+use crate::edit::{carry_over, edit};
 use crate::matching::{first_match, stands_at};
 use crate::outcome::{Notice, Plan};
 use crate::view::View;
+use mg_text::splice;
 use rga_ops::Splice;
 use std::alloc::{AllocError, Global};
 

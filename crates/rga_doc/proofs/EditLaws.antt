@@ -22,7 +22,9 @@ use Rattle.rga_ops.specs.declared.op.Op.TheVariants.{Insert, Delete}
 use Rattle.rga_ops.specs.declared.refusal.Refusal.TheVariants.{Full, Range}
 use Rattle.rga_ops.proofs.AnswerLaws.{passed, bad}
 use Rattle.rga_doc.specs.LocalEdit.{left_of, chain, splice_operations, splices_operations, draft_operations, room_answer, place_answer, counter_answer, edit_answer, splice_answer, splices_answer, new_ids, put_row_behind, order_after}
-use Rattle.rga_doc.proofs.SplicedLists.{cut, length-cut, same_begin, get_at_drop, same_left, put_no_row, put_row_on}
+use Rattle.rga_characters.proofs.FallingLaws.{falls_first}
+use Rattle.rga_characters.proofs.SplicedLists.{cut, length-cut, same_begin}
+use Rattle.rga_doc.proofs.SplicedLists.{get_at_drop, same_left, put_no_row, put_row_on}
 use Rattle.rga_doc.proofs.EditSteps.{Leads, leads_nowhere, leads_on, Shows, shows_itself, shows_on, shows_begin, shows_long, deletion_leads, deletion_shows, IsLeft, left_is, newer, insertion_leads, insertion_visible, insertion_shows, not_in_order}
 
 -- ---- deletions of visible elements in a row
@@ -182,18 +184,6 @@ splice_order limit replica lo hi c put h =
     ap order (sym s.0.leads.joined) ∙ s.0.stands
 
 -- ---- several splices in turn
-
--- the first of the splices keeps within the bound, and the others before it
-pub record Falls (s : Splice) (splices : List Splice) (bound : ℕ) : Type 0 where
-  pub up : s.lo ≤ s.hi
-  pub within : s.hi ≤ bound
-  pub further : are_falling s.lo splices ≡ true
-
-pub falls_first : (s : Splice) (splices : List Splice) (bound : ℕ) → are_falling bound (s ∷ splices) ≡ true → Falls s splices bound
-falls_first s splices bound h =
-    let parts = and_parts (nat_le s.lo s.hi && nat_le s.hi bound) (are_falling s.lo splices) h in
-    let places = and_parts (nat_le s.lo s.hi) (nat_le s.hi bound) parts.0 in
-    record { up = leb-true s.lo s.hi places.0; within = leb-true s.hi bound places.1; further = parts.1 }
 
 record SplicesAll (c : Content) (replica : ℕ) (splices : List Splice) : Type 0 where
   outcome : Content

@@ -15,8 +15,5 @@ pub mod UndoLaws
 pub mod UndoApart
 pub mod SplicedElements
 pub mod AnchorLaws
-pub mod AnewLaws
 pub mod ExcerptLaws
-pub mod CharacterLaws
-pub mod ShiftLaws
 pub mod FollowingLaws

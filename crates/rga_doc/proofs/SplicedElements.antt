@@ -1,7 +1,6 @@
 -- Elements that are spliced with the text are the visible elements of the new content.
-use Rattle.std.proofs.Common.{◌≡◌, ℕ, ◌+◌, ◌≤◌, ◌&&◌, nat_le, true, List, [], ◌∷◌, length, refl, sym, ap, ◌∙◌, subst, arith}
+use Rattle.std.proofs.Common.{◌≡◌, ℕ, ◌+◌, ◌≤◌, true, List, [], ◌∷◌, length, refl, sym, ap, ◌∙◌, subst, arith}
 use Rattle.std.specs.Prelude.{Ok}
-use Rattle.std.proofs.lemmas.Bool.Decides.{nat_tests}
 use Rattle.rga_ops.specs.Identifier.{Identifier}
 use Rattle.rga_ops.specs.Content.{Content, clock_of, join, content_of}
 use Rattle.rga_ops.specs.Order.{text}
@@ -13,16 +12,8 @@ use Rattle.rga_ops.proofs.OperationLaws.{content_of-append}
 use Rattle.rga_ops.proofs.VisibleLaws.{text_long}
 use Rattle.rga_doc.specs.LocalEdit.{splice_operations, splices_operations, splices_answer, new_ids, elements_after}
 use Rattle.rga_doc.proofs.EditSteps.{shows_long}
-use Rattle.rga_doc.proofs.EditLaws.{allowed, splices_at, falls_first}
-
--- splices that fall within a bound fall within each greater one
-pub falls_wider : (splices : List Splice) (a b : ℕ) → a ≤ b → are_falling a splices ≡ true → are_falling b splices ≡ true
-falls_wider [] a b up h = refl
-falls_wider (s ∷ splices) a b up h =
-    let first = falls_first s splices a h in
-    let ordered : nat_le s.lo s.hi ≡ true = grind (arith, nat_tests) in
-    let within : nat_le s.hi b ≡ true = grind (arith, nat_tests) in
-    λ k. (ordered k && within k) && first.further k
+use Rattle.rga_doc.proofs.EditLaws.{allowed, splices_at}
+use Rattle.rga_characters.proofs.FallingLaws.{falls_first}
 
 -- ---- several splices in turn
 

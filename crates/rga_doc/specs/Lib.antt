@@ -1,4 +1,3 @@
-pub mod Characters
 pub mod Complete
 pub mod Document
 pub mod Excerpt

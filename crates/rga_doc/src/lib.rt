@@ -13,7 +13,6 @@
 #![tactic(auto)]
 
 mod anchor;
-mod characters;
 mod doc;
 mod draft;
 mod edit;
@@ -22,10 +21,8 @@ mod excerpt;
 mod following;
 pub mod laws;
 mod listing;
-mod listing_anew;
 mod rereading;
 mod revert;
-mod shifting;
 mod taking;
 
 pub use anchor::Anchor;

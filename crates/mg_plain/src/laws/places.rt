@@ -1,23 +1,11 @@
 //! Places that commands go to, in words.
-ghost use Rattle.std.specs.Prelude.{◌≡◌, ◌≤◌, ◌<◌, ◌+◌, ◌-◌, ℕ, Bool, false, List, length, Some, None};
+ghost use Rattle.std.specs.Prelude.{◌≡◌, ◌≤◌, ◌<◌, ◌+◌, ◌-◌, ℕ, List, length};
 ghost use Rattle.std.specs.List.{slice_index};
-ghost use Rattle.mg_plain.specs.Characters.{is_newline};
-ghost use Rattle.mg_plain.specs.Lines.{begins_line, line_begin, line_end};
-ghost use Rattle.mg_plain.specs.Paragraphs.{begins_paragraph, ends_paragraph, paragraph};
-ghost use Rattle.mg_plain.specs.Scans.{least, greatest, IsLeast, IsGreatest, IsLeastFrom, IsGreatestUpTo};
+ghost use Rattle.mg_text.specs.Characters.{is_newline};
+ghost use Rattle.mg_text.specs.Lines.{begins_line, line_begin, line_end};
+ghost use Rattle.mg_text.specs.Paragraphs.{begins_paragraph, ends_paragraph, paragraph};
+ghost use Rattle.mg_text.specs.Scans.{IsLeastFrom, IsGreatestUpTo};
 ghost use Rattle.mg_plain.specs.Words.{begins_word, ends_word, word_begin, word_end};
-
-/// A scan finds the least number that passes, or the greatest, and nothing where none does.
-pub fn scans_find_the_least_and_the_greatest()
-    ensures least { (p : ℕ → Bool) (n count q : ℕ) →
-        least p n count ≡ Some q → IsLeast p n (n + count) q }
-    ensures no_least { (p : ℕ → Bool) (n count : ℕ) →
-        least p n count ≡ None → (k : ℕ) → n ≤ k → k < n + count → p k ≡ false }
-    ensures greatest { (p : ℕ → Bool) (bound q : ℕ) →
-        greatest p bound ≡ Some q → IsGreatest p bound q }
-    ensures no_greatest { (p : ℕ → Bool) (bound : ℕ) →
-        greatest p bound ≡ None → (k : ℕ) → k < bound → p k ≡ false }
-{}
 
 /// The begins and ends of lines, words and paragraphs are the greatest and the least places that
 /// they are said to be.

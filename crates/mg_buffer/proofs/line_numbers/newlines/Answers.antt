@@ -1,6 +1,6 @@
 use Rattle.std.proofs.Common.{count_by, cond, ap, arith}
 use Rattle.std.proofs.lemmas.List.Sums.{sum_by-take-drop}
-use Rattle.mg_plain.specs.Characters.{is_newline}
+use Rattle.mg_text.specs.Characters.{is_newline}
 use Rattle.mg_buffer.specs.declared.line_numbers.TheConstants.{BLOCK}
 use Rattle.mg_buffer.proofs.line_numbers.newlines.Goals as goal
 

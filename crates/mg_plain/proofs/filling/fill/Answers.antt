@@ -1,7 +1,7 @@
 use Rattle.std.proofs.Common.{IfOk, List, ap, subst, ◌∙◌, ◌≡◌}
 use Rattle.rga_ops.specs.Splice.{Splice}
 use Rattle.mg_plain.specs.Effect.{edit_effect}
-use Rattle.mg_plain.specs.Filling.{paragraph_filling}
+use Rattle.mg_text.specs.Filling.{paragraph_filling}
 use Rattle.mg_plain.specs.Situation.{Situation}
 use Rattle.mg_plain.proofs.filling.fill.Goals as goal
 

@@ -1,6 +1,6 @@
 use Rattle.std.proofs.Common.{arith, sym, ◌∙◌}
 use Rattle.mg_plain.specs.Words.{begins_word}
-use Rattle.mg_plain.proofs.ScanLaws.{back_step}
+use Rattle.mg_text.proofs.ScanLaws.{back_step}
 use Rattle.mg_plain.proofs.words.word_begin.Goals as goal
 
 pub loop-b-preserved : goal.loop-b-preserved

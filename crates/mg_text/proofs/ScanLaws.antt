@@ -1,0 +1,64 @@
+-- Scans for the least number from a place on, and for the greatest up to it.
+use Rattle.std.proofs.Common.{Bool, None, Some, ap, arith, false, if◌then◌else◌, refl, subst, suc, sym, true, zero, ℕ, ◌+◌, ◌-◌, ◌<◌, ◌∙◌, ◌≡◌, ◌≤◌}
+use Rattle.std.specs.Option.{unwrap_or}
+use Rattle.mg_text.specs.Scans.{greatest, greatest_up_to, least, least_from}
+
+least-first : (p : ℕ → Bool) (n count : ℕ) → p n ≡ true → least p n (suc count) ≡ Some n
+least-first p n count h = ap (λ b. if b then Some n else least p (n + 1) count) h
+
+least-later : (p : ℕ → Bool) (n count : ℕ) → p n ≡ false → least p n (suc count) ≡ least p (n + 1) count
+least-later p n count h = ap (λ b. if b then Some n else least p (n + 1) count) h
+
+-- a scan of `least` up to a bound
+pub found_here : (p : ℕ → Bool) (n bound : ℕ) → n < bound → p n ≡ true → least p n (bound - n) ≡ Some n
+found_here p n bound inside h =
+    let e : bound - n ≡ suc (bound - suc n) = omega (arith, inside) in
+    ap (least p n) e ∙ least-first p n (bound - suc n) h
+
+pub found_later : (p : ℕ → Bool) (n bound : ℕ) → n < bound → p n ≡ false → least p n (bound - n) ≡ least p (n + 1) (bound - (n + 1))
+found_later p n bound inside h =
+    let e : bound - n ≡ suc (bound - (n + 1)) = omega (arith, inside) in
+    ap (least p n) e ∙ least-later p n (bound - (n + 1)) h
+
+pub found_nowhere : (p : ℕ → Bool) (n bound : ℕ) → bound ≤ n → least p n (bound - n) ≡ None
+found_nowhere p n bound out =
+    let e : bound - n ≡ zero = omega (arith, out) in
+    ap (least p n) e
+
+pub scan_here : (p : ℕ → Bool) (n bound : ℕ) → n < bound → p n ≡ true → least_from p n bound ≡ n
+scan_here p n bound inside h = ap (λ o. unwrap_or o bound) (found_here p n bound inside h)
+
+pub scan_on : (p : ℕ → Bool) (n bound : ℕ) → n < bound → p n ≡ false → least_from p n bound ≡ least_from p (n + 1) bound
+scan_on p n bound inside h = ap (λ o. unwrap_or o bound) (found_later p n bound inside h)
+
+pub scan_end : (p : ℕ → Bool) (n bound : ℕ) → bound ≤ n → least_from p n bound ≡ bound
+scan_end p n bound out = ap (λ o. unwrap_or o bound) (found_nowhere p n bound out)
+
+-- a scan back
+pub back_here : (p : ℕ → Bool) (n : ℕ) → p n ≡ true → greatest_up_to p n ≡ n
+back_here p n h = ap (λ b. unwrap_or (if b then Some n else greatest p n) 0) h
+
+pub back_on : (p : ℕ → Bool) (n : ℕ) → p (n + 1) ≡ false → greatest_up_to p (n + 1) ≡ greatest_up_to p n
+back_on p n h =
+    let e : n + 1 ≡ suc n = omega arith in
+    let g : p (suc n) ≡ false = subst (λ k. p k ≡ false) e h in
+    ap (greatest_up_to p) e ∙ ap (λ b. unwrap_or (if b then Some (suc n) else greatest p (suc n)) 0) g
+
+pub back_end : (p : ℕ → Bool) → greatest_up_to p 0 ≡ 0
+back_end p = elim (p 0) as (λ b. unwrap_or (if b then Some 0 else greatest p 0) 0 ≡ 0) [ true ↦ refl | false ↦ refl ]
+
+pub back_step : (p : ℕ → Bool) (q : ℕ) → 0 < q → p q ≡ false → greatest_up_to p q ≡ greatest_up_to p (q - 1)
+back_step p q some h =
+    let e : q ≡ suc (q - 1) = omega (arith, some) in
+    let g : p (suc (q - 1)) ≡ false = subst (λ k. p k ≡ false) e h in
+    ap (greatest_up_to p) e ∙ ap (λ b. unwrap_or (if b then Some (suc (q - 1)) else greatest p (suc (q - 1))) 0) g
+
+pub back_stop : (p : ℕ → Bool) (q : ℕ) → q ≤ 0 → greatest_up_to p q ≡ q
+back_stop p q none =
+    let e : q ≡ 0 = omega (arith, none) in
+    subst (λ k. greatest_up_to p k ≡ k) (sym e) (back_end p)
+
+pub scan_stop : (p : ℕ → Bool) (n bound : ℕ) → n ≤ bound → bound ≤ n → least_from p n bound ≡ n
+scan_stop p n bound lo hi =
+    let e : n ≡ bound = omega (arith, lo, hi) in
+    scan_end p n bound hi ∙ sym e

@@ -1,0 +1,39 @@
+-- Splices that fall, those that are left of one, and how many characters they put.
+use Rattle.std.proofs.Common.{◌≡◌, ℕ, zero, suc, ◌+◌, ◌<◌, ◌≤◌, ◌&&◌, nat_le, leb-true, true, get_or, List, [], ◌∷◌, drop, length, refl, sym, ap, ◌∙◌, arith}
+use Rattle.std.proofs.lemmas.Bool.{and_parts}
+use Rattle.std.proofs.lemmas.Bool.Decides.{nat_tests}
+use Rattle.std.proofs.lemmas.List.{at_drop_more}
+use Rattle.rga_ops.specs.Splice.{Splice, are_falling, new_characters}
+
+-- the first of the splices keeps within the bound, and the others before it
+pub record Falls (s : Splice) (splices : List Splice) (bound : ℕ) : Type 0 where
+  pub up : s.lo ≤ s.hi
+  pub within : s.hi ≤ bound
+  pub further : are_falling s.lo splices ≡ true
+
+pub falls_first : (s : Splice) (splices : List Splice) (bound : ℕ) → are_falling bound (s ∷ splices) ≡ true → Falls s splices bound
+falls_first s splices bound h =
+    let parts = and_parts (nat_le s.lo s.hi && nat_le s.hi bound) (are_falling s.lo splices) h in
+    let places = and_parts (nat_le s.lo s.hi) (nat_le s.hi bound) parts.0 in
+    record { up = leb-true s.lo s.hi places.0; within = leb-true s.hi bound places.1; further = parts.1 }
+
+-- splices that fall within a bound fall within each greater one
+pub falls_wider : (splices : List Splice) (a b : ℕ) → a ≤ b → are_falling a splices ≡ true → are_falling b splices ≡ true
+falls_wider [] a b up h = refl
+falls_wider (s ∷ splices) a b up h =
+    let first = falls_first s splices a h in
+    let ordered : nat_le s.lo s.hi ≡ true = grind (arith, nat_tests) in
+    let within : nat_le s.hi b ≡ true = grind (arith, nat_tests) in
+    λ k. (ordered k && within k) && first.further k
+
+-- those that are left have no more characters than all
+pub fewer : (splices : List Splice) (i : ℕ) → new_characters (drop i splices) ≤ new_characters splices
+fewer [] zero = omega arith
+fewer [] (suc i) = omega arith
+fewer (s ∷ splices) zero = omega arith
+fewer (s ∷ splices) (suc i) = let rest : new_characters (drop i splices) ≤ new_characters splices = fewer splices i in omega (arith, rest)
+
+-- the next splice has its characters, and those behind it the others
+pub characters_left : (splices : List Splice) (i : ℕ) (s : Splice) → i < length splices → s ≡ get_or splices i s → new_characters (drop i splices) ≡ length s.put + new_characters (drop (i + 1) splices)
+characters_left splices i s within is =
+    at_drop_more new_characters splices i s within ∙ ap (λ (x : Splice). length x.put + new_characters (drop (i + 1) splices)) (sym is)
