@@ -1,10 +1,10 @@
 //! Edits by place.
-ghost use Rattle.std.specs.Prelude.{◌≡◌, ◌≤◌, min, true, length, Ok, Err, IfOk, IfErr, OnOk, OnErr};
+ghost use Rattle.std.specs.Prelude.{◌≡◌, ◌≤◌, ◌&&◌, ℕ, min, nat_le, true, length, Ok, Err, IfOk, IfErr, OnOk, OnErr};
 ghost use Rattle.rga_ops.specs.Prelude.{content_of, join, order, text, IsAnswer};
 ghost use Rattle.rga_ops.specs.Splice.{spliced, text_after, are_falling, end_of, new_characters};
 ghost use Rattle.rga_store.specs.Limit.{is_limit};
 ghost use Rattle.rga_doc.specs.Excerpt.{begin_of};
-ghost use Rattle.rga_doc.specs.LocalEdit.{splice_operations, splices_operations, splice_answer, splices_answer, room_answer, place_answer, counter_answer, order_after};
+ghost use Rattle.rga_doc.specs.LocalEdit.{splice_operations, splices_operations, splice_answer, splices_answer, edit_answer, room_answer, counter_answer, order_after};
 ghost use Rattle.rga_ops.specs.declared.refusal.Refusal.TheVariants.{Memory};
 
 use crate::doc::Doc;
@@ -46,30 +46,33 @@ impl<S: TextStore> Doc<S> {
             room_answer self.old.limit self.old.content (length put.now) ≡ Ok tt }
         ensures ordered { result ≡ Err Memory → lo ≤ hi }
     {
-        self.check_splice(lo, hi, put)?;
+        self.check_edit(lo <= hi, hi, put.len())?;
         self.splice_listed(lo, hi, put)
     }
 
-    /// What refuses a splice, memory for its operations aside. Lists the document.
-    fn check_splice(&mut self, lo: usize, hi: usize, put: &[char]) -> Result<(), Refusal>
-        ensures exact { IsAnswer result
-            (splice_answer self.old.limit self.old.content lo hi put.now) }
+    /// What refuses an edit whose places are in order or not, that ends at a place and puts so many
+    /// characters, memory for its operations aside. Lists the document.
+    fn check_edit(&mut self, is_ordered: bool, end: usize, new: usize) -> Result<(), Refusal>
+        ensures exact { (count : ℕ) → new ≡ min count usize.MAX → IsAnswer result
+            (edit_answer self.old.limit self.old.content
+            (is_ordered && nat_le end (length (text self.old.content))) count) }
         ensures listed { OnOk result (self.new ≡ record self.old { listed = true }) }
         ensures same { OnErr result
             (self.new ≡ record self.old { listed = self.new.listed }) }
-        ensures room { result ≡ Err Memory →
-            room_answer self.old.limit self.old.content (length put.now) ≡ Ok tt }
-        ensures ordered { result ≡ Err Memory → lo ≤ hi }
+        ensures room { (count : ℕ) → new ≡ min count usize.MAX → result ≡ Err Memory →
+            room_answer self.old.limit self.old.content count ≡ Ok tt }
+        ensures in_order { OnOk result (is_ordered ≡ true) }
+        ensures ordered { result ≡ Err Memory → is_ordered ≡ true }
     {
-        check_room(&self.store, put.len())?;
-        if lo > hi {
+        check_room(&self.store, new)?;
+        if !is_ordered {
             return Err(Refusal::Range);
         }
         self.list()?;
-        if hi > self.characters().len() {
+        if end > self.characters().len() {
             return Err(Refusal::Range);
         }
-        check_counters(&self.store, put.len())
+        check_counters(&self.store, new)
     }
 
     /// The same for a splice that is allowed and a listed document. `Memory` alone; then nothing
@@ -147,31 +150,10 @@ impl<S: TextStore> Doc<S> {
         ensures ordered { result ≡ Err Memory →
             are_falling (end_of splices.now) splices.now ≡ true }
     {
-        self.check_splices(splices)?;
-        self.write_splices(splices)
-    }
-
-    /// What refuses splices, memory for their operations aside. Lists the document.
-    fn check_splices(&mut self, splices: &[Splice]) -> Result<(), Refusal>
-        ensures exact { IsAnswer result
-            (splices_answer self.old.limit self.old.content splices.now) }
-        ensures listed { OnOk result (self.new ≡ record self.old { listed = true }) }
-        ensures same { OnErr result
-            (self.new ≡ record self.old { listed = self.new.listed }) }
-        ensures room { result ≡ Err Memory →
-            room_answer self.old.limit self.old.content (new_characters splices.now) ≡ Ok tt }
-        ensures ordered { result ≡ Err Memory →
-            are_falling (end_of splices.now) splices.now ≡ true }
-    {
-        let new = count_characters(splices);
-        check_room(&self.store, new)?;
         let end = end_of(splices);
-        check_falling(end, splices)?;
-        self.list()?;
-        if end > self.characters().len() {
-            return Err(Refusal::Range);
-        }
-        check_counters(&self.store, new)
+        let new = count_characters(splices);
+        self.check_edit(are_falling(end, splices), end, new)?;
+        self.write_splices(splices)
     }
 
     /// The operations of splices that are allowed. `Memory` alone.
@@ -242,17 +224,17 @@ fn begin_of(splices: &[Splice]) -> usize
     }
 }
 
-/// `Range` unless each splice ends at or before the begin of the one before it, and the first at or
-/// before the end.
-fn check_falling(end: usize, splices: &[Splice]) -> Result<(), Refusal>
-    ensures { result ≡ place_answer (are_falling end splices.now) }
+/// Whether each splice ends at or before the begin of the one before it, and the first at or before
+/// the end.
+fn are_falling(end: usize, splices: &[Splice]) -> bool
+    ensures { result ≡ are_falling end splices.now }
 {
     let mut bound = end;
     for splice in splices {
         if splice.lo > splice.hi || splice.hi > bound {
-            return Err(Refusal::Range);
+            return false;
         }
         bound = splice.lo;
     }
-    Ok(())
+    true
 }
