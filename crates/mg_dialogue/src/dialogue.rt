@@ -1,0 +1,178 @@
+//! What is talked with the user: the keys, the open prompt, the message.
+ghost use Rattle.std.specs.Prelude.{◌≡◌, ◌↔◌, [], false, IfOk, is_some};
+ghost use Rattle.mg_keys.specs.Begun.{HasBegun};
+ghost use Rattle.mg_dialogue.specs.Dialogues as spec;
+
+use mg_keys::{Keys, Mode, Step};
+use mg_minibuffer::{Message, Next, Prompt, Reaction, Scene, Search, prompt_step};
+use mg_plain::Chars;
+use std::alloc::{AllocError, Global};
+use std::marker::Model;
+
+/// The keys are always read as the open prompt wants it.
+#[derive(Drop)]
+pub struct Dialogue {
+    keys: Keys,
+    pub(crate) prompt: Option<Prompt>,
+    pub(crate) message: Message,
+    /// The pattern that was accepted last.
+    last: Chars,
+}
+
+impl Model for Dialogue {
+    ghost use Rattle.std.specs.Prelude.{◌≡◌};
+    ghost use Rattle.mg_dialogue.specs.Dialogues as spec;
+
+    ghost Value = { spec.Dialogue };
+
+    ghost view = { λ d. record {
+      keys = d.keys;
+      prompt = d.prompt;
+      message = d.message;
+      last = d.last;
+    } };
+
+    ghost invariant = { λ d. d.keys.mode ≡ spec.mode_of d.prompt };
+}
+
+fn mode_of(prompt: &Option<Prompt>) -> Mode
+    ensures { result ≡ spec.mode_of prompt.now }
+{
+    match prompt {
+        None => Mode::Plain,
+        Some(prompt) => prompt.mode(),
+    }
+}
+
+impl Dialogue {
+    /// No prompt is open, and this is said. Takes no memory.
+    pub fn new(alloc: Global, message: Message) -> Dialogue
+        ensures { spec.Begins message result }
+    {
+        Dialogue {
+            keys: Keys::new(),
+            prompt: None,
+            message,
+            last: Chars::new(alloc),
+        }
+    }
+
+    /// What a byte leads to, behind those before it. Takes no memory.
+    pub fn feed(&mut self, byte: u8) -> Step
+        ensures { spec.Fed byte result self.old self.new }
+    {
+        self.keys.feed(byte)
+    }
+
+    /// The prompt and the message behind a step. The key sequence begun is forgotten. Takes no
+    /// memory.
+    pub fn show(&mut self, next: Next, message: Message)
+        ensures { spec.Shown next message self.old self.new }
+    {
+        match next {
+            Next::Same => {}
+            Next::Closed => self.prompt = None,
+            Next::Open(prompt) => self.prompt = Some(prompt),
+        }
+        self.keys.enter(mode_of(&self.prompt));
+        self.tell(message);
+    }
+
+    /// The key sequence begun is forgotten. Takes no memory.
+    pub fn forget(&mut self)
+        ensures { spec.Forgot self.old self.new }
+    {
+        let mode = mode_of(&self.prompt);
+        self.keys.enter(mode);
+    }
+
+    /// An open search is closed, and given back. Takes no memory.
+    pub fn take_search(&mut self) -> Option<Search>
+        ensures { spec.TookSearch result self.old self.new }
+    {
+        match self.prompt.take() {
+            Some(Prompt::Searching(search)) => {
+                self.keys.enter(Mode::Plain);
+                Some(search)
+            }
+            other => {
+                self.prompt = other;
+                None
+            }
+        }
+    }
+
+    /// The search is open again. Takes no memory.
+    pub fn reopen(&mut self, search: Search)
+        ensures { spec.Reopened search self.old self.new }
+    {
+        self.prompt = Some(Prompt::Searching(search));
+        self.keys.enter(Mode::Search);
+    }
+
+    /// The pattern of a search becomes the last one accepted, unless it is empty. Takes no memory.
+    pub fn accept(&mut self, search: Search)
+        ensures { self.new ≡ record self.old { last = spec.or_last search.pattern self.old.last } }
+    {
+        let last = std::mem::replace(&mut self.last, search.pattern);
+        if self.last.as_slice().is_empty() {
+            self.last = last;
+        }
+    }
+
+    /// Nothing is said any more. Takes no memory.
+    pub fn fall_silent(&mut self)
+        ensures { self.new ≡ record self.old { message = Message.Nothing } }
+    {
+        self.message = Message::Nothing;
+    }
+
+    /// Says something. Takes no memory.
+    pub fn tell(&mut self, message: Message)
+        ensures { self.new ≡ record self.old { message = message } }
+    {
+        self.message = message;
+    }
+
+    /// Whether some bytes of a key sequence were read, and it is not whole yet. Takes no memory.
+    pub fn is_amid_keys(&self) -> bool
+        ensures { (result ≡ false) ↔ HasBegun self.now.keys [] }
+    {
+        self.keys.has_begun()
+    }
+
+    /// The prompt closes, and an open search is accepted. Takes no memory.
+    pub fn accept_search(&mut self)
+        ensures { spec.AcceptedSearch self.old self.new }
+    {
+        match self.take_search() {
+            Some(search) => {
+                self.accept(search);
+                self.show(Next::Closed, Message::Nothing);
+            }
+            None => self.show(Next::Closed, Message::Nothing),
+        }
+    }
+
+    /// Whether a prompt is open. Takes no memory.
+    pub fn has_prompt(&self) -> bool
+        ensures { result ≡ is_some self.now.prompt }
+    {
+        self.prompt.is_some()
+    }
+
+    /// What a step leads to at the open prompt. `AllocError` alone.
+    pub fn react(
+        &self,
+        alloc: Global,
+        step: &Step,
+        scene: &Scene<'_>,
+    ) -> Result<Reaction, AllocError>
+        ensures { IfOk result (λ reaction. spec.IsReaction reaction step.now scene.now self.now) }
+    {
+        match &self.prompt {
+            Some(prompt) => prompt_step(alloc, prompt, step, scene, self.last.as_slice()),
+            None => Ok(Reaction::Accepts),
+        }
+    }
+}
