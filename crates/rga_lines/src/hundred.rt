@@ -43,6 +43,15 @@ impl Hundred {
         }
     }
 
+    /// Turns to the numbers that begin with the digits of this one.
+    #[inline(never)]
+    pub(crate) fn turn_to(&mut self, number: u64)
+        requires { length (decimal number) ≤ ROOM }
+        ensures { self.new ≡ number }
+    {
+        *self = Hundred::of(number);
+    }
+
     /// The number of the digits with which they begin.
     pub(crate) fn number(&self) -> u64
         ensures { result ≡ self.now }

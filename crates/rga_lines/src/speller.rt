@@ -117,7 +117,7 @@ impl Speller {
             return put_number(bytes, at, counter);
         }
         if number != self.hundred.number() {
-            self.hundred = Hundred::of(number);
+            self.hundred.turn_to(number);
         }
         self.hundred.put(bytes, at, counter)
     }

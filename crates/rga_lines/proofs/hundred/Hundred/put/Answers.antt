@@ -1,4 +1,4 @@
-use Rattle.std.proofs.Common.{◌≡◌, ◌++◌, take, decimal, ap, ◌∙◌, sym, append_assoc, ◌/◌, ◌%◌, arith}
+use Rattle.std.proofs.Common.{◌≡◌, ◌++◌, take, decimal, ap, ◌∙◌, sym, append_assoc, ◌/◌, ◌%◌}
 use Rattle.itoa.proofs.Decimal.{decimal_pair, pair}
 use Rattle.rga_lines.proofs.hundred.Hundred.put.Goals as goal
 

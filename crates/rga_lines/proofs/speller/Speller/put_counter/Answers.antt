@@ -8,5 +8,5 @@ put_number-requires c = record { room = omega (arith, at_most_twenty c.counter-c
 pub returns-then-number-eq0-clause-within : goal.returns-then-number-eq0-clause-within
 returns-then-number-eq0-clause-within c = omega (arith, at_most_twenty c.counter-counter.result (omega arith), c.put_number.ensures.end)
 
-pub of-self-requires : goal.of-self-requires
-of-self-requires c = at_most_eighteen c.counter-counter.result (omega arith)
+pub turn_to-requires : goal.turn_to-requires
+turn_to-requires c = at_most_eighteen c.counter-counter.result (omega arith)
