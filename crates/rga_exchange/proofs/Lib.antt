@@ -3,6 +3,7 @@ pub mod TakingLaws
 pub mod ReadLaws
 pub mod OperationLaws
 pub mod BegunLemmas
+mod BlockLemmas
 pub mod LogTextLemmas
 pub mod AppendedLaws
 pub mod StopLaws

@@ -11,7 +11,7 @@ ghost use Rattle.rga_exchange.specs.Receiving.{exchange_outcome};
 
 use crate::block::Block;
 use crate::fault::SendFault;
-use rga_lines::{Counted, OperationLine, write_end, write_head};
+use rga_lines::{Counted, write_end, write_head};
 use rga_ops::Op;
 use rga_store::TextStore;
 use std::alloc::Global;
@@ -21,9 +21,9 @@ use std::io::Write;
 /// insertions by rising identifier and then the deletions, and the line that ends an exchange of so
 /// many; each with its newline. Answers how many operations there are.
 ///
-/// Beside the list of the operations only one block of some 64 KiB is held. The device is given as
-/// many lines at once as a block has, no failed call is made again, and the device is flushed at
-/// the end. `Write` comes exactly where a call failed.
+/// Beside the list of the operations only one block of some 64 KiB is held. The device is given
+/// blocks, and at last what is left; no failed call is made again, and the device is flushed at the
+/// end. `Write` comes exactly where a call failed.
 pub fn send<S: TextStore, W: Write>(
     alloc: Global,
     store: &S,
@@ -96,9 +96,9 @@ fn begin_exchange(alloc: Global) -> Result<Block, SendFault>
 /// Writes the line of each operation with its newline, in the order of the list, and nothing else.
 /// Answers how many there are.
 ///
-/// Only one block of some 64 KiB is held. The device is given as many lines at once as a block has,
-/// no failed call is made again, and the device is flushed at the end. `Write` comes exactly where
-/// a call failed, and `Memory` before anything is written.
+/// Only one block of some 64 KiB is held. The device is given blocks, and at last what is left; no
+/// failed call is made again, and the device is flushed at the end. `Write` comes exactly where a
+/// call failed, and `Memory` before anything is written.
 pub fn append_log<W: Write>(
     alloc: Global,
     ops: &[Op],
@@ -146,7 +146,7 @@ fn push_lines<W: Write>(
     Ok(())
 }
 
-/// Adds the line of an operation to the block, which is written before where it has no room.
+/// Adds the line of an operation to the block, which is written before where it is full.
 fn push_line<W: Write>(op: &Op, block: &mut Block, writer: &mut Counted<W>) -> Result<(), SendFault>
     ensures ok { OnOk result (WritesAllBut W.contents writer.old writer.new
         (block.old ++ (line_of op.now ++ newline ∷ [])) block.new) }
@@ -155,7 +155,7 @@ fn push_line<W: Write>(op: &Op, block: &mut Block, writer: &mut Counted<W>) -> R
     ensures fault { IfErr result (λ e. e ≡ SendFault.Write) }
     ensures device { CountsAs SendFault.Write result writer.old writer.new }
 {
-    block.take_line(OperationLine::of(op).as_bytes(), writer)
+    block.take_operation(op, writer)
 }
 
 /// Writes the lines that are left, and flushes the device.

@@ -1,7 +1,7 @@
 //! Lines written: the one spelling of an operation, of a run of either kind, and of the head and the
 //! end of an exchange.
 ghost use Rattle.std.specs.Prelude.{◌≡◌, ◌++◌, ◌<◌, codes, decimal, Ok, IfOk, IfErr, OnOk, string_bytes};
-ghost use Rattle.std.specs.Char.{digit_char, IsScalar};
+ghost use Rattle.std.specs.Char.{IsScalar};
 ghost use Rattle.rga_ops.specs.Operation.{checked};
 ghost use Rattle.rga_ops.specs.declared.op.Op.TheVariants.{Insert, Delete};
 ghost use Rattle.std.specs.List.{flat_map, AllByRecursion};
@@ -13,6 +13,7 @@ ghost use Rattle.rga_lines.specs.Spelling.{IsElementOrRoot, IsWritable};
 ghost use Rattle.rga_lines.specs.declared.fault.LineFault.TheVariants.{Memory};
 
 use crate::deletion_run::DeletionRun;
+use crate::escapes::{hex_digit, short_escape};
 use crate::fault::LineFault;
 use crate::run::Run;
 use itoa::Buffer;
@@ -197,20 +198,13 @@ fn push_pair(text: &mut String, id: &Id) -> Result<(), AllocError>
 }
 
 /// A character as it stands between quotes.
-#[tactic(auto, unfolding(crate::specs::Spelling::escaped))]
 fn push_escaped(text: &mut String, ch: char) -> Result<(), AllocError>
     ensures { OnOk result (string_bytes text.new ≡ string_bytes text.old ++ escaped ch) }
 {
-    match ch {
-        '"' => text.push_str("\\\""),
-        '\\' => text.push_str("\\\\"),
-        '\u{8}' => text.push_str("\\b"),
-        '\t' => text.push_str("\\t"),
-        '\n' => text.push_str("\\n"),
-        '\u{c}' => text.push_str("\\f"),
-        '\r' => text.push_str("\\r"),
-        '\0'..='\u{1f}' => push_code(text, ch),
-        _ => text.push(ch),
+    match short_escape(ch) {
+        Some(escape) => text.push_str(escape),
+        None if ch < ' ' => push_code(text, ch),
+        None => text.push(ch),
     }
 }
 
@@ -223,13 +217,4 @@ fn push_code(text: &mut String, ch: char) -> Result<(), AllocError>
     text.push_str("\\u00")?;
     text.push(hex_digit(code / 16))?;
     text.push(hex_digit(code % 16))
-}
-
-/// The lower-case digit of a number below 16.
-pub(crate) fn hex_digit(value: u32) -> char
-    requires { value < 16 }
-    ensures value { result ≡ digit_char value }
-    ensures ascii { result < 128 }
-{
-    char::from_digit(value, 16).unwrap()
 }

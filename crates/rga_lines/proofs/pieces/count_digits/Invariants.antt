@@ -1,5 +1,5 @@
 use Rattle.std.proofs.Common.{◌≡◌, ◌+◌, ◌≤◌, length, decimal}
-use Rattle.rga_lines.proofs.operation_line.count_digits.Given as goal
+use Rattle.rga_lines.proofs.pieces.count_digits.Given as goal
 
 abbrev pub invariant-fours : goal.invariant-fours
 invariant-fours l = record {

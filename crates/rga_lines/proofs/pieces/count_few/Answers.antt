@@ -1,6 +1,6 @@
 use Rattle.std.proofs.Common.{◌/◌, sym, arith}
 use Rattle.itoa.proofs.Decimal.{length_one, length_two, length_pair}
-use Rattle.rga_lines.proofs.operation_line.count_few.Goals as goal
+use Rattle.rga_lines.proofs.pieces.count_few.Goals as goal
 
 pub returns-then-number-lt10 : goal.returns-then-number-lt10
 returns-then-number-lt10 c = sym (length_one c.args.number (omega arith))

@@ -1,7 +1,7 @@
 use Rattle.std.proofs.Common.{arith}
 use Rattle.itoa.proofs.Decimal.{length_four}
 use Rattle.rga_lines.proofs.DigitsLemmas.{at_most_twenty}
-use Rattle.rga_lines.proofs.operation_line.count_digits.Goals as goal
+use Rattle.rga_lines.proofs.pieces.count_digits.Goals as goal
 
 pub fours-preserved : goal.fours-preserved
 fours-preserved c = record {
