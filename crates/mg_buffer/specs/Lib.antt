@@ -1,6 +1,7 @@
 pub mod Groups
 pub mod Slots
 pub mod Room
+pub mod NearHash
 pub mod State
 pub mod LineNumbers
 pub mod Kept

@@ -9,6 +9,7 @@ ghost use Rattle.mg_buffer.specs.Slots.{AreFilled, AreStandIns, Slotted, deleted
 
 use crate::change::Change;
 use crate::group::Group;
+use crate::near_hasher::NearHashers;
 use crate::slots::{push_deleted, push_same, push_slots, replace_all};
 use indexmap::IndexSet;
 use rga_ops::{Id, Op, Refusal};
@@ -20,7 +21,7 @@ use std::alloc::Global;
 pub(crate) struct History {
     pub(crate) groups: Vec<Group>,
     /// The elements in the slots.
-    pub(crate) elements: IndexSet<Id>,
+    pub(crate) elements: IndexSet<Id, NearHashers>,
 }
 
 /// The slots of a group that is still empty.
@@ -38,7 +39,7 @@ impl History {
     {
         History {
             groups: Vec::new(alloc),
-            elements: IndexSet::new(alloc),
+            elements: IndexSet::with_hasher(alloc, NearHashers::new()),
         }
     }
 

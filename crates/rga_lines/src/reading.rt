@@ -68,14 +68,14 @@ pub fn read_any(alloc: Global, bytes: &[u8]) -> Result<Line, LineFault>
     if let Some(op) = spelled(bytes) {
         return Ok(Line::One(op));
     }
-    if let Some(op) = by_members(bytes) {
-        return Ok(Line::One(op));
-    }
     if let Some(run) = spelled_run(alloc, bytes)? {
         return Ok(Line::Run(run));
     }
     if let Some(run) = spelled_deletions(bytes) {
         return Ok(Line::Deletions(run));
+    }
+    if let Some(op) = by_members(bytes) {
+        return Ok(Line::One(op));
     }
     match Value::from_slice(alloc, bytes) {
         Ok(value) => line_of(alloc, &value),

@@ -68,7 +68,7 @@ fn characters(alloc: Global, bytes: &[u8]) -> Result<Option<Vec<char>>, LineFaul
         (λ v. BeginsWithCharacters bytes.now v.items (codes "\"}"))) }
     ensures memory { IfErr result (λ e. e ≡ Memory) }
 {
-    let mut chars = Vec::with_capacity(alloc, MAX_RUN)?;
+    let mut chars = Vec::with_capacity(alloc, MAX_RUN.min(bytes.len()))?;
     let mut rest = bytes;
     'chars: while let Some((ch, behind)) = character(rest) {
         if chars.len() == MAX_RUN {

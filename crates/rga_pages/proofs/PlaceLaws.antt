@@ -1,10 +1,10 @@
 -- Places in pages, and what stands in pages that change.
-use Rattle.std.proofs.Common.{◌≡◌, ℕ, ◌+◌, ◌<◌, ◌≤◌, suc, zero, false, List, [], ◌∷◌, ◌++◌, length, take, drop, slice_index_or, refl, sym, ap, ◌∙◌, subst, arith, append_assoc}
+use Rattle.std.proofs.Common.{◌≡◌, ℕ, ◌+◌, ◌<◌, ◌≤◌, suc, zero, true, false, List, [], ◌∷◌, ◌++◌, length, take, drop, slice_index_or, refl, sym, ap, ◌∙◌, subst, arith, append_assoc}
 use Rattle.std.specs.Prelude.{insert, remove, slice_set, Result, Ok, Err, OnOk, OnErr}
 use Rattle.std.specs.Ordering.{is_lt}
 use Rattle.rga_ops.specs.Identifier.{Identifier, id_cmp}
 use Rattle.rga_pages.specs.declared.entry.Record.{Record}
-use Rattle.rga_pages.specs.Pages.{Entries, flat, before, behind, AreOrdered, AreBelow, StartsAt, AreFilled, IsPlace}
+use Rattle.rga_pages.specs.Pages.{Entries, flat, before, behind, AreOrdered, AreBelow, BeginsWith, StartsAbove, StartsAt, AreFilled, IsPlace}
 use Rattle.rga_pages.proofs.EntryLaws.{ordered_front, ordered_back, before_below}
 
 pub one_up : (n : ℕ) → suc n ≡ n + 1
@@ -83,12 +83,19 @@ module _ (ps : List Entries) (p : ℕ) (d : Entries) (ordered : AreOrdered (flat
       (subst AreOrdered (page_on ps p d w ∙ sym (append_assoc (flat (take p ps)) (slice_index_or ps p d) (flat (drop (suc p) ps)))) ordered)
 
   module _ (id : Identifier) where
-    pub first_below : (e : Identifier × Record) → 0 < length (slice_index_or ps p d) → is_lt (id_cmp id (slice_index_or (slice_index_or ps p d) 0 e).0) ≡ false → AreBelow id (flat (take p ps))
-    first_below e some h = earlier (slice_index_or ps p d) some h as_far
+    pub first_below : (f : Identifier) → 0 < length (slice_index_or ps p d) → BeginsWith f (slice_index_or ps p d) → is_lt (id_cmp id f) ≡ false → AreBelow id (flat (take p ps))
+    first_below f some begins h = earlier (slice_index_or ps p d) some begins as_far
       where
-        earlier : (page : Entries) → 0 < length page → is_lt (id_cmp id (slice_index_or page 0 e).0) ≡ false → AreOrdered (flat (take p ps) ++ page) → AreBelow id (flat (take p ps))
-        earlier [] some h o = absurd (omega arith)
-        earlier (y ∷ page) some h o = before_below id (flat (take p ps)) y page o h
+        earlier : (page : Entries) → 0 < length page → BeginsWith f page → AreOrdered (flat (take p ps) ++ page) → AreBelow id (flat (take p ps))
+        earlier [] some begins o = absurd (omega arith)
+        earlier (y ∷ page) some begins o = before_below id (flat (take p ps)) y page o (subst (λ q. is_lt (id_cmp id q) ≡ false) begins h)
+
+    pub first_above : (f : Identifier) → 0 < length (slice_index_or ps p d) → BeginsWith f (slice_index_or ps p d) → is_lt (id_cmp id f) ≡ true → StartsAbove id (flat (drop p ps))
+    first_above f some begins h = subst (StartsAbove id) (sym (rest_of ps p d w)) (later (slice_index_or ps p d) some begins)
+      where
+        later : (page : Entries) → 0 < length page → BeginsWith f page → StartsAbove id (page ++ flat (drop (suc p) ps))
+        later [] some begins = absurd (omega arith)
+        later (y ∷ page) some begins = subst (λ q. is_lt (id_cmp id q) ≡ true) begins h
 
 -- ---- an entry at a place
 

@@ -28,6 +28,11 @@ abbrev pub flat : List Entries → Entries
 flat [] = []
 flat (p ∷ ps) = p ++ flat ps
 
+-- the identifier is that of the first entry, if there is one
+abbrev pub BeginsWith : Identifier → Entries → Type 0
+BeginsWith id [] = Unit {0}
+BeginsWith id (e ∷ es) = id ≡ e.0
+
 -- no page is empty
 abbrev pub AreFilled : List Entries → Type 0
 AreFilled ps = AllByRecursion (λ p. 0 < length p) ps

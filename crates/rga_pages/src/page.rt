@@ -1,5 +1,6 @@
 //! Some entries in a row.
 ghost use Rattle.std.specs.Prelude.{◌≡◌, ◌≤◌, ◌<◌, ◌∷◌, [], length, take, drop, insert, remove, slice_set, IfOk, IfErr, OnOk, OnErr};
+ghost use Rattle.rga_pages.specs.Pages.{BeginsWith};
 
 use crate::entry::Record;
 use rga_ops::{Id, Refusal};
@@ -13,14 +14,28 @@ pub(crate) const MOST: usize = 64;
 #[derive(Drop)]
 pub struct Page {
     entries: Vec<(Id, Record)>,
+    // The first entry's identifier, so that a search for a page looks at no entries.
+    first: Id,
 }
 
 impl Model for Page {
-    ghost use Rattle.rga_pages.specs.Pages.{Entries};
+    ghost use Rattle.rga_pages.specs.Pages.{Entries, BeginsWith};
 
     ghost Value = { Entries };
 
     ghost view = { λ p. p.entries.items };
+
+    ghost invariant = { λ p. BeginsWith p.first p.entries.items };
+}
+
+/// The first entry's identifier; the root where there is none.
+fn first_of(entries: &[(Id, Record)]) -> Id
+    ensures { BeginsWith result entries.now }
+{
+    if entries.len() == 0 {
+        return Id::ROOT;
+    }
+    entries[0].0
 }
 
 impl Page {
@@ -31,7 +46,7 @@ impl Page {
     {
         let mut entries = Vec::with_capacity(alloc, MOST)?;
         entries.push((id, value))?;
-        Ok(Page { entries })
+        Ok(Page { entries, first: id })
     }
 
     /// The entries.
@@ -39,6 +54,13 @@ impl Page {
         ensures { result.now ≡ self.now }
     {
         self.entries.as_slice()
+    }
+
+    /// The first entry's identifier.
+    pub(crate) fn first(&self) -> Id
+        ensures { BeginsWith result self.now }
+    {
+        self.first
     }
 
     /// An entry comes in at an index. `Memory` alone.
@@ -51,6 +73,7 @@ impl Page {
         if self.entries.insert(index, (id, value)).is_err() {
             return Err(Refusal::Memory);
         }
+        self.first = first_of(self.entries.as_slice());
         Ok(())
     }
 
@@ -60,6 +83,7 @@ impl Page {
         ensures { self.new ≡ slice_set self.old index (id, value) }
     {
         self.entries[index] = (id, value);
+        self.first = first_of(self.entries.as_slice());
     }
 
     /// The entry at an index goes. Takes no memory.
@@ -68,6 +92,7 @@ impl Page {
         ensures { self.new ≡ remove self.old index }
     {
         let _gone = self.entries.remove(index);
+        self.first = first_of(self.entries.as_slice());
     }
 
     /// What stands from an index on, as a page of its own. `Memory` alone.
@@ -78,7 +103,8 @@ impl Page {
     {
         let mut entries = Vec::with_capacity(alloc, MOST)?;
         entries.extend_from_slice(&self.entries.as_slice()[from..])?;
-        Ok(Page { entries })
+        let first = first_of(entries.as_slice());
+        Ok(Page { entries, first })
     }
 
     /// What stands from an index on goes. Takes no memory.
@@ -86,5 +112,6 @@ impl Page {
         ensures { self.new ≡ take at self.old }
     {
         self.entries.truncate(at);
+        self.first = first_of(self.entries.as_slice());
     }
 }

@@ -32,6 +32,13 @@ fn is_below(entry: &(Id, Record), id: Id) -> bool
     id > entry.0
 }
 
+/// Whether an identifier is less than another.
+fn is_less(id: Id, other: Id) -> bool
+    ensures { result ≡ is_lt (id_cmp id other) }
+{
+    id < other
+}
+
 /// Whether an identifier is less than that of an entry.
 fn is_above(entry: &(Id, Record), id: Id) -> bool
     ensures { result ≡ is_lt (id_cmp id entry.now.0) }
@@ -85,7 +92,7 @@ fn starts_above(pages: &Vec<Page>, page: usize, id: Id) -> bool
     ensures above { result ≡ true → StartsAbove id (flat (drop page pages.now.items)) }
     ensures below { result ≡ false → AreBelow id (flat (take page pages.now.items)) }
 {
-    is_above(&pages[page].entries()[0], id)
+    is_less(id, pages[page].first())
 }
 
 /// Whether all before a page is below an identifier.
