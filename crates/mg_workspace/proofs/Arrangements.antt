@@ -6,10 +6,10 @@ use Rattle.mg_files.specs.OpenState.{OpenState}
 use Rattle.mg_screen.specs.declared.windows.WindowFault.TheVariants.{TooSmall, OnlyOne, Memory}
 use Rattle.mg_screen.specs.Layout.{Layout}
 use Rattle.mg_minibuffer.specs.declared.ending.Arrangement.{Arrangement}
+use Rattle.mg_buffers.specs.Buffers.{Buffers, AtCurrent}
 use Rattle.mg_workspace.specs.declared.fault.ActionFault.TheVariants as action_fault
 use Rattle.mg_workspace.specs.declared.viewport.Viewport.{Viewport}
 use Rattle.mg_workspace.specs.declared.workspace.TheConstants.{MAX_BUFFERS}
-use Rattle.mg_workspace.specs.Buffers.{Buffers, AtCurrent}
 use Rattle.mg_workspace.specs.Actions.{ActionVerdict, WindowVerdict, IsWindowAnswer, window_answer, arranged, windows_after, lacks_memory, EndsRun, Rearranged, Arranged}
 use Rattle.mg_workspace.specs.Viewports.{current_viewport, ShowThese, AreShown}
 use Rattle.mg_workspace.specs.Workspaces.{Workspace, IsCurrent}

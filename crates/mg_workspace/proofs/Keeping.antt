@@ -5,7 +5,7 @@ use Rattle.mg_plain.specs.declared.command.Command.{Command}
 use Rattle.mg_files.specs.OpenState.{OpenState}
 use Rattle.mg_buffer.specs.Faults.{FaultVerdict}
 use Rattle.mg_buffer.specs.Sight.{Notes}
-use Rattle.mg_workspace.specs.Buffers.{Buffers, AtCurrent, IsSameBuffer, RunsTo, UndoesTo, listed, unlisted, AreListed}
+use Rattle.mg_buffers.specs.Buffers.{Buffers, AtCurrent, IsSameBuffer, RunsTo, UndoesTo, listed, unlisted, AreListed}
 use Rattle.mg_workspace.specs.Actions.{ActionVerdict, of_buffer, all_unlisted, Keeps, Ran, Undid}
 use Rattle.mg_workspace.specs.Workspaces as spec
 use Rattle.mg_workspace.specs.Workspaces.{Workspace}

@@ -1,9 +1,5 @@
-pub mod Results
-pub mod MappedLaws
 pub mod ViewportLaws
-pub mod NameLaws
 pub mod Removals
 pub mod Arrangements
-pub mod Current
 pub mod Keeping
 pub mod ShownWindows

@@ -11,12 +11,12 @@ use Rattle.mg_screen.specs.Screen.{Pane, Screen}
 use Rattle.mg_screen.proofs.CursorLaws.{placed_shows}
 use Rattle.rga_ops.specs.Order.{text}
 use Rattle.mg_buffer.specs.Sight.{place_of}
+use Rattle.mg_buffers.specs.Buffers.{Buffers}
+use Rattle.mg_buffers.proofs.MappedLaws.{mapped_to}
 use Rattle.mg_workspace.specs.declared.viewport.Viewport.{Viewport}
-use Rattle.mg_workspace.specs.Buffers.{Buffers}
 use Rattle.mg_workspace.specs.Viewports.{viewport, ShowThese, AreShown}
 use Rattle.mg_workspace.specs.Showing.{buffer_of, first_over, placed_window, placed, pane_over, pane_of, panes_of}
 use Rattle.mg_workspace.proofs.ViewportLaws.{show_map, mapped_shows}
-use Rattle.mg_workspace.proofs.MappedLaws.{mapped_to}
 
 -- ---- heights
 

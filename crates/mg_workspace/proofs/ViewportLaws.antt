@@ -1,18 +1,18 @@
 -- What is known of windows by what they show.
-use Rattle.std.proofs.Common.{◌≡◌, ℕ, zero, suc, ◌+◌, ◌-◌, ◌/◌, ◌<◌, ◌≤◌, List, [], ◌∷◌, ◌++◌, length, map, take, drop, get_or, Some, slice_get, is_some, true≢false, nat_eq, nat_lt, if◌then◌else◌, refl, sym, ap, subst, ◌∙◌, arith}
+use Rattle.std.proofs.Common.{◌≡◌, ℕ, zero, suc, ◌+◌, ◌-◌, ◌/◌, ◌<◌, ◌≤◌, List, [], ◌∷◌, ◌++◌, length, map, take, drop, get_or, Some, slice_get, is_some, true≢false, refl, sym, ap, subst, ◌∙◌, arith}
 use Rattle.std.specs.List.{AllByRecursion, remove}
-use Rattle.std.proofs.lemmas.Bool.{cond_both, ltb-true, ltb-false, eqb-false}
 use Rattle.std.proofs.lemmas.List.{length_push}
 use Rattle.std.proofs.lemmas.Option.{same_Some}
 use Rattle.std.proofs.lemmas.List.Edits.{length-remove}
 use Rattle.mg_files.specs.OpenState.{OpenState}
 use Rattle.mg_screen.specs.Layout.{Window, window, Layout, heights, all_shown, shows_at, shown_layout, split_at, remove_at, only_at, windows_of, shared, staying, resized_layout, of_height, rows_of}
+use Rattle.mg_buffers.specs.Buffers.{Buffers, with_buffer, without_buffer}
+use Rattle.mg_buffers.specs.Mapped.{mapped_at}
+use Rattle.mg_buffers.specs.Names.{moved}
+use Rattle.mg_buffers.proofs.Moves.{moved_first, moved_within}
 use Rattle.mg_workspace.specs.declared.viewport.Viewport.{Viewport}
 use Rattle.mg_workspace.specs.declared.workspace.TheConstants.{MAX_BUFFERS}
-use Rattle.mg_workspace.specs.Buffers.{Buffers, with_buffer, without_buffer}
 use Rattle.mg_workspace.specs.Viewports.{viewport, current_viewport, turned, window_without, layout_without, ShowThese, AreShown}
-use Rattle.mg_workspace.specs.Mapped.{mapped_at}
-use Rattle.mg_workspace.specs.Names.{moved}
 
 -- ---- the window at an index
 
@@ -111,26 +111,10 @@ mapped_shows f [] i d same = refl
 mapped_shows f (w ∷ ws) zero d same = same w
 mapped_shows f (w ∷ ws) (suc i) d same = mapped_shows f ws i d same
 
-moved_first : (gone : ℕ) → moved gone 0 ≡ 0
-moved_first gone =
-    cond_both (nat_eq 0 gone) 0 (if nat_lt gone 0 then 0 - 1 else 0) (λ x. x ≡ 0) (λ _. refl)
-    (λ _. cond_both (nat_lt gone 0) (0 - 1) 0 (λ x. x ≡ 0) (λ _. refl) (λ _. refl))
-
 pub without_shows : (gone : ℕ) (ws : List (Window Viewport)) (i : ℕ) → (get_or (all_shown (map (window_without gone) ws)) i (viewport 0 0)).buffer ≡ moved gone (get_or (all_shown ws) i (viewport 0 0)).buffer
 without_shows gone [] i = sym (moved_first gone)
 without_shows gone (w ∷ ws) zero = refl
 without_shows gone (w ∷ ws) (suc i) = without_shows gone ws i
-
--- ---- where buffers stand once one is removed
-
-pub moved_within : (gone n i : ℕ) → gone < n → i < n → 1 < n → moved gone i < n - 1
-moved_within gone n i inside here others =
-    cond_both (nat_eq i gone) 0 (if nat_lt gone i then i - 1 else i) (λ x. x < n - 1) (λ _. omega (arith, others))
-    (λ other. cond_both (nat_lt gone i) (i - 1) i (λ x. x < n - 1) (λ later. omega (arith, ltb-true gone i later, here))
-    (λ earlier. by_order (ltb-false gone i earlier) (eqb-false i gone other)))
-  where
-    by_order : i ≤ gone → (i ≡ gone → ⊥) → i < n - 1
-    by_order up other = omega (arith, up, other, inside)
 
 -- ---- windows that follow what was done
 

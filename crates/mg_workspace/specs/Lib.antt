@@ -1,6 +1,3 @@
-pub mod Mapped
-pub mod Names
-pub mod Buffers
 pub mod Viewports
 pub mod Workspaces
 pub mod Actions

@@ -4,10 +4,10 @@ use Rattle.rga_ops.specs.Order.{text}
 use Rattle.mg_buffer.specs.Sight.{Notes, place_of}
 use Rattle.mg_files.specs.OpenState.{OpenState}
 use Rattle.mg_screen.specs.Layout.{Layout, current_height}
+use Rattle.mg_buffers.specs.Buffers as buffers
+use Rattle.mg_buffers.specs.Buffers.{are_changed, AtCurrent}
 use Rattle.mg_workspace.specs.declared.viewport.Viewport.{Viewport}
 use Rattle.mg_minibuffer.specs.Scenes as scenes
-use Rattle.mg_workspace.specs.Buffers as buffers
-use Rattle.mg_workspace.specs.Buffers.{are_changed, AtCurrent}
 
 -- the buffers, what commands leave for the next one, the windows with what they show, the fill column, the columns of the
 -- screen, the replica and the limit of buffers that are opened, and whether saves of these append runs and their exchanges

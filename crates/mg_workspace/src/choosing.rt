@@ -2,18 +2,18 @@
 ghost use Rattle.std.specs.Prelude.{◌≡◌, ◌≢◌, ◌<◌, Err, length, string_bytes, OnErr};
 ghost use Rattle.mg_files.specs.Loading.{load_outcome};
 ghost use Rattle.mg_files.specs.declared.fault.LoadFault.TheVariants as load_fault;
+ghost use Rattle.mg_buffers.specs.Mapped.{mapped_at};
 ghost use Rattle.mg_workspace.specs.declared.fault.ActionFault.TheVariants.{Memory};
 ghost use Rattle.mg_workspace.specs.declared.workspace.TheConstants.{MAX_BUFFERS};
 ghost use Rattle.mg_workspace.specs.Actions as spec;
 ghost use Rattle.mg_workspace.specs.Viewports as viewports;
-ghost use Rattle.mg_workspace.specs.Mapped.{mapped_at};
 ghost use Rattle.mg_workspace.specs.Opening as opening;
 
 use crate::arranging::{current_viewport, viewport_at};
-use crate::buffers::moved;
 use crate::fault::ActionFault;
 use crate::viewport::Viewport;
 use crate::workspace::{MAX_BUFFERS, Workspace};
+use mg_buffers::moved;
 use mg_files::{Found, LoadFault, VisitedBuffer};
 use mg_minibuffer::Message;
 use mg_screen::Windows;

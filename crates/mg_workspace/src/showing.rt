@@ -2,17 +2,17 @@
 ghost use Rattle.std.specs.Prelude.{◌≡◌, ◌<◌, ◌≤◌, true, Some, IfOk, OnOk, length, slice_get, ◌++◌, [], ◌∷◌};
 ghost use Rattle.mg_screen.specs.declared.size.TheConstants.{MAX_ROWS};
 ghost use Rattle.mg_screen.specs.Layout.{window, FillsRows};
-ghost use Rattle.mg_workspace.specs.Buffers.{AreListed};
+ghost use Rattle.mg_buffers.specs.Buffers.{AreListed};
+ghost use Rattle.mg_buffers.specs.Mapped.{mapped_at};
 ghost use Rattle.mg_workspace.specs.Viewports.{viewport, ShowThese};
-ghost use Rattle.mg_workspace.specs.Mapped.{mapped_at};
 ghost use Rattle.mg_workspace.specs.Showing as spec;
 ghost use Rattle.mg_workspace.specs.Workspaces.{HasLists};
 
 use crate::arranging::{height_at, viewport_at};
-use crate::buffers::Buffers;
 use crate::viewport::Viewport;
 use crate::workspace::Workspace;
 use mg_buffer::Memo;
+use mg_buffers::Buffers;
 use mg_files::VisitedBuffer;
 use mg_screen::{FrameFault, Pane, Windows, first_line};
 use rga_store::TextStore;

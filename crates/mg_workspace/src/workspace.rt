@@ -6,9 +6,9 @@ ghost use Rattle.mg_workspace.specs.Actions.{Keeps};
 ghost use Rattle.mg_workspace.specs.Opening.{workspace};
 ghost use Rattle.mg_workspace.specs.Workspaces as spec;
 
-use crate::buffers::Buffers;
 use crate::viewport::Viewport;
 use mg_buffer::Memo;
+use mg_buffers::Buffers;
 use mg_files::{LoadFault, VisitedBuffer};
 use mg_minibuffer::Scene;
 use mg_screen::Windows;

@@ -1,7 +1,7 @@
 use Rattle.std.proofs.Common.{◌≡◌}
 use Rattle.mg_screen.specs.Layout.{layout}
+use Rattle.mg_buffers.proofs.MappedLaws.{mapped_to}
 use Rattle.mg_workspace.specs.Viewports.{window_without}
-use Rattle.mg_workspace.proofs.MappedLaws.{mapped_to}
 use Rattle.mg_workspace.proofs.choosing.leave.Given as goal
 
 abbrev pub invariant-loop-index : goal.invariant-loop-index

@@ -1,11 +1,11 @@
 use Rattle.std.proofs.Common.{◌+◌, ◌<◌, length, arith, refl, sym, ap, subst, ◌∙◌}
 use Rattle.std.proofs.lemmas.List.{length-map}
 use Rattle.mg_screen.specs.Layout.{Window, Layout, layout}
+use Rattle.mg_buffers.specs.Mapped.{mapped_at}
+use Rattle.mg_buffers.proofs.MappedLaws.{mapped_to, mapped_on, length-mapped_to}
 use Rattle.mg_workspace.specs.declared.viewport.Viewport.{Viewport}
 use Rattle.mg_workspace.specs.Viewports.{ShowThese}
-use Rattle.mg_workspace.specs.Mapped.{mapped_at}
 use Rattle.mg_workspace.specs.Showing.{placed_window}
-use Rattle.mg_workspace.proofs.MappedLaws.{mapped_to, mapped_on, length-mapped_to}
 use Rattle.mg_workspace.proofs.ShownWindows.{show_placed_to}
 use Rattle.mg_workspace.proofs.showing.place_windows.Goals as goal
 

@@ -1,8 +1,8 @@
 use Rattle.std.proofs.Common.{rules, ◌≡◌, ap, subst, ◌∙◌}
 use Rattle.mg_minibuffer.specs.ReplacementStep.{next_match}
+use Rattle.mg_buffers.proofs.Results.{on_ok}
 use Rattle.mg_editor.specs.Presses.{Ended, FoundHere}
 use Rattle.mg_workspace.specs.Workspaces.{HasList, Shows, scene_of}
-use Rattle.mg_workspace.proofs.Results.{on_ok}
 use Rattle.mg_editor.proofs.editor.Editor.end_or_ask.Goals as goal
 
 pub scene-requires : goal.scene-requires

@@ -1,9 +1,9 @@
 use Rattle.std.proofs.Common.{rules, ◌≡◌, refl, sym, subst}
 use Rattle.mg_files.specs.OpenState.{OpenState}
+use Rattle.mg_buffers.proofs.Results.{on_ok_map, on_err_map}
 use Rattle.mg_editor.specs.Editors.{Editor}
 use Rattle.mg_editor.specs.Presses.{Found, IsRefused, Listed}
 use Rattle.mg_workspace.specs.Workspaces.{IsCurrent}
-use Rattle.mg_workspace.proofs.Results.{on_ok_map, on_err_map}
 use Rattle.mg_editor.proofs.Steps.{has_list, refused_after}
 use Rattle.mg_editor.proofs.editor.Editor.find_next.Goals as goal
 

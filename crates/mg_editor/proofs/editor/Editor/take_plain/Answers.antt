@@ -1,9 +1,9 @@
 use Rattle.std.proofs.Common.{rules, inr, ◌≡◌, refl, sym, ap, subst, ◌∙◌}
 use Rattle.mg_minibuffer.specs.PlainStep.{plain_step}
+use Rattle.mg_buffers.proofs.Results.{on_err_map}
 use Rattle.mg_editor.specs.Editors.{Editor}
 use Rattle.mg_editor.specs.Presses.{Ended, IsRefused, Listed, Plainly}
 use Rattle.mg_workspace.specs.Workspaces.{scene_of}
-use Rattle.mg_workspace.proofs.Results.{on_err_map}
 use Rattle.mg_editor.proofs.Steps.{has_list, refused_after}
 use Rattle.mg_editor.proofs.editor.Editor.take_plain.Goals as goal
 

@@ -1,8 +1,8 @@
 use Rattle.std.proofs.Common.{rules, ◌≡◌, Some, refl, sym, subst}
 use Rattle.mg_minibuffer.specs.declared.prompt.Prompt.{Prompt}
+use Rattle.mg_buffers.proofs.Results.{on_err_map}
 use Rattle.mg_editor.specs.Editors.{Editor}
 use Rattle.mg_editor.specs.Presses.{IsRefused, Listed, Prompted}
-use Rattle.mg_workspace.proofs.Results.{on_err_map}
 use Rattle.mg_editor.proofs.Steps.{has_list, refused_after, prompted_after}
 use Rattle.mg_editor.proofs.editor.Editor.take_prompted.Goals as goal
 

@@ -1,7 +1,7 @@
 use Rattle.std.proofs.Common.{rules, ◌≡◌, ap, ◌∙◌}
 use Rattle.rga_ops.specs.Order.{text}
+use Rattle.mg_buffers.proofs.Results.{if_ok_map}
 use Rattle.mg_workspace.specs.Workspaces.{IsCurrent}
-use Rattle.mg_workspace.proofs.Results.{if_ok_map}
 use Rattle.mg_editor.proofs.editor.Editor.text.Goals as goal
 
 pub returns-clause-text : goal.returns-clause-text

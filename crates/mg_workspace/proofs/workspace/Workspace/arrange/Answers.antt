@@ -1,11 +1,11 @@
 use Rattle.std.proofs.Common.{◌≡◌, ◌<◌, length, Err, refl, sym, ap, subst, ◌∙◌}
 use Rattle.mg_files.specs.OpenState.{OpenState}
+use Rattle.mg_buffers.proofs.Results.{on_err_map}
 use Rattle.mg_workspace.specs.declared.fault.ActionFault.TheVariants.{Memory}
 use Rattle.mg_workspace.specs.Actions as spec
 use Rattle.mg_workspace.specs.declared.viewport.Viewport.{Viewport}
 use Rattle.mg_workspace.specs.Workspaces.{Workspace}
 use Rattle.mg_workspace.proofs.Arrangements.{rearranged, unarranged, arranged_shown, kept_count}
-use Rattle.mg_workspace.proofs.Results.{on_err_map}
 use Rattle.mg_workspace.proofs.workspace.Workspace.arrange.Goals as goal
 
 pub go_to-requires : goal.go_to-requires

@@ -1,10 +1,10 @@
 use Rattle.std.proofs.Common.{length, refl, sym, ap, subst, ◌∙◌}
-use Rattle.mg_workspace.specs.Buffers as buffers
+use Rattle.mg_buffers.specs.Buffers as buffers
+use Rattle.mg_buffers.proofs.Current.{listed_current}
+use Rattle.mg_buffers.proofs.MappedLaws.{length-mapped_at}
+use Rattle.mg_buffers.proofs.Results.{by_result, on_ok_map, on_err_map}
 use Rattle.mg_workspace.specs.Viewports.{AreShown}
 use Rattle.mg_workspace.specs.Workspaces.{Workspace, IsListed}
-use Rattle.mg_workspace.proofs.Current.{listed_current}
-use Rattle.mg_workspace.proofs.MappedLaws.{length-mapped_at}
-use Rattle.mg_workspace.proofs.Results.{by_result, on_ok_map, on_err_map}
 use Rattle.mg_workspace.proofs.ViewportLaws.{kept_shown}
 use Rattle.mg_workspace.proofs.workspace.Workspace.list.Goals as goal
 

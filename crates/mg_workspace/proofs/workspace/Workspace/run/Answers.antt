@@ -1,11 +1,11 @@
 use Rattle.std.proofs.Common.{◌≡◌, Some, slice_get, refl, sym, subst, ap, ◌∙◌}
 use Rattle.mg_files.specs.OpenState.{OpenState}
-use Rattle.mg_workspace.specs.Buffers.{RunsTo, with_current}
+use Rattle.mg_buffers.specs.Buffers.{RunsTo, with_current}
+use Rattle.mg_buffers.proofs.Current.{at_current}
+use Rattle.mg_buffers.proofs.Results.{match_result, both_on_err}
 use Rattle.mg_workspace.specs.Actions.{Ran}
 use Rattle.mg_workspace.specs.Workspaces.{Workspace}
-use Rattle.mg_workspace.proofs.Current.{at_current}
 use Rattle.mg_workspace.proofs.Keeping.{refused_run_keeps}
-use Rattle.mg_workspace.proofs.Results.{match_result, both_on_err}
 use Rattle.mg_workspace.proofs.workspace.Workspace.run.Goals as goal
 
 pub returns : goal.returns

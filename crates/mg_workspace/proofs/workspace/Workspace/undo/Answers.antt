@@ -1,11 +1,11 @@
 use Rattle.std.proofs.Common.{◌≡◌, Some, slice_get, refl, sym, subst, ap, ◌∙◌}
 use Rattle.mg_files.specs.OpenState.{OpenState}
-use Rattle.mg_workspace.specs.Buffers.{UndoesTo, with_current}
+use Rattle.mg_buffers.specs.Buffers.{UndoesTo, with_current}
+use Rattle.mg_buffers.proofs.Current.{at_current}
+use Rattle.mg_buffers.proofs.Results.{match_result, both_on_err}
 use Rattle.mg_workspace.specs.Actions.{Undid}
 use Rattle.mg_workspace.specs.Workspaces.{Workspace}
-use Rattle.mg_workspace.proofs.Current.{at_current}
 use Rattle.mg_workspace.proofs.Keeping.{refused_undo_keeps}
-use Rattle.mg_workspace.proofs.Results.{match_result, both_on_err}
 use Rattle.mg_workspace.proofs.workspace.Workspace.undo.Goals as goal
 
 pub returns : goal.returns

@@ -1,0 +1,5 @@
+pub mod Results
+pub mod MappedLaws
+pub mod NameLaws
+pub mod Moves
+pub mod Current

@@ -1,0 +1,3 @@
+pub mod Mapped
+pub mod Names
+pub mod Buffers
