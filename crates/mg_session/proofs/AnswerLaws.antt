@@ -3,10 +3,10 @@ use Rattle.std.proofs.Common.{Bool, ◌≡◌, ◌≢◌, ℕ, List, Option, OnO
 use Rattle.rga_lines.specs.Counting.{Calls, CountsAs, StaysFlushed}
 use Rattle.mg_settings.specs.Settings.{Values}
 use Rattle.mg_editor.specs.Editors.{Editor}
+use Rattle.mg_reports.specs.Reports.{fresh}
 use Rattle.mg_session.specs.Courses.{answer, LeavesScreen, LeavesKeys}
 use Rattle.mg_session.specs.Display.{showing_of}
 use Rattle.mg_session.specs.Faults.{IsOfLoad}
-use Rattle.mg_session.specs.Reports.{fresh}
 use Rattle.mg_session.specs.Running.{Told, IsOpened, RanFrom, BrokeOffFrom, StopsFrom, FailsToOpen, Ended}
 use Rattle.mg_session.specs.declared.course.Course.{Course}
 use Rattle.mg_session.specs.declared.course.Course.TheVariants.{On, Quit, NoKeys, NoScreen, NoMemory}

@@ -1,5 +1,4 @@
 pub mod FrameLaws
-pub mod ReportLaws
 pub mod TakenLaws
 pub mod SessionLaws
 pub mod AnswerLaws

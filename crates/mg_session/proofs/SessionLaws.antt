@@ -5,14 +5,14 @@ use Rattle.std.specs.Io.KnownBytes.{Consumes, Keeps}
 use Rattle.std.specs.List.{concat}
 use Rattle.rga_lines.specs.Counting.{Calls, Writes, IsReadToEnd, one_more}
 use Rattle.mg_editor.specs.Editors.{Editor}
+use Rattle.mg_reports.specs.Reports.{Reports, after, block_events, read_events, after_reads, held_events, all_events}
+use Rattle.mg_reports.proofs.ReportLaws.{read_more, after_more_reads, length_more, concat_more}
 use Rattle.mg_session.specs.Courses.{IsUnfailed, IsFailed}
 use Rattle.mg_session.specs.Display.{Showed}
-use Rattle.mg_session.specs.Reports.{Reports, after, block_events, read_events, after_reads, held_events, all_events}
 use Rattle.mg_session.specs.Running.{Told, GivesBlocks, Took, GivesBytes, TookAll, TookKeys, IsBegun, Ended}
 use Rattle.mg_session.specs.declared.course.Course.{Course}
 use Rattle.mg_session.specs.declared.course.Course.TheVariants.{On, Quit, NoKeys, NoScreen, NoMemory}
 use Rattle.mg_session.specs.declared.showing.Showing.{Showing}
-use Rattle.mg_session.proofs.ReportLaws.{read_more, after_more_reads, length_more, concat_more}
 use Rattle.mg_session.proofs.TakenLaws.{took_none, took_more, took_ended, unfailed_more, leaves_more}
 
 -- ---- the reads of the keys

@@ -5,17 +5,17 @@ use Rattle.std.proofs.KnownBytes.{Appends-nil, Appends-trans}
 use Rattle.rga_lines.specs.Counting.{Calls, one_more}
 use Rattle.mg_keys.specs.Begun.{HasBegun}
 use Rattle.mg_editor.specs.Editors.{Editor}
+use Rattle.mg_reports.specs.Reports.{Event, key, size, block_end, keys, Reports, read, events, after}
+use Rattle.mg_reports.proofs.ReportLaws.{events_next, events_behind}
 use Rattle.mg_session.specs.Courses.{behind_key, IsUnfailed, LeavesScreen}
 use Rattle.mg_session.specs.Display.{ShowsSome, Showed, follows_key, follows_step, follows_block}
 use Rattle.mg_session.specs.Keys.{TakesKey}
-use Rattle.mg_session.specs.Reports.{Event, key, size, block_end, keys, Reports, read, events, after}
 use Rattle.mg_session.specs.Running.{Told, Takes, TakesEvent, TakesAll, resized_editor, StopsAll, TakesSome, Took}
 use Rattle.mg_session.specs.declared.course.Course.{Course}
 use Rattle.mg_session.specs.declared.course.Course.TheVariants.{On, Quit, NoKeys, NoScreen, NoMemory}
 use Rattle.mg_session.specs.declared.fault.SessionFault.{SessionFault}
 use Rattle.mg_session.specs.declared.fault.SessionFault.TheVariants.{Screen, Memory}
 use Rattle.mg_session.specs.declared.showing.Showing.{Showing}
-use Rattle.mg_session.proofs.ReportLaws.{events_next, events_behind}
 
 -- what is written by events that none of quits, and then by further ones
 more_taken : (how : Showing) (xs ys : List Event) (calls told more : Told) (old mid new : Editor) (quits : Bool) (text further : List ℕ)

@@ -2,5 +2,4 @@ pub mod Faults
 pub mod Courses
 pub mod Display
 pub mod Keys
-pub mod Reports
 pub mod Running

@@ -13,10 +13,10 @@ use Rattle.mg_settings.specs.Settings.{Values}
 use Rattle.mg_workspace.specs.Actions.{resized}
 use Rattle.mg_editor.specs.Editors.{Editor}
 use Rattle.mg_editor.specs.Opening.{Opens}
+use Rattle.mg_reports.specs.Reports.{Event, key, size, block_end, Reports, fresh, read_events, all_events}
 use Rattle.mg_session.specs.Courses.{IsFailed, LeavesScreen, LeavesKeys}
 use Rattle.mg_session.specs.Display.{ShowsIf, BeginsIf, follows_step, follows_block, showing_of}
 use Rattle.mg_session.specs.Keys.{TakesKey}
-use Rattle.mg_session.specs.Reports.{Event, key, size, block_end, Reports, fresh, read_events, all_events}
 use Rattle.mg_session.specs.declared.course.Course.{Course}
 use Rattle.mg_session.specs.declared.course.Course.TheVariants.{On, Quit, NoKeys, NoScreen, NoMemory}
 use Rattle.mg_session.specs.declared.fault.SessionFault.{SessionFault}

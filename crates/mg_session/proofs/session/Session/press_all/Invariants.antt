@@ -1,5 +1,5 @@
 use Rattle.std.proofs.Common.{take}
-use Rattle.mg_session.specs.Reports.{keys}
+use Rattle.mg_reports.specs.Reports.{keys}
 use Rattle.mg_session.specs.Running.{Took}
 use Rattle.mg_session.specs.declared.course.Course.TheVariants.{On}
 use Rattle.mg_session.proofs.session.Session.press_all.Given as goal

@@ -1,5 +1,5 @@
 use Rattle.std.proofs.Common.{sym}
-use Rattle.mg_session.proofs.ReportLaws.{held_some, held_none}
+use Rattle.mg_reports.proofs.ReportLaws.{held_some, held_none}
 use Rattle.mg_session.proofs.TakenLaws.{took_none, took_more, took_ended}
 use Rattle.mg_session.proofs.session.Session.press_held.Goals as goal
 

@@ -1,6 +1,6 @@
 use Rattle.std.proofs.Common.{arith, ◌+◌, [], ◌∷◌, ◌++◌, ap, sym, take_all}
-use Rattle.mg_session.specs.Reports.{events, block_end}
-use Rattle.mg_session.proofs.ReportLaws.{after_next}
+use Rattle.mg_reports.specs.Reports.{events, block_end}
+use Rattle.mg_reports.proofs.ReportLaws.{after_next}
 use Rattle.mg_session.proofs.TakenLaws.{took_more, next_byte, last_byte}
 use Rattle.mg_session.proofs.session.Session.take_block.Goals as goal
 

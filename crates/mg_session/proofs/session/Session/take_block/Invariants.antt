@@ -1,5 +1,5 @@
 use Rattle.std.proofs.Common.{◌≡◌, take}
-use Rattle.mg_session.specs.Reports.{events, after}
+use Rattle.mg_reports.specs.Reports.{events, after}
 use Rattle.mg_session.specs.Running.{Took}
 use Rattle.mg_session.specs.declared.course.Course.TheVariants.{On}
 use Rattle.mg_session.proofs.session.Session.take_block.Given as goal

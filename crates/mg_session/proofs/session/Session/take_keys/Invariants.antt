@@ -1,4 +1,4 @@
-use Rattle.mg_session.specs.Reports.{fresh}
+use Rattle.mg_reports.specs.Reports.{fresh}
 use Rattle.mg_session.proofs.SessionLaws.{ReadsOn}
 use Rattle.mg_session.proofs.session.Session.take_keys.Given as goal
 

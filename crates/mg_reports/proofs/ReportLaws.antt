@@ -5,7 +5,7 @@ use Rattle.std.proofs.lemmas.List.Folds.{concat-append}
 use Rattle.std.specs.List.{concat}
 use Rattle.std.specs.Prelude.{nat_eq}
 use Rattle.std.proofs.lemmas.Bool.{eqb-true}
-use Rattle.mg_session.specs.Reports.{block_end, keys, Reports, read, events, after, block_events, read_events, after_reads, held_events}
+use Rattle.mg_reports.specs.Reports.{block_end, keys, Reports, read, events, after, block_events, read_events, after_reads, held_events}
 
 pub events_more : (r : Reports) (xs ys : List ℕ) → events r (xs ++ ys) ≡ events r xs ++ events (after r xs) ys
 events_more r [] ys = refl

@@ -1,6 +1,6 @@
 //! Reports of the screen's size, which stand among the keys.
 ghost use Rattle.std.specs.Prelude.{◌≡◌, [], ◌∷◌};
-ghost use Rattle.mg_session.specs.Reports as spec;
+ghost use Rattle.mg_reports.specs.Reports as spec;
 
 use arrayvec::ArrayVec;
 use std::marker::Model;
@@ -16,9 +16,9 @@ const ROOM: usize = 14;
 
 /// A number of a report, as far as its digits have come.
 #[derive(Clone, Copy)]
-pub(crate) struct Number {
-    pub(crate) digits: usize,
-    pub(crate) value: usize,
+struct Number {
+    digits: usize,
+    value: usize,
 }
 
 const NO_DIGITS: Number = Number {
@@ -28,7 +28,7 @@ const NO_DIGITS: Number = Number {
 
 /// What comes next in a report.
 #[derive(Clone, Copy)]
-pub(crate) enum Awaited {
+enum Awaited {
     Escape,
     Bracket,
     Eight,
@@ -41,7 +41,7 @@ pub(crate) enum Awaited {
 
 /// What a byte makes of a report.
 #[derive(Clone, Copy)]
-pub(crate) enum Progress {
+enum Progress {
     /// The report goes on.
     Begun(Awaited),
     /// It is whole: its rows and its columns.
@@ -125,11 +125,11 @@ fn follow(awaited: Awaited, byte: u8) -> Progress
 }
 
 /// Bytes that are held.
-pub(crate) type Held = ArrayVec<u8, ROOM>;
+pub type Held = ArrayVec<u8, ROOM>;
 
 /// What a byte leads to.
 #[derive(Drop)]
-pub(crate) enum Meaning {
+pub enum Meaning {
     /// These keys, or none while a report is begun.
     Keys(Held),
     /// The rows and the columns of a report.
@@ -138,7 +138,7 @@ pub(crate) enum Meaning {
 
 /// The bytes that begin a report, held until it is whole or turns out to be none.
 #[derive(Drop)]
-pub(crate) struct Reports {
+pub struct Reports {
     /// Whether there are reports among the keys at all.
     resizable: bool,
     awaited: Awaited,
@@ -146,7 +146,7 @@ pub(crate) struct Reports {
 }
 
 impl Model for Reports {
-    ghost use Rattle.mg_session.specs.Reports as spec;
+    ghost use Rattle.mg_reports.specs.Reports as spec;
     ghost use Rattle.std.specs.Prelude.{length};
 
     ghost Value = { spec.Reports };
@@ -169,8 +169,8 @@ fn alone(byte: u8) -> Held
 }
 
 impl Reports {
-    /// No report is begun.
-    pub(crate) fn new(resizable: bool) -> Reports
+    /// No report is begun; whether there are any among the keys is told. Takes no memory.
+    pub fn new(resizable: bool) -> Reports
         ensures { result ≡ spec.fresh resizable }
     {
         Reports {
@@ -180,8 +180,8 @@ impl Reports {
         }
     }
 
-    /// Takes a byte, and answers what it leads to.
-    pub(crate) fn read(&mut self, byte: u8) -> Meaning
+    /// Takes a byte, and answers what it leads to. Takes no memory.
+    pub fn read(&mut self, byte: u8) -> Meaning
         ensures left { self.new ≡ (spec.read self.old byte).left }
         ensures events { spec.events_of result ≡ (spec.read self.old byte).events }
     {
@@ -219,8 +219,8 @@ impl Reports {
         keys
     }
 
-    /// Takes the bytes that are held, which are no report.
-    pub(crate) fn take_held(&mut self) -> Held
+    /// Takes the bytes that are held, which are no report. Takes no memory.
+    pub fn take_held(&mut self) -> Held
         ensures { result.items ≡ self.old.held }
     {
         self.awaited = Awaited::Escape;

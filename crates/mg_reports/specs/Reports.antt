@@ -1,13 +1,13 @@
 -- Reports of the screen's size among the keys: ESC [ 8 ; ROWS ; COLUMNS t, with one to four decimal digits for each number.
 use Rattle.std.specs.Prelude.{ℕ, ◌≡◌, ◌+◌, ◌-◌, ◌*◌, ◌^◌, ◌≤◌, ◌<◌, ⊤, Bool, List, [], ◌∷◌, ◌++◌, map, Option, Some, None, if◌then◌else◌, nat_eq, nat_lt, nat_le}
-use Rattle.mg_session.specs.declared.reports.TheConstants.{ESCAPE, MAX_DIGITS}
-use Rattle.mg_session.specs.declared.reports.Number.{Number}
-use Rattle.mg_session.specs.declared.reports.Awaited.{Awaited}
-use Rattle.mg_session.specs.declared.reports.Awaited.TheVariants.{Escape, Bracket, Eight, Semicolon, Rows, Columns}
-use Rattle.mg_session.specs.declared.reports.Progress.{Progress}
-use Rattle.mg_session.specs.declared.reports.Progress.TheVariants.{Begun, Whole, Broken}
-use Rattle.mg_session.specs.declared.reports.Meaning.{Meaning}
-use Rattle.mg_session.specs.declared.reports.Meaning.TheVariants.{Keys, Size}
+use Rattle.mg_reports.specs.declared.reports.TheConstants.{ESCAPE, MAX_DIGITS}
+use Rattle.mg_reports.specs.declared.reports.Number.{Number}
+use Rattle.mg_reports.specs.declared.reports.Awaited.{Awaited}
+use Rattle.mg_reports.specs.declared.reports.Awaited.TheVariants.{Escape, Bracket, Eight, Semicolon, Rows, Columns}
+use Rattle.mg_reports.specs.declared.reports.Progress.{Progress}
+use Rattle.mg_reports.specs.declared.reports.Progress.TheVariants.{Begun, Whole, Broken}
+use Rattle.mg_reports.specs.declared.reports.Meaning.{Meaning}
+use Rattle.mg_reports.specs.declared.reports.Meaning.TheVariants.{Keys, Size}
 
 -- what bytes lead to: a key that is pressed, rows and columns that the screen takes, or the end of those that one read
 -- gave
