@@ -7,8 +7,8 @@ use Rattle.mg_screen.specs.declared.screen.Position.{Position}
 use Rattle.mg_screen.specs.Frame.{rows_of}
 use Rattle.mg_screen.specs.Layout.{Layout, FillsRows}
 use Rattle.mg_screen.specs.Screen.{Pane, Screen}
+use Rattle.mg_dialogue.specs.Echo.{echo_text}
 use Rattle.mg_editor.specs.Editors.{Editor}
-use Rattle.mg_editor.specs.Echo.{echo_text}
 use Rattle.mg_editor.specs.Frames.{Shows, ShowsPlaced, IsScreen}
 use Rattle.mg_workspace.specs.declared.viewport.Viewport.{Viewport}
 use Rattle.mg_workspace.specs.Showing.{panes_of, placed, placed_work, work_panes}

@@ -1,9 +1,9 @@
 -- What steps leave of the editor, put together.
 use Rattle.std.proofs.Common.{inl, inr, ◌≡◌, ◌≢◌, ℕ, List, Some, Err, refl, sym, ap, subst, ◌∙◌}
 use Rattle.mg_files.specs.OpenState.{OpenState}
+use Rattle.mg_dialogue.specs.Dialogues.{Dialogue, Fed, Forgot}
 use Rattle.mg_buffers.specs.Buffers.{Buffers}
 use Rattle.mg_workspace.specs.Actions.{all_unlisted}
-use Rattle.mg_editor.specs.Dialogues.{Dialogue, Fed, Forgot}
 use Rattle.mg_editor.specs.Editors.{Editor}
 use Rattle.mg_keys.specs.declared.step.Step.{Step}
 use Rattle.mg_minibuffer.specs.PromptStep.{prompt_step}

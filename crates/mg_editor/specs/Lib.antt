@@ -1,4 +1,3 @@
-pub mod Dialogues
 pub mod Editors
 pub mod Current
 pub mod Presses
@@ -7,5 +6,4 @@ pub mod Telling
 pub mod Finding
 pub mod Meeting
 pub mod Carrying
-pub mod Echo
 pub mod Frames

@@ -1,16 +1,15 @@
 -- The editor that opens, and its text.
-use Rattle.std.specs.Prelude.{◌≡◌, ℕ, List, [], None, Result, Ok, Err}
+use Rattle.std.specs.Prelude.{◌≡◌, ℕ, List, Result, Ok, Err}
 use Rattle.rga_ops.specs.Order.{text}
 use Rattle.rga_exchange.specs.declared.log.LogEnd.{LogEnd}
 use Rattle.rga_exchange.specs.declared.log.LogEnd.TheVariants.{Whole, Bare, Torn}
-use Rattle.mg_keys.specs.declared.step.Mode.TheVariants as modes
 use Rattle.mg_files.specs.Files.{Files}
 use Rattle.mg_files.specs.Loading.{load_outcome}
 use Rattle.mg_files.specs.OpenState.{OpenState}
 use Rattle.mg_files.specs.declared.fault.LoadFault.{LoadFault}
 use Rattle.mg_minibuffer.specs.declared.message.Message.{Message}
 use Rattle.mg_minibuffer.specs.declared.message.Message.TheVariants.{Nothing, TornLog}
-use Rattle.mg_editor.specs.Dialogues.{Dialogue, IsFresh}
+use Rattle.mg_dialogue.specs.Dialogues.{Begins}
 use Rattle.mg_editor.specs.Editors.{Editor}
 use Rattle.mg_settings.specs.Settings.{Values}
 use Rattle.mg_workspace.specs.Opening.{workspace}
@@ -21,11 +20,6 @@ abbrev pub message_of_end : LogEnd → Message
 message_of_end Whole = Nothing
 message_of_end Bare = Nothing
 message_of_end (Torn bytes) = TornLog bytes
-
--- no prompt is open, and this is said
-pub record Begins (said : Message) (d : Dialogue) : Type 0 where
-  pub keys : IsFresh d.keys modes.Plain
-  pub rest : d ≡ record { keys = d.keys; prompt = None; message = said; last = [] }
 
 -- the editor with that buffer, whose log ended so
 pub record IsEditorOf (v : Values) (b : OpenState) (end : LogEnd) (e : Editor) : Type 0 where

@@ -20,8 +20,8 @@ use Rattle.mg_minibuffer.specs.PlainStep.{plain_step}
 use Rattle.mg_minibuffer.specs.PromptStep.{prompt_step}
 use Rattle.mg_minibuffer.specs.ReplacementStep.{next_match, sum}
 use Rattle.mg_minibuffer.specs.SearchStep.{or_last}
+use Rattle.mg_dialogue.specs.Dialogues.{Dialogue, IsFresh, mode_of, Fed, Shown, Forgot, search_of, AcceptedSearch, Closes, Reopened}
 use Rattle.mg_workspace.specs.Actions.{ActionVerdict, Done, Keeps, Ran}
-use Rattle.mg_editor.specs.Dialogues.{Dialogue, IsFresh, mode_of, Fed, Shown, Forgot, search_of, AcceptedSearch, Closes, Reopened}
 use Rattle.mg_editor.specs.Editors.{Editor}
 use Rattle.mg_workspace.specs.Workspaces.{Workspace, IsCurrent, IsListed, scene_of}
 use Rattle.mg_workspace.specs.declared.fault.ActionFault.{ActionFault}

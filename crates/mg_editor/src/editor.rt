@@ -5,7 +5,7 @@ ghost use Rattle.mg_screen.specs.Layout.{FillsRows};
 ghost use Rattle.mg_screen.specs.declared.size.TheConstants.{MIN_ROWS, MAX_ROWS, MIN_COLUMNS, MAX_COLUMNS};
 ghost use Rattle.mg_workspace.specs.Actions.{resized};
 
-use crate::dialogue::Dialogue;
+use mg_dialogue::Dialogue;
 use mg_minibuffer::Message;
 use mg_workspace::Workspace;
 use rga_store::TextStore;
@@ -38,7 +38,7 @@ impl<S: TextStore> Editor<S> {
     pub fn message(&self) -> Message
         ensures { result ≡ self.now.talk.message }
     {
-        self.talk.message
+        self.talk.message()
     }
 
     /// Says a message. Takes no memory.

@@ -5,8 +5,8 @@ ghost use Rattle.mg_files.specs.Loading.{load_outcome};
 ghost use Rattle.mg_files.specs.declared.fault.LoadFault.TheVariants.{Memory};
 ghost use Rattle.mg_editor.specs.Opening as spec;
 
-use crate::dialogue::Dialogue;
 use crate::editor::Editor;
+use mg_dialogue::Dialogue;
 use mg_files::{Found, LoadFault, VisitedBuffer};
 use mg_minibuffer::Message;
 use mg_settings::{Settings, Values};

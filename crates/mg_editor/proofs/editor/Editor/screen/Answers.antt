@@ -1,6 +1,6 @@
 use Rattle.std.proofs.Common.{rules, ◌≡◌, string_bytes, sym, ap, subst, ◌∙◌}
 use Rattle.mg_screen.specs.Screen.{Screen}
-use Rattle.mg_editor.specs.Echo.{echo_text}
+use Rattle.mg_dialogue.specs.Echo.{echo_text}
 use Rattle.mg_editor.specs.Editors.{Editor}
 use Rattle.mg_editor.specs.Frames.{IsScreen}
 use Rattle.mg_workspace.specs.Showing.{IsName}

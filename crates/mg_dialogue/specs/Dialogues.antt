@@ -35,6 +35,11 @@ pub record IsFresh (keys : KeyState) (m : Mode) : Type 0 where
   pub mode : keys.mode ≡ m
   pub begun : HasBegun keys []
 
+-- no prompt is open, and this is said
+pub record Begins (said : Message) (d : Dialogue) : Type 0 where
+  pub keys : IsFresh d.keys modes.Plain
+  pub rest : d ≡ record { keys = d.keys; prompt = None; message = said; last = [] }
+
 -- The byte led to the step, behind those since the last whole sequence. Bytes are read as before.
 pub record Fed (byte : ℕ) (step : Step) (old new : Dialogue) : Type 0 where
   pub answers : (bytes : List ℕ) → HasBegun old.keys bytes →

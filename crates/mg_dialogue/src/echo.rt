@@ -1,7 +1,7 @@
 //! The echo line.
 ghost use Rattle.std.specs.Prelude.{◌≡◌, ◌++◌, IfOk, encode_utf8_all, string_bytes};
 ghost use Rattle.mg_minibuffer.specs.Prompts.{label, answer};
-ghost use Rattle.mg_editor.specs.Echo as spec;
+ghost use Rattle.mg_dialogue.specs.Echo as spec;
 
 use crate::dialogue::Dialogue;
 use mg_buffer::push_characters;
@@ -9,9 +9,16 @@ use mg_minibuffer::{Message, Prompt};
 use std::alloc::{AllocError, Global};
 
 impl Dialogue {
+    /// What is said, where the echo line does not show an open prompt. Takes no memory.
+    pub fn message(&self) -> Message
+        ensures { result ≡ self.now.message }
+    {
+        self.message
+    }
+
     /// What the echo line says: the message, of a buffer with that name; where there is none, the
-    /// open prompt, and the answer so far.
-    pub(crate) fn echo(&self, alloc: Global, name: &str) -> Result<String, AllocError>
+    /// open prompt, and the answer so far. `AllocError` alone.
+    pub fn echo(&self, alloc: Global, name: &str) -> Result<String, AllocError>
         ensures { IfOk result (λ text. string_bytes text ≡ spec.echo_text self.now name.now) }
     {
         match self.message {
@@ -21,7 +28,8 @@ impl Dialogue {
     }
 
     /// Whether the cursor stands in the echo line: no message stands there, and a line is asked for.
-    pub(crate) fn has_cursor(&self) -> bool
+    /// Takes no memory.
+    pub fn has_cursor(&self) -> bool
         ensures { result ≡ spec.has_cursor self.now }
     {
         match self.message {

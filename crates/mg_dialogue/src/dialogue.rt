@@ -1,8 +1,7 @@
 //! What is talked with the user: the keys, the open prompt, the message.
 ghost use Rattle.std.specs.Prelude.{◌≡◌, ◌↔◌, [], false, IfOk, is_some};
 ghost use Rattle.mg_keys.specs.Begun.{HasBegun};
-ghost use Rattle.mg_editor.specs.Dialogues as spec;
-ghost use Rattle.mg_editor.specs.Opening.{Begins};
+ghost use Rattle.mg_dialogue.specs.Dialogues as spec;
 
 use mg_keys::{Keys, Mode, Step};
 use mg_minibuffer::{Message, Next, Prompt, Reaction, Scene, Search, prompt_step};
@@ -12,17 +11,17 @@ use std::marker::Model;
 
 /// The keys are always read as the open prompt wants it.
 #[derive(Drop)]
-pub(crate) struct Dialogue {
+pub struct Dialogue {
     keys: Keys,
     pub(crate) prompt: Option<Prompt>,
     pub(crate) message: Message,
     /// The pattern that was accepted last.
-    pub(crate) last: Chars,
+    last: Chars,
 }
 
 impl Model for Dialogue {
     ghost use Rattle.std.specs.Prelude.{◌≡◌};
-    ghost use Rattle.mg_editor.specs.Dialogues as spec;
+    ghost use Rattle.mg_dialogue.specs.Dialogues as spec;
 
     ghost Value = { spec.Dialogue };
 
@@ -47,8 +46,8 @@ fn mode_of(prompt: &Option<Prompt>) -> Mode
 
 impl Dialogue {
     /// No prompt is open, and this is said. Takes no memory.
-    pub(crate) fn new(alloc: Global, message: Message) -> Dialogue
-        ensures { Begins message result }
+    pub fn new(alloc: Global, message: Message) -> Dialogue
+        ensures { spec.Begins message result }
     {
         Dialogue {
             keys: Keys::new(),
@@ -58,15 +57,16 @@ impl Dialogue {
         }
     }
 
-    /// What a byte leads to, behind those before it.
-    pub(crate) fn feed(&mut self, byte: u8) -> Step
+    /// What a byte leads to, behind those before it. Takes no memory.
+    pub fn feed(&mut self, byte: u8) -> Step
         ensures { spec.Fed byte result self.old self.new }
     {
         self.keys.feed(byte)
     }
 
-    /// The prompt and the message behind a step. The key sequence begun is forgotten.
-    pub(crate) fn show(&mut self, next: Next, message: Message)
+    /// The prompt and the message behind a step. The key sequence begun is forgotten. Takes no
+    /// memory.
+    pub fn show(&mut self, next: Next, message: Message)
         ensures { spec.Shown next message self.old self.new }
     {
         match next {
@@ -75,18 +75,19 @@ impl Dialogue {
             Next::Open(prompt) => self.prompt = Some(prompt),
         }
         self.keys.enter(mode_of(&self.prompt));
-        self.message = message;
+        self.tell(message);
     }
 
-    /// The key sequence begun is forgotten.
-    pub(crate) fn forget(&mut self)
+    /// The key sequence begun is forgotten. Takes no memory.
+    pub fn forget(&mut self)
         ensures { spec.Forgot self.old self.new }
     {
-        self.keys.enter(mode_of(&self.prompt));
+        let mode = mode_of(&self.prompt);
+        self.keys.enter(mode);
     }
 
-    /// An open search is closed, and given back.
-    pub(crate) fn take_search(&mut self) -> Option<Search>
+    /// An open search is closed, and given back. Takes no memory.
+    pub fn take_search(&mut self) -> Option<Search>
         ensures { spec.TookSearch result self.old self.new }
     {
         match self.prompt.take() {
@@ -101,16 +102,16 @@ impl Dialogue {
         }
     }
 
-    /// The search is open again.
-    pub(crate) fn reopen(&mut self, search: Search)
+    /// The search is open again. Takes no memory.
+    pub fn reopen(&mut self, search: Search)
         ensures { spec.Reopened search self.old self.new }
     {
         self.prompt = Some(Prompt::Searching(search));
         self.keys.enter(Mode::Search);
     }
 
-    /// The pattern of a search becomes the last one accepted, unless it is empty.
-    pub(crate) fn accept(&mut self, search: Search)
+    /// The pattern of a search becomes the last one accepted, unless it is empty. Takes no memory.
+    pub fn accept(&mut self, search: Search)
         ensures { self.new ≡ record self.old { last = spec.or_last search.pattern self.old.last } }
     {
         let last = std::mem::replace(&mut self.last, search.pattern);
@@ -119,29 +120,29 @@ impl Dialogue {
         }
     }
 
-    /// Nothing is said any more.
-    pub(crate) fn fall_silent(&mut self)
+    /// Nothing is said any more. Takes no memory.
+    pub fn fall_silent(&mut self)
         ensures { self.new ≡ record self.old { message = Message.Nothing } }
     {
         self.message = Message::Nothing;
     }
 
-    /// Says something.
-    pub(crate) fn tell(&mut self, message: Message)
+    /// Says something. Takes no memory.
+    pub fn tell(&mut self, message: Message)
         ensures { self.new ≡ record self.old { message = message } }
     {
         self.message = message;
     }
 
-    /// Whether some bytes of a key sequence were read, and it is not whole yet.
-    pub(crate) fn is_amid_keys(&self) -> bool
+    /// Whether some bytes of a key sequence were read, and it is not whole yet. Takes no memory.
+    pub fn is_amid_keys(&self) -> bool
         ensures { (result ≡ false) ↔ HasBegun self.now.keys [] }
     {
         self.keys.has_begun()
     }
 
-    /// The prompt closes, and an open search is accepted.
-    pub(crate) fn accept_search(&mut self)
+    /// The prompt closes, and an open search is accepted. Takes no memory.
+    pub fn accept_search(&mut self)
         ensures { spec.AcceptedSearch self.old self.new }
     {
         match self.take_search() {
@@ -153,14 +154,15 @@ impl Dialogue {
         }
     }
 
-    pub(crate) fn has_prompt(&self) -> bool
+    /// Whether a prompt is open. Takes no memory.
+    pub fn has_prompt(&self) -> bool
         ensures { result ≡ is_some self.now.prompt }
     {
         self.prompt.is_some()
     }
 
-    /// What a step leads to at the open prompt.
-    pub(crate) fn react(
+    /// What a step leads to at the open prompt. `AllocError` alone.
+    pub fn react(
         &self,
         alloc: Global,
         step: &Step,

@@ -6,7 +6,7 @@ use Rattle.mg_minibuffer.specs.declared.message.Message.{Message}
 use Rattle.mg_minibuffer.specs.declared.message.Message.TheVariants.{Nothing}
 use Rattle.mg_minibuffer.specs.declared.prompt.Prompt.{Prompt}
 use Rattle.mg_minibuffer.specs.declared.prompt.Prompt.TheVariants.{Line, Replacement, Searching, Replacing, Quitting}
-use Rattle.mg_editor.specs.Dialogues.{Dialogue}
+use Rattle.mg_dialogue.specs.Dialogues.{Dialogue}
 
 -- an open prompt, and the answer so far, as UTF-8
 abbrev pub prompt_text : Option Prompt → List ℕ

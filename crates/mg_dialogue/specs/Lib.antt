@@ -1,0 +1,2 @@
+pub mod Dialogues
+pub mod Echo
