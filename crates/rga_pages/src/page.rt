@@ -73,7 +73,9 @@ impl Page {
         if self.entries.insert(index, (id, value)).is_err() {
             return Err(Refusal::Memory);
         }
-        self.first = first_of(self.entries.as_slice());
+        if index == 0 {
+            self.first = id;
+        }
         Ok(())
     }
 
@@ -83,7 +85,9 @@ impl Page {
         ensures { self.new ≡ slice_set self.old index (id, value) }
     {
         self.entries[index] = (id, value);
-        self.first = first_of(self.entries.as_slice());
+        if index == 0 {
+            self.first = id;
+        }
     }
 
     /// The entry at an index goes. Takes no memory.
