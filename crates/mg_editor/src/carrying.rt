@@ -14,7 +14,7 @@ use mg_buffer::string_of;
 use mg_files::{Port, PortFault};
 use mg_minibuffer::{Message, Request};
 use rga_exchange::LogEnd;
-use rga_store::TextStore;
+use rga_telling::Teller;
 
 /// What is said of a save.
 fn message_of_save(answer: Result<bool, PortFault>) -> Message
@@ -56,7 +56,7 @@ fn opening_done(answer: Result<LogEnd, CarryFault>) -> Result<(), CarryFault>
     }
 }
 
-impl<S: TextStore> Editor<S> {
+impl<S: Teller> Editor<S> {
     /// Carries a request to a port. `Save` saves the current buffer, as `VisitedBuffer::save` does,
     /// and says what came of it: that it was written, that there were no changes, or the fault. `Find`
     /// goes to the buffer of that name, which asks nothing of a port where it is open; else, unless

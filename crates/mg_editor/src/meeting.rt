@@ -9,7 +9,7 @@ use crate::telling::message_of_exchange;
 use mg_files::Port;
 use mg_minibuffer::Message;
 use mg_sync::{ExchangeFault, Exchanged};
-use rga_store::TextStore;
+use rga_telling::Teller;
 
 /// What is said of a meeting.
 fn message_of_meeting(answer: &Result<Exchanged, ExchangeFault>) -> Message
@@ -30,7 +30,7 @@ fn meeting_done(answer: Result<Exchanged, ExchangeFault>) -> Result<(), CarryFau
     }
 }
 
-impl<S: TextStore> Editor<S> {
+impl<S: Teller> Editor<S> {
     /// The current buffer is exchanged with a peer that waits, which is said.
     pub(crate) fn exchange<P: Port>(&mut self, port: &mut P) -> Result<(), CarryFault>
         ensures told { spec.Exchanged

@@ -7,6 +7,7 @@ use mg_files::Port;
 use mg_minibuffer::{Message, Request};
 use mg_plain::Notice;
 use rga_store::TextStore;
+use rga_telling::Teller;
 
 /// Presses a byte. Want of memory is said.
 fn press<S: TextStore>(editor: &mut Editor<S>, byte: u8) -> Request
@@ -23,11 +24,7 @@ fn press<S: TextStore>(editor: &mut Editor<S>, byte: u8) -> Request
 
 /// Presses a byte, carries what it requests, and answers whether the session ends. What fails is
 /// said.
-pub(crate) fn take_key<S: TextStore, P: Port>(
-    editor: &mut Editor<S>,
-    byte: u8,
-    port: &mut P,
-) -> bool
+pub(crate) fn take_key<S: Teller, P: Port>(editor: &mut Editor<S>, byte: u8, port: &mut P) -> bool
     ensures { spec.TakesKey byte
         (P.calls port.old) (P.calls port.new) editor.old editor.new result }
 {

@@ -21,6 +21,7 @@ use mg_screen::{MAX_COLUMNS, MAX_ROWS, MIN_COLUMNS, MIN_ROWS};
 use mg_settings::Settings;
 use rga_lines::Counted;
 use rga_store::TextStore;
+use rga_telling::Teller;
 use std::alloc::Global;
 use std::io::{Read, Write};
 
@@ -57,7 +58,7 @@ struct Session {
 /// Faults end a session at once: `File` and `Load` of the first load, `Keys` and `Screen` of the
 /// devices, and `Memory`, at the load and where a frame is made. Any other fault is said in the
 /// next frame, and the session goes on.
-pub fn run_keys<S: TextStore, R: Read, W: Write, P: Port>(
+pub fn run_keys<S: Teller, R: Read, W: Write, P: Port>(
     alloc: Global,
     keys: &mut Counted<R>,
     screen: &mut Counted<W>,
@@ -155,7 +156,7 @@ fn session_of(alloc: Global, settings: &Settings) -> Session
 
 impl Session {
     /// Takes what the keys mean, between a frame at the start and one at the end.
-    fn run<S: TextStore, R: Read, W: Write, P: Port>(
+    fn run<S: Teller, R: Read, W: Write, P: Port>(
         &self,
         editor: &mut Editor<S>,
         keys: &mut Counted<R>,
@@ -194,7 +195,7 @@ impl Session {
     }
 
     /// Presses a key.
-    fn press<S: TextStore, W: Write, P: Port>(
+    fn press<S: Teller, W: Write, P: Port>(
         &self,
         editor: &mut Editor<S>,
         key: u8,
@@ -211,7 +212,7 @@ impl Session {
     }
 
     /// Presses keys up to one that quits.
-    fn press_all<S: TextStore, W: Write, P: Port>(
+    fn press_all<S: Teller, W: Write, P: Port>(
         &self,
         editor: &mut Editor<S>,
         keys: &[u8],
@@ -264,7 +265,7 @@ impl Session {
     }
 
     /// Takes what a byte leads to.
-    fn take<S: TextStore, W: Write, P: Port>(
+    fn take<S: Teller, W: Write, P: Port>(
         &self,
         editor: &mut Editor<S>,
         meaning: Meaning,
@@ -282,7 +283,7 @@ impl Session {
     }
 
     /// Takes what the bytes of a read lead to, up to a key that quits.
-    fn take_block<S: TextStore, W: Write, P: Port>(
+    fn take_block<S: Teller, W: Write, P: Port>(
         &self,
         editor: &mut Editor<S>,
         reports: &mut Reports,
@@ -306,7 +307,7 @@ impl Session {
     }
 
     /// Presses the bytes that are held at the end of all keys, up to one that quits.
-    fn press_held<S: TextStore, W: Write, P: Port>(
+    fn press_held<S: Teller, W: Write, P: Port>(
         &self,
         editor: &mut Editor<S>,
         held: &[u8],
@@ -328,7 +329,7 @@ impl Session {
 
     /// Takes what the keys mean, block by block, up to one that quits. At their end the bytes that
     /// are held are pressed.
-    fn take_keys<S: TextStore, R: Read, W: Write, P: Port>(
+    fn take_keys<S: Teller, R: Read, W: Write, P: Port>(
         &self,
         editor: &mut Editor<S>,
         keys: &mut Counted<R>,

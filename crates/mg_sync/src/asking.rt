@@ -11,13 +11,13 @@ use rga_digest::Summary;
 use rga_exchange::{ReceiveFault, SendFault};
 use rga_lines::Counted;
 use rga_ops::Refusal;
-use rga_store::TextStore;
+use rga_telling::Teller;
 use std::alloc::Global;
 use std::io::{Read, Write};
 
 /// Asks a peer what it knows, where the exchanges of a buffer are brief: tells first what the buffer
 /// holds in short, and then hears the peer. `None` where they are not, and nothing passes then.
-pub(crate) fn ask<S: TextStore, L: Read + Write>(
+pub(crate) fn ask<S: Teller, L: Read + Write>(
     alloc: Global,
     opened: &VisitedBuffer<S>,
     link: &mut Counted<L>,
@@ -36,7 +36,7 @@ pub(crate) fn ask<S: TextStore, L: Read + Write>(
 /// Answers a peer that asks, where the exchanges of a buffer are brief: hears first what it knows,
 /// and then tells what the buffer holds in short. `None` where they are not, and nothing passes
 /// then.
-pub(crate) fn answer<S: TextStore, L: Read + Write>(
+pub(crate) fn answer<S: Teller, L: Read + Write>(
     alloc: Global,
     opened: &VisitedBuffer<S>,
     link: &mut Counted<L>,
@@ -55,7 +55,7 @@ pub(crate) fn answer<S: TextStore, L: Read + Write>(
 }
 
 /// What a buffer holds in short, as lines. `Memory` alone.
-fn own_lines<S: TextStore>(alloc: Global, opened: &VisitedBuffer<S>) -> Result<Vec<u8>, Refusal>
+fn own_lines<S: Teller>(alloc: Global, opened: &VisitedBuffer<S>) -> Result<Vec<u8>, Refusal>
     ensures { IfOk result (λ lines. IsTold lines.items opened.now.buffer.content) }
 {
     summary_lines(alloc, opened.buffer.store())

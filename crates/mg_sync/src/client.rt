@@ -8,7 +8,7 @@ use crate::fault::ExchangeFault;
 use crate::talking::{Exchanged, hear_and_save, tell};
 use mg_files::{Port, VisitedBuffer};
 use rga_lines::Counted;
-use rga_store::TextStore;
+use rga_telling::Teller;
 use std::alloc::Global;
 
 /// Exchanges a buffer with the peer that a port connects to: saves it, opens a link, sends all that
@@ -24,7 +24,7 @@ use std::alloc::Global;
 /// Where the buffer's exchanges are brief it first tells what it holds in short, and hears what the
 /// peer knows; then it sends only what the peer lacks by that. `Send` and `Receive` may come there
 /// too, and nothing else is done then.
-pub fn exchange<S: TextStore, P: Port>(
+pub fn exchange<S: Teller, P: Port>(
     alloc: Global,
     opened: &mut VisitedBuffer<S>,
     port: &mut P,

@@ -4,7 +4,7 @@
 //! buffer first, and save it again once they have heard the peer. Where the exchanges of a buffer
 //! are brief both tell first what they know, and then send only what the other lacks. The crate
 //! stands on mg_files for buffers, ports and saves, and on rga_exchange, rga_brief and rga_lines for
-//! what passes over a link. It is generic over any `TextStore` and any port. The layer above may
+//! what passes over a link. It is generic over any `Teller` and any port. The layer above may
 //! rest on one record of facts for each (`Exchanges`, `Serves`): which calls are made of the port,
 //! in which order and up to which fault; what passed over the link; and what was gained and what
 //! stayed, whatever was answered. Another (`ExchangesOver`, `ServesOver`) says so of the one link

@@ -8,7 +8,7 @@ use crate::fault::ExchangeFault;
 use crate::talking::{Exchanged, hear_and_save, tell};
 use mg_files::{Port, VisitedBuffer};
 use rga_lines::Counted;
-use rga_store::TextStore;
+use rga_telling::Teller;
 use std::alloc::Global;
 
 /// Exchanges a buffer with the first peer that a port accepts: saves it, waits for a link, takes
@@ -24,7 +24,7 @@ use std::alloc::Global;
 /// Where the buffer's exchanges are brief it first hears what the peer knows, and tells what it
 /// holds in short; its reply is then only what the peer lacks by that. `Receive` and `Send` may come
 /// there too, and nothing else is done then.
-pub fn serve<S: TextStore, P: Port>(
+pub fn serve<S: Teller, P: Port>(
     alloc: Global,
     opened: &mut VisitedBuffer<S>,
     port: &mut P,

@@ -10,6 +10,7 @@ use rga_digest::Summary;
 use rga_exchange::{ReceiveFault, SendFault, receive, send};
 use rga_lines::Counted;
 use rga_store::TextStore;
+use rga_telling::Teller;
 use std::alloc::Global;
 use std::io::{Read, Write};
 
@@ -21,7 +22,7 @@ pub struct Exchanged {
 }
 
 /// Sends what a buffer holds: all of it, or what the peer lacks by the summary that it gave.
-pub(crate) fn tell<S: TextStore, L: Write>(
+pub(crate) fn tell<S: Teller, L: Write>(
     alloc: Global,
     opened: &VisitedBuffer<S>,
     peer: &Option<Summary>,

@@ -16,13 +16,13 @@ use rga_digest_lines::{Claim, claims_of, write_claim};
 use rga_exchange::{SendFault, send_list};
 use rga_lines::{Counted, write_end};
 use rga_ops::Refusal;
-use rga_store::TextStore;
+use rga_telling::Teller;
 use std::alloc::Global;
 use std::io::Write;
 
 /// What is told of a store: the claims of its summary, a line each, and the line that ends an
 /// exchange, which counts them; each with its newline. `Memory` alone.
-pub fn summary_lines<S: TextStore>(alloc: Global, store: &S) -> Result<Vec<u8>, Refusal>
+pub fn summary_lines<S: Teller>(alloc: Global, store: &S) -> Result<Vec<u8>, Refusal>
     ensures ok { IfOk result (λ lines. IsTold lines.items (S.content store.now)) }
     ensures memory { IfErr result (λ e. e ≡ Refusal.Memory) }
 {
@@ -95,7 +95,7 @@ fn push_line(line: &str, text: &mut Vec<u8>) -> Result<(), Refusal>
 ///
 /// Whatever the peer claims, nothing else is sent. `Memory` comes before anything was written where
 /// it is the list that finds no room; else the faults are those of `send`.
-pub fn send_missing<S: TextStore, W: Write>(
+pub fn send_missing<S: Teller, W: Write>(
     alloc: Global,
     store: &S,
     peer: &Summary,

@@ -3,15 +3,14 @@ use Rattle.std.proofs.Common.{◌≡◌, ℕ, ◌==◌, Bool, true, false, cond,
 use Rattle.std.specs.Prelude.{Some, None}
 use Rattle.std.specs.Option.{unwrap_or}
 use Rattle.std.specs.List.{cons_option}
-use Rattle.std.specs.FinMap as finite_map
 use Rattle.std.specs.FinSet as finite_set
 use Rattle.std.proofs.lemmas.Bool.{and_parts}
 use Rattle.std.proofs.lemmas.List.{append-nil}
 use Rattle.std.proofs.lemmas.List.Elements.{filter_map-append}
 use Rattle.std.proofs.lemmas.List.Sums.{fold-append}
 use Rattle.rga_ops.specs.Identifier.{Identifier}
-use Rattle.rga_ops.specs.Content.{Element, Content}
-use Rattle.rga_ops.specs.Operations.{insertion_of, insertions, deletions, operations, rising}
+use Rattle.rga_ops.specs.Content.{Content}
+use Rattle.rga_ops.specs.Operations.{deletions, rising}
 use Rattle.rga_ops.specs.declared.op.Op.{Op}
 use Rattle.rga_ops.specs.declared.op.Op.TheVariants.{Insert, Delete}
 use Rattle.rga_digest.specs.declared.block.Block.{Block}
@@ -44,10 +43,6 @@ same_block a b h =
 
 -- ---- the deletions of a content
 
-none_inserted : (block : Block) (es : List (Identifier × Element)) → deleted_by block (map insertion_of es) ≡ []
-none_inserted block [] = refl
-none_inserted block (e ∷ es) = none_inserted block es
-
 chosen : (b : Bool) (id : Identifier) (ids : List Identifier) → cons_option (cond b (Some id.counter) None) (map (λ x. x.counter) ids) ≡ map (λ x. x.counter) (cond b (id ∷ ids) ids)
 chosen true id ids = refl
 chosen false id ids = refl
@@ -58,7 +53,5 @@ by_filter block (id ∷ ids) =
     ap (cons_option (cond (is_block (block_of id) block) (Some id.counter) None)) (by_filter block ids)
     ∙ chosen (is_block (block_of id) block) id (filter (λ x. is_block (block_of x) block) ids)
 
-pub deleted_by_operations : (c : Content) (block : Block) → deleted_by block (operations c) ≡ deleted_in c block
-deleted_by_operations c block =
-    filter_map-append (deleted_counter block) (insertions c) (deletions c)
-    ∙ (λ k. none_inserted block (finite_map.entries c.inserted) k ++ by_filter block (rising (finite_set.items c.deleted)) k)
+pub deleted_by_deletions : (c : Content) (block : Block) → deleted_by block (deletions c) ≡ deleted_in c block
+deleted_by_deletions c block = by_filter block (rising (finite_set.items c.deleted))

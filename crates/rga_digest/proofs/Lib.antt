@@ -3,3 +3,4 @@ pub mod CounterLaws
 pub mod DigestLaws
 pub mod SentLaws
 pub mod OneSummary
+pub mod HearingLaws

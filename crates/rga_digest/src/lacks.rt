@@ -1,60 +1,41 @@
 //! The operations that another replica lacks.
-ghost use Rattle.std.specs.Prelude.{◌≡◌, filter, IfOk, IfErr};
+ghost use Rattle.std.specs.Prelude.{◌≡◌, [], IfOk, IfErr};
 ghost use Rattle.std.specs.BTreeMap.{get};
-ghost use Rattle.rga_digest.specs.Digest.{block_cmp};
+ghost use Rattle.rga_digest.specs.Digest.{block_cmp, digest_at};
 ghost use Rattle.rga_digest.specs.Summary.{lacks_block, lacks_by, missing};
 
 use crate::block::Block;
 use crate::digests::digests_of;
 use crate::summary::Summary;
 use rga_ops::{Op, Refusal};
-use rga_store::TextStore;
+use rga_telling::{Listener, Teller};
 use std::alloc::Global;
 use std::collections::BTreeMap;
+use std::marker::Model;
 
 /// The operations of a store that another replica lacks, by the summary that it gives: the
 /// insertions that are in none of its ranges, and the deletions of each block whose digest there is
 /// not the own one. The insertions come first, each part by rising identifier. `Memory` alone.
 ///
 /// Whatever a summary claims, nothing else is sent. It takes n log n steps for n operations.
-pub fn missing<S: TextStore>(
-    alloc: Global,
-    store: &S,
-    summary: &Summary,
-) -> Result<Vec<Op>, Refusal>
+pub fn missing<S: Teller>(alloc: Global, store: &S, summary: &Summary) -> Result<Vec<Op>, Refusal>
     ensures ok { IfOk result (λ ops. ops.items ≡ missing (S.content store.now) summary.now) }
     ensures memory { IfErr result (λ e. e ≡ Refusal.Memory) }
 {
-    let ops = store.ops()?;
-    let own = digests_of(alloc, &ops)?;
-    lacked(alloc, &ops, &own, summary)
+    let own = digests_of(alloc, store)?;
+    let mut lacked = Lacked::new(alloc, &own, summary);
+    store.tell_insertions(&mut lacked)?;
+    store.tell_deletions(&mut lacked)?;
+    Ok(lacked.ops)
 }
 
-/// Those of some operations that a replica of this summary lacks, where these are the own digests.
-/// `Memory` alone.
-fn lacked(
-    alloc: Global,
-    ops: &[Op],
-    own: &BTreeMap<Block, u64>,
-    summary: &Summary,
-) -> Result<Vec<Op>, Refusal>
-    ensures ok { IfOk result (λ lacked. lacked.items
-        ≡ filter (lacks_by (get block_cmp own.now) summary.now) ops.now) }
-    ensures memory { IfErr result (λ e. e ≡ Refusal.Memory) }
-{
-    let mut lacked = Vec::new(alloc);
-    let mut last = Last::of(own, summary);
-    for op in ops {
-        if is_lacked(own, summary, &mut last, op) {
-            lacked.push(*op)?;
-        }
-    }
-    Ok(lacked)
-}
-
-/// Where the last operations were found: the next are mostly there too.
-#[derive(Clone, Copy)]
-struct Last {
+/// Those of the operations that were told which a replica of this summary lacks, where these are the
+/// own digests. Where the last operations were found is kept: the next are mostly there too.
+#[derive(Drop)]
+struct Lacked<'a> {
+    own: &'a BTreeMap<Block, u64>,
+    summary: &'a Summary,
+    ops: Vec<Op>,
     /// The index of a range.
     range: usize,
     /// A block, and whether its deletions are lacked.
@@ -62,39 +43,77 @@ struct Last {
     lacks: bool,
 }
 
-impl Last {
-    fn of(own: &BTreeMap<Block, u64>, summary: &Summary) -> Last
-        ensures { result.lacks ≡ lacks_block (get block_cmp own.now) summary.now result.block }
+impl<'a> Model for Lacked<'a> {
+    ghost use Rattle.std.specs.Prelude.{◌≡◌};
+    ghost use Rattle.std.specs.BTreeMap.{get};
+    ghost use Rattle.rga_digest.specs.Digest.{block_cmp};
+    ghost use Rattle.rga_digest.specs.Summary.{lacks_block};
+    ghost use Rattle.rga_digest.specs.Lacking.{Lacking};
+
+    ghost Value = { Lacking };
+
+    ghost view = { λ l. record {
+      own = l.own.now.entries;
+      summary = l.summary.now;
+      ops = l.ops.items;
+    } };
+
+    ghost invariant = { λ l.
+        l.lacks ≡ lacks_block (get block_cmp l.own.now) l.summary.now l.block };
+}
+
+impl<'a> Listener for Lacked<'a> {
+    ghost use Rattle.rga_digest.specs.Lacking.{Lacks, lacks_nothing, lacks_on};
+
+    ghost hears = { λ s ops t. Lacks s ops t };
+
+    ghost hears_nothing = { λ s. lacks_nothing s };
+
+    ghost hears_on = { λ s t u xs ys a b. lacks_on s t u xs ys a b };
+
+    fn hear(&mut self, op: &Op) -> Result<(), Refusal> {
+        if self.is_lacked(op) {
+            self.ops.push(*op)?;
+        }
+        Ok(())
+    }
+}
+
+impl<'a> Lacked<'a> {
+    /// Of nothing.
+    fn new(alloc: Global, own: &'a BTreeMap<Block, u64>, summary: &'a Summary) -> Lacked<'a>
+        ensures { result ≡ record { own = own.now.entries; summary = summary.now; ops = [] } }
     {
         let block = Block {
             replica: 0,
             number: 0,
         };
-        Last {
+        Lacked {
+            own,
+            summary,
+            ops: Vec::new(alloc),
             range: 0,
             block,
             lacks: lacks_block(own, summary, block),
         }
     }
-}
 
-/// Whether a replica of this summary lacks an operation, where these are the own digests.
-fn is_lacked(own: &BTreeMap<Block, u64>, summary: &Summary, last: &mut Last, op: &Op) -> bool
-    requires { last.old.lacks ≡ lacks_block (get block_cmp own.now) summary.now last.old.block }
-    ensures exact { result ≡ lacks_by (get block_cmp own.now) summary.now op.now }
-    ensures last { let own = get block_cmp own.now in
-        last.new.lacks ≡ lacks_block own summary.now last.new.block }
-{
-    match op {
-        Op::Insert { id, .. } => !summary.knows(&mut last.range, *id),
-        Op::Delete { id } => {
-            let block = Block::of(*id);
-            if last.block == block {
-                return last.lacks;
+    /// Whether an operation is lacked.
+    fn is_lacked(&mut self, op: &Op) -> bool
+        ensures exact { result ≡ lacks_by (digest_at self.old.own) self.old.summary op.now }
+        ensures same { self.new ≡ self.old }
+    {
+        match op {
+            Op::Insert { id, .. } => !self.summary.knows(&mut self.range, *id),
+            Op::Delete { id } => {
+                let block = Block::of(*id);
+                if self.block == block {
+                    return self.lacks;
+                }
+                self.block = block;
+                self.lacks = lacks_block(self.own, self.summary, block);
+                self.lacks
             }
-            last.block = block;
-            last.lacks = lacks_block(own, summary, block);
-            last.lacks
         }
     }
 }

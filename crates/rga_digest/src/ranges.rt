@@ -1,13 +1,11 @@
 //! Ranges of counters whose insertions a replica has.
 ghost use Rattle.std.specs.Prelude.{◌≡◌, ◌||◌, ◌&&◌, ◌<◌, true, length, nat_le, slice_index_or, Some, None, IfSome, IfOk, IfErr, OnOk, if◌then◌else◌};
 ghost use Rattle.std.specs.List.Sorted.{IsSorted};
-ghost use Rattle.std.specs.FinMap as finite_map;
 ghost use Rattle.rga_ops.specs.Identifier.{Identifier, is_id};
-ghost use Rattle.rga_ops.specs.Content.{content_of};
 ghost use Rattle.rga_digest.specs.Ranges.{is_in, is_filled, AreFilled, is_known, is_apart, are_rising, starts_by, range_cmp, touches, meets, joined};
 ghost use Rattle.rga_digest.specs.declared.ranges.KnownRange.{KnownRange as RangeName};
 
-use rga_ops::{Id, Op, Refusal};
+use rga_ops::{Id, Refusal};
 use std::alloc::Global;
 
 /// How many of the last ranges a counter may go on, so that replicas which wrote at the same time
@@ -114,39 +112,10 @@ pub(crate) fn have(ranges: &[KnownRange], index: &mut usize, id: Id) -> bool
     ranges[behind - 1].has(id)
 }
 
-/// The ranges of the insertions in a list of operations. `Memory` alone.
-pub(crate) fn ranges_of(alloc: Global, ops: &[Op]) -> Result<Vec<KnownRange>, Refusal>
-    ensures rising { IfOk result (λ ranges. are_rising ranges.items ≡ true) }
-    ensures known { IfOk result (λ ranges. (id : Identifier) →
-        is_known ranges.items id ≡ finite_map.contains_key (content_of ops.now).inserted id) }
-    ensures memory { IfErr result (λ e. e ≡ Refusal.Memory) }
-{
-    let mut parts = parts_of(alloc, ops)?;
-    parts.sort_unstable();
-    join_parts(alloc, &parts)
-}
-
-/// Ranges of the insertions in a list of operations, which stand in any order and may touch.
-/// `Memory` alone.
-fn parts_of(alloc: Global, ops: &[Op]) -> Result<Vec<KnownRange>, Refusal>
-    ensures filled { IfOk result (λ parts. AreFilled parts.items) }
-    ensures known { IfOk result (λ parts. (id : Identifier) →
-        is_known parts.items id ≡ finite_map.contains_key (content_of ops.now).inserted id) }
-    ensures memory { IfErr result (λ e. e ≡ Refusal.Memory) }
-{
-    let mut parts = Vec::new(alloc);
-    for op in ops {
-        if let Op::Insert { id, .. } = op {
-            add_counter(&mut parts, *id)?;
-        }
-    }
-    Ok(parts)
-}
-
 /// An identifier goes on one of the last ranges, or begins one. `Memory` alone.
-fn add_counter(parts: &mut Vec<KnownRange>, id: Id) -> Result<(), Refusal>
+pub(crate) fn add_counter(parts: &mut Vec<KnownRange>, id: Id) -> Result<(), Refusal>
     requires { AreFilled parts.old.items }
-    ensures filled { OnOk result (AreFilled parts.new.items) }
+    ensures filled { AreFilled parts.new.items }
     ensures known { OnOk result ((other : Identifier) →
         is_known parts.new.items other ≡ (is_known parts.old.items other || is_id id other)) }
     ensures memory { IfErr result (λ e. e ≡ Refusal.Memory) }
@@ -180,7 +149,7 @@ fn touched(parts: &Vec<KnownRange>, id: Id) -> Option<usize>
 }
 
 /// Ranges in order, as ranges of the same that rise and do not touch. `Memory` alone.
-fn join_parts(alloc: Global, parts: &[KnownRange]) -> Result<Vec<KnownRange>, Refusal>
+pub(crate) fn join_parts(alloc: Global, parts: &[KnownRange]) -> Result<Vec<KnownRange>, Refusal>
     requires sorted { IsSorted range_cmp parts.now }
     requires filled { AreFilled parts.now }
     ensures rising { IfOk result (λ ranges. are_rising ranges.items ≡ true) }

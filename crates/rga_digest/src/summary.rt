@@ -6,9 +6,10 @@ ghost use Rattle.rga_digest.specs.Summary.{IsSummary, claimed};
 
 use crate::block::Block;
 use crate::digests::digests_of;
-use crate::ranges::{KnownRange, are_apart, have, ranges_of};
+use crate::ranges::{KnownRange, are_apart, have};
+use crate::told_ranges::ranges_of;
 use rga_ops::{Id, Refusal};
-use rga_store::TextStore;
+use rga_telling::Teller;
 use std::alloc::Global;
 use std::collections::BTreeMap;
 use std::marker::Model;
@@ -89,12 +90,11 @@ impl Summary {
 
 /// The summary of what a store holds: there is one (`laws`). `Memory` alone. It takes n log n steps
 /// for n operations.
-pub fn summary_of<S: TextStore>(alloc: Global, store: &S) -> Result<Summary, Refusal>
+pub fn summary_of<S: Teller>(alloc: Global, store: &S) -> Result<Summary, Refusal>
     ensures ok { IfOk result (λ summary. IsSummary (S.content store.now) summary) }
     ensures memory { IfErr result (λ e. e ≡ Refusal.Memory) }
 {
-    let ops = store.ops()?;
-    let ranges = ranges_of(alloc, ops.as_slice())?;
-    let digests = digests_of(alloc, ops.as_slice())?;
+    let ranges = ranges_of(alloc, store)?;
+    let digests = digests_of(alloc, store)?;
     Ok(Summary { ranges, digests })
 }

@@ -8,6 +8,7 @@ use rga_ops::{Id, Op, Refusal, Taken};
 use rga_records::Records;
 use rga_sequence::Sequence;
 use rga_store::{Taker, TextStore};
+use rga_telling::{Listener, Teller};
 use std::alloc::Global;
 use std::collections::{BTreeMap, BTreeSet};
 use std::marker::Model;
@@ -210,5 +211,15 @@ impl TextStore for FlatStore {
             &mut self.waiting,
             &ops,
         )
+    }
+}
+
+impl Teller for FlatStore {
+    fn tell_insertions<L: Listener>(&self, listener: &mut L) -> Result<(), Refusal> {
+        self.records.tell_insertions(listener)
+    }
+
+    fn tell_deletions<L: Listener>(&self, listener: &mut L) -> Result<(), Refusal> {
+        self.records.tell_deletions(listener)
     }
 }

@@ -2,3 +2,4 @@ pub mod RecordLaws
 pub mod CountedLaws
 pub mod SortedRecordLaws
 pub mod MergingLaws
+pub mod ToldLaws

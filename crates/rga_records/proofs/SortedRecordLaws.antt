@@ -77,7 +77,7 @@ sorted_of_rising : (xs : List Identifier) → IsStrictlySortedBy id_cmp xs → I
 sorted_of_rising xs h = λ k d low l.
     ap is_lt (ids_total.antisymm (get_or xs (k + 1) d) (get_or xs k d) ∙ ap ordering_reverse (Less-from_sorted id_cmp xs k (k + 1) d h (omega arith) l))
 
-deletions_listed : (es : Entries) → AreOrdered es → rising (finite_set.items (content_of_records es).deleted) ≡ marked_ids es
+pub deletions_listed : (es : Entries) → AreOrdered es → rising (finite_set.items (content_of_records es).deleted) ≡ marked_ids es
 deletions_listed es h =
     let marked : List Identifier = marked_ids es in
     sym (sorted_rising (finite_set.items (content_of_records es).deleted) marked marked (IsPermutation-refl marked)

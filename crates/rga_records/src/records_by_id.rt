@@ -6,6 +6,7 @@ ghost use Rattle.rga_ops.specs.Prelude.{all_checked, answer, clock_of, element_a
 ghost use Rattle.rga_ops.specs.Answer.{facts};
 ghost use Rattle.rga_ops.specs.Content.{Holds};
 ghost use Rattle.rga_ops.specs.Found.{facts_of};
+ghost use Rattle.rga_ops.specs.Operations.{insertions, deletions};
 ghost use Rattle.rga_ops.specs.ListAnswer.{early_conflict, least_conflict};
 ghost use Rattle.rga_ops.specs.declared.refusal.Taken.TheVariants.{New};
 ghost use Rattle.rga_store.specs.Limit.{is_limit};
@@ -19,9 +20,11 @@ use crate::entries::{
 use crate::list_answer::answer_to_list;
 use crate::merging::{count_unknown, least_conflict};
 use crate::operations::operations_of;
+use crate::telling::{tell_deletions, tell_insertions};
 use rga_ops::{Found, Id, Op, Refusal};
 use rga_pages::Pages;
 use rga_store::MAX_LIMIT;
+use rga_telling::Listener;
 use std::alloc::Global;
 use std::marker::Model;
 
@@ -267,6 +270,26 @@ impl Records {
         ensures memory { IfErr result (λ e. e ≡ Refusal.Memory) }
     {
         operations_of(alloc, &self.entries, self.inserted)
+    }
+
+    /// Tells the insertions by rising identifier, without a list of them. `Memory` where the listener
+    /// answers it.
+    pub fn tell_insertions<L: Listener>(&self, listener: &mut L) -> Result<(), Refusal>
+        ensures ok { OnOk result
+            (L.hears listener.old (insertions self.now.content) listener.new) }
+        ensures memory { IfErr result (λ e. e ≡ Refusal.Memory) }
+    {
+        tell_insertions(&self.entries, listener)
+    }
+
+    /// Tells the deletions by rising identifier, without a list of them. `Memory` where the listener
+    /// answers it.
+    pub fn tell_deletions<L: Listener>(&self, listener: &mut L) -> Result<(), Refusal>
+        ensures ok { OnOk result
+            (L.hears listener.old (deletions self.now.content) listener.new) }
+        ensures memory { IfErr result (λ e. e ≡ Refusal.Memory) }
+    {
+        tell_deletions(&self.entries, listener)
     }
 
     /// The least identifier that names two insertions, one in each. Takes no memory.

@@ -25,7 +25,7 @@ pub(crate) fn operations_of(alloc: Global, nodes: &IndexMap<Id, Node>) -> Result
 }
 
 /// Adds the insertions by rising identifier.
-fn list_insertions(
+pub(crate) fn list_insertions(
     alloc: Global,
     ops: &mut Vec<Op>,
     nodes: &IndexMap<Id, Node>,
@@ -43,7 +43,7 @@ fn list_insertions(
 }
 
 /// Adds the deletions by rising identifier.
-fn list_deletions(
+pub(crate) fn list_deletions(
     alloc: Global,
     ops: &mut Vec<Op>,
     nodes: &IndexMap<Id, Node>,

@@ -16,10 +16,12 @@ use crate::list_answer::answer_to_list;
 use crate::merging::{count_unknown, least_conflict};
 use crate::nodes::{Node, add_child, ensure_node, found_at, mark, set_element};
 use crate::operations::operations_of;
+use crate::telling::{tell_deletions, tell_insertions};
 use crate::walk::{walked, walked_text, walked_visible};
 use indexmap::IndexMap;
 use rga_ops::{Found, Id, Op, Refusal, Taken, answer_to};
 use rga_store::{MAX_LIMIT, Taker, TextStore};
+use rga_telling::{Listener, Teller};
 use std::alloc::Global;
 use std::marker::Model;
 use whole_list::take_one_by_one;
@@ -315,5 +317,15 @@ impl TextStore for TreeStore {
         }
         let ops = other.ops()?;
         self.take_whole(&ops)
+    }
+}
+
+impl Teller for TreeStore {
+    fn tell_insertions<L: Listener>(&self, listener: &mut L) -> Result<(), Refusal> {
+        tell_insertions(self.alloc, &self.nodes, listener)
+    }
+
+    fn tell_deletions<L: Listener>(&self, listener: &mut L) -> Result<(), Refusal> {
+        tell_deletions(self.alloc, &self.nodes, listener)
     }
 }
