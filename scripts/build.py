@@ -1,13 +1,16 @@
 #!/usr/bin/env python3
 """Proves mgr and the crates below it, and leaves the program at build/mgr.
 
-`rt ci` does the work, in a copy that has these crates alone, without wrong bodies: it proves side by
-side what does not wait for one another, and first what most crates wait for. What it proves the gate
-need not prove again.
+`rt ci` does the work, in copies that have these crates alone, without wrong bodies: it proves side
+by side what does not wait for one another, and what it proves the gate need not prove again. But it
+shares the processors evenly among the crates that it may begin, and most crates wait for those of
+the text type or of lines. So these come first, in runs of their own; once the text type is proved
+all others follow, and what is still proved beside them is not proved twice.
 
-The prover's own words go to build/prove.log, whose end is shown where a crate fails.
+The prover's own words go to build/prove-NAME.log, whose end is shown where a crate fails.
 """
 
+import concurrent.futures
 import os
 import pathlib
 import re
@@ -19,6 +22,10 @@ import tempfile
 TOP = pathlib.Path(__file__).resolve().parent.parent
 BUILD = TOP / "build"
 PROGRAM = "mgr"
+
+# The first run, and those beside it: each is of a crate and all below it.
+FIRST = "rga_doc"
+BESIDE = ("mg_minibuffer", "mg_screen")
 
 LEFT_OUT = shutil.ignore_patterns("out", "must-fail", "wrong")
 TOLD = re.compile(r"rt: (\w+) (?:is kept|proved|NOT PROVED)")
@@ -37,26 +44,57 @@ def lines_below(name):
     return found
 
 
+def keeps():
+    """Returns whether what a run proves is kept for the next one, as from kit 13f on."""
+    said = subprocess.run(["rt", "help"], stdout=subprocess.PIPE, stderr=subprocess.STDOUT, text=True)
+    return "is kept beside the kit" in said.stdout
+
+
 def copy(lines, to):
+    to.mkdir()
     (to / "crates.txt").write_text("".join(f"{line}\n" for line in lines.values()))
     shutil.copy(TOP / "HANDLES", to)
     for crate in lines:
         shutil.copytree(TOP / "crates" / crate, to / "crates" / crate, ignore=LEFT_OUT)
 
 
-def prove(tree, count):
-    """Proves all crates of a tree, so many, and says of each when it is done; ends the program where one fails."""
-    log, told = BUILD / "prove.log", set()
-    how = {"stdin": subprocess.DEVNULL, "stdout": subprocess.PIPE, "stderr": subprocess.STDOUT}
-    with log.open("w") as kept, subprocess.Popen(["rt", "ci"], cwd=tree, text=True, errors="replace", **how) as gate:
-        for line in gate.stdout:
-            kept.write(line)
-            if (said := TOLD.match(line)) and said[1] not in told:
-                told.add(said[1])
-                print(f"{len(told)} of {count}: {said[0].removeprefix('rt: ')}", flush=True)
-    if gate.returncode:
-        print(*log.read_text().splitlines()[-30:], sep="\n", file=sys.stderr)
-        sys.exit(f"{PROGRAM} is not proved: these are the last lines of {log.relative_to(TOP)}")
+class Proving:
+    """Runs of `rt ci`, each in a copy of its own in a folder, and the crates that they proved."""
+
+    def __init__(self, folder):
+        self.folder = pathlib.Path(folder)
+        self.count = len(lines_below(PROGRAM))
+        self.told = set()
+
+    def prove_all(self):
+        """Proves the program and all below it, and returns the folder in which it was built."""
+        with concurrent.futures.ThreadPoolExecutor() as pool:
+            beside = [pool.submit(self.prove, name) for name in BESIDE]
+            self.prove(FIRST)
+            tree = self.prove(PROGRAM)
+            for run in beside:
+                run.result()
+        return tree
+
+    def prove(self, name):
+        """Proves a crate and those below it, and says of each when it is done; ends the program where one fails."""
+        tree, log = self.folder / name, BUILD / f"prove-{name}.log"
+        copy(lines_below(name), tree)
+        how = {"stdin": subprocess.DEVNULL, "stdout": subprocess.PIPE, "stderr": subprocess.STDOUT}
+        with log.open("w") as kept, subprocess.Popen(["rt", "ci"], cwd=tree, text=True, errors="replace", **how) as gate:
+            for line in gate.stdout:
+                kept.write(line)
+                if told := TOLD.match(line):
+                    self.tell(told[1], told[0].removeprefix("rt: "))
+        if gate.returncode:
+            print(*log.read_text().splitlines()[-30:], sep="\n", file=sys.stderr)
+            sys.exit(f"{name} is not proved: these are the last lines of {log.relative_to(TOP)}")
+        return tree
+
+    def tell(self, crate, what):
+        if crate not in self.told:
+            self.told.add(crate)
+            print(f"{len(self.told)} of {self.count}: {what}", flush=True)
 
 
 def main():
@@ -65,9 +103,8 @@ def main():
     begun = BUILD / "begun"
     begun.touch()
     with tempfile.TemporaryDirectory(prefix="mgr-build-") as folder:
-        tree, lines = pathlib.Path(folder), lines_below(PROGRAM)
-        copy(lines, tree)
-        prove(tree, len(lines))
+        proving = Proving(folder)
+        tree = proving.prove_all() if keeps() else proving.prove(PROGRAM)
         # Moved into place, so that a program that runs goes on.
         new = BUILD / "mgr.new"
         shutil.copy(tree / "crates" / PROGRAM / "out" / PROGRAM, new)
