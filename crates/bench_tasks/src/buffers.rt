@@ -205,7 +205,7 @@ fn run(
 ) -> Result<(), BufferFault> {
     buffer.run(command, 1, memo, FILL)?;
     buffer.list()?;
-    let _place = buffer.view(memo).point;
+    let _view = buffer.view(memo);
     Ok(())
 }
 
@@ -218,7 +218,7 @@ fn run_and_undo(
     run(buffer, memo, command)?;
     buffer.undo(memo)?;
     buffer.list()?;
-    let _place = buffer.view(memo).point;
+    let _view = buffer.view(memo);
     buffer.idle(memo);
     Ok(())
 }

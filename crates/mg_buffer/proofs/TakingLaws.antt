@@ -59,5 +59,4 @@ follows_known limit b op h = record {
   content = sym (ap (join b.content) (join_nothing (single op)) ∙ held_adds_nothing b.content op ((known-iff limit b.content op).0 h).1);
   unsaved = sym (ap (λ xs. b.unsaved ++ xs) (none_if_known limit b.content op h) ∙ append-nil b.unsaved);
   rest = refl;
-  listed = λ none. let clash : op ∷ [] ≡ [] = none in cc;
 }

@@ -1,5 +1,5 @@
 -- What operations of others that are taken in turn leave of a buffer.
-use Rattle.std.proofs.Common.{◌≡◌, List, [], ◌∷◌, ◌++◌, refl, sym, ap, ◌∙◌, append-nil, append_assoc}
+use Rattle.std.proofs.Common.{◌≡◌, List, [], ◌++◌, refl, sym, ap, ◌∙◌, append-nil, append_assoc}
 use Rattle.rga_ops.specs.Content.{join, content_of}
 use Rattle.rga_ops.specs.NewOperations.{new_operations}
 use Rattle.rga_ops.specs.declared.op.Op.{Op}
@@ -12,12 +12,11 @@ use Rattle.mg_buffer.specs.State.{State}
 pub record Follows (b : State) (ops : List Op) (d : State) : Type 0 where
   pub content : d.content ≡ join b.content (content_of ops)
   pub unsaved : d.unsaved ≡ b.unsaved ++ new_operations b.content ops
-  pub rest : d ≡ record b { content = d.content; unsaved = d.unsaved; listed = d.listed }
-  pub listed : ops ≡ [] → d.listed ≡ b.listed
+  pub rest : d ≡ record b { content = d.content; unsaved = d.unsaved }
 
 -- to take nothing changes nothing
 pub follows_nothing : (b : State) → Follows b [] b
-follows_nothing b = record { content = sym (join_nothing b.content); unsaved = sym (append-nil b.unsaved); rest = refl; listed = λ none. refl }
+follows_nothing b = record { content = sym (join_nothing b.content); unsaved = sym (append-nil b.unsaved); rest = refl }
 
 -- operations may be taken in parts
 pub follows_on : (b d e : State) (xs ys : List Op) → Follows b xs d → Follows d ys e → Follows b (xs ++ ys) e
@@ -26,10 +25,5 @@ follows_on b d e xs ys f g = record {
   unsaved = g.unsaved ∙ (λ k. f.unsaved k ++ new_operations (f.content k) ys)
       ∙ append_assoc b.unsaved (new_operations b.content xs) (new_operations (join b.content (content_of xs)) ys)
       ∙ ap (λ ops. b.unsaved ++ ops) (sym (new_in_parts b.content xs ys));
-  rest = g.rest ∙ ap (λ (s : State). record s { content = e.content; unsaved = e.unsaved; listed = e.listed }) f.rest;
-  listed = by xs ys f.listed g.listed;
+  rest = g.rest ∙ ap (λ (s : State). record s { content = e.content; unsaved = e.unsaved }) f.rest;
 }
-  where
-    by : (xs ys : List Op) → (xs ≡ [] → d.listed ≡ b.listed) → (ys ≡ [] → e.listed ≡ d.listed) → xs ++ ys ≡ [] → e.listed ≡ b.listed
-    by [] ys p q h = q h ∙ p refl
-    by (x ∷ xs) ys p q h = let clash : x ∷ (xs ++ ys) ≡ [] = h in cc

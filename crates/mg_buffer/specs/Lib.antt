@@ -1,7 +1,6 @@
 pub mod Groups
 pub mod Slots
 pub mod Room
-pub mod NearHash
 pub mod State
 pub mod LineNumbers
 pub mod Kept

@@ -1,5 +1,5 @@
 -- What a command leaves of a buffer and of the notes.
-use Rattle.std.specs.Prelude.{◌≡◌, ℕ, true, List, ◌++◌, Option, Some, None, Ok}
+use Rattle.std.specs.Prelude.{◌≡◌, ℕ, List, ◌++◌, Option, Some, None, Ok}
 use Rattle.std.specs.Option.{option_map}
 use Rattle.rga_ops.specs.Content.{join, content_of}
 use Rattle.rga_ops.specs.Order.{text}
@@ -31,7 +31,6 @@ pub record Edited (splices : List Splice) (at : ℕ) (mark_at : Option ℕ) (b d
   pub name : d.name ≡ b.name
   pub limit : d.limit ≡ b.limit
   pub replica : d.replica ≡ b.replica
-  pub listed : d.listed ≡ true
 
 -- The command ran with this plan, which is its effect at what it saw.
 pub record Ran (command : Command) (n column : ℕ) (b : State) (old : Notes) (d : State) (new : Notes) : Type 0 where

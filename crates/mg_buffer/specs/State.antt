@@ -1,7 +1,7 @@
 -- A buffer as its callers see it.
-use Rattle.std.specs.Prelude.{◌≡◌, ◌⊎◌, ℕ, Bool, List, Option, refl}
+use Rattle.std.specs.Prelude.{◌≡◌, ◌⊎◌, ℕ, List, Option, refl}
 use Rattle.std.proofs.Common.{inl, inr}
-use Rattle.std.specs.Coded.{Coded, code_by, coded×, coded⊎, coded_ℕ, coded_bool, coded_list, coded_option}
+use Rattle.std.specs.Coded.{Coded, code_by, coded×, coded⊎, coded_ℕ, coded_list, coded_option}
 use Rattle.rga_ops.specs.Identifier.{Identifier, identifier_code}
 use Rattle.rga_ops.specs.Content.{Content, content_code}
 use Rattle.rga_ops.specs.declared.op.Op.{Op}
@@ -10,8 +10,8 @@ use Rattle.rga_doc.specs.Document.{Document}
 use Rattle.mg_buffer.specs.Groups.{Past, past_code}
 
 -- what the document holds, how many identifiers it may know, and the number of its replica; the name; the elements that
--- point and mark are behind; the undo groups, oldest first; in a run of undos the index of the group undone last; the
--- operations that are not saved; and whether the text and the places of point and mark are at hand
+-- point and mark are behind; the undo groups, oldest first; in a run of undos the index of the group undone last; and the
+-- operations that are not saved
 pub record State : Type 0 where
   pub content : Content
   pub limit : ℕ
@@ -22,10 +22,9 @@ pub record State : Type 0 where
   pub groups : List Past
   pub undone : Option ℕ
   pub unsaved : List Op
-  pub listed : Bool
 
-abbrev pub state : Document → List ℕ → Identifier → Option Identifier → List Past → Option ℕ → List Op → Bool → State
-state d name point mark groups undone unsaved listed = record {
+abbrev pub state : Document → List ℕ → Identifier → Option Identifier → List Past → Option ℕ → List Op → State
+state d name point mark groups undone unsaved = record {
   content = d.content;
   limit = d.limit;
   replica = d.replica;
@@ -35,7 +34,6 @@ state d name point mark groups undone unsaved listed = record {
   groups = groups;
   undone = undone;
   unsaved = unsaved;
-  listed = listed;
 }
 
 -- ---- how it is stored
@@ -57,10 +55,10 @@ op_code = code_by ((Identifier × (Identifier × ℕ)) ⊎ Identifier) (coded⊎
 
 -- the document's part, and what stands beside it
 abbrev StateParts : Type 0
-StateParts = (Content × (ℕ × (ℕ × List ℕ))) × ((Identifier × Option Identifier) × (List Past × (Option ℕ × (List Op × Bool))))
+StateParts = (Content × (ℕ × (ℕ × List ℕ))) × ((Identifier × Option Identifier) × (List Past × (Option ℕ × List Op)))
 
 abbrev parts_of_state : State → StateParts
-parts_of_state b = ((b.content, (b.limit, (b.replica, b.name))), ((b.point, b.mark), (b.groups, (b.undone, (b.unsaved, b.listed)))))
+parts_of_state b = ((b.content, (b.limit, (b.replica, b.name))), ((b.point, b.mark), (b.groups, (b.undone, b.unsaved))))
 
 abbrev state_of_parts : StateParts → State
 state_of_parts p = record {
@@ -72,13 +70,12 @@ state_of_parts p = record {
   mark = p.1.0.1;
   groups = p.1.1.0;
   undone = p.1.1.1.0;
-  unsaved = p.1.1.1.1.0;
-  listed = p.1.1.1.1.1;
+  unsaved = p.1.1.1.1;
 }
 
 abbrev pub state_code : Coded State
 state_code =
     code_by StateParts
     (coded× (coded× content_code (coded× coded_ℕ (coded× coded_ℕ (coded_list coded_ℕ))))
-    (coded× (coded× identifier_code (coded_option identifier_code)) (coded× (coded_list past_code) (coded× (coded_option coded_ℕ) (coded× (coded_list op_code) coded_bool)))))
+    (coded× (coded× identifier_code (coded_option identifier_code)) (coded× (coded_list past_code) (coded× (coded_option coded_ℕ) (coded_list op_code)))))
     parts_of_state state_of_parts (λ _. refl)

@@ -25,7 +25,7 @@ use std::marker::Model;
 ///
 /// Point and mark are behind elements, so others' edits move them with the text. While the buffer
 /// is listed, the text, the places of point and mark and the line of point are at hand; an undo,
-/// and what is taken from elsewhere, end that.
+/// and what is taken from elsewhere, end that. Whether it is changes nothing of what it is.
 #[derive(Drop)]
 pub struct Buffer<S: TextStore> {
     pub(crate) alloc: Global,
@@ -56,7 +56,7 @@ impl<S: TextStore> Model for Buffer<S> {
     ghost view = { λ b. state b.doc (string_bytes b.name) b.point.element
         (option_map (λ m. m.element) b.mark)
         (pasts_by b.history.elements.keys b.history.groups.items)
-        b.undone b.unsaved.items b.listed };
+        b.undone b.unsaved.items };
 
     ghost invariant = { λ b. IsKept b.doc b.point b.line b.mark
         b.history.elements.keys b.history.groups.items b.listed };
@@ -66,7 +66,7 @@ impl<S: TextStore> Buffer<S> {
     /// A buffer of a document, with operations that are in it but not saved. Point is at the front,
     /// there is no mark, and nothing to undo. Takes no memory.
     pub fn new(alloc: Global, doc: Doc<S>, name: String, own: Vec<Op>) -> Buffer<S>
-        ensures { result ≡ state doc (string_bytes name) root None [] None own.items false }
+        ensures { result ≡ state doc (string_bytes name) root None [] None own.items }
     {
         Buffer {
             alloc,
@@ -116,13 +116,10 @@ impl<S: TextStore> Buffer<S> {
     }
 
     /// Lists the text, the places of point and mark and the line of point, so that `view` and
-    /// `line` find them. A command does so too. `Memory` alone, and never where the buffer is
-    /// listed; a refusal changes nothing.
+    /// `line` find them. A command does so too. `Memory` alone.
     pub fn list(&mut self) -> Result<(), Refusal>
-        ensures listed { OnOk result (self.new ≡ record self.old { listed = true }) }
+        ensures same { self.new ≡ self.old }
         ensures memory { IfErr result (λ e. e ≡ Refusal.Memory) }
-        ensures same { OnErr result (self.new ≡ self.old) }
-        ensures kept { self.old.listed ≡ true → result ≡ Ok tt }
     {
         if self.listed {
             return Ok(());
@@ -148,28 +145,34 @@ impl<S: TextStore> Buffer<S> {
     }
 
     /// What a command sees: the text, lent, the places of point and mark, and what the memo keeps.
-    /// Takes no memory.
-    pub fn view<'a>(&'a self, memo: &'a Memo) -> View<'a>
-        requires { self.now.listed ≡ true }
-        ensures { result ≡ situation_of self.now memo.now }
+    /// `None` where the buffer is not listed. Takes no memory.
+    pub fn view<'a>(&'a self, memo: &'a Memo) -> Option<View<'a>>
+        ensures { IfSome result (λ view. view ≡ situation_of self.now memo.now) }
     {
-        View {
+        if !self.listed {
+            return None;
+        }
+        Some(View {
             text: self.doc.characters(),
             point: self.point.place,
             mark: mark_place(self.mark),
             kill: &memo.kill,
             goal: memo.goal,
             last: memo.kind,
-        }
+        })
     }
 
-    /// The line of point, from 0. Takes no memory, and counts nothing.
-    pub fn line(&self) -> usize
-        requires { self.now.listed ≡ true }
-        ensures { let b = self.now in
-            result ≡ lines.line_of (text b.content) (place_of b.content b.point) }
+    /// The line of point, from 0. `None` where the buffer is not listed. Takes no memory, and counts
+    /// nothing.
+    pub fn line(&self) -> Option<usize>
+        ensures { let b = self.now in IfSome result
+            (λ line. line ≡ lines.line_of (text b.content) (place_of b.content b.point)) }
     {
-        self.line.number
+        if self.listed {
+            Some(self.line.number)
+        } else {
+            None
+        }
     }
 
     /// Does nothing, as a key that is no command on the text: ends a run of undos, and the kind

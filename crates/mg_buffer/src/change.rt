@@ -1,5 +1,5 @@
 //! What commands and undos did.
-ghost use Rattle.std.specs.Prelude.{◌≡◌, IfOk, IfErr};
+ghost use Rattle.std.specs.Prelude.{◌≡◌, ◌≤◌, length, IfOk, IfErr};
 ghost use Rattle.std.specs.Option.{unwrap_or};
 ghost use Rattle.rga_ops.specs.Places.{character};
 ghost use Rattle.mg_buffer.specs.Groups.{past_of, point_after};
@@ -33,8 +33,9 @@ impl Change {
         ensures ok { IfOk result (λ g. g ≡ past_of (S.content store.now) ops.now) }
         ensures memory { IfErr result (λ e. e ≡ Refusal.Memory) }
     {
-        let mut inserted = Vec::new(alloc);
-        let mut deleted = Vec::new(alloc);
+        let gone = count_deletions(ops);
+        let mut inserted = Vec::with_capacity(alloc, ops.len() - gone)?;
+        let mut deleted = Vec::with_capacity(alloc, gone)?;
         for op in ops {
             match op {
                 Op::Insert { id, .. } => inserted.push(*id)?,
@@ -57,6 +58,19 @@ impl Change {
         }
         element
     }
+}
+
+/// How many of the operations are deletions.
+fn count_deletions(ops: &[Op]) -> usize
+    ensures { result ≤ length ops.now }
+{
+    let mut count = 0;
+    for op in ops {
+        if let Op::Delete { .. } = op {
+            count += 1;
+        }
+    }
+    count
 }
 
 /// The character of an element that is inserted.

@@ -9,7 +9,6 @@ ghost use Rattle.mg_buffer.specs.Slots.{AreFilled, AreStandIns, Slotted, deleted
 
 use crate::change::Change;
 use crate::group::Group;
-use crate::near_hasher::NearHashers;
 use crate::slots::{push_deleted, push_same, push_slots, replace_all};
 use indexmap::IndexSet;
 use rga_ops::{Id, Op, Refusal};
@@ -21,7 +20,7 @@ use std::alloc::Global;
 pub(crate) struct History {
     pub(crate) groups: Vec<Group>,
     /// The elements in the slots.
-    pub(crate) elements: IndexSet<Id, NearHashers>,
+    pub(crate) elements: IndexSet<Id>,
 }
 
 /// The slots of a group that is still empty.
@@ -39,7 +38,7 @@ impl History {
     {
         History {
             groups: Vec::new(alloc),
-            elements: IndexSet::with_hasher(alloc, NearHashers::new()),
+            elements: IndexSet::new(alloc),
         }
     }
 

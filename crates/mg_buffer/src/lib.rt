@@ -20,7 +20,6 @@ pub mod laws;
 mod line_numbers;
 mod marker;
 mod memo;
-mod near_hasher;
 mod room;
 mod running;
 mod slots;

@@ -29,7 +29,7 @@ impl<S: TextStore> Buffer<S> {
     ///
     /// Faults, in this order: the notice that the command has; `Full` and `Clock` where the
     /// document has them for the new characters; `Memory`. A fault changes nothing in the buffer,
-    /// but that it may be listed then or not, and nothing in the memo.
+    /// and nothing in the memo.
     pub fn run(
         &mut self,
         command: &Command,
@@ -39,14 +39,14 @@ impl<S: TextStore> Buffer<S> {
     ) -> Result<(), BufferFault>
         ensures exact { IsFaultAnswer result (run_answer command.now arg fill self.old memo.old) }
         ensures ran { OnOk result (Ran command.now arg fill self.old memo.old self.new memo.new) }
-        ensures same { OnErr result (self.new ≡ record self.old { listed = self.new.listed }) }
+        ensures same { OnErr result (self.new ≡ self.old) }
         ensures memo { OnErr result (memo.new ≡ memo.old) }
-        // What is listed is looked at before memory is asked for.
-        ensures noticed { result ≡ Err (Store Memory) → self.old.listed ≡ true →
-            IsOk (effect command.now arg (situation_of self.old memo.old) fill) }
     {
         self.list()?;
-        let plan = plan(self.alloc, command, arg, &self.view(memo), fill)?;
+        let Some(view) = self.view(memo) else {
+            return Err(BufferFault::Store(Refusal::Memory));
+        };
+        let plan = plan(self.alloc, command, arg, &view, fill)?;
         let Plan {
             splices,
             point,
@@ -66,14 +66,13 @@ impl<S: TextStore> Buffer<S> {
     /// Makes the splices, and puts point and mark at places of the new text. `Full`, `Range`,
     /// `Clock`, `Memory`, as the document has them.
     fn edit(&mut self, splices: &[Splice], point: usize, mark: Option<usize>) -> Result<(), Refusal>
-        requires listed { self.old.listed ≡ true }
         requires point { point ≤ length (text_after (text self.old.content) splices.now) }
         requires mark { IfSome mark
             (λ k. k ≤ length (text_after (text self.old.content) splices.now)) }
         ensures exact { IsAnswer result
             (splices_answer self.old.limit self.old.content splices.now) }
         ensures edited { OnOk result (Edited splices.now point mark self.old self.new) }
-        ensures same { OnErr result (self.new ≡ record self.old { listed = self.new.listed }) }
+        ensures same { OnErr result (self.new ≡ self.old) }
     {
         self.listed = false;
         let ops = self.doc.draft(splices)?;
@@ -84,7 +83,7 @@ impl<S: TextStore> Buffer<S> {
             &mut self.unsaved,
             &ops,
         )?;
-        let stays = least_begin(self.point.place, splices);
+        let stays = least_begin(self.line.place, splices);
         let line = self.line.moved(self.doc.characters(), stays);
         self.doc.take(splices, &ops)?;
         self.line = line.moved(self.doc.characters(), point);

@@ -8,16 +8,11 @@ ghost use Rattle.rga_doc.specs.UndoGroup.{inserted_elements};
 ghost use Rattle.mg_buffer.specs.Groups.{stand_in};
 ghost use Rattle.mg_buffer.specs.Slots.{AreDeletedIn, AreIn, AreStandIns, IsStandIn, deleted_ones, instead, with_elements};
 
-use crate::near_hasher::NearHashers;
 use indexmap::IndexSet;
 use rga_ops::{Id, Op};
 
 /// Adds the slots of elements to an empty list. Those that have none get one. There is room.
-pub(crate) fn push_slots(
-    slots: &mut Vec<usize>,
-    elements: &mut IndexSet<Id, NearHashers>,
-    ids: &[Id],
-)
+pub(crate) fn push_slots(slots: &mut Vec<usize>, elements: &mut IndexSet<Id>, ids: &[Id])
     requires empty { slots.old.items ≡ [] }
     requires room { length ids.now ≤ vec_capacity slots.old }
     requires spare { length ids.now ≤ spare elements.old }
@@ -33,7 +28,7 @@ pub(crate) fn push_slots(
 /// The same of elements with their characters.
 pub(crate) fn push_deleted(
     slots: &mut Vec<(usize, char)>,
-    elements: &mut IndexSet<Id, NearHashers>,
+    elements: &mut IndexSet<Id>,
     deleted: &[(Id, char)],
 )
     requires empty { slots.old.items ≡ [] }
@@ -61,7 +56,7 @@ pub(crate) fn push_same(slots: &mut Vec<usize>, deleted: &[(usize, char)])
 }
 
 /// Puts what restores an element into its slot, by each operation in turn. There is room.
-pub(crate) fn replace_all(elements: &mut IndexSet<Id, NearHashers>, ops: &[Op])
+pub(crate) fn replace_all(elements: &mut IndexSet<Id>, ops: &[Op])
     requires stand_ins { AreStandIns elements.old.keys ops.now }
     requires spare { length (inserted_elements ops.now) ≤ spare elements.old }
     ensures { elements.new.keys ≡ map (stand_in ops.now) elements.old.keys }
@@ -72,7 +67,7 @@ pub(crate) fn replace_all(elements: &mut IndexSet<Id, NearHashers>, ops: &[Op])
 }
 
 /// Puts what an operation restores an element by into its slot, if it does. There is room.
-fn replace_by(elements: &mut IndexSet<Id, NearHashers>, op: &Op)
+fn replace_by(elements: &mut IndexSet<Id>, op: &Op)
     requires able { IsStandIn elements.old.keys op.now }
     requires spare { length (inserted_elements (op.now ∷ [])) ≤ spare elements.old }
     ensures elements { elements.new.keys ≡ map (instead op.now) elements.old.keys }
@@ -86,7 +81,7 @@ fn replace_by(elements: &mut IndexSet<Id, NearHashers>, op: &Op)
 }
 
 /// Puts another element into the slot of one. There is room.
-fn replace(elements: &mut IndexSet<Id, NearHashers>, old: Id, new: Id)
+fn replace(elements: &mut IndexSet<Id>, old: Id, new: Id)
     requires there { list_any (is_id old) elements.old.keys ≡ true }
     requires newcomer { list_any (is_id new) elements.old.keys ≡ false }
     requires spare { 0 < spare elements.old }
@@ -102,7 +97,7 @@ fn replace(elements: &mut IndexSet<Id, NearHashers>, old: Id, new: Id)
 }
 
 /// The slot of an element, which gets one if it has none. There is room.
-fn slot_of(elements: &mut IndexSet<Id, NearHashers>, id: Id) -> usize
+fn slot_of(elements: &mut IndexSet<Id>, id: Id) -> usize
     requires { 0 < spare elements.old }
     ensures slot { slice_get elements.new.keys result ≡ Some id }
     ensures elements { elements.new.keys ≡ insert_key is_id elements.old.keys id }

@@ -51,7 +51,6 @@ impl<S: TextStore> Taker for Buffer<S> {
 fn stays_listed(listed: bool, ops: &[Op]) -> bool
     ensures listed { result ≡ true → listed ≡ true }
     ensures none { result ≡ true → ops.now ≡ [] }
-    ensures kept { ops.now ≡ [] → result ≡ listed }
 {
     listed && ops.is_empty()
 }

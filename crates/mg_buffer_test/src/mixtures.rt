@@ -33,7 +33,9 @@ struct Plain {
 /// What a buffer shows.
 fn shown(s: &mut Session) -> Result<Plain, Refusal> {
     s.buffer.list()?;
-    let view = s.buffer.view(&s.memo);
+    let Some(view) = s.buffer.view(&s.memo) else {
+        return Err(Refusal::Memory);
+    };
     Ok(Plain {
         text: Vec::from_slice(s.alloc, view.text)?,
         point: view.point,

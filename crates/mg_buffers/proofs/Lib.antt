@@ -1,5 +1,4 @@
 pub mod Results
-pub mod MappedLaws
 pub mod NameLaws
 pub mod Moves
 pub mod Current

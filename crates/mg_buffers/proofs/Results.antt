@@ -17,17 +17,9 @@ pub on_err_map : {T E : Type 0} (r : Result T E) (A B : Type 0) → (A → B) �
 on_err_map (Ok x) A B f a = tt
 on_err_map (Err e) A B f a = f a
 
-pub on_ok : {T E : Type 0} (r : Result T E) (A : Type 0) → A → OnOk r A
-on_ok (Ok x) A a = a
-on_ok (Err e) A a = tt
-
 pub if_ok_map : {T E : Type 0} (r : Result T E) (A B : T → Type 0) → ((x : T) → A x → B x) → IfOk r A → IfOk r B
 if_ok_map (Ok x) A B f a = f x a
 if_ok_map (Err e) A B f a = tt
-
-pub on_err : {T E : Type 0} (r : Result T E) (A : Type 0) → A → OnErr r A
-on_err (Ok x) A a = tt
-on_err (Err e) A a = a
 
 pub by_result : {T E : Type 0} (r : Result T E) (A : Type 0) → OnOk r A → OnErr r A → A
 by_result (Ok x) A a b = a

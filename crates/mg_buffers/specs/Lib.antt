@@ -1,3 +1,2 @@
-pub mod Mapped
 pub mod Names
 pub mod Buffers

@@ -1,8 +1,8 @@
 //! The open buffers, of which one is current.
 ghost use Rattle.std.specs.Prelude.{[], ◌∷◌, IfOk, ◌≡◌, ◌<◌, Some, length, slice_get, chars, nat_eq, OnOk, OnErr, IfErr, IfSome};
 ghost use Rattle.std.specs.Cmp.Lexicographic.{pointwise};
+ghost use Rattle.mg_plain.specs.declared.view.Kind.TheVariants.{Plain};
 ghost use Rattle.mg_buffers.specs.Buffers as spec;
-ghost use Rattle.mg_buffers.specs.Mapped.{mapped_at};
 ghost use Rattle.mg_buffers.specs.Names as names;
 
 use mg_buffer::Memo;
@@ -50,7 +50,7 @@ impl<S: TextStore> Buffers<S> {
 
     /// The current buffer. Takes no memory.
     pub fn current(&self) -> &VisitedBuffer<S>
-        ensures { slice_get self.now.all self.now.current ≡ Some result.now }
+        ensures { result.now ≡ spec.current_buffer self.now }
     {
         &self.all[self.current]
     }
@@ -59,7 +59,7 @@ impl<S: TextStore> Buffers<S> {
     pub fn current_mut(&mut self) -> &mut VisitedBuffer<S>
         ensures* writes_back { sem 𝓛 (Lends (the_row S.row S.Taker) (of_buffer S.row S.Taker)
             self.entry result (spec.with_current self.old)) }
-        ensures value { slice_get self.old.all self.old.current ≡ Some result.now }
+        ensures value { result.now ≡ spec.current_buffer self.old }
     {
         &mut self.all[self.current]
     }
@@ -146,21 +146,18 @@ impl<S: TextStore> Buffers<S> {
         self.all.remove(index);
     }
 
-    /// The buffer at an index is listed. `Memory` alone, and nothing changes then.
+    /// Lists the buffer at an index. `Memory` alone.
     pub fn list_at(&mut self, index: usize) -> Result<(), Refusal>
         requires { index < length self.old.all }
-        ensures listed { let all = mapped_at spec.listed index self.old.all in
-            OnOk result (self.new ≡ record self.old { all = all }) }
-        ensures same { OnErr result (self.new ≡ self.old) }
+        ensures same { self.new ≡ self.old }
         ensures memory { IfErr result (λ e. e ≡ Refusal.Memory) }
     {
         self.all[index].buffer.list()
     }
 
-    /// All buffers are listed. `Memory` alone: some of them may be listed then.
+    /// Lists all buffers. `Memory` alone.
     pub fn list_all(&mut self) -> Result<(), Refusal>
-        ensures listed { OnOk result (self.new ≡ spec.all_listed self.old) }
-        ensures kept { OnErr result (spec.all_unlisted self.new ≡ spec.all_unlisted self.old) }
+        ensures same { self.new ≡ self.old }
         ensures memory { IfErr result (λ e. e ≡ Refusal.Memory) }
     {
         for index in 0..self.all.as_slice().len() {
@@ -178,7 +175,8 @@ impl<S: TextStore> Buffers<S> {
 
     /// A run of commands ends in the current buffer. Takes no memory.
     pub fn idle(&mut self, memo: &mut Memo)
-        ensures { spec.AtCurrent (λ b d. spec.IdlesTo b memo.old d memo.new) self.old self.new }
+        ensures buffers { self.new ≡ spec.idled self.old }
+        ensures memo { memo.new ≡ record memo.old { kind = Plain } }
     {
         self.current_mut().buffer.idle(memo);
     }

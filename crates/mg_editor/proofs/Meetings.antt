@@ -3,7 +3,7 @@ use Rattle.std.proofs.Common.{ℕ, List, Option}
 use Rattle.mg_sync.proofs.LessSaid.{exchanges_over, serves_over, exchanges_some, serves_some}
 use Rattle.mg_files.specs.Calls.{Call}
 use Rattle.mg_files.specs.OpenState.{OpenState}
-use Rattle.mg_workspace.specs.Workspaces.{Workspace}
+use Rattle.mg_workspace.specs.Workspaces.{Workspace, current_buffer}
 use Rattle.mg_editor.specs.Current.{Changes}
 use Rattle.mg_editor.specs.Editors.{Editor}
 use Rattle.mg_editor.specs.Telling.{Answer}
@@ -11,13 +11,7 @@ use Rattle.mg_editor.specs.Meeting.{Exchanged, Served, ExchangedOver, ServedOver
 
 -- what the current buffer becomes, of which less is said
 changes : {R T : OpenState → OpenState → Type 0} → ((b d : OpenState) → R b d → T b d) → (w v : Workspace) → Changes R w v → Changes T w v
-changes f w v c = record {
-  before = c.before;
-  after = c.after;
-  was = c.was;
-  became = f c.before c.after c.became;
-  is = c.is;
-}
+changes f w v c = record { after = c.after; became = f (current_buffer w) c.after c.became; is = c.is }
 
 module _ {L : Type 0} (remaining contents : L → Option (List ℕ)) {links opened : Option (List L)} {calls more : Option (List Call)} {old new : Editor} {r : Answer} where
   pub exchanged_some : ExchangedOver remaining contents links opened calls more old new r → Exchanged calls more old new r

@@ -4,14 +4,12 @@ use Rattle.mg_files.specs.Calls.{Call}
 use Rattle.mg_files.specs.OpenState.{OpenState}
 use Rattle.mg_files.specs.Saving.{SavesTo}
 use Rattle.mg_files.specs.declared.port.PortFault.{PortFault}
-use Rattle.mg_workspace.specs.Workspaces.{Workspace, IsCurrent, with_current}
+use Rattle.mg_workspace.specs.Workspaces.{Workspace, current_buffer, with_current}
 
 -- The current buffer, with what is to be written of it, became another in a way that is said. Nothing else changed.
 pub record Changes (R : OpenState → OpenState → Type 0) (w v : Workspace) : Type 0 where
-  pub before : OpenState
   pub after : OpenState
-  pub was : IsCurrent w before
-  pub became : R before after
+  pub became : R (current_buffer w) after
   pub is : v ≡ with_current w after
 
 -- the current buffer was saved, or not

@@ -13,7 +13,7 @@ use Rattle.mg_dialogue.specs.Dialogues.{Begins}
 use Rattle.mg_editor.specs.Editors.{Editor}
 use Rattle.mg_settings.specs.Settings.{Values}
 use Rattle.mg_workspace.specs.Opening.{workspace}
-use Rattle.mg_workspace.specs.Workspaces.{IsCurrent}
+use Rattle.mg_workspace.specs.Workspaces.{current_buffer}
 
 -- a log that was torn is told
 abbrev pub message_of_end : LogEnd → Message
@@ -36,4 +36,4 @@ Opens v found r = OpensBy v (load_outcome v.name v.replica v.limit found) r
 
 -- the text of the buffer that is current
 abbrev pub IsText : Editor → List ℕ → Type 0
-IsText e chars = (b : OpenState) × IsCurrent e.work b × (chars ≡ text b.buffer.content)
+IsText e chars = chars ≡ text (current_buffer e.work).buffer.content

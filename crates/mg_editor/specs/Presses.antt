@@ -4,7 +4,6 @@ use Rattle.mg_plain.specs.declared.command.Command.TheVariants.{ReplaceOne}
 use Rattle.mg_plain.specs.declared.outcome.Notice.TheVariants as notice
 use Rattle.mg_keys.specs.declared.step.Step.{Step}
 use Rattle.mg_keys.specs.declared.step.Step.TheVariants.{Pending, Leave, Unbound}
-use Rattle.mg_files.specs.OpenState.{OpenState}
 use Rattle.mg_minibuffer.specs.declared.ending.Ending.{Ending}
 use Rattle.mg_minibuffer.specs.declared.ending.Next as prompt_behind
 use Rattle.mg_minibuffer.specs.declared.ending.Next.TheVariants.{Same, Closed}
@@ -21,9 +20,9 @@ use Rattle.mg_minibuffer.specs.PromptStep.{prompt_step}
 use Rattle.mg_minibuffer.specs.ReplacementStep.{next_match, sum}
 use Rattle.mg_minibuffer.specs.SearchStep.{or_last}
 use Rattle.mg_dialogue.specs.Dialogues.{Dialogue, IsFresh, mode_of, Fed, Shown, Forgot, search_of, AcceptedSearch, Closes, Reopened}
-use Rattle.mg_workspace.specs.Actions.{ActionVerdict, Done, Keeps, Ran}
+use Rattle.mg_workspace.specs.Actions.{ActionVerdict, Done, Ran}
 use Rattle.mg_editor.specs.Editors.{Editor}
-use Rattle.mg_workspace.specs.Workspaces.{Workspace, IsCurrent, IsListed, scene_of}
+use Rattle.mg_workspace.specs.Workspaces.{Workspace, scene_of}
 use Rattle.mg_workspace.specs.declared.fault.ActionFault.{ActionFault}
 use Rattle.mg_workspace.specs.declared.fault.ActionFault.TheVariants as action_fault
 use Rattle.mg_editor.specs.declared.fault.Fault.{Fault}
@@ -34,14 +33,14 @@ Answer = Result Request Fault
 
 -- ---- want of memory
 
--- Nothing changed, but that buffers may be listed now or not, and that the key sequence begun is forgotten.
+-- nothing changed, but that the key sequence begun is forgotten
 pub record IsRefused (old new : Editor) : Type 0 where
-  pub work : Keeps old.work new.work
+  pub work : new.work ≡ old.work
   pub talk : Forgot old.talk new.talk
 
 -- the same, of a press: what had begun of a key sequence before it is forgotten too
 pub record IsAsBefore (old new : Editor) : Type 0 where
-  pub work : Keeps old.work new.work
+  pub work : new.work ≡ old.work
   pub keys : IsFresh new.talk.keys (mode_of new.talk.prompt)
   pub talk : new.talk ≡ record old.talk { keys = new.talk.keys }
 
@@ -71,41 +70,28 @@ pub record Ended (e : Ending) (old new : Editor) (r : Answer) : Type 0 where
   pub done : Done e.action old.work new.work verdict
   pub told : Told verdict e old.talk new.talk r
 
--- the current buffer, which is this one, is listed, and nothing else changed
-pub record Listed (old new : Editor) (b : OpenState) : Type 0 where
-  pub work : IsListed old.work new.work
-  pub talk : new.talk ≡ old.talk
-  pub current : IsCurrent new.work b
-
 -- ---- a step where no prompt is open
 
 abbrev pub Plainly : Step → Editor → Editor → Answer → Type 0
-Plainly step old new r =
-    RanOut old new r
-    ⊎ ((seen : Editor) × (b : OpenState) × Listed old seen b × Ended (plain_step step (scene_of seen.work b)) seen new r)
+Plainly step old new r = RanOut old new r ⊎ Ended (plain_step step (scene_of old.work)) old new r
 
 -- ---- a step at an open prompt
 
--- what is seen leads to the next match, or to the end of query-replace
-abbrev pub FoundHere : List ℕ → List ℕ → ℕ → Editor → Editor → Answer → Type 0
-FoundHere pattern put count seen new r = (b : OpenState) × IsCurrent seen.work b × Ended (next_match pattern put count (scene_of seen.work b)) seen new r
-
--- the buffer is listed, and what is seen then leads on
+-- to the next match, or to the end of query-replace
 abbrev pub Found : List ℕ → List ℕ → ℕ → Editor → Editor → Answer → Type 0
-Found pattern put count old new r =
-    (seen : Editor) × (b : OpenState) × Listed old seen b × Ended (next_match pattern put count (scene_of seen.work b)) seen new r
+Found pattern put count old new r = Ended (next_match pattern put count (scene_of old.work)) old new r
 
 -- a match was replaced, and the next one is looked for; where that finds no memory, query-replace ends
 abbrev pub GoesOn : List ℕ → List ℕ → ℕ → Editor → Editor → Answer → Type 0
 GoesOn pattern put count old new r =
     Found pattern put count old new r
-    ⊎ (Keeps old.work new.work × Shows Closed (message.Refused notice.Memory) Idle old.talk new.talk r)
+    ⊎ ((new.work ≡ old.work) × Shows Closed (message.Refused notice.Memory) Idle old.talk new.talk r)
 
 -- the match at point was replaced, or that was refused
 abbrev pub ReplacesOne : List ℕ → List ℕ → Workspace → Workspace → ActionVerdict → Type 0
 ReplacesOne pattern put w v (Ok u) = Ran (ReplaceOne pattern put) 1 w v (Ok tt)
 ReplacesOne pattern put w v (Err (action_fault.Refused said)) = Ran (ReplaceOne pattern put) 1 w v (Err (action_fault.Refused said))
-ReplacesOne pattern put w v (Err action_fault.Memory) = Keeps w v
+ReplacesOne pattern put w v (Err action_fault.Memory) = v ≡ w
 
 -- the match at point is replaced, and then the next one is looked for; a replacement that is refused leaves the question open
 abbrev pub Replaced : List ℕ → List ℕ → ℕ → Editor → Editor → Answer → Type 0
@@ -125,16 +111,8 @@ Follows (Ends e) old new r = Ended e old new r
 Follows (Replaces pattern put count) old new r = Replaced pattern put count old new r
 Follows Accepts old new r = Accepted old new r
 
--- where the current buffer is listed
-abbrev pub PromptedHere : Prompt → Step → Editor → Editor → Answer → Type 0
-PromptedHere p step seen new r =
-    RanOut seen new r
-    ⊎ ((b : OpenState) × IsCurrent seen.work b × Follows (prompt_step p step (scene_of seen.work b) seen.talk.last) seen new r)
-
 abbrev pub Prompted : Prompt → Step → Editor → Editor → Answer → Type 0
-Prompted p step old new r =
-    RanOut old new r
-    ⊎ ((seen : Editor) × (b : OpenState) × Listed old seen b × Follows (prompt_step p step (scene_of seen.work b) old.talk.last) seen new r)
+Prompted p step old new r = RanOut old new r ⊎ Follows (prompt_step p step (scene_of old.work) old.talk.last) old new r
 
 -- ---- a byte
 
@@ -156,7 +134,7 @@ LeftBy s step old new r = LeftPlainly s step old new r
 
 -- want of memory: the search is open again, and nothing else changed
 pub record LeavesOpen (s : Search) (old new : Editor) : Type 0 where
-  pub work : Keeps old.work new.work
+  pub work : new.work ≡ old.work
   pub talk : Reopened s old.talk new.talk
 
 abbrev pub LeavesSearch : Search → ℕ → Editor → Editor → Answer → Type 0

@@ -5,7 +5,6 @@ ghost use Rattle.mg_screen.specs.Frame.{rows_of};
 ghost use Rattle.mg_screen.specs.declared.size.TheConstants.{MAX_ROWS, MIN_COLUMNS};
 ghost use Rattle.mg_editor.specs.Frames as spec;
 ghost use Rattle.mg_workspace.specs.Showing.{IsOnScreen};
-ghost use Rattle.mg_workspace.specs.Workspaces.{HasLists};
 
 use crate::editor::Editor;
 use crate::fault::Fault;
@@ -35,9 +34,8 @@ fn window_cursor(columns: usize, screen: &Screen<'_>, index: usize) -> Position
 impl<S: TextStore> Editor<S> {
     /// The screen, once the windows are placed.
     fn screen<'a>(&'a self) -> Result<Screen<'a>, FrameFault>
-        requires listed { HasLists self.now.work }
-        requires on_screen { IsOnScreen self.now.work.windows }
-        ensures { IfOk result (λ screen. spec.IsScreen self.now screen) }
+        requires { IsOnScreen self.now.work.windows }
+        ensures { IfOk result (λ screen. screen ≡ spec.screen_of (spec.placed_editor self.now)) }
     {
         let echo = self.talk.echo(self.alloc, self.work.name())?;
         Ok(Screen {
@@ -62,8 +60,10 @@ impl<S: TextStore> Editor<S> {
 
     /// The frame, once the windows are placed.
     fn placed_frame(&self) -> Result<Frame, FrameFault>
-        requires { HasLists self.now.work }
-        ensures { IfOk result (λ frame. spec.ShowsPlaced self.now frame.rows.items frame.cursor) }
+        ensures rows { let placed = spec.placed_editor self.now in
+            IfOk result (λ frame. spec.ShowsRows placed frame.rows.items) }
+        ensures cursor { let placed = spec.placed_editor self.now in
+            IfOk result (λ frame. spec.ShowsCursor placed frame.cursor) }
     {
         let columns = self.work.columns();
         let rows = self.work.rows();
@@ -85,15 +85,18 @@ impl<S: TextStore> Editor<S> {
         ensures placed { OnOk result (spec.IsPlaced self.old self.new) }
         ensures rows { IfOk result (λ frame. spec.ShowsRows self.new frame.rows.items) }
         ensures cursor { IfOk result (λ frame. spec.ShowsCursor self.new frame.cursor) }
-        ensures refused { OnErr result (spec.IsUnframed self.old self.new) }
+        ensures same { OnErr result (self.new ≡ self.old) }
     {
         let Ok(()) = self.work.list_all() else {
+            return Err(Fault::Memory);
+        };
+        let Ok(placed) = self.work.placed_viewports(self.alloc) else {
             return Err(Fault::Memory);
         };
         let Ok(frame) = self.placed_frame() else {
             return Err(Fault::Memory);
         };
-        self.work.place_windows();
+        self.work.place_windows(&placed);
         Ok(frame)
     }
 }

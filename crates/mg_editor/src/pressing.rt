@@ -1,9 +1,7 @@
 //! The editor, pressed byte by byte.
 ghost use Rattle.std.specs.Prelude.{◌≡◌, Some, Ok, Err, IfOk, OnOk, OnErr};
 ghost use Rattle.mg_minibuffer.specs.declared.prompt.Prompt.{Prompt};
-ghost use Rattle.mg_workspace.specs.Actions.{Keeps};
 ghost use Rattle.mg_editor.specs.Presses as spec;
-ghost use Rattle.mg_workspace.specs.Workspaces.{HasList};
 ghost use Rattle.mg_editor.specs.declared.fault.Fault.TheVariants.{Memory};
 
 use crate::editor::Editor;
@@ -21,13 +19,14 @@ impl<S: TextStore> Editor<S> {
         ensures plainly { spec.Plainly step self.old self.new result }
         ensures refused { OnErr result (spec.IsRefused self.old self.new) }
     {
-        match self.work.list() {
-            Ok(()) => {
-                let ending = plain_step(self.alloc, step, &self.work.scene());
-                self.end(ending)
-            }
-            Err(_) => self.run_out(),
-        }
+        let Ok(()) = self.work.list() else {
+            return self.run_out();
+        };
+        let Some(scene) = self.work.scene() else {
+            return self.run_out();
+        };
+        let ending = plain_step(self.alloc, step, &scene);
+        self.end(ending)
     }
 
     /// Want of memory: the key sequence begun is forgotten.
@@ -41,7 +40,6 @@ impl<S: TextStore> Editor<S> {
 
     /// Does the action of an ending, and tells what came of it.
     fn end(&mut self, ending: Ending) -> Result<Request, Fault>
-        requires { HasList self.old.work }
         ensures ended { spec.Ended ending self.old self.new result }
         ensures refused { OnErr result (spec.IsRefused self.old self.new) }
     {
@@ -84,20 +82,13 @@ impl<S: TextStore> Editor<S> {
             spec.Prompted p step.now self.old self.new result }
         ensures refused { OnErr result (spec.IsRefused self.old self.new) }
     {
-        match self.work.list() {
-            Ok(()) => self.react(step),
-            Err(_) => self.run_out(),
-        }
-    }
-
-    /// What a step leads to at the open prompt, where the current buffer is listed.
-    fn react(&mut self, step: &Step) -> Result<Request, Fault>
-        requires { HasList self.old.work }
-        ensures reacts { (p : Prompt) → self.old.talk.prompt ≡ Some p →
-            spec.PromptedHere p step.now self.old self.new result }
-        ensures refused { OnErr result (spec.IsRefused self.old self.new) }
-    {
-        match self.talk.react(self.alloc, step, &self.work.scene()) {
+        let Ok(()) = self.work.list() else {
+            return self.run_out();
+        };
+        let Some(scene) = self.work.scene() else {
+            return self.run_out();
+        };
+        match self.talk.react(self.alloc, step, &scene) {
             Ok(reaction) => self.follow(reaction),
             Err(_) => self.run_out(),
         }
@@ -105,7 +96,6 @@ impl<S: TextStore> Editor<S> {
 
     /// What a reaction asks for.
     fn follow(&mut self, reaction: Reaction) -> Result<Request, Fault>
-        requires { HasList self.old.work }
         ensures follows { spec.Follows reaction self.old self.new result }
         ensures refused { OnErr result (spec.IsRefused self.old self.new) }
     {
@@ -168,19 +158,13 @@ impl<S: TextStore> Editor<S> {
             (spec.Found pattern.now put.now count self.old self.new result) }
         ensures refused { OnErr result (spec.IsRefused self.old self.new) }
     {
-        match self.work.list() {
-            Ok(()) => self.end_or_ask(pattern, put, count),
-            Err(_) => self.run_out(),
-        }
-    }
-
-    fn end_or_ask(&mut self, pattern: &[char], put: &[char], count: usize) -> Result<Request, Fault>
-        requires { HasList self.old.work }
-        ensures found { OnOk result
-            (spec.FoundHere pattern.now put.now count self.old self.new result) }
-        ensures refused { OnErr result (spec.IsRefused self.old self.new) }
-    {
-        match next_match(self.alloc, pattern, put, count, &self.work.scene()) {
+        let Ok(()) = self.work.list() else {
+            return self.run_out();
+        };
+        let Some(scene) = self.work.scene() else {
+            return self.run_out();
+        };
+        match next_match(self.alloc, pattern, put, count, &scene) {
             Ok(ending) => self.end(ending),
             Err(_) => self.run_out(),
         }

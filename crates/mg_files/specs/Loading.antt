@@ -75,7 +75,7 @@ ends_open (Torn bytes) = true
 -- Point is at the front, there is no mark and no group. The next writing of a log that ends open is a whole one.
 abbrev pub opened : List ℕ → ℕ → ℕ → Loaded → OpenState
 opened name replica limit l = record {
-  buffer = state (document l.content limit replica false) name root None [] None l.unsaved false;
+  buffer = state (document l.content limit replica false) name root None [] None l.unsaved;
   whole = ends_open l.end;
   text_waits = false;
   runs = false;

@@ -32,7 +32,7 @@ gains_nothing b = record { within = within_itself b.buffer.content; rest = refl 
 pub gains_on : (b d e : OpenState) → Gains b d → Gains d e → Gains b e
 gains_on b d e f g = record {
   within = within_chain b.buffer.content d.buffer.content e.buffer.content f.within g.within;
-  rest = g.rest ∙ ap (λ (s : State). record s { content = e.buffer.content; unsaved = e.buffer.unsaved; listed = e.buffer.listed }) f.rest;
+  rest = g.rest ∙ ap (λ (s : State). record s { content = e.buffer.content; unsaved = e.buffer.unsaved }) f.rest;
 }
 
 gains_if : (x : Bool) (b : OpenState) → Gains b (if x then written b else b)

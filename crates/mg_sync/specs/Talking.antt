@@ -69,7 +69,7 @@ pub record Hears {L : Type 0} (remaining : L → Option (List ℕ)) (answer : Re
 -- The buffer has all that it had, and may have more. Its name, replica and limit, point, mark and groups stay.
 pub record Gains (b d : OpenState) : Type 0 where
   pub within : IsWithin b.buffer.content d.buffer.content
-  pub rest : d.buffer ≡ record b.buffer { content = d.buffer.content; unsaved = d.buffer.unsaved; listed = d.buffer.listed }
+  pub rest : d.buffer ≡ record b.buffer { content = d.buffer.content; unsaved = d.buffer.unsaved }
 
 -- ---- where nothing is said of the link
 

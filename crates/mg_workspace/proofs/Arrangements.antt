@@ -1,37 +1,36 @@
 -- What changed windows lead to, case by case.
 use Rattle.std.proofs.Common.{◌≡◌, ◌≤◌, length, true, false, true≢false, Ok, Err, OnOk, OnErr, sym, ap, subst, ◌∙◌}
 use Rattle.std.proofs.lemmas.List.{length-set}
-use Rattle.mg_buffer.specs.State.{State}
-use Rattle.mg_files.specs.OpenState.{OpenState}
 use Rattle.mg_screen.specs.declared.windows.WindowFault.TheVariants.{TooSmall, OnlyOne, Memory}
 use Rattle.mg_screen.specs.Layout.{Layout}
 use Rattle.mg_minibuffer.specs.declared.ending.Arrangement.{Arrangement}
-use Rattle.mg_buffers.specs.Buffers.{Buffers, AtCurrent}
+use Rattle.mg_buffers.specs.Buffers as buffers
+use Rattle.mg_buffers.specs.Buffers.{Buffers}
 use Rattle.mg_workspace.specs.declared.fault.ActionFault.TheVariants as action_fault
 use Rattle.mg_workspace.specs.declared.viewport.Viewport.{Viewport}
 use Rattle.mg_workspace.specs.declared.workspace.TheConstants.{MAX_BUFFERS}
-use Rattle.mg_workspace.specs.Actions.{ActionVerdict, WindowVerdict, IsWindowAnswer, window_answer, arranged, windows_after, lacks_memory, EndsRun, Rearranged, Arranged}
+use Rattle.mg_workspace.specs.Actions.{ActionVerdict, WindowVerdict, IsWindowAnswer, window_answer, arranged, windows_after, lacks_memory, idled, with_windows, rearranged, Arranged}
 use Rattle.mg_workspace.specs.Viewports.{current_viewport, ShowThese, AreShown}
-use Rattle.mg_workspace.specs.Workspaces.{Workspace, IsCurrent}
+use Rattle.mg_workspace.specs.Workspaces.{Workspace, current_buffer}
 
-pub rearranged : (answer : WindowVerdict) (a : Arrangement) (b : OpenState) (w v : Workspace) (l : Layout Viewport) → lacks_memory answer ≡ false
-    → OnOk answer (l ≡ arranged a b w.windows) → OnErr answer (l ≡ w.windows) → EndsRun l w v → Rearranged answer (windows_after answer a b w.windows) w v
-rearranged (Ok u) a b w v l enough done same ends = subst (λ x. EndsRun x w v) done ends
-rearranged (Err TooSmall) a b w v l enough done same ends = subst (λ x. EndsRun x w v) same ends
-rearranged (Err OnlyOne) a b w v l enough done same ends = subst (λ x. EndsRun x w v) same ends
-rearranged (Err Memory) a b w v l enough done same ends = absurd (true≢false enough)
+pub is_rearranged : (answer : WindowVerdict) (a : Arrangement) (w v : Workspace) (l : Layout Viewport) → lacks_memory answer ≡ false
+    → OnOk answer (l ≡ arranged a (current_buffer w) w.windows) → OnErr answer (l ≡ w.windows) → v ≡ with_windows l (idled w) → v ≡ rearranged answer (windows_after answer a (current_buffer w) w.windows) w
+is_rearranged (Ok u) a w v l enough done same is = is ∙ ap (λ x. with_windows x (idled w)) done
+is_rearranged (Err TooSmall) a w v l enough done same is = is ∙ ap (λ x. with_windows x (idled w)) same
+is_rearranged (Err OnlyOne) a w v l enough done same is = is ∙ ap (λ x. with_windows x (idled w)) same
+is_rearranged (Err Memory) a w v l enough done same is = absurd (true≢false enough)
 
 -- want of memory
-pub unarranged : (answer : WindowVerdict) (a : Arrangement) (b : OpenState) (w v : Workspace) (r : ActionVerdict) → lacks_memory answer ≡ true → IsCurrent w b → IsWindowAnswer answer (window_answer a w.windows)
+pub unarranged : (answer : WindowVerdict) (a : Arrangement) (w v : Workspace) (r : ActionVerdict) → lacks_memory answer ≡ true → IsWindowAnswer answer (window_answer a w.windows)
     → OnErr answer (v ≡ w) → r ≡ Err action_fault.Memory → Arranged a w v r
-unarranged (Ok u) a b w v r wants here exact same told = absurd (true≢false (sym wants))
-unarranged (Err TooSmall) a b w v r wants here exact same told = absurd (true≢false (sym wants))
-unarranged (Err OnlyOne) a b w v r wants here exact same told = absurd (true≢false (sym wants))
-unarranged (Err Memory) a b w v r wants here exact same told = record { answer = Err Memory; shown = b; current = here; exact = exact; windows = same; told = told }
+unarranged (Ok u) a w v r wants exact same told = absurd (true≢false (sym wants))
+unarranged (Err TooSmall) a w v r wants exact same told = absurd (true≢false (sym wants))
+unarranged (Err OnlyOne) a w v r wants exact same told = absurd (true≢false (sym wants))
+unarranged (Err Memory) a w v r wants exact same told = record { answer = Err Memory; exact = exact; windows = same; told = told }
 
--- what changes the current buffer keeps their number
-pub kept_count : {R : State → State → Type 0} (old new : Buffers) → AtCurrent R old new → length new.all ≡ length old.all
-kept_count old new at = ap (λ (bs : Buffers). length bs.all) at.is ∙ length-set old.all old.current (record at.before { buffer = at.after })
+-- where a run of commands ended there are as many buffers
+pub idled_count : (bs : Buffers) → length (buffers.idled bs).all ≡ length bs.all
+idled_count bs = length-set bs.all bs.current _
 
 pub arranged_shown : (bs mid now : Buffers) (old new : Layout Viewport) (x : Viewport) → AreShown bs old → length mid.all ≡ length bs.all → ShowThese (length bs.all) new.windows
     → x ≡ current_viewport new → now ≡ record mid { current = x.buffer } → AreShown now new

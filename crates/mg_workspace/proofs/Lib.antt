@@ -1,3 +1,4 @@
+pub mod MappedLaws
 pub mod ViewportLaws
 pub mod Removals
 pub mod Arrangements

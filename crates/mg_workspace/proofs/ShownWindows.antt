@@ -6,17 +6,17 @@ use Rattle.std.proofs.lemmas.Option.{slice_get_within, get_or_from_slice_get, sl
 use Rattle.std.proofs.lemmas.List.Sums.{sum_by-cons}
 use Rattle.mg_files.specs.OpenState.{OpenState}
 use Rattle.mg_screen.specs.Cursor.{cursor, pane_cursor, rows_above, shows_point}
-use Rattle.mg_screen.specs.Layout.{Window, window, Layout, heights, rows_of, IsTall}
+use Rattle.mg_screen.specs.Layout.{Window, window, Layout, layout, all_shown, shows_at, shown_layout, heights, rows_of, IsTall}
 use Rattle.mg_screen.specs.Screen.{Pane, Screen}
 use Rattle.mg_screen.proofs.CursorLaws.{placed_shows}
 use Rattle.rga_ops.specs.Order.{text}
 use Rattle.mg_buffer.specs.Sight.{place_of}
 use Rattle.mg_buffers.specs.Buffers.{Buffers}
-use Rattle.mg_buffers.proofs.MappedLaws.{mapped_to}
+use Rattle.mg_workspace.proofs.MappedLaws.{mapped_to, mapped_on}
 use Rattle.mg_workspace.specs.declared.viewport.Viewport.{Viewport}
-use Rattle.mg_workspace.specs.Viewports.{viewport, ShowThese, AreShown}
-use Rattle.mg_workspace.specs.Showing.{buffer_of, first_over, placed_window, placed, pane_over, pane_of, panes_of}
-use Rattle.mg_workspace.proofs.ViewportLaws.{show_map, mapped_shows}
+use Rattle.mg_workspace.specs.Viewports.{viewport, AreShown}
+use Rattle.mg_workspace.specs.Showing.{buffer_of, first_over, placed_window, placed, IsPlacedViewport, pane_over, pane_of, panes_of}
+use Rattle.mg_workspace.proofs.ViewportLaws.{show_map, mapped_shows, shows_mapped}
 
 -- ---- heights
 
@@ -41,11 +41,6 @@ some_rows [] tall some = absurd (omega (arith, some))
 some_rows (w ∷ ws) tall some = omega (arith, tall.0)
 
 -- ---- what is placed shows the same buffers
-
-pub show_placed_to : (bs : List OpenState) (ws : List (Window Viewport)) (i : ℕ) → ShowThese (length bs) ws → ShowThese (length bs) (mapped_to (placed_window bs) i ws)
-show_placed_to bs ws zero all = all
-show_placed_to bs [] (suc i) all = tt
-show_placed_to bs (w ∷ ws) (suc i) all = (all.0, show_placed_to bs ws i all.1)
 
 pub placed_shown : (bs : Buffers) (l : Layout Viewport) → AreShown bs l → AreShown bs (placed bs.all l)
 placed_shown bs l shown = record {
@@ -95,9 +90,41 @@ cursor_shown bs l columns s i is tall inside =
     let shown : shows_point p ≡ true = shows_over (buffer_of bs w) w (height_within l.windows i w tall at).0 in
     subst (λ o. IsSome (option_and_then (pane_cursor columns (rows_above i s.panes)) o)) (sym here) (rw shown refl)
 
--- one window more, of those that are shown
-pub pane_on : (all before new : List Pane) (i : ℕ) (p : Pane) → slice_get all i ≡ Some p → before ≡ take i all → new ≡ before ++ p ∷ [] → new ≡ take (i + 1) all
-pane_on all before new i p at is more =
-    let next = take_more all i p (slice_get_within all i p at) in
-    let read = get_or_from_slice_get all i p p at in
-    more ∙ ap (λ ps. ps ++ p ∷ []) is ∙ ap (λ q. take i all ++ q ∷ []) (sym read) ∙ sym next
+-- one more of a list
+pub taken_on : {A : Type 0} (all before new : List A) (i : ℕ) (x : A) → slice_get all i ≡ Some x → before ≡ take i all → new ≡ before ++ x ∷ [] → new ≡ take (i + 1) all
+taken_on all before new i x at is more =
+    let next = take_more all i x (slice_get_within all i x at) in
+    let read = get_or_from_slice_get all i x x at in
+    more ∙ ap (λ xs. xs ++ x ∷ []) is ∙ ap (λ y. take i all ++ y ∷ []) (sym read) ∙ sym next
+
+-- ---- what windows show once they are placed
+
+pub viewport_placed : (bs : List OpenState) (ws : List (Window Viewport)) (i : ℕ) (x : Viewport) → IsPlacedViewport bs ws i x → slice_get (all_shown (map (placed_window bs) ws)) i ≡ Some x
+viewport_placed bs ws i x p =
+    slice_get-map (λ (w : Window Viewport). w.shown) (map (placed_window bs) ws) i
+    ∙ ap (option_map (λ (w : Window Viewport). w.shown)) (slice_get-map (placed_window bs) ws i)
+    ∙ ap (λ o. option_map (λ (w : Window Viewport). w.shown) (option_map (placed_window bs) o)) p.1
+    ∙ ap Some (sym p.2)
+
+mapped_there : {A : Type 0} (f : A → A) (xs : List A) (i : ℕ) → slice_get (mapped_to f i xs) i ≡ slice_get xs i
+mapped_there f xs zero = refl
+mapped_there f [] (suc i) = refl
+mapped_there f (x ∷ xs) (suc i) = mapped_there f xs i
+
+pub length-shows_at : {T : Type 0} (i : ℕ) (s : T) (ws : List (Window T)) → length (shows_at i s ws) ≡ length ws
+length-shows_at i s [] = refl
+length-shows_at zero s (w ∷ ws) = refl
+length-shows_at (suc i) s (w ∷ ws) = let rest = length-shows_at i s ws in omega (arith, rest)
+
+-- one window more shows what it shows once it is placed
+pub placed_on : (bs : List OpenState) (l v new : Layout Viewport) (placed_ones : List Viewport) (i : ℕ) (x : Viewport) → i < length l.windows
+    → placed_ones ≡ all_shown (placed bs l).windows → slice_get placed_ones i ≡ Some x
+    → v ≡ layout (mapped_to (placed_window bs) i l.windows) l.current → new ≡ shown_layout i x v → new ≡ layout (mapped_to (placed_window bs) (i + 1) l.windows) l.current
+placed_on bs l v new placed_ones i x inside are at is shows =
+    let f = placed_window bs in
+    let w = get_or l.windows i (window 0 (viewport 0 0)) in
+    let here : slice_get l.windows i ≡ Some w = slice_get-get_or l.windows i (window 0 (viewport 0 0)) inside in
+    let shown : x ≡ (f w).shown = same_Some x (f w).shown (sym at ∙ ap (λ xs. slice_get xs i) are ∙ viewport_placed bs l.windows i (f w).shown (w, here, refl)) in
+    shows ∙ ap (shown_layout i x) is
+    ∙ ap (λ ws. layout ws l.current) (shows_mapped f (mapped_to f i l.windows) i w x (mapped_there f l.windows i ∙ here) (ap (window w.height) shown)
+    ∙ mapped_on f l.windows (mapped_to f i l.windows) i (i + 1) (omega arith) inside refl)

@@ -7,7 +7,7 @@ use Rattle.std.proofs.lemmas.List.Edits.{length-remove}
 use Rattle.mg_files.specs.OpenState.{OpenState}
 use Rattle.mg_screen.specs.Layout.{Window, window, Layout, heights, all_shown, shows_at, shown_layout, split_at, remove_at, only_at, windows_of, shared, staying, resized_layout, of_height, rows_of}
 use Rattle.mg_buffers.specs.Buffers.{Buffers, with_buffer, without_buffer}
-use Rattle.mg_buffers.specs.Mapped.{mapped_at}
+use Rattle.mg_workspace.specs.Mapped.{mapped_at}
 use Rattle.mg_buffers.specs.Names.{moved}
 use Rattle.mg_buffers.proofs.Moves.{moved_first, moved_within}
 use Rattle.mg_workspace.specs.declared.viewport.Viewport.{Viewport}
@@ -127,14 +127,6 @@ left_at gone (w ∷ ws) zero s x at is =
 left_at gone (w ∷ ws) (suc i) s x at is = ap (λ us. w ∷ us) (left_at gone ws i s x at is)
 
 -- ---- the windows of a workspace show its buffers
-
--- those that are kept in number, of which the same one is current
-pub kept_shown : (bs now : Buffers) (l : Layout Viewport) → AreShown bs l → length now.all ≡ length bs.all → now.current ≡ bs.current → AreShown now l
-kept_shown bs now l shown count at = record {
-  few = subst (λ n. n ≤ MAX_BUFFERS) (sym count) shown.few;
-  each = subst (λ n. ShowThese n l.windows) (sym count) shown.each;
-  current = shown.current ∙ sym at;
-}
 
 pub gone_shown : (bs : Buffers) (l new : Layout Viewport) (i : ℕ) → AreShown bs l → i < length bs.all → new ≡ turned i l → (current_viewport new).buffer ≡ i → AreShown (record bs { current = i }) new
 gone_shown bs l new i shown inside is here = record {

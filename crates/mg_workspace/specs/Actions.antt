@@ -1,9 +1,9 @@
 -- What actions do.
 use Rattle.std.specs.Prelude.{◌≡◌, ◌⊎◌, ℕ, Bool, true, false, List, length, Option, Some, None, slice_get, Result, Ok, Err, MatchResult, nat_lt, nat_le, if◌then◌else◌}
-use Rattle.std.specs.Bool.{MatchBool}
 use Rattle.rga_ops.specs.Order.{text}
 use Rattle.rga_ops.specs.declared.refusal.Refusal.TheVariants.{Full, Clock}
 use Rattle.mg_plain.specs.declared.command.Command.{Command}
+use Rattle.mg_plain.specs.declared.view.Kind.TheVariants.{Plain}
 use Rattle.mg_buffer.specs.declared.fault.BufferFault.{BufferFault}
 use Rattle.mg_buffer.specs.declared.fault.BufferFault.TheVariants.{Notice as Noticed, Store}
 use Rattle.mg_buffer.specs.Faults.{FaultVerdict}
@@ -21,13 +21,13 @@ use Rattle.mg_screen.specs.declared.windows.WindowFault.TheVariants as window
 use Rattle.mg_screen.specs.Layout.{Layout, current_height, split_layout, removed_layout, resized_layout, only_layout, other_layout}
 use Rattle.mg_screen.specs.Lines.{line_of, centred}
 use Rattle.mg_buffers.specs.Buffers as buffers
-use Rattle.mg_buffers.specs.Buffers.{AtCurrent, RunsTo, UndoesTo, IdlesTo}
+use Rattle.mg_buffers.specs.Buffers.{AtCurrent, RunsTo, UndoesTo}
 use Rattle.mg_buffers.specs.Names.{named, asked, next_round}
 use Rattle.mg_workspace.specs.declared.fault.ActionFault.{ActionFault}
 use Rattle.mg_workspace.specs.declared.fault.ActionFault.TheVariants.{Refused, Memory}
 use Rattle.mg_workspace.specs.declared.viewport.Viewport.{Viewport}
 use Rattle.mg_workspace.specs.Viewports.{current_viewport, turned, scrolled, layout_without}
-use Rattle.mg_workspace.specs.Workspaces.{Workspace, IsCurrent}
+use Rattle.mg_workspace.specs.Workspaces.{Workspace, current_buffer}
 
 -- why an action is not done, by what the buffer and the windows say
 abbrev pub fault_of : BufferFault → ActionFault
@@ -52,19 +52,11 @@ abbrev pub of_windows : Result (Unit {0}) WindowFault → ActionVerdict
 of_windows (Ok u) = Ok tt
 of_windows (Err e) = Err (window_fault_of e)
 
-abbrev pub all_unlisted : Workspace → Workspace
-all_unlisted w = record w { buffers = buffers.all_unlisted w.buffers }
-
--- nothing changed, but that buffers may be listed now or not
-abbrev pub Keeps : Workspace → Workspace → Type 0
-Keeps w v = all_unlisted v ≡ all_unlisted w
-
 -- ---- of the current buffer
 
--- a run of commands ended
-pub record Idled (w v : Workspace) : Type 0 where
-  pub buffers : AtCurrent (λ b d. IdlesTo b w.notes d v.notes) w.buffers v.buffers
-  pub rest : v ≡ record w { buffers = v.buffers; notes = v.notes }
+-- where a run of commands ended
+abbrev pub idled : Workspace → Workspace
+idled w = record w { buffers = buffers.idled w.buffers; notes = record w.notes { kind = Plain } }
 
 -- the current buffer ran a command
 pub record Ran (command : Command) (n : ℕ) (w v : Workspace) (r : ActionVerdict) : Type 0 where
@@ -113,26 +105,20 @@ windows_after (Err e) a b l = l
 abbrev pub with_windows : Layout Viewport → Workspace → Workspace
 with_windows l w = record w { buffers = record w.buffers { current = (current_viewport l).buffer }; windows = l }
 
--- a run of commands ended in the buffer that was current, and the windows became these
-abbrev pub EndsRun : Layout Viewport → Workspace → Workspace → Type 0
-EndsRun l w v = (idled : Workspace) × Idled w idled × (v ≡ with_windows l idled)
-
 abbrev pub lacks_memory : WindowVerdict → Bool
 lacks_memory (Ok u) = false
 lacks_memory (Err window.TooSmall) = false
 lacks_memory (Err window.OnlyOne) = false
 lacks_memory (Err window.Memory) = true
 
--- refused or not; want of memory changes nothing
-abbrev pub Rearranged : WindowVerdict → Layout Viewport → Workspace → Workspace → Type 0
-Rearranged answer l w v = MatchBool (lacks_memory answer) (v ≡ w) (EndsRun l w v)
+-- a run of commands ended, and the windows became these, refused or not; want of memory changes nothing
+abbrev pub rearranged : WindowVerdict → Layout Viewport → Workspace → Workspace
+rearranged answer l w = if lacks_memory answer then w else with_windows l (idled w)
 
 pub record Arranged (a : Arrangement) (w v : Workspace) (r : ActionVerdict) : Type 0 where
   pub answer : WindowVerdict
-  pub shown : OpenState
-  pub current : IsCurrent w shown
   pub exact : IsWindowAnswer answer (window_answer a w.windows)
-  pub windows : Rearranged answer (windows_after answer a shown w.windows) w v
+  pub windows : v ≡ rearranged answer (windows_after answer a (current_buffer w) w.windows) w
   pub told : r ≡ of_windows answer
 
 -- on a screen of so many rows and columns
@@ -189,7 +175,7 @@ Killed name w v r = Removes (asked name w.buffers.current w.buffers.all) w v r
 -- ---- of any action
 abbrev pub Done : Action → Workspace → Workspace → ActionVerdict → Type 0
 Done Nothing w v r = (v ≡ w) × (r ≡ Ok tt)
-Done EndRun w v r = Idled w v × (r ≡ Ok tt)
+Done EndRun w v r = (v ≡ idled w) × (r ≡ Ok tt)
 Done (Run command n) w v r = Ran command n w v r
 Done Undo w v r = Undid w v r
 Done (Arrange a) w v r = Arranged a w v r

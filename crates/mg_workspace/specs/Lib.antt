@@ -1,3 +1,4 @@
+pub mod Mapped
 pub mod Viewports
 pub mod Workspaces
 pub mod Actions

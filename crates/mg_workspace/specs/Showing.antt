@@ -10,7 +10,7 @@ use Rattle.mg_screen.specs.Lines.{first_line}
 use Rattle.mg_screen.specs.Screen.{Pane}
 use Rattle.mg_workspace.specs.declared.viewport.Viewport.{Viewport}
 use Rattle.mg_workspace.specs.Viewports.{viewport}
-use Rattle.mg_workspace.specs.Workspaces.{Workspace, IsCurrent}
+use Rattle.mg_workspace.specs.Workspaces.{Workspace}
 
 -- the buffer that a window shows
 abbrev pub buffer_of : List OpenState → Window Viewport → Option OpenState
@@ -58,10 +58,6 @@ abbrev pub panes_of : List OpenState → Layout Viewport → List Pane
 panes_of bs l = map (pane_of bs) l.windows
 
 -- ---- of a workspace
-
--- the name of its current buffer
-abbrev pub IsName : Workspace → List ℕ → Type 0
-IsName w name = (b : OpenState) × IsCurrent w b × (name ≡ b.buffer.name)
 
 -- each window shows the line of point
 abbrev pub placed_work : Workspace → Workspace

@@ -1,11 +1,11 @@
 -- What is worked on.
-use Rattle.std.specs.Prelude.{◌≡◌, ℕ, Bool, true, Some, slice_get}
+use Rattle.std.specs.Prelude.{ℕ, Bool}
 use Rattle.rga_ops.specs.Order.{text}
 use Rattle.mg_buffer.specs.Sight.{Notes, place_of}
 use Rattle.mg_files.specs.OpenState.{OpenState}
 use Rattle.mg_screen.specs.Layout.{Layout, current_height}
 use Rattle.mg_buffers.specs.Buffers as buffers
-use Rattle.mg_buffers.specs.Buffers.{are_changed, AtCurrent}
+use Rattle.mg_buffers.specs.Buffers.{are_changed}
 use Rattle.mg_workspace.specs.declared.viewport.Viewport.{Viewport}
 use Rattle.mg_minibuffer.specs.Scenes as scenes
 
@@ -23,38 +23,21 @@ pub record Workspace : Type 0 where
   pub runs : Bool
   pub brief : Bool
 
--- that buffer is current
-abbrev pub IsCurrent : Workspace → OpenState → Type 0
-IsCurrent w b = slice_get w.buffers.all w.buffers.current ≡ Some b
+-- the current buffer
+abbrev pub current_buffer : Workspace → OpenState
+current_buffer w = buffers.current_buffer w.buffers
 
 -- with another as the current buffer
 abbrev pub with_current : Workspace → OpenState → Workspace
 with_current w b = record w { buffers = buffers.with_current w.buffers b }
 
--- the current buffer is listed, and nothing else changed
-abbrev pub IsListed : Workspace → Workspace → Type 0
-IsListed w v = AtCurrent buffers.IsListed w.buffers v.buffers × (v ≡ record w { buffers = v.buffers })
-
--- the current buffer has its text and the places of point and mark at hand
-abbrev pub HasList : Workspace → Type 0
-HasList w = (b : OpenState) × IsCurrent w b × (b.buffer.listed ≡ true)
-
--- all buffers have
-abbrev pub HasLists : Workspace → Type 0
-HasLists w = buffers.AreListed w.buffers.all
-
--- all buffers are listed
-abbrev pub all_listed : Workspace → Workspace
-all_listed w = record w { buffers = buffers.all_listed w.buffers }
-
--- what a step is decided from, where that buffer is current
-abbrev pub scene_of : Workspace → OpenState → scenes.Scene
-scene_of w b = record {
-  text = text b.buffer.content;
-  point = place_of b.buffer.content b.buffer.point;
-  rows = current_height w.windows;
-  changed = are_changed w.buffers;
-}
-
-abbrev pub Shows : Workspace → scenes.Scene → Type 0
-Shows w scene = (b : OpenState) × IsCurrent w b × (scene ≡ scene_of w b)
+-- what a step is decided from
+abbrev pub scene_of : Workspace → scenes.Scene
+scene_of w =
+    let b = (current_buffer w).buffer in
+    record {
+      text = text b.content;
+      point = place_of b.content b.point;
+      rows = current_height w.windows;
+      changed = are_changed w.buffers;
+    }

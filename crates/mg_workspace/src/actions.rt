@@ -2,7 +2,6 @@
 ghost use Rattle.std.specs.Prelude.{◌≡◌, Err};
 ghost use Rattle.mg_workspace.specs.declared.fault.ActionFault.TheVariants.{Memory};
 ghost use Rattle.mg_workspace.specs.Actions as spec;
-ghost use Rattle.mg_workspace.specs.Workspaces.{HasList};
 
 use crate::fault::{ActionFault, of_buffer};
 use crate::workspace::Workspace;
@@ -13,9 +12,8 @@ use rga_store::TextStore;
 impl<S: TextStore> Workspace<S> {
     /// Does an action. Want of memory changes nothing.
     pub fn do_action(&mut self, action: &Action) -> Result<(), ActionFault>
-        requires { HasList self.old }
         ensures done { spec.Done action.now self.old self.new result }
-        ensures kept { result ≡ Err Memory → spec.Keeps self.old self.new }
+        ensures kept { result ≡ Err Memory → self.new ≡ self.old }
     {
         match action {
             Action::Nothing => Ok(()),
@@ -34,7 +32,7 @@ impl<S: TextStore> Workspace<S> {
     /// The current buffer runs a command.
     pub fn run(&mut self, command: &Command, argument: u16) -> Result<(), ActionFault>
         ensures ran { spec.Ran command.now argument self.old self.new result }
-        ensures kept { result ≡ Err Memory → spec.Keeps self.old self.new }
+        ensures kept { result ≡ Err Memory → self.new ≡ self.old }
     {
         let current = self.buffers.current_mut();
         let answer = current
@@ -46,7 +44,7 @@ impl<S: TextStore> Workspace<S> {
     /// The current buffer undoes.
     fn undo(&mut self) -> Result<(), ActionFault>
         ensures undid { spec.Undid self.old self.new result }
-        ensures kept { result ≡ Err Memory → spec.Keeps self.old self.new }
+        ensures kept { result ≡ Err Memory → self.new ≡ self.old }
     {
         let answer = self.buffers.current_mut().buffer.undo(&mut self.memo);
         of_buffer(answer)
@@ -54,7 +52,7 @@ impl<S: TextStore> Workspace<S> {
 
     /// A run of commands ends.
     fn idle(&mut self)
-        ensures { spec.Idled self.old self.new }
+        ensures { self.new ≡ spec.idled self.old }
     {
         self.buffers.idle(&mut self.memo);
     }

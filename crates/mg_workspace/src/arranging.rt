@@ -1,11 +1,10 @@
 //! Windows that change.
-ghost use Rattle.std.specs.Prelude.{◌≡◌, ℕ, ◌<◌, ◌≤◌, true, Some, Err, length, slice_get, OnOk, OnErr};
+ghost use Rattle.std.specs.Prelude.{◌≡◌, ℕ, ◌<◌, ◌≤◌, Some, Err, length, slice_get, OnOk, OnErr, IfErr};
 ghost use Rattle.mg_screen.specs.Layout.{all_shown, heights, FillsRows};
 ghost use Rattle.mg_screen.specs.declared.size.TheConstants.{MIN_ROWS, MAX_ROWS, MIN_COLUMNS, MAX_COLUMNS};
 ghost use Rattle.mg_workspace.specs.declared.fault.ActionFault.TheVariants.{Memory};
 ghost use Rattle.mg_workspace.specs.Actions as spec;
 ghost use Rattle.mg_workspace.specs.Viewports.{current_viewport, ShowThese};
-ghost use Rattle.mg_workspace.specs.Workspaces.{HasList};
 
 use crate::fault::{ActionFault, of_windows};
 use crate::viewport::Viewport;
@@ -39,17 +38,27 @@ pub(crate) fn current_viewport(windows: &Windows<Viewport>) -> Viewport
     viewport_at(windows, windows.current())
 }
 
-/// The current window shows its buffer, which is this, with point's line in its middle.
-fn recenter<S: TextStore>(windows: &mut Windows<Viewport>, opened: &VisitedBuffer<S>)
-    requires { opened.now.buffer.listed ≡ true }
-    ensures exact { windows.new ≡ spec.arranged Arrangement.Recenter opened.now windows.old }
+/// The current window shows its buffer, which is this, with point's line in its middle. `Memory`
+/// where that is not listed, and nothing changes then.
+fn recenter<S: TextStore>(
+    windows: &mut Windows<Viewport>,
+    opened: &VisitedBuffer<S>,
+) -> Result<(), WindowFault>
+    ensures memory { IfErr result (λ e. e ≡ WindowFault.Memory) }
+    ensures windows { OnOk result
+        (windows.new ≡ spec.arranged Arrangement.Recenter opened.now windows.old) }
+    ensures same { OnErr result (windows.new ≡ windows.old) }
     ensures shown { (n : ℕ) → ShowThese n windows.old.windows → ShowThese n windows.new.windows }
 {
+    let Some(line) = opened.buffer.line() else {
+        return Err(WindowFault::Memory);
+    };
     let index = windows.current();
     let height = windows.heights()[index];
     let buffer = current_viewport(windows).buffer;
-    let first = centred_line(opened.buffer.line(), height);
+    let first = centred_line(line, height);
     windows.show(index, Viewport { buffer, first });
+    Ok(())
 }
 
 fn change_windows<S: TextStore>(
@@ -57,7 +66,6 @@ fn change_windows<S: TextStore>(
     arrangement: Arrangement,
     opened: &VisitedBuffer<S>,
 ) -> Result<(), WindowFault>
-    requires { opened.now.buffer.listed ≡ true }
     ensures exact { spec.IsWindowAnswer result (spec.window_answer arrangement windows.old) }
     ensures windows { OnOk result
         (windows.new ≡ spec.arranged arrangement opened.now windows.old) }
@@ -75,10 +83,7 @@ fn change_windows<S: TextStore>(
             windows.other();
             Ok(())
         }
-        Arrangement::Recenter => {
-            recenter(windows, opened);
-            Ok(())
-        }
+        Arrangement::Recenter => recenter(windows, opened),
     }
 }
 
@@ -95,10 +100,12 @@ impl<S: TextStore> Workspace<S> {
     /// The windows change, and a run of commands ends, refused or not. Then the buffer of the
     /// current window is current.
     pub(crate) fn arrange(&mut self, arrangement: Arrangement) -> Result<(), ActionFault>
-        requires { HasList self.old }
         ensures arranged { spec.Arranged arrangement self.old self.new result }
-        ensures kept { result ≡ Err Memory → spec.Keeps self.old self.new }
+        ensures kept { result ≡ Err Memory → self.new ≡ self.old }
     {
+        let Ok(()) = self.list() else {
+            return Err(ActionFault::Memory);
+        };
         let opened = self.buffers.current();
         let answer = change_windows(&mut self.windows, arrangement, opened);
         if lacks_memory(answer) {

@@ -2,7 +2,7 @@
 ghost use Rattle.std.specs.Prelude.{◌≡◌, ◌≢◌, ◌<◌, Err, length, string_bytes, OnErr};
 ghost use Rattle.mg_files.specs.Loading.{load_outcome};
 ghost use Rattle.mg_files.specs.declared.fault.LoadFault.TheVariants as load_fault;
-ghost use Rattle.mg_buffers.specs.Mapped.{mapped_at};
+ghost use Rattle.mg_workspace.specs.Mapped.{mapped_at};
 ghost use Rattle.mg_workspace.specs.declared.fault.ActionFault.TheVariants.{Memory};
 ghost use Rattle.mg_workspace.specs.declared.workspace.TheConstants.{MAX_BUFFERS};
 ghost use Rattle.mg_workspace.specs.Actions as spec;

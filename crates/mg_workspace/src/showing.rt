@@ -1,12 +1,11 @@
 //! Windows over buffers. Each is placed, and shown, by the buffer that it is over.
-ghost use Rattle.std.specs.Prelude.{◌≡◌, ◌<◌, ◌≤◌, true, Some, IfOk, OnOk, length, slice_get, ◌++◌, [], ◌∷◌};
+ghost use Rattle.std.specs.Prelude.{◌≡◌, ◌<◌, ◌≤◌, List, Some, IfOk, IfSome, OnOk, length, slice_get, ◌++◌, [], ◌∷◌};
 ghost use Rattle.mg_screen.specs.declared.size.TheConstants.{MAX_ROWS};
-ghost use Rattle.mg_screen.specs.Layout.{window, FillsRows};
-ghost use Rattle.mg_buffers.specs.Buffers.{AreListed};
-ghost use Rattle.mg_buffers.specs.Mapped.{mapped_at};
-ghost use Rattle.mg_workspace.specs.Viewports.{viewport, ShowThese};
+ghost use Rattle.mg_screen.specs.Layout.{all_shown, window, FillsRows};
+ghost use Rattle.mg_files.specs.OpenState.{OpenState};
+ghost use Rattle.mg_workspace.specs.Viewports.{ShowThese};
 ghost use Rattle.mg_workspace.specs.Showing as spec;
-ghost use Rattle.mg_workspace.specs.Workspaces.{HasLists};
+ghost use Rattle.mg_workspace.specs.Workspaces.{current_buffer};
 
 use crate::arranging::{height_at, viewport_at};
 use crate::viewport::Viewport;
@@ -18,54 +17,58 @@ use mg_screen::{FrameFault, Pane, Windows, first_line};
 use rga_store::TextStore;
 use std::alloc::{AllocError, Global};
 
-/// The first line of a window over a buffer, so that it shows the line of point.
-fn first_shown<S: TextStore>(opened: &VisitedBuffer<S>, shown: Viewport, height: usize) -> usize
-    requires { opened.now.buffer.listed ≡ true }
-    ensures { result ≡ spec.first_over (Some opened.now) (window height shown) }
-{
-    first_line(opened.buffer.line(), shown.first, height)
-}
-
-/// What the window at an index shows once it is placed: its buffer, with the line of point.
+/// What the window at an index shows once it is placed: its buffer, with the line of point. `None`
+/// where that buffer is not listed.
 fn placed_viewport<S: TextStore>(
     windows: &Windows<Viewport>,
     index: usize,
     buffers: &Buffers<S>,
-) -> Viewport
-    requires listed { AreListed buffers.now.all }
+) -> Option<Viewport>
     requires shown { ShowThese (length buffers.now.all) windows.now.windows }
     requires within { index < length windows.now.windows }
-    ensures { spec.IsPlacedViewport buffers.now.all windows.now.windows index result }
+    ensures { IfSome result (spec.IsPlacedViewport buffers.now.all windows.now.windows index) }
 {
     let shown = viewport_at(windows, index);
     let height = height_at(windows, index);
-    let opened = buffers.at(shown.buffer);
-    Viewport {
+    let Some(line) = buffers.at(shown.buffer).buffer.line() else {
+        return None;
+    };
+    Some(Viewport {
         buffer: shown.buffer,
-        first: first_shown(opened, shown, height),
-    }
+        first: first_line(line, shown.first, height),
+    })
 }
 
-/// The window at an index shows the line of point.
-fn place_window<S: TextStore>(windows: &mut Windows<Viewport>, index: usize, buffers: &Buffers<S>)
-    requires listed { AreListed buffers.now.all }
-    requires shown { ShowThese (length buffers.now.all) windows.old.windows }
-    requires within { index < length windows.old.windows }
-    ensures { windows.new ≡ record windows.old {
-      windows = mapped_at (spec.placed_window buffers.now.all) index windows.old.windows;
-    } }
+fn placed_viewports<S: TextStore>(
+    alloc: Global,
+    windows: &Windows<Viewport>,
+    buffers: &Buffers<S>,
+) -> Result<Vec<Viewport>, FrameFault>
+    requires shown { ShowThese (length buffers.now.all) windows.now.windows }
+    ensures { let placed = spec.placed buffers.now.all windows.now in
+        IfOk result (λ viewports. viewports.items ≡ all_shown placed.windows) }
 {
-    let placed = placed_viewport(windows, index, buffers);
-    windows.show(index, placed);
-}
-
-fn place_windows<S: TextStore>(windows: &mut Windows<Viewport>, buffers: &Buffers<S>)
-    requires listed { AreListed buffers.now.all }
-    requires shown { ShowThese (length buffers.now.all) windows.old.windows }
-    ensures { windows.new ≡ spec.placed buffers.now.all windows.old }
-{
+    let mut placed = Vec::new(alloc);
     for index in 0..windows.heights().len() {
-        place_window(windows, index, buffers);
+        let Some(viewport) = placed_viewport(windows, index, buffers) else {
+            return Err(FrameFault::Memory);
+        };
+        let Ok(()) = placed.push(viewport) else {
+            return Err(FrameFault::Memory);
+        };
+    }
+    Ok(placed)
+}
+
+/// Each window shows what stands for it in the list.
+fn place_windows(windows: &mut Windows<Viewport>, placed: &[Viewport])
+    requires { length placed.now ≡ length windows.old.windows }
+    ensures { (bs : List OpenState) →
+        placed.now ≡ all_shown (spec.placed bs windows.old).windows →
+        windows.new ≡ spec.placed bs windows.old }
+{
+    for index in 0..placed.len() {
+        windows.show(index, placed[index]);
     }
 }
 
@@ -77,19 +80,20 @@ fn pane<'a, S: TextStore>(
     shown: Viewport,
     height: usize,
 ) -> Result<Pane<'a>, FrameFault>
-    requires listed { opened.now.buffer.listed ≡ true }
     requires height_from { 1 ≤ height }
     requires height_to { height ≤ MAX_ROWS }
     ensures { IfOk result (λ p. p ≡ spec.pane_over (Some opened.now) (window height shown)) }
 {
-    let view = opened.buffer.view(memo);
+    let (Some(view), Some(line)) = (opened.buffer.view(memo), opened.buffer.line()) else {
+        return Err(FrameFault::Memory);
+    };
     let Ok(waiting) = opened.buffer.store().waiting_count() else {
         return Err(FrameFault::Memory);
     };
     Ok(Pane {
         text: view.text,
         point: view.point,
-        line: opened.buffer.line(),
+        line,
         first: shown.first,
         height,
         name: String::from_str(alloc, opened.buffer.name())?,
@@ -106,7 +110,6 @@ fn placed_pane<'a, S: TextStore>(
     buffers: &'a Buffers<S>,
     memo: &'a Memo,
 ) -> Result<Pane<'a>, FrameFault>
-    requires listed { AreListed buffers.now.all }
     requires shown { ShowThese (length buffers.now.all) windows.now.windows }
     requires within { index < length windows.now.windows }
     requires on_screen { spec.IsOnScreen windows.now }
@@ -114,7 +117,9 @@ fn placed_pane<'a, S: TextStore>(
         let panes = spec.panes_of bs (spec.placed bs windows.now) in
         IfOk result (λ p. slice_get panes index ≡ Some p) }
 {
-    let placed = placed_viewport(windows, index, buffers);
+    let Some(placed) = placed_viewport(windows, index, buffers) else {
+        return Err(FrameFault::Memory);
+    };
     let height = height_at(windows, index);
     pane(alloc, buffers.at(placed.buffer), memo, placed, height)
 }
@@ -132,7 +137,6 @@ fn placed_panes<'a, S: TextStore>(
     buffers: &'a Buffers<S>,
     memo: &'a Memo,
 ) -> Result<Vec<Pane<'a>>, FrameFault>
-    requires listed { AreListed buffers.now.all }
     requires shown { ShowThese (length buffers.now.all) windows.now.windows }
     requires on_screen { spec.IsOnScreen windows.now }
     ensures { let bs = buffers.now.all in
@@ -150,7 +154,7 @@ fn placed_panes<'a, S: TextStore>(
 impl<S: TextStore> Workspace<S> {
     /// The name of the current buffer.
     pub fn name(&self) -> &str
-        ensures { spec.IsName self.now result.now }
+        ensures { result.now ≡ (current_buffer self.now).buffer.name }
     {
         self.buffers.current().buffer.name()
     }
@@ -163,17 +167,26 @@ impl<S: TextStore> Workspace<S> {
         self.windows.rows()
     }
 
-    /// Each window shows the line of point. Takes no memory.
-    pub fn place_windows(&mut self)
-        requires { HasLists self.old }
-        ensures { self.new ≡ spec.placed_work self.old }
+    /// What each window shows once it is placed, from the top: its buffer, with the line of point.
+    /// `Memory`, also where one of the buffers is not listed.
+    pub fn placed_viewports(&self, alloc: Global) -> Result<Vec<Viewport>, FrameFault>
+        ensures { IfOk result
+            (λ viewports. viewports.items ≡ all_shown (spec.placed_work self.now).windows.windows) }
     {
-        place_windows(&mut self.windows, &self.buffers);
+        placed_viewports(alloc, &self.windows, &self.buffers)
     }
 
-    /// The windows as they are shown once they are placed.
+    /// Each window shows what it shows once it is placed, which is this. Takes no memory.
+    pub fn place_windows(&mut self, placed: &[Viewport])
+        requires { placed.now ≡ all_shown (spec.placed_work self.old).windows.windows }
+        ensures { self.new ≡ spec.placed_work self.old }
+    {
+        place_windows(&mut self.windows, placed);
+    }
+
+    /// The windows as they are shown once they are placed. `Memory`, also where one of the buffers
+    /// is not listed.
     pub fn panes<'a>(&'a self, alloc: Global) -> Result<Vec<Pane<'a>>, FrameFault>
-        requires listed { HasLists self.now }
         requires on_screen { spec.IsOnScreen self.now.windows }
         ensures { IfOk result (λ ps. ps.items ≡ spec.work_panes (spec.placed_work self.now)) }
     {

@@ -1,8 +1,7 @@
 //! What is worked on: the buffers, what commands leave for the next one, and the windows.
-ghost use Rattle.std.specs.Prelude.{◌≡◌, ◌<◌, ◌≤◌, IfOk, OnOk, OnErr, IfErr};
+ghost use Rattle.std.specs.Prelude.{◌≡◌, ◌≤◌, IfOk, IfErr, IfSome};
 ghost use Rattle.mg_files.specs.declared.fault.LoadFault.TheVariants.{Memory};
 ghost use Rattle.mg_screen.specs.declared.size.TheConstants.{MIN_COLUMNS, MAX_COLUMNS};
-ghost use Rattle.mg_workspace.specs.Actions.{Keeps};
 ghost use Rattle.mg_workspace.specs.Opening.{workspace};
 ghost use Rattle.mg_workspace.specs.Workspaces as spec;
 
@@ -113,7 +112,7 @@ impl<S: TextStore> Workspace<S> {
 
     /// The current buffer. Takes no memory.
     pub fn current(&self) -> &VisitedBuffer<S>
-        ensures { spec.IsCurrent self.now result.now }
+        ensures { result.now ≡ spec.current_buffer self.now }
     {
         self.buffers.current()
     }
@@ -122,7 +121,7 @@ impl<S: TextStore> Workspace<S> {
     pub fn current_mut(&mut self) -> &mut VisitedBuffer<S>
         ensures* writes_back { sem 𝓛 (Lends (the_row S.row S.Taker) (of_buffer S.row S.Taker)
             self.entry result (spec.with_current self.old)) }
-        ensures value { spec.IsCurrent self.old result.now }
+        ensures value { result.now ≡ spec.current_buffer self.old }
     {
         self.buffers.current_mut()
     }
@@ -135,20 +134,18 @@ impl<S: TextStore> Workspace<S> {
     }
 
     /// Lists the current buffer: its text and the places of point and mark are then at hand.
-    /// `Memory` alone, and nothing changed then.
+    /// `Memory` alone.
     pub fn list(&mut self) -> Result<(), Refusal>
-        ensures listed { OnOk result (spec.IsListed self.old self.new) }
-        ensures same { OnErr result (self.new ≡ self.old) }
+        ensures same { self.new ≡ self.old }
         ensures memory { IfErr result (λ e. e ≡ Refusal.Memory) }
     {
         let index = self.buffers.current_index();
         self.buffers.list_at(index)
     }
 
-    /// Lists all buffers. `Memory` alone: nothing changed then, but that some may be listed.
+    /// Lists all buffers. `Memory` alone.
     pub fn list_all(&mut self) -> Result<(), Refusal>
-        ensures listed { OnOk result (self.new ≡ spec.all_listed self.old) }
-        ensures kept { OnErr result (Keeps self.old self.new) }
+        ensures same { self.new ≡ self.old }
         ensures memory { IfErr result (λ e. e ≡ Refusal.Memory) }
     {
         self.buffers.list_all()
@@ -163,18 +160,19 @@ impl<S: TextStore> Workspace<S> {
         self.columns
     }
 
-    /// What a step is decided from. Takes no memory.
-    pub fn scene<'a>(&'a self) -> Scene<'a>
-        requires { spec.HasList self.now }
-        ensures { spec.Shows self.now result }
+    /// What a step is decided from. `None` where the current buffer is not listed. Takes no memory.
+    pub fn scene<'a>(&'a self) -> Option<Scene<'a>>
+        ensures { IfSome result (λ scene. scene ≡ spec.scene_of self.now) }
     {
         let current = self.buffers.current();
-        let view = current.buffer.view(&self.memo);
-        Scene {
+        let Some(view) = current.buffer.view(&self.memo) else {
+            return None;
+        };
+        Some(Scene {
             text: view.text,
             point: view.point,
             rows: self.windows.heights()[self.windows.current()],
             changed: self.buffers.are_changed(),
-        }
+        })
     }
 }

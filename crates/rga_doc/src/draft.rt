@@ -80,6 +80,7 @@ impl Draft {
         ensures replica { self.new.replica ≡ self.old.replica }
         ensures memory { IfErr result (λ e. e ≡ Refusal.Memory) }
     {
+        self.ops.reserve(elements.len())?;
         for id in elements {
             self.ops.push(Op::Delete { id: *id })?;
         }
@@ -95,6 +96,7 @@ impl Draft {
         ensures replica { self.new.replica ≡ self.old.replica }
         ensures memory { IfErr result (λ e. e ≡ Refusal.Memory) }
     {
+        self.ops.reserve(put.len())?;
         let mut parent = after;
         for ch in put {
             let id = Id::new(self.last + 1, self.replica)?;

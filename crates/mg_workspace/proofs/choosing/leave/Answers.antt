@@ -1,8 +1,8 @@
 use Rattle.std.proofs.Common.{◌+◌, ◌<◌, length, arith, refl, ap, ◌∙◌}
 use Rattle.std.proofs.lemmas.List.{length-map}
 use Rattle.mg_screen.specs.Layout.{Window, Layout, layout}
-use Rattle.mg_buffers.specs.Mapped.{mapped_at}
-use Rattle.mg_buffers.proofs.MappedLaws.{mapped_to, mapped_on}
+use Rattle.mg_workspace.specs.Mapped.{mapped_at}
+use Rattle.mg_workspace.proofs.MappedLaws.{mapped_to, mapped_on}
 use Rattle.mg_workspace.specs.declared.viewport.Viewport.{Viewport}
 use Rattle.mg_workspace.specs.Viewports.{window_without}
 use Rattle.mg_workspace.proofs.choosing.leave.Goals as goal

@@ -1,6 +1,6 @@
 use Rattle.std.proofs.Common.{◌≡◌}
 use Rattle.mg_screen.specs.Layout.{layout}
-use Rattle.mg_buffers.proofs.MappedLaws.{mapped_to}
+use Rattle.mg_workspace.proofs.MappedLaws.{mapped_to}
 use Rattle.mg_workspace.specs.Viewports.{window_without}
 use Rattle.mg_workspace.proofs.choosing.leave.Given as goal
 

@@ -1,5 +1,4 @@
-use Rattle.std.proofs.Common.{◌≡◌, ◌<◌, ◌≤◌, length, Some, true, slice_get, arith, sym, ap, subst, ◌∙◌}
-use Rattle.mg_files.specs.OpenState.{OpenState}
+use Rattle.std.proofs.Common.{◌≡◌, ◌<◌, ◌≤◌, length, Some, slice_get, arith, sym, ap, subst, ◌∙◌}
 use Rattle.mg_screen.specs.Layout.{Window, window}
 use Rattle.mg_buffers.proofs.Results.{if_ok_map}
 use Rattle.mg_workspace.specs.declared.viewport.Viewport.{Viewport}
@@ -11,24 +10,20 @@ use Rattle.mg_workspace.proofs.showing.placed_pane.Goals as goal
 pub at-requires : goal.at-requires
 at-requires g c =
     let bs = c.args.buffers.now.all in
-    let placed = c.placed_viewport-placed.ensures in
+    let placed = c.in-Some.ensures in
     let here = each_there _ c.args.windows.now.windows c.args.index placed.0 placed.1 c.requires.shown in
     subst (λ (x : Viewport). x.buffer < length bs) (sym placed.2) here
 
-pub pane-requires-clause-listed : goal.pane-requires-clause-listed
-pane-requires-clause-listed g c =
-    each_there (λ (b : OpenState). b.buffer.listed ≡ true) c.args.buffers.now.all c.placed_viewport-placed.result.buffer c.at.result.now c.at.ensures c.requires.listed
-
 pub pane-requires-clause-height_from : goal.pane-requires-clause-height_from
 pane-requires-clause-height_from g c =
-    let placed = c.placed_viewport-placed.ensures in
+    let placed = c.in-Some.ensures in
     let ws = c.args.windows.now.windows in
     let within = height_within ws c.args.index placed.0 c.requires.on_screen.1.tall placed.1 in
     subst (λ h. 1 ≤ h) (height_read ws c.args.index placed.0 c.height_at-height.result placed.1 c.height_at-height.ensures) within.0
 
 pub pane-requires-clause-height_to : goal.pane-requires-clause-height_to
 pane-requires-clause-height_to g c =
-    let placed = c.placed_viewport-placed.ensures in
+    let placed = c.in-Some.ensures in
     let ws = c.args.windows.now.windows in
     let on_screen = c.requires.on_screen in
     let within = height_within ws c.args.index placed.0 on_screen.1.tall placed.1 in
@@ -39,9 +34,9 @@ pub returns : goal.returns
 returns g c =
     let bs = c.args.buffers.now.all in
     let ws = c.args.windows.now.windows in
-    let placed = c.placed_viewport-placed.ensures in
+    let placed = c.in-Some.ensures in
     let w = placed.0 in
-    let x = c.placed_viewport-placed.result in
+    let x = c.in-Some.placed in
     let h = c.height_at-height.result in
     let read = height_read ws c.args.index w h placed.1 c.height_at-height.ensures in
     let here : window h x ≡ placed_window bs w = ap (λ n. window n x) (sym read) ∙ ap (λ y. window w.height y) placed.2 in

@@ -3,11 +3,8 @@ use Rattle.std.proofs.lemmas.List.{length-map, take_all}
 use Rattle.mg_screen.specs.Layout.{Window}
 use Rattle.mg_workspace.specs.declared.viewport.Viewport.{Viewport}
 use Rattle.mg_workspace.specs.Showing.{placed, placed_window, pane_of, panes_of}
-use Rattle.mg_workspace.proofs.ShownWindows.{pane_on}
+use Rattle.mg_workspace.proofs.ShownWindows.{taken_on}
 use Rattle.mg_workspace.proofs.showing.placed_panes.Goals as goal
-
-pub placed_pane-requires-clause-listed : goal.placed_pane-requires-clause-listed
-placed_pane-requires-clause-listed g c = c.requires.listed
 
 pub placed_pane-requires-clause-shown : goal.placed_pane-requires-clause-shown
 placed_pane-requires-clause-shown g c = c.requires.shown
@@ -20,7 +17,7 @@ pub placed_pane-requires-clause-on_screen : goal.placed_pane-requires-clause-on_
 placed_pane-requires-clause-on_screen g c = c.requires.on_screen
 
 pub loop-index-preserved : goal.loop-index-preserved
-loop-index-preserved g c = pane_on _ _ _ _ c.in_ok-pane.pane c.in_ok-pane.ensures c.loop-index.invariant c.in_ok-push_pane.ensures
+loop-index-preserved g c = taken_on _ _ _ _ c.in_ok-pane.pane c.in_ok-pane.ensures c.loop-index.invariant c.in_ok-push_pane.ensures
 
 pub returns : goal.returns
 returns g c =

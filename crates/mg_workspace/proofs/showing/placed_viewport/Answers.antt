@@ -1,22 +1,26 @@
-use Rattle.std.proofs.Common.{◌≡◌, true, sym, ap, ◌∙◌}
+use Rattle.std.proofs.Common.{sym, ap, ◌∙◌}
+use Rattle.rga_ops.specs.Order.{text}
+use Rattle.mg_buffer.specs.Sight.{place_of}
 use Rattle.mg_files.specs.OpenState.{OpenState}
 use Rattle.mg_screen.specs.Layout.{Window, window}
+use Rattle.mg_screen.specs.Lines.{first_line}
 use Rattle.mg_workspace.specs.declared.viewport.Viewport.{Viewport}
 use Rattle.mg_workspace.specs.Viewports.{viewport}
 use Rattle.mg_workspace.specs.Showing.{first_over}
-use Rattle.mg_workspace.proofs.ViewportLaws.{shown_there, each_there, window_there}
+use Rattle.mg_workspace.proofs.ViewportLaws.{shown_there, window_there}
 use Rattle.mg_workspace.proofs.showing.placed_viewport.Goals as goal
 
-pub at-opened-requires : goal.at-opened-requires
-at-opened-requires g c = shown_there c.args.windows.now.windows c.args.index c.viewport_at-shown.result _ c.viewport_at-shown.ensures c.requires.shown
-
-pub first_shown-requires : goal.first_shown-requires
-first_shown-requires g c = each_there (λ (b : OpenState). b.buffer.listed ≡ true) c.args.buffers.now.all c.viewport_at-shown.result.buffer c.at-opened.result.now c.at-opened.ensures c.requires.listed
+pub at-requires : goal.at-requires
+at-requires g c = shown_there c.args.windows.now.windows c.args.index c.viewport_at-shown.result _ c.viewport_at-shown.ensures c.requires.shown
 
 pub returns : goal.returns
 returns g c =
     let shown = c.viewport_at-shown.result in
-    let w : Window Viewport = window c.height_at-height.result shown in
-    let at = window_there c.args.windows.now.windows c.args.index c.height_at-height.result shown c.height_at-height.ensures c.viewport_at-shown.ensures in
-    let first = c.first_shown.ensures ∙ ap (λ o. first_over o w) (sym c.at-opened.ensures) in
-    (w, at, ap (λ n. viewport shown.buffer n) first)
+    let height = c.height_at-height.result in
+    let w : Window Viewport = window height shown in
+    let there = window_there c.args.windows.now.windows c.args.index height shown c.height_at-height.ensures c.viewport_at-shown.ensures in
+    let b = c.behind-buffers.inside.buffer in
+    let first = c.first_line.ensures (text b.content) (place_of b.content b.point) c.in-Some.ensures
+    ∙ ap (λ (o : OpenState). first_line (text o.buffer.content) (place_of o.buffer.content o.buffer.point) shown.first height) c.behind-buffers.view_is
+    ∙ ap (λ o. first_over o w) (sym c.at.ensures) in
+    (w, there, ap (λ n. viewport shown.buffer n) first)

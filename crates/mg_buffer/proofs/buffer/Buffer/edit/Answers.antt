@@ -8,13 +8,13 @@ use Rattle.rga_ops.specs.Splice.{text_after}
 use Rattle.rga_doc.specs.Document.{Document}
 use Rattle.rga_doc.specs.LocalEdit.{splices_operations}
 use Rattle.mg_buffer.specs.Groups.{past_of, with_group, are_revertible}
-use Rattle.mg_buffer.specs.Kept.{IsAtHand, IsLine}
+use Rattle.mg_buffer.specs.Kept.{IsLine}
 use Rattle.mg_buffer.specs.LineNumbers.{least_begin}
 use Rattle.mg_buffer.specs.Slots.{Slotted, AreOld, pasts_by, with_past}
 use Rattle.mg_buffer.specs.State.{State}
 use Rattle.mg_buffer.proofs.GroupLaws.{edited_revertible}
 use Rattle.mg_buffer.proofs.OldLaws.{past_old}
-use Rattle.mg_buffer.proofs.PlaceLaws.{stands_if_placed, mark_stands_if, placed_within}
+use Rattle.mg_buffer.proofs.PlaceLaws.{stands_if_placed, mark_stands_if}
 use Rattle.mg_buffer.proofs.LineLaws.{least_within, front_stays, line_stays}
 use Rattle.mg_buffer.proofs.KeptLaws.{filled_still, kept_unlisted}
 use Rattle.mg_buffer.proofs.buffer.Buffer.edit.Goals as goal
@@ -91,22 +91,18 @@ moved-line-requires-clause-line g c =
 
 pub moved-line-requires-clause-place : goal.moved-line-requires-clause-place
 moved-line-requires-clause-place g c =
-    let at : IsAtHand c.self.inside.doc c.self.inside.point c.self.inside.line c.self.inside.mark =
-    c.self.invariant.at_hand (ap (λ (b : State). b.listed) c.self.view_is ∙ c.requires.listed) in
     let chars : c.characters.result.now ≡ text c.self.inside.doc.content = c.characters.ensures ∙ ap (λ (d : Document). text d.content) c.in_ok-ops.ensures.listed in
-    let from = placed_within c.self.inside.doc.content c.self.inside.point c.characters.result.now chars at.place_of_point in
-    omega (arith, c.least_begin-stays.ensures, least_within c.self.inside.point.place c.args.splices.now, from)
+    let from : c.self.inside.line.place ≤ length c.characters.result.now = subst (λ xs. c.self.inside.line.place ≤ length xs) (sym chars) c.self.invariant.line_known.within in
+    omega (arith, c.least_begin-stays.ensures, least_within c.self.inside.line.place c.args.splices.now, from)
 
 pub moved-self-inside-requires-clause-line : goal.moved-self-inside-requires-clause-line
 moved-self-inside-requires-clause-line g c =
-    let at : IsAtHand c.self.inside.doc c.self.inside.point c.self.inside.line c.self.inside.mark =
-    c.self.invariant.at_hand (ap (λ (b : State). b.listed) c.self.view_is ∙ c.requires.listed) in
     let chars : c.characters.result.now ≡ text c.self.inside.doc.content = c.characters.ensures ∙ ap (λ (d : Document). text d.content) c.in_ok-ops.ensures.listed in
-    let from = placed_within c.self.inside.doc.content c.self.inside.point c.characters.result.now chars at.place_of_point in
+    let from : c.self.inside.line.place ≤ length c.characters.result.now = subst (λ xs. c.self.inside.line.place ≤ length xs) (sym chars) c.self.invariant.line_known.within in
     let after : c.characters-2.result.now ≡ text_after c.characters.result.now c.args.splices.now =
     c.characters-2.ensures ∙ c.in_ok-take.ensures.text ∙ ap (λ xs. text_after xs c.args.splices.now) (sym c.characters.ensures) in
-    let front = front_stays c.self.inside.point.place c.characters.result.now c.args.splices.now from in
-    let there : c.moved-line.result.place ≡ least_begin c.self.inside.point.place c.args.splices.now = c.moved-line.ensures.place ∙ c.least_begin-stays.ensures in
+    let front = front_stays c.self.inside.line.place c.characters.result.now c.args.splices.now from in
+    let there : c.moved-line.result.place ≡ least_begin c.self.inside.line.place c.args.splices.now = c.moved-line.ensures.place ∙ c.least_begin-stays.ensures in
     line_stays c.characters.result.now c.characters-2.result.now c.moved-line.result
     (ap (take c.moved-line.result.place) after ∙ subst (λ n. take n (text_after c.characters.result.now c.args.splices.now) ≡ take n c.characters.result.now) (sym there) front)
     c.moved-line.ensures.line

@@ -182,11 +182,11 @@ invariant_of-self-in_err-front g c =
 pub returns-in_err-done-clause-same : goal.returns-in_err-done-clause-same
 returns-in_err-done-clause-same g c =
     on_err _
-    ((λ k. state c.self.inside.doc (string_bytes c.self.inside.name) c.self.inside.point.element (option_map (λ (m : Marker). m.element) c.self.inside.mark) (pasts_by (c.prepare.ensures.elements k) (c.prepare.ensures.groups k)) c.self.inside.undone (c.prepare.ensures.unsaved k) c.self.inside.listed)
+    ((λ k. state c.self.inside.doc (string_bytes c.self.inside.name) c.self.inside.point.element (option_map (λ (m : Marker). m.element) c.self.inside.mark) (pasts_by (c.prepare.ensures.elements k) (c.prepare.ensures.groups k)) c.self.inside.undone (c.prepare.ensures.unsaved k))
     ∙ c.self.view_is)
 
 pub returns-in_err-front-clause-same : goal.returns-in_err-front-clause-same
 returns-in_err-front-clause-same g c =
     on_err _
-    ((λ k. state (c.in_err-front.ensures.same k) (string_bytes c.self.inside.name) c.self.inside.point.element (option_map (λ (m : Marker). m.element) c.self.inside.mark) (pasts_by (c.prepare.ensures.elements k) (c.prepare.ensures.groups k)) c.self.inside.undone (c.prepare.ensures.unsaved k) c.self.inside.listed)
+    ((λ k. state (c.in_err-front.ensures.same k) (string_bytes c.self.inside.name) c.self.inside.point.element (option_map (λ (m : Marker). m.element) c.self.inside.mark) (pasts_by (c.prepare.ensures.elements k) (c.prepare.ensures.groups k)) c.self.inside.undone (c.prepare.ensures.unsaved k))
     ∙ c.self.view_is)

@@ -36,7 +36,7 @@ returns-in_err-edit-clause-exact g c =
     let e : Refusal = c.in_err-edit.field-0.0 in
     let splices : c.deref.result.now ≡ c.in_ok-plan.plan.splices = c.deref.ensures.value ∙ ap (λ (f : Effect). f.splices) c.plan-2.view_is in
     let refused = subst (λ xs. (e ≡ Memory) ⊎ (splices_answer c.list.new.self.limit c.list.new.self.content xs ≡ Err e)) splices c.in_err-edit.ensures.exact in
-    rw (p.1, p.2) (subst (λ (b : State). (Store e ≡ Store Memory) ⊎ (run_answer c.args.command.now c.args.arg c.args.fill b c.args.memo.now ≡ Err (Store e))) c.in_ok-list.ensures.listed
+    rw (p.1, p.2) (subst (λ (b : State). (Store e ≡ Store Memory) ⊎ (run_answer c.args.command.now c.args.arg c.args.fill b c.args.memo.now ≡ Err (Store e))) c.list.ensures.same
     (edit_refused c.args.command.now c.args.arg c.args.fill c.list.new.self c.args.memo.now c.in_ok-plan.plan due e refused))
 
 pub put_in-requires : goal.put_in-requires

@@ -1,4 +1,4 @@
-use Rattle.std.proofs.Common.{rules, refl, ◌≡◌, List, [], ◌∷◌, ◌++◌, true, false, sym, ap, ◌∙◌, subst, true≢false}
+use Rattle.std.proofs.Common.{rules, refl, ◌≡◌, List, [], ◌∷◌, ◌++◌, true, sym, ap, ◌∙◌, subst, true≢false}
 use Rattle.std.specs.Prelude.{Ok}
 use Rattle.std.specs.Option.{option_map, option_map_or}
 use Rattle.std.specs.String.{string_bytes}
@@ -35,7 +35,7 @@ pub returns-in_err-reserve-clause-follows : goal.returns-in_err-reserve-clause-f
 returns-in_err-reserve-clause-follows g c =
     match_err _ _ c.from_residual-in_err-reserve.result c.from_residual-in_err-reserve.ensures.0
     (follows_same c.args.self.now _
-    (ap (λ (xs : List Op). state c.self.inside.doc (string_bytes c.self.inside.name) c.self.inside.point.element (option_map (λ (m : Marker). m.element) c.self.inside.mark) (pasts_by c.self.inside.history.elements.keys c.self.inside.history.groups.items) c.self.inside.undone xs c.self.inside.listed) c.reserve.ensures.items
+    (ap (λ (xs : List Op). state c.self.inside.doc (string_bytes c.self.inside.name) c.self.inside.point.element (option_map (λ (m : Marker). m.element) c.self.inside.mark) (pasts_by c.self.inside.history.elements.keys c.self.inside.history.groups.items) c.self.inside.undone xs) c.reserve.ensures.items
     ∙ c.self.view_is))
 
 pub returns-in_err-apply-clause-follows : goal.returns-in_err-apply-clause-follows
@@ -43,7 +43,7 @@ returns-in_err-apply-clause-follows g c =
     let doc : c.apply.new.self ≡ c.self.inside.doc = search rules in
     match_err _ _ c.from_residual-in_err-apply.result c.from_residual-in_err-apply.ensures.0
     (follows_same c.args.self.now _
-    ((λ k. state (doc k) (string_bytes c.self.inside.name) c.self.inside.point.element (option_map (λ (m : Marker). m.element) c.self.inside.mark) (pasts_by c.self.inside.history.elements.keys c.self.inside.history.groups.items) c.self.inside.undone (c.reserve.ensures.items k) c.self.inside.listed)
+    ((λ k. state (doc k) (string_bytes c.self.inside.name) c.self.inside.point.element (option_map (λ (m : Marker). m.element) c.self.inside.mark) (pasts_by c.self.inside.history.elements.keys c.self.inside.history.groups.items) c.self.inside.undone (c.reserve.ensures.items k))
     ∙ c.self.view_is))
 
 pub invariant_of-self-2 : goal.invariant_of-self-2
@@ -82,9 +82,7 @@ returns-clause-follows g c =
         groups = (c.self.view_is k).groups;
         undone = (c.self.view_is k).undone;
         unsaved = c.add_all.new.all.items;
-        listed = false;
       };
-      listed = λ none. let clash : c.args.op ∷ [] ≡ [] = none in cc;
     }
 
 pub returns-clause-same : goal.returns-clause-same

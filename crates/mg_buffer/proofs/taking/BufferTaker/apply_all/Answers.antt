@@ -41,7 +41,7 @@ pub returns-in_err-reserve-clause-follows : goal.returns-in_err-reserve-clause-f
 returns-in_err-reserve-clause-follows g c =
     match_err _ _ c.from_residual-in_err-reserve.result c.from_residual-in_err-reserve.ensures.0
     (follows_same c.args.self.now _
-    (ap (λ (xs : List Op). state c.self.inside.doc (string_bytes c.self.inside.name) c.self.inside.point.element (option_map (λ (m : Marker). m.element) c.self.inside.mark) (pasts_by c.self.inside.history.elements.keys c.self.inside.history.groups.items) c.self.inside.undone xs c.self.inside.listed) c.reserve.ensures.items
+    (ap (λ (xs : List Op). state c.self.inside.doc (string_bytes c.self.inside.name) c.self.inside.point.element (option_map (λ (m : Marker). m.element) c.self.inside.mark) (pasts_by c.self.inside.history.elements.keys c.self.inside.history.groups.items) c.self.inside.undone xs) c.reserve.ensures.items
     ∙ c.self.view_is))
 
 pub returns-in_err-apply_all-clause-follows : goal.returns-in_err-apply_all-clause-follows
@@ -51,7 +51,7 @@ returns-in_err-apply_all-clause-follows g c =
     let doc : c.apply_all.new.self ≡ c.self.inside.doc = same_document c.self.inside.doc c.apply_all.new.self stays c.apply_all.ensures.limit follows in
     match_err _ _ c.from_residual-in_err-apply_all.result c.from_residual-in_err-apply_all.ensures.0
     (follows_same c.args.self.now _
-    ((λ k. state (doc k) (string_bytes c.self.inside.name) c.self.inside.point.element (option_map (λ (m : Marker). m.element) c.self.inside.mark) (pasts_by c.self.inside.history.elements.keys c.self.inside.history.groups.items) c.self.inside.undone (c.reserve.ensures.items k) c.self.inside.listed)
+    ((λ k. state (doc k) (string_bytes c.self.inside.name) c.self.inside.point.element (option_map (λ (m : Marker). m.element) c.self.inside.mark) (pasts_by c.self.inside.history.elements.keys c.self.inside.history.groups.items) c.self.inside.undone (c.reserve.ensures.items k))
     ∙ c.self.view_is))
 
 pub invariant_of-self-2 : goal.invariant_of-self-2
@@ -100,9 +100,7 @@ returns-clause-follows g c =
         groups = (c.self.view_is k).groups;
         undone = (c.self.view_is k).undone;
         unsaved = c.add_all.new.all.items;
-        listed = c.stays_listed-self-inside.result;
       };
-      listed = λ none. c.stays_listed-self-inside.ensures.kept none ∙ ap (λ (b : State). b.listed) c.self.view_is;
     }
 
 pub returns-clause-whole : goal.returns-clause-whole

@@ -18,10 +18,8 @@ returns-clause-over g c =
     let opened = g.P.Port.links c.exchange-answer.new.port in
     let became = λ (x y : OpenState). ExchangesOver g.P.Link.Read.remaining g.P.Link.Write.contents links opened calls more x y r in
     let changes : Changes became work (with_current work d) = record {
-      before = c.current_mut.result.now;
       after = d;
-      was = c.current_mut.ensures.value;
-      became = c.exchange-answer.ensures.over;
+      became = subst (λ b. became b d) c.current_mut.ensures.value c.exchange-answer.ensures.over;
       is = refl;
     } in
     record {
