@@ -1,9 +1,6 @@
 -- The current buffer, set.
 use Rattle.std.proofs.Common.{◌≡◌, ℕ, zero, suc, ◌<◌, List, [], ◌∷◌, length, get_or, slice_set, refl, sym, subst, ap}
 use Rattle.std.proofs.lemmas.List.{length-set}
-use Rattle.mg_buffer.specs.State.{State}
-use Rattle.mg_files.specs.OpenState.{OpenState}
-use Rattle.mg_buffers.specs.Buffers.{Buffers, AtCurrent, current_buffer, with_current}
 
 -- an index is still one of the list, once an element is set
 pub still_within : {A : Type 0} (xs : List A) (i k : ℕ) (y : A) → i < length xs → i < length (slice_set xs k y)
@@ -18,10 +15,3 @@ pub set_same : {A : Type 0} (xs : List A) (i : ℕ) (x : A) → x ≡ get_or xs 
 set_same [] i x value = refl
 set_same (y ∷ xs) zero x value = ap (λ z. z ∷ xs) value
 set_same (y ∷ xs) (suc i) x value = ap (λ ys. y ∷ ys) (set_same xs i x value)
-
-pub at_current : (R : State → State → Type 0) (old : Buffers) (b : OpenState) (y : State) → b ≡ current_buffer old → R b.buffer y → AtCurrent R old (with_current old (record b { buffer = y }))
-at_current R old b y is became = record {
-  after = y;
-  became = subst (λ (x : OpenState). R x.buffer y) is became;
-  is = ap (λ (x : OpenState). with_current old (record x { buffer = y })) is;
-}

@@ -1,10 +1,11 @@
 -- What a refused command or undo leaves of the workspace.
-use Rattle.std.proofs.Common.{true≢false, is_ok, ◌≡◌, ℕ, zero, suc, List, [], ◌∷◌, get_or, slice_set, Ok, Err, refl, sym, ap, ◌∙◌}
+use Rattle.std.proofs.Common.{true≢false, is_ok, ◌≡◌, ℕ, zero, suc, List, [], ◌∷◌, get_or, slice_set, Ok, Err, OnOk, OnErr, MatchResult, refl, sym, ap, ◌∙◌}
 use Rattle.mg_plain.specs.declared.command.Command.{Command}
 use Rattle.mg_buffer.specs.Faults.{FaultVerdict}
 use Rattle.mg_buffer.specs.Sight.{Notes}
-use Rattle.mg_buffers.specs.Buffers.{Buffers, AtCurrent, RunsTo, UndoesTo, no_buffer, with_state}
-use Rattle.mg_workspace.specs.Actions.{ActionVerdict, of_buffer, Ran, Undid}
+use Rattle.mg_buffer.specs.State.{State}
+use Rattle.mg_buffers.specs.Buffers.{no_buffer}
+use Rattle.mg_workspace.specs.Actions.{ActionVerdict, of_buffer, current_state, with_state, Ran, Undid}
 use Rattle.mg_workspace.specs.Workspaces.{Workspace}
 use Rattle.mg_workspace.specs.declared.fault.ActionFault.TheVariants.{Memory}
 
@@ -13,26 +14,23 @@ set_read [] i d = refl
 set_read (x ∷ xs) zero d = refl
 set_read (x ∷ xs) (suc i) d = ap (λ ys. x ∷ ys) (set_read xs i d)
 
--- the current buffer became what it was
-stayed : (old new : Buffers) (at : AtCurrent (λ b d. d ≡ b) old new) → new ≡ old
-stayed old new at = at.is ∙ ap (with_state old) at.became ∙ ap (λ xs. record old { all = xs }) (set_read old.all old.current no_buffer)
+-- the current buffer and the notes became what they were
+stayed : (w : Workspace) (b : State) (notes : Notes) → b ≡ current_state w → notes ≡ w.notes → with_state b notes w ≡ w
+stayed w b notes same kept =
+    (λ k. with_state (same k) (kept k) w) ∙ ap (λ xs. record w { buffers = record w.buffers { all = xs } }) (set_read w.buffers.all w.buffers.current no_buffer)
 
-runs_same : (command : Command) (n column : ℕ) (old new : Notes) (x y : Buffers) (answer : FaultVerdict)
-    → AtCurrent (λ b d. RunsTo command n column b old d new answer) x y → of_buffer answer ≡ Err Memory → (y ≡ x) × (new ≡ old)
-runs_same command n column old new x y (Ok u) at m = absurd (true≢false (ap is_ok m))
-runs_same command n column old new x y (Err e) at m = (stayed x y (record { after = at.after; became = at.became.came.0; is = at.is }), at.became.came.1)
+-- done, or as it was
+pub done_or_same : (answer : FaultVerdict) (P : Type 0) (w : Workspace) (b : State) (notes : Notes)
+    → OnOk answer P → OnErr answer (b ≡ current_state w) → OnErr answer (notes ≡ w.notes) → MatchResult answer (λ _. P) (λ _. with_state b notes w ≡ w)
+done_or_same (Ok u) P w b notes done same kept = done
+done_or_same (Err e) P w b notes done same kept = stayed w b notes same kept
 
-undoes_same : (old new : Notes) (x y : Buffers) (answer : FaultVerdict)
-    → AtCurrent (λ b d. UndoesTo b old d new answer) x y → of_buffer answer ≡ Err Memory → (y ≡ x) × (new ≡ old)
-undoes_same old new x y (Ok u) at m = absurd (true≢false (ap is_ok m))
-undoes_same old new x y (Err e) at m = (stayed x y (record { after = at.after; became = at.became.came.0; is = at.is }), at.became.came.1)
-
-both_stayed : (w v : Workspace) → v ≡ record w { buffers = v.buffers; notes = v.notes } → (v.buffers ≡ w.buffers) × (v.notes ≡ w.notes) → v ≡ w
-both_stayed w v rest same = rest ∙ (λ k. record w { buffers = same.0 k; notes = same.1 k })
+refused_same : (answer : FaultVerdict) (P : Type 0) (w v : Workspace) → MatchResult answer (λ _. P) (λ _. v ≡ w) → of_buffer answer ≡ Err Memory → v ≡ w
+refused_same (Ok u) P w v came m = absurd (true≢false (ap is_ok m))
+refused_same (Err e) P w v came m = came
 
 pub refused_run_keeps : (command : Command) (n : ℕ) (w v : Workspace) (r : ActionVerdict) → Ran command n w v r → r ≡ Err Memory → v ≡ w
-refused_run_keeps command n w v r ran m =
-    both_stayed w v ran.rest (runs_same command n w.fill w.notes v.notes w.buffers v.buffers ran.answer ran.buffers (sym ran.told ∙ m))
+refused_run_keeps command n w v r ran m = refused_same ran.answer _ w v ran.ran (sym ran.told ∙ m)
 
 pub refused_undo_keeps : (w v : Workspace) (r : ActionVerdict) → Undid w v r → r ≡ Err Memory → v ≡ w
-refused_undo_keeps w v r undid m = both_stayed w v undid.rest (undoes_same w.notes v.notes w.buffers v.buffers undid.answer undid.buffers (sym undid.told ∙ m))
+refused_undo_keeps w v r undid m = refused_same undid.answer _ w v undid.undid (sym undid.told ∙ m)

@@ -6,8 +6,11 @@ use Rattle.mg_plain.specs.declared.command.Command.{Command}
 use Rattle.mg_plain.specs.declared.view.Kind.TheVariants.{Plain}
 use Rattle.mg_buffer.specs.declared.fault.BufferFault.{BufferFault}
 use Rattle.mg_buffer.specs.declared.fault.BufferFault.TheVariants.{Notice as Noticed, Store}
-use Rattle.mg_buffer.specs.Faults.{FaultVerdict}
-use Rattle.mg_buffer.specs.Sight.{place_of}
+use Rattle.mg_buffer.specs.Faults.{FaultVerdict, IsAnswer, run_answer, undo_answer}
+use Rattle.mg_buffer.specs.Ran as buffer_run
+use Rattle.mg_buffer.specs.Undid as buffer_undo
+use Rattle.mg_buffer.specs.Sight.{Notes, place_of}
+use Rattle.mg_buffer.specs.State.{State}
 use Rattle.mg_files.specs.OpenState.{OpenState}
 use Rattle.mg_files.specs.Saving.{is_changed}
 use Rattle.mg_minibuffer.specs.declared.ending.Arrangement.{Arrangement}
@@ -21,7 +24,6 @@ use Rattle.mg_screen.specs.declared.windows.WindowFault.TheVariants as window
 use Rattle.mg_screen.specs.Layout.{Layout, current_height, split_layout, removed_layout, resized_layout, only_layout, other_layout}
 use Rattle.mg_screen.specs.Lines.{line_of, centred}
 use Rattle.mg_buffers.specs.Buffers as buffers
-use Rattle.mg_buffers.specs.Buffers.{AtCurrent, RunsTo, UndoesTo}
 use Rattle.mg_buffers.specs.Names.{named, asked, next_round}
 use Rattle.mg_workspace.specs.declared.fault.ActionFault.{ActionFault}
 use Rattle.mg_workspace.specs.declared.fault.ActionFault.TheVariants.{Refused, Memory}
@@ -58,18 +60,30 @@ of_windows (Err e) = Err (window_fault_of e)
 abbrev pub idled : Workspace → Workspace
 idled w = record w { buffers = buffers.idled w.buffers; notes = record w.notes { kind = Plain } }
 
--- the current buffer ran a command
+-- its state
+abbrev pub current_state : Workspace → State
+current_state w = (current_buffer w).buffer
+
+-- it became another, as did what commands leave for the next one
+abbrev pub with_state : State → Notes → Workspace → Workspace
+with_state b notes w = record w { buffers = buffers.with_state w.buffers b; notes = notes }
+
+-- it ran a command, which was done or refused
 pub record Ran (command : Command) (n : ℕ) (w v : Workspace) (r : ActionVerdict) : Type 0 where
   pub answer : FaultVerdict
-  pub buffers : AtCurrent (λ b d. RunsTo command n w.fill b w.notes d v.notes answer) w.buffers v.buffers
-  pub rest : v ≡ record w { buffers = v.buffers; notes = v.notes }
+  pub after : State
+  pub exact : IsAnswer answer (run_answer command n w.fill (current_state w) w.notes)
+  pub ran : MatchResult answer (λ _. buffer_run.Ran command n w.fill (current_state w) w.notes after v.notes) (λ _. v ≡ w)
+  pub is : v ≡ with_state after v.notes w
   pub told : r ≡ of_buffer answer
 
--- the current buffer undid
+-- it undid, or that was refused
 pub record Undid (w v : Workspace) (r : ActionVerdict) : Type 0 where
   pub answer : FaultVerdict
-  pub buffers : AtCurrent (λ b d. UndoesTo b w.notes d v.notes answer) w.buffers v.buffers
-  pub rest : v ≡ record w { buffers = v.buffers; notes = v.notes }
+  pub after : State
+  pub exact : IsAnswer answer (undo_answer (current_state w))
+  pub undid : MatchResult answer (λ _. buffer_undo.Undid (current_state w) w.notes after v.notes) (λ _. v ≡ w)
+  pub is : v ≡ with_state after v.notes w
   pub told : r ≡ of_buffer answer
 
 -- ---- of the windows

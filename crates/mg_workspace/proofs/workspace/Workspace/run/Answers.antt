@@ -1,11 +1,12 @@
-use Rattle.std.proofs.Common.{◌≡◌, refl, subst, ◌∙◌}
+use Rattle.std.proofs.Common.{◌≡◌, OnOk, refl, ap, sym, subst, ◌∙◌}
+use Rattle.mg_buffer.specs.Faults.{IsAnswer, run_answer}
+use Rattle.mg_buffer.specs.Ran as buffer
 use Rattle.mg_files.specs.OpenState.{OpenState}
-use Rattle.mg_buffers.specs.Buffers.{RunsTo, current_buffer, with_current}
-use Rattle.mg_buffers.proofs.Current.{at_current}
-use Rattle.mg_buffers.proofs.Results.{match_result, both_on_err}
-use Rattle.mg_workspace.specs.Actions.{Ran}
+use Rattle.mg_buffers.specs.Buffers.{current_buffer, with_current}
+use Rattle.mg_buffers.proofs.Results.{on_err_map}
+use Rattle.mg_workspace.specs.Actions.{Ran, current_state, with_state}
 use Rattle.mg_workspace.specs.Workspaces.{Workspace}
-use Rattle.mg_workspace.proofs.Keeping.{refused_run_keeps}
+use Rattle.mg_workspace.proofs.Keeping.{refused_run_keeps, done_or_same}
 use Rattle.mg_workspace.proofs.workspace.Workspace.run.Goals as goal
 
 pub returns : goal.returns
@@ -16,10 +17,23 @@ returns g c =
     let is : x ≡ current_buffer s.buffers = c.current.view_is ∙ c.current_mut-current.ensures.value in
     let answer = c.run-answer in
     let r = answer.result in
+    let after = answer.new.self in
+    let notes = answer.new.memo in
+    let told = c.of_buffer.result in
     let was : Workspace = record { buffers = s.buffers; notes = s.memo; windows = s.windows; fill = s.fill; columns = s.columns; replica = s.replica; limit = s.limit; runs = s.runs; brief = s.brief } in
-    let now : Workspace = record was { buffers = with_current s.buffers (record x { buffer = answer.new.self }); notes = answer.new.memo } in
-    let came = match_result r _ _ answer.ensures.ran (both_on_err r _ _ answer.ensures.same answer.ensures.memo) in
-    let buffers = at_current (λ d e. RunsTo c.args.command.now c.args.argument s.fill d s.memo e answer.new.memo r) s.buffers x answer.new.self is (record { exact = answer.ensures.exact; came = came }) in
-    let ran : Ran c.args.command.now c.args.argument c.args.self.now now c.of_buffer.result =
-    subst (λ w. Ran c.args.command.now c.args.argument w now c.of_buffer.result) c.self.view_is (record { answer = r; buffers = buffers; rest = refl; told = c.of_buffer.ensures }) in
-    record { ran = ran; kept = refused_run_keeps c.args.command.now c.args.argument c.args.self.now now c.of_buffer.result ran }
+    let now : Workspace = record was { buffers = with_current s.buffers (record x { buffer = after }); notes = notes } in
+    let here : x.buffer ≡ current_state was = ap (λ o. o.buffer) is in
+    let exact = subst (λ d. IsAnswer r (run_answer c.args.command.now c.args.argument s.fill d s.memo)) here answer.ensures.exact in
+    let done = subst (λ d. OnOk r (buffer.Ran c.args.command.now c.args.argument s.fill d s.memo after notes)) here answer.ensures.ran in
+    let same = on_err_map r _ _ (λ kept. kept ∙ here) answer.ensures.same in
+    let became : Ran c.args.command.now c.args.argument was (with_state after notes was) told = record {
+      answer = r;
+      after = after;
+      exact = exact;
+      ran = done_or_same r _ was after notes done same answer.ensures.memo;
+      is = refl;
+      told = c.of_buffer.ensures;
+    } in
+    let left : with_state after notes was ≡ now = λ k. record was { buffers = with_current s.buffers (record (sym is k) { buffer = after }); notes = notes } in
+    let ran : Ran c.args.command.now c.args.argument c.args.self.now now told = subst (λ w. Ran c.args.command.now c.args.argument w now told) c.self.view_is (subst (λ v. Ran c.args.command.now c.args.argument was v told) left became) in
+    record { ran = ran; kept = refused_run_keeps c.args.command.now c.args.argument c.args.self.now now told ran }
