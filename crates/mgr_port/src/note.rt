@@ -169,6 +169,11 @@ impl NoteFiles {
         self.text.put(rt, paths, bytes, &self.log)
     }
 
+    /// Closes the file whose name the text took last, if it is open.
+    pub(crate) fn close_replaced(&mut self) {
+        self.text.close_replaced();
+    }
+
     /// Removes what was only locked in the place of a log that was never made.
     pub(crate) fn leave<R: Files<File = File>>(&self, rt: &R, paths: &Paths) {
         if let Some(next) = &self.next {

@@ -10,7 +10,7 @@ use crate::logs::Logs;
 use crate::names::Paths;
 use crate::note::Note;
 use crate::rewriting::{OpenLog, make_next, name_next};
-use crate::sockets::{accept_at, connect_to};
+use crate::sockets::{accept_one, connect_to, listen_at};
 use mg_files::{Found, LinkFault, LogLines, Port, PortFault};
 use std::alloc::{AllocError, Global};
 use std::fs::File;
@@ -128,6 +128,25 @@ fn known_index(notes: &[Note], name: &str) -> Option<usize>
     notes.iter().position(|note| note.is_of(name))
 }
 
+/// Closes the files whose names texts took. It is done where a peer is awaited, since it may take as
+/// long as a sync.
+fn close_replaced(notes: &mut Vec<Note>) {
+    for note in notes.iter_mut() {
+        note.files.close_replaced();
+    }
+}
+
+/// The first peer that connects at a number. While none is there yet, files are closed.
+fn await_peer<R: Files<File = File> + Net>(
+    rt: &R,
+    notes: &mut Vec<Note>,
+    number: u16,
+) -> io::Result<R::Stream> {
+    let listener = listen_at(rt, number)?;
+    close_replaced(notes);
+    accept_one::<R>(listener)
+}
+
 /// One note more, and its index.
 fn add_note(notes: &mut Vec<Note>, paths: Paths) -> Result<usize, AllocError>
     ensures { IfOk result (λ i. i < length notes.new.items) }
@@ -222,7 +241,7 @@ impl<R: Files<File = File> + Net + AllocGlobal + Drop> Port for FilePort<R> {
         let Some(number) = self.number else {
             return Err(LinkFault::NoPort);
         };
-        let answer = accept_at(&self.rt, number);
+        let answer = await_peer(&self.rt, &mut self.notes, number);
         link_told(&mut self.failures, answer)
     }
 
@@ -232,6 +251,8 @@ impl<R: Files<File = File> + Net + AllocGlobal + Drop> Port for FilePort<R> {
         ensures number { self.new.number ≡ self.old.number }
     {
         let answer = link.shutdown(Shutdown::Write);
+        // The peer is awaited next.
+        close_replaced(&mut self.notes);
         link_told(&mut self.failures, answer)
     }
 

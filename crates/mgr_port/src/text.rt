@@ -27,6 +27,9 @@ pub(crate) struct Text {
     file: Option<File>,
     /// What it was when this port read it or put it.
     own: Option<Stamp>,
+    /// The file whose name it took, still open: to close that may give up its place on the device,
+    /// which takes as long as to wait for the device.
+    replaced: Option<File>,
 }
 
 impl Text {
@@ -35,7 +38,13 @@ impl Text {
         Text {
             file: None,
             own: None,
+            replaced: None,
         }
+    }
+
+    /// Closes the file whose name the text took last, if it is open.
+    pub(crate) fn close_replaced(&mut self) {
+        self.replaced = None;
     }
 
     /// Locks the text of a path, where it is a plain file. `WouldBlock` where something else has it
@@ -101,7 +110,8 @@ impl Text {
     }
 
     /// Makes these bytes the text, beside a log. What stands there is kept, unless this port read it
-    /// or put it, or it is the same.
+    /// or put it, or it is the same. The file whose name the text takes stays open until the next
+    /// call, or until `close_replaced`.
     pub(crate) fn put<R: Files<File = File> + AllocGlobal>(
         &mut self,
         rt: &R,
@@ -109,6 +119,7 @@ impl Text {
         bytes: &[u8],
         log: &Option<Log>,
     ) -> io::Result<()> {
+        self.close_replaced();
         let path = paths.text.as_str();
         let there = metadata_if_there(rt, path)?;
         check_plain(rt, path, &there)?;
@@ -153,6 +164,7 @@ impl Text {
         lock(&next)?;
         let named = name_next(rt, paths, &mut next, bytes, log, !is_safe)?;
         self.own = Some(Stamp::of(&next.metadata()?));
+        self.replaced = self.file.take();
         self.file = Some(next);
         named.settled()
     }

@@ -4,3 +4,4 @@ pub mod DigestLaws
 pub mod SentLaws
 pub mod OneSummary
 pub mod HearingLaws
+pub mod LackedLaws

@@ -2,13 +2,13 @@
 ghost use Rattle.std.specs.Prelude.{◌≡◌, Some, None, IfOk, IfErr, OnOk, if◌then◌else◌};
 ghost use Rattle.std.specs.Option.{unwrap_or};
 ghost use Rattle.std.specs.BTreeMap.{get, IsOrdered};
-ghost use Rattle.rga_digest.specs.Digest.{block_cmp, block_of, is_block, mixed, own_digest, with_last};
+ghost use Rattle.rga_digest.specs.Digest.{block_cmp, block_of, is_block, mixed, with_last};
 ghost use Rattle.rga_digest.specs.Hearing.{digest_told};
 ghost use Rattle.rga_digest.specs.declared.block.Block.{Block as BlockName};
 
 use crate::block::Block;
 use rga_ops::{Id, Op, Refusal};
-use rga_telling::{Listener, Teller};
+use rga_telling::Listener;
 use std::alloc::Global;
 use std::collections::BTreeMap;
 use std::marker::Model;
@@ -21,7 +21,7 @@ pub(crate) const PRIME: u64 = 0x100000001b3;
 
 /// The digests of the deletions that were told, by block.
 #[derive(Drop)]
-struct ToldDigests {
+pub(crate) struct ToldDigests {
     digests: BTreeMap<Block, u64>,
     /// The block of the last deletion and its digest, which is not put among the others yet.
     last: Option<(Block, u64)>,
@@ -58,7 +58,7 @@ impl Listener for ToldDigests {
 
 impl ToldDigests {
     /// Of nothing.
-    fn new(alloc: Global) -> ToldDigests
+    pub(crate) fn new(alloc: Global) -> ToldDigests
         ensures { (b : BlockName) → digest_told result b ≡ None }
     {
         ToldDigests {
@@ -68,7 +68,7 @@ impl ToldDigests {
     }
 
     /// All of them. `Memory` alone.
-    fn whole(self) -> Result<BTreeMap<Block, u64>, Refusal>
+    pub(crate) fn whole(self) -> Result<BTreeMap<Block, u64>, Refusal>
         ensures ok { IfOk result (λ digests. (b : BlockName) →
             get block_cmp digests b ≡ digest_told self b) }
         ensures ordered { IfOk result (λ digests. IsOrdered block_cmp digests) }
@@ -78,21 +78,6 @@ impl ToldDigests {
         put(&mut digests, last)?;
         Ok(digests)
     }
-}
-
-/// The digests of the deletions of a store, by block. `Memory` alone.
-pub(crate) fn digests_of<S: Teller>(
-    alloc: Global,
-    store: &S,
-) -> Result<BTreeMap<Block, u64>, Refusal>
-    ensures ok { IfOk result (λ digests. (b : BlockName) →
-        get block_cmp digests b ≡ own_digest (S.content store.now) b) }
-    ensures ordered { IfOk result (λ digests. IsOrdered block_cmp digests) }
-    ensures memory { IfErr result (λ e. e ≡ Refusal.Memory) }
-{
-    let mut told = ToldDigests::new(alloc);
-    store.tell_deletions(&mut told)?;
-    told.whole()
 }
 
 /// A deletion is mixed into the digest of its block, which is the last one then. The one that was

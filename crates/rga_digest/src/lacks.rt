@@ -1,11 +1,11 @@
 //! The operations that another replica lacks.
-ghost use Rattle.std.specs.Prelude.{◌≡◌, [], IfOk, IfErr};
+ghost use Rattle.std.specs.Prelude.{◌≡◌, IfOk, IfErr};
 ghost use Rattle.std.specs.BTreeMap.{get};
 ghost use Rattle.rga_digest.specs.Digest.{block_cmp, digest_at};
 ghost use Rattle.rga_digest.specs.Summary.{lacks_block, lacks_by, missing};
 
 use crate::block::Block;
-use crate::digests::digests_of;
+use crate::digests::ToldDigests;
 use crate::summary::Summary;
 use rga_ops::{Op, Refusal};
 use rga_telling::{Listener, Teller};
@@ -17,16 +17,24 @@ use std::marker::Model;
 /// insertions that are in none of its ranges, and the deletions of each block whose digest there is
 /// not the own one. The insertions come first, each part by rising identifier. `Memory` alone.
 ///
-/// Whatever a summary claims, nothing else is sent. It takes n log n steps for n operations.
+/// Whatever a summary claims, nothing else is sent. It takes n log n steps for n operations, in one
+/// pass over the store where the digests are the own ones, and else in two.
 pub fn missing<S: Teller>(alloc: Global, store: &S, summary: &Summary) -> Result<Vec<Op>, Refusal>
     ensures ok { IfOk result (λ ops. ops.items ≡ missing (S.content store.now) summary.now) }
     ensures memory { IfErr result (λ e. e ≡ Refusal.Memory) }
 {
-    let own = digests_of(alloc, store)?;
-    let mut lacked = Lacked::new(alloc, &own, summary);
-    store.tell_insertions(&mut lacked)?;
-    store.tell_deletions(&mut lacked)?;
-    Ok(lacked.ops)
+    // Which insertions are lacked depends on no digest.
+    let none = BTreeMap::new(alloc);
+    let mut inserted = Lacked::new(&none, summary, Vec::new(alloc));
+    let mut told = ToldDigests::new(alloc);
+    store.tell_both(&mut inserted, &mut told)?;
+    let own = told.whole()?;
+    if summary.has_digests(&own) {
+        return Ok(inserted.ops);
+    }
+    let mut all = Lacked::new(&own, summary, inserted.ops);
+    store.tell_deletions(&mut all)?;
+    Ok(all.ops)
 }
 
 /// Those of the operations that were told which a replica of this summary lacks, where these are the
@@ -80,9 +88,13 @@ impl<'a> Listener for Lacked<'a> {
 }
 
 impl<'a> Lacked<'a> {
-    /// Of nothing.
-    fn new(alloc: Global, own: &'a BTreeMap<Block, u64>, summary: &'a Summary) -> Lacked<'a>
-        ensures { result ≡ record { own = own.now.entries; summary = summary.now; ops = [] } }
+    /// Those behind others that were found before.
+    fn new(own: &'a BTreeMap<Block, u64>, summary: &'a Summary, ops: Vec<Op>) -> Lacked<'a>
+        ensures { result ≡ record {
+          own = own.now.entries;
+          summary = summary.now;
+          ops = ops.items;
+        } }
     {
         let block = Block {
             replica: 0,
@@ -91,7 +103,7 @@ impl<'a> Lacked<'a> {
         Lacked {
             own,
             summary,
-            ops: Vec::new(alloc),
+            ops,
             range: 0,
             block,
             lacks: lacks_block(own, summary, block),

@@ -1,13 +1,13 @@
 //! What a replica knows, in short.
-ghost use Rattle.std.specs.Prelude.{◌≡◌, true, Some, None, IfOk, IfErr, if◌then◌else◌};
+ghost use Rattle.std.specs.Prelude.{◌≡◌, ◌↔◌, IsTrue, true, Some, None, IfOk, IfErr, if◌then◌else◌};
 ghost use Rattle.rga_digest.specs.Ranges.{are_rising, is_known};
 ghost use Rattle.rga_digest.specs.Digest.{digest_at};
 ghost use Rattle.rga_digest.specs.Summary.{IsSummary, claimed};
 
 use crate::block::Block;
-use crate::digests::digests_of;
+use crate::digests::ToldDigests;
 use crate::ranges::{KnownRange, are_apart, have};
-use crate::told_ranges::ranges_of;
+use crate::told_ranges::ToldRanges;
 use rga_ops::{Id, Refusal};
 use rga_telling::Teller;
 use std::alloc::Global;
@@ -80,6 +80,13 @@ impl Summary {
         have(&self.ranges, index, id)
     }
 
+    /// Whether the digests are these. Takes no memory.
+    pub(crate) fn has_digests(&self, digests: &BTreeMap<Block, u64>) -> bool
+        ensures { IsTrue result ↔ (self.now.digests ≡ digests.now.entries) }
+    {
+        self.digests == *digests
+    }
+
     /// The digest of a block. Takes no memory.
     pub(crate) fn digest_of(&self, block: Block) -> Option<u64>
         ensures { result ≡ digest_at self.now.digests block }
@@ -94,7 +101,10 @@ pub fn summary_of<S: Teller>(alloc: Global, store: &S) -> Result<Summary, Refusa
     ensures ok { IfOk result (λ summary. IsSummary (S.content store.now) summary) }
     ensures memory { IfErr result (λ e. e ≡ Refusal.Memory) }
 {
-    let ranges = ranges_of(alloc, store)?;
-    let digests = digests_of(alloc, store)?;
+    let mut told_ranges = ToldRanges::new(alloc);
+    let mut told_digests = ToldDigests::new(alloc);
+    store.tell_both(&mut told_ranges, &mut told_digests)?;
+    let ranges = told_ranges.joined(alloc)?;
+    let digests = told_digests.whole()?;
     Ok(Summary { ranges, digests })
 }

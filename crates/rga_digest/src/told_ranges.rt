@@ -1,18 +1,17 @@
 //! Ranges of the insertions that are told.
 ghost use Rattle.std.specs.Prelude.{◌≡◌, [], true, IfOk, IfErr};
-ghost use Rattle.std.specs.FinMap as finite_map;
 ghost use Rattle.rga_ops.specs.Identifier.{Identifier};
 ghost use Rattle.rga_digest.specs.Ranges.{is_known, are_rising};
 
 use crate::ranges::{KnownRange, add_counter, join_parts};
 use rga_ops::{Op, Refusal};
-use rga_telling::{Listener, Teller};
+use rga_telling::Listener;
 use std::alloc::Global;
 use std::marker::Model;
 
 /// Ranges of the insertions that were told, which stand in any order and may touch.
 #[derive(Drop)]
-struct ToldRanges {
+pub(crate) struct ToldRanges {
     parts: Vec<KnownRange>,
 }
 
@@ -47,7 +46,7 @@ impl Listener for ToldRanges {
 
 impl ToldRanges {
     /// Of nothing.
-    fn new(alloc: Global) -> ToldRanges
+    pub(crate) fn new(alloc: Global) -> ToldRanges
         ensures { result ≡ [] }
     {
         ToldRanges {
@@ -56,7 +55,7 @@ impl ToldRanges {
     }
 
     /// The ranges of the same, which rise and do not touch. `Memory` alone.
-    fn joined(mut self, alloc: Global) -> Result<Vec<KnownRange>, Refusal>
+    pub(crate) fn joined(mut self, alloc: Global) -> Result<Vec<KnownRange>, Refusal>
         ensures rising { IfOk result (λ ranges. are_rising ranges.items ≡ true) }
         ensures known { IfOk result (λ ranges. (id : Identifier) →
             is_known ranges.items id ≡ is_known self id) }
@@ -65,16 +64,4 @@ impl ToldRanges {
         self.parts.sort_unstable();
         join_parts(alloc, &self.parts)
     }
-}
-
-/// The ranges of the insertions of a store. `Memory` alone.
-pub(crate) fn ranges_of<S: Teller>(alloc: Global, store: &S) -> Result<Vec<KnownRange>, Refusal>
-    ensures rising { IfOk result (λ ranges. are_rising ranges.items ≡ true) }
-    ensures known { IfOk result (λ ranges. (id : Identifier) → is_known ranges.items id
-        ≡ finite_map.contains_key (S.content store.now).inserted id) }
-    ensures memory { IfErr result (λ e. e ≡ Refusal.Memory) }
-{
-    let mut told = ToldRanges::new(alloc);
-    store.tell_insertions(&mut told)?;
-    told.joined(alloc)
 }

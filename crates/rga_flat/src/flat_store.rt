@@ -222,4 +222,12 @@ impl Teller for FlatStore {
     fn tell_deletions<L: Listener>(&self, listener: &mut L) -> Result<(), Refusal> {
         self.records.tell_deletions(listener)
     }
+
+    fn tell_both<L: Listener, M: Listener>(
+        &self,
+        of_insertions: &mut L,
+        of_deletions: &mut M,
+    ) -> Result<(), Refusal> {
+        self.records.tell_both(of_insertions, of_deletions)
+    }
 }

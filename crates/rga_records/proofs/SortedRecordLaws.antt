@@ -1,5 +1,5 @@
 -- Records stand in order: so what they stand for is listed as they stand.
-use Rattle.std.proofs.Common.{◌≡◌, ◌+◌, Bool, true, false, cond, T, List, [], ◌∷◌, ◌++◌, map, filter, get_or, sym, ap, ◌∙◌, subst, arith}
+use Rattle.std.proofs.Common.{◌≡◌, ◌+◌, Bool, true, false, cond, T, List, [], ◌∷◌, filter, get_or, sym, ap, ◌∙◌, subst, arith}
 use Rattle.std.specs.Prelude.{Option, Some, None}
 use Rattle.std.specs.Option.{option_map}
 use Rattle.std.specs.Ordering.{is_lt, ordering_reverse}
@@ -15,10 +15,9 @@ use Rattle.std.proofs.lemmas.List.Sorted.{IsPermutation-refl}
 use Rattle.std.proofs.lemmas.Map.Keys.{sorted_head, sorted_tail, IsDistinct-from_sorted, Less-from_sorted}
 use Rattle.rga_ops.specs.Identifier.{Identifier, id_cmp}
 use Rattle.rga_ops.specs.Content.{Element}
-use Rattle.rga_ops.specs.Operations.{insertion_of, operations, rising}
+use Rattle.rga_ops.specs.Operations.{rising}
 use Rattle.rga_ops.proofs.IdentifierLaws.{ids_total, ids_exact, is}
 use Rattle.rga_ops.proofs.SortedLaws.{both_hold}
-use Rattle.rga_ops.specs.declared.op.Op.TheVariants.{Delete}
 use Rattle.rga_store.proofs.SortedIdLaws.{sorted_rising}
 use Rattle.rga_pages.specs.declared.entry.Record.{Record}
 use Rattle.rga_records.specs.Records.{Entries, element_in, insertion_in, ids_where, marked_ids, content_of_records, AreOrdered}
@@ -83,8 +82,3 @@ deletions_listed es h =
     sym (sorted_rising (finite_set.items (content_of_records es).deleted) marked marked (IsPermutation-refl marked)
     (sorted_of_rising marked (ids_rise (λ v. v.deleted) es h)) (ids_distinct (λ v. v.deleted) es h)
     (λ q. sym (finite_set.contains-from_list ids_total marked q) ∙ finite_set.contains-items (finite_set.from_list marked) q))
-
--- ---- both
-
-pub operations_listed : (es : Entries) → AreOrdered es → operations (content_of_records es) ≡ map insertion_of (filter_map insertion_in es) ++ map Delete (marked_ids es)
-operations_listed es h = λ k. map insertion_of (insertions_listed es h k) ++ map Delete (deletions_listed es h k)

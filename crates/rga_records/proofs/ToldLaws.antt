@@ -1,16 +1,14 @@
 -- Operations told one by one: how a list grows by what an entry, or a page, tells.
 use Rattle.std.proofs.Common.{◌≡◌, ℕ, ◌+◌, ◌<◌, List, [], ◌∷◌, ◌++◌, length, map, take, slice_index_or, refl, sym, ap, ◌∙◌, subst, append_assoc}
-use Rattle.std.specs.Prelude.{Option, Some, None, filter}
-use Rattle.std.specs.Option.{option_map}
-use Rattle.std.specs.List.{filter_map, cons_option}
+use Rattle.std.specs.Prelude.{filter}
+use Rattle.std.specs.List.{filter_map}
 use Rattle.std.specs.Map.{keys_of}
 use Rattle.std.proofs.lemmas.List.{append-nil, map-append, take_more}
 use Rattle.std.proofs.lemmas.List.Elements.{filter_map-append, filter-append}
 use Rattle.rga_ops.specs.Identifier.{Identifier}
-use Rattle.rga_ops.specs.Content.{element}
 use Rattle.rga_ops.specs.Operations.{insertion_of}
 use Rattle.rga_ops.specs.declared.op.Op.{Op}
-use Rattle.rga_ops.specs.declared.op.Op.TheVariants.{Insert, Delete}
+use Rattle.rga_ops.specs.declared.op.Op.TheVariants.{Delete}
 use Rattle.rga_pages.specs.declared.entry.Record.{Record}
 use Rattle.rga_pages.specs.Pages.{flat}
 use Rattle.rga_records.specs.Records.{Entries, insertion_in, marked_ids}
@@ -58,14 +56,3 @@ page_deletions_split ps qs = ap told_deletions (flat_split ps qs) ∙ deletions_
 
 pub one_page : (p : Entries) → flat (p ∷ []) ≡ p
 one_page p = append-nil p
-
--- ---- what an entry tells
-
-abbrev as_insertion : Identifier → Record → Option ℕ → List Op
-as_insertion id v ch = map insertion_of (cons_option (option_map (λ x. (id, x)) (option_map (λ c. element v.parent c) ch)) [])
-
-pub entry_inserted : (id : Identifier) (v : Record) (ch : ℕ) → v.ch ≡ Some ch → told_insertions ((id, v) ∷ []) ≡ Insert id v.parent ch ∷ []
-entry_inserted id v ch h = ap (as_insertion id v) h
-
-pub entry_not_inserted : (id : Identifier) (v : Record) → v.ch ≡ None → told_insertions ((id, v) ∷ []) ≡ []
-entry_not_inserted id v h = ap (as_insertion id v) h

@@ -1,1 +1,2 @@
 pub mod Records
+pub mod Listing

@@ -1,13 +1,14 @@
 //! A content as a list of operations.
-ghost use Rattle.std.specs.Prelude.{◌≡◌, ◌++◌, map, IfOk, IfErr, OnOk};
-ghost use Rattle.std.specs.List.{filter_map};
-ghost use Rattle.rga_ops.specs.Operations.{operations, insertion_of};
-ghost use Rattle.rga_pages.specs.Pages.{flat};
-ghost use Rattle.rga_records.specs.Records.{content_of_records, insertion_in, marked_ids};
+ghost use Rattle.std.specs.Prelude.{◌≡◌, IfOk, IfErr};
+ghost use Rattle.rga_ops.specs.Operations.{operations};
+ghost use Rattle.rga_records.specs.Records.{content_of_records};
 
+use crate::telling::{tell_deletions, tell_insertions};
 use rga_ops::{Id, Op, Refusal};
 use rga_pages::{Page, Pages, Record};
+use rga_telling::Listener;
 use std::alloc::Global;
+use std::marker::Model;
 
 /// The insertions by rising identifier, of which there may be so many, and then the deletions by
 /// rising identifier. There is room for all at first, so that the list is not moved while it grows.
@@ -19,12 +20,44 @@ pub(crate) fn operations_of(
     ensures ok { IfOk result (λ ops. ops.items ≡ operations (content_of_records entries.now)) }
     ensures memory { IfErr result (λ e. e ≡ Refusal.Memory) }
 {
-    let pages = entries.pages();
-    let room = inserted.saturating_add(count_marked(pages));
-    let mut ops = Vec::with_capacity(alloc, room)?;
-    push_insertions(&mut ops, pages)?;
-    push_deletions(&mut ops, pages)?;
-    Ok(ops)
+    let room = inserted.saturating_add(count_marked(entries.pages()));
+    let mut told = Told {
+        ops: Vec::with_capacity(alloc, room)?,
+    };
+    tell_insertions(entries, &mut told)?;
+    tell_deletions(entries, &mut told)?;
+    Ok(told.ops)
+}
+
+/// The operations that were told, in turn.
+#[derive(Drop)]
+struct Told {
+    ops: Vec<Op>,
+}
+
+impl Model for Told {
+    ghost use Rattle.std.specs.Prelude.{List};
+    ghost use Rattle.rga_ops.specs.declared.op.Op.{Op as Operation};
+
+    ghost Value = { List Operation };
+
+    ghost view = { λ told. told.ops.items };
+}
+
+impl Listener for Told {
+    ghost use Rattle.std.specs.Prelude.{◌≡◌, ◌++◌};
+    ghost use Rattle.rga_records.specs.Listing.{lists_nothing, lists_on};
+
+    ghost hears = { λ s ops t. t ≡ s ++ ops };
+
+    ghost hears_nothing = { λ s. lists_nothing s };
+
+    ghost hears_on = { λ s t u xs ys a b. lists_on s t u xs ys a b };
+
+    fn hear(&mut self, op: &Op) -> Result<(), Refusal> {
+        self.ops.push(*op)?;
+        Ok(())
+    }
 }
 
 /// How many records are marked.
@@ -45,57 +78,4 @@ fn count_marked_in(entries: &[(Id, Record)]) -> usize {
         }
     }
     count
-}
-
-/// The insertions of the records, in their order.
-fn push_insertions(ops: &mut Vec<Op>, pages: &Vec<Page>) -> Result<(), Refusal>
-    ensures ok { let insertions = filter_map insertion_in (flat pages.now.items) in
-        OnOk result (ops.new.items ≡ ops.old.items ++ map insertion_of insertions) }
-    ensures memory { IfErr result (λ e. e ≡ Refusal.Memory) }
-{
-    for page in pages {
-        push_insertions_in(ops, page.entries())?;
-    }
-    Ok(())
-}
-
-/// The insertions of some records, in their order.
-fn push_insertions_in(ops: &mut Vec<Op>, entries: &[(Id, Record)]) -> Result<(), Refusal>
-    ensures ok { let insertions = filter_map insertion_in entries.now in
-        OnOk result (ops.new.items ≡ ops.old.items ++ map insertion_of insertions) }
-    ensures memory { IfErr result (λ e. e ≡ Refusal.Memory) }
-{
-    for (id, record) in entries {
-        if let Some((parent, ch)) = record.element() {
-            let id = *id;
-            ops.push(Op::Insert { id, parent, ch })?;
-        }
-    }
-    Ok(())
-}
-
-/// The deletions of the records, in their order.
-fn push_deletions(ops: &mut Vec<Op>, pages: &Vec<Page>) -> Result<(), Refusal>
-    ensures ok { OnOk result
-        (ops.new.items ≡ ops.old.items ++ map Op.Delete (marked_ids (flat pages.now.items))) }
-    ensures memory { IfErr result (λ e. e ≡ Refusal.Memory) }
-{
-    for page in pages {
-        push_deletions_in(ops, page.entries())?;
-    }
-    Ok(())
-}
-
-/// The deletions of some records, in their order.
-fn push_deletions_in(ops: &mut Vec<Op>, entries: &[(Id, Record)]) -> Result<(), Refusal>
-    ensures ok { OnOk result
-        (ops.new.items ≡ ops.old.items ++ map Op.Delete (marked_ids entries.now)) }
-    ensures memory { IfErr result (λ e. e ≡ Refusal.Memory) }
-{
-    for (id, record) in entries {
-        if record.deleted {
-            ops.push(Op::Delete { id: *id })?;
-        }
-    }
-    Ok(())
 }

@@ -20,7 +20,7 @@ use crate::entries::{
 use crate::list_answer::answer_to_list;
 use crate::merging::{count_unknown, least_conflict};
 use crate::operations::operations_of;
-use crate::telling::{tell_deletions, tell_insertions};
+use crate::telling::{tell_both, tell_deletions, tell_insertions};
 use rga_ops::{Found, Id, Op, Refusal};
 use rga_pages::Pages;
 use rga_store::MAX_LIMIT;
@@ -290,6 +290,22 @@ impl Records {
         ensures memory { IfErr result (λ e. e ≡ Refusal.Memory) }
     {
         tell_deletions(&self.entries, listener)
+    }
+
+    /// Tells one listener the insertions and another the deletions, each by rising identifier, in
+    /// one pass. `Memory` where a listener answers it.
+    pub fn tell_both<L: Listener, M: Listener>(
+        &self,
+        of_insertions: &mut L,
+        of_deletions: &mut M,
+    ) -> Result<(), Refusal>
+        ensures insertions { OnOk result
+            (L.hears of_insertions.old (insertions self.now.content) of_insertions.new) }
+        ensures deletions { OnOk result
+            (M.hears of_deletions.old (deletions self.now.content) of_deletions.new) }
+        ensures memory { IfErr result (λ e. e ≡ Refusal.Memory) }
+    {
+        tell_both(&self.entries, of_insertions, of_deletions)
     }
 
     /// The least identifier that names two insertions, one in each. Takes no memory.

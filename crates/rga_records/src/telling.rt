@@ -1,5 +1,5 @@
 //! A content, told as operations one by one.
-ghost use Rattle.std.specs.Prelude.{◌≡◌, map, IfErr, OnOk};
+ghost use Rattle.std.specs.Prelude.{◌≡◌, ◌∷◌, [], map, IfErr, OnOk};
 ghost use Rattle.std.specs.List.{filter_map};
 ghost use Rattle.rga_ops.specs.Operations.{insertions, deletions, insertion_of};
 ghost use Rattle.rga_pages.specs.Pages.{flat};
@@ -15,7 +15,7 @@ pub(crate) fn tell_insertions<L: Listener>(entries: &Pages, listener: &mut L) ->
         OnOk result (L.hears listener.old (insertions content) listener.new) }
     ensures memory { IfErr result (λ e. e ≡ Refusal.Memory) }
 {
-    tell_insertions_in(entries.pages(), listener)
+    tell_both(entries, listener, &mut Deaf)
 }
 
 /// Tells the deletions by rising identifier. `Memory` where the listener answers it.
@@ -24,61 +24,99 @@ pub(crate) fn tell_deletions<L: Listener>(entries: &Pages, listener: &mut L) -> 
         OnOk result (L.hears listener.old (deletions content) listener.new) }
     ensures memory { IfErr result (λ e. e ≡ Refusal.Memory) }
 {
-    tell_deletions_in(entries.pages(), listener)
+    tell_both(entries, &mut Deaf, listener)
 }
 
-/// Tells the insertions of the records, in their order.
-fn tell_insertions_in<L: Listener>(pages: &Vec<Page>, listener: &mut L) -> Result<(), Refusal>
-    ensures ok { let insertions = filter_map insertion_in (flat pages.now.items) in
-        OnOk result (L.hears listener.old (map insertion_of insertions) listener.new) }
-    ensures memory { IfErr result (λ e. e ≡ Refusal.Memory) }
-{
-    for page in pages {
-        tell_insertions_of(page.entries(), listener)?;
-    }
-    Ok(())
-}
-
-/// Tells the insertions of some records, in their order.
-fn tell_insertions_of<L: Listener>(
-    entries: &[(Id, Record)],
-    listener: &mut L,
+/// Tells one listener the insertions and another the deletions, each by rising identifier, in one
+/// pass. `Memory` where a listener answers it.
+pub(crate) fn tell_both<L: Listener, M: Listener>(
+    entries: &Pages,
+    of_insertions: &mut L,
+    of_deletions: &mut M,
 ) -> Result<(), Refusal>
-    ensures ok { let insertions = filter_map insertion_in entries.now in
-        OnOk result (L.hears listener.old (map insertion_of insertions) listener.new) }
+    ensures insertions { let content = content_of_records entries.now in
+        OnOk result (L.hears of_insertions.old (insertions content) of_insertions.new) }
+    ensures deletions { let content = content_of_records entries.now in
+        OnOk result (M.hears of_deletions.old (deletions content) of_deletions.new) }
     ensures memory { IfErr result (λ e. e ≡ Refusal.Memory) }
 {
-    for (id, record) in entries {
-        if let Some(ch) = record.ch {
-            let (id, parent) = (*id, record.parent);
-            listener.hear(&Op::Insert { id, parent, ch })?;
-        }
-    }
-    Ok(())
+    tell_pages(entries.pages(), of_insertions, of_deletions)
 }
 
-/// Tells the deletions of the records, in their order.
-fn tell_deletions_in<L: Listener>(pages: &Vec<Page>, listener: &mut L) -> Result<(), Refusal>
-    ensures ok { let ids = marked_ids (flat pages.now.items) in
-        OnOk result (L.hears listener.old (map Op.Delete ids) listener.new) }
+/// Tells the operations of the records, in their order.
+fn tell_pages<L: Listener, M: Listener>(
+    pages: &Vec<Page>,
+    of_insertions: &mut L,
+    of_deletions: &mut M,
+) -> Result<(), Refusal>
+    ensures insertions { let insertions = filter_map insertion_in (flat pages.now.items) in
+        OnOk result (L.hears of_insertions.old (map insertion_of insertions) of_insertions.new) }
+    ensures deletions { let ids = marked_ids (flat pages.now.items) in
+        OnOk result (M.hears of_deletions.old (map Op.Delete ids) of_deletions.new) }
     ensures memory { IfErr result (λ e. e ≡ Refusal.Memory) }
 {
     for page in pages {
-        tell_deletions_of(page.entries(), listener)?;
+        tell_entries(page.entries(), of_insertions, of_deletions)?;
     }
     Ok(())
 }
 
-/// Tells the deletions of some records, in their order.
-fn tell_deletions_of<L: Listener>(entries: &[(Id, Record)], listener: &mut L) -> Result<(), Refusal>
-    ensures ok { let ids = marked_ids entries.now in
+/// Tells the operations of some records, in their order.
+fn tell_entries<L: Listener, M: Listener>(
+    entries: &[(Id, Record)],
+    of_insertions: &mut L,
+    of_deletions: &mut M,
+) -> Result<(), Refusal>
+    ensures insertions { let insertions = filter_map insertion_in entries.now in
+        OnOk result (L.hears of_insertions.old (map insertion_of insertions) of_insertions.new) }
+    ensures deletions { let ids = marked_ids entries.now in
+        OnOk result (M.hears of_deletions.old (map Op.Delete ids) of_deletions.new) }
+    ensures memory { IfErr result (λ e. e ≡ Refusal.Memory) }
+{
+    for entry in entries {
+        tell_insertion(entry, of_insertions)?;
+        tell_deletion(entry, of_deletions)?;
+    }
+    Ok(())
+}
+
+/// Tells the insertion of a record, if it has one.
+fn tell_insertion<L: Listener>(entry: &(Id, Record), listener: &mut L) -> Result<(), Refusal>
+    ensures ok { let insertions = filter_map insertion_in (entry.now ∷ []) in
+        OnOk result (L.hears listener.old (map insertion_of insertions) listener.new) }
+    ensures memory { IfErr result (λ e. e ≡ Refusal.Memory) }
+{
+    if let Some((parent, ch)) = entry.1.element() {
+        let id = entry.0;
+        listener.hear(&Op::Insert { id, parent, ch })?;
+    }
+    Ok(())
+}
+
+/// Tells the deletion of a record, if it has one.
+fn tell_deletion<L: Listener>(entry: &(Id, Record), listener: &mut L) -> Result<(), Refusal>
+    ensures ok { let ids = marked_ids (entry.now ∷ []) in
         OnOk result (L.hears listener.old (map Op.Delete ids) listener.new) }
     ensures memory { IfErr result (λ e. e ≡ Refusal.Memory) }
 {
-    for (id, record) in entries {
-        if record.deleted {
-            listener.hear(&Op::Delete { id: *id })?;
-        }
+    if entry.1.deleted {
+        listener.hear(&Op::Delete { id: entry.0 })?;
     }
     Ok(())
+}
+
+/// What keeps nothing of what it is told.
+#[derive(Drop)]
+struct Deaf;
+
+impl Listener for Deaf {
+    ghost hears = { λ s ops t. Unit {0} };
+
+    ghost hears_nothing = { λ s. tt };
+
+    ghost hears_on = { λ s t u xs ys a b. tt };
+
+    fn hear(&mut self, _op: &Op) -> Result<(), Refusal> {
+        Ok(())
+    }
 }

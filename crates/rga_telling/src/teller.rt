@@ -6,7 +6,8 @@ use crate::listener::Listener;
 use rga_ops::Refusal;
 use rga_store::TextStore;
 
-/// A store that tells its operations without making a list of them.
+/// A store that tells its operations one by one. Whether it makes a list of them first is its own
+/// affair.
 pub trait Teller: TextStore {
     /// Tells the insertions by rising identifier. `Memory` where the listener answers it.
     fn tell_insertions<L: Listener>(&self, listener: &mut L) -> Result<(), Refusal>
@@ -19,4 +20,21 @@ pub trait Teller: TextStore {
         ensures ok { OnOk result
             (L.hears listener.old (deletions (Self.content self.now)) listener.new) }
         ensures memory { IfErr result (λ e. e ≡ Refusal.Memory) };
+
+    /// Tells one listener the insertions and another the deletions, each as the calls above do. A
+    /// store may do so in one pass over what it holds.
+    fn tell_both<L: Listener, M: Listener>(
+        &self,
+        of_insertions: &mut L,
+        of_deletions: &mut M,
+    ) -> Result<(), Refusal>
+        ensures insertions { OnOk result
+            (L.hears of_insertions.old (insertions (Self.content self.now)) of_insertions.new) }
+        ensures deletions { OnOk result
+            (M.hears of_deletions.old (deletions (Self.content self.now)) of_deletions.new) }
+        ensures memory { IfErr result (λ e. e ≡ Refusal.Memory) }
+    {
+        self.tell_insertions(of_insertions)?;
+        self.tell_deletions(of_deletions)
+    }
 }
