@@ -1,5 +1,5 @@
 //! A hundred numbers in a row, whose digits begin alike.
-ghost use Rattle.std.specs.Prelude.{◌≡◌, ℕ, ◌≤◌, ◌<◌, ◌+◌, ◌/◌, ◌%◌, ◌++◌, ◌∷◌, [], length, take, decimal};
+ghost use Rattle.std.specs.Prelude.{◌≡◌, ◌≤◌, ◌<◌, ◌+◌, ◌/◌, ◌%◌, ◌++◌, ◌∷◌, [], length, take, decimal};
 ghost use Rattle.rga_lines.specs.declared.hundred.TheConstants.{MAX_PIECE, ROOM};
 
 use crate::bytes::{put, put_array};

@@ -1,9 +1,8 @@
 //! Operations spelled as lines, one after the other, without asking for memory.
-ghost use Rattle.std.specs.Prelude.{◌≡◌, ◌≤◌, ◌+◌, ◌++◌, ◌∷◌, ◌<◌, [], Ok, length, take, decimal};
+ghost use Rattle.std.specs.Prelude.{◌≡◌, ◌≤◌, ◌+◌, ◌++◌, ◌∷◌, ◌<◌, [], Ok, length, take};
 ghost use Rattle.rga_ops.specs.Operation.{checked};
 ghost use Rattle.rga_ops.specs.declared.op.Op.TheVariants.{Insert, Delete};
-ghost use Rattle.rga_lines.specs.Spelling.{line, pair_text};
-ghost use Rattle.rga_lines.specs.Spelling.{IsElementOrRoot, IsWritable};
+ghost use Rattle.rga_lines.specs.Spelling.{line, IsWritable};
 ghost use Rattle.rga_lines.specs.Stream.{newline};
 ghost use Rattle.rga_lines.specs.declared.speller.TheConstants.{LINE_ROOM};
 

@@ -1,4 +1,4 @@
-use Rattle.std.proofs.Common.{◌≡◌, ◌+◌, ◌/◌, ◌≤◌, ◌++◌, take, length, decimal, ap, ◌∙◌, arith, length-append}
+use Rattle.std.proofs.Common.{◌≡◌, ◌/◌, ◌++◌, take, length, decimal, ap, ◌∙◌, arith, length-append}
 use Rattle.std.proofs.lemmas.List.{length-take}
 use Rattle.rga_lines.proofs.DigitsLemmas.{at_most_eighteen}
 use Rattle.rga_lines.proofs.FrontLemmas.{hundred_put}

@@ -1,4 +1,4 @@
-use Rattle.std.proofs.Common.{◌≡◌, length, ap, ◌∙◌, arith}
+use Rattle.std.proofs.Common.{length, ap, ◌∙◌, arith}
 use Rattle.rga_lines.proofs.DigitsLemmas.{at_most_twenty}
 use Rattle.rga_lines.proofs.hundred.Hundred.put_other.Goals as goal
 
