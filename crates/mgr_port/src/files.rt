@@ -1,4 +1,5 @@
 //! Files that are whole whenever the machine stops, and of which nothing is destroyed.
+use crate::patient::Patient;
 use crate::stamp::Stamp;
 use mg_files::{LogLines, PortFault};
 use rga_lines::Counted;
@@ -117,41 +118,13 @@ pub(crate) fn fill_with(file: &mut File, lines: &LogLines) -> io::Result<()> {
 
 /// Writes lines at the end of a file. Where memory is wanting, nothing is written.
 pub(crate) fn write_lines(file: &mut File, lines: &LogLines) -> io::Result<()> {
-    let mut writer = Counted::new(Patient { file, failed: None });
+    let mut writer = Counted::new(Patient::new(file));
     let written = lines.write_to(&mut writer);
-    let Patient { file: _, failed } = writer.into_inner();
+    let failed = writer.into_inner().failed();
     match written {
         Ok(()) => Ok(()),
         Err(PortFault::File) => Err(io::Error::from(failed.unwrap_or(ErrorKind::Other))),
         Err(PortFault::Memory) => Err(io::Error::from(ErrorKind::OutOfMemory)),
-    }
-}
-
-/// A file that takes all of what it is given at once, however often it is interrupted.
-#[derive(Drop)]
-struct Patient<'a> {
-    file: &'a mut File,
-    /// Of which kind a failure was.
-    failed: Option<ErrorKind>,
-}
-
-impl<'a> Write for Patient<'a> {
-    ghost use Rattle.std.specs.Prelude.{None};
-
-    ghost contents = { λ _. None };
-
-    fn write(&mut self, buf: &[u8]) -> io::Result<usize> {
-        match self.file.write_all(buf) {
-            Ok(()) => Ok(buf.len()),
-            Err(error) => {
-                self.failed = Some(error.kind());
-                Err(error)
-            }
-        }
-    }
-
-    fn flush(&mut self) -> io::Result<()> {
-        Ok(())
     }
 }
 

@@ -17,6 +17,7 @@ mod log;
 mod logs;
 mod names;
 mod note;
+mod patient;
 mod port;
 mod rewriting;
 mod sockets;

@@ -2,7 +2,8 @@
 ghost use Rattle.std.specs.Prelude.{◌≡◌, ℕ, ◌≤◌, ◌+◌, length, take, drop, IsOk, OnOk};
 
 use crate::fault::SendFault;
-use rga_lines::{Counted, Speller, put};
+use rga_lines::bytes::put;
+use rga_lines::{Counted, Speller};
 use rga_ops::Op;
 use std::alloc::{AllocError, Global};
 use std::io::Write;

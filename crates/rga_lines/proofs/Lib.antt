@@ -15,6 +15,7 @@ pub mod RunBack
 pub mod RunLemmas
 pub mod DeletionLemmas
 mod DigitsLemmas
+mod FrontLemmas
 pub mod DeletionBack
 pub mod SpelledRun
 pub mod StandLemmas

@@ -1,90 +1,124 @@
 //! A hundred numbers in a row, whose digits begin alike.
-ghost use Rattle.std.specs.Prelude.{◌≡◌, ℕ, ◌≤◌, ◌<◌, ◌+◌, ◌/◌, ◌%◌, ◌++◌, ◌∷◌, [], length, take, decimal};
-ghost use Rattle.rga_lines.specs.declared.hundred.TheConstants.{ROOM};
+ghost use Rattle.std.specs.Prelude.{◌≡◌, ◌≤◌, ◌<◌, ◌+◌, ◌/◌, ◌%◌, ◌++◌, ◌∷◌, [], length, take, decimal};
+ghost use Rattle.rga_lines.specs.declared.hundred.TheConstants.{MAX_PIECE, ROOM};
 
-use crate::pieces::{put, put_number};
+use crate::bytes::{put, put_array};
+use crate::pieces::put_number;
 use std::marker::Model;
 
-/// Room for all digits of a `u64` but the last two.
-const ROOM: usize = 18;
+/// The longest piece that may stand before a number.
+const MAX_PIECE: usize = 30;
 
-/// The numbers that begin with the same digits, and then have two more. To its callers it is the
-/// number of those digits.
+/// Room for a piece, and for all digits of a `u64` but the last two.
+const ROOM: usize = 48;
+
+/// The digits of all numbers below a hundred, two of each.
+static PAIRS: [u8; 200] =
+    *b"00010203040506070809101112131415161718192021222324252627282930313233343536373839404142434445464748495051525354555657585960616263646566676869707172737475767778798081828384858687888990919293949596979899";
+
+/// A piece that is put before numbers, and the digits with which the last of these began, since
+/// most begin as the one before. To its callers it is the piece.
 #[derive(Drop)]
 pub(crate) struct Hundred {
-    number: u64,
-    digits: [u8; ROOM],
+    /// The least number that begins with these digits and then has two more.
+    first: u64,
+    /// How long the piece is.
+    piece: usize,
+    /// The piece and the digits.
+    bytes: [u8; ROOM],
+    /// Where the digits end.
     end: usize,
 }
 
 impl Model for Hundred {
-    ghost use Rattle.std.specs.Prelude.{ℕ, ◌≡◌, ◌≤◌, take, decimal};
-    ghost use Rattle.rga_lines.specs.declared.hundred.TheConstants.{ROOM};
+    ghost use Rattle.std.specs.Prelude.{ℕ, List, ◌≡◌, ◌≤◌, ◌*◌, ◌/◌, ◌++◌, take, decimal};
+    ghost use Rattle.rga_lines.specs.declared.hundred.TheConstants.{MAX_PIECE, ROOM};
 
-    ghost Value = { ℕ };
+    ghost Value = { List ℕ };
 
-    ghost view = { λ h. h.number };
+    ghost view = { λ h. take h.piece h.bytes };
 
-    ghost invariant = { λ h. (take h.end h.digits ≡ decimal h.number) × (h.end ≤ ROOM) };
+    ghost invariant = { λ h. (take h.end h.bytes ≡ take h.piece h.bytes ++ decimal (h.first / 100))
+        × (h.first / 100 * 100 ≡ h.first) × (100 ≤ h.first) × (h.piece ≤ MAX_PIECE)
+        × (h.end ≤ ROOM) };
 }
 
 impl Hundred {
-    /// The numbers that begin with the digits of this one.
-    pub(crate) fn of(number: u64) -> Hundred
-        requires { length (decimal number) ≤ ROOM }
-        ensures { result ≡ number }
+    /// The piece, with the digits of the number 100.
+    pub(crate) fn behind(piece: &[u8]) -> Hundred
+        requires { length piece.now ≤ MAX_PIECE }
+        ensures { result ≡ piece.now }
     {
-        let mut digits = [0; ROOM];
-        let end = put_number(&mut digits, 0, number);
+        let mut bytes = [0; ROOM];
+        let end = put(&mut bytes, 0, piece);
+        let end = put(&mut bytes, end, b"1");
         Hundred {
-            number,
-            digits,
+            first: 100,
+            piece: piece.len(),
+            bytes,
             end,
         }
     }
 
-    /// Turns to the numbers that begin with the digits of this one.
+    /// Puts the piece and the digits of a number. What stands behind that, within the room, may
+    /// change.
+    #[inline(always)]
+    pub(crate) fn put(&mut self, bytes: &mut [u8], at: usize, number: u64) -> usize
+        requires room { at + ROOM + 2 ≤ length bytes.old }
+        ensures put { take result bytes.new ≡ take at bytes.old ++ (self.old ++ decimal number) }
+        ensures within { result ≤ at + length self.old + 20 }
+        ensures length { length bytes.new ≡ length bytes.old }
+        ensures piece { self.new ≡ self.old }
+    {
+        if number < self.first {
+            return self.put_other(bytes, at, number);
+        }
+        let rest = number - self.first;
+        if rest >= 100 {
+            return self.put_other(bytes, at, number);
+        }
+        let at = put_front(bytes, at, self.bytes, self.end);
+        put_two(bytes, at, rest)
+    }
+
+    /// The same of any number, whose digits are then kept.
     #[inline(never)]
-    pub(crate) fn turn_to(&mut self, number: u64)
-        requires { length (decimal number) ≤ ROOM }
-        ensures { self.new ≡ number }
-    {
-        *self = Hundred::of(number);
-    }
-
-    /// The number of the digits with which they begin.
-    pub(crate) fn number(&self) -> u64
-        ensures { result ≡ self.now }
-    {
-        self.number
-    }
-
-    /// Puts the digits of one of them.
-    #[inline(always)]
-    pub(crate) fn put(&self, bytes: &mut [u8], at: usize, number: u64) -> usize
-        requires of { number / 100 ≡ self.now }
-        requires digits { 100 ≤ number }
-        requires room { at + 20 ≤ length bytes.old }
-        ensures put { take result bytes.new ≡ take at bytes.old ++ decimal number }
-        ensures within { result ≤ at + 20 }
+    fn put_other(&mut self, bytes: &mut [u8], at: usize, number: u64) -> usize
+        requires room { at + ROOM + 2 ≤ length bytes.old }
+        ensures put { take result bytes.new ≡ take at bytes.old ++ (self.old ++ decimal number) }
+        ensures within { result ≤ at + length self.old + 20 }
         ensures length { length bytes.new ≡ length bytes.old }
+        ensures piece { self.new ≡ self.old }
     {
-        let at = self.put_front(bytes, at);
-        put_two(bytes, at, number % 100)
+        self.turn_to(number);
+        let at = put(bytes, at, &self.bytes[..self.piece]);
+        put_number(bytes, at, number)
     }
 
-    /// Puts the digits with which they begin.
-    #[inline(always)]
-    fn put_front(&self, bytes: &mut [u8], at: usize) -> usize
-        requires { at + ROOM ≤ length bytes.old }
-        ensures put { take result bytes.new ≡ take at bytes.old ++ decimal self.now }
-        ensures within { result ≤ at + ROOM }
-        ensures length { length bytes.new ≡ length bytes.old }
+    /// Keeps the digits of a number, where it has more than two.
+    fn turn_to(&mut self, number: u64)
+        ensures { self.new ≡ self.old }
     {
-        // All of the room is copied, since so many bytes are one move.
-        put(bytes, at, &self.digits);
-        at + self.end
+        let digits = number / 100;
+        if digits == 0 {
+            return;
+        }
+        self.first = digits * 100;
+        self.end = put_number(&mut self.bytes, self.piece, digits);
     }
+}
+
+/// Puts so many bytes of the front of these. All are copied, since so many are a few moves.
+#[inline(always)]
+fn put_front(bytes: &mut [u8], at: usize, front: [u8; ROOM], count: usize) -> usize
+    requires room { at + ROOM ≤ length bytes.old }
+    requires count { count ≤ ROOM }
+    ensures put { take result bytes.new ≡ take at bytes.old ++ take count front }
+    ensures end { result ≡ at + count }
+    ensures length { length bytes.new ≡ length bytes.old }
+{
+    put_array(bytes, at, front);
+    at + count
 }
 
 /// Puts the two digits of a number below a hundred.
@@ -97,7 +131,6 @@ fn put_two(bytes: &mut [u8], at: usize, number: u64) -> usize
     ensures end { result ≡ at + 2 }
     ensures length { length bytes.new ≡ length bytes.old }
 {
-    let tens = b'0' + (number / 10) as u8;
-    let ones = b'0' + (number % 10) as u8;
-    put(bytes, at, &[tens, ones])
+    let from = number as usize * 2;
+    put_array(bytes, at, [PAIRS[from], PAIRS[from + 1]])
 }

@@ -1,22 +1,10 @@
 //! Pieces of lines, put into bytes from a place on: each function answers where its piece ends.
-ghost use Rattle.std.specs.Prelude.{◌≡◌, ◌≤◌, ◌<◌, ◌+◌, ◌++◌, length, take, decimal};
+ghost use Rattle.std.specs.Prelude.{◌≡◌, ◌≤◌, ◌<◌, ◌+◌, ◌++◌, ◌∷◌, length, take, decimal};
 ghost use Rattle.rga_lines.specs.Spelling.{code_escape, escaped};
 
+use crate::bytes::{put, put_array};
 use crate::escapes::{hex_digit, short_escape};
 use itoa::write_digits;
-
-/// Puts bytes from a place on, and answers where they end. Takes no memory.
-#[inline(always)]
-pub fn put(bytes: &mut [u8], at: usize, piece: &[u8]) -> usize
-    requires room { at + length piece.now ≤ length bytes.old }
-    ensures put { take result bytes.new ≡ take at bytes.old ++ piece.now }
-    ensures end { result ≡ at + length piece.now }
-    ensures length { length bytes.new ≡ length bytes.old }
-{
-    let end = at + piece.len();
-    bytes[at..end].copy_from_slice(piece);
-    end
-}
 
 /// Puts a character as it stands between quotes.
 #[inline(always)]
@@ -28,8 +16,9 @@ pub(crate) fn put_character(bytes: &mut [u8], at: usize, ch: char) -> usize
     ensures length { length bytes.new ≡ length bytes.old }
 {
     match ch {
+        '"' | '\\' => put_rare(bytes, at, ch),
         // Most are these, which stand for themselves.
-        ' ' | '!' | '#'..='[' | ']'..='~' => put(bytes, at, &[ch as u8]),
+        ' '..='~' => put_array(bytes, at, [ch as u8]),
         _ => put_rare(bytes, at, ch),
     }
 }
@@ -63,6 +52,31 @@ fn put_code(bytes: &mut [u8], at: usize, ch: char) -> usize
         at,
         &[hex_digit(code / 16) as u8, hex_digit(code % 16) as u8],
     )
+}
+
+/// Puts a comma and the digits of a replica's number.
+#[inline(always)]
+pub(crate) fn put_replica(bytes: &mut [u8], at: usize, replica: u16) -> usize
+    requires room { at + 6 ≤ length bytes.old }
+    ensures put { take result bytes.new ≡ take at bytes.old ++ 44 ∷ decimal replica }
+    ensures within { result ≤ at + 6 }
+    ensures length { length bytes.new ≡ length bytes.old }
+{
+    if replica < 10 {
+        return put_array(bytes, at, [b',', b'0' + replica as u8]);
+    }
+    put_long_replica(bytes, at, replica)
+}
+
+/// The same of any replica.
+fn put_long_replica(bytes: &mut [u8], at: usize, replica: u16) -> usize
+    requires room { at + 6 ≤ length bytes.old }
+    ensures put { take result bytes.new ≡ take at bytes.old ++ 44 ∷ decimal replica }
+    ensures within { result ≤ at + 6 }
+    ensures length { length bytes.new ≡ length bytes.old }
+{
+    let at = put(bytes, at, b",");
+    put_number(bytes, at, u64::from(replica))
 }
 
 /// Puts the digits of a number.

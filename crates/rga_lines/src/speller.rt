@@ -1,32 +1,48 @@
 //! Operations spelled as lines, one after the other, without asking for memory.
-ghost use Rattle.std.specs.Prelude.{◌≡◌, ◌≤◌, ◌+◌, ◌++◌, ◌∷◌, ◌<◌, [], Ok, length, take, decimal};
+ghost use Rattle.std.specs.Prelude.{◌≡◌, ◌≤◌, ◌+◌, ◌++◌, ◌∷◌, ◌<◌, [], Ok, length, take};
 ghost use Rattle.rga_ops.specs.Operation.{checked};
 ghost use Rattle.rga_ops.specs.declared.op.Op.TheVariants.{Insert, Delete};
-ghost use Rattle.rga_lines.specs.Spelling.{line, pair_text};
-ghost use Rattle.rga_lines.specs.Spelling.{IsElementOrRoot, IsWritable};
+ghost use Rattle.rga_lines.specs.Spelling.{line, IsWritable};
 ghost use Rattle.rga_lines.specs.Stream.{newline};
 ghost use Rattle.rga_lines.specs.declared.speller.TheConstants.{LINE_ROOM};
 
+use crate::bytes::put_array;
 use crate::hundred::Hundred;
-use crate::pieces::{put, put_character, put_number};
+use crate::pieces::{put_character, put_replica};
 use rga_ops::{Id, Op};
+use std::marker::Model;
 
 /// Room for any line of an operation with its newline. The longest is an insertion's: 39 bytes of
 /// names and marks, an escape of 6, and two identifiers of at most 28.
 pub const LINE_ROOM: usize = 101;
 
-/// What spells operations as lines. It keeps the digits with which the last counter began, since
-/// most counters begin as the one before.
+/// What spells operations as lines. It keeps the digits with which the last counters began, since
+/// most begin as the one before.
 #[derive(Drop)]
 pub struct Speller {
-    hundred: Hundred,
+    id: Hundred,
+    parent: Hundred,
+    deleted: Hundred,
+}
+
+impl Model for Speller {
+    ghost use Rattle.std.specs.Prelude.{◌≡◌, codes};
+
+    ghost Value = { Unit {0} };
+
+    ghost view = { λ _. tt };
+
+    ghost invariant = { λ s. (s.id ≡ codes "\",\"id\":[")
+        × (s.parent ≡ codes "],\"op\":\"ins\",\"parent\":[") × (s.deleted ≡ codes "{\"id\":[") };
 }
 
 impl Speller {
     /// One that has spelled nothing.
     pub fn new() -> Speller {
         Speller {
-            hundred: Hundred::of(0),
+            id: Hundred::behind(b"\",\"id\":["),
+            parent: Hundred::behind(b"],\"op\":\"ins\",\"parent\":["),
+            deleted: Hundred::behind(b"{\"id\":["),
         }
     }
 
@@ -44,7 +60,7 @@ impl Speller {
             Op::Insert { id, parent, ch } => self.put_insertion(bytes, at, id, parent, *ch),
             Op::Delete { id } => self.put_deletion(bytes, at, id),
         };
-        put(bytes, end, b"\n")
+        put_array(bytes, end, *b"\n")
     }
 
     #[tactic(auto, using(crate::proofs::WritableLemmas::insertion_writable), unfolding(crate::specs::Spelling::line))]
@@ -64,13 +80,13 @@ impl Speller {
         ensures writable { let op = Insert id.now parent.now ch in
             checked op ≡ Ok tt → IsWritable op }
     {
-        let at = put(bytes, at, b"{\"char\":\"");
+        let at = put_array(bytes, at, *b"{\"char\":\"");
         let at = put_character(bytes, at, ch);
-        let at = put(bytes, at, b"\",\"id\":");
-        let at = self.put_pair(bytes, at, id);
-        let at = put(bytes, at, b",\"op\":\"ins\",\"parent\":");
-        let at = self.put_pair(bytes, at, parent);
-        put(bytes, at, b"}")
+        let at = self.id.put(bytes, at, id.counter());
+        let at = put_replica(bytes, at, id.replica());
+        let at = self.parent.put(bytes, at, parent.counter());
+        let at = put_replica(bytes, at, parent.replica());
+        put_array(bytes, at, *b"]}")
     }
 
     #[tactic(auto, using(crate::proofs::WritableLemmas::deletion_writable), unfolding(crate::specs::Spelling::line))]
@@ -81,44 +97,8 @@ impl Speller {
         ensures length { length bytes.new ≡ length bytes.old }
         ensures writable { checked (Delete id.now) ≡ Ok tt → IsWritable (Delete id.now) }
     {
-        let at = put(bytes, at, b"{\"id\":");
-        let at = self.put_pair(bytes, at, id);
-        put(bytes, at, b",\"op\":\"del\"}")
-    }
-
-    /// Puts an identifier as two numbers between brackets.
-    #[inline(always)]
-    fn put_pair(&mut self, bytes: &mut [u8], at: usize, id: &Id) -> usize
-        requires room { at + 28 ≤ length bytes.old }
-        ensures put { take result bytes.new ≡ take at bytes.old ++ pair_text id.now }
-        ensures within { result ≤ at + 28 }
-        ensures length { length bytes.new ≡ length bytes.old }
-        ensures identifier { IsElementOrRoot id.now }
-    {
-        let at = put(bytes, at, b"[");
-        let at = self.put_counter(bytes, at, id);
-        let at = put(bytes, at, b",");
-        let at = put_number(bytes, at, u64::from(id.replica()));
-        put(bytes, at, b"]")
-    }
-
-    /// Puts the digits of an identifier's counter.
-    #[inline(always)]
-    fn put_counter(&mut self, bytes: &mut [u8], at: usize, id: &Id) -> usize
-        requires room { at + 20 ≤ length bytes.old }
-        ensures put { take result bytes.new ≡ take at bytes.old ++ decimal id.now.counter }
-        ensures within { result ≤ at + 20 }
-        ensures length { length bytes.new ≡ length bytes.old }
-        ensures identifier { IsElementOrRoot id.now }
-    {
-        let counter = id.counter();
-        let number = counter / 100;
-        if number == 0 {
-            return put_number(bytes, at, counter);
-        }
-        if number != self.hundred.number() {
-            self.hundred.turn_to(number);
-        }
-        self.hundred.put(bytes, at, counter)
+        let at = self.deleted.put(bytes, at, id.counter());
+        let at = put_replica(bytes, at, id.replica());
+        put_array(bytes, at, *b"],\"op\":\"del\"}")
     }
 }

@@ -1,11 +1,19 @@
-use Rattle.std.proofs.Common.{◌≡◌, ◌++◌, take, decimal, ap, ◌∙◌, sym, append_assoc, ◌/◌, ◌%◌}
-use Rattle.itoa.proofs.Decimal.{decimal_pair, pair}
+use Rattle.std.proofs.Common.{◌≡◌, ◌/◌, ◌++◌, take, length, decimal, ap, ◌∙◌, arith, length-append}
+use Rattle.std.proofs.lemmas.List.{length-take}
+use Rattle.rga_lines.proofs.DigitsLemmas.{at_most_eighteen}
+use Rattle.rga_lines.proofs.FrontLemmas.{hundred_put}
 use Rattle.rga_lines.proofs.hundred.Hundred.put.Goals as goal
 
 pub returns-clause-put : goal.returns-clause-put
 returns-clause-put c =
-    let before = take c.args.at c.args.bytes.now in
-    let n = c.args.number in
-    let two : take c.put_two.result c.put_two.new.bytes ≡ take c.put_front-at.result c.put_front-at.new.bytes ++ pair (n % 100) = c.put_two.ensures.put in
-    let front : take c.put_front-at.result c.put_front-at.new.bytes ≡ before ++ decimal (n / 100) = c.put_front-at.ensures.put ∙ ap (λ h. before ++ decimal h) (sym c.requires.of) in
-    two ∙ ap (λ front. front ++ pair (n % 100)) front ∙ append_assoc before (decimal (n / 100)) (pair (n % 100)) ∙ ap (λ digits. before ++ digits) (sym (decimal_pair n c.requires.digits c.ranges.number.fits))
+    let h = c.self.inside in
+    let held = c.self.invariant.0 ∙ ap (λ l. l ++ decimal (h.first / 100)) c.self.view_is in
+    hundred_put (take c.args.at c.args.bytes.now) (take c.put_front-at.result c.put_front-at.new.bytes) (take c.put_two.result c.put_two.new.bytes) (take h.end h.bytes) c.args.self.now c.args.number h.first c.put_front-at.ensures.put held c.put_two.ensures.put (omega arith) c.self.invariant.1 (omega arith) (omega arith) (omega arith)
+
+pub returns-clause-within : goal.returns-clause-within
+returns-clause-within c =
+    let h = c.self.inside in
+    let digits = decimal (h.first / 100) in
+    let held : take h.end h.bytes ≡ c.args.self.now ++ digits = c.self.invariant.0 ∙ ap (λ l. l ++ digits) c.self.view_is in
+    let long : length (take h.end h.bytes) ≡ length (c.args.self.now ++ digits) = ap length held in
+    omega (arith, long, length-append c.args.self.now digits, length-take h.end h.bytes, at_most_eighteen h.first (omega arith), c.self.told)
