@@ -10,13 +10,13 @@ ghost use Rattle.rga_flat.specs.Chains.{ChainShows, IsGathered};
 ghost use Rattle.rga_flat.specs.Flat.{is_above, IsFlat};
 ghost use Rattle.rga_flat.specs.Waiting.{under, has_list, is_listed};
 
-use crate::placing::{note_block, note_entries};
+use crate::placing::{next, note_block, note_entries};
 use crate::steps::{Step, note};
-use crate::taking::block_above;
+use crate::taking::near_above;
 use crate::waiting::has_list;
 use rga_ops::{Id, Op, Refusal, Taken, answer_to};
 use rga_records::Records;
-use rga_sequence::{Entry, MOST_AT_ONCE, Sequence};
+use rga_sequence::{Entry, MOST_AT_ONCE, Near, Sequence};
 use std::alloc::Global;
 use std::collections::{BTreeMap, BTreeSet};
 
@@ -49,17 +49,18 @@ pub(crate) fn take_chain<'a>(
     let Some(parent) = parent_of_chain(ops) else {
         return Ok(0);
     };
-    let Some(name) = block_above(records, waiting, done, parent) else {
+    let Some(found) = near_above(records, waiting, done, parent) else {
         return Ok(0);
     };
+    let near = sequence.near(parent, found);
     let before = steps.as_slice().len();
     let mut entries = Vec::with_capacity(alloc, MOST_AT_ONCE.min(ops.len()))?;
-    let gathered = gather(records, waiting, parent, name, ops, steps, &mut entries);
+    let gathered = gather(records, waiting, parent, near, ops, steps, &mut entries);
     if gathered.is_err() {
         remove_from(records, steps, before);
         return Err(Refusal::Memory);
     }
-    if put_chain(records, sequence, parent, name, entries.as_slice()).is_err() {
+    if put_chain(records, sequence, parent, near, entries.as_slice()).is_err() {
         remove_from(records, steps, before);
         return Err(Refusal::Memory);
     }
@@ -92,7 +93,7 @@ fn gather<'a>(
     records: &mut Records,
     waiting: &BTreeMap<Id, Vec<Id>>,
     parent: Id,
-    name: usize,
+    near: Near,
     ops: &'a [Op],
     steps: &mut Vec<Step<'a>>,
     entries: &mut Vec<Entry>,
@@ -110,6 +111,7 @@ fn gather<'a>(
     ensures memory { IfErr result (λ e. e ≡ Refusal.Memory) }
 {
     let mut last = parent;
+    let mut own = near;
     for op in ops {
         if entries.as_slice().len() >= MOST_AT_ONCE {
             return Ok(());
@@ -118,7 +120,8 @@ fn gather<'a>(
             return Ok(());
         };
         let _before = records.known();
-        add(records, last, name, op, &entry, steps, entries)?;
+        own = next(own);
+        add(records, last, own, op, &entry, steps, entries)?;
         let _now = records.known();
         last = entry.id;
     }
@@ -167,7 +170,7 @@ fn next_entry(
 fn add<'a>(
     records: &mut Records,
     parent: Id,
-    name: usize,
+    near: Near,
     op: &'a Op,
     entry: &Entry,
     steps: &mut Vec<Step<'a>>,
@@ -194,19 +197,20 @@ fn add<'a>(
     entries.reserve(1)?;
     steps.reserve(1)?;
     let clock = records.clock();
-    records.insert(entry.id, parent, entry.ch, name, entry.deleted)?;
+    records.insert(entry.id, parent, entry.ch, near, entry.deleted)?;
     note(steps, op, clock);
     let _room = entries.push(*entry);
     Ok(())
 }
 
-/// Puts the entries of a chain, and tells their records the name of their block. `name` is that of
-/// the parent's, which they were told. `Memory` alone, and then the sequence is as it was.
+/// Puts the entries of a chain, and tells their records where they stand. `near` is where the parent
+/// may stand, in whose block they were told to be. `Memory` alone, and then the sequence is as it
+/// was.
 fn put_chain(
     records: &mut Records,
     sequence: &mut Sequence,
     parent: Id,
-    name: usize,
+    near: Near,
     entries: &[Entry],
 ) -> Result<(), Refusal>
     requires chain { IsChain parent entries.now sequence.old }
@@ -219,15 +223,15 @@ fn put_chain(
     if entries.len() == 0 {
         return Ok(());
     }
-    let put = sequence.put_chain(parent, name, entries)?;
+    let put = sequence.put_chain(parent, near, entries)?;
     if let Some(block) = put.new_block {
         note_block(records, sequence, block);
-        if block == put.name {
+        if block == put.near.block {
             return Ok(());
         }
     }
-    if put.name != name {
-        note_entries(records, entries, put.name);
+    if put.near.block != near.block {
+        note_entries(records, entries, put.near);
     }
     Ok(())
 }

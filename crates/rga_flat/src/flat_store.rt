@@ -165,7 +165,7 @@ impl TextStore for FlatStore {
             return Some(0);
         }
         let _count = count_inserted(&self.records);
-        self.sequence.place_of(id, self.records.block(id))
+        self.sequence.place_of(id, self.records.near(id))
     }
 
     fn waiting_count(&self) -> Result<usize, Refusal> {

@@ -13,7 +13,7 @@ ghost use Rattle.rga_flat.specs.Waiting.{under, is_listed, Settles, AreInserted}
 use crate::waiting::{push_waiting, settle_list};
 use rga_ops::{Id, Refusal};
 use rga_records::Records;
-use rga_sequence::{Entry, Sequence};
+use rga_sequence::{Entry, Near, Sequence};
 use std::alloc::Global;
 use std::collections::{BTreeMap, BTreeSet};
 
@@ -118,22 +118,22 @@ fn put_noted(
     ensures memory { IfErr result (λ e. e ≡ Refusal.Memory) }
 {
     placed.reserve(1)?;
-    let parents = records.block(parent);
+    let parents = records.near(parent);
     let own = put_behind(records, sequence, parent, parents, entry)?;
-    records.set_block(entry.id, own);
+    records.set_near(entry.id, own);
     let _room = placed.push(entry.id);
     Ok(())
 }
 
-/// Puts an entry behind its parent, which is looked for in the block of that name, and answers the
-/// name of its own block. What moves to a block of another name is told of it.
+/// Puts an entry behind its parent, which may stand there, and answers where it stands itself. What
+/// moves to a block of another name is told of it.
 pub(crate) fn put_behind(
     records: &mut Records,
     sequence: &mut Sequence,
     parent: Id,
-    name: usize,
+    near: Near,
     entry: &Entry,
-) -> Result<usize, Refusal>
+) -> Result<Near, Refusal>
     requires parent { (is_root parent || has parent sequence.old) ≡ true }
     requires absent { has entry.now.id sequence.old ≡ false }
     ensures put { OnOk result (sequence.new ≡ put_entry parent entry.now sequence.old) }
@@ -141,29 +141,47 @@ pub(crate) fn put_behind(
     ensures records { records.new ≡ records.old }
     ensures memory { IfErr result (λ e. e ≡ Refusal.Memory) }
 {
-    let put = sequence.put(parent, name, *entry)?;
+    let put = sequence.put(parent, near, *entry)?;
     if let Some(block) = put.new_block {
         note_block(records, sequence, block);
     }
-    Ok(put.name)
+    Ok(put.near)
 }
 
-/// The records of the entries of a block are told its name.
+/// The records of the entries of a block are told where these stand.
 pub(crate) fn note_block(records: &mut Records, sequence: &Sequence, block: usize)
     ensures { records.new ≡ records.old }
 {
     if let Some(entries) = sequence.block(block) {
-        note_entries(records, entries, block);
+        note_entries(records, entries, Near { block, index: 0 });
     }
 }
 
-/// The records of some entries are told the name of their block.
-pub(crate) fn note_entries(records: &mut Records, entries: &[Entry], block: usize)
+/// The records of some entries are told where these stand, the first of them there.
+pub(crate) fn note_entries(records: &mut Records, entries: &[Entry], first: Near)
     ensures { records.new ≡ records.old }
 {
+    let mut near = first;
     for entry in entries {
-        records.set_block(entry.id, block);
+        records.set_near(entry.id, near);
+        near = next(near);
     }
+}
+
+/// Where an entry may stand that is put behind another.
+pub(crate) fn next(near: Near) -> Near {
+    Near {
+        block: near.block,
+        index: near.index.saturating_add(1),
+    }
+}
+
+/// Whether that is directly behind another.
+pub(crate) fn is_next(near: Near, other: Near) -> bool {
+    if near.block != other.block {
+        return false;
+    }
+    near.index == other.index.saturating_add(1)
 }
 
 /// Takes out what was placed, the last first. Takes no memory.
@@ -171,6 +189,6 @@ fn go_back(records: &Records, sequence: &mut Sequence, mut placed: Vec<Id>)
     ensures { sequence.new ≡ taken_out placed.items sequence.old }
 {
     while let Some(last) = placed.pop() {
-        sequence.take_out(last, records.block(last));
+        sequence.take_out(last, records.near(last));
     }
 }

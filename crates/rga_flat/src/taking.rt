@@ -14,11 +14,11 @@ ghost use Rattle.rga_flat.specs.Flat.{is_above, AreMarked, IsFlat};
 ghost use Rattle.rga_flat.specs.Placing.{IsPlacing};
 ghost use Rattle.rga_flat.specs.Waiting.{StayListed, under, has_list, is_listed, Settles, AreInserted};
 
-use crate::placing::{place_all, put_behind};
+use crate::placing::{is_next, next, place_all, put_behind};
 use crate::waiting::{add_waiting, has_list, is_listed};
 use rga_ops::{Id, Op, Refusal, Taken, answer_to};
 use rga_records::Records;
-use rga_sequence::{Entry, Sequence};
+use rga_sequence::{Entry, Near, Sequence};
 use std::alloc::Global;
 use std::collections::{BTreeMap, BTreeSet};
 
@@ -112,12 +112,12 @@ fn insert(
     ensures memory { IfErr result (λ e. e ≡ Refusal.Memory) }
 {
     let clock = records.clock();
-    let block = block_above(records, waiting, done, parent);
-    let above = block.is_some();
-    let name = block.unwrap_or(0);
-    records.insert(entry.id, parent, entry.ch, name, entry.deleted)?;
+    let found = near_above(records, waiting, done, parent);
+    let above = found.is_some();
+    let near = near_or_front(found);
+    records.insert(entry.id, parent, entry.ch, next(near), entry.deleted)?;
     let settled = settle(
-        alloc, records, sequence, waiting, done, parent, name, above, entry,
+        alloc, records, sequence, waiting, done, parent, near, above, entry,
     );
     if settled.is_err() {
         let op = Op::Insert {
@@ -140,7 +140,7 @@ fn settle(
     waiting: &mut BTreeMap<Id, Vec<Id>>,
     done: &mut BTreeSet<Id>,
     parent: Id,
-    name: usize,
+    near: Near,
     above: bool,
     entry: &Entry,
 ) -> Result<(), Refusal>
@@ -173,7 +173,7 @@ fn settle(
 {
     let _known = records.known();
     if above {
-        return place(alloc, records, sequence, waiting, done, parent, name, entry);
+        return place(alloc, records, sequence, waiting, done, parent, near, entry);
     }
     add_waiting(alloc, waiting, parent, entry.id)
 }
@@ -187,7 +187,7 @@ fn place(
     waiting: &BTreeMap<Id, Vec<Id>>,
     done: &mut BTreeSet<Id>,
     parent: Id,
-    name: usize,
+    near: Near,
     entry: &Entry,
 ) -> Result<(), Refusal>
     requires element { finite_map.get records.old.content.inserted entry.now.id
@@ -207,46 +207,54 @@ fn place(
     if has_list(waiting, entry.id) {
         return place_all(alloc, records, sequence, waiting, done, entry.id);
     }
-    let own = put_behind(records, sequence, parent, name, entry)?;
-    if own != name {
-        records.set_block(entry.id, own);
+    let own = put_behind(records, sequence, parent, near, entry)?;
+    if !is_next(own, near) {
+        records.set_near(entry.id, own);
     }
     Ok(())
 }
 
-/// The name of the block in which an identifier that is complete may stand; of the root, any. Takes
-/// no memory.
-pub(crate) fn block_above(
+/// Where an identifier that is complete may stand; of the root, anywhere. Takes no memory.
+pub(crate) fn near_above(
     records: &Records,
     waiting: &BTreeMap<Id, Vec<Id>>,
     done: &BTreeSet<Id>,
     id: Id,
-) -> Option<usize>
+) -> Option<Near>
     requires { AreMarked records.now.content (is_listed waiting.now done.now) }
     ensures { is_some result ≡ is_above records.now.content id }
 {
     if id == Id::ROOT {
-        return Some(0);
+        return Some(Near { block: 0, index: 0 });
     }
-    block_if_complete(records, waiting, done, id)
+    near_if_complete(records, waiting, done, id)
 }
 
-/// The name of the block in which an identifier that is complete may stand. Takes no memory.
-fn block_if_complete(
+/// Where an identifier may stand, as it was found; the front where it was not.
+fn near_or_front(found: Option<Near>) -> Near {
+    match found {
+        Some(near) => near,
+        None => Near { block: 0, index: 0 },
+    }
+}
+
+/// Where an identifier that is complete may stand. Takes no memory.
+#[inline(always)]
+fn near_if_complete(
     records: &Records,
     waiting: &BTreeMap<Id, Vec<Id>>,
     done: &BTreeSet<Id>,
     id: Id,
-) -> Option<usize>
+) -> Option<Near>
     requires { AreMarked records.now.content (is_listed waiting.now done.now) }
     ensures { is_some result ≡ is_complete records.now.content id }
 {
-    match records.block_if_inserted(id) {
-        Some(block) => {
+    match records.near_if_inserted(id) {
+        Some(near) => {
             if is_listed(waiting, done, id) {
                 return None;
             }
-            Some(block)
+            Some(near)
         }
         None => None,
     }
@@ -277,11 +285,11 @@ fn delete(
     ensures limit { records.new.limit ≡ records.old.limit }
     ensures memory { IfErr result (λ e. e ≡ Refusal.Memory) }
 {
-    let block = block_if_complete(records, waiting, done, id);
+    let found = near_if_complete(records, waiting, done, id);
     records.delete(id)?;
-    match block {
-        Some(name) => {
-            sequence.mark(id, name, true);
+    match found {
+        Some(near) => {
+            sequence.mark(id, near, true);
             Ok(())
         }
         None => Ok(()),

@@ -43,7 +43,7 @@ fn take_out_all(records: &Records, sequence: &mut Sequence, done: &BTreeSet<Id>)
     ensures { sequence.new ≡ filter (λ e. not (contains id_cmp done.now e.id)) sequence.old }
 {
     for id in done {
-        sequence.take_out(*id, records.block(*id));
+        sequence.take_out(*id, records.near(*id));
     }
 }
 
@@ -82,9 +82,9 @@ fn undo_entry(
 {
     match op {
         Op::Insert { id, parent, .. } => {
-            sequence.take_out(*id, records.block(*id));
+            sequence.take_out(*id, records.near(*id));
             remove_child(waiting, *parent, *id);
         }
-        Op::Delete { id } => sequence.mark(*id, records.block(*id), false),
+        Op::Delete { id } => sequence.mark(*id, records.near(*id), false),
     }
 }

@@ -1,5 +1,5 @@
 -- Entries in pages, and the places in these.
-use Rattle.std.specs.Prelude.{◌≡◌, ◌≤◌, ◌<◌, ℕ, Bool, true, false, cond, zero, suc, List, [], ◌∷◌, ◌++◌, length, take, drop, slice_index_or, Option}
+use Rattle.std.specs.Prelude.{◌≡◌, ◌≤◌, ◌<◌, ℕ, Bool, true, false, cond, zero, suc, List, [], ◌∷◌, ◌++◌, length, take, drop, slice_index_or, Option, Some, None}
 use Rattle.std.specs.Ordering.{is_gt, is_lt, eq_by_cmp}
 use Rattle.std.specs.List.{AllByRecursion}
 use Rattle.std.specs.List.Sorted.{IsStrictlySortedBy}
@@ -22,6 +22,11 @@ record_of id es = lookup (eq_by_cmp id_cmp id) es
 -- the records are as they were, but at the identifier
 abbrev pub Updates : Entries → Entries → Identifier → Option Record → Type 0
 Updates old new id value = (q : Identifier) → record_of q new ≡ cond (eq_by_cmp id_cmp id q) value (record_of q old)
+
+-- a record, if there is one, that says that its element may stand there
+abbrev pub noted : ℕ → ℕ → Option Record → Option Record
+noted block index None = None
+noted block index (Some r) = Some (record r { block = block; index = index })
 
 -- the pages one after another
 abbrev pub flat : List Entries → Entries

@@ -14,6 +14,8 @@ pub struct Record {
     pub ch: Option<char>,
     /// The name of the block in which the element may stand.
     pub block: u32,
+    /// The index at which it may stand there.
+    pub index: u8,
     pub deleted: bool,
 }
 
@@ -27,7 +29,21 @@ impl Record {
             parent: Id::ROOT,
             ch: None,
             block: 0,
+            index: 0,
             deleted: false,
+        }
+    }
+
+    /// The same record, which says that the element may stand elsewhere.
+    pub(crate) fn moved(&self, block: u32, index: u8) -> Record
+        ensures { result ≡ record self.now { block = block; index = index } }
+    {
+        Record {
+            parent: self.parent,
+            ch: self.ch,
+            block,
+            index,
+            deleted: self.deleted,
         }
     }
 

@@ -70,12 +70,29 @@ impl Page {
         ensures err { OnErr result (self.new ≡ self.old) }
         ensures memory { IfErr result (λ e. e ≡ Refusal.Memory) }
     {
+        if index == 0 {
+            return self.put_first(id, value);
+        }
+        if index >= self.entries.as_slice().len() {
+            self.entries.push((id, value))?;
+            return Ok(());
+        }
         if self.entries.insert(index, (id, value)).is_err() {
             return Err(Refusal::Memory);
         }
-        if index == 0 {
-            self.first = id;
+        Ok(())
+    }
+
+    /// An entry comes in at the front. `Memory` alone.
+    fn put_first(&mut self, id: Id, value: Record) -> Result<(), Refusal>
+        ensures ok { OnOk result (self.new ≡ insert self.old 0 (id, value)) }
+        ensures err { OnErr result (self.new ≡ self.old) }
+        ensures memory { IfErr result (λ e. e ≡ Refusal.Memory) }
+    {
+        if self.entries.insert(0, (id, value)).is_err() {
+            return Err(Refusal::Memory);
         }
+        self.first = id;
         Ok(())
     }
 

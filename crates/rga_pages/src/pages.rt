@@ -4,7 +4,7 @@ ghost use Rattle.std.specs.BTreeMap.{insert_entry};
 ghost use Rattle.std.specs.Map.{remove_entry, set_value};
 ghost use Rattle.std.specs.Ordering.{eq_by_cmp};
 ghost use Rattle.rga_ops.specs.Identifier.{id_cmp};
-ghost use Rattle.rga_pages.specs.Pages.{flat, record_of, AreOrdered, Updates};
+ghost use Rattle.rga_pages.specs.Pages.{flat, record_of, noted, AreOrdered, Updates};
 
 use crate::entry::Record;
 use crate::page::Page;
@@ -108,6 +108,27 @@ impl Pages {
         if spot.found {
             overwrite(&mut self.pages, spot, id, value);
             self.last = spot;
+        }
+    }
+
+    /// The record of an identifier, if there is one, says that the element may stand in the block of
+    /// that name, at that index. Takes no memory.
+    pub fn note(&mut self, id: Id, block: u32, index: u8)
+        ensures updates { Updates self.old self.new id
+            (noted block index (record_of id self.old)) }
+        ensures ordered { AreOrdered self.new }
+        ensures was_ordered { AreOrdered self.old }
+    {
+        if self.pages.as_slice().len() == 0 {
+            return;
+        }
+        let spot = find(&self.pages, self.last, id);
+        self.last = spot;
+        if !spot.found {
+            return;
+        }
+        if let Some(record) = record_at(&self.pages, spot, id) {
+            overwrite(&mut self.pages, spot, id, record.moved(block, index));
         }
     }
 

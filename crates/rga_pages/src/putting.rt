@@ -73,6 +73,7 @@ fn has_room(pages: &Vec<Page>, at: Spot) -> bool
 }
 
 /// An identifier gets its record at its spot.
+#[inline(always)]
 fn write(pages: &mut Vec<Page>, at: Spot, id: Id, value: Record) -> Result<(), Refusal>
     requires kept { ArePages pages.old.items }
     requires page { at.page < vec_len pages.old }

@@ -22,7 +22,23 @@ pub(crate) fn find(pages: &Vec<Page>, last: Spot, id: Id) -> Spot
         return find_in(pages, last.page, last.index, id);
     }
     let page = page_of(pages, id);
-    find_in(pages, page, MOST / 2, id)
+    find_in(pages, page, guess(pages, page, id), id)
+}
+
+/// About where in a page an identifier is, if counters rise evenly from that of the page's first
+/// identifier to that of the next page's; the end in the last page.
+fn guess(pages: &Vec<Page>, page: usize, id: Id) -> usize
+    requires { page < vec_len pages.now }
+{
+    if page + 1 >= pages.len() {
+        return MOST;
+    }
+    let from = pages[page].first().counter();
+    let to = pages[page + 1].first().counter();
+    let span = to.saturating_sub(from).max(1);
+    let part = id.counter().saturating_sub(from).min(span);
+    let entries = pages[page].entries().len() as u64;
+    (part.saturating_mul(entries) / span) as usize
 }
 
 /// Whether an identifier is larger than that of an entry.

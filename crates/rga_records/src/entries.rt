@@ -10,6 +10,7 @@ ghost use Rattle.rga_records.specs.Records.{content_of_records, element_in, is_m
 
 use rga_ops::{Id, Refusal};
 use rga_pages::{Pages, Record};
+use rga_sequence::Near;
 
 /// Whether a record means anything.
 pub(crate) fn is_record_known(known: &Record) -> bool
@@ -33,6 +34,14 @@ pub(crate) fn found_or_new(found: Option<Record>) -> Record
 fn short_name(block: usize) -> u32 {
     match u32::try_from(block) {
         Ok(name) => name,
+        Err(_) => 0,
+    }
+}
+
+/// An index in a block as records have it: 0 where it has no room there.
+fn short_index(index: usize) -> u8 {
+    match u8::try_from(index) {
+        Ok(index) => index,
         Err(_) => 0,
     }
 }
@@ -67,13 +76,13 @@ pub(crate) fn is_known(entries: &Pages, id: Id) -> bool
     }
 }
 
-/// An identifier gets its element and the name of a block. It may be deleted already.
+/// An identifier gets its element, and where that may stand. It may be deleted already.
 pub(crate) fn set_element(
     entries: &mut Pages,
     id: Id,
     parent: Id,
     ch: char,
-    block: usize,
+    near: Near,
     deleted: bool,
 ) -> Result<(), Refusal>
     requires absent { finite_map.get (content_of_records entries.old).inserted id ≡ None }
@@ -89,7 +98,8 @@ pub(crate) fn set_element(
     let record = Record {
         parent,
         ch: Some(ch),
-        block: short_name(block),
+        block: short_name(near.block),
+        index: short_index(near.index),
         deleted,
     };
     entries.insert(id, record)?;
@@ -114,18 +124,27 @@ pub(crate) fn mark(entries: &mut Pages, id: Id) -> Result<bool, Refusal>
         parent: record.parent,
         ch: record.ch,
         block: record.block,
+        index: record.index,
         deleted: true,
     };
     entries.insert(id, marked)?;
     Ok(record.ch.is_some())
 }
 
-/// The name of the block of a record that has an element.
-fn block_if_inserted(known: Record) -> Option<usize>
+/// Where an element may stand, as its record says.
+fn near_in(known: Record) -> Near {
+    Near {
+        block: known.block as usize,
+        index: known.index as usize,
+    }
+}
+
+/// Where the element of a record that has one may stand.
+fn near_if_inserted(known: Record) -> Option<Near>
     ensures { is_some result ≡ is_some (element_in known) }
 {
     match known.ch {
-        Some(_) => Some(known.block as usize),
+        Some(_) => Some(near_in(known)),
         None => None,
     }
 }
@@ -148,6 +167,7 @@ pub(crate) fn clear_element(entries: &mut Pages, id: Id) -> bool
         parent: record.parent,
         ch: None,
         block: record.block,
+        index: record.index,
         deleted: true,
     };
     entries.set(id, cleared);
@@ -172,35 +192,28 @@ pub(crate) fn clear_mark(entries: &mut Pages, id: Id) -> bool
         parent: record.parent,
         ch: record.ch,
         block: record.block,
+        index: record.index,
         deleted: false,
     };
     entries.set(id, cleared);
     true
 }
 
-/// The name of the block of an identifier that is inserted.
-pub(crate) fn block_of(entries: &Pages, id: Id) -> Option<usize>
+/// Where the element of an identifier that is inserted may stand.
+pub(crate) fn near_of(entries: &Pages, id: Id) -> Option<Near>
     ensures { let content = content_of_records entries.now in
         is_some result ≡ finite_map.contains_key content.inserted id }
 {
     match entries.get(id) {
-        Some(record) => block_if_inserted(record),
+        Some(record) => near_if_inserted(record),
         None => None,
     }
 }
 
-/// The record of an identifier, if there is one, gets the name of a block.
-pub(crate) fn set_block(entries: &mut Pages, id: Id, block: usize)
+/// The record of an identifier, if there is one, says where the element may stand.
+pub(crate) fn set_near(entries: &mut Pages, id: Id, near: Near)
     ensures content { content_of_records entries.new ≡ content_of_records entries.old }
     ensures ordered { AreOrdered entries.new }
 {
-    if let Some(record) = entries.look_up(id) {
-        let noted = Record {
-            parent: record.parent,
-            ch: record.ch,
-            block: short_name(block),
-            deleted: record.deleted,
-        };
-        entries.set(id, noted);
-    }
+    entries.note(id, short_name(near.block), short_index(near.index));
 }

@@ -14,8 +14,8 @@ ghost use Rattle.rga_store.specs.Without.{without, without_insertion, without_de
 
 use crate::counts::{count_unless, raise, uncount_unless};
 use crate::entries::{
-    block_of, clear_element, clear_mark, find_element, found_or_new, is_known, is_marked, mark,
-    set_block, set_element,
+    clear_element, clear_mark, find_element, found_or_new, is_known, is_marked, mark, near_of,
+    set_element, set_near,
 };
 use crate::list_answer::answer_to_list;
 use crate::merging::{count_unknown, least_conflict};
@@ -23,6 +23,7 @@ use crate::operations::operations_of;
 use crate::telling::{tell_both, tell_deletions, tell_insertions};
 use rga_ops::{Found, Id, Op, Refusal};
 use rga_pages::Pages;
+use rga_sequence::Near;
 use rga_store::MAX_LIMIT;
 use rga_telling::Listener;
 use std::alloc::Global;
@@ -84,6 +85,15 @@ impl Records {
         ensures facts { facts_of result ≡ facts self.old.limit self.old.content id }
         ensures same { self.new ≡ self.old }
     {
+        // What is newer than all that is known needs no search.
+        if id.counter() > self.clock {
+            return Found {
+                element: None,
+                deleted: false,
+                known: self.known,
+                limit: self.limit,
+            };
+        }
         let record = found_or_new(self.entries.look_up(id));
         Found {
             element: record.element(),
@@ -159,37 +169,38 @@ impl Records {
         self.limit
     }
 
-    /// The name of the block in which the element of an identifier that is inserted may stand, as
-    /// it was noted. Takes no memory.
-    pub fn block_if_inserted(&self, id: Id) -> Option<usize>
+    /// Where the element of an identifier that is inserted may stand, as it was noted. Takes no
+    /// memory.
+    pub fn near_if_inserted(&self, id: Id) -> Option<Near>
         ensures { is_some result ≡ finite_map.contains_key self.now.content.inserted id }
     {
-        block_of(&self.entries, id)
+        near_of(&self.entries, id)
     }
 
-    /// The name of the block in which the element of an identifier may stand, as it was noted; 0
-    /// where nothing was. Takes no memory.
-    pub fn block(&self, id: Id) -> usize {
-        block_of(&self.entries, id).unwrap_or(0)
+    /// Where the element of an identifier may stand, as it was noted; at the front where nothing was.
+    /// Takes no memory.
+    pub fn near(&self, id: Id) -> Near {
+        match near_of(&self.entries, id) {
+            Some(near) => near,
+            None => Near { block: 0, index: 0 },
+        }
     }
 
-    /// Notes the name of the block in which the element of a known identifier may stand. Takes no
-    /// memory.
-    pub fn set_block(&mut self, id: Id, block: usize)
+    /// Notes where the element of a known identifier may stand. Takes no memory.
+    pub fn set_near(&mut self, id: Id, near: Near)
         ensures { self.new ≡ self.old }
     {
-        set_block(&mut self.entries, id, block);
+        set_near(&mut self.entries, id, near);
     }
 
-    /// Takes an insertion that is new, and notes the name of the block in which the element may
-    /// come to stand. `deleted` says whether its identifier is deleted, as `find` told. `Memory`
-    /// alone, which changes nothing.
+    /// Takes an insertion that is new, and notes where the element may come to stand. `deleted` says
+    /// whether its identifier is deleted, as `find` told. `Memory` alone, which changes nothing.
     pub fn insert(
         &mut self,
         id: Id,
         parent: Id,
         ch: char,
-        block: usize,
+        near: Near,
         deleted: bool,
     ) -> Result<(), Refusal>
         requires new { answer self.old.limit self.old.content (Op.Insert id parent ch) ≡ Ok New }
@@ -200,7 +211,7 @@ impl Records {
         ensures memory { IfErr result (λ e. e ≡ Refusal.Memory) }
         ensures limit { self.new.limit ≡ self.old.limit }
     {
-        set_element(&mut self.entries, id, parent, ch, block, deleted)?;
+        set_element(&mut self.entries, id, parent, ch, near, deleted)?;
         self.inserted += 1;
         count_unless(deleted, &mut self.known);
         raise(&mut self.clock, id.counter());

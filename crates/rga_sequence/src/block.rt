@@ -5,7 +5,7 @@ ghost use Rattle.rga_sequence.specs.Blocks.{larger_at_front, insert_all, mark_at
 
 use crate::entry::Entry;
 use crate::scans::{
-    count_one, count_visible, id_at, index_of, is_at, is_larger, least_of, lesser, past_larger,
+    count_one, count_visible, id_at, index_from, is_at, is_larger, least_of, lesser, past_larger,
     push_id_range, push_visible, visible_at,
 };
 use crate::turning::turn_last;
@@ -240,13 +240,13 @@ impl Block {
         past_larger(self.entries.as_slice(), from, id)
     }
 
-    /// Where an identifier stands.
-    pub(crate) fn find(&self, id: Id) -> Option<usize>
+    /// Where an identifier stands, which is looked for from an index on first.
+    pub(crate) fn find(&self, from: usize, id: Id) -> Option<usize>
         ensures some { IfSome result (λ i. slice_get (ids self.now) i ≡ Some id) }
         ensures within { IfSome result (λ i. i < MOST) }
         ensures none { result ≡ None → has id self.now ≡ false }
     {
-        index_of(self.entries.as_slice(), id)
+        index_from(self.entries.as_slice(), from, id)
     }
 
     /// Whether an identifier stands at an index.

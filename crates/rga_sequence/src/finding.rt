@@ -8,11 +8,12 @@ use crate::entry::Entry;
 use crate::place::Place;
 use rga_ops::Id;
 
-/// Where an identifier is looked for first: at a place, and then in a block, whichever these are.
+/// Where an identifier is looked for first: at a place, and then from another on in its block,
+/// whichever these are.
 #[derive(Clone, Copy, Debug)]
 pub(crate) struct Hints {
     pub(crate) last: Place,
-    pub(crate) block: usize,
+    pub(crate) near: Place,
 }
 
 /// Where an identifier stands.
@@ -26,7 +27,7 @@ pub(crate) fn find(blocks: &Vec<Block>, hints: Hints, id: Id) -> Option<Place>
     if let Some(place) = find_at(blocks, hints.last, id) {
         return Some(place);
     }
-    if let Some(place) = find_in(blocks, hints.block, id) {
+    if let Some(place) = find_in(blocks, hints.near.block, hints.near.index, id) {
         return Some(place);
     }
     find_in_all(blocks, id)
@@ -48,8 +49,9 @@ fn find_at(blocks: &Vec<Block>, at: Place, id: Id) -> Option<Place>
     None
 }
 
-/// Where an identifier stands in a block, if there is such a block.
-fn find_in(blocks: &Vec<Block>, block: usize, id: Id) -> Option<Place>
+/// Where an identifier stands in a block, if there is such a block. It is looked for from an index
+/// on first.
+fn find_in(blocks: &Vec<Block>, block: usize, from: usize, id: Id) -> Option<Place>
     ensures some { IfSome result (λ p. Stands blocks.now.items p.block p.index id) }
     ensures there { IfSome result (λ _. has id (flat blocks.now.items) ≡ true) }
     ensures block { IfSome result (λ p. p.block < vec_len blocks.now) }
@@ -59,7 +61,7 @@ fn find_in(blocks: &Vec<Block>, block: usize, id: Id) -> Option<Place>
     if block >= blocks.len() {
         return None;
     }
-    match blocks[block].find(id) {
+    match blocks[block].find(from, id) {
         Some(index) => Some(Place { block, index }),
         None => None,
     }
@@ -75,7 +77,7 @@ fn find_in_all(blocks: &Vec<Block>, id: Id) -> Option<Place>
 {
     let mut block = 0;
     while block < blocks.as_slice().len() {
-        if let Some(place) = find_in(blocks, block, id) {
+        if let Some(place) = find_in(blocks, block, 0, id) {
             return Some(place);
         }
         block += 1;

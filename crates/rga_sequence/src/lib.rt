@@ -18,6 +18,7 @@ mod groups;
 pub mod laws;
 mod listing;
 mod names;
+mod near;
 mod place;
 mod putting;
 mod removing;
@@ -27,5 +28,6 @@ mod skipping;
 mod turning;
 
 pub use entry::Entry;
+pub use near::Near;
 pub use putting::MOST_AT_ONCE;
 pub use sequence::{Put, Sequence};

@@ -3,18 +3,26 @@ ghost use Rattle.std.specs.Prelude.{◌≡◌, vec_len, IfErr};
 
 use crate::block::Block;
 use crate::finding::Hints;
+use crate::near::Near;
 use crate::place::Place;
 use rga_ops::Refusal;
 use std::alloc::Global;
 
-/// Where the entries of the block of a name are looked for first.
-pub(crate) fn hints_of(names: &Vec<usize>, last: Place, name: usize) -> Hints {
-    match names.get(name) {
+/// Where an entry is looked for first that may stand there.
+pub(crate) fn hints_of(names: &Vec<usize>, last: Place, near: Near) -> Hints {
+    let index = near.index;
+    match names.get(near.block) {
         Some(block) => Hints {
             last,
-            block: *block,
+            near: Place {
+                block: *block,
+                index,
+            },
         },
-        None => Hints { last, block: 0 },
+        None => Hints {
+            last,
+            near: Place { block: 0, index },
+        },
     }
 }
 
@@ -23,6 +31,14 @@ pub(crate) fn name_at(blocks: &Vec<Block>, index: usize) -> usize {
     match blocks.get(index) {
         Some(block) => block.name(),
         None => 0,
+    }
+}
+
+/// A place, as others are told of it.
+pub(crate) fn near_at(blocks: &Vec<Block>, at: Place) -> Near {
+    Near {
+        block: name_at(blocks, at.block),
+        index: at.index,
     }
 }
 

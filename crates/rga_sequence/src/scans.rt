@@ -29,7 +29,7 @@ pub(crate) fn past_larger(entries: &[Entry], from: usize, id: Id) -> usize
 }
 
 /// The first index of an identifier.
-pub(crate) fn index_of(entries: &[Entry], id: Id) -> Option<usize>
+fn index_of(entries: &[Entry], id: Id) -> Option<usize>
     ensures some { IfSome result (λ i. slice_get (ids entries.now) i ≡ Some id) }
     ensures within { IfSome result (λ i. i < length entries.now) }
     ensures none { result ≡ None → has id entries.now ≡ false }
@@ -42,6 +42,19 @@ pub(crate) fn index_of(entries: &[Entry], id: Id) -> Option<usize>
         i += 1;
     }
     None
+}
+
+/// An index of an identifier, which is looked for from one on first, and then before it.
+pub(crate) fn index_from(entries: &[Entry], from: usize, id: Id) -> Option<usize>
+    ensures some { IfSome result (λ i. slice_get (ids entries.now) i ≡ Some id) }
+    ensures within { IfSome result (λ i. i < length entries.now) }
+    ensures none { result ≡ None → has id entries.now ≡ false }
+{
+    let (before, behind) = entries.split_at(from.min(entries.len()));
+    if let Some(index) = index_of(behind, id) {
+        return Some(before.len() + index);
+    }
+    index_of(before, id)
 }
 
 /// Whether an identifier stands at an index.

@@ -9,7 +9,8 @@ use crate::entry::Entry;
 use crate::finding::{entries_of, entry_at, find};
 use crate::groups::Groups;
 use crate::listing;
-use crate::names::{add_name, copy_names, hints_of, name_at, renumber};
+use crate::names::{add_name, copy_names, hints_of, near_at, renumber};
+use crate::near::Near;
 use crate::place::Place;
 use crate::putting::{MOST_AT_ONCE, put_behind};
 use crate::removing::{mark_at, remove_at};
@@ -20,16 +21,16 @@ use std::marker::Model;
 /// Where entries were put, for whoever finds entries by the names of their blocks.
 #[derive(Clone, Copy, Debug)]
 pub struct Put {
-    /// The name of the block in which they stand.
-    pub name: usize,
+    /// Where the first of them stands; the others stand behind it, in the same block.
+    pub near: Near,
     /// The name of the block that is new, if there is one: all its entries have that name now.
     pub new_block: Option<usize>,
 }
 
 /// Entries in a row, in blocks of at most 256. No two have one identifier.
 ///
-/// An entry is found in its block, and that by its name. The names are for speed alone: whatever
-/// name is given, the answer is the same, but behind a wrong one all blocks are looked through.
+/// An entry is found in its block, and that by its name. Where it may stand is for speed alone:
+/// whatever is given, the answer is the same, but behind a wrong name all blocks are looked through.
 #[derive(Drop)]
 pub struct Sequence {
     alloc: Global,
@@ -68,22 +69,22 @@ impl Sequence {
 
     /// An entry goes behind its parent, past those of larger identifiers that stand there: so a
     /// Replicated Growable Array that is one sequence takes an insertion (Roh and others 2011).
-    /// `name` is that of the parent's block. `Memory` alone, and then nothing is changed.
-    pub fn put(&mut self, parent: Id, name: usize, entry: Entry) -> Result<Put, Refusal>
+    /// `near` is where the parent may stand. `Memory` alone, and then nothing is changed.
+    pub fn put(&mut self, parent: Id, near: Near, entry: Entry) -> Result<Put, Refusal>
         requires parent { is_root parent || has parent self.old ≡ true }
         requires absent { has entry.id self.old ≡ false }
         ensures ok { OnOk result (self.new ≡ put_entry parent entry self.old) }
         ensures err { OnErr result (self.new ≡ self.old) }
         ensures memory { IfErr result (λ e. e ≡ Refusal.Memory) }
     {
-        self.put_chain(parent, name, &[entry])
+        self.put_chain(parent, near, &[entry])
     }
 
     /// Entries of which each is the parent of the next are put, one after another, into one block.
     /// Each identifier is larger than the one before it: so all of them stand behind the first.
-    /// `name` is that of the block of the first one's parent. `Memory` alone, and then nothing is
+    /// `near` is where the first one's parent may stand. `Memory` alone, and then nothing is
     /// changed.
-    pub fn put_chain(&mut self, parent: Id, name: usize, entries: &[Entry]) -> Result<Put, Refusal>
+    pub fn put_chain(&mut self, parent: Id, near: Near, entries: &[Entry]) -> Result<Put, Refusal>
         requires some { 0 < length entries.now }
         requires chain { IsChain parent entries.now self.old }
         requires few { length entries.now ≤ MOST_AT_ONCE }
@@ -93,7 +94,7 @@ impl Sequence {
     {
         self.names.reserve(1)?;
         let count = self.blocks.as_slice().len();
-        let hints = hints_of(&self.names, self.last, name);
+        let hints = hints_of(&self.names, self.last, near);
         let new_name = self.names.as_slice().len();
         let at = put_behind(
             self.alloc,
@@ -110,7 +111,7 @@ impl Sequence {
         };
         if self.blocks.as_slice().len() == count {
             return Ok(Put {
-                name: name_at(&self.blocks, at.block),
+                near: near_at(&self.blocks, at),
                 new_block: None,
             });
         }
@@ -119,16 +120,16 @@ impl Sequence {
         renumber(&mut self.names, &self.blocks, at.block.saturating_sub(1));
         note_counts(&self.blocks, &mut self.groups.counts);
         Ok(Put {
-            name: name_at(&self.blocks, at.block),
+            near: near_at(&self.blocks, at),
             new_block: Some(new_name),
         })
     }
 
     /// The entry of an identifier goes, if there is one. Takes no memory.
-    pub fn take_out(&mut self, id: Id, name: usize)
+    pub fn take_out(&mut self, id: Id, near: Near)
         ensures { self.new ≡ without_entry id self.old }
     {
-        let hints = hints_of(&self.names, self.last, name);
+        let hints = hints_of(&self.names, self.last, near);
         let count = self.blocks.as_slice().len();
         if let Some(at) = find(&self.blocks, hints, id) {
             remove_at(&mut self.blocks, &mut self.groups, at, id);
@@ -140,10 +141,10 @@ impl Sequence {
     }
 
     /// The entry of an identifier, if there is one, is deleted or not. Takes no memory.
-    pub fn mark(&mut self, id: Id, name: usize, deleted: bool)
+    pub fn mark(&mut self, id: Id, near: Near, deleted: bool)
         ensures { self.new ≡ mark_entry deleted id self.old }
     {
-        let hints = hints_of(&self.names, self.last, name);
+        let hints = hints_of(&self.names, self.last, near);
         if let Some(at) = find(&self.blocks, hints, id) {
             mark_at(&mut self.blocks, &mut self.groups, at, id, deleted);
             self.last = at;
@@ -151,10 +152,10 @@ impl Sequence {
     }
 
     /// The entry of an identifier. Takes no memory.
-    pub fn find(&self, id: Id, name: usize) -> Option<Entry>
+    pub fn find(&self, id: Id, near: Near) -> Option<Entry>
         ensures { result ≡ entry_of id self.now }
     {
-        let hints = hints_of(&self.names, self.last, name);
+        let hints = hints_of(&self.names, self.last, near);
         match find(&self.blocks, hints, id) {
             Some(at) => entry_at(&self.blocks, at, id),
             None => None,
@@ -162,10 +163,10 @@ impl Sequence {
     }
 
     /// Whether there is an entry of an identifier. Takes no memory.
-    pub fn contains(&self, id: Id, name: usize) -> bool
+    pub fn contains(&self, id: Id, near: Near) -> bool
         ensures { result ≡ has id self.now }
     {
-        let hints = hints_of(&self.names, self.last, name);
+        let hints = hints_of(&self.names, self.last, near);
         match find(&self.blocks, hints, id) {
             Some(_) => true,
             None => false,
@@ -206,11 +207,11 @@ impl Sequence {
 
     /// How many visible entries are that of an identifier or stand before it, if there is one.
     /// Takes no memory.
-    pub fn place_of(&self, id: Id, name: usize) -> Option<usize>
+    pub fn place_of(&self, id: Id, near: Near) -> Option<usize>
         requires { length self.now < 2 ^ 64 }
         ensures { result ≡ place_in id self.now }
     {
-        let hints = hints_of(&self.names, self.last, name);
+        let hints = hints_of(&self.names, self.last, near);
         match find(&self.blocks, hints, id) {
             Some(at) => Some(listing::place_at(&self.blocks, &self.groups.counts, at, id)),
             None => None,
@@ -251,12 +252,29 @@ impl Sequence {
         })
     }
 
+    /// Where the entry of an identifier stands now, so that what is put behind it next is quick; what
+    /// was given where there is none. Takes no memory.
+    pub fn near(&self, id: Id, near: Near) -> Near {
+        if id == Id::ROOT {
+            return near;
+        }
+        let hints = hints_of(&self.names, self.last, near);
+        match find(&self.blocks, hints, id) {
+            Some(at) => near_at(&self.blocks, at),
+            None => near,
+        }
+    }
+
     /// The entries of the block of a name that was answered: those that have that name. Takes no
     /// memory.
     pub fn block(&self, name: usize) -> Option<&[Entry]>
         ensures { IfSome result (λ es. IsPart es.now self.now) }
     {
-        let hints = hints_of(&self.names, self.last, name);
-        entries_of(&self.blocks, hints.block)
+        let near = Near {
+            block: name,
+            index: 0,
+        };
+        let hints = hints_of(&self.names, self.last, near);
+        entries_of(&self.blocks, hints.near.block)
     }
 }

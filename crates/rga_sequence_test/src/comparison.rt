@@ -1,7 +1,7 @@
 //! A sequence beside a plain list.
 use crate::plain_list::PlainList;
 use rga_ops::{Id, Refusal};
-use rga_sequence::{Entry, Put, Sequence};
+use rga_sequence::{Entry, Near, Put, Sequence};
 use std::alloc::Global;
 use test_fixtures::Random;
 
@@ -27,6 +27,14 @@ struct Both {
     list: PlainList,
 }
 
+/// Some place in the block of a name: whatever index is told, the answers are the same.
+fn near(name: usize) -> Near {
+    Near {
+        block: name,
+        index: name,
+    }
+}
+
 /// An entry is put behind its parent, which has to be there.
 fn put_below(
     sequence: &mut Sequence,
@@ -34,16 +42,16 @@ fn put_below(
     name: usize,
     entry: &Entry,
 ) -> Result<Put, Refusal> {
-    if sequence.contains(entry.id, name) {
+    if sequence.contains(entry.id, near(name)) {
         return Err(Refusal::Range);
     }
     if parent == Id::ROOT {
-        return sequence.put(parent, name, *entry);
+        return sequence.put(parent, near(name), *entry);
     }
-    if !sequence.contains(parent, name) {
+    if !sequence.contains(parent, near(name)) {
         return Err(Refusal::Range);
     }
-    sequence.put(parent, name, *entry)
+    sequence.put(parent, near(name), *entry)
 }
 
 /// The entries of a new block have its name.
@@ -91,7 +99,7 @@ fn put_both(both: &mut Both, behind: usize, id: Id) -> Result<(), Refusal> {
     if let Some(new_block) = put.new_block {
         rename(&both.sequence, &mut both.list, new_block);
     }
-    both.list.put(behind, &entry, put.name)
+    both.list.put(behind, &entry, put.near.block)
 }
 
 /// An entry is put, deleted or taken out.
@@ -108,10 +116,10 @@ fn step(
     let index = random.below(both.list.rows.len());
     if let Some(row) = both.list.at(index) {
         if kind < mixture.puts.saturating_add(mixture.deletions) {
-            both.sequence.mark(row.entry.id, row.name, true);
+            both.sequence.mark(row.entry.id, near(row.name), true);
             both.list.delete(index);
         } else {
-            both.sequence.take_out(row.entry.id, row.name);
+            both.sequence.take_out(row.entry.id, near(row.name));
             both.list.take_out(index);
         }
     }
@@ -177,7 +185,7 @@ fn part_agrees(alloc: Global, sequence: &Sequence, visible: &[Id], random: &mut 
 /// Whether each row is found, in the block that its name leads to.
 fn rows_agree(both: &Both) -> bool {
     for row in &both.list.rows {
-        if both.sequence.find(row.entry.id, row.name) != Some(row.entry) {
+        if both.sequence.find(row.entry.id, near(row.name)) != Some(row.entry) {
             return false;
         }
         if !is_named(&both.sequence, row.name, row.entry.id) {

@@ -13,7 +13,7 @@ pub returns-in-None-clause-flat : goal.returns-in-None-clause-flat
 returns-in-None-clause-flat c =
     subst (λ (d : Content). IsFlat d c.args.sequence.now (under c.args.waiting.now) (is_listed c.args.waiting.now c.args.done.now)) (sym c.in_ok-delete.ensures.ok)
     (flat_still c.args.records.now.content c.args.id c.args.sequence.now (under c.args.waiting.now) (is_listed c.args.waiting.now c.args.done.now) c.requires.flat
-    (sym c.block_if_complete-block.ensures ∙ ap is_some c.in-None.is))
+    (sym c.near_if_complete-found.ensures ∙ ap is_some c.in-None.is))
 
 pub returns-in-None-clause-based : goal.returns-in-None-clause-based
 returns-in-None-clause-based c = λ base b.

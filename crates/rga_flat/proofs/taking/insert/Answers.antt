@@ -27,7 +27,7 @@ settle-settled-requires-clause-deleted c =
 
 pub settle-settled-requires-clause-above : goal.settle-settled-requires-clause-above
 settle-settled-requires-clause-above c =
-    c.is_some-above.ensures ∙ c.block_above-block.ensures
+    c.is_some-above.ensures ∙ c.near_above-found.ensures
     ∙ sym (ap (λ (d : Content). is_above d c.args.parent) (ap (without_insertion c.args.entry.now.id) c.in_ok-insert.ensures.ok
     ∙ without_new c.args.records.now.limit c.args.records.now.content (Insert c.args.entry.now.id c.args.parent c.args.entry.now.ch) c.requires.new))
 

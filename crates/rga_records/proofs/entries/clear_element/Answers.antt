@@ -25,7 +25,7 @@ returns-clause-deleted c = is_deleted c ∙ sym (deleted_at c.args.entries.now c
 pub returns-clause-content : goal.returns-clause-content
 returns-clause-content c =
     let old : Record = c.found_or_new-record.result in
-    let written : Record = record { parent = old.parent; ch = None; block = old.block; deleted = true } in
+    let written : Record = record { parent = old.parent; ch = None; block = old.block; index = old.index; deleted = true } in
     content_uninserted c.args.entries.now c.set.new.self c.args.id (Some written) c.look_up.ensures.ordered c.set.ensures.ordered
     (subst (λ es. Updates es c.set.new.self c.args.id (Some written)) c.look_up.ensures.same
     (c.set.ensures.updates (ap (λ es. is_some (record_of c.args.id es)) c.look_up.ensures.same ∙ some_marked (record_of c.args.id c.args.entries.now) (sym (is_deleted c)))))

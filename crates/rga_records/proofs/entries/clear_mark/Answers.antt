@@ -36,7 +36,7 @@ returns-clause-inserted c = is_inserted c ∙ sym (ap is_some (inserted_at c.arg
 pub returns-clause-content : goal.returns-clause-content
 returns-clause-content c =
     let old : Record = c.found_or_new-record.result in
-    let written : Record = record { parent = old.parent; ch = old.ch; block = old.block; deleted = false } in
+    let written : Record = record { parent = old.parent; ch = old.ch; block = old.block; index = old.index; deleted = false } in
     content_undeleted c.args.entries.now c.set.new.self c.args.id (Some written) c.look_up.ensures.ordered c.set.ensures.ordered
     (subst (λ es. Updates es c.set.new.self c.args.id (Some written)) c.look_up.ensures.same
     (c.set.ensures.updates (ap (λ es. is_some (record_of c.args.id es)) c.look_up.ensures.same ∙ some_inserted (record_of c.args.id c.args.entries.now) (sym (is_inserted c)))))

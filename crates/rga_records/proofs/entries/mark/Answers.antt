@@ -24,7 +24,7 @@ returns-clause-inserted c =
 pub returns-clause-content : goal.returns-clause-content
 returns-clause-content c =
     let old : Record = c.found_or_new-record.result in
-    let written : Record = record { parent = old.parent; ch = old.ch; block = old.block; deleted = true } in
+    let written : Record = record { parent = old.parent; ch = old.ch; block = old.block; index = old.index; deleted = true } in
     content_deleted c.args.entries.now c.insert.new.self c.args.id (Some written) c.look_up.ensures.ordered c.insert.ensures.ordered
     (subst (λ es. Updates es c.insert.new.self c.args.id (Some written)) c.look_up.ensures.same c.in_ok-insert.ensures.updates)
     (c.found_or_new-record.ensures.element ∙ ap element_of c.look_up.ensures.value) refl
