@@ -11,6 +11,7 @@ use crate::fault::Fault;
 use crate::text::{document, named, number_at, paragraph};
 use mg_buffer::{Buffer, BufferFault, Memo};
 use mg_plain::{Chars, Command};
+use rga_doc::Doc;
 use rga_flat::FlatStore;
 use rga_ops::{Id, Op, Refusal};
 use rga_store::{Taker, TextStore};
@@ -70,27 +71,37 @@ pub fn outcome(alloc: Global, words: &[String]) -> Result<usize, Fault> {
         size: number_at(words, 3)?,
         times: number_at(words, 4)?,
     };
-    let known = match task.work {
-        Work::Kill | Work::Make => made_again(alloc, &task)?,
-        Work::Store => taken_again(alloc, &task)?,
-        _ => done(alloc, &task)?,
-    };
-    Ok(known)
+    Ok(done_all(alloc, &task)?)
+}
+
+fn done_all(alloc: Global, task: &Task) -> Result<usize, BufferFault> {
+    match task.work {
+        Work::Kill | Work::Make => made_again(alloc, task),
+        Work::Store => taken_again(alloc, task),
+        _ => done(alloc, task),
+    }
+}
+
+/// A document of so many characters.
+fn document_of(alloc: Global, size: usize) -> Result<Doc<FlatStore>, Refusal> {
+    document(alloc, &paragraph(alloc, size)?)
 }
 
 /// A buffer of so many characters.
-fn buffer_of(alloc: Global, size: usize) -> Result<Buffer<FlatStore>, Refusal> {
-    let doc = document(alloc, &paragraph(alloc, size)?)?;
-    Ok(Buffer::new(alloc, doc, String::new(alloc), Vec::new(alloc)))
+fn buffer_of(alloc: Global, size: usize) -> Result<Buffer<FlatStore>, BufferFault> {
+    match document_of(alloc, size) {
+        Ok(doc) => Ok(Buffer::new(alloc, doc, String::new(alloc), Vec::new(alloc))),
+        Err(refusal) => Err(BufferFault::Store(refusal)),
+    }
 }
 
 /// Does the work so many times, each in a buffer of its own.
 fn made_again(alloc: Global, task: &Task) -> Result<usize, BufferFault> {
     let mut known = 0;
     for _ in 0..task.times {
-        match buffer_of(alloc, task.size) {
-            Ok(mut buffer) => known = done_in(alloc, &mut buffer, task)?,
-            Err(refusal) => return Err(BufferFault::Store(refusal)),
+        match done(alloc, task) {
+            Ok(count) => known = count,
+            Err(fault) => return Err(fault),
         }
     }
     Ok(known)
@@ -100,7 +111,7 @@ fn made_again(alloc: Global, task: &Task) -> Result<usize, BufferFault> {
 fn done(alloc: Global, task: &Task) -> Result<usize, BufferFault> {
     match buffer_of(alloc, task.size) {
         Ok(mut buffer) => done_in(alloc, &mut buffer, task),
-        Err(refusal) => Err(BufferFault::Store(refusal)),
+        Err(fault) => Err(fault),
     }
 }
 
@@ -131,17 +142,23 @@ fn kill_lines(
 }
 
 /// Has a store of so many characters take so many insertions.
-fn taken_again(alloc: Global, task: &Task) -> Result<usize, Refusal> {
-    let mut store = store_of(alloc, task.size)?;
-    take(&mut store, task.times)?;
-    Ok(store.known())
+fn taken_again(alloc: Global, task: &Task) -> Result<usize, BufferFault> {
+    match store_of(alloc, task.size) {
+        Ok(mut store) => taken(&mut store, task.times),
+        Err(refusal) => Err(BufferFault::Store(refusal)),
+    }
 }
 
 fn store_of(alloc: Global, size: usize) -> Result<FlatStore, Refusal> {
-    match buffer_of(alloc, size) {
-        Ok(buffer) => buffer.store().copy(),
+    match document_of(alloc, size) {
+        Ok(doc) => doc.store().copy(),
         Err(refusal) => Err(refusal),
     }
+}
+
+fn taken(store: &mut FlatStore, times: usize) -> Result<usize, BufferFault> {
+    take(store, times)?;
+    Ok(store.known())
 }
 
 /// Does the work in a buffer again and again, with point in the middle.

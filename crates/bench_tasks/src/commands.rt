@@ -17,7 +17,7 @@ pub fn outcome(alloc: Global, words: &[String]) -> Result<usize, Fault> {
         return Err(Fault::Words);
     };
     match command_of(alloc, name.as_str()) {
-        Ok(command) => Ok(planned(alloc, &command, size, times)?),
+        Ok(command) => planned(alloc, &command, size, times),
         Err(fault) => Err(fault),
     }
 }
@@ -68,7 +68,7 @@ fn point_of(command: &Command, size: usize) -> usize {
     }
 }
 
-fn planned(alloc: Global, command: &Command, size: usize, times: usize) -> Result<usize, Notice> {
+fn planned(alloc: Global, command: &Command, size: usize, times: usize) -> Result<usize, Fault> {
     let text = paragraph(alloc, size)?;
     let view = view_of(&text, point_of(command, size));
     plan_again(alloc, command, times, &view)
@@ -79,13 +79,13 @@ fn plan_again(
     command: &Command,
     times: usize,
     view: &View<'_>,
-) -> Result<usize, Notice> {
+) -> Result<usize, Fault> {
     let mut sum: usize = 0;
     for _ in 0..times {
         match plan(alloc, command, 1, view, FILL) {
             Ok(plan) => sum = sum.wrapping_add(plan.point),
             Err(Notice::SearchFailed) => {}
-            Err(notice) => return Err(notice),
+            Err(notice) => return Err(Fault::Plan(notice)),
         }
     }
     Ok(sum)

@@ -110,13 +110,18 @@ fn insert_remotely(doc: &mut Document) -> Result<(), Refusal> {
 /// Puts another letter in the place of one, at many places in one edit.
 fn change(alloc: Global, doc: &mut Document) -> Result<(), Refusal> {
     doc.list()?;
-    let apart = doc.characters().len() / CHANGES;
+    let splices = changes(alloc, doc.characters().len() / CHANGES)?;
+    let _ops = doc.splices(&splices)?;
+    doc.list()
+}
+
+/// So many changes, each so far from the next.
+fn changes(alloc: Global, apart: usize) -> Result<Vec<Splice>, Refusal> {
     let mut splices = Vec::with_capacity(alloc, CHANGES)?;
     for k in (0..CHANGES).rev() {
         splices.push(change_at(alloc, k.saturating_mul(apart))?)?;
     }
-    let _ops = doc.splices(&splices)?;
-    doc.list()
+    Ok(splices)
 }
 
 /// Another letter in the place of the one there.

@@ -16,19 +16,19 @@ pub enum Fault {
     Read,
     #[error("out of memory")]
     Memory(#[from(alloc)] AllocError),
-    #[error("refused: {0:?}")]
+    #[error("refused")]
     Refused(#[from] Refusal),
-    #[error("no plan: {0:?}")]
+    #[error("no plan")]
     Plan(#[from] Notice),
-    #[error("refused in the buffer: {0:?}")]
+    #[error("refused in the buffer")]
     Buffer(#[from] BufferFault),
-    #[error("no frame: {0:?}")]
+    #[error("no frame")]
     Frame(#[from] FrameFault),
-    #[error("the windows stay: {0:?}")]
+    #[error("the windows stay")]
     Window(#[from] WindowFault),
-    #[error("not read to the end: {0:?}")]
+    #[error("not read to the end")]
     Receiving(#[from] ReceiveFault),
-    #[error("not written: {0:?}")]
+    #[error("not written")]
     Sending(#[from] SendFault),
 }
 

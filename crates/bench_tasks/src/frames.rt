@@ -42,12 +42,24 @@ pub fn outcome(alloc: Global, words: &[String]) -> Result<usize, Fault> {
     let Some(work) = named(words, &WORKS) else {
         return Err(Fault::Words);
     };
+    let (line, size) = (number_at(words, 3)?, number_at(words, 4)?);
     let times = number_at(words, 5)?;
-    if let Work::Split = work {
-        return Ok(splits(alloc, times)?);
+    match work {
+        Work::Split => Ok(splits(alloc, times)?),
+        _ => Ok(shown_of(alloc, work, line, size, times)?),
     }
-    let text = lines(alloc, number_at(words, 3)?, number_at(words, 4)?)?;
-    Ok(shown(alloc, work, text.as_slice(), times)?)
+}
+
+/// The work on a text of so many characters in lines of so many letters.
+fn shown_of(
+    alloc: Global,
+    work: Work,
+    line: usize,
+    size: usize,
+    times: usize,
+) -> Result<usize, FrameFault> {
+    let text = lines(alloc, line, size)?;
+    shown(alloc, work, text.as_slice(), times)
 }
 
 fn shown(alloc: Global, work: Work, text: &[char], times: usize) -> Result<usize, FrameFault> {

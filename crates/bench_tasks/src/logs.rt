@@ -22,23 +22,29 @@ pub fn outcome(rt: &HostRuntime, words: &[String]) -> Result<Option<u64>, Fault>
     let Some(work) = words.get(2) else {
         return Err(Fault::Words);
     };
-    let mut reader = Counted::new(rt.reader());
     match work.as_str() {
-        "write" | "send" => {
-            let (sends, times) = (work.as_str() == "send", number_at(words, 3)?);
-            let mut writer = Counted::new(writer(rt));
-            write_again(rt.alloc(), sends, times, &mut reader, &mut writer)?;
-            Ok(None)
-        }
-        _ => Ok(Some(counted(rt.alloc(), work.as_str(), &mut reader)?)),
+        "write" => written(rt, false, number_at(words, 3)?),
+        "send" => written(rt, true, number_at(words, 3)?),
+        work => Ok(Some(counted(rt, work)?)),
     }
 }
 
-fn counted<R: Read>(alloc: Global, work: &str, reader: &mut Counted<R>) -> Result<u64, Fault> {
+/// Writes or sends so many times, and counts nothing.
+fn written(rt: &HostRuntime, sends: bool, times: usize) -> Result<Option<u64>, Fault> {
+    let mut reader = Counted::new(rt.reader());
+    let mut writer = Counted::new(writer(rt));
+    match write_again(rt.alloc(), sends, times, &mut reader, &mut writer) {
+        Ok(()) => Ok(None),
+        Err(fault) => Err(fault),
+    }
+}
+
+fn counted(rt: &HostRuntime, work: &str) -> Result<u64, Fault> {
+    let mut reader = Counted::new(rt.reader());
     match work {
-        "bytes" => bytes(reader),
-        "read" => Ok(store_of(alloc, reader)?.known() as u64),
-        "receive" => received(alloc, reader),
+        "bytes" => bytes(&mut reader),
+        "read" => known(rt.alloc(), &mut reader),
+        "receive" => received(rt.alloc(), &mut reader),
         _ => Err(Fault::Words),
     }
 }
@@ -57,17 +63,44 @@ fn bytes<R: Read>(reader: &mut Counted<R>) -> Result<u64, Fault> {
     Ok(total)
 }
 
+/// How many operations the log has that differ.
+fn known<R: Read>(alloc: Global, reader: &mut Counted<R>) -> Result<u64, Fault> {
+    match store_of(alloc, reader) {
+        Ok(store) => Ok(store.known() as u64),
+        Err(fault) => Err(fault),
+    }
+}
+
 /// The store of a log.
 fn store_of<R: Read>(alloc: Global, reader: &mut Counted<R>) -> Result<FlatStore, Fault> {
     let mut store = FlatStore::new(alloc, MAX_LIMIT)?;
-    let _end = read_log(alloc, &mut store, reader)?;
+    read(alloc, &mut store, reader)?;
     Ok(store)
+}
+
+fn read<R: Read>(
+    alloc: Global,
+    store: &mut FlatStore,
+    reader: &mut Counted<R>,
+) -> Result<(), Fault> {
+    let _end = read_log(alloc, store, reader)?;
+    Ok(())
 }
 
 /// How many operations the exchange has.
 fn received<R: Read>(alloc: Global, reader: &mut Counted<R>) -> Result<u64, Fault> {
-    let mut store = FlatStore::new(alloc, MAX_LIMIT)?;
-    Ok(receive(alloc, &mut store, reader)?)
+    match FlatStore::new(alloc, MAX_LIMIT) {
+        Ok(mut store) => received_by(alloc, &mut store, reader),
+        Err(refusal) => Err(Fault::Refused(refusal)),
+    }
+}
+
+fn received_by<R: Read>(
+    alloc: Global,
+    store: &mut FlatStore,
+    reader: &mut Counted<R>,
+) -> Result<u64, Fault> {
+    Ok(receive(alloc, store, reader)?)
 }
 
 /// Sends or writes the store of a log so many times.
@@ -78,11 +111,23 @@ fn write_again<R: Read, W: Write>(
     reader: &mut Counted<R>,
     writer: &mut Counted<W>,
 ) -> Result<(), Fault> {
-    let store = store_of(alloc, reader)?;
-    if sends {
-        return send_store(alloc, &store, times, writer);
+    match store_of(alloc, reader) {
+        Ok(store) => put_again(alloc, sends, times, &store, writer),
+        Err(fault) => Err(fault),
     }
-    write(alloc, &store, times, writer)
+}
+
+fn put_again<W: Write>(
+    alloc: Global,
+    sends: bool,
+    times: usize,
+    store: &FlatStore,
+    writer: &mut Counted<W>,
+) -> Result<(), Fault> {
+    if sends {
+        return send_store(alloc, store, times, writer);
+    }
+    write(alloc, store, times, writer)
 }
 
 /// Writes the operations of the store so many times.

@@ -38,7 +38,7 @@ pub(crate) fn transpose_chars(alloc: Global, view: &View<'_>) -> Result<Plan, No
 }
 
 /// What becomes of the letters of a word.
-#[derive(Clone, Copy, Debug, PartialEq, Eq)]
+#[derive(Clone, Copy)]
 pub(crate) enum Casing {
     /// All upper case.
     Upper,

@@ -5,7 +5,7 @@ use std::alloc::{AllocError, Global};
 use std::marker::Model;
 
 /// A list of characters: a pattern, what is put in its place, an answer.
-#[derive(Debug, Drop)]
+#[derive(Drop)]
 pub struct Chars {
     items: Vec<char>,
 }

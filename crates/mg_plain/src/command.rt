@@ -4,7 +4,7 @@ use crate::chars::Chars;
 /// A command on a text, named as mg(1) names it. Those that obey an argument say so; the others
 /// ignore it. A place is carried where nothing else is said of it: it stays before what a splice
 /// replaces, moves with what stands behind, and goes behind what is put where it stood within.
-#[derive(Debug, PartialEq, Eq, Drop)]
+#[derive(Drop)]
 pub enum Command {
     /// Inserts the character, so many times, and point goes behind.
     Insert(char),

@@ -1,30 +1,31 @@
 //! Insertions at point.
-ghost use Rattle.std.specs.Prelude.{◌≡◌, ◌∷◌, replicate, take_while, IfOk};
+ghost use Rattle.std.specs.Prelude.{◌≡◌, ◌∷◌, replicate, take_while, IfOk, Ok};
 ghost use Rattle.mg_text.specs.Characters.{is_blank, newline};
+ghost use Rattle.mg_plain.specs.Answer.{IsAnswer};
 ghost use Rattle.mg_plain.specs.Insertions as spec;
 
 use crate::characters::is_blank;
 use crate::edit::change;
-use crate::outcome::Plan;
+use crate::outcome::{Notice, Plan};
 use crate::view::View;
 use mg_text::{copy, line_begin};
 use std::alloc::{AllocError, Global};
 
 /// Characters at point, which stays.
-fn put(alloc: Global, view: &View<'_>, chars: Vec<char>) -> Result<Plan, AllocError>
-    ensures { IfOk result (λ p. p ≡ spec.insertion view.now chars.items) }
+fn put(alloc: Global, view: &View<'_>, chars: Vec<char>) -> Result<Plan, Notice>
+    ensures { IsAnswer result (Ok (spec.insertion view.now chars.items)) }
 {
-    change(alloc, view, view.point, view.point, chars)
+    Ok(change(alloc, view, view.point, view.point, chars)?)
 }
 
 /// Characters at point, which goes behind them.
-fn type_in(alloc: Global, view: &View<'_>, chars: Vec<char>) -> Result<Plan, AllocError>
-    ensures { IfOk result (λ p. p ≡ spec.typing view.now chars.items) }
+fn type_in(alloc: Global, view: &View<'_>, chars: Vec<char>) -> Result<Plan, Notice>
+    ensures { IsAnswer result (Ok (spec.typing view.now chars.items)) }
 {
     let count = chars.as_slice().len();
     let plan = put(alloc, view, chars)?;
     match view.point.checked_add(count) {
-        None => Err(AllocError),
+        None => Err(Notice::Memory),
         Some(point) => Ok(Plan { point, ..plan }),
     }
 }
@@ -35,14 +36,14 @@ fn repeated(alloc: Global, ch: char, n: u16) -> Result<Vec<char>, AllocError>
     Ok(vec![in alloc; ch; usize::from(n)]?)
 }
 
-pub(crate) fn insert(alloc: Global, view: &View<'_>, ch: char, n: u16) -> Result<Plan, AllocError>
-    ensures { IfOk result (λ p. p ≡ spec.insert ch n view.now) }
+pub(crate) fn insert(alloc: Global, view: &View<'_>, ch: char, n: u16) -> Result<Plan, Notice>
+    ensures { IsAnswer result (Ok (spec.insert ch n view.now)) }
 {
     type_in(alloc, view, repeated(alloc, ch, n)?)
 }
 
-pub(crate) fn open_line(alloc: Global, view: &View<'_>, n: u16) -> Result<Plan, AllocError>
-    ensures { IfOk result (λ p. p ≡ spec.open_line n view.now) }
+pub(crate) fn open_line(alloc: Global, view: &View<'_>, n: u16) -> Result<Plan, Notice>
+    ensures { IsAnswer result (Ok (spec.open_line n view.now)) }
 {
     put(alloc, view, repeated(alloc, '\n', n)?)
 }
@@ -61,16 +62,16 @@ fn newline_and_blanks(alloc: Global, line: &[char]) -> Result<Vec<char>, AllocEr
     Ok(put)
 }
 
-pub(crate) fn newline_and_indent(alloc: Global, view: &View<'_>) -> Result<Plan, AllocError>
-    ensures { IfOk result (λ p. p ≡ spec.newline_and_indent view.now) }
+pub(crate) fn newline_and_indent(alloc: Global, view: &View<'_>) -> Result<Plan, Notice>
+    ensures { IsAnswer result (Ok (spec.newline_and_indent view.now)) }
 {
     let begin = line_begin(view.text, view.point);
     let put = newline_and_blanks(alloc, &view.text[begin..view.point])?;
     type_in(alloc, view, put)
 }
 
-pub(crate) fn yank(alloc: Global, view: &View<'_>) -> Result<Plan, AllocError>
-    ensures { IfOk result (λ p. p ≡ spec.yank view.now) }
+pub(crate) fn yank(alloc: Global, view: &View<'_>) -> Result<Plan, Notice>
+    ensures { IsAnswer result (Ok (spec.yank view.now)) }
 {
     let plan = type_in(alloc, view, copy(alloc, view.kill)?)?;
     Ok(Plan {

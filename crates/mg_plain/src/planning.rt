@@ -41,10 +41,10 @@ pub fn plan(
     ensures memory { result ≡ Err Memory → needs_memory command.now ≡ true }
 {
     match command {
-        Command::Insert(ch) => Ok(insert(alloc, view, *ch, arg)?),
-        Command::Newline => Ok(insert(alloc, view, '\n', arg)?),
-        Command::OpenLine => Ok(open_line(alloc, view, arg)?),
-        Command::NewlineAndIndent => Ok(newline_and_indent(alloc, view)?),
+        Command::Insert(ch) => insert(alloc, view, *ch, arg),
+        Command::Newline => insert(alloc, view, '\n', arg),
+        Command::OpenLine => open_line(alloc, view, arg),
+        Command::NewlineAndIndent => newline_and_indent(alloc, view),
         Command::ForwardChar => forward_char(alloc, view, arg),
         Command::BackwardChar => backward_char(alloc, view, arg),
         Command::BeginningOfLine => Ok(beginning_of_line(alloc, view)),
@@ -63,7 +63,7 @@ pub fn plan(
         Command::KillWord => kill_word(alloc, view),
         Command::KillRegion => kill_region(alloc, view),
         Command::CopyRegionAsKill => copy_region_as_kill(alloc, view),
-        Command::Yank => Ok(yank(alloc, view)?),
+        Command::Yank => yank(alloc, view),
         Command::SetMarkCommand => Ok(set_mark_command(alloc, view)),
         Command::ExchangePointAndMark => exchange_point_and_mark(alloc, view),
         Command::MarkWholeBuffer => Ok(mark_whole_buffer(alloc, view)),

@@ -6,14 +6,14 @@ use crate::lines::line_step;
 use crate::words::word_step;
 
 /// Which way through a text.
-#[derive(Clone, Copy, Debug, PartialEq, Eq)]
+#[derive(Clone, Copy)]
 pub enum Direction {
     Forward,
     Backward,
 }
 
 /// What a step goes over.
-#[derive(Clone, Copy, Debug, PartialEq, Eq)]
+#[derive(Clone, Copy)]
 pub(crate) enum Piece {
     /// A line: from the begin of one to the begin of another.
     Line,

@@ -1,6 +1,6 @@
 -- Windows as they are kept: their heights, and beside these what they show.
 use Rattle.std.proofs.Common.{◌≡◌, ℕ, ◌+◌, ◌-◌, ◌/◌, ◌≤◌, ◌<◌, List, [], ◌∷◌, length, take, drop, map, arith, refl, sym, ◌∙◌, ap, ap₂, subst, suc, zero, get_or, set, insert, remove, sum_by, nat_lt, true, false}
-use Rattle.std.proofs.lemmas.List.Sums.{sum_by-cons}
+use Rattle.std.proofs.lemmas.List.Sums.{sum_by-cons, sum_by-remove, get_or-le-sum_by}
 use Rattle.std.proofs.lemmas.Bool.Decides.{nat_tests}
 use Rattle.std.proofs.lemmas.List.Edits.{length-remove, length-insert}
 use Rattle.std.proofs.Common.{length-set}
@@ -95,15 +95,36 @@ split_made {T} i n hs gs ss ts s inside e is met grown also =
     ∙ windows-split i hs ss s inside e met
 
 -- a removal, as it is made
-pub removal_made : {T : Type 0} (i h k : ℕ) (hs gs : List ℕ) (ss ts : List T) → 0 < i → i < length hs → length hs ≡ length ss → h ≡ get_or hs i 0
-    → gs ≡ remove hs i → ts ≡ remove ss i → k ≡ get_or gs (i - 1) 0 → windows_of (set gs (i - 1) (k + (h + 1))) ts ≡ remove_at i (windows_of hs ss)
-removal_made zero h k hs gs ss ts some inside e is less also heir = absurd (omega (arith, some))
-removal_made {T} (suc i) h k hs gs ss ts some inside e is less also heir =
-    let before : suc i - 1 ≡ i = omega arith in
-    let height : k ≡ get_or (remove hs (suc i)) i 0 = heir ∙ ap₂ (λ xs j. get_or xs j 0) less before in
-    ap₂ (λ xs (ys : List T). windows_of (set xs (suc i - 1) (k + (h + 1))) ys) less also
-    ∙ ap₂ (λ j m. windows_of (set (remove hs (suc i)) j (m + (h + 1))) (remove ss (suc i))) before height
+pub removal_made : {T : Type 0} (i j h k : ℕ) (hs gs : List ℕ) (ss ts : List T) → j ≡ i - 1 → 1 < length hs → i < length hs → length hs ≡ length ss → h ≡ get_or hs i 0
+    → gs ≡ remove hs i → ts ≡ remove ss i → k ≡ get_or gs j 0 → windows_of (set gs j (k + (h + 1))) ts ≡ remove_at i (windows_of hs ss)
+removal_made {T} zero j h k hs gs ss ts heir several inside e is less also read =
+    let first : j ≡ zero = omega (arith, heir) in
+    let height : k ≡ get_or (remove hs zero) zero 0 = read ∙ ap₂ (λ xs n. get_or xs n 0) less first in
+    ap₂ (λ xs (ys : List T). windows_of (set xs j (k + (h + 1))) ys) less also
+    ∙ ap₂ (λ n m. windows_of (set (remove hs zero) n (m + (h + 1))) (remove ss zero)) first height
+    ∙ windows-topmost h hs ss e several is
+removal_made {T} (suc i) j h k hs gs ss ts heir several inside e is less also read =
+    let before : j ≡ i = omega (arith, heir) in
+    let height : k ≡ get_or (remove hs (suc i)) i 0 = read ∙ ap₂ (λ xs n. get_or xs n 0) less before in
+    ap₂ (λ xs (ys : List T). windows_of (set xs j (k + (h + 1))) ys) less also
+    ∙ ap₂ (λ n m. windows_of (set (remove hs (suc i)) n (m + (h + 1))) (remove ss (suc i))) before height
     ∙ windows-removed i h hs ss e inside is
+
+-- the window that takes over the rows of another one is there
+pub heir_within : (i j : ℕ) (hs gs : List ℕ) → j ≡ i - 1 → 1 < length hs → i < length hs → gs ≡ remove hs i → j < length gs
+heir_within i j hs gs heir several inside less =
+    let short = length-remove hs i inside in
+    let long = ap length less in
+    omega (arith, heir, several, inside, short, long)
+
+-- the text rows of a window, and what it takes over
+pub rows_joined : (i j h k most : ℕ) (hs gs : List ℕ) → i < length hs → gs ≡ remove hs i → j < length gs → h ≡ get_or hs i 0 → k ≡ get_or gs j 0
+    → sum_by (λ n. n + 1) hs ≤ most → k + (h + 1) ≤ most
+rows_joined i j h k most hs gs inside less here is read few =
+    let whole : sum_by (λ n. n + 1) (remove hs i) + (get_or hs i 0 + 1) ≡ sum_by (λ n. n + 1) hs = sum_by-remove (λ (n : ℕ). n + 1) hs i 0 inside in
+    let part : get_or gs j 0 + 1 ≤ sum_by (λ n. n + 1) gs = get_or-le-sum_by (λ (n : ℕ). n + 1) gs j 0 here in
+    let rest = ap (sum_by (λ (n : ℕ). n + 1)) less in
+    omega (arith, whole, part, rest, is, read, few)
 
 -- what is kept of windows of which the first so many rows hold
 pub kept : {T : Type 0} (hs gs : List ℕ) (ss ts : List T) (i j rows : ℕ) → IsKept hs ss i rows → length gs ≡ length ts → j < length gs

@@ -78,12 +78,9 @@ pub(crate) fn remove_both<T: Copy>(
 {
     let height = heights.remove(index);
     let _ = shown.remove(index);
-    if index == 0 {
-        heights[0] += height + 1;
-        return 0;
-    }
-    heights[index - 1] += height + 1;
-    index - 1
+    let heir = index.saturating_sub(1);
+    heights[heir] += height + 1;
+    heir
 }
 
 /// Shares so many rows among the windows, of which there is one.

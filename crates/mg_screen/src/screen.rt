@@ -64,14 +64,14 @@ impl<'a> Model for Screen<'a> {
 }
 
 /// A row and a column of a screen, each from 0.
-#[derive(Clone, Copy, Debug, PartialEq, Eq)]
+#[derive(Clone, Copy, PartialEq, Eq)]
 pub struct Position {
     pub row: usize,
     pub column: usize,
 }
 
 /// Why there is no frame.
-#[derive(Clone, Copy, Debug, PartialEq, Eq)]
+#[derive(Clone, Copy)]
 pub enum FrameFault {
     /// A growth of memory was refused.
     Memory,

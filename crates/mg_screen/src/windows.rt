@@ -13,7 +13,7 @@ use std::alloc::{AllocError, Global};
 use std::marker::Model;
 
 /// Why the windows stay as they are. Where several hold, the first is answered.
-#[derive(Clone, Copy, Debug, PartialEq, Eq)]
+#[derive(Clone, Copy)]
 pub enum WindowFault {
     /// The current window has fewer text rows than `MIN_SPLIT_HEIGHT`.
     TooSmall,

@@ -7,7 +7,7 @@ use Rattle.clap.specs.Walk.{Rule, rule_of}
 use Rattle.clap.specs.declared.builder.arg.Arg.{Arg}
 use Rattle.clap.specs.declared.builder.command.Command.{Command}
 use Rattle.clap.specs.declared.builder.command.Command.TheViews.{out-Command as fields_of}
-use Rattle.mgr_args.specs.Rules.{Adds, AddsJob, AreJobs, IsPlain, IsToldOf, local, sketched, told, with_jobs, with_rules}
+use Rattle.mgr_args.specs.Rules.{Adds, AddsJob, AddsJobs, AreJobs, IsPlain, IsToldOf, local, sketched, told, with_jobs, with_rules}
 
 -- one argument more
 pub added : (old new : List Arg) (a : Arg) (r : Rule) → new ≡ old ++ a ∷ [] → rule_of a ≡ r → a.global ≡ false → Adds old new (r ∷ [])
@@ -46,6 +46,14 @@ with_all old new (a ∷ args) (r ∷ rules) is same alone =
 pub added_job : (old new : List Command) (c : Command) (job : App) → new ≡ old ++ c ∷ [] → IsPlain job c → AddsJob old new job
 added_job old new c job is plain = record {
   sketched = ap sketched is ∙ map-append (λ c. (app_of c, (fields_of c).has_globals)) old (c ∷ []) ∙ ap₂ (λ x y. sketched old ++ (x, y) ∷ []) plain.0 plain.1;
+}
+
+-- three jobs more
+pub three_jobs : (old one two new : List Command) (a b c : App) → AddsJob old one a → AddsJob one two b → AddsJob two new c → AddsJobs old new (a ∷ b ∷ c ∷ [])
+three_jobs old one two new a b c first second third = record {
+  sketched = third.sketched ∙ ap (λ l. l ++ (c, false) ∷ []) (second.sketched ∙ ap (λ l. l ++ (b, false) ∷ []) first.sketched)
+      ∙ append_assoc (sketched old ++ (a, false) ∷ []) ((b, false) ∷ []) ((c, false) ∷ [])
+      ∙ append_assoc (sketched old) ((a, false) ∷ []) ((b, false) ∷ (c, false) ∷ []);
 }
 
 -- a program that has them

@@ -54,3 +54,7 @@ AreJobs commands jobs = sketched commands ≡ map (λ job. (job, false)) jobs
 -- `new` is `old` with such a job behind
 pub record AddsJob (old new : List Command) (job : App) : Type 0 where
   pub sketched : sketched new ≡ sketched old ++ (job, false) ∷ []
+
+-- `new` is `old` with such jobs behind
+pub record AddsJobs (old new : List Command) (jobs : List App) : Type 0 where
+  pub sketched : sketched new ≡ sketched old ++ map (λ job. (job, false)) jobs

@@ -4,7 +4,7 @@ ghost use Rattle.clap.specs.Simple.{app_of, new_app};
 ghost use Rattle.mgr_args.specs.CommandLine.{command_line, job_apps, program_alone};
 ghost use Rattle.mgr_args.specs.Compact.{compact_app};
 ghost use Rattle.mgr_args.specs.Edit.{edit_app};
-ghost use Rattle.mgr_args.specs.Rules.{AddsJob, AreJobs};
+ghost use Rattle.mgr_args.specs.Rules.{AddsJob, AddsJobs, AreJobs};
 
 use crate::compact::compact;
 use crate::edit::edit;
@@ -61,13 +61,19 @@ fn add_compact<'a>(alloc: Global, jobs: &mut Vec<Command<'a>>) -> Result<(), All
 }
 
 /// The jobs of the program.
+fn add_jobs<'a>(alloc: Global, jobs: &mut Vec<Command<'a>>) -> Result<(), AllocError>
+    ensures { OnOk result (AddsJobs jobs.old.items jobs.new.items job_apps) }
+{
+    add_show(alloc, jobs)?;
+    add_edit(alloc, jobs)?;
+    add_compact(alloc, jobs)
+}
+
 fn jobs<'a>(alloc: Global) -> Result<Vec<Command<'a>>, AllocError>
     ensures { IfOk result (λ jobs. AreJobs jobs.items job_apps) }
 {
     let mut jobs = Vec::new(alloc);
-    add_show(alloc, &mut jobs)?;
-    add_edit(alloc, &mut jobs)?;
-    add_compact(alloc, &mut jobs)?;
+    add_jobs(alloc, &mut jobs)?;
     Ok(jobs)
 }
 

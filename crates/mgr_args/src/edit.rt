@@ -99,15 +99,21 @@ fn add_contents<'a>(alloc: Global, args: &mut Vec<Arg<'a>>) -> Result<(), AllocE
 }
 
 /// The arguments of `edit`.
+fn add_args<'a>(alloc: Global, args: &mut Vec<Arg<'a>>) -> Result<(), AllocError>
+    ensures { OnOk result (Adds args.old.items args.new.items spec.edit_rules) }
+{
+    add_name(alloc, args)?;
+    add_replica(alloc, args)?;
+    add_numbers(alloc, args)?;
+    add_trace(alloc, args)?;
+    add_contents(alloc, args)
+}
+
 fn edit_args<'a>(alloc: Global) -> Result<Vec<Arg<'a>>, AllocError>
     ensures { IfOk result (λ args. IsToldOf args.items spec.edit_rules) }
 {
     let mut args = Vec::new(alloc);
-    add_name(alloc, &mut args)?;
-    add_replica(alloc, &mut args)?;
-    add_numbers(alloc, &mut args)?;
-    add_trace(alloc, &mut args)?;
-    add_contents(alloc, &mut args)?;
+    add_args(alloc, &mut args)?;
     Ok(args)
 }
 

@@ -25,7 +25,7 @@ pub enum Job {
 }
 
 /// What help is on.
-#[derive(Clone, Copy, Debug, PartialEq, Eq)]
+#[derive(Clone, Copy, Debug)]
 pub enum Topic {
     /// The whole program.
     Program,

@@ -1,22 +1,28 @@
-use Rattle.std.proofs.Common.{refl, arith, length, ◌<◌, ◌-◌, ◌+◌, ap}
+use Rattle.std.proofs.Common.{arith, ◌+◌}
 use Rattle.std.proofs.lemmas.List.{get_or_read}
-use Rattle.std.proofs.lemmas.List.Edits.{length-remove}
-use Rattle.mg_screen.proofs.HeightLaws.{removal_made, removal_keeps, lengths_removed}
+use Rattle.mg_screen.proofs.HeightLaws.{heir_within, rows_joined, removal_made, removal_keeps, lengths_removed}
 use Rattle.mg_screen.proofs.heights.remove_both.Goals as goal
+
+pub overflow_add-index_mut : goal.overflow_add-index_mut
+overflow_add-index_mut g c =
+    let less = c.remove-height.ensures.items in
+    let heir = heir_within c.args.index c.saturating_sub-heir.result c.args.heights.now.items c.remove-height.new.self.items c.saturating_sub-heir.ensures c.requires.several c.requires.inside less in
+    omega (
+      arith,
+      rows_joined c.args.index c.saturating_sub-heir.result c.remove-height.result c.index_mut.result.now _ c.args.heights.now.items c.remove-height.new.self.items c.requires.inside less heir
+          (get_or_read c.args.heights.now.items _ _ c.requires.inside c.remove-height.ensures.value 0) (get_or_read c.remove-height.new.self.items _ _ heir c.index_mut.ensures.value 0) c.requires.rows_to,
+    )
 
 pub returns-clause-exact : goal.returns-clause-exact
 returns-clause-exact g c =
-    let test = c.if-index-eq0.false in
-    let some : 0 < c.args.index = omega (arith, test) in
     let less = c.remove-height.ensures.items in
-    let heir : c.args.index - 1 < length c.remove-height.new.self.items =
-    (let long = ap length less in let short = length-remove c.args.heights.now.items c.args.index c.requires.inside in omega (arith, long, short, some, c.requires.inside)) in
-    removal_made c.args.index c.remove-height.result c.index_mut-2.result.now c.args.heights.now.items c.remove-height.new.self.items c.args.shown.now.items c.remove.new.self.items
-    some c.requires.inside c.requires.paired (get_or_read c.args.heights.now.items _ _ c.requires.inside c.remove-height.ensures.value 0)
-    less c.remove.ensures.items (get_or_read c.remove-height.new.self.items _ _ heir c.index_mut-2.ensures.value 0)
+    let heir = heir_within c.args.index c.saturating_sub-heir.result c.args.heights.now.items c.remove-height.new.self.items c.saturating_sub-heir.ensures c.requires.several c.requires.inside less in
+    removal_made c.args.index c.saturating_sub-heir.result c.remove-height.result c.index_mut.result.now c.args.heights.now.items c.remove-height.new.self.items c.args.shown.now.items c.remove.new.self.items
+    c.saturating_sub-heir.ensures c.requires.several c.requires.inside c.requires.paired (get_or_read c.args.heights.now.items _ _ c.requires.inside c.remove-height.ensures.value 0)
+    less c.remove.ensures.items (get_or_read c.remove-height.new.self.items _ _ heir c.index_mut.ensures.value 0)
 
 pub returns-clause-kept : goal.returns-clause-kept
 returns-clause-kept g c = λ rows old.
-    let lengths = lengths_removed c.args.heights.now.items c.remove-height.new.self.items c.args.shown.now.items c.remove.new.self.items c.args.index (c.args.index - 1)
-    (c.index_mut-2.result.now + (c.remove-height.result + 1)) c.remove-height.ensures.items c.remove.ensures.items c.requires.paired c.requires.inside in
-    removal_keeps c.args.heights.now.items _ c.args.shown.now.items c.remove.new.self.items c.args.index (c.args.index - 1) rows old c.requires.several lengths.0 lengths.1 refl (returns-clause-exact g c)
+    let lengths = lengths_removed c.args.heights.now.items c.remove-height.new.self.items c.args.shown.now.items c.remove.new.self.items c.args.index c.saturating_sub-heir.result
+    (c.index_mut.result.now + (c.remove-height.result + 1)) c.remove-height.ensures.items c.remove.ensures.items c.requires.paired c.requires.inside in
+    removal_keeps c.args.heights.now.items _ c.args.shown.now.items c.remove.new.self.items c.args.index c.saturating_sub-heir.result rows old c.requires.several lengths.0 lengths.1 c.saturating_sub-heir.ensures (returns-clause-exact g c)
