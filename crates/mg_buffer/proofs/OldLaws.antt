@@ -6,7 +6,7 @@ use Rattle.std.specs.List.{list_any, AllByRecursion}
 use Rattle.std.specs.FinMap as finite_map
 use Rattle.std.specs.FinSet as finite_set
 use Rattle.std.proofs.lemmas.Bool.{or_right}
-use Rattle.indexmap.specs.IndexSet.{insert_key}
+use Rattle.mg_slots.specs.Slots.{with_element, with_elements}
 use Rattle.rga_ops.specs.Identifier.{Identifier, is_id}
 use Rattle.rga_ops.specs.Content.{Element, Content, clock_of, join, single, content_of}
 use Rattle.rga_ops.specs.declared.op.Op.{Op}
@@ -18,7 +18,7 @@ use Rattle.rga_ops.proofs.OperationLaws.{single_holds}
 use Rattle.rga_doc.specs.UndoGroup.{inserted_elements, deleted_elements, element_characters}
 use Rattle.rga_doc.proofs.UndoLists.{contains-operations}
 use Rattle.mg_buffer.specs.Groups.{past_of, stand_in}
-use Rattle.mg_buffer.specs.Slots.{AreOld, deleted_ones, with_elements, with_past}
+use Rattle.mg_buffer.specs.Slots.{AreOld, deleted_ones, with_past}
 
 -- ---- the clock goes on
 
@@ -37,7 +37,7 @@ still_old c d elements h = all_map (λ (id : Identifier). id.counter ≤ clock_o
 
 -- ---- more elements
 
-with_one : (n : ℕ) (elements : List Identifier) (id : Identifier) → AllByRecursion (λ (x : Identifier). x.counter ≤ n) elements → id.counter ≤ n → AllByRecursion (λ (x : Identifier). x.counter ≤ n) (insert_key is_id elements id)
+with_one : (n : ℕ) (elements : List Identifier) (id : Identifier) → AllByRecursion (λ (x : Identifier). x.counter ≤ n) elements → id.counter ≤ n → AllByRecursion (λ (x : Identifier). x.counter ≤ n) (with_element elements id)
 with_one n elements id h old = elim (list_any (is_id id) elements) as (λ b. AllByRecursion (λ (x : Identifier). x.counter ≤ n) (if b then elements else elements ++ id ∷ [])) [
   | true ↦ h
   | false ↦ all_append (λ (x : Identifier). x.counter ≤ n) elements (id ∷ []) h (old, tt)
@@ -45,7 +45,7 @@ with_one n elements id h old = elim (list_any (is_id id) elements) as (λ b. All
 
 pub with_old : (c : Content) (elements ids : List Identifier) → AreOld c elements → AreOld c ids → AreOld c (with_elements elements ids)
 with_old c elements [] h old = h
-with_old c elements (id ∷ ids) h old = with_old c (insert_key is_id elements id) ids (with_one (clock_of c) elements id h old.0) old.1
+with_old c elements (id ∷ ids) h old = with_old c (with_element elements id) ids (with_one (clock_of c) elements id h old.0) old.1
 
 -- ---- those of operations
 

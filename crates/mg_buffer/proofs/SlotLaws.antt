@@ -5,9 +5,9 @@ use Rattle.std.specs.Option.{unwrap_or}
 use Rattle.std.specs.List.{slice_get, list_any, AllByRecursion}
 use Rattle.std.proofs.lemmas.Option.{slice_get-get_or, slice_get_within}
 use Rattle.std.proofs.lemmas.List.{map-append, take_more}
-use Rattle.indexmap.specs.IndexSet.{insert_key}
+use Rattle.mg_slots.specs.Slots.{with_element, with_elements}
 use Rattle.rga_ops.specs.Identifier.{Identifier, is_id, root}
-use Rattle.mg_buffer.specs.Slots.{element_in, deleted_by, AreIn, AreDeletedIn, with_elements}
+use Rattle.mg_buffer.specs.Slots.{element_in, deleted_by, AreIn, AreDeletedIn}
 
 -- ---- lists that grow
 
@@ -18,7 +18,7 @@ pub record Grows (old new : List Identifier) : Type 0 where
 pub grows_on : (xs ys zs : List Identifier) → Grows xs ys → Grows ys zs → Grows xs zs
 grows_on xs ys zs g h = record { more = g.more ++ h.more; parts = h.parts ∙ ap (λ l. l ++ h.more) g.parts ∙ append_assoc xs g.more h.more }
 
-pub grows_one : (elements : List Identifier) (id : Identifier) → Grows elements (insert_key is_id elements id)
+pub grows_one : (elements : List Identifier) (id : Identifier) → Grows elements (with_element elements id)
 grows_one elements id = elim (list_any (is_id id) elements) as (λ b. Grows elements (if b then elements else elements ++ id ∷ [])) [
   | true ↦ record { more = []; parts = sym (append-nil elements) }
   | false ↦ record { more = id ∷ []; parts = refl }
@@ -26,7 +26,7 @@ grows_one elements id = elim (list_any (is_id id) elements) as (λ b. Grows elem
 
 pub grows_all : (elements ids : List Identifier) → Grows elements (with_elements elements ids)
 grows_all elements [] = record { more = []; parts = sym (append-nil elements) }
-grows_all elements (id ∷ ids) = grows_on elements (insert_key is_id elements id) (with_elements elements (id ∷ ids)) (grows_one elements id) (grows_all (insert_key is_id elements id) ids)
+grows_all elements (id ∷ ids) = grows_on elements (with_element elements id) (with_elements elements (id ∷ ids)) (grows_one elements id) (grows_all (with_element elements id) ids)
 
 pub longer : (old new : List Identifier) → Grows old new → length old ≤ length new
 longer old new g = omega (arith, ap length g.parts, length-append old g.more)

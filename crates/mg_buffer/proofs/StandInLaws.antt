@@ -1,12 +1,8 @@
 -- What restores an element takes its slot, so that in all groups it stands for it.
-use Rattle.std.proofs.Common.{◌≡◌, ℕ, suc, ◌+◌, ◌-◌, ◌<◌, ◌≤◌, ◌||◌, not, true, false, cond, List, [], ◌∷◌, ◌++◌, map, filter, take, get_or, length, refl, sym, ap, ◌∙◌, subst, arith, true≢false, slice_set, nat_lt, length-append, take_at, inl, inr}
-use Rattle.std.specs.Prelude.{Some, None, if◌then◌else◌}
-use Rattle.std.specs.Option.{option_map_or}
-use Rattle.std.specs.List.{list_any, position, position_or_len, swap_remove, AllByRecursion, IsDistinct}
-use Rattle.std.proofs.Math.Seq.{get_or-append_seam}
-use Rattle.std.proofs.lemmas.Bool.{lt-ltb, false_from_ne_true, or_cases, or_left, or_right, or_parts}
-use Rattle.std.proofs.lemmas.List.{set-append_left, length-set}
-use Rattle.indexmap.specs.IndexSet.{swap_remove_by}
+use Rattle.std.proofs.Common.{◌≡◌, ℕ, ◌+◌, ◌<◌, ◌≤◌, ◌||◌, true, false, cond, List, [], ◌∷◌, ◌++◌, map, filter, refl, sym, ap, ◌∙◌, subst, arith, true≢false, inl, inr}
+use Rattle.std.specs.Prelude.{if◌then◌else◌}
+use Rattle.std.specs.List.{list_any, AllByRecursion}
+use Rattle.std.proofs.lemmas.Bool.{false_from_ne_true, or_cases, or_left, or_right, or_parts}
 use Rattle.rga_ops.specs.Identifier.{Identifier, identifier, is_id}
 use Rattle.rga_ops.specs.Content.{Content, clock_of}
 use Rattle.rga_ops.specs.Places.{is_visible}
@@ -38,61 +34,9 @@ pub all_instead : (op : Op) (ops : List Op) → IsLast op ops → (elements : Li
 all_instead op ops last [] = refl
 all_instead op ops last (id ∷ ids) = λ k. stand_in_turn op ops id last k ∷ all_instead op ops last ids k
 
--- ---- the last of a list in the place of another
-
 -- what one element gives way to
 abbrev way : Identifier → Identifier → Identifier → Identifier
 way old new id = if is_id old id then new else id
-
--- the element is in the list, so that is how far it is looked for, also in a longer one
-record IsAt (old new : Identifier) (elements : List Identifier) : Type 0 where
-  within : position_or_len (is_id old) elements < length elements
-  first : (ys : List Identifier) → position_or_len (is_id old) (elements ++ ys) ≡ position_or_len (is_id old) elements
-  put : slice_set elements (position_or_len (is_id old) elements) new ≡ map (way old new) elements
-
-unchanged : (old new : Identifier) (elements : List Identifier) → AllByRecursion (λ y. is_id old y ≡ false) elements → elements ≡ map (way old new) elements
-unchanged old new [] h = refl
-unchanged old new (y ∷ ys) h = λ k. (if sym h.0 k then new else y) ∷ unchanged old new ys h.1 k
-
-is_at : (old new : Identifier) (elements : List Identifier) → IsDistinct is_id elements → list_any (is_id old) elements ≡ true → IsAt old new elements
-unfolding IsDistinct
-is_at old new [] apart h = absurd (true≢false (sym h))
-is_at old new (y ∷ ys) apart h = elim (is_id old y) as (λ b. is_id old y ≡ b → (b || list_any (is_id old) ys) ≡ true → IsAt old new (y ∷ ys)) [
-  | true ↦ λ e t.
-      let here : position_or_len (is_id old) (y ∷ ys) ≡ 0 = ap (λ b. cond (not b) (1 + position_or_len (is_id old) ys) 0) e in
-      let others : AllByRecursion (λ z. is_id old z ≡ false) ys = subst (λ x. AllByRecursion (λ z. is_id x z ≡ false) ys) (sym (is_id-is old y e)) apart.0 in
-      record {
-        within = omega (arith, here);
-        first = λ zs. ap (λ b. cond (not b) (1 + position_or_len (is_id old) (ys ++ zs)) 0) e ∙ sym here;
-        put = ap (λ q. slice_set (y ∷ ys) q new) here ∙ (λ k. (if sym e k then new else y) ∷ unchanged old new ys others k);
-      }
-  | false ↦ λ e t.
-      let there : IsAt old new ys = is_at old new ys apart.1 t in
-      let later : position_or_len (is_id old) (y ∷ ys) ≡ 1 + position_or_len (is_id old) ys = ap (λ b. cond (not b) (1 + position_or_len (is_id old) ys) 0) e in
-      let next : position_or_len (is_id old) (y ∷ ys) ≡ suc (position_or_len (is_id old) ys) = omega (arith, later) in
-      record {
-        within = omega (arith, later, there.within);
-        first = λ zs. ap (λ b. cond (not b) (1 + position_or_len (is_id old) (ys ++ zs)) 0) e ∙ ap (λ q. 1 + q) (there.first zs) ∙ sym later;
-        put = ap (λ q. slice_set (y ∷ ys) q new) next ∙ (λ k. (if sym e k then new else y) ∷ there.put k);
-      }
-] refl h
-
-pub last_instead : (old new : Identifier) (elements : List Identifier) → IsDistinct is_id elements → list_any (is_id old) elements ≡ true → swap_remove_by (is_id old) (elements ++ new ∷ []) ≡ map (way old new) elements
-last_instead old new [] apart h = absurd (true≢false (sym h))
-last_instead old new (y ∷ ys) apart h =
-    let at : IsAt old new (y ∷ ys) = is_at old new (y ∷ ys) apart h in
-    let all : List Identifier = (y ∷ ys) ++ new ∷ [] in
-    let q : ℕ = position_or_len (is_id old) (y ∷ ys) in
-    let long : length all ≡ length (y ∷ ys) + 1 = length-append (y ∷ ys) (new ∷ []) in
-    let within : nat_lt (position_or_len (is_id old) all) (length all) ≡ true = lt-ltb _ _ (omega (arith, at.first (new ∷ []), at.within, long)) in
-    let found : position (is_id old) all ≡ Some q = ap (λ b. cond b (Some (position_or_len (is_id old) all)) None) within ∙ ap Some (at.first (new ∷ [])) in
-    let behind : length all - 1 ≡ length (y ∷ ys) = omega (arith, long) in
-    let last : get_or all (length all - 1) y ≡ new = ap (λ n. get_or all n y) behind ∙ get_or-append_seam (y ∷ ys) new [] y in
-    ap (λ o. option_map_or (λ i. swap_remove all i y) o all) found
-    ∙ (λ k. take (behind k) (slice_set all q (last k)))
-    ∙ ap (take (length (y ∷ ys))) (set-append_left (y ∷ ys) (new ∷ []) q new at.within)
-    ∙ take_at (slice_set (y ∷ ys) q new) (new ∷ []) (length (y ∷ ys)) (length-set (y ∷ ys) q new)
-    ∙ at.put
 
 -- ---- what a revert inserts stands for what it restores
 

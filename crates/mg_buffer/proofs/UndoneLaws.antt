@@ -15,7 +15,8 @@ use Rattle.rga_ops.proofs.MemberLaws.{all_map}
 use Rattle.rga_doc.specs.Revert.{are_restorable, revert_operations}
 use Rattle.rga_doc.proofs.UndoLists.{as_many_inserted}
 use Rattle.mg_buffer.specs.Groups.{Past, past_of, with_group, are_revertible, stand_in, substituted, all_substituted}
-use Rattle.mg_buffer.specs.Slots.{Slotted, element_in, deleted_by, past_by, pasts_by, AreFilled, AreOld, AreStandIns, deleted_ones, with_elements}
+use Rattle.mg_slots.specs.Slots.{with_elements}
+use Rattle.mg_buffer.specs.Slots.{Slotted, element_in, deleted_by, past_by, pasts_by, AreFilled, AreOld, AreStandIns, deleted_ones}
 use Rattle.mg_buffer.proofs.GroupLaws.{revertible_at}
 use Rattle.mg_buffer.proofs.HistoryLaws.{filled_at, map-with_group}
 use Rattle.mg_buffer.proofs.OldLaws.{with_old, substituted_old}

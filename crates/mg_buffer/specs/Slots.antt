@@ -1,13 +1,13 @@
 -- Undo groups by slots. A slot stands for an element, and for another one once that restores it: so no group changes.
-use Rattle.std.specs.Prelude.{◌≡◌, ℕ, ◌<◌, ◌≤◌, true, false, List, [], ◌∷◌, map, length, Option, Some, refl, if◌then◌else◌}
+use Rattle.std.specs.Prelude.{◌≡◌, ℕ, ◌<◌, ◌≤◌, ◌+◌, Bool, true, false, List, [], ◌∷◌, map, length, Option, Some, refl, if◌then◌else◌}
 use Rattle.std.specs.Option.{unwrap_or}
 use Rattle.std.specs.List.{slice_get, list_any, AllByRecursion}
 use Rattle.std.specs.Coded.{Coded, code_by, coded×, coded_ℕ, coded_list}
-use Rattle.indexmap.specs.IndexSet.{insert_all}
 use Rattle.rga_ops.specs.Identifier.{Identifier, root, is_id}
 use Rattle.rga_ops.specs.Content.{Content, clock_of}
 use Rattle.rga_ops.specs.declared.op.Op.{Op}
 use Rattle.rga_ops.specs.declared.op.Op.TheVariants.{Insert, Delete}
+use Rattle.mg_slots.specs.Slots.{IsRow, SlotList, first_counter, with_elements}
 use Rattle.mg_buffer.specs.Groups.{Past, stand_in}
 
 -- the slots of the elements that a command or an undo inserted, and of those that it deleted, with their characters
@@ -59,15 +59,25 @@ AreDeletedIn elements slots deleted =
 
 -- ---- more elements, and others
 
-abbrev pub with_elements : List Identifier → List Identifier → List Identifier
-with_elements elements ids = insert_all is_id elements ids
-
 abbrev pub deleted_ones : List (Identifier × ℕ) → List Identifier
 deleted_ones deleted = map (λ (d : Identifier × ℕ). d.0) deleted
 
 -- those of what a command or an undo did
 abbrev pub with_past : List Identifier → Past → List Identifier
 with_past elements g = with_elements (with_elements elements g.inserted) (deleted_ones g.deleted)
+
+-- there is room for so many more
+pub record HasSpace (s : SlotList) (count : ℕ) : Type 0 where
+  pub places : count ≤ s.room
+  pub entries : count ≤ s.entries
+
+-- the same for elements that go in, as a row or one by one, and so many others
+pub record HasSpaceFor (s : SlotList) (is_row : Bool) (ids : List Identifier) (more : ℕ) : Type 0 where
+  pub places : length ids + more ≤ s.room
+  pub entries : (if is_row then more else length ids + more) ≤ s.entries
+  pub rows : 0 < s.rows
+  pub row : is_row ≡ true → IsRow ids
+  pub above : is_row ≡ true → s.greatest < first_counter ids
 
 -- what an operation that restores an element puts in its place
 abbrev pub instead : Op → Identifier → Identifier

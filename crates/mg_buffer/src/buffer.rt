@@ -55,11 +55,11 @@ impl<S: TextStore> Model for Buffer<S> {
 
     ghost view = { λ b. state b.doc (string_bytes b.name) b.point.element
         (option_map (λ m. m.element) b.mark)
-        (pasts_by b.history.elements.keys b.history.groups.items)
+        (pasts_by b.history.elements.elements b.history.groups.items)
         b.undone b.unsaved.items };
 
     ghost invariant = { λ b. IsKept b.doc b.point b.line b.mark
-        b.history.elements.keys b.history.groups.items b.listed };
+        b.history.elements.elements b.history.groups.items b.listed };
 }
 
 impl<S: TextStore> Buffer<S> {

@@ -1,16 +1,17 @@
 //! What commands and undos did, oldest first.
-ghost use Rattle.std.specs.Prelude.{◌≡◌, ◌<◌, ◌≤◌, ◌+◌, [], map, length, Some, IfOk, IfErr};
+ghost use Rattle.std.specs.Prelude.{◌≡◌, ◌<◌, ◌≤◌, ◌+◌, [], true, false, map, length, Some, IfOk, IfErr};
 ghost use Rattle.std.specs.List.{slice_get};
 ghost use Rattle.std.specs.Vec.{vec_len, vec_capacity};
 ghost use Rattle.rga_doc.specs.UndoGroup.{inserted_elements};
 ghost use Rattle.mg_buffer.specs.Groups.{all_substituted, stand_in, with_group};
 ghost use Rattle.mg_buffer.specs.Room.{HasRoom};
-ghost use Rattle.mg_buffer.specs.Slots.{AreFilled, AreStandIns, Slotted, deleted_ones, past_by, pasts_by, with_elements, with_past};
+ghost use Rattle.mg_slots.specs.Slots.{with_elements};
+ghost use Rattle.mg_buffer.specs.Slots.{AreFilled, AreStandIns, Slotted, deleted_ones, past_by, pasts_by, with_past};
 
 use crate::change::Change;
 use crate::group::Group;
-use crate::slots::{push_deleted, push_same, push_slots, replace_all};
-use indexmap::IndexSet;
+use crate::slots::{push_deleted, push_inserted, push_same, replace_all};
+use mg_slots::Slots;
 use rga_ops::{Id, Op, Refusal};
 use std::alloc::Global;
 
@@ -20,7 +21,7 @@ use std::alloc::Global;
 pub(crate) struct History {
     pub(crate) groups: Vec<Group>,
     /// The elements in the slots.
-    pub(crate) elements: IndexSet<Id>,
+    pub(crate) elements: Slots,
 }
 
 /// The slots of a group that is still empty.
@@ -28,63 +29,76 @@ pub(crate) struct History {
 pub(crate) struct Room {
     pub(crate) inserted: Vec<usize>,
     pub(crate) deleted: Vec<(usize, char)>,
+    /// Whether the inserted elements go into their slots as a row.
+    pub(crate) is_row: bool,
 }
 
 impl History {
     /// No group.
     pub(crate) fn new(alloc: Global) -> History
         ensures groups { result.groups.items ≡ [] }
-        ensures elements { result.elements.keys ≡ [] }
+        ensures elements { result.elements.elements ≡ [] }
     {
         History {
             groups: Vec::new(alloc),
-            elements: IndexSet::new(alloc),
+            elements: Slots::new(alloc),
         }
     }
 
     /// What the group at an index did, by the elements that are in its slots now. `Memory` alone.
     pub(crate) fn change_at(&self, alloc: Global, index: usize) -> Result<Change, Refusal>
         requires within { index < length self.now.groups.items }
-        requires filled { AreFilled self.now.elements.keys self.now.groups.items }
+        requires filled { AreFilled self.now.elements.elements self.now.groups.items }
         ensures ok { IfOk result (λ change. slice_get
-            (pasts_by self.now.elements.keys self.now.groups.items) index ≡ Some change) }
+            (pasts_by self.now.elements.elements self.now.groups.items) index ≡ Some change) }
         ensures memory { IfErr result (λ e. e ≡ Refusal.Memory) }
     {
-        self.groups[index].change(alloc, self.elements.as_slice())
+        self.groups[index].change(alloc, self.elements.elements())
     }
 
-    /// Makes room for the group of a change. `Memory` alone; groups and elements stay.
-    pub(crate) fn room_for(&mut self, alloc: Global, change: &Change) -> Result<Room, Refusal>
+    /// Makes room for the group of a change. Where it restores none, its elements may go in as a
+    /// row. `Memory` alone; groups and elements stay.
+    pub(crate) fn room_for(
+        &mut self,
+        alloc: Global,
+        change: &Change,
+        restores: bool,
+    ) -> Result<Room, Refusal>
         ensures room { IfOk result (λ room. HasRoom self.new room change.now) }
+        ensures single { restores ≡ true → IfOk result (λ room. room.is_row ≡ false) }
         ensures groups { self.new.groups.items ≡ self.old.groups.items }
-        ensures elements { self.new.elements.keys ≡ self.old.elements.keys }
+        ensures elements { self.new.elements.elements ≡ self.old.elements.elements }
         ensures memory { IfErr result (λ e. e ≡ Refusal.Memory) }
     {
         let inserted = change.inserted.as_slice().len();
         let deleted = change.deleted.as_slice().len();
+        let is_row = !restores && self.elements.takes_row(&change.inserted);
+        let entries = if is_row { deleted } else { inserted + deleted };
         self.groups.reserve(1)?;
-        self.elements.reserve(inserted + deleted)?;
+        self.elements.reserve(inserted + deleted, entries)?;
         Ok(Room {
             inserted: Vec::with_capacity(alloc, inserted)?,
             deleted: Vec::with_capacity(alloc, deleted)?,
+            is_row,
         })
     }
 
     /// Adds the group of what a command did, unless there was no operation. There is room.
     pub(crate) fn add(&mut self, room: Room, change: &Change, ops: &[Op])
         requires room { HasRoom self.old room change.now }
-        requires filled { AreFilled self.old.elements.keys self.old.groups.items }
-        ensures pasts { pasts_by self.new.elements.keys self.new.groups.items
-            ≡ with_group (pasts_by self.old.elements.keys self.old.groups.items) change.now ops.now }
-        ensures elements { self.new.elements.keys
-            ≡ with_past self.old.elements.keys change.now }
-        ensures filled { AreFilled self.new.elements.keys self.new.groups.items }
+        requires filled { AreFilled self.old.elements.elements self.old.groups.items }
+        ensures pasts { pasts_by self.new.elements.elements self.new.groups.items
+            ≡ with_group (pasts_by self.old.elements.elements self.old.groups.items) change.now ops.now }
+        ensures elements { self.new.elements.elements
+            ≡ with_past self.old.elements.elements change.now }
+        ensures filled { AreFilled self.new.elements.elements self.new.groups.items }
     {
         let Room {
             mut inserted,
             mut deleted,
+            is_row,
         } = room;
-        push_slots(&mut inserted, &mut self.elements, &change.inserted);
+        push_inserted(&mut inserted, &mut self.elements, &change.inserted, is_row);
         push_deleted(&mut deleted, &mut self.elements, &change.deleted);
         add_group(&mut self.groups, Group { inserted, deleted }, ops);
     }
@@ -94,25 +108,27 @@ impl History {
     pub(crate) fn add_undo(&mut self, index: usize, room: Room, change: &Change, ops: &[Op])
         requires within { index < length self.old.groups.items }
         requires room { HasRoom self.old room change.now }
-        requires filled { AreFilled self.old.elements.keys self.old.groups.items }
+        requires single { room.is_row ≡ false }
+        requires filled { AreFilled self.old.elements.elements self.old.groups.items }
         requires restored { (g : Slotted) → slice_get self.old.groups.items index ≡ Some g →
             length g.deleted ≡ length change.now.inserted }
         requires inserted { inserted_elements ops.now ≡ change.now.inserted }
         requires stand_ins { AreStandIns
-            (with_elements self.old.elements.keys (deleted_ones change.now.deleted)) ops.now }
+            (with_elements self.old.elements.elements (deleted_ones change.now.deleted)) ops.now }
         ensures pasts { (g : Slotted) → slice_get self.old.groups.items index ≡ Some g →
-            let old = self.old.elements.keys in
+            let old = self.old.elements.elements in
             let restored = deleted_ones (past_by old g).deleted in
-            pasts_by self.new.elements.keys self.new.groups.items
+            pasts_by self.new.elements.elements self.new.groups.items
             ≡ all_substituted (stand_in ops.now) (with_group (pasts_by old self.old.groups.items)
             (record { inserted = restored; deleted = change.now.deleted }) ops.now) }
-        ensures elements { self.new.elements.keys ≡ map (stand_in ops.now)
-            (with_elements self.old.elements.keys (deleted_ones change.now.deleted)) }
-        ensures filled { AreFilled self.new.elements.keys self.new.groups.items }
+        ensures elements { self.new.elements.elements ≡ map (stand_in ops.now)
+            (with_elements self.old.elements.elements (deleted_ones change.now.deleted)) }
+        ensures filled { AreFilled self.new.elements.elements self.new.groups.items }
     {
         let Room {
             mut inserted,
             mut deleted,
+            ..
         } = room;
         push_same(&mut inserted, &self.groups[index].deleted);
         push_deleted(&mut deleted, &mut self.elements, &change.deleted);

@@ -82,6 +82,7 @@ impl<S: TextStore> Buffer<S> {
             &mut self.history,
             &mut self.unsaved,
             &ops,
+            false,
         )?;
         let stays = least_begin(self.line.place, splices);
         let line = self.line.moved(self.doc.characters(), stays);

@@ -1,46 +1,83 @@
 //! Slots, each of which stands for an element, and later for the one that restores it.
-ghost use Rattle.std.specs.Prelude.{◌≡◌, ◌<◌, ◌≤◌, ◌+◌, [], ◌∷◌, true, false, if◌then◌else◌, map, length, Some};
-ghost use Rattle.std.specs.List.{list_any, slice_get};
+ghost use Rattle.std.specs.Prelude.{◌≡◌, ◌<◌, ◌≤◌, ◌+◌, ℕ, [], ◌∷◌, map, length};
 ghost use Rattle.std.specs.Vec.{vec_capacity};
-ghost use Rattle.indexmap.specs.IndexSet.{insert_key, spare};
-ghost use Rattle.rga_ops.specs.Identifier.{is_id};
 ghost use Rattle.rga_doc.specs.UndoGroup.{inserted_elements};
+ghost use Rattle.mg_slots.specs.Slots.{IsRow, first_counter, with_elements};
 ghost use Rattle.mg_buffer.specs.Groups.{stand_in};
-ghost use Rattle.mg_buffer.specs.Slots.{AreDeletedIn, AreIn, AreStandIns, IsStandIn, deleted_ones, instead, with_elements};
+ghost use Rattle.mg_buffer.specs.Slots.{AreDeletedIn, AreIn, AreStandIns, HasSpace, HasSpaceFor, IsStandIn, deleted_ones, instead};
 
-use indexmap::IndexSet;
+use mg_slots::Slots;
 use rga_ops::{Id, Op};
 
-/// Adds the slots of elements to an empty list. Those that have none get one. There is room.
-pub(crate) fn push_slots(slots: &mut Vec<usize>, elements: &mut IndexSet<Id>, ids: &[Id])
+/// Adds the slots of inserted elements to an empty list; as a row, if they are one. There is room.
+pub(crate) fn push_inserted(slots: &mut Vec<usize>, elements: &mut Slots, ids: &[Id], is_row: bool)
     requires empty { slots.old.items ≡ [] }
     requires room { length ids.now ≤ vec_capacity slots.old }
-    requires spare { length ids.now ≤ spare elements.old }
-    ensures slots { AreIn elements.new.keys slots.new.items ids.now }
-    ensures elements { elements.new.keys ≡ with_elements elements.old.keys ids.now }
-    ensures spare { spare elements.old ≤ spare elements.new + length ids.now }
+    requires space { HasSpaceFor elements.old is_row ids.now 0 }
+    ensures slots { AreIn elements.new.elements slots.new.items ids.now }
+    ensures elements { elements.new.elements ≡ with_elements elements.old.elements ids.now }
+    ensures space { (more : ℕ) → HasSpaceFor elements.old is_row ids.now more →
+        HasSpace elements.new more }
+{
+    if is_row {
+        push_row(slots, elements, ids);
+    } else {
+        push_slots(slots, elements, ids);
+    }
+}
+
+/// Adds the slots of a row of elements to an empty list. There is room.
+fn push_row(slots: &mut Vec<usize>, elements: &mut Slots, ids: &[Id])
+    requires empty { slots.old.items ≡ [] }
+    requires room { length ids.now ≤ vec_capacity slots.old }
+    requires row { IsRow ids.now }
+    requires above { elements.old.greatest < first_counter ids.now }
+    requires places { length ids.now ≤ elements.old.room }
+    requires rows { 0 < elements.old.rows }
+    ensures slots { AreIn elements.new.elements slots.new.items ids.now }
+    ensures elements { elements.new.elements ≡ with_elements elements.old.elements ids.now }
+    ensures places { elements.old.room ≤ elements.new.room + length ids.now }
+    ensures entries { elements.old.entries ≤ elements.new.entries }
+{
+    let first = elements.push_row(ids);
+    let count = elements.elements().len();
+    for slot in first..count {
+        slots.push_reserved(slot);
+    }
+}
+
+/// Adds the slots of elements to an empty list. Those that have none get one. There is room.
+fn push_slots(slots: &mut Vec<usize>, elements: &mut Slots, ids: &[Id])
+    requires empty { slots.old.items ≡ [] }
+    requires room { length ids.now ≤ vec_capacity slots.old }
+    requires places { length ids.now ≤ elements.old.room }
+    requires entries { length ids.now ≤ elements.old.entries }
+    ensures slots { AreIn elements.new.elements slots.new.items ids.now }
+    ensures elements { elements.new.elements ≡ with_elements elements.old.elements ids.now }
+    ensures places { elements.old.room ≤ elements.new.room + length ids.now }
+    ensures entries { elements.old.entries ≤ elements.new.entries + length ids.now }
 {
     for id in ids {
-        slots.push_reserved(slot_of(elements, *id));
+        slots.push_reserved(elements.slot_of(*id));
     }
 }
 
 /// The same of elements with their characters.
 pub(crate) fn push_deleted(
     slots: &mut Vec<(usize, char)>,
-    elements: &mut IndexSet<Id>,
+    elements: &mut Slots,
     deleted: &[(Id, char)],
 )
     requires empty { slots.old.items ≡ [] }
     requires room { length deleted.now ≤ vec_capacity slots.old }
-    requires spare { length deleted.now ≤ spare elements.old }
-    ensures slots { AreDeletedIn elements.new.keys slots.new.items deleted.now }
-    ensures elements { elements.new.keys
-        ≡ with_elements elements.old.keys (deleted_ones deleted.now) }
-    ensures spare { spare elements.old ≤ spare elements.new + length deleted.now }
+    requires space { HasSpace elements.old (length deleted.now) }
+    ensures slots { AreDeletedIn elements.new.elements slots.new.items deleted.now }
+    ensures elements { elements.new.elements
+        ≡ with_elements elements.old.elements (deleted_ones deleted.now) }
+    ensures entries { elements.old.entries ≤ elements.new.entries + length deleted.now }
 {
     for (id, ch) in deleted {
-        slots.push_reserved((slot_of(elements, *id), *ch));
+        slots.push_reserved((elements.slot_of(*id), *ch));
     }
 }
 
@@ -56,10 +93,10 @@ pub(crate) fn push_same(slots: &mut Vec<usize>, deleted: &[(usize, char)])
 }
 
 /// Puts what restores an element into its slot, by each operation in turn. There is room.
-pub(crate) fn replace_all(elements: &mut IndexSet<Id>, ops: &[Op])
-    requires stand_ins { AreStandIns elements.old.keys ops.now }
-    requires spare { length (inserted_elements ops.now) ≤ spare elements.old }
-    ensures { elements.new.keys ≡ map (stand_in ops.now) elements.old.keys }
+pub(crate) fn replace_all(elements: &mut Slots, ops: &[Op])
+    requires stand_ins { AreStandIns elements.old.elements ops.now }
+    requires entries { length (inserted_elements ops.now) ≤ elements.old.entries }
+    ensures { elements.new.elements ≡ map (stand_in ops.now) elements.old.elements }
 {
     for op in ops {
         replace_by(elements, op);
@@ -67,44 +104,15 @@ pub(crate) fn replace_all(elements: &mut IndexSet<Id>, ops: &[Op])
 }
 
 /// Puts what an operation restores an element by into its slot, if it does. There is room.
-fn replace_by(elements: &mut IndexSet<Id>, op: &Op)
-    requires able { IsStandIn elements.old.keys op.now }
-    requires spare { length (inserted_elements (op.now ∷ [])) ≤ spare elements.old }
-    ensures elements { elements.new.keys ≡ map (instead op.now) elements.old.keys }
-    ensures spare { spare elements.old
-        ≤ spare elements.new + length (inserted_elements (op.now ∷ [])) }
+fn replace_by(elements: &mut Slots, op: &Op)
+    requires able { IsStandIn elements.old.elements op.now }
+    requires entries { length (inserted_elements (op.now ∷ [])) ≤ elements.old.entries }
+    ensures elements { elements.new.elements ≡ map (instead op.now) elements.old.elements }
+    ensures entries { elements.old.entries
+        ≤ elements.new.entries + length (inserted_elements (op.now ∷ [])) }
 {
     match op {
-        Op::Insert { id, parent, .. } => replace(elements, *parent, *id),
+        Op::Insert { id, parent, .. } => elements.replace(*parent, *id),
         Op::Delete { .. } => {}
-    }
-}
-
-/// Puts another element into the slot of one. There is room.
-fn replace(elements: &mut IndexSet<Id>, old: Id, new: Id)
-    requires there { list_any (is_id old) elements.old.keys ≡ true }
-    requires newcomer { list_any (is_id new) elements.old.keys ≡ false }
-    requires spare { 0 < spare elements.old }
-    ensures elements { elements.new.keys
-        ≡ map (λ id. if is_id old id then new else id) elements.old.keys }
-    ensures spare { spare elements.old ≤ spare elements.new + 1 }
-{
-    // `len` says that no element is there twice.
-    let _count = elements.len();
-    // The newcomer is the last one, and so takes the place of what goes.
-    let _last = slot_of(elements, new);
-    let _went = elements.swap_remove(&old);
-}
-
-/// The slot of an element, which gets one if it has none. There is room.
-fn slot_of(elements: &mut IndexSet<Id>, id: Id) -> usize
-    requires { 0 < spare elements.old }
-    ensures slot { slice_get elements.new.keys result ≡ Some id }
-    ensures elements { elements.new.keys ≡ insert_key is_id elements.old.keys id }
-    ensures spare { spare elements.old ≤ spare elements.new + 1 }
-{
-    match elements.insert_full(id) {
-        Ok((slot, _)) => slot,
-        Err(_) => unreachable!(),
     }
 }

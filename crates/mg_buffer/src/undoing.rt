@@ -95,6 +95,7 @@ impl<S: TextStore> Buffer<S> {
             &mut self.history,
             &mut self.unsaved,
             &ops,
+            true,
         )?;
         let front = self
             .doc

@@ -1,7 +1,8 @@
 use Rattle.std.proofs.Common.{◌≡◌, ◌+◌, ℕ, List, ◌∷◌, [], ◌++◌, take, drop, ap, ◌∙◌, sym, subst, arith}
 use Rattle.rga_ops.specs.Identifier.{Identifier}
 use Rattle.rga_doc.proofs.RevertSets.{from}
-use Rattle.mg_buffer.specs.Slots.{AreDeletedIn, deleted_ones, with_elements}
+use Rattle.mg_slots.specs.Slots.{with_elements}
+use Rattle.mg_buffer.specs.Slots.{AreDeletedIn, deleted_ones}
 use Rattle.mg_buffer.proofs.SlotLaws.{Grows, grows_one, deleted_more, taken_more}
 use Rattle.mg_buffer.proofs.slots.push_deleted.Goals as goal
 
@@ -10,8 +11,8 @@ loop-id-preserved c =
     let deleted : List (Identifier × ℕ) = c.args.deleted.now in
     let i : ℕ = c.loop-id.id-index in
     let d : Identifier × ℕ = c.loop-id-item.result in
-    let old : List Identifier = c.loop-id.elements.keys in
-    let new : List Identifier = c.slot_of.new.elements.keys in
+    let old : List Identifier = c.loop-id.elements.elements in
+    let new : List Identifier = c.slot_of.new.self.elements in
     let grows : Grows old new = subst (Grows old) (sym c.slot_of.ensures.elements) (grows_one old d.0) in
     let items : c.push_reserved.new.self.items ≡ c.loop-id.slots.items ++ (c.slot_of.result, d.1) ∷ [] = c.push_reserved.ensures.items in
     record {
@@ -22,7 +23,8 @@ loop-id-preserved c =
       elements =
           ap (λ xs. with_elements xs (deleted_ones (drop (i + 1) deleted))) c.slot_of.ensures.elements
           ∙ ap (λ xs. with_elements old (deleted_ones xs)) (sym (from deleted i d c.loop-id-test.true c.loop-id-item.is)) ∙ c.loop-id.invariant.elements;
-      spare = omega (arith, c.loop-id.invariant.spare, c.slot_of.ensures.spare);
+      places = omega (arith, c.loop-id.invariant.places, c.slot_of.ensures.room);
+      entries = omega (arith, c.loop-id.invariant.entries, c.slot_of.ensures.entries);
       len = omega (arith, c.push_reserved.ensures.len, c.loop-id.invariant.len);
       capacity = omega (arith, c.push_reserved.ensures.capacity, c.loop-id.invariant.capacity);
     }

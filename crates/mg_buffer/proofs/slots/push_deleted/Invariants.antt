@@ -1,14 +1,15 @@
 use Rattle.std.proofs.Common.{◌≡◌, ◌≤◌, ◌+◌, take, drop, vec_len, vec_capacity}
-use Rattle.indexmap.specs.IndexSet.{spare}
-use Rattle.mg_buffer.specs.Slots.{AreDeletedIn, deleted_ones, with_elements}
+use Rattle.mg_slots.specs.Slots.{with_elements}
+use Rattle.mg_buffer.specs.Slots.{AreDeletedIn, deleted_ones}
 use Rattle.mg_buffer.proofs.slots.push_deleted.Given as goal
 
 -- the slots so far are those of the elements so far, and those that are left are still to go in
 abbrev pub invariant-loop-id : goal.invariant-loop-id
 invariant-loop-id l = record {
-  slots : AreDeletedIn l.elements.keys l.slots.items (take l.id-index l.deleted);
-  elements : with_elements l.elements.keys (deleted_ones (drop l.id-index l.deleted)) ≡ with_elements l.fn.elements.keys (deleted_ones l.deleted);
-  spare : spare l.fn.elements ≤ spare l.elements + l.id-index;
+  slots : AreDeletedIn l.elements.elements l.slots.items (take l.id-index l.deleted);
+  elements : with_elements l.elements.elements (deleted_ones (drop l.id-index l.deleted)) ≡ with_elements l.fn.elements.elements (deleted_ones l.deleted);
+  places : l.fn.elements.room ≤ l.elements.room + l.id-index;
+  entries : l.fn.elements.entries ≤ l.elements.entries + l.id-index;
   len : vec_len l.slots ≡ l.id-index;
   capacity : vec_capacity l.fn.slots ≤ vec_capacity l.slots;
 }

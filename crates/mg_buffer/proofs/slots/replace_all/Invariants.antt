@@ -1,5 +1,4 @@
 use Rattle.std.proofs.Common.{◌≡◌, ◌≤◌, map, drop, length}
-use Rattle.indexmap.specs.IndexSet.{spare}
 use Rattle.rga_doc.specs.UndoGroup.{inserted_elements}
 use Rattle.mg_buffer.specs.Groups.{stand_in}
 use Rattle.mg_buffer.specs.Slots.{AreStandIns}
@@ -8,7 +7,7 @@ use Rattle.mg_buffer.proofs.slots.replace_all.Given as goal
 -- what the operations that are left put in is all that was wanted
 abbrev pub invariant-loop-op : goal.invariant-loop-op
 invariant-loop-op l = record {
-  stand_ins : AreStandIns l.elements.keys (drop l.op-index l.ops);
-  all : map (stand_in (drop l.op-index l.ops)) l.elements.keys ≡ map (stand_in l.ops) l.fn.elements.keys;
-  spare : length (inserted_elements (drop l.op-index l.ops)) ≤ spare l.elements;
+  stand_ins : AreStandIns l.elements.elements (drop l.op-index l.ops);
+  all : map (stand_in (drop l.op-index l.ops)) l.elements.elements ≡ map (stand_in l.ops) l.fn.elements.elements;
+  entries : length (inserted_elements (drop l.op-index l.ops)) ≤ l.elements.entries;
 }

@@ -29,11 +29,11 @@ invariant_of-self-2 g c =
     ∙ (λ k. join (drafted k).content (content_of ((c.deref-2.ensures.value ∙ c.in_ok-ops.ensures.operations) k))) in
     let change : c.in_ok-change.change ≡ past_of before.content ops =
     c.in_ok-change.ensures.change ∙ (λ k. past_of ((c.store.ensures.content ∙ ap (λ (d : Document). d.content) drafted) k) ((c.deref.ensures.value ∙ c.in_ok-ops.ensures.operations) k)) in
-    let elements : List Identifier = c.self.inside.history.elements.keys in
+    let elements : List Identifier = c.self.inside.history.elements.elements in
     let groups : List Slotted = c.self.inside.history.groups.items in
-    let known : c.add.new.self.elements.keys ≡ with_past elements (past_of before.content ops) =
+    let known : c.add.new.self.elements.elements ≡ with_past elements (past_of before.content ops) =
     c.add.ensures.elements ∙ (λ k. with_past (c.in_ok-change.ensures.elements k) (change k)) in
-    let pasts : pasts_by c.add.new.self.elements.keys c.add.new.self.groups.items ≡ with_group (pasts_by elements groups) (past_of before.content ops) ops =
+    let pasts : pasts_by c.add.new.self.elements.elements c.add.new.self.groups.items ≡ with_group (pasts_by elements groups) (past_of before.content ops) ops =
     c.add.ensures.pasts ∙ (λ k. with_group (pasts_by (c.in_ok-change.ensures.elements k) (c.in_ok-change.ensures.groups k)) (change k) ((c.deref-3.ensures.value ∙ c.in_ok-ops.ensures.operations) k)) in
     record {
       point_stands = search (rules, stands_if_placed);
@@ -41,7 +41,7 @@ invariant_of-self-2 g c =
       line_known = subst (λ xs. IsLine xs c.moved-self-inside.result) c.characters-2.ensures c.moved-self-inside.ensures.line;
       filled = c.add.ensures.filled;
       old =
-          subst (λ d. AreOld d c.add.new.self.elements.keys) (sym content)
+          subst (λ d. AreOld d c.add.new.self.elements.elements) (sym content)
           (subst (AreOld (join before.content (content_of ops))) (sym known) (past_old before.content ops elements c.self.invariant.old));
       revertible = (λ k. are_revertible (content k) (pasts k))
           ∙ edited_revertible before.limit before.replica before.content c.args.splices.now (pasts_by elements groups) c.in_ok-ops.ensures.exact c.self.invariant.revertible;
@@ -56,16 +56,16 @@ invariant_of-self-2 g c =
 -- ---- elements and groups are as they were until there is room and the operations are taken
 
 pub add-requires-clause-filled : goal.add-requires-clause-filled
-add-requires-clause-filled g c = filled_still c.self.inside.history.elements.keys c.prepare.new.history.elements.keys c.self.inside.history.groups.items c.prepare.new.history.groups.items c.prepare.ensures.elements c.prepare.ensures.groups c.self.invariant.filled
+add-requires-clause-filled g c = filled_still c.self.inside.history.elements.elements c.prepare.new.history.elements.elements c.self.inside.history.groups.items c.prepare.new.history.groups.items c.prepare.ensures.elements c.prepare.ensures.groups c.self.invariant.filled
 
 pub invariant_of-self-in_err-change : goal.invariant_of-self-in_err-change
 invariant_of-self-in_err-change g c =
-    kept_unlisted c.self.inside.history.elements.keys c.prepare.new.history.elements.keys c.self.inside.history.groups.items c.prepare.new.history.groups.items c.prepare.ensures.elements c.prepare.ensures.groups
+    kept_unlisted c.self.inside.history.elements.elements c.prepare.new.history.elements.elements c.self.inside.history.groups.items c.prepare.new.history.groups.items c.prepare.ensures.elements c.prepare.ensures.groups
     c.self.inside.doc c.draft.new.self c.self.inside.point c.self.inside.line c.self.inside.mark c.self.inside.listed c.self.invariant (ap (λ (d : Document). d.content) c.in_ok-ops.ensures.listed)
 
 pub invariant_of-self-in_err-take : goal.invariant_of-self-in_err-take
 invariant_of-self-in_err-take g c =
-    kept_unlisted c.self.inside.history.elements.keys c.prepare.new.history.elements.keys c.self.inside.history.groups.items c.prepare.new.history.groups.items c.prepare.ensures.elements c.prepare.ensures.groups
+    kept_unlisted c.self.inside.history.elements.elements c.prepare.new.history.elements.elements c.self.inside.history.groups.items c.prepare.new.history.groups.items c.prepare.ensures.elements c.prepare.ensures.groups
     c.self.inside.doc c.take.new.self c.self.inside.point c.self.inside.line c.self.inside.mark c.self.inside.listed c.self.invariant (ap (λ (d : Document). d.content) (c.in_err-take.ensures.same ∙ c.in_ok-ops.ensures.listed))
 
 -- ---- the places are in the new text

@@ -18,7 +18,7 @@ one_group groups pasts i taken undone same here there = same_Some undone taken (
 
 pub change_at-requires-clause-within : goal.change_at-requires-clause-within
 change_at-requires-clause-within g c =
-    within_still c.self.inside.history.elements.keys c.self.inside.history.elements.keys c.self.inside.history.groups.items c.self.inside.history.groups.items refl refl c.args.index c.args.self.now.groups
+    within_still c.self.inside.history.elements.elements c.self.inside.history.elements.elements c.self.inside.history.groups.items c.self.inside.history.groups.items refl refl c.args.index c.args.self.now.groups
     (ap (λ (b : State). b.groups) c.self.view_is) c.requires
 
 pub revert_change-requires-clause-at : goal.revert_change-requires-clause-at
@@ -27,13 +27,13 @@ revert_change-requires-clause-at g c = sym (ap (λ (b : State). slice_get b.grou
 pub returns-clause-exact : goal.returns-clause-exact
 returns-clause-exact g c = λ taken at.
     subst (λ (x : Past). IsAnswer c.revert_change.result (growth_answer c.args.self.now (length x.deleted)))
-    (one_group (pasts_by c.self.inside.history.elements.keys c.self.inside.history.groups.items) c.args.self.now.groups c.args.index taken c.in_ok-undone.undone (ap (λ (b : State). b.groups) c.self.view_is) at c.in_ok-undone.ensures.ok)
+    (one_group (pasts_by c.self.inside.history.elements.elements c.self.inside.history.groups.items) c.args.self.now.groups c.args.index taken c.in_ok-undone.undone (ap (λ (b : State). b.groups) c.self.view_is) at c.in_ok-undone.ensures.ok)
     c.revert_change.ensures.exact
 
 pub returns-clause-reverted : goal.returns-clause-reverted
 returns-clause-reverted g c =
     on_ok_weaker c.revert_change.result
     (λ done taken at. subst (λ (x : Past). Reverted c.args.index x c.args.self.now c.revert_change.new.self)
-    (one_group (pasts_by c.self.inside.history.elements.keys c.self.inside.history.groups.items) c.args.self.now.groups c.args.index taken c.in_ok-undone.undone (ap (λ (b : State). b.groups) c.self.view_is) at c.in_ok-undone.ensures.ok)
+    (one_group (pasts_by c.self.inside.history.elements.elements c.self.inside.history.groups.items) c.args.self.now.groups c.args.index taken c.in_ok-undone.undone (ap (λ (b : State). b.groups) c.self.view_is) at c.in_ok-undone.ensures.ok)
     done)
     c.revert_change.ensures.reverted

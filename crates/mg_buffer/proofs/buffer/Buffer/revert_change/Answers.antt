@@ -17,7 +17,8 @@ use Rattle.mg_buffer.specs.declared.marker.Marker.{Marker}
 use Rattle.mg_buffer.specs.Faults.{growth_answer}
 use Rattle.mg_buffer.specs.Groups.{Past, past_of, with_group, are_revertible, stand_in, all_substituted, point_after}
 use Rattle.mg_buffer.specs.Kept.{IsLine, stands}
-use Rattle.mg_buffer.specs.Slots.{Slotted, AreOld, AreStandIns, deleted_ones, past_by, pasts_by, with_elements}
+use Rattle.mg_slots.specs.Slots.{with_elements}
+use Rattle.mg_buffer.specs.Slots.{Slotted, AreOld, AreStandIns, deleted_ones, past_by, pasts_by}
 use Rattle.mg_buffer.specs.State.{State, state}
 use Rattle.mg_buffer.specs.Undid.{undo_operations}
 use Rattle.mg_buffer.proofs.GroupLaws.{revert_answer_is, reverted_revertible, point_stands, mark_stands_still}
@@ -28,7 +29,7 @@ use Rattle.mg_buffer.proofs.buffer.Buffer.revert_change.Goals as goal
 pub returns-in_err-ops-clause-exact : goal.returns-in_err-ops-clause-exact
 returns-in_err-ops-clause-exact g c =
     let doc : Document = c.self.inside.doc in
-    let pasts : List Past = pasts_by c.self.inside.history.elements.keys c.self.inside.history.groups.items in
+    let pasts : List Past = pasts_by c.self.inside.history.elements.elements c.self.inside.history.groups.items in
     let undone : Past = c.args.undone.now in
     let there : slice_get pasts c.args.index ≡ Some undone = (ap (λ (b : State). slice_get b.groups c.args.index) c.self.view_is ∙ c.requires.at) in
     let back : c.deref-2.result.now ≡ undone.deleted = c.deref-2.ensures.value ∙ ap (λ (x : Past). x.deleted) c.undone.view_is in
@@ -41,7 +42,7 @@ returns-in_err-ops-clause-exact g c =
 pub returns-clause-exact : goal.returns-clause-exact
 returns-clause-exact g c =
     let doc : Document = c.self.inside.doc in
-    let pasts : List Past = pasts_by c.self.inside.history.elements.keys c.self.inside.history.groups.items in
+    let pasts : List Past = pasts_by c.self.inside.history.elements.elements c.self.inside.history.groups.items in
     let undone : Past = c.args.undone.now in
     let there : slice_get pasts c.args.index ≡ Some undone = (ap (λ (b : State). slice_get b.groups c.args.index) c.self.view_is ∙ c.requires.at) in
     let back : c.deref-2.result.now ≡ undone.deleted = c.deref-2.ensures.value ∙ ap (λ (x : Past). x.deleted) c.undone.view_is in
@@ -60,7 +61,7 @@ add_undo-requires-clause-restored g c = λ x here.
     c.in_ok-ops.ensures.operations ∙ (λ k. revert_operations doc.replica doc.content (gone k) (back k)) in
     let done : c.in_ok-done.done ≡ past_of doc.content (revert_operations doc.replica doc.content undone.inserted undone.deleted) =
     c.in_ok-done.ensures.change ∙ (λ k. past_of (c.store.ensures.content k) ((c.deref-3.ensures.value ∙ made) k)) in
-    as_many_restored doc.replica doc.content c.self.inside.history.elements.keys c.self.inside.history.groups.items c.self.invariant.filled c.self.invariant.old c.self.invariant.revertible c.args.index undone (ap (λ (b : State). slice_get b.groups c.args.index) c.self.view_is ∙ c.requires.at) x
+    as_many_restored doc.replica doc.content c.self.inside.history.elements.elements c.self.inside.history.groups.items c.self.invariant.filled c.self.invariant.old c.self.invariant.revertible c.args.index undone (ap (λ (b : State). slice_get b.groups c.args.index) c.self.view_is ∙ c.requires.at) x
     (ap (λ gs. slice_get gs c.args.index) (sym c.in_ok-done.ensures.groups) ∙ here)
     ∙ ap (λ (x : Past). length x.inserted) (sym done)
 
@@ -74,16 +75,16 @@ add_undo-requires-clause-stand_ins g c =
     let made : c.in_ok-ops.ops.items ≡ ops = c.in_ok-ops.ensures.operations ∙ (λ k. revert_operations doc.replica doc.content (gone k) (back k)) in
     let done : c.in_ok-done.done ≡ past_of doc.content ops =
     c.in_ok-done.ensures.change ∙ (λ k. past_of (c.store.ensures.content k) ((c.deref-3.ensures.value ∙ made) k)) in
-    let known : with_elements c.self.inside.history.elements.keys (deleted_ones (past_of doc.content ops).deleted) ≡ with_elements c.prepare.new.history.elements.keys (deleted_ones c.in_ok-done.done.deleted) =
+    let known : with_elements c.self.inside.history.elements.elements (deleted_ones (past_of doc.content ops).deleted) ≡ with_elements c.prepare.new.history.elements.elements (deleted_ones c.in_ok-done.done.deleted) =
     λ k. with_elements (sym c.in_ok-done.ensures.elements k) (deleted_ones (sym done k).deleted) in
     subst (λ xs. AreStandIns xs c.deref-7.result.now) known
-    (subst (AreStandIns (with_elements c.self.inside.history.elements.keys (deleted_ones (past_of doc.content ops).deleted))) (sym (c.deref-7.ensures.value ∙ made))
-    (they_stand_in doc.replica doc.content c.self.inside.history.elements.keys c.self.inside.history.groups.items c.self.invariant.filled c.self.invariant.old c.self.invariant.revertible c.args.index undone (ap (λ (b : State). slice_get b.groups c.args.index) c.self.view_is ∙ c.requires.at)))
+    (subst (AreStandIns (with_elements c.self.inside.history.elements.elements (deleted_ones (past_of doc.content ops).deleted))) (sym (c.deref-7.ensures.value ∙ made))
+    (they_stand_in doc.replica doc.content c.self.inside.history.elements.elements c.self.inside.history.groups.items c.self.invariant.filled c.self.invariant.old c.self.invariant.revertible c.args.index undone (ap (λ (b : State). slice_get b.groups c.args.index) c.self.view_is ∙ c.requires.at)))
 
 pub invariant_of-self-2 : goal.invariant_of-self-2
 invariant_of-self-2 g c =
     let doc : Document = c.self.inside.doc in
-    let elements : List Identifier = c.self.inside.history.elements.keys in
+    let elements : List Identifier = c.self.inside.history.elements.elements in
     let groups : List Slotted = c.self.inside.history.groups.items in
     let undone : Past = c.args.undone.now in
     let ops : List Op = revert_operations doc.replica doc.content undone.inserted undone.deleted in
@@ -95,11 +96,11 @@ invariant_of-self-2 g c =
     ap (λ (d : Document). d.content) c.in_ok-front.ensures.content ∙ ap (λ xs. join doc.content (content_of xs)) (c.deref-6.ensures.value ∙ made) in
     let done : c.in_ok-done.done ≡ past_of doc.content ops =
     c.in_ok-done.ensures.change ∙ (λ k. past_of (c.store.ensures.content k) ((c.deref-3.ensures.value ∙ made) k)) in
-    let known : c.add_undo.new.self.elements.keys ≡ map (stand_in ops) (with_elements elements (deleted_ones (past_of doc.content ops).deleted)) =
+    let known : c.add_undo.new.self.elements.elements ≡ map (stand_in ops) (with_elements elements (deleted_ones (past_of doc.content ops).deleted)) =
     c.add_undo.ensures.elements ∙ (λ k. map (stand_in ((c.deref-7.ensures.value ∙ made) k)) (with_elements (c.in_ok-done.ensures.elements k) (deleted_ones (done k).deleted))) in
-    let pasts : pasts_by c.add_undo.new.self.elements.keys c.add_undo.new.self.groups.items ≡ all_substituted (stand_in ops) (with_group (pasts_by elements groups) (past_of doc.content ops) ops) =
+    let pasts : pasts_by c.add_undo.new.self.elements.elements c.add_undo.new.self.groups.items ≡ all_substituted (stand_in ops) (with_group (pasts_by elements groups) (past_of doc.content ops) ops) =
     pasts_after doc.replica doc.content elements groups c.self.invariant.filled c.self.invariant.old c.self.invariant.revertible c.args.index undone (ap (λ (b : State). slice_get b.groups c.args.index) c.self.view_is ∙ c.requires.at)
-    (pasts_by c.add_undo.new.self.elements.keys c.add_undo.new.self.groups.items)
+    (pasts_by c.add_undo.new.self.elements.elements c.add_undo.new.self.groups.items)
     (λ x here. c.add_undo.ensures.pasts x (ap (λ gs. slice_get gs c.args.index) c.in_ok-done.ensures.groups ∙ here)
     ∙ (λ k. all_substituted (stand_in ((c.deref-7.ensures.value ∙ made) k))
     (with_group (pasts_by (c.in_ok-done.ensures.elements k) (c.in_ok-done.ensures.groups k))
@@ -112,7 +113,7 @@ invariant_of-self-2 g c =
           (subst (λ d. IsLine (text d) c.args.line) (sym (ap (λ (b : State). b.content) c.self.view_is)) c.requires.line);
       filled = c.add_undo.ensures.filled;
       old =
-          subst (λ d. AreOld d c.add_undo.new.self.elements.keys) (sym whole)
+          subst (λ d. AreOld d c.add_undo.new.self.elements.elements) (sym whole)
           (subst (AreOld (join doc.content (content_of ops))) (sym known)
           (others_old doc.replica doc.content elements groups c.self.invariant.filled c.self.invariant.old c.self.invariant.revertible c.args.index undone (ap (λ (b : State). slice_get b.groups c.args.index) c.self.view_is ∙ c.requires.at)));
       revertible =
@@ -126,7 +127,7 @@ returns-clause-reverted g c =
     let taken : Past = c.args.undone.now in
     let before : State = c.args.self.now in
     let doc : Document = c.self.inside.doc in
-    let elements : List Identifier = c.self.inside.history.elements.keys in
+    let elements : List Identifier = c.self.inside.history.elements.elements in
     let groups : List Slotted = c.self.inside.history.groups.items in
     let undone : Past = c.args.undone.now in
     let ops : List Op = undo_operations before taken in
@@ -142,9 +143,9 @@ returns-clause-reverted g c =
     ap (λ (d : Document). d.content) c.in_ok-front.ensures.content ∙ (λ k. join (c.self.view_is k).content (content_of ((c.deref-6.ensures.value ∙ made ∙ alike) k))) in
     let done : c.in_ok-done.done ≡ past_of doc.content mine =
     c.in_ok-done.ensures.change ∙ (λ k. past_of (c.store.ensures.content k) ((c.deref-3.ensures.value ∙ made) k)) in
-    let pasts : pasts_by c.add_undo.new.self.elements.keys c.add_undo.new.self.groups.items ≡ all_substituted (stand_in mine) (with_group (pasts_by elements groups) (past_of doc.content mine) mine) =
+    let pasts : pasts_by c.add_undo.new.self.elements.elements c.add_undo.new.self.groups.items ≡ all_substituted (stand_in mine) (with_group (pasts_by elements groups) (past_of doc.content mine) mine) =
     pasts_after doc.replica doc.content elements groups c.self.invariant.filled c.self.invariant.old c.self.invariant.revertible c.args.index undone (ap (λ (b : State). slice_get b.groups c.args.index) c.self.view_is ∙ c.requires.at)
-    (pasts_by c.add_undo.new.self.elements.keys c.add_undo.new.self.groups.items)
+    (pasts_by c.add_undo.new.self.elements.elements c.add_undo.new.self.groups.items)
     (λ x here. c.add_undo.ensures.pasts x (ap (λ gs. slice_get gs c.args.index) c.in_ok-done.ensures.groups ∙ here)
     ∙ (λ k. all_substituted (stand_in ((c.deref-7.ensures.value ∙ made) k))
     (with_group (pasts_by (c.in_ok-done.ensures.elements k) (c.in_ok-done.ensures.groups k))
@@ -167,16 +168,16 @@ returns-clause-reverted g c =
 
 pub add_undo-requires-clause-within : goal.add_undo-requires-clause-within
 add_undo-requires-clause-within g c =
-    within_still c.self.inside.history.elements.keys c.prepare.new.history.elements.keys c.self.inside.history.groups.items c.prepare.new.history.groups.items c.prepare.ensures.elements c.prepare.ensures.groups c.args.index c.args.self.now.groups
+    within_still c.self.inside.history.elements.elements c.prepare.new.history.elements.elements c.self.inside.history.groups.items c.prepare.new.history.groups.items c.prepare.ensures.elements c.prepare.ensures.groups c.args.index c.args.self.now.groups
     (ap (λ (b : State). b.groups) c.self.view_is) c.requires.within
 
 pub add_undo-requires-clause-filled : goal.add_undo-requires-clause-filled
 add_undo-requires-clause-filled g c =
-    filled_still c.self.inside.history.elements.keys c.prepare.new.history.elements.keys c.self.inside.history.groups.items c.prepare.new.history.groups.items c.prepare.ensures.elements c.prepare.ensures.groups c.self.invariant.filled
+    filled_still c.self.inside.history.elements.elements c.prepare.new.history.elements.elements c.self.inside.history.groups.items c.prepare.new.history.groups.items c.prepare.ensures.elements c.prepare.ensures.groups c.self.invariant.filled
 
 pub invariant_of-self-in_err-front : goal.invariant_of-self-in_err-front
 invariant_of-self-in_err-front g c =
-    kept_still c.self.inside.history.elements.keys c.prepare.new.history.elements.keys c.self.inside.history.groups.items c.prepare.new.history.groups.items c.prepare.ensures.elements c.prepare.ensures.groups
+    kept_still c.self.inside.history.elements.elements c.prepare.new.history.elements.elements c.self.inside.history.groups.items c.prepare.new.history.groups.items c.prepare.ensures.elements c.prepare.ensures.groups
     c.self.inside.doc c.take_revert.new.self c.self.inside.point c.self.inside.line c.self.inside.mark c.self.inside.listed c.self.invariant c.in_err-front.ensures.same
 
 pub returns-in_err-done-clause-same : goal.returns-in_err-done-clause-same

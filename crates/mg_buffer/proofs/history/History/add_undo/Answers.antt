@@ -13,8 +13,8 @@ use Rattle.mg_buffer.proofs.history.History.add_undo.Goals as goal
 
 pub returns-clause-pasts : goal.returns-clause-pasts
 returns-clause-pasts c = λ g at.
-    let first : List Identifier = c.args.self.now.elements.keys in
-    let between : List Identifier = c.push_deleted.new.elements.keys in
+    let first : List Identifier = c.args.self.now.elements.elements in
+    let between : List Identifier = c.push_deleted.new.elements.elements in
     let groups : List Slotted = c.args.self.now.groups.items in
     let ops : List Op = c.args.ops.now in
     let deleted : List (Identifier × ℕ) = c.args.change.now.deleted in
@@ -30,8 +30,8 @@ returns-clause-pasts c = λ g at.
 
 pub returns-clause-filled : goal.returns-clause-filled
 returns-clause-filled c =
-    let first : List Identifier = c.args.self.now.elements.keys in
-    let between : List Identifier = c.push_deleted.new.elements.keys in
+    let first : List Identifier = c.args.self.now.elements.elements in
+    let between : List Identifier = c.push_deleted.new.elements.elements in
     let groups : List Slotted = c.args.self.now.groups.items in
     let g : Slotted = c.index.result.now in
     let ops : List Op = c.args.ops.now in

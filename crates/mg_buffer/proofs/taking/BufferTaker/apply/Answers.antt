@@ -35,7 +35,7 @@ pub returns-in_err-reserve-clause-follows : goal.returns-in_err-reserve-clause-f
 returns-in_err-reserve-clause-follows g c =
     match_err _ _ c.from_residual-in_err-reserve.result c.from_residual-in_err-reserve.ensures.0
     (follows_same c.args.self.now _
-    (ap (λ (xs : List Op). state c.self.inside.doc (string_bytes c.self.inside.name) c.self.inside.point.element (option_map (λ (m : Marker). m.element) c.self.inside.mark) (pasts_by c.self.inside.history.elements.keys c.self.inside.history.groups.items) c.self.inside.undone xs) c.reserve.ensures.items
+    (ap (λ (xs : List Op). state c.self.inside.doc (string_bytes c.self.inside.name) c.self.inside.point.element (option_map (λ (m : Marker). m.element) c.self.inside.mark) (pasts_by c.self.inside.history.elements.elements c.self.inside.history.groups.items) c.self.inside.undone xs) c.reserve.ensures.items
     ∙ c.self.view_is))
 
 pub returns-in_err-apply-clause-follows : goal.returns-in_err-apply-clause-follows
@@ -43,20 +43,20 @@ returns-in_err-apply-clause-follows g c =
     let doc : c.apply.new.self ≡ c.self.inside.doc = search rules in
     match_err _ _ c.from_residual-in_err-apply.result c.from_residual-in_err-apply.ensures.0
     (follows_same c.args.self.now _
-    ((λ k. state (doc k) (string_bytes c.self.inside.name) c.self.inside.point.element (option_map (λ (m : Marker). m.element) c.self.inside.mark) (pasts_by c.self.inside.history.elements.keys c.self.inside.history.groups.items) c.self.inside.undone (c.reserve.ensures.items k))
+    ((λ k. state (doc k) (string_bytes c.self.inside.name) c.self.inside.point.element (option_map (λ (m : Marker). m.element) c.self.inside.mark) (pasts_by c.self.inside.history.elements.elements c.self.inside.history.groups.items) c.self.inside.undone (c.reserve.ensures.items k))
     ∙ c.self.view_is))
 
 pub invariant_of-self-2 : goal.invariant_of-self-2
 invariant_of-self-2 g c =
     let content : Content = c.self.inside.doc.content in
-    let pasts : List Past = pasts_by c.self.inside.history.elements.keys c.self.inside.history.groups.items in
+    let pasts : List Past = pasts_by c.self.inside.history.elements.elements c.self.inside.history.groups.items in
     let whole : c.apply.new.self.content ≡ join content (single c.args.op) = search rules in
     record {
       point_stands = ap (λ d. stands d c.self.inside.point) whole ∙ stands_still content (single c.args.op) c.self.inside.point.element c.self.invariant.point_stands;
       mark_stands = ap (λ d. option_map_or (stands d) c.self.inside.mark true) whole ∙ mark_stands_still content (single c.args.op) c.self.inside.mark c.self.invariant.mark_stands;
       line_known = first_line (text c.apply.new.self.content) _ refl refl;
       filled = c.self.invariant.filled;
-      old = subst (λ d. AreOld d c.self.inside.history.elements.keys) (sym whole) (still_old content (single c.args.op) c.self.inside.history.elements.keys c.self.invariant.old);
+      old = subst (λ d. AreOld d c.self.inside.history.elements.elements) (sym whole) (still_old content (single c.args.op) c.self.inside.history.elements.elements c.self.invariant.old);
       revertible = ap (λ d. are_revertible d pasts) whole ∙ still_revertible content (single c.args.op) pasts c.self.invariant.revertible;
       at_hand = λ h. absurd (true≢false (sym h));
     }

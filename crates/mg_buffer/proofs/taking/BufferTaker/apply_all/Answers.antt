@@ -41,7 +41,7 @@ pub returns-in_err-reserve-clause-follows : goal.returns-in_err-reserve-clause-f
 returns-in_err-reserve-clause-follows g c =
     match_err _ _ c.from_residual-in_err-reserve.result c.from_residual-in_err-reserve.ensures.0
     (follows_same c.args.self.now _
-    (ap (λ (xs : List Op). state c.self.inside.doc (string_bytes c.self.inside.name) c.self.inside.point.element (option_map (λ (m : Marker). m.element) c.self.inside.mark) (pasts_by c.self.inside.history.elements.keys c.self.inside.history.groups.items) c.self.inside.undone xs) c.reserve.ensures.items
+    (ap (λ (xs : List Op). state c.self.inside.doc (string_bytes c.self.inside.name) c.self.inside.point.element (option_map (λ (m : Marker). m.element) c.self.inside.mark) (pasts_by c.self.inside.history.elements.elements c.self.inside.history.groups.items) c.self.inside.undone xs) c.reserve.ensures.items
     ∙ c.self.view_is))
 
 pub returns-in_err-apply_all-clause-follows : goal.returns-in_err-apply_all-clause-follows
@@ -51,13 +51,13 @@ returns-in_err-apply_all-clause-follows g c =
     let doc : c.apply_all.new.self ≡ c.self.inside.doc = same_document c.self.inside.doc c.apply_all.new.self stays c.apply_all.ensures.limit follows in
     match_err _ _ c.from_residual-in_err-apply_all.result c.from_residual-in_err-apply_all.ensures.0
     (follows_same c.args.self.now _
-    ((λ k. state (doc k) (string_bytes c.self.inside.name) c.self.inside.point.element (option_map (λ (m : Marker). m.element) c.self.inside.mark) (pasts_by c.self.inside.history.elements.keys c.self.inside.history.groups.items) c.self.inside.undone (c.reserve.ensures.items k))
+    ((λ k. state (doc k) (string_bytes c.self.inside.name) c.self.inside.point.element (option_map (λ (m : Marker). m.element) c.self.inside.mark) (pasts_by c.self.inside.history.elements.elements c.self.inside.history.groups.items) c.self.inside.undone (c.reserve.ensures.items k))
     ∙ c.self.view_is))
 
 pub invariant_of-self-2 : goal.invariant_of-self-2
 invariant_of-self-2 g c =
     let content : Content = c.self.inside.doc.content in
-    let pasts : List Past = pasts_by c.self.inside.history.elements.keys c.self.inside.history.groups.items in
+    let pasts : List Past = pasts_by c.self.inside.history.elements.elements c.self.inside.history.groups.items in
     let ops : List Op = c.args.ops.now in
     let whole : c.apply_all.new.self.content ≡ join content (content_of ops) = c.in_ok-apply_all.ensures.whole refl in
     let follows : Follows c.self.inside.doc ops c.apply_all.new.self = c.in_ok-apply_all.ensures.follows in
@@ -68,7 +68,7 @@ invariant_of-self-2 g c =
           (λ none. ap text (whole ∙ ap (λ xs. join content (content_of xs)) none ∙ join_nothing content))
           c.self.invariant.line_known;
       filled = c.self.invariant.filled;
-      old = subst (λ d. AreOld d c.self.inside.history.elements.keys) (sym whole) (still_old content (content_of ops) c.self.inside.history.elements.keys c.self.invariant.old);
+      old = subst (λ d. AreOld d c.self.inside.history.elements.elements) (sym whole) (still_old content (content_of ops) c.self.inside.history.elements.elements c.self.invariant.old);
       revertible = ap (λ d. are_revertible d pasts) whole ∙ still_revertible content (content_of ops) pasts c.self.invariant.revertible;
       at_hand = λ h.
           let none : ops ≡ [] = c.stays_listed-self-inside.ensures.none h in
