@@ -5,7 +5,7 @@ use Rattle.std.specs.Ordering.{is_lt}
 use Rattle.rga_ops.specs.Identifier.{Identifier, id_cmp}
 use Rattle.rga_pages.specs.declared.entry.Record.{Record}
 use Rattle.rga_pages.specs.Pages.{Entries, flat, before, behind, AreOrdered, AreBelow, BeginsWith, StartsAbove, StartsAt, AreFilled, IsPlace}
-use Rattle.rga_pages.proofs.EntryLaws.{ordered_front, ordered_back, before_below}
+use Rattle.rga_pages.proofs.EntryLaws.{ordered_front, ordered_back, before_below, not_less}
 
 pub one_up : (n : ℕ) → suc n ≡ n + 1
 one_up n = omega arith
@@ -89,6 +89,14 @@ module _ (ps : List Entries) (p : ℕ) (d : Entries) (ordered : AreOrdered (flat
         earlier : (page : Entries) → 0 < length page → BeginsWith f page → AreOrdered (flat (take p ps) ++ page) → AreBelow id (flat (take p ps))
         earlier [] some begins o = absurd (omega arith)
         earlier (y ∷ page) some begins o = before_below id (flat (take p ps)) y page o (subst (λ q. is_lt (id_cmp id q) ≡ false) begins h)
+
+    -- what is above a page's entries is above all those before
+    pub page_below : 0 < length (slice_index_or ps p d) → AreBelow id (slice_index_or ps p d) → AreBelow id (flat (take p ps))
+    page_below some below = earlier (slice_index_or ps p d) some below as_far
+      where
+        earlier : (page : Entries) → 0 < length page → AreBelow id page → AreOrdered (flat (take p ps) ++ page) → AreBelow id (flat (take p ps))
+        earlier [] some below o = absurd (omega arith)
+        earlier (y ∷ page) some below o = before_below id (flat (take p ps)) y page o (not_less (id_cmp id y.0) below.0)
 
     pub first_above : (f : Identifier) → 0 < length (slice_index_or ps p d) → BeginsWith f (slice_index_or ps p d) → is_lt (id_cmp id f) ≡ true → StartsAbove id (flat (drop p ps))
     first_above f some begins h = subst (StartsAbove id) (sym (rest_of ps p d w)) (later (slice_index_or ps p d) some begins)

@@ -8,7 +8,7 @@ ghost use Rattle.rga_pages.specs.Pages.{flat, record_of, before, behind, AreFill
 
 use crate::entry::Record;
 use crate::page::{MOST, Page};
-use crate::search::find;
+use crate::search::{find, find_or_end};
 use crate::spot::Spot;
 use rga_ops::{Id, Refusal};
 use std::alloc::Global;
@@ -40,7 +40,7 @@ pub(crate) fn insert(
             found: true,
         });
     }
-    let spot = find(pages, last, id);
+    let spot = find_or_end(pages, last, id);
     if has_room(pages, spot) {
         write(pages, spot, id, value)?;
         return Ok(spot);

@@ -25,6 +25,27 @@ pub(crate) fn find(pages: &Vec<Page>, last: Spot, id: Id) -> Spot
     find_in(pages, page, guess(pages, page, id), id)
 }
 
+/// Where an identifier is, or where it would come in. One above all others is not looked for.
+pub(crate) fn find_or_end(pages: &Vec<Page>, last: Spot, id: Id) -> Spot
+    requires ordered { AreOrdered (flat pages.now.items) }
+    requires filled { AreFilled pages.now.items }
+    requires some { 0 < vec_len pages.now }
+    ensures page { result.page < vec_len pages.now }
+    ensures spot { IsSpot pages.now.items result.page result.index result.found id }
+{
+    let page = pages.len() - 1;
+    let entries = pages[page].entries();
+    let index = entries.len();
+    if is_behind(entries, index, id) {
+        return Spot {
+            page,
+            index,
+            found: false,
+        };
+    }
+    find(pages, last, id)
+}
+
 /// About where in a page an identifier is, if counters rise evenly from that of the page's first
 /// identifier to that of the next page's; the end in the last page.
 fn guess(pages: &Vec<Page>, page: usize, id: Id) -> usize
