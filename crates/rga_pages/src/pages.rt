@@ -80,6 +80,7 @@ impl Pages {
 
     /// An identifier gets its record. `Memory` alone, which changes nothing, and only where it had
     /// none.
+    #[inline(always)]
     pub fn insert(&mut self, id: Id, value: Record) -> Result<(), Refusal>
         ensures entries { OnOk result (self.new ≡ insert_entry id_cmp self.old id value) }
         ensures updates { OnOk result (Updates self.old self.new id (Some value)) }

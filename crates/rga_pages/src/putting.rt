@@ -8,7 +8,7 @@ ghost use Rattle.rga_pages.specs.Pages.{flat, record_of, before, behind, AreFill
 
 use crate::entry::Record;
 use crate::page::{MOST, Page};
-use crate::search::{find, find_or_end};
+use crate::search::{end_for, find};
 use crate::spot::Spot;
 use rga_ops::{Id, Refusal};
 use std::alloc::Global;
@@ -17,7 +17,32 @@ use std::alloc::Global;
 const FEWEST: usize = 8;
 
 /// An identifier gets its record. Answers where it is. `Memory` alone, and only where it had none.
+#[inline(always)]
 pub(crate) fn insert(
+    alloc: Global,
+    pages: &mut Vec<Page>,
+    last: Spot,
+    id: Id,
+    value: Record,
+) -> Result<Spot, Refusal>
+    requires { ArePages pages.old.items }
+    ensures ok { OnOk result
+        (flat pages.new.items ≡ insert_entry id_cmp (flat pages.old.items) id value) }
+    ensures err { OnErr result (flat pages.new.items ≡ flat pages.old.items) }
+    ensures absent { OnErr result (record_of id (flat pages.old.items) ≡ None) }
+    ensures kept { ArePages pages.new.items }
+    ensures memory { IfErr result (λ e. e ≡ Refusal.Memory) }
+{
+    if let Some(end) = end_for(pages, id) {
+        write(pages, end, id, value)?;
+        return Ok(end);
+    }
+    insert_where_it_is(alloc, pages, last, id, value)
+}
+
+/// An identifier gets its record, where it is looked for. Answers where it is.
+#[inline(never)]
+fn insert_where_it_is(
     alloc: Global,
     pages: &mut Vec<Page>,
     last: Spot,
@@ -40,7 +65,7 @@ pub(crate) fn insert(
             found: true,
         });
     }
-    let spot = find_or_end(pages, last, id);
+    let spot = find(pages, last, id);
     if has_room(pages, spot) {
         write(pages, spot, id, value)?;
         return Ok(spot);

@@ -1,5 +1,5 @@
 //! Where an identifier is.
-ghost use Rattle.std.specs.Prelude.{◌≡◌, ◌≤◌, ◌<◌, ◌+◌, length, vec_len, true, false, take, drop};
+ghost use Rattle.std.specs.Prelude.{◌≡◌, ◌≤◌, ◌<◌, ◌+◌, length, vec_len, true, false, take, drop, IfSome};
 ghost use Rattle.std.specs.Ordering.{is_gt, is_lt};
 ghost use Rattle.rga_ops.specs.Identifier.{id_cmp};
 ghost use Rattle.rga_pages.specs.Pages.{flat, record_of, AreOrdered, AreBelow, StartsFrom, StartsAbove, StartsAt, AreFilled, IsSpot};
@@ -25,25 +25,32 @@ pub(crate) fn find(pages: &Vec<Page>, last: Spot, id: Id) -> Spot
     find_in(pages, page, guess(pages, page, id), id)
 }
 
-/// Where an identifier is, or where it would come in. One above all others is not looked for.
-pub(crate) fn find_or_end(pages: &Vec<Page>, last: Spot, id: Id) -> Spot
+/// Where an identifier would come in that is above all others, if there is room in the last page.
+#[inline(always)]
+pub(crate) fn end_for(pages: &Vec<Page>, id: Id) -> Option<Spot>
     requires ordered { AreOrdered (flat pages.now.items) }
     requires filled { AreFilled pages.now.items }
-    requires some { 0 < vec_len pages.now }
-    ensures page { result.page < vec_len pages.now }
-    ensures spot { IsSpot pages.now.items result.page result.index result.found id }
+    ensures page { IfSome result (λ at. at.page < vec_len pages.now) }
+    ensures spot { IfSome result (λ at. IsSpot pages.now.items at.page at.index at.found id) }
 {
-    let page = pages.len() - 1;
+    let count = pages.len();
+    if count == 0 {
+        return None;
+    }
+    let page = count - 1;
     let entries = pages[page].entries();
     let index = entries.len();
+    if index >= MOST {
+        return None;
+    }
     if is_behind(entries, index, id) {
-        return Spot {
+        return Some(Spot {
             page,
             index,
             found: false,
-        };
+        });
     }
-    find(pages, last, id)
+    None
 }
 
 /// About where in a page an identifier is, if counters rise evenly from that of the page's first
