@@ -124,6 +124,11 @@ here (x ∷ xs) (suc i) id h =
 pub index_there : (xs : Entries) (i : ℕ) (id : Identifier) → StartsAt id (drop i xs) → i < length xs
 index_there xs i id h = (here xs i id h).within
 
+pub starts_at : (xs : Entries) (i : ℕ) (e : Identifier × Record) (id : Identifier) → i < length xs → (slice_index_or xs i e).0 ≡ id → StartsAt id (drop i xs)
+starts_at [] i e id w h = absurd (omega arith)
+starts_at (x ∷ xs) zero e id w h = h
+starts_at (x ∷ xs) (suc i) e id w h = starts_at xs i e id (omega arith) h
+
 -- the entry that stands there
 pub record Stood (ps : List Entries) (p i : ℕ) (id : Identifier) : Type 0 where
   pub entry : Identifier × Record

@@ -8,9 +8,9 @@ ghost use Rattle.rga_pages.specs.Pages.{flat, record_of, noted, AreOrdered, Upda
 
 use crate::entry::Record;
 use crate::page::Page;
-use crate::putting::{insert, overwrite};
+use crate::putting::{insert, overwrite, write};
 use crate::removing::remove_at;
-use crate::search::{find, record_at};
+use crate::search::{end_for, find, record_at};
 use crate::spot::Spot;
 use rga_ops::{Id, Refusal};
 use std::alloc::Global;
@@ -90,6 +90,11 @@ impl Pages {
         ensures was_ordered { AreOrdered self.old }
         ensures memory { IfErr result (λ e. e ≡ Refusal.Memory) }
     {
+        if let Some(end) = end_for(&self.pages, id) {
+            write(&mut self.pages, end, id, value)?;
+            self.last = end;
+            return Ok(());
+        }
         let spot = insert(self.alloc, &mut self.pages, self.last, id, value)?;
         self.last = spot;
         Ok(())

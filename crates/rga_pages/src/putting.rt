@@ -8,7 +8,7 @@ ghost use Rattle.rga_pages.specs.Pages.{flat, record_of, before, behind, AreFill
 
 use crate::entry::Record;
 use crate::page::{MOST, Page};
-use crate::search::{end_for, find};
+use crate::search::find;
 use crate::spot::Spot;
 use rga_ops::{Id, Refusal};
 use std::alloc::Global;
@@ -16,33 +16,10 @@ use std::alloc::Global;
 /// How many entries each part of a full page has at least where it is cut.
 const FEWEST: usize = 8;
 
-/// An identifier gets its record. Answers where it is. `Memory` alone, and only where it had none.
-#[inline(always)]
-pub(crate) fn insert(
-    alloc: Global,
-    pages: &mut Vec<Page>,
-    last: Spot,
-    id: Id,
-    value: Record,
-) -> Result<Spot, Refusal>
-    requires { ArePages pages.old.items }
-    ensures ok { OnOk result
-        (flat pages.new.items ≡ insert_entry id_cmp (flat pages.old.items) id value) }
-    ensures err { OnErr result (flat pages.new.items ≡ flat pages.old.items) }
-    ensures absent { OnErr result (record_of id (flat pages.old.items) ≡ None) }
-    ensures kept { ArePages pages.new.items }
-    ensures memory { IfErr result (λ e. e ≡ Refusal.Memory) }
-{
-    if let Some(end) = end_for(pages, id) {
-        write(pages, end, id, value)?;
-        return Ok(end);
-    }
-    insert_where_it_is(alloc, pages, last, id, value)
-}
-
-/// An identifier gets its record, where it is looked for. Answers where it is.
+/// An identifier gets its record, where it is looked for. Answers where it is. `Memory` alone, and
+/// only where it had none.
 #[inline(never)]
-fn insert_where_it_is(
+pub(crate) fn insert(
     alloc: Global,
     pages: &mut Vec<Page>,
     last: Spot,
@@ -99,7 +76,7 @@ fn has_room(pages: &Vec<Page>, at: Spot) -> bool
 
 /// An identifier gets its record at its spot.
 #[inline(always)]
-fn write(pages: &mut Vec<Page>, at: Spot, id: Id, value: Record) -> Result<(), Refusal>
+pub(crate) fn write(pages: &mut Vec<Page>, at: Spot, id: Id, value: Record) -> Result<(), Refusal>
     requires kept { ArePages pages.old.items }
     requires page { at.page < vec_len pages.old }
     requires spot { IsSpot pages.old.items at.page at.index at.found id }
