@@ -1,6 +1,6 @@
 //! Insertions of a list of which each is the parent of the next, taken some at once: their entries
 //! go into the sequence in one piece.
-ghost use Rattle.std.specs.Prelude.{◌≡◌, ◌≢◌, ◌≤◌, ◌++◌, ◌∷◌, [], Ok, true, false, length, take, drop, IfSome, IfOk, OnOk, OnErr, IfErr};
+ghost use Rattle.std.specs.Prelude.{◌≡◌, ◌≢◌, ◌≤◌, ◌++◌, ◌∷◌, [], Ok, true, false, length, take, drop, IfSome, IfOk, OnOk, OnErr, IfErr, ◌+◌, ◌<◌, min, vec_len, vec_capacity};
 ghost use Rattle.std.specs.FinSet as finite_set;
 ghost use Rattle.rga_ops.specs.Content.{join, single, clock_of};
 ghost use Rattle.rga_ops.specs.Answer.{answer};
@@ -54,7 +54,9 @@ pub(crate) fn take_chain<'a>(
     };
     let near = sequence.near(parent, found);
     let before = steps.as_slice().len();
-    let mut entries = Vec::with_capacity(alloc, MOST_AT_ONCE.min(ops.len()))?;
+    let most = MOST_AT_ONCE.min(ops.len());
+    let mut entries = Vec::with_capacity(alloc, most)?;
+    steps.reserve(most)?;
     let gathered = gather(records, waiting, parent, near, ops, steps, &mut entries);
     if gathered.is_err() {
         remove_from(records, steps, before);
@@ -88,7 +90,7 @@ fn parent_of_chain(ops: &[Op]) -> Option<Id> {
 }
 
 /// Takes insertions into the records, the first behind a parent and each other behind the one before
-/// it, and notes them. `Memory` alone; those before stay.
+/// it, and notes them, for which there is room. `Memory` alone; those before stay.
 fn gather<'a>(
     records: &mut Records,
     waiting: &BTreeMap<Id, Vec<Id>>,
@@ -101,6 +103,9 @@ fn gather<'a>(
     requires back { CanGoBack steps.old.items records.old.content }
     requires above { is_above records.old.content parent ≡ true }
     requires none { entries.old.items ≡ [] }
+    requires room { min MOST_AT_ONCE (length ops.now) ≤ vec_capacity entries.old }
+    requires steps_room { vec_len steps.old + min MOST_AT_ONCE (length ops.now)
+        ≤ vec_capacity steps.old }
     ensures gathered { IsGathered records.old.limit records.old.content records.new.content
         (take (length entries.new.items) ops.now) steps.old.items steps.new.items }
     ensures shows { ChainShows records.old.content records.new.content parent entries.new.items
@@ -129,6 +134,7 @@ fn gather<'a>(
 }
 
 /// The entry of an insertion behind a parent, if it is new and nothing waits for it. Takes no memory.
+#[inline(always)]
 fn next_entry(
     records: &mut Records,
     waiting: &BTreeMap<Id, Vec<Id>>,
@@ -165,8 +171,9 @@ fn next_entry(
     Some(Entry { id, ch, deleted })
 }
 
-/// Takes an insertion that is new into the records, and notes it. `Memory` alone, which changes
-/// nothing.
+/// Takes an insertion that is new into the records, and notes it, for which there is room. `Memory`
+/// alone, which changes nothing.
+#[inline(always)]
 fn add<'a>(
     records: &mut Records,
     parent: Id,
@@ -181,6 +188,8 @@ fn add<'a>(
         (Op.Insert entry.now.id parent entry.now.ch) ≡ Ok Taken.New }
     requires deleted { entry.now.deleted
         ≡ finite_set.contains records.old.content.deleted entry.now.id }
+    requires room { vec_len entries.old < vec_capacity entries.old }
+    requires steps_room { vec_len steps.old < vec_capacity steps.old }
     ensures ok { OnOk result (records.new.content
         ≡ join records.old.content (single (Op.Insert entry.now.id parent entry.now.ch))) }
     ensures steps { OnOk result (steps.new.items ≡ steps.old.items ++ record {
@@ -191,15 +200,15 @@ fn add<'a>(
     ensures same { OnErr result (records.new.content ≡ records.old.content) }
     ensures same_steps { OnErr result (steps.new.items ≡ steps.old.items) }
     ensures same_entries { OnErr result (entries.new.items ≡ entries.old.items) }
+    ensures capacity { vec_capacity entries.new ≡ vec_capacity entries.old }
+    ensures steps_capacity { vec_capacity steps.new ≡ vec_capacity steps.old }
     ensures limit { records.new.limit ≡ records.old.limit }
     ensures memory { IfErr result (λ e. e ≡ Refusal.Memory) }
 {
-    entries.reserve(1)?;
-    steps.reserve(1)?;
     let clock = records.clock();
     records.insert(entry.id, parent, entry.ch, near, entry.deleted)?;
     note(steps, op, clock);
-    let _room = entries.push(*entry);
+    entries.push_reserved(*entry);
     Ok(())
 }
 

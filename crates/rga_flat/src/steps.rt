@@ -11,9 +11,11 @@ pub(crate) struct Step<'a> {
 }
 
 /// Notes an operation, for which there is room.
+#[inline(always)]
 pub(crate) fn note<'a>(steps: &mut Vec<Step<'a>>, op: &'a Op, clock: u64)
     requires { vec_len steps.old < vec_capacity steps.old }
-    ensures { steps.new.items ≡ steps.old.items ++ record { op = op.entry; clock = clock } ∷ [] }
+    ensures noted { steps.new.items ≡ steps.old.items ++ record { op = op.entry; clock = clock } ∷ [] }
+    ensures capacity { vec_capacity steps.new ≡ vec_capacity steps.old }
 {
-    let _room = steps.push(Step { op, clock });
+    steps.push_reserved(Step { op, clock });
 }

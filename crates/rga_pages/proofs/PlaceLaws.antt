@@ -5,7 +5,7 @@ use Rattle.std.specs.Ordering.{is_lt}
 use Rattle.rga_ops.specs.Identifier.{Identifier, id_cmp}
 use Rattle.rga_pages.specs.declared.entry.Record.{Record}
 use Rattle.rga_pages.specs.Pages.{Entries, flat, before, behind, AreOrdered, AreBelow, BeginsWith, StartsAbove, StartsAt, AreFilled, IsPlace}
-use Rattle.rga_pages.proofs.EntryLaws.{ordered_front, ordered_back, before_below}
+use Rattle.rga_pages.proofs.EntryLaws.{ordered_front, ordered_back, before_below, not_less}
 
 pub one_up : (n : ℕ) → suc n ≡ n + 1
 one_up n = omega arith
@@ -90,6 +90,14 @@ module _ (ps : List Entries) (p : ℕ) (d : Entries) (ordered : AreOrdered (flat
         earlier [] some begins o = absurd (omega arith)
         earlier (y ∷ page) some begins o = before_below id (flat (take p ps)) y page o (subst (λ q. is_lt (id_cmp id q) ≡ false) begins h)
 
+    -- what is above a page's entries is above all those before
+    pub page_below : 0 < length (slice_index_or ps p d) → AreBelow id (slice_index_or ps p d) → AreBelow id (flat (take p ps))
+    page_below some below = earlier (slice_index_or ps p d) some below as_far
+      where
+        earlier : (page : Entries) → 0 < length page → AreBelow id page → AreOrdered (flat (take p ps) ++ page) → AreBelow id (flat (take p ps))
+        earlier [] some below o = absurd (omega arith)
+        earlier (y ∷ page) some below o = before_below id (flat (take p ps)) y page o (not_less (id_cmp id y.0) below.0)
+
     pub first_above : (f : Identifier) → 0 < length (slice_index_or ps p d) → BeginsWith f (slice_index_or ps p d) → is_lt (id_cmp id f) ≡ true → StartsAbove id (flat (drop p ps))
     first_above f some begins h = subst (StartsAbove id) (sym (rest_of ps p d w)) (later (slice_index_or ps p d) some begins)
       where
@@ -115,6 +123,11 @@ here (x ∷ xs) (suc i) id h =
 
 pub index_there : (xs : Entries) (i : ℕ) (id : Identifier) → StartsAt id (drop i xs) → i < length xs
 index_there xs i id h = (here xs i id h).within
+
+pub starts_at : (xs : Entries) (i : ℕ) (e : Identifier × Record) (id : Identifier) → i < length xs → (slice_index_or xs i e).0 ≡ id → StartsAt id (drop i xs)
+starts_at [] i e id w h = absurd (omega arith)
+starts_at (x ∷ xs) zero e id w h = h
+starts_at (x ∷ xs) (suc i) e id w h = starts_at xs i e id (omega arith) h
 
 -- the entry that stands there
 pub record Stood (ps : List Entries) (p i : ℕ) (id : Identifier) : Type 0 where

@@ -1,15 +1,17 @@
 -- Where an identifier is: how that is seen, and what a change there makes of all entries.
-use Rattle.std.proofs.Common.{◌≡◌, ℕ, ◌+◌, ◌<◌, ◌≤◌, suc, Bool, true, false, List, [], ◌∷◌, ◌++◌, length, take, drop, slice_index_or, refl, sym, ap, ◌∙◌, subst, arith}
+use Rattle.std.proofs.Common.{◌≡◌, ℕ, ◌+◌, ◌<◌, ◌≤◌, suc, Bool, true, false, List, [], ◌∷◌, ◌++◌, length, take, drop, slice_index_or, refl, sym, ap, ◌∙◌, subst, arith, true≢false}
 use Rattle.std.specs.Prelude.{Some, None, insert, remove, slice_set}
 use Rattle.std.specs.BTreeMap.{insert_entry}
+use Rattle.std.specs.Cmp.{tied_itself}
+use Rattle.std.specs.Ordering.{is_lt}
 use Rattle.std.specs.List.Sorted.{IsStrictlySortedBy}
 use Rattle.std.specs.Map.{remove_entry, set_value}
 use Rattle.rga_ops.specs.Identifier.{Identifier, id_cmp}
-use Rattle.rga_ops.proofs.IdentifierLaws.{is}
+use Rattle.rga_ops.proofs.IdentifierLaws.{is, ids_total}
 use Rattle.rga_pages.specs.declared.entry.Record.{Record}
 use Rattle.rga_pages.specs.Pages.{Entries, record_of, flat, before, behind, AreOrdered, AreBelow, StartsAbove, StartsAt, AreFilled, ArePages, IsSpot}
-use Rattle.rga_pages.proofs.EntryLaws.{above_append, below_append, insert_between, insert_over, set_between, ordered_insert, remove_between, ordered_remove, record_between, record_absent}
-use Rattle.rga_pages.proofs.PlaceLaws.{one_up, page_at, place_at, parted, before_is, behind_is, index_there, Stood, stood, put_there, set_there, removed_there, page_gone}
+use Rattle.rga_pages.proofs.EntryLaws.{before_below, above_append, below_append, insert_between, insert_over, set_between, ordered_insert, remove_between, ordered_remove, record_between, record_absent}
+use Rattle.rga_pages.proofs.PlaceLaws.{starts_at, one_up, page_at, place_at, parted, before_is, behind_is, index_there, Stood, stood, put_there, set_there, removed_there, page_gone}
 
 pub no_pages : ArePages []
 unfolding IsStrictlySortedBy
@@ -38,6 +40,19 @@ module _ (ps : List Entries) (p i : ℕ) (id : Identifier) (d : Entries) (w : p 
     absent = λ f. subst (StartsAbove id) (sym (behind_is ps p i d w))
         (above_append id (drop i (slice_index_or ps p d)) (flat (drop (suc p) ps)) (absent f) (subst (λ n. StartsAbove id (flat (drop n ps))) (sym (one_up p)) above));
   }
+
+  -- where it is seen
+  pub spot_there : (e : Identifier × Record) → i < length (slice_index_or ps p d) → (slice_index_or (slice_index_or ps p d) i e).0 ≡ id → AreOrdered (flat ps) → IsSpot ps p i true id
+  spot_there e h is ordered =
+      let there : StartsAt id (drop i (slice_index_or ps p d)) = starts_at (slice_index_or ps p d) i e id h is in
+      let stands : Stood ps p i id = stood ps p i id d w there in
+      let parts : AreOrdered (before ps p i ++ stands.entry ∷ behind ps p (suc i)) = subst AreOrdered (parted ps p i ∙ ap (λ r. before ps p i ++ r) stands.behind_it) ordered in
+      record {
+        place = place_at ps p i d w (omega arith);
+        below = before_below id (before ps p i) stands.entry (behind ps p (suc i)) parts (ap (λ k. is_lt (id_cmp id k)) stands.named ∙ ap is_lt (tied_itself ids_total id));
+        there = λ t. subst (λ y. StartsAt id (drop i y)) (sym the_page) there;
+        absent = λ f. absurd (true≢false f);
+      }
 
   -- ---- where it is
 

@@ -64,6 +64,7 @@ impl Page {
     }
 
     /// An entry comes in at an index. `Memory` alone.
+    #[inline(always)]
     pub(crate) fn put(&mut self, index: usize, id: Id, value: Record) -> Result<(), Refusal>
         requires { index ≤ length self.old }
         ensures ok { OnOk result (self.new ≡ insert self.old index (id, value)) }
@@ -73,13 +74,11 @@ impl Page {
         if index == 0 {
             return self.put_first(id, value);
         }
-        if index >= self.entries.as_slice().len() {
-            self.entries.push((id, value))?;
-            return Ok(());
+        if index < self.entries.as_slice().len() {
+            return self.put_between(index, id, value);
         }
-        if self.entries.insert(index, (id, value)).is_err() {
-            return Err(Refusal::Memory);
-        }
+        self.entries.reserve(1)?;
+        self.entries.push_reserved((id, value));
         Ok(())
     }
 
@@ -93,6 +92,20 @@ impl Page {
             return Err(Refusal::Memory);
         }
         self.first = id;
+        Ok(())
+    }
+
+    /// An entry comes in behind the first and before the last. `Memory` alone.
+    fn put_between(&mut self, index: usize, id: Id, value: Record) -> Result<(), Refusal>
+        requires first { 0 < index }
+        requires second { index < length self.old }
+        ensures ok { OnOk result (self.new ≡ insert self.old index (id, value)) }
+        ensures err { OnErr result (self.new ≡ self.old) }
+        ensures memory { IfErr result (λ e. e ≡ Refusal.Memory) }
+    {
+        if self.entries.insert(index, (id, value)).is_err() {
+            return Err(Refusal::Memory);
+        }
         Ok(())
     }
 

@@ -8,9 +8,9 @@ ghost use Rattle.rga_pages.specs.Pages.{flat, record_of, noted, AreOrdered, Upda
 
 use crate::entry::Record;
 use crate::page::Page;
-use crate::putting::{insert, overwrite};
+use crate::putting::{insert, overwrite, write};
 use crate::removing::remove_at;
-use crate::search::{find, record_at};
+use crate::search::{end_for, find, record_at};
 use crate::spot::Spot;
 use rga_ops::{Id, Refusal};
 use std::alloc::Global;
@@ -80,6 +80,7 @@ impl Pages {
 
     /// An identifier gets its record. `Memory` alone, which changes nothing, and only where it had
     /// none.
+    #[inline(always)]
     pub fn insert(&mut self, id: Id, value: Record) -> Result<(), Refusal>
         ensures entries { OnOk result (self.new ≡ insert_entry id_cmp self.old id value) }
         ensures updates { OnOk result (Updates self.old self.new id (Some value)) }
@@ -89,6 +90,11 @@ impl Pages {
         ensures was_ordered { AreOrdered self.old }
         ensures memory { IfErr result (λ e. e ≡ Refusal.Memory) }
     {
+        if let Some(end) = end_for(&self.pages, id) {
+            write(&mut self.pages, end, id, value)?;
+            self.last = end;
+            return Ok(());
+        }
         let spot = insert(self.alloc, &mut self.pages, self.last, id, value)?;
         self.last = spot;
         Ok(())

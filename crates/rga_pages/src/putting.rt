@@ -16,7 +16,9 @@ use std::alloc::Global;
 /// How many entries each part of a full page has at least where it is cut.
 const FEWEST: usize = 8;
 
-/// An identifier gets its record. Answers where it is. `Memory` alone, and only where it had none.
+/// An identifier gets its record, where it is looked for. Answers where it is. `Memory` alone, and
+/// only where it had none.
+#[inline(never)]
 pub(crate) fn insert(
     alloc: Global,
     pages: &mut Vec<Page>,
@@ -74,7 +76,7 @@ fn has_room(pages: &Vec<Page>, at: Spot) -> bool
 
 /// An identifier gets its record at its spot.
 #[inline(always)]
-fn write(pages: &mut Vec<Page>, at: Spot, id: Id, value: Record) -> Result<(), Refusal>
+pub(crate) fn write(pages: &mut Vec<Page>, at: Spot, id: Id, value: Record) -> Result<(), Refusal>
     requires kept { ArePages pages.old.items }
     requires page { at.page < vec_len pages.old }
     requires spot { IsSpot pages.old.items at.page at.index at.found id }

@@ -1,5 +1,5 @@
 //! Where an identifier is.
-ghost use Rattle.std.specs.Prelude.{◌≡◌, ◌≤◌, ◌<◌, ◌+◌, length, vec_len, true, false, take, drop};
+ghost use Rattle.std.specs.Prelude.{◌≡◌, ◌≤◌, ◌<◌, ◌+◌, length, vec_len, true, false, take, drop, IfSome};
 ghost use Rattle.std.specs.Ordering.{is_gt, is_lt};
 ghost use Rattle.rga_ops.specs.Identifier.{id_cmp};
 ghost use Rattle.rga_pages.specs.Pages.{flat, record_of, AreOrdered, AreBelow, StartsFrom, StartsAbove, StartsAt, AreFilled, IsSpot};
@@ -9,8 +9,8 @@ use crate::page::{MOST, Page};
 use crate::spot::Spot;
 use rga_ops::Id;
 
-/// Where an identifier is, or where it would come in. It is looked for first in the page that was
-/// used last, and there beside the place that was used last.
+/// Where an identifier is, or where it would come in. It is looked for first behind the place that
+/// was used last, and then beside it in that page.
 pub(crate) fn find(pages: &Vec<Page>, last: Spot, id: Id) -> Spot
     requires ordered { AreOrdered (flat pages.now.items) }
     requires filled { AreFilled pages.now.items }
@@ -18,11 +18,75 @@ pub(crate) fn find(pages: &Vec<Page>, last: Spot, id: Id) -> Spot
     ensures page { result.page < vec_len pages.now }
     ensures spot { IsSpot pages.now.items result.page result.index result.found id }
 {
+    if is_next(pages, last, id) {
+        return Spot {
+            page: last.page,
+            index: last.index + 1,
+            found: true,
+        };
+    }
     if is_in(pages, last.page, id) {
         return find_in(pages, last.page, last.index, id);
     }
     let page = page_of(pages, id);
     find_in(pages, page, guess(pages, page, id), id)
+}
+
+/// Whether an identifier is that of an entry.
+fn is_same(entry: &(Id, Record), id: Id) -> bool
+    ensures { result ≡ true → entry.now.0 ≡ id }
+{
+    entry.0 == id
+}
+
+/// Whether an identifier is directly behind a place, in the same page.
+#[inline(always)]
+fn is_next(pages: &Vec<Page>, at: Spot, id: Id) -> bool
+    requires { AreOrdered (flat pages.now.items) }
+    ensures few { result ≡ true → at.index < MOST }
+    ensures page { result ≡ true → at.page < vec_len pages.now }
+    ensures spot { result ≡ true → IsSpot pages.now.items at.page (at.index + 1) true id }
+{
+    if at.page >= pages.len() {
+        return false;
+    }
+    let entries = pages[at.page].entries();
+    if at.index >= MOST {
+        return false;
+    }
+    let index = at.index + 1;
+    if index >= entries.len() {
+        return false;
+    }
+    is_same(&entries[index], id)
+}
+
+/// Where an identifier would come in that is above all others, if there is room in the last page.
+#[inline(always)]
+pub(crate) fn end_for(pages: &Vec<Page>, id: Id) -> Option<Spot>
+    requires ordered { AreOrdered (flat pages.now.items) }
+    requires filled { AreFilled pages.now.items }
+    ensures page { IfSome result (λ at. at.page < vec_len pages.now) }
+    ensures spot { IfSome result (λ at. IsSpot pages.now.items at.page at.index at.found id) }
+{
+    let count = pages.len();
+    if count == 0 {
+        return None;
+    }
+    let page = count - 1;
+    let entries = pages[page].entries();
+    let index = entries.len();
+    if index >= MOST {
+        return None;
+    }
+    if is_behind(entries, index, id) {
+        return Some(Spot {
+            page,
+            index,
+            found: false,
+        });
+    }
+    None
 }
 
 /// About where in a page an identifier is, if counters rise evenly from that of the page's first

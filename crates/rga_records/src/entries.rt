@@ -77,6 +77,7 @@ pub(crate) fn is_known(entries: &Pages, id: Id) -> bool
 }
 
 /// An identifier gets its element, and where that may stand. It may be deleted already.
+#[inline(always)]
 pub(crate) fn set_element(
     entries: &mut Pages,
     id: Id,

@@ -81,6 +81,7 @@ impl Records {
 
     /// What is known of an identifier, and of the room that is left. The next calls for the same
     /// identifier are quick. Takes no memory.
+    #[inline(always)]
     pub fn find(&mut self, id: Id) -> Found
         ensures facts { facts_of result ≡ facts self.old.limit self.old.content id }
         ensures same { self.new ≡ self.old }
@@ -94,6 +95,15 @@ impl Records {
                 limit: self.limit,
             };
         }
+        self.look_up(id)
+    }
+
+    /// What is known of an identifier that is looked for.
+    #[inline(never)]
+    fn look_up(&mut self, id: Id) -> Found
+        ensures facts { facts_of result ≡ facts self.old.limit self.old.content id }
+        ensures same { self.new ≡ self.old }
+    {
         let record = found_or_new(self.entries.look_up(id));
         Found {
             element: record.element(),
@@ -195,6 +205,7 @@ impl Records {
 
     /// Takes an insertion that is new, and notes where the element may come to stand. `deleted` says
     /// whether its identifier is deleted, as `find` told. `Memory` alone, which changes nothing.
+    #[inline(always)]
     pub fn insert(
         &mut self,
         id: Id,

@@ -21,6 +21,14 @@ returns-in_err-add-clause-shows c =
     (subst (λ d. ChainShows c.args.records.now.content d c.args.parent c.loop-op.entries.items c.args.waiting.now)
     (sym (c.in_err-add.ensures.same ∙ ap (λ (r : Kept). r.content) c.next_entry.ensures.same)) c.loop-op.invariant.shows)
 
+pub add-requires-clause-room : goal.add-requires-clause-room
+add-requires-clause-room c =
+    omega (arith, c.loop-op.invariant.room, c.loop-op.invariant.count, c.requires.room, c.loop-op-test.true, c.loop-op.entries.ok.0, ap length c.as_slice.ensures.value, c.if-as_slice-ge-MOST_AT_ONCE.false)
+
+pub add-requires-clause-steps_room : goal.add-requires-clause-steps_room
+add-requires-clause-steps_room c =
+    omega (arith, c.loop-op.invariant.steps_room, c.loop-op.invariant.noted, c.loop-op.invariant.count, c.requires.steps_room, c.loop-op-test.true, ap length c.as_slice.ensures.value, c.if-as_slice-ge-MOST_AT_ONCE.false)
+
 pub loop-op-preserved : goal.loop-op-preserved
 loop-op-preserved c =
     let was : Content = c.loop-op.records.content in
@@ -50,5 +58,10 @@ loop-op-preserved c =
       last = sym (ap (last_of c.args.parent) c.in_ok-add.ensures.entries ∙ last_of-push c.args.parent es e);
       proper = λ some. own_proper c.loop-op.records.limit was now c.loop-op.last e sound c.known-now.ensures.sound answered joined c.loop-op.invariant.above;
       above = own_above c.loop-op.records.limit was now c.loop-op.last e sound c.known-now.ensures.sound answered joined c.loop-op.invariant.above;
+      room = c.add.ensures.capacity ∙ c.loop-op.invariant.room;
+      noted =
+          let more_steps : length c.add.new.steps.items ≡ length c.loop-op.steps.items + 1 = ap length c.in_ok-add.ensures.steps ∙ length-append c.loop-op.steps.items _ in
+          omega (arith, more_steps, c.loop-op.invariant.noted, c.add.new.steps.ok.0, c.loop-op.steps.ok.0);
+      steps_room = c.add.ensures.steps_capacity ∙ c.loop-op.invariant.steps_room;
       limit = c.add.ensures.limit ∙ ap (λ (r : Kept). r.limit) c.next_entry.ensures.same ∙ c.loop-op.invariant.limit;
     }

@@ -1,4 +1,4 @@
-use Rattle.std.proofs.Common.{◌≡◌, ◌≤◌, ◌<◌, true, false, length, take}
+use Rattle.std.proofs.Common.{◌≡◌, ◌≤◌, ◌<◌, ◌+◌, vec_len, vec_capacity, true, false, length, take}
 use Rattle.rga_ops.specs.Identifier.{is_root}
 use Rattle.rga_sequence.specs.declared.putting.TheConstants.{MOST_AT_ONCE}
 use Rattle.rga_flat.specs.Chains.{IsGathered, ChainShows}
@@ -16,5 +16,8 @@ invariant-loop-op l = record {
   last : l.last ≡ last_of l.fn.parent l.entries.items;
   proper : 0 < length l.entries.items → is_root l.last ≡ false;
   above : is_above l.records.content l.last ≡ true;
+  room : vec_capacity l.entries ≡ vec_capacity l.initial.entries;
+  noted : vec_len l.steps ≡ vec_len l.initial.steps + l.op-index;
+  steps_room : vec_capacity l.steps ≡ vec_capacity l.initial.steps;
   limit : l.records.limit ≡ l.initial.records.limit;
 }

@@ -1,14 +1,12 @@
 use Rattle.std.proofs.Common.{◌≡◌, ◌<◌, false, true, refl, sym, ap, ◌∙◌, subst, arith}
 use Rattle.std.specs.Prelude.{None, Some}
-use Rattle.std.specs.Option.{option_map}
 use Rattle.std.specs.FinMap as finite_map
 use Rattle.std.specs.FinSet as finite_set
 use Rattle.rga_ops.specs.Identifier.{Identifier}
-use Rattle.rga_ops.specs.Content.{Content, element, known_ids, clock_of}
+use Rattle.rga_ops.specs.Content.{Content, known_ids, clock_of}
 use Rattle.rga_ops.proofs.ClockLaws.{within_clock}
 use Rattle.rga_store.specs.Kept.{Kept}
 use Rattle.rga_records.specs.Records.{content_of_records}
-use Rattle.rga_records.proofs.RecordLaws.{element_of, mark_of, element_back, inserted_at, deleted_at}
 use Rattle.rga_records.proofs.records_by_id.Records.find.Goals as goal
 
 -- what is newer than a content is not in it
@@ -34,19 +32,6 @@ returns-then-counter-self-clause-facts c = λ k. record {
   found = (sym (newer_absent (content_of_records c.self.inside.entries) c.args.id (newer c))
       ∙ ap (λ (v : Kept). finite_map.get v.content.inserted c.args.id) c.self.view_is) k;
   deleted = (sym (newer_unmarked (content_of_records c.self.inside.entries) c.args.id (newer c))
-      ∙ ap (λ (v : Kept). finite_set.contains v.content.deleted c.args.id) c.self.view_is) k;
-  known = (c.self.invariant.counted.known ∙ ap (λ (v : Kept). finite_set.len (known_ids v.content)) c.self.view_is) k;
-  limit = ap (λ (v : Kept). v.limit) c.self.view_is k;
-}
-
-pub returns-clause-facts : goal.returns-clause-facts
-returns-clause-facts c = λ k. record {
-  found = (ap (option_map (λ x. element x.0 x.1)) c.element.ensures ∙ element_back c.found_or_new-record.result
-      ∙ c.found_or_new-record.ensures.element ∙ ap element_of c.look_up.ensures.value
-      ∙ sym (inserted_at c.self.inside.entries c.self.invariant.ordered c.args.id)
-      ∙ ap (λ (v : Kept). finite_map.get v.content.inserted c.args.id) c.self.view_is) k;
-  deleted = (c.found_or_new-record.ensures.mark ∙ ap mark_of c.look_up.ensures.value
-      ∙ sym (deleted_at c.self.inside.entries c.self.invariant.ordered c.args.id)
       ∙ ap (λ (v : Kept). finite_set.contains v.content.deleted c.args.id) c.self.view_is) k;
   known = (c.self.invariant.counted.known ∙ ap (λ (v : Kept). finite_set.len (known_ids v.content)) c.self.view_is) k;
   limit = ap (λ (v : Kept). v.limit) c.self.view_is k;
