@@ -47,7 +47,8 @@ impl Model for Slots {
 impl Slots {
     /// No element. Takes no memory.
     pub fn new(alloc: Global) -> Slots
-        ensures { result.elements ≡ [] }
+        ensures elements { result.elements ≡ [] }
+        ensures greatest { result.greatest ≡ 0 }
     {
         Slots {
             elements: Vec::new(alloc),

@@ -82,7 +82,7 @@ impl Draft {
     {
         self.ops.reserve(elements.len())?;
         for id in elements {
-            self.ops.push(Op::Delete { id: *id })?;
+            self.ops.push_reserved(Op::Delete { id: *id });
         }
         Ok(())
     }
@@ -100,11 +100,11 @@ impl Draft {
         let mut parent = after;
         for ch in put {
             let id = Id::new(self.last + 1, self.replica)?;
-            self.ops.push(Op::Insert {
+            self.ops.push_reserved(Op::Insert {
                 id,
                 parent,
                 ch: *ch,
-            })?;
+            });
             self.last += 1;
             parent = id;
         }

@@ -1,4 +1,4 @@
-use Rattle.std.proofs.Common.{◌≡◌, ℕ, ◌+◌, List, [], ◌∷◌, ◌++◌, map, take, take_all, sym, ap, ◌∙◌, append_assoc}
+use Rattle.std.proofs.Common.{◌≡◌, ℕ, ◌+◌, List, [], ◌∷◌, ◌++◌, map, take, take_all, sym, ap, ◌∙◌, append_assoc, arith}
 use Rattle.std.proofs.lemmas.List.{take_more, map-append}
 use Rattle.rga_ops.specs.Identifier.{Identifier}
 use Rattle.rga_ops.specs.declared.op.Op.TheVariants.{Delete}
@@ -12,12 +12,13 @@ loop-id-preserved c =
     let more : take (i + 1) ids ≡ take i ids ++ id ∷ [] = take_more ids i id c.loop-id-test.true ∙ ap (λ k. take i ids ++ k ∷ []) (sym c.id-item.is) in
     record {
       ops =
-          c.in_ok-push.ensures.items
+          c.push_reserved.ensures.items
           ∙ ap (λ ops. ops ++ Delete id ∷ []) c.loop-id.invariant.ops
           ∙ append_assoc c.args.self.now.ops.items (map Delete (take i ids)) (Delete id ∷ [])
           ∙ ap (λ ops. c.args.self.now.ops.items ++ ops) (sym (map-append Delete (take i ids) (id ∷ [])) ∙ ap (map Delete) (sym more));
       last = c.loop-id.invariant.last;
       replica = c.loop-id.invariant.replica;
+      room = omega (arith, c.push_reserved.ensures.len, c.push_reserved.ensures.capacity, c.loop-id.invariant.room);
     }
 
 pub returns-clause-ops : goal.returns-clause-ops
