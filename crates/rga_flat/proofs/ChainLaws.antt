@@ -24,6 +24,7 @@ use Rattle.rga_store.specs.Without.{without}
 use Rattle.rga_store.proofs.WithoutLaws.{new_held}
 use Rattle.rga_sequence.specs.declared.entry.Entry.{Entry}
 use Rattle.rga_sequence.specs.Entries.{has, put_entry, put_chain, CanFollow, IsChain}
+use Rattle.rga_records.specs.Chains.{last_of}
 use Rattle.rga_flat.specs.declared.steps.Step.{Step}
 use Rattle.rga_flat.specs.Back.{gone_back, CanGoBack}
 use Rattle.rga_flat.specs.Chains.{IsGathered, ChainShows}
@@ -151,15 +152,6 @@ pub at_err : {A E : Type 0} (P : E → Type 0) (r : Result A E) (e : E) → r �
 at_err P r e is h = subst (λ x. IfErr x P) (sym is) h
 
 -- ---- one more in the chain
-
--- the last identifier of a chain, or else its parent
-abbrev pub last_of : Identifier → List Entry → Identifier
-last_of id [] = id
-last_of id (e ∷ es) = last_of e.id es
-
-pub last_of-push : (id : Identifier) (es : List Entry) (e : Entry) → last_of id (es ++ e ∷ []) ≡ e.id
-last_of-push id [] e = refl
-last_of-push id (x ∷ es) e = last_of-push x.id es e
 
 pub put_chain-push : (id : Identifier) (es : List Entry) (e : Entry) (s : List Entry) → put_chain id (es ++ e ∷ []) s ≡ put_entry (last_of id es) e (put_chain id es s)
 put_chain-push id [] e s = refl

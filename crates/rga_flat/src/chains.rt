@@ -10,6 +10,7 @@ ghost use Rattle.rga_flat.specs.Chains.{ChainShows, IsGathered};
 ghost use Rattle.rga_flat.specs.Flat.{is_above, IsFlat};
 ghost use Rattle.rga_flat.specs.Waiting.{under, has_list, is_listed};
 
+use crate::newer::{gather_newer, is_newer};
 use crate::placing::{next, note_block, note_entries};
 use crate::steps::{Step, note};
 use crate::taking::near_above;
@@ -57,7 +58,16 @@ pub(crate) fn take_chain<'a>(
     let most = MOST_AT_ONCE.min(ops.len());
     let mut entries = Vec::with_capacity(alloc, most)?;
     steps.reserve(most)?;
-    let gathered = gather(records, waiting, parent, near, ops, steps, &mut entries);
+    let gathered = gather(
+        alloc,
+        records,
+        waiting,
+        parent,
+        near,
+        ops,
+        steps,
+        &mut entries,
+    );
     if gathered.is_err() {
         remove_from(records, steps, before);
         return Err(Refusal::Memory);
@@ -92,6 +102,38 @@ fn parent_of_chain(ops: &[Op]) -> Option<Id> {
 /// Takes insertions into the records, the first behind a parent and each other behind the one before
 /// it, and notes them, for which there is room. `Memory` alone; those before stay.
 fn gather<'a>(
+    alloc: Global,
+    records: &mut Records,
+    waiting: &BTreeMap<Id, Vec<Id>>,
+    parent: Id,
+    near: Near,
+    ops: &'a [Op],
+    steps: &mut Vec<Step<'a>>,
+    entries: &mut Vec<Entry>,
+) -> Result<(), Refusal>
+    requires back { CanGoBack steps.old.items records.old.content }
+    requires above { is_above records.old.content parent ≡ true }
+    requires none { entries.old.items ≡ [] }
+    requires room { min MOST_AT_ONCE (length ops.now) ≤ vec_capacity entries.old }
+    requires steps_room { vec_len steps.old + min MOST_AT_ONCE (length ops.now)
+        ≤ vec_capacity steps.old }
+    ensures gathered { IsGathered records.old.limit records.old.content records.new.content
+        (take (length entries.new.items) ops.now) steps.old.items steps.new.items }
+    ensures shows { ChainShows records.old.content records.new.content parent entries.new.items
+        waiting.now }
+    ensures few { length entries.new.items ≤ MOST_AT_ONCE }
+    ensures within { length entries.new.items ≤ length ops.now }
+    ensures limit { records.new.limit ≡ records.old.limit }
+    ensures memory { IfErr result (λ e. e ≡ Refusal.Memory) }
+{
+    if is_newer(ops, records.clock()) {
+        return gather_newer(alloc, records, waiting, parent, near, ops, steps, entries);
+    }
+    gather_each(records, waiting, parent, near, ops, steps, entries)
+}
+
+/// The same, one insertion after another.
+fn gather_each<'a>(
     records: &mut Records,
     waiting: &BTreeMap<Id, Vec<Id>>,
     parent: Id,

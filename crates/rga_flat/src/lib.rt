@@ -12,6 +12,7 @@
 
 mod chains;
 mod flat_store;
+mod newer;
 mod placing;
 mod reading;
 mod steps;

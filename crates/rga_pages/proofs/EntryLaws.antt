@@ -191,6 +191,22 @@ module _ (id : Identifier) (value : Record) where
             | false ↦ λ f. refl
           ] refl
 
+-- what is in order stays so behind what is below its first
+pub ordered_join : (xs ys : Entries) (d : Identifier × Record) → AreOrdered xs → AreOrdered ys → AreBelow (slice_index_or ys 0 d).0 xs → AreOrdered (xs ++ ys)
+unfolding IsStrictlySortedBy
+ordered_join [] ys d h k a = k
+ordered_join (x ∷ xs) ys d h k a = (both xs h.0 (later ys k a.0), ordered_join xs ys d h.1 k a.1)
+  where
+    both : (zs : Entries) → AllByRecursion (λ y. id_cmp x.0 y ≡ Less) (keys_of zs) → AllByRecursion (λ y. id_cmp x.0 y ≡ Less) (keys_of ys) → AllByRecursion (λ y. id_cmp x.0 y ≡ Less) (keys_of (zs ++ ys))
+    both [] a b = b
+    both (z ∷ zs) a b = (a.0, both zs a.1 b)
+
+    later : (zs : Entries) → AreOrdered zs → is_gt (id_cmp (slice_index_or zs 0 d).0 x.0) ≡ true → AllByRecursion (λ y. id_cmp x.0 y ≡ Less) (keys_of zs)
+    later [] k g = tt
+    later (z ∷ zs) k g =
+        let first : id_cmp x.0 z.0 ≡ Less = turn z.0 x.0 Greater (greater (id_cmp z.0 x.0) g) in
+        (first, all_less x.0 z.1 z.0 zs first k.0)
+
 -- ---- the identifier's own entry
 
 module _ (id : Identifier) where

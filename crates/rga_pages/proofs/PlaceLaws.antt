@@ -1,11 +1,12 @@
 -- Places in pages, and what stands in pages that change.
 use Rattle.std.proofs.Common.{◌≡◌, ℕ, ◌+◌, ◌<◌, ◌≤◌, suc, zero, true, false, List, [], ◌∷◌, ◌++◌, length, take, drop, slice_index_or, refl, sym, ap, ◌∙◌, subst, arith, append_assoc}
+use Rattle.std.proofs.lemmas.List.{append-nil}
 use Rattle.std.specs.Prelude.{insert, remove, slice_set, Result, Ok, Err, OnOk, OnErr}
 use Rattle.std.specs.Ordering.{is_lt}
 use Rattle.rga_ops.specs.Identifier.{Identifier, id_cmp}
 use Rattle.rga_pages.specs.declared.entry.Record.{Record}
 use Rattle.rga_pages.specs.Pages.{Entries, flat, before, behind, AreOrdered, AreBelow, BeginsWith, StartsAbove, StartsAt, AreFilled, IsPlace}
-use Rattle.rga_pages.proofs.EntryLaws.{ordered_front, ordered_back, before_below, not_less}
+use Rattle.rga_pages.proofs.EntryLaws.{ordered_front, ordered_back, before_below, below_append, not_less}
 
 pub one_up : (n : ℕ) → suc n ≡ n + 1
 one_up n = omega arith
@@ -104,6 +105,14 @@ module _ (ps : List Entries) (p : ℕ) (d : Entries) (ordered : AreOrdered (flat
         later : (page : Entries) → 0 < length page → BeginsWith f page → StartsAbove id (page ++ flat (drop (suc p) ps))
         later [] some begins = absurd (omega arith)
         later (y ∷ page) some begins = subst (λ q. is_lt (id_cmp id q) ≡ true) begins h
+
+-- what is above the last page is above all
+pub all_below : (ps : List Entries) (p : ℕ) (d : Entries) → AreOrdered (flat ps) → AreFilled ps → p < length ps → length ps ≤ suc p → (id : Identifier) → AreBelow id (slice_index_or ps p d) → AreBelow id (flat ps)
+all_below ps p d ordered filled w l id below =
+    subst (AreBelow id) (sym (page_on ps p d w))
+    (below_append id (flat (take p ps)) (slice_index_or ps p d ++ flat (drop (suc p) ps))
+    (page_below ps p d ordered w id (filled_at ps p d filled w) below)
+    (below_append id (slice_index_or ps p d) (flat (drop (suc p) ps)) below (subst (AreBelow id) (sym (none_left ps (suc p) l)) tt)))
 
 -- ---- an entry at a place
 
@@ -214,6 +223,18 @@ own_there (x ∷ xs) zero i e d w full = (λ k. all x i full k ++ e ∷ (none x 
     none (z ∷ y) zero h = absurd (omega arith)
     none (z ∷ y) (suc i) h = none y i (omega arith)
 own_there (x ∷ xs) (suc p) i e d w full = ap (λ r. x ++ r) (own_there xs p i e d (omega arith) full) ∙ sym (append_assoc x (before xs p i) (e ∷ behind xs p i))
+
+-- the last page gets more
+pub extended : (ps : List Entries) (p : ℕ) (more d : Entries) → p < length ps → length ps ≤ suc p → flat (slice_set ps p (slice_index_or ps p d ++ more)) ≡ flat ps ++ more
+extended [] p more d w l = absurd (omega arith)
+extended (x ∷ []) zero more d w l = append-nil (x ++ more) ∙ ap (λ y. y ++ more) (sym (append-nil x))
+extended (x ∷ y ∷ xs) zero more d w l = absurd (omega arith)
+extended (x ∷ xs) (suc p) more d w l = ap (λ r. x ++ r) (extended xs p more d (omega arith) (omega arith)) ∙ sym (append_assoc x (flat xs) more)
+
+-- a page more
+pub flat_push : (ps : List Entries) (y : Entries) → flat (ps ++ y ∷ []) ≡ flat ps ++ y
+flat_push [] y = append-nil y
+flat_push (x ∷ xs) y = ap (λ r. x ++ r) (flat_push xs y) ∙ sym (append_assoc x (flat xs) y)
 
 -- a page is two
 pub halved : (ps : List Entries) (p cut : ℕ) (d e : Entries) → p < length ps → flat (slice_set (insert ps (suc p) (drop cut (slice_index_or ps p d))) p (take cut (slice_index_or (insert ps (suc p) (drop cut (slice_index_or ps p d))) p e))) ≡ flat ps

@@ -8,6 +8,7 @@
 //! identifiers rise; the place that was used last serves speed alone and is no part of that value.
 #![tactic(auto)]
 
+mod appending;
 mod entry;
 mod page;
 mod pages;

@@ -1,5 +1,5 @@
 //! Some entries in a row.
-ghost use Rattle.std.specs.Prelude.{◌≡◌, ◌≤◌, ◌<◌, ◌∷◌, [], length, take, drop, insert, remove, slice_set, IfOk, IfErr, OnOk, OnErr};
+ghost use Rattle.std.specs.Prelude.{◌≡◌, ◌≤◌, ◌<◌, ◌++◌, ◌∷◌, [], length, take, drop, insert, remove, slice_set, IfOk, IfErr, OnOk, OnErr};
 ghost use Rattle.rga_pages.specs.Pages.{BeginsWith};
 
 use crate::entry::Record;
@@ -47,6 +47,17 @@ impl Page {
         let mut entries = Vec::with_capacity(alloc, MOST)?;
         entries.push((id, value))?;
         Ok(Page { entries, first: id })
+    }
+
+    /// A page of some entries, in room for as many as a page has at most. `Memory` alone.
+    pub(crate) fn of_some(alloc: Global, some: &[(Id, Record)]) -> Result<Page, Refusal>
+        ensures ok { IfOk result (λ p. p ≡ some.now) }
+        ensures memory { IfErr result (λ e. e ≡ Refusal.Memory) }
+    {
+        let mut entries = Vec::with_capacity(alloc, MOST)?;
+        entries.extend_from_slice(some)?;
+        let first = first_of(entries.as_slice());
+        Ok(Page { entries, first })
     }
 
     /// The entries.
@@ -135,10 +146,18 @@ impl Page {
         ensures ok { IfOk result (λ p. p ≡ drop from self.now) }
         ensures memory { IfErr result (λ e. e ≡ Refusal.Memory) }
     {
-        let mut entries = Vec::with_capacity(alloc, MOST)?;
-        entries.extend_from_slice(&self.entries.as_slice()[from..])?;
-        let first = first_of(entries.as_slice());
-        Ok(Page { entries, first })
+        Page::of_some(alloc, &self.entries.as_slice()[from..])
+    }
+
+    /// More entries come in behind those that there are. `Memory` alone.
+    pub(crate) fn extend(&mut self, more: &[(Id, Record)]) -> Result<(), Refusal>
+        ensures ok { OnOk result (self.new ≡ self.old ++ more.now) }
+        ensures err { OnErr result (self.new ≡ self.old) }
+        ensures memory { IfErr result (λ e. e ≡ Refusal.Memory) }
+    {
+        self.entries.extend_from_slice(more)?;
+        self.first = first_of(self.entries.as_slice());
+        Ok(())
     }
 
     /// What stands from an index on goes. Takes no memory.

@@ -1,11 +1,12 @@
 //! Records by identifier.
-ghost use Rattle.std.specs.Prelude.{◌≡◌, [], is_some, true, None, Some, IfErr, OnOk, OnErr};
+ghost use Rattle.std.specs.Prelude.{◌≡◌, ◌++◌, [], is_some, true, None, Some, IfErr, OnOk, OnErr};
 ghost use Rattle.std.specs.BTreeMap.{insert_entry};
 ghost use Rattle.std.specs.Map.{remove_entry, set_value};
 ghost use Rattle.std.specs.Ordering.{eq_by_cmp};
 ghost use Rattle.rga_ops.specs.Identifier.{id_cmp};
 ghost use Rattle.rga_pages.specs.Pages.{flat, record_of, noted, AreOrdered, Updates};
 
+use crate::appending::{append, can_follow, end_of};
 use crate::entry::Record;
 use crate::page::Page;
 use crate::putting::{insert, overwrite, write};
@@ -97,6 +98,24 @@ impl Pages {
         }
         let spot = insert(self.alloc, &mut self.pages, self.last, id, value)?;
         self.last = spot;
+        Ok(())
+    }
+
+    /// Entries come in behind all others. `Memory` alone, which changes nothing; it is answered too
+    /// where the first of them is not above all others.
+    pub fn append(&mut self, entries: &[(Id, Record)]) -> Result<(), Refusal>
+        requires { AreOrdered entries.now }
+        ensures entries { OnOk result (self.new ≡ self.old ++ entries.now) }
+        ensures err { OnErr result (self.new ≡ self.old) }
+        ensures ordered { AreOrdered self.new }
+        ensures was_ordered { AreOrdered self.old }
+        ensures memory { IfErr result (λ e. e ≡ Refusal.Memory) }
+    {
+        if !can_follow(&self.pages, entries) {
+            return Err(Refusal::Memory);
+        }
+        append(self.alloc, &mut self.pages, entries)?;
+        self.last = end_of(&self.pages);
         Ok(())
     }
 

@@ -127,7 +127,7 @@ fn is_above(entry: &(Id, Record), id: Id) -> bool
 }
 
 /// Whether all before an index is below an identifier.
-fn is_behind(entries: &[(Id, Record)], index: usize, id: Id) -> bool
+pub(crate) fn is_behind(entries: &[(Id, Record)], index: usize, id: Id) -> bool
     requires ordered { AreOrdered entries.now }
     requires within { index ≤ length entries.now }
     ensures below { result ≡ true → AreBelow id (take index entries.now) }

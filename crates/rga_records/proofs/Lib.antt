@@ -3,3 +3,4 @@ pub mod CountedLaws
 pub mod SortedRecordLaws
 pub mod MergingLaws
 pub mod ToldLaws
+pub mod NewerLaws

@@ -31,7 +31,7 @@ pub(crate) fn found_or_new(found: Option<Record>) -> Record
 }
 
 /// The name of a block as records have it: 0 where it has no room there.
-fn short_name(block: usize) -> u32 {
+pub(crate) fn short_name(block: usize) -> u32 {
     match u32::try_from(block) {
         Ok(name) => name,
         Err(_) => 0,
@@ -39,7 +39,7 @@ fn short_name(block: usize) -> u32 {
 }
 
 /// An index in a block as records have it: 0 where it has no room there.
-fn short_index(index: usize) -> u8 {
+pub(crate) fn short_index(index: usize) -> u8 {
     match u8::try_from(index) {
         Ok(index) => index,
         Err(_) => 0,

@@ -10,6 +10,7 @@
 //! that value.
 #![tactic(auto)]
 
+mod chains;
 mod counts;
 mod entries;
 mod list_answer;

@@ -1,5 +1,5 @@
 //! Records by identifier, with the clock and the counts of their content.
-ghost use Rattle.std.specs.Prelude.{◌≡◌, ◌≢◌, ◌≤◌, ◌+◌, ◌↔◌, None, Ok, Err, OnOk, OnErr, IfOk, IfErr, is_some, true, false};
+ghost use Rattle.std.specs.Prelude.{◌≡◌, ◌≢◌, ◌≤◌, ◌+◌, ◌↔◌, length, None, Ok, Err, OnOk, OnErr, IfOk, IfErr, is_some, true, false};
 ghost use Rattle.std.specs.FinMap as finite_map;
 ghost use Rattle.std.specs.FinSet as finite_set;
 ghost use Rattle.rga_ops.specs.Prelude.{all_checked, answer, clock_of, element_at, join, known_count, known_ids, list_answer, nothing, operations, single, IsSound};
@@ -11,7 +11,9 @@ ghost use Rattle.rga_ops.specs.ListAnswer.{early_conflict, least_conflict};
 ghost use Rattle.rga_ops.specs.declared.refusal.Taken.TheVariants.{New};
 ghost use Rattle.rga_store.specs.Limit.{is_limit};
 ghost use Rattle.rga_store.specs.Without.{without, without_insertion, without_deletion};
+ghost use Rattle.rga_records.specs.Chains.{grown, AreNewer};
 
+use crate::chains::{append_chain, latest};
 use crate::counts::{count_unless, raise, uncount_unless};
 use crate::entries::{
     clear_element, clear_mark, find_element, found_or_new, is_known, is_marked, mark, near_of,
@@ -23,7 +25,7 @@ use crate::operations::operations_of;
 use crate::telling::{tell_both, tell_deletions, tell_insertions};
 use rga_ops::{Found, Id, Op, Refusal};
 use rga_pages::Pages;
-use rga_sequence::Near;
+use rga_sequence::{Entry, Near};
 use rga_store::MAX_LIMIT;
 use rga_telling::Listener;
 use std::alloc::Global;
@@ -226,6 +228,30 @@ impl Records {
         self.inserted += 1;
         count_unless(deleted, &mut self.known);
         raise(&mut self.clock, id.counter());
+        Ok(())
+    }
+
+    /// Takes insertions that are newer than all that is known, the first behind a parent and each
+    /// other behind the one before it, and notes where the elements may come to stand: behind the
+    /// parent, which may stand near there. `Memory` alone, which changes nothing.
+    pub fn insert_chain(
+        &mut self,
+        alloc: Global,
+        parent: Id,
+        near: Near,
+        chain: &[Entry],
+    ) -> Result<(), Refusal>
+        requires newer { AreNewer self.old.content parent chain.now }
+        requires room { known_count self.old.content + length chain.now ≤ self.old.limit }
+        ensures ok { OnOk result (self.new.content ≡ grown self.old.content parent chain.now) }
+        ensures same { OnErr result (self.new.content ≡ self.old.content) }
+        ensures memory { IfErr result (λ e. e ≡ Refusal.Memory) }
+        ensures limit { self.new.limit ≡ self.old.limit }
+    {
+        append_chain(alloc, &mut self.entries, parent, near, chain)?;
+        self.inserted += chain.len();
+        self.known += chain.len();
+        self.clock = latest(self.clock, chain);
         Ok(())
     }
 

@@ -1,28 +1,11 @@
-use Rattle.std.proofs.Common.{◌≡◌, ◌<◌, false, true, refl, sym, ap, ◌∙◌, subst, arith}
-use Rattle.std.specs.Prelude.{None, Some}
+use Rattle.std.proofs.Common.{◌<◌, sym, ap, ◌∙◌, subst}
 use Rattle.std.specs.FinMap as finite_map
 use Rattle.std.specs.FinSet as finite_set
-use Rattle.rga_ops.specs.Identifier.{Identifier}
-use Rattle.rga_ops.specs.Content.{Content, known_ids, clock_of}
-use Rattle.rga_ops.proofs.ClockLaws.{within_clock}
+use Rattle.rga_ops.specs.Content.{known_ids, clock_of}
 use Rattle.rga_store.specs.Kept.{Kept}
 use Rattle.rga_records.specs.Records.{content_of_records}
+use Rattle.rga_records.proofs.NewerLaws.{newer_absent, newer_unmarked}
 use Rattle.rga_records.proofs.records_by_id.Records.find.Goals as goal
-
--- what is newer than a content is not in it
-newer_absent : (c : Content) (id : Identifier) → clock_of c < id.counter → finite_map.get c.inserted id ≡ None
-newer_absent c id h =
-    elim (finite_map.get c.inserted id) as (λ o. finite_map.get c.inserted id ≡ o → o ≡ None) [
-      | None ↦ λ e. refl
-      | Some x ↦ λ e. absurd (omega (arith, h, (within_clock c).own id x e))
-    ] refl
-
-newer_unmarked : (c : Content) (id : Identifier) → clock_of c < id.counter → finite_set.contains c.deleted id ≡ false
-newer_unmarked c id h =
-    elim (finite_set.contains c.deleted id) as (λ b. finite_set.contains c.deleted id ≡ b → b ≡ false) [
-      | true ↦ λ e. absurd (omega (arith, h, (within_clock c).deleted id e))
-      | false ↦ λ e. refl
-    ] refl
 
 newer : (c : goal.Then-counter-self) → clock_of (content_of_records c.self.inside.entries) < c.args.id.counter
 newer c = subst (λ n. n < c.args.id.counter) c.self.invariant.counted.clocked (subst (λ n. c.self.inside.clock < n) c.counter.ensures.value c.if-counter-self.true)

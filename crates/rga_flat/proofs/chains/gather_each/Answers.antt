@@ -7,9 +7,11 @@ use Rattle.rga_ops.specs.declared.refusal.Taken.TheVariants.{New}
 use Rattle.rga_ops.proofs.AnswerLaws.{ok}
 use Rattle.rga_store.specs.Kept.{Kept}
 use Rattle.rga_sequence.specs.declared.entry.Entry.{Entry}
+use Rattle.rga_records.specs.Chains.{last_of}
+use Rattle.rga_records.proofs.NewerLaws.{last_of-push}
 use Rattle.rga_flat.specs.Chains.{IsGathered, ChainShows}
-use Rattle.rga_flat.proofs.ChainLaws.{last_of, last_of-push, gathered_next, shows_more, own_proper, own_above}
-use Rattle.rga_flat.proofs.chains.gather.Goals as goal
+use Rattle.rga_flat.proofs.ChainLaws.{gathered_next, shows_more, own_proper, own_above}
+use Rattle.rga_flat.proofs.chains.gather_each.Goals as goal
 
 pub returns-in_default-clause-shows : goal.returns-in_default-clause-shows
 returns-in_default-clause-shows c =
