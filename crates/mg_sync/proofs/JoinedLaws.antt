@@ -1,5 +1,5 @@
 -- What links that tell their bytes leave of contents.
-use Rattle.std.proofs.Common.{◌≡◌, inl, inr, ℕ, ◌≤◌, Bool, false, List, ◌++◌, length, Option, None, Some, Result, Ok, Err, IfSome, refl, sym, ap, subst, ◌∙◌, arith, true≢false}
+use Rattle.std.proofs.Common.{◌≡◌, inl, inr, ℕ, Bool, false, List, ◌++◌, length, Option, None, Some, Result, Ok, Err, IfSome, refl, sym, ap, subst, ◌∙◌, arith, true≢false}
 use Rattle.std.specs.Io.KnownBytes.{Keeps, Appends}
 use Rattle.std.proofs.lemmas.List.{append_cancel_left}
 use Rattle.rga_ops.specs.Content.{element, Content, Holds, IsWithin, IsSound, Agree, join, content_of, known_count}
@@ -29,7 +29,7 @@ use Rattle.mg_sync.specs.declared.talking.Exchanged.{Exchanged}
 use Rattle.mg_sync.specs.Talking.{told_to, told_content, SendsOver}
 use Rattle.mg_sync.specs.Asking.{Role, Connects, Waits, Wire, LearnsOver, Asks}
 use Rattle.mg_sync.specs.Meeting.{Ending, Unsaved, Unopened, Unasked, Unsent, Unended, Met, answer_of, Came, Meets}
-use Rattle.mg_sync.specs.Linking.{counted, Account, Passes, ExchangesOver, Whole, Tells, JoinsPart, Meet, HaveMet, HaveMetBriefly}
+use Rattle.mg_sync.specs.Linking.{counted, Account, Passes, ExchangesOver, Whole, Tells, JoinsPart, Meet, HaveMetBriefly}
 use Rattle.mg_sync.proofs.MeetingLaws.{saved_content, saved_brief}
 
 -- no answer is both a value and a fault
@@ -106,16 +106,6 @@ outcome_joined limit n c d bytes h = by (stream_taken Exchange limit c bytes).st
     by (AtEnd number) is told = stream_joined limit (stream_taken Exchange limit c bytes).lines c d number bytes (λ k. progress (stream_taken Exchange limit c bytes).lines (content k) (is k))
     by (AtFault e) is told = absurd (not_both n (receive_fault e) _ told refl)
 
--- what was sent stands for what was told, to what agrees with what was held
-sent_joined : {L : Type 0} (peer : Option Summary) (contents : L → Option (List ℕ)) (old new : Calls L) (n : ℕ) (c d : Content) → SendsOver peer contents old new (Ok n) c → IsSound c → Agree d c
-    → join d (content_of (stream_operations (exchange_text (told_to peer c)))) ≡ join d (told_content peer c)
-sent_joined peer contents old new n c d s sound agree =
-    let all : ℕ = known_count (join d (told_content peer c)) in
-    sym (outcome_joined all n d (join d (told_content peer c)) (exchange_text (told_to peer c)) (s.received all d sound agree (least all)))
-  where
-    least : (k : ℕ) → k ≤ k
-    least k = omega (arith)
-
 -- a link that tells what was written on another tells all of it
 tells_all : {L M : Type 0} (remaining : L → Option (List ℕ)) (contents : M → Option (List ℕ)) (link : L) (old new : Calls M) (text : List ℕ)
     → (t : Tells remaining contents link old.inner new.inner) → Writes contents old new text → t.bytes ≡ text
@@ -123,6 +113,16 @@ tells_all remaining contents link old new text t written =
     let some : Appends (Some t.front) (contents new.inner) text = subst (λ k. Appends k (contents new.inner) text) t.before written in
     let both : Appends (Some t.front) (Some (t.front ++ t.bytes)) text = subst (λ k. Appends (Some t.front) k text) t.behind some in
     append_cancel_left t.front t.bytes text both
+
+-- so it stands for what was told to the peer, where the two agree
+told_joined : {L M : Type 0} (remaining : L → Option (List ℕ)) (contents : M → Option (List ℕ)) (link : L) (peer : Option Summary) (old new : Calls M) (n : ℕ) (c d : Content)
+    → (t : Tells remaining contents link old.inner new.inner) → SendsOver peer contents old new (Ok n) c → IsSound c → Agree d c
+    → join d (content_of (stream_operations t.bytes)) ≡ join d (told_content peer c)
+told_joined remaining contents link peer old new n c d t s sound agree =
+    let text : List ℕ = exchange_text (told_to peer c) in
+    let all : ℕ = known_count (join d (told_content peer c)) in
+    ap (λ bytes. join d (content_of (stream_operations bytes))) (tells_all remaining contents link old new text t s.written)
+    ∙ sym (outcome_joined all n d (join d (told_content peer c)) text (s.received all d sound agree (omega (arith))))
 
 sound_joined : (c d : Content) → IsSound c → IsSound d → IsSound (join c d)
 sound_joined c d first second op h = elim (join_holds c d op h) [
@@ -159,8 +159,7 @@ module _ {L M : Type 0} (a : Account L) (b d : OpenState) (their : Account M) (t
       let first = m.connects.passes.first in
       let sends = subst (λ x. SendsOver first.peer a.wire.contents first.begins.asked first.sent (Ok m.answer.sent) x) (saved_content b) first.sends in
       serve_joins their their_b their_d m.their_answer m.there.bytes m.waits m.there.told
-      ∙ ap (λ bytes. join e (content_of (stream_operations bytes))) (tells_all their.wire.remaining a.wire.contents m.waits.passes.0.begins.asked.inner first.begins.asked first.sent (exchange_text (told_to first.peer c)) m.there sends.written)
-      ∙ sent_joined first.peer a.wire.contents first.begins.asked first.sent m.answer.sent c e sends sound (agree_swap c e agree)
+      ∙ told_joined their.wire.remaining a.wire.contents m.waits.passes.0.begins.asked.inner first.peer first.begins.asked first.sent m.answer.sent c e m.there sends sound (agree_swap c e agree)
 
   our_join : IsSound b.buffer.content → IsSound their_b.buffer.content → Agree b.buffer.content their_b.buffer.content → d.buffer.content ≡ join b.buffer.content (told_content m.waits.passes.0.peer their_d.buffer.content)
   our_join sound their_sound agree =
@@ -175,8 +174,7 @@ module _ {L M : Type 0} (a : Account L) (b d : OpenState) (their : Account M) (t
       let heard = m.waits.passes.0 in
       let reply = m.waits.passes.1 in
       exchange_joins a b d m.answer m.back.bytes m.connects m.back.told
-      ∙ ap (λ bytes. join c (content_of (stream_operations bytes))) (tells_all a.wire.remaining their.wire.contents m.connects.passes.first.sent.inner (counted heard.heard.inner) reply.sent (exchange_text (told_to heard.peer f)) m.back reply.sends.written)
-      ∙ sent_joined heard.peer their.wire.contents (counted heard.heard.inner) reply.sent m.their_answer.sent f c reply.sends all still
+      ∙ told_joined a.wire.remaining their.wire.contents m.connects.passes.first.sent.inner heard.peer (counted heard.heard.inner) reply.sent m.their_answer.sent f c m.back reply.sends all still
 
   -- where what each told is as good as all
   meet_by : IsSound b.buffer.content → IsSound their_b.buffer.content → Agree b.buffer.content their_b.buffer.content
@@ -220,14 +218,13 @@ heard_as_told remaining contents link new old next c peer t told learns =
     subst (IsSummary c) is told.is
 
 module _ {L M : Type 0} (a : Account L) (b d : OpenState) (their : Account M) (their_b their_d : OpenState) where
-  pub meet : HaveMet a b d their their_b their_d → IsSound b.buffer.content → IsSound their_b.buffer.content
+  pub meet : Meet a b d their their_b their_d → b.brief ≡ false → their_b.brief ≡ false → IsSound b.buffer.content → IsSound their_b.buffer.content
       → Agree b.buffer.content their_b.buffer.content → (d.buffer.content ≡ join b.buffer.content their_b.buffer.content) × (their_d.buffer.content ≡ d.buffer.content)
-  meet h sound their_sound agree =
-      let m = h.meet in
+  meet m whole their_whole sound their_sound agree =
       let ours = m.connects.passes.first.begins in
       let theirs = m.waits.passes.0.begins in
-      let first = no_peer a.wire Connects b (counted ours.link) ours.asked m.connects.passes.first.peer h.whole ours.asks in
-      let reply = no_peer their.wire Waits their_b (counted theirs.link) theirs.asked m.waits.passes.0.peer h.their_whole theirs.asks in
+      let first = no_peer a.wire Connects b (counted ours.link) ours.asked m.connects.passes.first.peer whole ours.asks in
+      let reply = no_peer their.wire Waits their_b (counted theirs.link) theirs.asked m.waits.passes.0.peer their_whole theirs.asks in
       meet_by a b d their their_b their_d m sound their_sound agree (ap (λ p. join their_b.buffer.content (told_content p b.buffer.content)) first)
       (λ _. ap (λ p. join b.buffer.content (told_content p their_d.buffer.content)) reply)
 

@@ -2,7 +2,6 @@
 use Rattle.std.proofs.Common.{◌≡◌, ℕ, true, List, [], ◌∷◌, Option, Result, Ok, Err, MatchResult, refl, sym, ap, subst, ◌∙◌}
 use Rattle.rga_lines.specs.Counting.{Calls}
 use Rattle.rga_lines.specs.Log.{operations_of, behind_head}
-use Rattle.rga_exchange.specs.declared.fault.ReceiveFault.{ReceiveFault}
 use Rattle.rga_exchange.specs.declared.fault.SendFault.{SendFault}
 use Rattle.rga_digest.specs.Summary.{Summary}
 use Rattle.mg_files.specs.declared.port.CallKind.TheVariants.{Connect, Accept, Finish}

@@ -120,12 +120,6 @@ module _ {L M : Type 0} (a : Account L) (b d : OpenState) (their : Account M) (t
     pub there : Tells their.wire.remaining a.wire.contents waits.passes.0.begins.asked.inner connects.passes.first.begins.asked.inner connects.passes.first.sent.inner
     pub back : Tells a.wire.remaining their.wire.contents connects.passes.first.sent.inner waits.passes.0.heard.inner waits.passes.1.sent.inner
 
-  -- Neither asked what the other knows.
-  pub record HaveMet : Type 0 where
-    pub meet : Meet
-    pub whole : b.brief ≡ false
-    pub their_whole : their_b.brief ≡ false
-
   -- Each asked, and its link tells what the other wrote of what it knows.
   pub record HaveMetBriefly : Type 0 where
     pub meet : Meet

@@ -1,12 +1,12 @@
 //! Theorems about exchanges. Each function does nothing: its contract is the theorem.
-ghost use Rattle.std.specs.Prelude.{◌≡◌, ℕ, List, Some, Ok};
+ghost use Rattle.std.specs.Prelude.{◌≡◌, false, ℕ, List, Some, Ok};
 ghost use Rattle.rga_ops.specs.Content.{Agree, IsSound, join, content_of};
 ghost use Rattle.rga_lines.specs.Log.{stream_operations};
 ghost use Rattle.rga_digest.specs.Summary.{DigestsTellApart};
 ghost use Rattle.mg_files.specs.OpenState.{OpenState};
 ghost use Rattle.mg_sync.specs.Asking.{Role, Connects, Waits};
 ghost use Rattle.mg_sync.specs.Linking.{Account, ExchangesOver, Whole};
-ghost use Rattle.mg_sync.specs.Linking.{HaveMet, HaveMetBriefly, JoinsPart, Meet};
+ghost use Rattle.mg_sync.specs.Linking.{HaveMetBriefly, JoinsPart, Meet};
 ghost use Rattle.mg_sync.specs.declared.talking.Exchanged.{Exchanged};
 
 use mg_files::Port;
@@ -37,7 +37,8 @@ pub fn what_a_link_tells_is_joined<P: Port>()
 /// operations are well-formed and agree: the join of both.
 pub fn two_that_meet_hold_one_content<P: Port, Q: Port>()
     ensures { (a : Account P.Link) (b d : OpenState) (their : Account Q.Link)
-        (their_b their_d : OpenState) → HaveMet a b d their their_b their_d
+        (their_b their_d : OpenState) → Meet a b d their their_b their_d
+        → b.brief ≡ false → their_b.brief ≡ false
         → IsSound b.buffer.content → IsSound their_b.buffer.content
         → Agree b.buffer.content their_b.buffer.content
         → (d.buffer.content ≡ join b.buffer.content their_b.buffer.content)
