@@ -29,7 +29,7 @@ use Rattle.mg_sync.specs.declared.talking.Exchanged.{Exchanged}
 use Rattle.mg_sync.specs.Talking.{told_to, told_content, SendsOver}
 use Rattle.mg_sync.specs.Asking.{Role, Connects, Waits, Wire, LearnsOver, Asks}
 use Rattle.mg_sync.specs.Meeting.{Ending, Unsaved, Unopened, Unasked, Unsent, Unended, Met, answer_of, Came, Meets}
-use Rattle.mg_sync.specs.Linking.{counted, Account, Passes, ExchangesOver, Whole, Tells, JoinsPart, Meet, HaveMetBriefly}
+use Rattle.mg_sync.specs.Linking.{counted, Account, PassesOver, ExchangesOver, Whole, Tells, JoinsPart, Meet, HaveMetBriefly}
 use Rattle.mg_sync.proofs.MeetingLaws.{saved_content, saved_brief}
 
 -- no answer is both a value and a fault
@@ -45,7 +45,7 @@ module _ {L : Type 0} (a : Account L) (b d : OpenState) (role : Role) (e : Excha
   pub has_link : ExchangesOver a b d role (Ok e) → Whole a b d role e
   has_link x = by x.course.ending x.course.answered x.course.came x.passes
     where
-      by : (ending : Ending) → Ok e ≡ answer_of ending → (came : Came a.calls a.made b d role ending) → Passes a b d role ending came → Whole a b d role e
+      by : (ending : Ending) → Ok e ≡ answer_of ending → (came : Came a.calls a.made b d role ending) → PassesOver a b d role ending came → Whole a b d role e
       by (Met (Ok n) (Ok m) (Ok changed)) is came passes =
           let same : record { sent = n; received = m } ≡ e = one_value (record { sent = n; received = m }) e _ refl (sym is) in
           subst (λ (x : Exchanged). Whole a b d role x) same (record { changed = changed; came = came; passes = passes })

@@ -16,13 +16,13 @@ use Rattle.mg_sync.specs.declared.fault.ExchangeFault.TheVariants.{Save, Link, S
 use Rattle.mg_sync.specs.declared.talking.Exchanged.{Exchanged}
 use Rattle.mg_sync.specs.Asking.{Role, Connects, Waits, Asks, Wire}
 use Rattle.mg_sync.specs.Talking.{HearsOver, TakesSome}
-use Rattle.mg_sync.specs.Meeting.{Ending, Unsaved, Unopened, Unasked, Unsent, Unended, Met, answer_of, counts, taken, opening, is_talk, EndsBehind, Takes, Meets, Came}
-use Rattle.mg_sync.specs.Linking.{counted, Account, Begins, SendsFirst, ThenHears, HearsFirst, ThenSends, Passes, ExchangesOver}
+use Rattle.mg_sync.specs.Meeting.{Ending, Unsaved, Unopened, Unasked, Unsent, Unended, Met, answer_of, whole_answer, peer_answer, opening, is_talk, EndsBehind, Takes, Meets, Came}
+use Rattle.mg_sync.specs.Linking.{counted, Account, BeginsOver, SendsFirst, ThenHears, HearsFirst, ThenSends, PassesOver, ExchangesOver}
 use Rattle.mg_sync.proofs.MeetingLaws.{adds_then, saved_brief, gains_came}
 
 -- how an exchange ended says all of it
 over : {L : Type 0} (a : Account L) (b d : OpenState) {answer : Result Exchanged ExchangeFault} (role : Role) (ending : Ending)
-    → answer ≡ answer_of ending → (came : Came a.calls a.made b d role ending) → Passes a b d role ending came → ExchangesOver a b d role answer
+    → answer ≡ answer_of ending → (came : Came a.calls a.made b d role ending) → PassesOver a b d role ending came → ExchangesOver a b d role answer
 over a b d role ending is came passes = record {
   course = record { ending = ending; answered = is; came = came; gains = gains_came a.calls a.made b d role ending came };
   passes = passes;
@@ -54,7 +54,7 @@ pub record Saved {L : Type 0} (a : Account L) (b s : OpenState) : Type 0 where
 module _ {L : Type 0} {a : Account L} {b s : OpenState} (k : Saved a b s) where
   -- a link was opened, and others were not, and none of its calls is counted yet
   abbrev pub begins : (role : Role) (answer : Result (Option Summary) ExchangeFault) (link : L) (asked : Calls L) {more : Option (List L)} {fresh : Calls L}
-      → Opens k.links more link → a.opened ≡ more → fresh ≡ counted link → Asks a.wire role s fresh asked answer → Begins a s role answer
+      → Opens k.links more link → a.opened ≡ more → fresh ≡ counted link → Asks a.wire role s fresh asked answer → BeginsOver a s role answer
   begins role answer link asked {more = more} opens behind is asks = record {
     link = link;
     opens = subst (λ x. Opens a.links x link) (sym behind) (subst (λ x. Opens x more link) k.same opens);
@@ -68,11 +68,11 @@ module _ {L : Type 0} {a : Account L} {b s : OpenState} (k : Saved a b s) where
   pub unopened : {answer : Result Exchanged ExchangeFault} (role : Role) (fault : LinkFault) → answer ≡ Err (Link fault) → Adds k.calls a.made (link_refusals fault (opening role)) → a.opened ≡ k.links → ExchangesOver a b s role answer
   unopened role fault is makes same = over a b s role (Unopened fault) is (ends (link_refusals fault (opening role)) makes) (same ∙ k.same)
 
-  pub unasked : {answer : Result Exchanged ExchangeFault} (role : Role) (fault : ExchangeFault) → answer ≡ Err fault → Adds k.calls a.made (opening role ∷ []) → Begins a s role (Err fault) → ExchangesOver a b s role answer
+  pub unasked : {answer : Result Exchanged ExchangeFault} (role : Role) (fault : ExchangeFault) → answer ≡ Err fault → Adds k.calls a.made (opening role ∷ []) → BeginsOver a s role (Err fault) → ExchangesOver a b s role answer
   unasked role fault is makes begun =
       let t = talk a.wire role s (counted begun.link) begun.asked fault begun.asks in
       over a b s role (Unasked fault) is (sym (saved_brief b) ∙ sym (ap (λ (x : OpenState). x.brief) k.left) ∙ t.0, (t.1, ends (opening role ∷ []) makes))
-      (subst (λ x. Begins a x role (Err fault)) k.left begun)
+      (subst (λ x. BeginsOver a x role (Err fault)) k.left begun)
 
   pub unsent : {answer : Result Exchanged ExchangeFault} (fault : SendFault) → answer ≡ Err (Send fault) → Adds k.calls a.made (link_call Connect ∷ []) → SendsFirst a s (Err fault) → ExchangesOver a b s Connects answer
   unsent fault is makes sends = over a b s Connects (Unsent fault) is (ends (link_call Connect ∷ []) makes) (subst (λ x. SendsFirst a x (Err fault)) k.left sends)
@@ -95,14 +95,14 @@ module _ {L : Type 0} {a : Account L} {b s : OpenState} (k : Saved a b s) where
       saves = t.saves;
     }
 
-    pub turned : {answer : Result Exchanged ExchangeFault} (n : ℕ) → answer ≡ counts (Ok n) r → Adds k.calls mid (link_call Connect ∷ link_call Finish ∷ []) → ThenHears a s n t.heard t.met → ExchangesOver a b d Connects answer
+    pub turned : {answer : Result Exchanged ExchangeFault} (n : ℕ) → answer ≡ whole_answer (Ok n) r → Adds k.calls mid (link_call Connect ∷ link_call Finish ∷ []) → ThenHears a s n t.heard t.met → ExchangesOver a b d Connects answer
     turned n is makes hears =
-        over a b d Connects (Met (Ok n) t.heard t.kept) (is ∙ ap (counts (Ok n)) t.answered) (meets (link_call Connect ∷ link_call Finish ∷ []) makes)
+        over a b d Connects (Met (Ok n) t.heard t.kept) (is ∙ ap (whole_answer (Ok n)) t.answered) (meets (link_call Connect ∷ link_call Finish ∷ []) makes)
         (subst (λ x. ThenHears a x n t.heard t.met) k.left hears)
 
-    pub waited : {answer : Result Exchanged ExchangeFault} (sent : Result ℕ SendFault) → answer ≡ counts sent r → Adds k.calls mid (link_call Accept ∷ []) → (h : HearsFirst a s t.heard t.met) → MatchResult r (λ _. ThenSends a s h sent d.buffer.content) (λ _. sent ≡ Ok 0)
+    pub waited : {answer : Result Exchanged ExchangeFault} (sent : Result ℕ SendFault) → answer ≡ whole_answer sent r → Adds k.calls mid (link_call Accept ∷ []) → (h : HearsFirst a s t.heard t.met) → MatchResult r (λ _. ThenSends a s h sent d.buffer.content) (λ _. sent ≡ Ok 0)
         → ExchangesOver a b d Waits answer
     waited sent is makes h sends =
-        over a b d Waits (Met sent t.heard t.kept) (is ∙ ap (counts sent) t.answered) (meets (link_call Accept ∷ []) makes)
-        (subst (λ x. (first : HearsFirst a x t.heard t.met) × MatchResult (taken t.heard t.kept) (λ _. ThenSends a x first sent d.buffer.content) (λ _. sent ≡ Ok 0)) k.left
+        over a b d Waits (Met sent t.heard t.kept) (is ∙ ap (whole_answer sent) t.answered) (meets (link_call Accept ∷ []) makes)
+        (subst (λ x. (first : HearsFirst a x t.heard t.met) × MatchResult (peer_answer t.heard t.kept) (λ _. ThenSends a x first sent d.buffer.content) (λ _. sent ≡ Ok 0)) k.left
         (h, subst (λ x. MatchResult x (λ _. ThenSends a s h sent d.buffer.content) (λ _. sent ≡ Ok 0)) t.answered sends))

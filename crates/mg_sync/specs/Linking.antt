@@ -14,13 +14,14 @@ use Rattle.mg_sync.specs.declared.fault.ExchangeFault.{ExchangeFault}
 use Rattle.mg_sync.specs.declared.talking.Exchanged.{Exchanged}
 use Rattle.mg_sync.specs.Talking.{SendsOver, HearsOver}
 use Rattle.mg_sync.specs.Asking.{Role, Connects, Waits, Wire, SaysThenLearns, LearnsThenSays, Asks}
-use Rattle.mg_sync.specs.Meeting.{Ending, Unsaved, Unopened, Unasked, Unsent, Unended, Met, taken, Came, Exchanges}
+use Rattle.mg_sync.specs.Meeting.{Ending, Unsaved, Unopened, Unasked, Unsent, Unended, Met, peer_answer, Came, Exchanges}
 
 -- a link of which no call is counted yet
 abbrev pub counted : {L : Type 0} → L → Calls L
 counted link = record { inner = link; failures = 0; left = MAX_CALLS; at_end = false; flushed = true }
 
--- What a port tells of an exchange: what its links tell, which links were open before it and behind it, and so its calls.
+-- What a port tells of an exchange: the bytes of its links; the links that were opened before it, and those behind it; and
+-- so its calls.
 pub record Account (L : Type 0) : Type 0 where
   pub wire : Wire L
   pub links : Option (List L)
@@ -28,27 +29,27 @@ pub record Account (L : Type 0) : Type 0 where
   pub calls : Option (List Call)
   pub made : Option (List Call)
 
--- that of a port, by what is told of its links and by it, from the one state of it to the other
+-- that of a port, from the one state of it to the other
 abbrev pub account : {L P : Type 0} → (L → Option (List ℕ)) → (L → Option (List ℕ)) → (P → Option (List L)) → (P → Option (List Call)) → P → P → Account L
 account remaining contents links calls old new =
     record { wire = record { remaining = remaining; contents = contents }; links = links old; opened = links new; calls = calls old; made = calls new }
 
 module _ {L : Type 0} (a : Account L) (s : OpenState) where
-  -- One link was opened, and the peer asked what it knows, or nothing.
-  pub record Begins (role : Role) (answer : Result (Option Summary) ExchangeFault) : Type 0 where
+  -- One link was opened, and where the exchange is brief each asked what the other knows, with this answer.
+  pub record BeginsOver (role : Role) (answer : Result (Option Summary) ExchangeFault) : Type 0 where
     pub link : L
     pub opens : Opens a.links a.opened link
     pub asked : Calls L
     pub asks : Asks a.wire role s (counted link) asked answer
 
-  -- What is told to the peer was sent behind that.
+  -- Behind that what is told to the peer was sent.
   pub record SendsFirst (answer : Result ℕ SendFault) : Type 0 where
     pub peer : Option Summary
-    pub begins : Begins Connects (Ok peer)
+    pub begins : BeginsOver Connects (Ok peer)
     pub sent : Calls L
     pub sends : SendsOver peer a.wire.contents begins.asked sent answer s.buffer.content
 
-  -- It was all sent, and once that was ended the peer was heard.
+  -- All of it was sent, and once the sending was ended the peer was heard.
   pub record ThenHears (sent : ℕ) (answer : Result ℕ ReceiveFault) (met : OpenState) : Type 0 where
     pub first : SendsFirst (Ok sent)
     pub ended : L
@@ -56,42 +57,42 @@ module _ {L : Type 0} (a : Account L) (s : OpenState) where
     pub heard : Calls L
     pub hears : HearsOver a.wire.remaining (counted ended) heard answer s met
 
-  -- Or the peer was heard behind that.
+  -- The peer was heard at once behind that.
   pub record HearsFirst (answer : Result ℕ ReceiveFault) (met : OpenState) : Type 0 where
     pub peer : Option Summary
-    pub begins : Begins Waits (Ok peer)
+    pub begins : BeginsOver Waits (Ok peer)
     pub heard : Calls L
     pub hears : HearsOver a.wire.remaining begins.asked heard answer s met
 
-  -- And then what is told to it of this content was sent.
+  -- Then what is told to it of this content was sent.
   pub record ThenSends {heard : Result ℕ ReceiveFault} {met : OpenState} (first : HearsFirst heard met) (answer : Result ℕ SendFault) (c : Content) : Type 0 where
     pub sent : Calls L
     pub sends : SendsOver first.peer a.wire.contents (counted first.heard.inner) sent answer c
 
 module _ {L : Type 0} (a : Account L) (b d : OpenState) where
-  -- What passed over the one link that was opened, by how the exchange ended, or that none was. A replica that waits sends
-  -- nothing where it did not take the peer.
-  abbrev pub Passes : (role : Role) (ending : Ending) → Came a.calls a.made b d role ending → Type 0
-  Passes role (Unsaved fault) came = a.opened ≡ a.links
-  Passes role (Unopened fault) came = a.opened ≡ a.links
-  Passes role (Unasked fault) came = Begins a (saved b) role (Err fault)
-  Passes Connects (Unsent fault) came = SendsFirst a (saved b) (Err fault)
-  Passes Connects (Unended fault) came = (sent : ℕ) × SendsFirst a (saved b) (Ok sent)
-  Passes Connects (Met (Ok sent) heard kept) came = ThenHears a (saved b) sent heard came.met
-  Passes Waits (Met sent heard kept) came =
-      (first : HearsFirst a (saved b) heard came.met) × MatchResult (taken heard kept) (λ _. ThenSends a (saved b) first sent d.buffer.content) (λ _. sent ≡ Ok 0)
-  Passes role ending came = ⊤
+  -- What passed over the one link that was opened, by how the exchange ended, or that none was opened. A replica that waits
+  -- sends nothing where it did not take the peer.
+  abbrev pub PassesOver : (role : Role) (ending : Ending) → Came a.calls a.made b d role ending → Type 0
+  PassesOver role (Unsaved fault) came = a.opened ≡ a.links
+  PassesOver role (Unopened fault) came = a.opened ≡ a.links
+  PassesOver role (Unasked fault) came = BeginsOver a (saved b) role (Err fault)
+  PassesOver Connects (Unsent fault) came = SendsFirst a (saved b) (Err fault)
+  PassesOver Connects (Unended fault) came = (sent : ℕ) × SendsFirst a (saved b) (Ok sent)
+  PassesOver Connects (Met (Ok sent) heard kept) came = ThenHears a (saved b) sent heard came.met
+  PassesOver Waits (Met sent heard kept) came =
+      (first : HearsFirst a (saved b) heard came.met) × MatchResult (peer_answer heard kept) (λ _. ThenSends a (saved b) first sent d.buffer.content) (λ _. sent ≡ Ok 0)
+  PassesOver role ending came = ⊤
 
   -- Each whole: what was done, and what passed.
   pub record ExchangesOver (role : Role) (answer : Result Exchanged ExchangeFault) : Type 0 where
     pub course : Exchanges role a.calls a.made b d answer
-    pub passes : Passes role course.ending course.came
+    pub passes : PassesOver role course.ending course.came
 
   -- All was sent, heard and saved.
   pub record Whole (role : Role) (e : Exchanged) : Type 0 where
     pub changed : Bool
     pub came : Came a.calls a.made b d role (Met (Ok e.sent) (Ok e.received) (Ok changed))
-    pub passes : Passes role (Met (Ok e.sent) (Ok e.received) (Ok changed)) came
+    pub passes : PassesOver role (Met (Ok e.sent) (Ok e.received) (Ok changed)) came
 
 -- ---- two that meet
 

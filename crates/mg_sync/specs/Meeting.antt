@@ -28,17 +28,17 @@ pub data Ending : Type 0 where
   Unended : LinkFault → Ending
   Met : Result ℕ SendFault → Result ℕ ReceiveFault → Result Bool PortFault → Ending
 
--- what is answered to a peer that is heard, and to the save behind it: a fault of the peer whatever came of the save
-abbrev pub taken : Result ℕ ReceiveFault → Result Bool PortFault → Result ℕ ExchangeFault
-taken (Err fault) kept = Err (Receive fault)
-taken (Ok received) (Err fault) = Err (Save fault)
-taken (Ok received) (Ok changed) = Ok received
+-- what is answered of a peer that was heard, and of the save behind it: a fault of the peer, whatever came of the save
+abbrev pub peer_answer : Result ℕ ReceiveFault → Result Bool PortFault → Result ℕ ExchangeFault
+peer_answer (Err fault) kept = Err (Receive fault)
+peer_answer (Ok received) (Err fault) = Err (Save fault)
+peer_answer (Ok received) (Ok changed) = Ok received
 
--- and with what was sent
-abbrev pub counts : Result ℕ SendFault → Result ℕ ExchangeFault → Result Exchanged ExchangeFault
-counts sent (Err fault) = Err fault
-counts (Err fault) (Ok received) = Err (Send fault)
-counts (Ok sent) (Ok received) = Ok (record { sent = sent; received = received })
+-- and of what was sent, too
+abbrev pub whole_answer : Result ℕ SendFault → Result ℕ ExchangeFault → Result Exchanged ExchangeFault
+whole_answer sent (Err fault) = Err fault
+whole_answer (Err fault) (Ok received) = Err (Send fault)
+whole_answer (Ok sent) (Ok received) = Ok (record { sent = sent; received = received })
 
 abbrev pub answer_of : Ending → Result Exchanged ExchangeFault
 answer_of (Unsaved fault) = Err (Save fault)
@@ -46,15 +46,15 @@ answer_of (Unopened fault) = Err (Link fault)
 answer_of (Unasked fault) = Err fault
 answer_of (Unsent fault) = Err (Send fault)
 answer_of (Unended fault) = Err (Link fault)
-answer_of (Met sent heard kept) = counts sent (taken heard kept)
+answer_of (Met sent heard kept) = whole_answer sent (peer_answer heard kept)
 
 -- ---- what was done
 
--- A peer was heard, to its end or not, and then what was held was saved or not; this is said of what was heard.
+-- A peer was heard, of which this is said, to its end or not, and then what was held was saved or not.
 pub record Takes (Hears : Result ℕ ReceiveFault → OpenState → OpenState → Type 0) (old new : Option (List Call)) (b d : OpenState) (answer : Result ℕ ExchangeFault) : Type 0 where
   pub heard : Result ℕ ReceiveFault
   pub kept : Result Bool PortFault
-  pub answered : answer ≡ taken heard kept
+  pub answered : answer ≡ peer_answer heard kept
   pub met : OpenState
   pub hears : Hears heard b met
   pub saves : SavesTo kept old new met d
@@ -85,7 +85,8 @@ module _ (old new : Option (List Call)) (b d : OpenState) where
     pub took : TakesSome (saved b) met
     pub saves : SavesTo kept mid new met d
 
-  -- A replica that connects sends all before it hears the peer, and one that waits replies once all is saved.
+  -- A replica that connects sends all before it hears the peer, and one that waits replies once all is saved: so neither
+  -- ends in any other way.
   abbrev pub Came : Role → Ending → Type 0
   Came role (Unsaved fault) = SaveFailed fault old new b d
   Came role (Unopened fault) = EndsBehind (link_refusals fault (opening role))
@@ -96,7 +97,7 @@ module _ (old new : Option (List Call)) (b d : OpenState) where
   Came Waits (Met sent heard kept) = Meets (link_call Accept ∷ []) kept
   Came role ending = ⊥
 
--- What came of it is answered, and nothing was lost, whatever is answered.
+-- How it ended is what is answered, and nothing was lost, whatever that is.
 pub record Exchanges (role : Role) (old new : Option (List Call)) (b d : OpenState) (answer : Result Exchanged ExchangeFault) : Type 0 where
   pub ending : Ending
   pub answered : answer ≡ answer_of ending

@@ -4,7 +4,7 @@ use Rattle.mg_files.specs.Calls.{link_call}
 use Rattle.mg_files.specs.Links.{KeepsBytes}
 use Rattle.mg_sync.specs.Asking.{Connects}
 use Rattle.mg_sync.specs.Talking.{HearsOver}
-use Rattle.mg_sync.specs.Linking.{account, Begins, SendsFirst, ThenHears}
+use Rattle.mg_sync.specs.Linking.{account, BeginsOver, SendsFirst, ThenHears}
 use Rattle.mg_sync.proofs.MeetingLaws.{adds_then}
 use Rattle.mg_sync.proofs.LinkLaws.{Saved, begins, unsaved, unopened, unasked, unsent, unended, turned}
 use Rattle.mg_sync.proofs.client.exchange.Goals as goal
@@ -28,7 +28,7 @@ returns-in_err-peer-clause-exchanges g c =
     let s = c.save.new.self in
     let e = c.in_ok-save.ensures in
     let k : Saved a c.args.opened.now s = record { calls = g.P.Port.calls c.save.new.port; links = g.P.Port.links c.save.new.port; saves = e.calls; same = e.links; left = e.saved } in
-    let begun : Begins a s Connects (Err c.in_err-peer.field-0.0) = begins k Connects (Err c.in_err-peer.field-0.0) c.in_ok-connect.field-0 c.ask.new.link c.in_ok-connect.ensures.opens refl c.new-writer.ensures c.in_err-peer.ensures in
+    let begun : BeginsOver a s Connects (Err c.in_err-peer.field-0.0) = begins k Connects (Err c.in_err-peer.field-0.0) c.in_ok-connect.field-0 c.ask.new.link c.in_ok-connect.ensures.opens refl c.new-writer.ensures c.in_err-peer.ensures in
     unasked k Connects c.in_err-peer.field-0.0 (search rules) c.in_ok-connect.ensures.tells begun
 
 pub returns-in_err-sent-clause-exchanges : goal.returns-in_err-sent-clause-exchanges
@@ -37,7 +37,7 @@ returns-in_err-sent-clause-exchanges g c =
     let s = c.save.new.self in
     let e = c.in_ok-save.ensures in
     let k : Saved a c.args.opened.now s = record { calls = g.P.Port.calls c.save.new.port; links = g.P.Port.links c.save.new.port; saves = e.calls; same = e.links; left = e.saved } in
-    let begun : Begins a s Connects (Ok c.in_ok-peer.peer) = begins k Connects (Ok c.in_ok-peer.peer) c.in_ok-connect.field-0 c.ask.new.link c.in_ok-connect.ensures.opens refl c.new-writer.ensures c.in_ok-peer.ensures in
+    let begun : BeginsOver a s Connects (Ok c.in_ok-peer.peer) = begins k Connects (Ok c.in_ok-peer.peer) c.in_ok-connect.field-0 c.ask.new.link c.in_ok-connect.ensures.opens refl c.new-writer.ensures c.in_ok-peer.ensures in
     let sends : SendsFirst a s (Err c.in_err-sent.field-0.0) = record { peer = c.in_ok-peer.peer; begins = begun; sent = c.tell.new.writer; sends = c.in_err-sent.ensures } in
     unsent k c.in_err-sent.field-0.0 (search rules) c.in_ok-connect.ensures.tells sends
 
@@ -47,7 +47,7 @@ returns-in_err-finish-clause-exchanges g c =
     let s = c.save.new.self in
     let e = c.in_ok-save.ensures in
     let k : Saved a c.args.opened.now s = record { calls = g.P.Port.calls c.save.new.port; links = g.P.Port.links c.save.new.port; saves = e.calls; same = e.links; left = e.saved } in
-    let begun : Begins a s Connects (Ok c.in_ok-peer.peer) = begins k Connects (Ok c.in_ok-peer.peer) c.in_ok-connect.field-0 c.ask.new.link c.in_ok-connect.ensures.opens c.finish.ensures.links c.new-writer.ensures c.in_ok-peer.ensures in
+    let begun : BeginsOver a s Connects (Ok c.in_ok-peer.peer) = begins k Connects (Ok c.in_ok-peer.peer) c.in_ok-connect.field-0 c.ask.new.link c.in_ok-connect.ensures.opens c.finish.ensures.links c.new-writer.ensures c.in_ok-peer.ensures in
     let sends : SendsFirst a s (Ok c.in_ok-sent.sent) = record { peer = c.in_ok-peer.peer; begins = begun; sent = c.tell.new.writer; sends = c.in_ok-sent.ensures } in
     unended k c.in_err-finish.field-0.0 c.in_ok-sent.sent (g.P.Port.calls c.connect.new.self) (search rules) c.in_ok-connect.ensures.tells c.in_err-finish.ensures.tells sends
 
@@ -57,7 +57,7 @@ returns-in_err-received-clause-exchanges g c =
     let s = c.save.new.self in
     let e = c.in_ok-save.ensures in
     let k : Saved a c.args.opened.now s = record { calls = g.P.Port.calls c.save.new.port; links = g.P.Port.links c.save.new.port; saves = e.calls; same = e.links; left = e.saved } in
-    let begun : Begins a s Connects (Ok c.in_ok-peer.peer) = begins k Connects (Ok c.in_ok-peer.peer) c.in_ok-connect.field-0 c.ask.new.link c.in_ok-connect.ensures.opens (c.hear_and_save.ensures.links ∙ c.finish.ensures.links) c.new-writer.ensures c.in_ok-peer.ensures in
+    let begun : BeginsOver a s Connects (Ok c.in_ok-peer.peer) = begins k Connects (Ok c.in_ok-peer.peer) c.in_ok-connect.field-0 c.ask.new.link c.in_ok-connect.ensures.opens (c.hear_and_save.ensures.links ∙ c.finish.ensures.links) c.new-writer.ensures c.in_ok-peer.ensures in
     let sends : SendsFirst a s (Ok c.in_ok-sent.sent) = record { peer = c.in_ok-peer.peer; begins = begun; sent = c.tell.new.writer; sends = c.in_ok-sent.ensures } in
     let t = c.in_err-received.ensures.takes in
     let mid = g.P.Port.calls c.finish.new.self in
@@ -77,7 +77,7 @@ returns-clause-exchanges g c =
     let s = c.save.new.self in
     let e = c.in_ok-save.ensures in
     let k : Saved a c.args.opened.now s = record { calls = g.P.Port.calls c.save.new.port; links = g.P.Port.links c.save.new.port; saves = e.calls; same = e.links; left = e.saved } in
-    let begun : Begins a s Connects (Ok c.in_ok-peer.peer) = begins k Connects (Ok c.in_ok-peer.peer) c.in_ok-connect.field-0 c.ask.new.link c.in_ok-connect.ensures.opens (c.hear_and_save.ensures.links ∙ c.finish.ensures.links) c.new-writer.ensures c.in_ok-peer.ensures in
+    let begun : BeginsOver a s Connects (Ok c.in_ok-peer.peer) = begins k Connects (Ok c.in_ok-peer.peer) c.in_ok-connect.field-0 c.ask.new.link c.in_ok-connect.ensures.opens (c.hear_and_save.ensures.links ∙ c.finish.ensures.links) c.new-writer.ensures c.in_ok-peer.ensures in
     let sends : SendsFirst a s (Ok c.in_ok-sent.sent) = record { peer = c.in_ok-peer.peer; begins = begun; sent = c.tell.new.writer; sends = c.in_ok-sent.ensures } in
     let t = c.in_ok-received.ensures.takes in
     let mid = g.P.Port.calls c.finish.new.self in

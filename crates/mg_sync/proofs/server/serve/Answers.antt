@@ -1,7 +1,7 @@
 use Rattle.std.proofs.Common.{rules, Ok, Err, refl, ap, subst, ◌∙◌}
 use Rattle.mg_sync.specs.Asking.{Waits}
 use Rattle.mg_sync.specs.Talking.{SendsOver}
-use Rattle.mg_sync.specs.Linking.{account, counted, Begins, HearsFirst, ThenSends}
+use Rattle.mg_sync.specs.Linking.{account, counted, BeginsOver, HearsFirst, ThenSends}
 use Rattle.mg_sync.proofs.LinkLaws.{Saved, begins, unsaved, unopened, unasked, waited}
 use Rattle.mg_sync.proofs.server.serve.Goals as goal
 
@@ -24,7 +24,7 @@ returns-in_err-peer-clause-serves g c =
     let s = c.save.new.self in
     let e = c.in_ok-save.ensures in
     let k : Saved a c.args.opened.now s = record { calls = g.P.Port.calls c.save.new.port; links = g.P.Port.links c.save.new.port; saves = e.calls; same = e.links; left = e.saved } in
-    let begun : Begins a s Waits (Err c.in_err-peer.field-0.0) = begins k Waits (Err c.in_err-peer.field-0.0) c.in_ok-accept.field-0 c.answer.new.link c.in_ok-accept.ensures.opens refl c.new-reader.ensures c.in_err-peer.ensures in
+    let begun : BeginsOver a s Waits (Err c.in_err-peer.field-0.0) = begins k Waits (Err c.in_err-peer.field-0.0) c.in_ok-accept.field-0 c.answer.new.link c.in_ok-accept.ensures.opens refl c.new-reader.ensures c.in_err-peer.ensures in
     unasked k Waits c.in_err-peer.field-0.0 (search rules) c.in_ok-accept.ensures.tells begun
 
 pub returns-in_err-received-clause-serves : goal.returns-in_err-received-clause-serves
@@ -33,7 +33,7 @@ returns-in_err-received-clause-serves g c =
     let s = c.save.new.self in
     let e = c.in_ok-save.ensures in
     let k : Saved a c.args.opened.now s = record { calls = g.P.Port.calls c.save.new.port; links = g.P.Port.links c.save.new.port; saves = e.calls; same = e.links; left = e.saved } in
-    let begun : Begins a s Waits (Ok c.in_ok-peer.peer) = begins k Waits (Ok c.in_ok-peer.peer) c.in_ok-accept.field-0 c.answer.new.link c.in_ok-accept.ensures.opens c.hear_and_save.ensures.links c.new-reader.ensures c.in_ok-peer.ensures in
+    let begun : BeginsOver a s Waits (Ok c.in_ok-peer.peer) = begins k Waits (Ok c.in_ok-peer.peer) c.in_ok-accept.field-0 c.answer.new.link c.in_ok-accept.ensures.opens c.hear_and_save.ensures.links c.new-reader.ensures c.in_ok-peer.ensures in
     let t = c.in_err-received.ensures.takes in
     let hears : HearsFirst a s t.heard t.met = record { peer = c.in_ok-peer.peer; begins = begun; heard = c.hear_and_save.new.reader; hears = t.hears } in
     waited k (g.P.Port.calls c.accept.new.self) _ _ _ _ t (Ok 0) (search rules) c.in_ok-accept.ensures.tells hears refl
@@ -44,7 +44,7 @@ returns-in_err-sent-clause-serves g c =
     let s = c.save.new.self in
     let e = c.in_ok-save.ensures in
     let k : Saved a c.args.opened.now s = record { calls = g.P.Port.calls c.save.new.port; links = g.P.Port.links c.save.new.port; saves = e.calls; same = e.links; left = e.saved } in
-    let begun : Begins a s Waits (Ok c.in_ok-peer.peer) = begins k Waits (Ok c.in_ok-peer.peer) c.in_ok-accept.field-0 c.answer.new.link c.in_ok-accept.ensures.opens c.hear_and_save.ensures.links c.new-reader.ensures c.in_ok-peer.ensures in
+    let begun : BeginsOver a s Waits (Ok c.in_ok-peer.peer) = begins k Waits (Ok c.in_ok-peer.peer) c.in_ok-accept.field-0 c.answer.new.link c.in_ok-accept.ensures.opens c.hear_and_save.ensures.links c.new-reader.ensures c.in_ok-peer.ensures in
     let t = c.in_ok-received.ensures.takes in
     let hears : HearsFirst a s t.heard t.met = record { peer = c.in_ok-peer.peer; begins = begun; heard = c.hear_and_save.new.reader; hears = t.hears } in
     let fresh = c.new-writer.ensures ∙ ap counted c.into_inner.ensures in
@@ -60,7 +60,7 @@ returns-clause-serves g c =
     let s = c.save.new.self in
     let e = c.in_ok-save.ensures in
     let k : Saved a c.args.opened.now s = record { calls = g.P.Port.calls c.save.new.port; links = g.P.Port.links c.save.new.port; saves = e.calls; same = e.links; left = e.saved } in
-    let begun : Begins a s Waits (Ok c.in_ok-peer.peer) = begins k Waits (Ok c.in_ok-peer.peer) c.in_ok-accept.field-0 c.answer.new.link c.in_ok-accept.ensures.opens c.hear_and_save.ensures.links c.new-reader.ensures c.in_ok-peer.ensures in
+    let begun : BeginsOver a s Waits (Ok c.in_ok-peer.peer) = begins k Waits (Ok c.in_ok-peer.peer) c.in_ok-accept.field-0 c.answer.new.link c.in_ok-accept.ensures.opens c.hear_and_save.ensures.links c.new-reader.ensures c.in_ok-peer.ensures in
     let t = c.in_ok-received.ensures.takes in
     let hears : HearsFirst a s t.heard t.met = record { peer = c.in_ok-peer.peer; begins = begun; heard = c.hear_and_save.new.reader; hears = t.hears } in
     let fresh = c.new-writer.ensures ∙ ap counted c.into_inner.ensures in
