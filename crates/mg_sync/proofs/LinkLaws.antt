@@ -6,22 +6,21 @@ use Rattle.rga_exchange.specs.declared.fault.SendFault.{SendFault}
 use Rattle.rga_digest.specs.Summary.{Summary}
 use Rattle.mg_files.specs.declared.port.CallKind.TheVariants.{Connect, Accept, Finish}
 use Rattle.mg_files.specs.declared.port.LinkFault.{LinkFault}
-use Rattle.mg_files.specs.declared.port.PortFault.{PortFault}
 use Rattle.mg_files.specs.Calls.{Call, Adds, link_call, link_refusals}
 use Rattle.mg_files.specs.Links.{Opens}
 use Rattle.mg_files.specs.OpenState.{OpenState}
-use Rattle.mg_files.specs.Saving.{save_calls, saved, SaveFailed}
+use Rattle.mg_files.specs.Saving.{save_calls, saved}
 use Rattle.mg_sync.specs.declared.fault.ExchangeFault.{ExchangeFault}
 use Rattle.mg_sync.specs.declared.fault.ExchangeFault.TheVariants.{Save, Link, Send, Receive}
 use Rattle.mg_sync.specs.declared.talking.Exchanged.{Exchanged}
 use Rattle.mg_sync.specs.Asking.{Role, Connects, Waits, Asks, Wire}
 use Rattle.mg_sync.specs.Talking.{HearsOver, TakesSome}
-use Rattle.mg_sync.specs.Meeting.{Ending, Unsaved, Unopened, Unasked, Unsent, Unended, Met, answer_of, whole_answer, peer_answer, opening, is_talk, EndsBehind, Takes, Meets, Came}
+use Rattle.mg_sync.specs.Meeting.{Ending, Unopened, Unasked, Unsent, Unended, Met, answer_of, whole_answer, peer_answer, opening, is_talk, EndsBehind, Takes, Meets, Came}
 use Rattle.mg_sync.specs.Linking.{counted, Account, BeginsOver, SendsFirst, ThenHears, HearsFirst, ThenSends, PassesOver, ExchangesOver}
 use Rattle.mg_sync.proofs.MeetingLaws.{adds_then, saved_brief, gains_came}
 
 -- how an exchange ended says all of it
-over : {L : Type 0} (a : Account L) (b d : OpenState) {answer : Result Exchanged ExchangeFault} (role : Role) (ending : Ending)
+pub over : {L : Type 0} (a : Account L) (b d : OpenState) {answer : Result Exchanged ExchangeFault} (role : Role) (ending : Ending)
     → answer ≡ answer_of ending → (came : Came a.calls a.made b d role ending) → PassesOver a b d role ending came → ExchangesOver a b d role answer
 over a b d role ending is came passes = record {
   course = record { ending = ending; answered = is; came = came; gains = gains_came a.calls a.made b d role ending came };
@@ -38,10 +37,6 @@ talk wire Connects s old new (Save fault) asks = elim asks [ ]
 talk wire Connects s old new (Link fault) asks = elim asks [ ]
 talk wire Waits s old new (Save fault) asks = elim asks [ ]
 talk wire Waits s old new (Link fault) asks = elim asks [ ]
-
-pub unsaved : {L : Type 0} (a : Account L) (b d : OpenState) {answer : Result Exchanged ExchangeFault} (role : Role) (fault : PortFault)
-    → answer ≡ Err (Save fault) → SaveFailed fault a.calls a.made b d → a.opened ≡ a.links → ExchangesOver a b d role answer
-unsaved a b d role fault is failed same = over a b d role (Unsaved fault) is failed same
 
 -- The buffer was saved before anything else: what the port told then, and what was left.
 pub record Saved {L : Type 0} (a : Account L) (b s : OpenState) : Type 0 where

@@ -4,15 +4,16 @@ use Rattle.mg_files.specs.Calls.{link_call}
 use Rattle.mg_files.specs.Links.{KeepsBytes}
 use Rattle.mg_sync.specs.Asking.{Connects}
 use Rattle.mg_sync.specs.Talking.{HearsOver}
+use Rattle.mg_sync.specs.Meeting.{Unsaved}
 use Rattle.mg_sync.specs.Linking.{account, BeginsOver, SendsFirst, ThenHears}
 use Rattle.mg_sync.proofs.MeetingLaws.{adds_then}
-use Rattle.mg_sync.proofs.LinkLaws.{Saved, begins, unsaved, unopened, unasked, unsent, unended, turned}
+use Rattle.mg_sync.proofs.LinkLaws.{Saved, begins, over, unopened, unasked, unsent, unended, turned}
 use Rattle.mg_sync.proofs.client.exchange.Goals as goal
 
 pub returns-in_err-save-clause-exchanges : goal.returns-in_err-save-clause-exchanges
 returns-in_err-save-clause-exchanges g c =
     let a = account g.P.Link.Read.remaining g.P.Link.Write.contents g.P.Port.links g.P.Port.calls c.args.port.now c.save.new.port in
-    unsaved a c.args.opened.now c.save.new.self Connects c.in_err-save.field-0.0 (search rules) c.in_err-save.ensures.failed c.in_err-save.ensures.links
+    over a c.args.opened.now c.save.new.self Connects (Unsaved c.in_err-save.field-0.0) (search rules) c.in_err-save.ensures.failed c.in_err-save.ensures.links
 
 pub returns-in_err-connect-clause-exchanges : goal.returns-in_err-connect-clause-exchanges
 returns-in_err-connect-clause-exchanges g c =

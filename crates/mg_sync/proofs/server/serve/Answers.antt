@@ -1,14 +1,15 @@
 use Rattle.std.proofs.Common.{rules, Ok, Err, refl, ap, subst, ◌∙◌}
 use Rattle.mg_sync.specs.Asking.{Waits}
 use Rattle.mg_sync.specs.Talking.{SendsOver}
+use Rattle.mg_sync.specs.Meeting.{Unsaved}
 use Rattle.mg_sync.specs.Linking.{account, counted, BeginsOver, HearsFirst, ThenSends}
-use Rattle.mg_sync.proofs.LinkLaws.{Saved, begins, unsaved, unopened, unasked, waited}
+use Rattle.mg_sync.proofs.LinkLaws.{Saved, begins, over, unopened, unasked, waited}
 use Rattle.mg_sync.proofs.server.serve.Goals as goal
 
 pub returns-in_err-save-clause-serves : goal.returns-in_err-save-clause-serves
 returns-in_err-save-clause-serves g c =
     let a = account g.P.Link.Read.remaining g.P.Link.Write.contents g.P.Port.links g.P.Port.calls c.args.port.now c.save.new.port in
-    unsaved a c.args.opened.now c.save.new.self Waits c.in_err-save.field-0.0 (search rules) c.in_err-save.ensures.failed c.in_err-save.ensures.links
+    over a c.args.opened.now c.save.new.self Waits (Unsaved c.in_err-save.field-0.0) (search rules) c.in_err-save.ensures.failed c.in_err-save.ensures.links
 
 pub returns-in_err-accept-clause-serves : goal.returns-in_err-accept-clause-serves
 returns-in_err-accept-clause-serves g c =
