@@ -1,31 +1,36 @@
--- Meetings of which nothing is said of the link.
-use Rattle.std.proofs.Common.{ℕ, List, Option}
-use Rattle.mg_sync.proofs.LessSaid.{exchanges_over, serves_over, exchanges_some, serves_some}
-use Rattle.mg_files.specs.Calls.{Call}
+-- Meetings of the current buffer.
+use Rattle.std.proofs.Common.{◌≡◌, Result, refl, sym, subst}
+use Rattle.mg_sync.specs.Asking.{Role}
+use Rattle.mg_sync.specs.Linking.{Account, ExchangesOver}
+use Rattle.mg_sync.specs.declared.fault.ExchangeFault.{ExchangeFault}
+use Rattle.mg_sync.specs.declared.talking.Exchanged as talking
 use Rattle.mg_files.specs.OpenState.{OpenState}
-use Rattle.mg_workspace.specs.Workspaces.{Workspace, current_buffer}
+use Rattle.mg_workspace.specs.Workspaces.{Workspace, current_buffer, with_current}
 use Rattle.mg_editor.specs.Current.{Changes}
 use Rattle.mg_editor.specs.Editors.{Editor}
-use Rattle.mg_editor.specs.Telling.{Answer}
-use Rattle.mg_editor.specs.Meeting.{Exchanged, Served, ExchangedOver, ServedOver}
+use Rattle.mg_editor.specs.Telling.{Answer, told}
+use Rattle.mg_editor.specs.Meeting.{message_of_meeting, meeting_done, Exchanged, ExchangedOver}
 
--- what the current buffer becomes, of which less is said
-changes : {R T : OpenState → OpenState → Type 0} → ((b d : OpenState) → R b d → T b d) → (w v : Workspace) → Changes R w v → Changes T w v
-changes f w v c = record { after = c.after; became = f (current_buffer w) c.after c.became; is = c.is }
+-- the current buffer was exchanged, and that was told
+pub exchanged_over : {L : Type 0} (role : Role) (a : Account L) (old new : Editor) (work : Workspace) (b d : OpenState) (answer : Result talking.Exchanged ExchangeFault) (r : Answer)
+    → old.work ≡ work → b ≡ current_buffer work → ExchangesOver a b d role answer → new ≡ told (with_current work d) (message_of_meeting answer) old → r ≡ meeting_done answer → ExchangedOver role a old new r
+exchanged_over role a old new work b d answer r same current over rest done =
+    subst (λ (e : Editor). ExchangedOver role a old e r) (sym rest) (record {
+      answer = answer;
+      work = subst (λ (w : Workspace). Changes (λ x y. ExchangesOver a x y role answer) w (with_current work d)) (sym same) (record {
+        after = d;
+        became = subst (λ x. ExchangesOver a x d role answer) current over;
+        is = refl;
+      });
+      rest = refl;
+      done = done;
+    })
 
-module _ {L : Type 0} (remaining contents : L → Option (List ℕ)) {links opened : Option (List L)} {calls more : Option (List Call)} {old new : Editor} {r : Answer} where
-  pub exchanged_some : ExchangedOver remaining contents links opened calls more old new r → Exchanged calls more old new r
-  exchanged_some m = record {
-    answer = m.answer;
-    work = changes (λ b d e. exchanges_some remaining contents calls more b d m.answer (exchanges_over remaining contents e)) old.work new.work m.work;
-    rest = m.rest;
-    done = m.done;
-  }
-
-  pub served_some : ServedOver remaining contents links opened calls more old new r → Served calls more old new r
-  served_some m = record {
-    answer = m.answer;
-    work = changes (λ b d e. serves_some remaining contents calls more b d m.answer (serves_over remaining contents e)) old.work new.work m.work;
-    rest = m.rest;
-    done = m.done;
-  }
+-- of which nothing is said of links
+pub exchanged_some : {L : Type 0} (role : Role) (a : Account L) (old new : Editor) (r : Answer) → ExchangedOver role a old new r → Exchanged role a.calls a.made old new r
+exchanged_some role a old new r m = record {
+  answer = m.answer;
+  work = record { after = m.work.after; became = m.work.became.course; is = m.work.is };
+  rest = m.rest;
+  done = m.done;
+}

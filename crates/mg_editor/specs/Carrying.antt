@@ -2,6 +2,7 @@
 use Rattle.std.specs.Prelude.{◌≡◌, Bool, true, false, List, Option, Result, Ok, Err}
 use Rattle.mg_files.specs.Calls.{Call}
 use Rattle.mg_files.specs.declared.port.PortFault.{PortFault}
+use Rattle.mg_sync.specs.Asking.{Connects, Waits}
 use Rattle.mg_minibuffer.specs.declared.ending.Request.{Request}
 use Rattle.mg_minibuffer.specs.declared.ending.Request.TheVariants.{Idle, Save, Find, Exchange, Serve, Quit}
 use Rattle.mg_minibuffer.specs.declared.message.Message.{Message}
@@ -9,7 +10,7 @@ use Rattle.mg_minibuffer.specs.declared.message.Message.TheVariants.{Wrote, NoCh
 use Rattle.mg_editor.specs.Current.{Saves}
 use Rattle.mg_editor.specs.Editors.{Editor}
 use Rattle.mg_editor.specs.Finding.{Found}
-use Rattle.mg_editor.specs.Meeting.{Exchanged, Served}
+use Rattle.mg_editor.specs.Meeting.{Exchanged}
 use Rattle.mg_editor.specs.Telling.{Answer, IsNothing, message_of_port, told}
 use Rattle.mg_editor.specs.declared.fault.CarryFault.TheVariants.{Port}
 
@@ -39,6 +40,6 @@ abbrev pub Carried : Request → Option (List Call) → Option (List Call) → E
 Carried Idle calls more old new r = IsNothing calls more old new r
 Carried Save calls more old new r = Saved calls more old new r
 Carried (Find name) calls more old new r = Found name calls more old new r
-Carried Exchange calls more old new r = Exchanged calls more old new r
-Carried Serve calls more old new r = Served calls more old new r
+Carried Exchange calls more old new r = Exchanged Connects calls more old new r
+Carried Serve calls more old new r = Exchanged Waits calls more old new r
 Carried Quit calls more old new r = IsNothing calls more old new r

@@ -1,10 +1,10 @@
 -- What it leads to that the current buffer meets a peer.
-use Rattle.std.specs.Prelude.{◌≡◌, ℕ, ⊤, List, Option, Result, Ok, Err}
+use Rattle.std.specs.Prelude.{◌≡◌, ⊤, List, Option, Result, Ok, Err}
 use Rattle.mg_files.specs.Calls.{Call}
 use Rattle.mg_files.specs.OpenState.{OpenState}
-use Rattle.mg_sync.specs.Meeting.{Exchanges, Serves}
-use Rattle.mg_sync.specs.Linking.{ExchangesOver, ServesOver}
-use Rattle.mg_sync.specs.Talking.{TakesSome, SendsSome}
+use Rattle.mg_sync.specs.Asking.{Role, Connects, Waits}
+use Rattle.mg_sync.specs.Linking.{Account, ExchangesOver}
+use Rattle.mg_sync.specs.Meeting.{Exchanges}
 use Rattle.mg_sync.specs.declared.fault.ExchangeFault.{ExchangeFault}
 use Rattle.mg_sync.specs.declared.talking.Exchanged as talking
 use Rattle.mg_minibuffer.specs.declared.ending.Request.{Request}
@@ -36,22 +36,15 @@ pub record Met (R : OpenState → OpenState → Result talking.Exchanged Exchang
   pub done : r ≡ meeting_done answer
 
 -- by the calls that a port tells
-abbrev pub Exchanged : Option (List Call) → Option (List Call) → Editor → Editor → Answer → Type 0
-Exchanged calls more old new r = Met (Exchanges TakesSome SendsSome calls more) old new r
-
-abbrev pub Served : Option (List Call) → Option (List Call) → Editor → Editor → Answer → Type 0
-Served calls more old new r = Met (Serves TakesSome SendsSome calls more) old new r
+abbrev pub Exchanged : Role → Option (List Call) → Option (List Call) → Editor → Editor → Answer → Type 0
+Exchanged role calls more old new r = Met (Exchanges role calls more) old new r
 
 -- and by the links that it tells, and the bytes that these tell
-module _ {L : Type 0} (remaining contents : L → Option (List ℕ)) (links opened : Option (List L)) (calls more : Option (List Call)) (old new : Editor) (r : Answer) where
-  abbrev pub ExchangedOver : Type 0
-  ExchangedOver = Met (ExchangesOver remaining contents links opened calls more) old new r
+abbrev pub ExchangedOver : {L : Type 0} → Role → Account L → Editor → Editor → Answer → Type 0
+ExchangedOver role a old new r = Met (λ b d answer. ExchangesOver a b d role answer) old new r
 
-  abbrev pub ServedOver : Type 0
-  ServedOver = Met (ServesOver remaining contents links opened calls more) old new r
-
-  -- of any request: the others have no link
-  abbrev pub MetOver : Request → Type 0
-  MetOver request.Exchange = ExchangedOver
-  MetOver request.Serve = ServedOver
-  MetOver _ = ⊤
+-- of any request: the others have no link
+abbrev pub MetOver : {L : Type 0} → Request → Account L → Editor → Editor → Answer → Type 0
+MetOver request.Exchange a old new r = ExchangedOver Connects a old new r
+MetOver request.Serve a old new r = ExchangedOver Waits a old new r
+MetOver _ a old new r = ⊤

@@ -1,6 +1,7 @@
 //! Requests, carried to the files.
 ghost use Rattle.std.specs.Prelude.{◌≡◌, ◌<◌, length, encode_utf8_all};
 ghost use Rattle.mg_workspace.specs.declared.workspace.TheConstants.{MAX_BUFFERS};
+ghost use Rattle.mg_sync.specs.Linking.{account};
 ghost use Rattle.mg_editor.specs.Carrying as spec;
 ghost use Rattle.mg_editor.specs.Finding as finding;
 ghost use Rattle.mg_editor.specs.Meeting as meeting;
@@ -73,9 +74,9 @@ impl<S: Teller> Editor<S> {
     pub fn carry<P: Port>(&mut self, request: Request, port: &mut P) -> Result<(), CarryFault>
         ensures carried { spec.Carried request
             (P.calls port.old) (P.calls port.new) self.old self.new result }
-        ensures met { meeting.MetOver P.Link.remaining P.Link.contents
-            (P.links port.old) (P.links port.new) (P.calls port.old) (P.calls port.new)
-            self.old self.new result request }
+        ensures met { meeting.MetOver request
+            (account P.Link.remaining P.Link.contents P.links P.calls port.old port.new)
+            self.old self.new result }
         ensures device { telling.CountsBehind result (P.failures port.old) (P.failures port.new) }
     {
         match request {

@@ -1,5 +1,7 @@
 //! Meetings of the current buffer with peers.
 ghost use Rattle.std.specs.Prelude.{◌≡◌};
+ghost use Rattle.mg_sync.specs.Asking.{Connects, Waits};
+ghost use Rattle.mg_sync.specs.Linking.{account};
 ghost use Rattle.mg_editor.specs.Meeting as spec;
 ghost use Rattle.mg_editor.specs.Telling as telling;
 
@@ -33,10 +35,10 @@ fn meeting_done(answer: Result<Exchanged, ExchangeFault>) -> Result<(), CarryFau
 impl<S: Teller> Editor<S> {
     /// The current buffer is exchanged with a peer that waits, which is said.
     pub(crate) fn exchange<P: Port>(&mut self, port: &mut P) -> Result<(), CarryFault>
-        ensures told { spec.Exchanged
+        ensures told { spec.Exchanged Connects
             (P.calls port.old) (P.calls port.new) self.old self.new result }
-        ensures over { spec.ExchangedOver P.Link.remaining P.Link.contents
-            (P.links port.old) (P.links port.new) (P.calls port.old) (P.calls port.new)
+        ensures over { spec.ExchangedOver Connects
+            (account P.Link.remaining P.Link.contents P.links P.calls port.old port.new)
             self.old self.new result }
         ensures device { telling.CountsBehind result (P.failures port.old) (P.failures port.new) }
     {
@@ -47,9 +49,10 @@ impl<S: Teller> Editor<S> {
 
     /// The current buffer is exchanged with a peer that is waited for, which is said.
     pub(crate) fn serve<P: Port>(&mut self, port: &mut P) -> Result<(), CarryFault>
-        ensures told { spec.Served (P.calls port.old) (P.calls port.new) self.old self.new result }
-        ensures over { spec.ServedOver P.Link.remaining P.Link.contents
-            (P.links port.old) (P.links port.new) (P.calls port.old) (P.calls port.new)
+        ensures told { spec.Exchanged Waits
+            (P.calls port.old) (P.calls port.new) self.old self.new result }
+        ensures over { spec.ExchangedOver Waits
+            (account P.Link.remaining P.Link.contents P.links P.calls port.old port.new)
             self.old self.new result }
         ensures device { telling.CountsBehind result (P.failures port.old) (P.failures port.new) }
     {

@@ -1,4 +1,3 @@
 mod MeetingLaws
-pub mod LessSaid
 mod LinkLaws
 mod JoinedLaws

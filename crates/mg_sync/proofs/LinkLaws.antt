@@ -1,106 +1,103 @@
 -- What is known of the steps of an exchange over a link, put together.
-use Rattle.std.proofs.Common.{◌≡◌, inl, inr, ℕ, [], ◌∷◌, List, Option, Result, Ok, Err, refl, sym, subst}
+use Rattle.std.proofs.Common.{◌≡◌, ℕ, true, List, [], ◌∷◌, Option, Result, Ok, Err, MatchResult, refl, sym, ap, subst, ◌∙◌}
 use Rattle.rga_lines.specs.Counting.{Calls}
+use Rattle.rga_lines.specs.Log.{operations_of, behind_head}
+use Rattle.rga_exchange.specs.declared.fault.SendFault.{SendFault}
 use Rattle.rga_digest.specs.Summary.{Summary}
 use Rattle.mg_files.specs.declared.port.CallKind.TheVariants.{Connect, Accept, Finish}
 use Rattle.mg_files.specs.declared.port.LinkFault.{LinkFault}
-use Rattle.mg_files.specs.declared.port.PortFault.{PortFault}
 use Rattle.mg_files.specs.Calls.{Call, Adds, link_call, link_refusals}
-use Rattle.mg_files.specs.Links.{Opens, KeepsBytes}
+use Rattle.mg_files.specs.Links.{Opens}
 use Rattle.mg_files.specs.OpenState.{OpenState}
-use Rattle.mg_files.specs.Saving.{save_calls, saved, SaveFailed}
+use Rattle.mg_files.specs.Saving.{save_calls, saved}
 use Rattle.mg_sync.specs.declared.fault.ExchangeFault.{ExchangeFault}
-use Rattle.mg_sync.specs.declared.fault.ExchangeFault.TheVariants.{Save, Link}
-use Rattle.mg_sync.specs.Talking.{SendsOver, HearsOver, Gains}
-use Rattle.mg_sync.specs.Asking.{Asks, Answers}
-use Rattle.mg_sync.specs.Meeting.{EndsBehind, TakesTo, Meets, Turns, accepting, connecting}
-use Rattle.mg_sync.specs.Linking.{counted, HearsBehind, SendsBehind, ExchangesOver, ServesOver}
-use Rattle.mg_sync.proofs.MeetingLaws.{adds_then, sends_saved, gains_behind, gains_failed, gains_saved, meets}
-use Rattle.mg_sync.proofs.LessSaid.{takes_to, hears_over}
+use Rattle.mg_sync.specs.declared.fault.ExchangeFault.TheVariants.{Save, Link, Send, Receive}
+use Rattle.mg_sync.specs.declared.talking.Exchanged.{Exchanged}
+use Rattle.mg_sync.specs.Asking.{Role, Connects, Waits, Asks, Wire}
+use Rattle.mg_sync.specs.Talking.{HearsOver, TakesSome}
+use Rattle.mg_sync.specs.Meeting.{Ending, Unopened, Unasked, Unsent, Unended, Met, answer_of, whole_answer, peer_answer, opening, is_talk, EndsBehind, Takes, Meets, Came}
+use Rattle.mg_sync.specs.Linking.{counted, Account, BeginsOver, SendsFirst, ThenHears, HearsFirst, ThenSends, PassesOver, ExchangesOver}
+use Rattle.mg_sync.proofs.MeetingLaws.{adds_then, saved_brief, gains_came}
 
--- a link that was opened between calls that opened none
-pub opens_among : {L : Type 0} (first mid more last : Option (List L)) (link : L) → mid ≡ first → Opens mid more link → last ≡ more → Opens first last link
-opens_among first mid more last link before opens behind =
-    subst (λ x. Opens first x link) (sym behind) (subst (λ x. Opens x more link) before opens)
+-- how an exchange ended says all of it
+pub over : {L : Type 0} (a : Account L) (b d : OpenState) {answer : Result Exchanged ExchangeFault} (role : Role) (ending : Ending)
+    → answer ≡ answer_of ending → (came : Came a.calls a.made b d role ending) → PassesOver a b d role ending came → ExchangesOver a b d role answer
+over a b d role ending is came passes = record {
+  course = record { ending = ending; answered = is; came = came; gains = gains_came a.calls a.made b d role ending came };
+  passes = passes;
+}
 
--- what is gained by a save and what is heard
-pub gains_over : {L : Type 0} (remaining : L → Option (List ℕ)) (reader heard : Calls L) (mid new : Option (List Call)) (b s d : OpenState) (r : Result ℕ ExchangeFault)
-    → s ≡ saved b → TakesTo (HearsOver remaining reader heard) mid new s d r → Gains b d
-gains_over remaining reader heard mid new b s d r left t =
-    gains_behind remaining mid new b s d r left (takes_to (hears_over remaining reader heard) mid new s d r t)
+-- only what is brief is asked, and only talk fails there
+talk : {L : Type 0} (wire : Wire L) (role : Role) (s : OpenState) (old new : Calls L) (fault : ExchangeFault) → Asks wire role s old new (Err fault) → (s.brief ≡ true) × (is_talk fault ≡ true)
+talk wire Connects s old new (Send fault) asks = (asks.0, refl)
+talk wire Connects s old new (Receive fault) asks = (asks.0, refl)
+talk wire Waits s old new (Send fault) asks = (asks.0, refl)
+talk wire Waits s old new (Receive fault) asks = (asks.0, refl)
+talk wire Connects s old new (Save fault) asks = elim asks [ ]
+talk wire Connects s old new (Link fault) asks = elim asks [ ]
+talk wire Waits s old new (Save fault) asks = elim asks [ ]
+talk wire Waits s old new (Link fault) asks = elim asks [ ]
 
-module _ {L : Type 0} (remaining contents : L → Option (List ℕ)) (peer : Option Summary) where
-  -- a replica that connects and sends what it tells the peer, whatever comes of what it hears
-  pub turns : (ended : L) (asked sent reader heard : Calls L) (old first opened mid new : Option (List Call)) (b s d : OpenState) (n : ℕ) (r : Result ℕ ExchangeFault)
-      → s ≡ saved b → Adds old first (save_calls b) → Adds first opened (link_call Connect ∷ []) → Adds opened mid (link_call Finish ∷ [])
-      → SendsOver peer contents asked sent (Ok n) s.buffer.content → KeepsBytes remaining contents sent.inner ended → reader ≡ counted ended
-      → TakesTo (HearsOver remaining reader heard) mid new s d r → Turns (HearsBehind remaining contents sent) (SendsOver peer contents asked sent) old new b d n r
-  turns ended asked sent reader heard old first opened mid new b s d n r left saves opens ends sends keeps fresh takes = record {
-    sends = sends_saved (SendsOver peer contents asked sent) (Ok n) b s left sends;
-    meets = meets old first mid new b s d connecting r left saves (adds_then first opened mid (link_call Connect ∷ []) (link_call Finish ∷ []) opens ends)
-        (takes_to (λ r b d h. record { ended = ended; keeps = keeps; heard = heard; hears = subst (λ x. HearsOver remaining x heard r b d) fresh h }) mid new s d r takes);
+-- The buffer was saved before anything else: what the port told then, and what was left.
+pub record Saved {L : Type 0} (a : Account L) (b s : OpenState) : Type 0 where
+  pub calls : Option (List Call)
+  pub links : Option (List L)
+  pub saves : Adds a.calls calls (save_calls b)
+  pub same : links ≡ a.links
+  pub left : s ≡ saved b
+
+module _ {L : Type 0} {a : Account L} {b s : OpenState} (k : Saved a b s) where
+  -- a link was opened, and others were not, and none of its calls is counted yet
+  abbrev pub begins : (role : Role) (answer : Result (Option Summary) ExchangeFault) (link : L) (asked : Calls L) {more : Option (List L)} {fresh : Calls L}
+      → Opens k.links more link → a.opened ≡ more → fresh ≡ counted link → Asks a.wire role s fresh asked answer → BeginsOver a s role answer
+  begins role answer link asked {more = more} opens behind is asks = record {
+    link = link;
+    opens = subst (λ x. Opens a.links x link) (sym behind) (subst (λ x. Opens x more link) k.same opens);
+    asked = asked;
+    asks = subst (λ x. Asks a.wire role s x asked answer) is asks;
   }
 
-  -- a replica that waits, whatever comes of what it hears
-  pub waits : (reader heard : Calls L) (old first mid new : Option (List Call)) (b s d : OpenState) (r : Result ℕ ExchangeFault)
-      → s ≡ saved b → Adds old first (save_calls b) → Adds first mid accepting
-      → TakesTo (HearsOver remaining reader heard) mid new s d r → Meets (HearsOver remaining reader heard) (SendsBehind remaining contents peer heard) old new b d accepting r
-  waits reader heard old first mid new b s d r left saves opens takes = meets old first mid new b s d accepting r left saves opens takes
+  ends : (made : List Call) → Adds k.calls a.made made → EndsBehind a.calls a.made b s made
+  ends made makes = record { calls = adds_then a.calls k.calls a.made (save_calls b) made k.saves makes; left = k.left }
 
--- nothing came behind the first save: it failed, or no link was opened, or the sending on it was not ended
-module _ {L : Type 0} (remaining contents : L → Option (List ℕ)) (links more : Option (List L)) (old first new : Option (List Call)) (b d : OpenState) where
-  pub exchange_unsaved : (fault : PortFault) → more ≡ links → SaveFailed fault old new b d → ExchangesOver remaining contents links more old new b d (Err (Save fault))
-  exchange_unsaved fault same failed = record { came = inl (same, inl failed); gains = gains_failed fault old new b d failed }
+  pub unopened : {answer : Result Exchanged ExchangeFault} (role : Role) (fault : LinkFault) → answer ≡ Err (Link fault) → Adds k.calls a.made (link_refusals fault (opening role)) → a.opened ≡ k.links → ExchangesOver a b s role answer
+  unopened role fault is makes same = over a b s role (Unopened fault) is (ends (link_refusals fault (opening role)) makes) (same ∙ k.same)
 
-  pub serve_unsaved : (fault : PortFault) → more ≡ links → SaveFailed fault old new b d → ServesOver remaining contents links more old new b d (Err (Save fault))
-  serve_unsaved fault same failed = record { came = inl (same, inl failed); gains = gains_failed fault old new b d failed }
+  pub unasked : {answer : Result Exchanged ExchangeFault} (role : Role) (fault : ExchangeFault) → answer ≡ Err fault → Adds k.calls a.made (opening role ∷ []) → BeginsOver a s role (Err fault) → ExchangesOver a b s role answer
+  unasked role fault is makes begun =
+      let t = talk a.wire role s (counted begun.link) begun.asked fault begun.asks in
+      over a b s role (Unasked fault) is (sym (saved_brief b) ∙ sym (ap (λ (x : OpenState). x.brief) k.left) ∙ t.0, (t.1, ends (opening role ∷ []) makes))
+      (subst (λ x. BeginsOver a x role (Err fault)) k.left begun)
 
-  ends : (made : List Call) → d ≡ saved b → Adds old first (save_calls b) → Adds first new made → EndsBehind old new b d made
-  ends made left saves makes = record { calls = adds_then old first new (save_calls b) made saves makes; left = left }
+  pub unsent : {answer : Result Exchanged ExchangeFault} (fault : SendFault) → answer ≡ Err (Send fault) → Adds k.calls a.made (link_call Connect ∷ []) → SendsFirst a s (Err fault) → ExchangesOver a b s Connects answer
+  unsent fault is makes sends = over a b s Connects (Unsent fault) is (ends (link_call Connect ∷ []) makes) (subst (λ x. SendsFirst a x (Err fault)) k.left sends)
 
-  pub exchange_unopened : (fault : LinkFault) → more ≡ links → d ≡ saved b → Adds old first (save_calls b) → Adds first new (link_refusals fault (link_call Connect))
-      → ExchangesOver remaining contents links more old new b d (Err (Link fault))
-  exchange_unopened fault same left saves makes = record {
-    came = inl (same, inl (ends (link_refusals fault (link_call Connect)) left saves makes));
-    gains = subst (λ x. Gains b x) (sym left) (gains_saved b);
-  }
+  pub unended : {answer : Result Exchanged ExchangeFault} (fault : LinkFault) (n : ℕ) (mid : Option (List Call)) → answer ≡ Err (Link fault) → Adds k.calls mid (link_call Connect ∷ []) → Adds mid a.made (link_refusals fault (link_call Finish))
+      → SendsFirst a s (Ok n) → ExchangesOver a b s Connects answer
+  unended fault n mid is opens refuses sends =
+      let refused = link_refusals fault (link_call Finish) in
+      over a b s Connects (Unended fault) is (ends (link_call Connect ∷ refused) (adds_then k.calls mid a.made (link_call Connect ∷ []) refused opens refuses))
+      (n, subst (λ x. SendsFirst a x (Ok n)) k.left sends)
 
-  pub serve_unopened : (fault : LinkFault) → more ≡ links → d ≡ saved b → Adds old first (save_calls b) → Adds first new (link_refusals fault (link_call Accept))
-      → ServesOver remaining contents links more old new b d (Err (Link fault))
-  serve_unopened fault same left saves makes = record {
-    came = inl (same, ends (link_refusals fault (link_call Accept)) left saves makes);
-    gains = subst (λ x. Gains b x) (sym left) (gains_saved b);
-  }
+  -- what was heard and saved behind these calls
+  module _ (mid : Option (List Call)) (reader heard : Calls L) (d : OpenState) (r : Result ℕ ExchangeFault) (t : Takes (HearsOver a.wire.remaining reader heard) mid a.made s d r) where
+    abbrev meets : (made : List Call) → Adds k.calls mid made → Meets a.calls a.made b d made t.kept
+    meets made makes = record {
+      mid = mid;
+      calls = adds_then a.calls k.calls mid (save_calls b) made k.saves makes;
+      met = t.met;
+      took = subst (λ x. TakesSome x t.met) k.left (record { ops = operations_of (behind_head t.hears.lines.lines); follows = t.hears.lines.beside; rest = t.hears.rest });
+      saves = t.saves;
+    }
 
-  pub exchange_unended : (fault : LinkFault) (link : L) (asked sent : Calls L) (peer : Option Summary) → Opens links more link → d ≡ saved b → Adds old first (save_calls b)
-      → Asks remaining contents b.brief (counted link) asked b.buffer.content (Ok peer)
-      → Adds first new (link_call Connect ∷ link_refusals fault (link_call Finish)) → ExchangesOver remaining contents links more old new b d (Err (Link fault))
-  exchange_unended fault link asked sent peer opens left saves asks makes = record {
-    came = inr (inl (record {
-      link = link;
-      opens = opens;
-      asked = asked;
-      peer = peer;
-      asks = asks;
-      sent = sent;
-      came = inr (ends (link_call Connect ∷ link_refusals fault (link_call Finish)) left saves makes);
-    }));
-    gains = subst (λ x. Gains b x) (sym left) (gains_saved b);
-  }
+    pub turned : {answer : Result Exchanged ExchangeFault} (n : ℕ) → answer ≡ whole_answer (Ok n) r → Adds k.calls mid (link_call Connect ∷ link_call Finish ∷ []) → ThenHears a s n t.heard t.met → ExchangesOver a b d Connects answer
+    turned n is makes hears =
+        over a b d Connects (Met (Ok n) t.heard t.kept) (is ∙ ap (whole_answer (Ok n)) t.answered) (meets (link_call Connect ∷ link_call Finish ∷ []) makes)
+        (subst (λ x. ThenHears a x n t.heard t.met) k.left hears)
 
-  -- a brief exchange ended before anything else passed over the link
-  pub exchange_unasked : (fault : ExchangeFault) (link : L) (asked : Calls L) → Opens links more link → d ≡ saved b → Adds old first (save_calls b)
-      → Asks remaining contents b.brief (counted link) asked b.buffer.content (Err fault)
-      → Adds first new (link_call Connect ∷ []) → ExchangesOver remaining contents links more old new b d (Err fault)
-  exchange_unasked fault link asked opens left saves asks makes = record {
-    came = inr (inr (record { link = link; opens = opens; asked = asked; fault = fault; is = refl; asks = asks; ends = ends (link_call Connect ∷ []) left saves makes }));
-    gains = subst (λ x. Gains b x) (sym left) (gains_saved b);
-  }
-
-  pub serve_unanswered : (fault : ExchangeFault) (link : L) (answered : Calls L) → Opens links more link → d ≡ saved b → Adds old first (save_calls b)
-      → Answers remaining contents b.brief (counted link) answered b.buffer.content (Err fault)
-      → Adds first new accepting → ServesOver remaining contents links more old new b d (Err fault)
-  serve_unanswered fault link answered opens left saves answers makes = record {
-    came = inr (inr (record { link = link; opens = opens; answered = answered; fault = fault; is = refl; answers = answers; ends = ends accepting left saves makes }));
-    gains = subst (λ x. Gains b x) (sym left) (gains_saved b);
-  }
+    pub waited : {answer : Result Exchanged ExchangeFault} (sent : Result ℕ SendFault) → answer ≡ whole_answer sent r → Adds k.calls mid (link_call Accept ∷ []) → (h : HearsFirst a s t.heard t.met) → MatchResult r (λ _. ThenSends a s h sent d.buffer.content) (λ _. sent ≡ Ok 0)
+        → ExchangesOver a b d Waits answer
+    waited sent is makes h sends =
+        over a b d Waits (Met sent t.heard t.kept) (is ∙ ap (whole_answer sent) t.answered) (meets (link_call Accept ∷ []) makes)
+        (subst (λ x. (first : HearsFirst a x t.heard t.met) × MatchResult (peer_answer t.heard t.kept) (λ _. ThenSends a x first sent d.buffer.content) (λ _. sent ≡ Ok 0)) k.left
+        (h, subst (λ x. MatchResult x (λ _. ThenSends a s h sent d.buffer.content) (λ _. sent ≡ Ok 0)) t.answered sends))

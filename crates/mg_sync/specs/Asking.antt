@@ -1,5 +1,5 @@
 -- What passes over a link before an exchange that is brief: what each side knows.
-use Rattle.std.specs.Prelude.{◌≡◌, ◌≢◌, ℕ, Bool, true, false, List, Option, Some, None, Result, Ok, Err, OnOk}
+use Rattle.std.specs.Prelude.{◌≡◌, ◌≢◌, ℕ, true, false, List, Option, Some, None, Result, Ok, Err, OnOk}
 use Rattle.rga_ops.specs.Content.{Content}
 use Rattle.rga_lines.specs.Counting.{Calls, CountsAs, OnBytes, WritesFront}
 use Rattle.rga_exchange.specs.declared.fault.ReceiveFault.{ReceiveFault}
@@ -9,8 +9,19 @@ use Rattle.rga_exchange.specs.declared.fault.SendFault.TheVariants as send
 use Rattle.rga_digest.specs.Summary.{Summary, IsSummary}
 use Rattle.rga_brief.specs.Heard.{ReadsToBlock}
 use Rattle.rga_brief.specs.Told.{TellsSummary, summary_heard, summary_text}
+use Rattle.mg_files.specs.OpenState.{OpenState}
 use Rattle.mg_sync.specs.declared.fault.ExchangeFault.{ExchangeFault}
-use Rattle.mg_sync.specs.declared.fault.ExchangeFault.TheVariants.{Save, Link, Send, Receive}
+use Rattle.mg_sync.specs.declared.fault.ExchangeFault.TheVariants.{Send, Receive}
+
+-- Of two that meet one connects, and the other waits for it.
+pub data Role : Type 0 where
+  Connects : Role
+  Waits : Role
+
+-- what links tell of themselves: the bytes that each is still to give, and those that it was given
+pub record Wire (L : Type 0) : Type 0 where
+  pub remaining : L → Option (List ℕ)
+  pub contents : L → Option (List ℕ)
 
 module _ {L : Type 0} (contents : L → Option (List ℕ)) where
   -- What is known was told, or a beginning of it. `Write` is answered exactly where a call of the link failed.
@@ -27,39 +38,26 @@ module _ {L : Type 0} (remaining : L → Option (List ℕ)) where
     pub last : OnOk answer (ReadsToBlock remaining old new)
     pub device : CountsAs receive.Read answer old new
 
-module _ {L : Type 0} (remaining contents : L → Option (List ℕ)) where
+module _ {L : Type 0} (wire : Wire L) where
   -- what is known was told, and then the peer heard
   pub record SaysThenLearns (old new : Calls L) (c : Content) (answer : Result Summary ReceiveFault) : Type 0 where
     pub mid : Calls L
-    pub says : SaysOver contents old mid (Ok tt) c
-    pub learns : LearnsOver remaining mid new answer
+    pub says : SaysOver wire.contents old mid (Ok tt) c
+    pub learns : LearnsOver wire.remaining mid new answer
 
   -- the peer was heard, and then what is known told
   pub record LearnsThenSays (old new : Calls L) (c : Content) (peer : Summary) (answer : Result (Unit {0}) SendFault) : Type 0 where
     pub mid : Calls L
-    pub learns : LearnsOver remaining old mid (Ok peer)
-    pub says : SaysOver contents mid new answer c
+    pub learns : LearnsOver wire.remaining old mid (Ok peer)
+    pub says : SaysOver wire.contents mid new answer c
 
-  -- What a replica that connects does first: nothing, unless the exchange is to be brief.
-  abbrev pub Asks : Bool → Calls L → Calls L → Content → Result (Option Summary) ExchangeFault → Type 0
-  Asks false old new c (Ok None) = new ≡ old
-  Asks false old new c (Ok (Some peer)) = ⊥
-  Asks false old new c (Err fault) = ⊥
-  Asks true old new c (Ok None) = ⊥
-  Asks true old new c (Ok (Some peer)) = SaysThenLearns old new c (Ok peer)
-  Asks true old new c (Err (Send fault)) = SaysOver contents old new (Err fault) c
-  Asks true old new c (Err (Receive fault)) = SaysThenLearns old new c (Err fault)
-  Asks true old new c (Err (Save fault)) = ⊥
-  Asks true old new c (Err (Link fault)) = ⊥
-
-  -- and one that waits
-  abbrev pub Answers : Bool → Calls L → Calls L → Content → Result (Option Summary) ExchangeFault → Type 0
-  Answers false old new c (Ok None) = new ≡ old
-  Answers false old new c (Ok (Some peer)) = ⊥
-  Answers false old new c (Err fault) = ⊥
-  Answers true old new c (Ok None) = ⊥
-  Answers true old new c (Ok (Some peer)) = LearnsThenSays old new c peer (Ok tt)
-  Answers true old new c (Err (Receive fault)) = LearnsOver remaining old new (Err fault)
-  Answers true old new c (Err (Send fault)) = (peer : Summary) × LearnsThenSays old new c peer (Err fault)
-  Answers true old new c (Err (Save fault)) = ⊥
-  Answers true old new c (Err (Link fault)) = ⊥
+  -- What is done first with a buffer: nothing, unless its exchanges are brief.
+  abbrev pub Asks : Role → OpenState → Calls L → Calls L → Result (Option Summary) ExchangeFault → Type 0
+  Asks role b old new (Ok None) = (b.brief ≡ false) × (new ≡ old)
+  Asks Connects b old new (Ok (Some peer)) = (b.brief ≡ true) × SaysThenLearns old new b.buffer.content (Ok peer)
+  Asks Connects b old new (Err (Send fault)) = (b.brief ≡ true) × SaysOver wire.contents old new (Err fault) b.buffer.content
+  Asks Connects b old new (Err (Receive fault)) = (b.brief ≡ true) × SaysThenLearns old new b.buffer.content (Err fault)
+  Asks Waits b old new (Ok (Some peer)) = (b.brief ≡ true) × LearnsThenSays old new b.buffer.content peer (Ok tt)
+  Asks Waits b old new (Err (Receive fault)) = (b.brief ≡ true) × LearnsOver wire.remaining old new (Err fault)
+  Asks Waits b old new (Err (Send fault)) = (b.brief ≡ true) × ((peer : Summary) × LearnsThenSays old new b.buffer.content peer (Err fault))
+  Asks role b old new (Err fault) = ⊥

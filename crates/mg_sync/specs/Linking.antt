@@ -1,95 +1,98 @@
 -- What passes over the link that a port opens for an exchange.
-use Rattle.std.specs.Prelude.{◌≡◌, ◌⊎◌, ℕ, true, false, List, [], ◌∷◌, ◌++◌, Option, Some, Result, Ok, Err}
+use Rattle.std.specs.Prelude.{◌≡◌, ⊤, ℕ, Bool, true, false, List, ◌++◌, Option, Some, Result, Ok, Err, MatchResult}
 use Rattle.rga_ops.specs.Content.{Content, IsWithin, join}
 use Rattle.rga_lines.specs.Counting.{Calls}
 use Rattle.rga_lines.specs.declared.counted.TheConstants.{MAX_CALLS}
 use Rattle.rga_exchange.specs.declared.fault.ReceiveFault.{ReceiveFault}
 use Rattle.rga_exchange.specs.declared.fault.SendFault.{SendFault}
 use Rattle.rga_digest.specs.Summary.{Summary}
-use Rattle.mg_files.specs.Calls.{Call, link_call}
-use Rattle.mg_files.specs.declared.port.CallKind.TheVariants.{Connect}
+use Rattle.mg_files.specs.Calls.{Call}
 use Rattle.mg_files.specs.Links.{Opens, KeepsBytes}
 use Rattle.mg_files.specs.OpenState.{OpenState}
+use Rattle.mg_files.specs.Saving.{saved}
 use Rattle.mg_sync.specs.declared.fault.ExchangeFault.{ExchangeFault}
 use Rattle.mg_sync.specs.declared.talking.Exchanged.{Exchanged}
-use Rattle.mg_sync.specs.Talking.{SendsOver, HearsOver, Gains}
-use Rattle.mg_sync.specs.Asking.{SaysThenLearns, LearnsThenSays, Asks, Answers}
-use Rattle.mg_sync.specs.Meeting.{EndsBehind, ExchangesTo, ServesTo, accepting}
+use Rattle.mg_sync.specs.Talking.{SendsOver, HearsOver}
+use Rattle.mg_sync.specs.Asking.{Role, Connects, Waits, Wire, SaysThenLearns, LearnsThenSays, Asks}
+use Rattle.mg_sync.specs.Meeting.{Ending, Unsaved, Unopened, Unasked, Unsent, Unended, Met, peer_answer, Came, Exchanges}
 
 -- a link of which no call is counted yet
 abbrev pub counted : {L : Type 0} → L → Calls L
 counted link = record { inner = link; failures = 0; left = MAX_CALLS; at_end = false; flushed = true }
 
--- nothing was heard, and nothing sent
-abbrev pub HearsNone : Result ℕ ReceiveFault → OpenState → OpenState → Type 0
-HearsNone answer b d = ⊥
+-- What a port tells of an exchange: the bytes of its links; the links that were opened before it, and those behind it; and
+-- so its calls.
+pub record Account (L : Type 0) : Type 0 where
+  pub wire : Wire L
+  pub links : Option (List L)
+  pub opened : Option (List L)
+  pub calls : Option (List Call)
+  pub made : Option (List Call)
 
-abbrev pub SendsNone : Result ℕ SendFault → Content → Type 0
-SendsNone answer c = ⊥
+-- that of a port, from the one state of it to the other
+abbrev pub account : {L P : Type 0} → (L → Option (List ℕ)) → (L → Option (List ℕ)) → (P → Option (List L)) → (P → Option (List Call)) → P → P → Account L
+account remaining contents links calls old new =
+    record { wire = record { remaining = remaining; contents = contents }; links = links old; opened = links new; calls = calls old; made = calls new }
 
-module _ {L : Type 0} (remaining contents : L → Option (List ℕ)) where
-  -- A peer was heard over a link on which all was sent, once that was ended.
-  pub record HearsBehind (sent : Calls L) (answer : Result ℕ ReceiveFault) (b d : OpenState) : Type 0 where
+module _ {L : Type 0} (a : Account L) (s : OpenState) where
+  -- One link was opened, and where the exchange is brief each asked what the other knows, with this answer.
+  pub record BeginsOver (role : Role) (answer : Result (Option Summary) ExchangeFault) : Type 0 where
+    pub link : L
+    pub opens : Opens a.links a.opened link
+    pub asked : Calls L
+    pub asks : Asks a.wire role s (counted link) asked answer
+
+  -- Behind that what is told to the peer was sent.
+  pub record SendsFirst (answer : Result ℕ SendFault) : Type 0 where
+    pub peer : Option Summary
+    pub begins : BeginsOver Connects (Ok peer)
+    pub sent : Calls L
+    pub sends : SendsOver peer a.wire.contents begins.asked sent answer s.buffer.content
+
+  -- All of it was sent, and once the sending was ended the peer was heard.
+  pub record ThenHears (sent : ℕ) (answer : Result ℕ ReceiveFault) (met : OpenState) : Type 0 where
+    pub first : SendsFirst (Ok sent)
     pub ended : L
-    pub keeps : KeepsBytes remaining contents sent.inner ended
+    pub keeps : KeepsBytes a.wire.remaining a.wire.contents first.sent.inner ended
     pub heard : Calls L
-    pub hears : HearsOver remaining (counted ended) heard answer b d
+    pub hears : HearsOver a.wire.remaining (counted ended) heard answer s met
 
-  -- What is told to the peer was sent over a link on which it was heard.
-  pub record SendsBehind (peer : Option Summary) (heard : Calls L) (answer : Result ℕ SendFault) (c : Content) : Type 0 where
-    pub sent : Calls L
-    pub sends : SendsOver peer contents (counted heard.inner) sent answer c
-
-module _ {L : Type 0} (remaining contents : L → Option (List ℕ)) (links more : Option (List L)) (old new : Option (List Call)) (b d : OpenState) (answer : Result Exchanged ExchangeFault) where
-  -- One link was opened. What was sent is over it as it was opened, or where the exchange is brief once the peer was asked
-  -- what it knows; and what was heard is behind that.
-  pub record SendsFirst : Type 0 where
-    pub link : L
-    pub opens : Opens links more link
-    pub asked : Calls L
+  -- The peer was heard at once behind that.
+  pub record HearsFirst (answer : Result ℕ ReceiveFault) (met : OpenState) : Type 0 where
     pub peer : Option Summary
-    pub asks : Asks remaining contents b.brief (counted link) asked b.buffer.content (Ok peer)
-    pub sent : Calls L
-    pub came : ExchangesTo (HearsBehind remaining contents sent) (SendsOver peer contents asked sent) old new b d answer
-
-  -- One link was opened. What was heard is over it as it was opened, or where the exchange is brief once the peer was told
-  -- what is known; and what was sent is behind that.
-  pub record HearsFirst : Type 0 where
-    pub link : L
-    pub opens : Opens links more link
-    pub answered : Calls L
-    pub peer : Option Summary
-    pub answers : Answers remaining contents b.brief (counted link) answered b.buffer.content (Ok peer)
+    pub begins : BeginsOver Waits (Ok peer)
     pub heard : Calls L
-    pub came : ServesTo (HearsOver remaining answered heard) (SendsBehind remaining contents peer heard) old new b d answer
+    pub hears : HearsOver a.wire.remaining begins.asked heard answer s met
 
-  -- One link was opened for a brief exchange, which ended before anything else passed over it.
-  pub record StopsAsking : Type 0 where
-    pub link : L
-    pub opens : Opens links more link
-    pub asked : Calls L
-    pub fault : ExchangeFault
-    pub is : answer ≡ Err fault
-    pub asks : Asks remaining contents b.brief (counted link) asked b.buffer.content (Err fault)
-    pub ends : EndsBehind old new b d (link_call Connect ∷ [])
+  -- Then what is told to it of this content was sent.
+  pub record ThenSends {heard : Result ℕ ReceiveFault} {met : OpenState} (first : HearsFirst heard met) (answer : Result ℕ SendFault) (c : Content) : Type 0 where
+    pub sent : Calls L
+    pub sends : SendsOver first.peer a.wire.contents (counted first.heard.inner) sent answer c
 
-  pub record StopsAnswering : Type 0 where
-    pub link : L
-    pub opens : Opens links more link
-    pub answered : Calls L
-    pub fault : ExchangeFault
-    pub is : answer ≡ Err fault
-    pub answers : Answers remaining contents b.brief (counted link) answered b.buffer.content (Err fault)
-    pub ends : EndsBehind old new b d accepting
+module _ {L : Type 0} (a : Account L) (b d : OpenState) where
+  -- What passed over the one link that was opened, by how the exchange ended, or that none was opened. A replica that waits
+  -- sends nothing where it did not take the peer.
+  abbrev pub PassesOver : (role : Role) (ending : Ending) → Came a.calls a.made b d role ending → Type 0
+  PassesOver role (Unsaved fault) came = a.opened ≡ a.links
+  PassesOver role (Unopened fault) came = a.opened ≡ a.links
+  PassesOver role (Unasked fault) came = BeginsOver a (saved b) role (Err fault)
+  PassesOver Connects (Unsent fault) came = SendsFirst a (saved b) (Err fault)
+  PassesOver Connects (Unended fault) came = (sent : ℕ) × SendsFirst a (saved b) (Ok sent)
+  PassesOver Connects (Met (Ok sent) heard kept) came = ThenHears a (saved b) sent heard came.met
+  PassesOver Waits (Met sent heard kept) came =
+      (first : HearsFirst a (saved b) heard came.met) × MatchResult (peer_answer heard kept) (λ _. ThenSends a (saved b) first sent d.buffer.content) (λ _. sent ≡ Ok 0)
+  PassesOver role ending came = ⊤
 
-  -- Each whole: no link was opened, and then nothing was sent or heard; or else one was, and all is over that.
-  pub record ExchangesOver : Type 0 where
-    pub came : ((more ≡ links) × ExchangesTo HearsNone SendsNone old new b d answer) ⊎ (SendsFirst ⊎ StopsAsking)
-    pub gains : Gains b d
+  -- Each whole: what was done, and what passed.
+  pub record ExchangesOver (role : Role) (answer : Result Exchanged ExchangeFault) : Type 0 where
+    pub course : Exchanges role a.calls a.made b d answer
+    pub passes : PassesOver role course.ending course.came
 
-  pub record ServesOver : Type 0 where
-    pub came : ((more ≡ links) × ServesTo HearsNone SendsNone old new b d answer) ⊎ (HearsFirst ⊎ StopsAnswering)
-    pub gains : Gains b d
+  -- All was sent, heard and saved.
+  pub record Whole (role : Role) (e : Exchanged) : Type 0 where
+    pub changed : Bool
+    pub came : Came a.calls a.made b d role (Met (Ok e.sent) (Ok e.received) (Ok changed))
+    pub passes : PassesOver role (Met (Ok e.sent) (Ok e.received) (Ok changed)) came
 
 -- ---- two that meet
 
@@ -107,39 +110,25 @@ pub record JoinsPart (c from d : Content) : Type 0 where
   pub within : IsWithin part from
   pub joined : d ≡ join c part
 
-module _ {L M : Type 0} (remaining contents : L → Option (List ℕ)) (their_remaining their_contents : M → Option (List ℕ)) (b d their_b their_d : OpenState) where
+module _ {L M : Type 0} (a : Account L) (b d : OpenState) (their : Account M) (their_b their_d : OpenState) where
   -- One replica connected and another waited, both answered their counts, and the link of each tells what the other wrote
   -- of its operations.
   pub record Meet : Type 0 where
-    pub links : Option (List L)
-    pub more : Option (List L)
-    pub old : Option (List Call)
-    pub new : Option (List Call)
     pub answer : Exchanged
-    pub connects : SendsFirst remaining contents links more old new b d (Ok answer)
-    pub their_links : Option (List M)
-    pub their_more : Option (List M)
-    pub their_old : Option (List Call)
-    pub their_new : Option (List Call)
+    pub connects : Whole a b d Connects answer
     pub their_answer : Exchanged
-    pub waits : HearsFirst their_remaining their_contents their_links their_more their_old their_new their_b their_d (Ok their_answer)
-    pub there : Tells their_remaining contents waits.answered.inner connects.asked.inner connects.sent.inner
-    pub back : Tells remaining their_contents connects.sent.inner waits.heard.inner waits.came.1.sent.inner
-
-  -- Neither asked what the other knows.
-  pub record HaveMet : Type 0 where
-    pub meet : Meet
-    pub whole : b.brief ≡ false
-    pub their_whole : their_b.brief ≡ false
+    pub waits : Whole their their_b their_d Waits their_answer
+    pub there : Tells their.wire.remaining a.wire.contents waits.passes.0.begins.asked.inner connects.passes.first.begins.asked.inner connects.passes.first.sent.inner
+    pub back : Tells a.wire.remaining their.wire.contents connects.passes.first.sent.inner waits.passes.0.heard.inner waits.passes.1.sent.inner
 
   -- Each asked, and its link tells what the other wrote of what it knows.
   pub record HaveMetBriefly : Type 0 where
     pub meet : Meet
     pub peer : Summary
-    pub knows : meet.connects.peer ≡ Some peer
-    pub asks : SaysThenLearns remaining contents (counted meet.connects.link) meet.connects.asked b.buffer.content (Ok peer)
+    pub knows : meet.connects.passes.first.peer ≡ Some peer
+    pub asks : SaysThenLearns a.wire (counted meet.connects.passes.first.begins.link) meet.connects.passes.first.begins.asked b.buffer.content (Ok peer)
     pub their_peer : Summary
-    pub they_know : meet.waits.peer ≡ Some their_peer
-    pub answers : LearnsThenSays their_remaining their_contents (counted meet.waits.link) meet.waits.answered their_b.buffer.content their_peer (Ok tt)
-    pub asked : Tells their_remaining contents meet.waits.link meet.connects.link asks.mid.inner
-    pub answered : Tells remaining their_contents asks.mid.inner answers.mid.inner meet.waits.answered.inner
+    pub they_know : meet.waits.passes.0.peer ≡ Some their_peer
+    pub answers : LearnsThenSays their.wire (counted meet.waits.passes.0.begins.link) meet.waits.passes.0.begins.asked their_b.buffer.content their_peer (Ok tt)
+    pub asked : Tells their.wire.remaining a.wire.contents meet.waits.passes.0.begins.link meet.connects.passes.first.begins.link asks.mid.inner
+    pub answered : Tells a.wire.remaining their.wire.contents asks.mid.inner answers.mid.inner meet.waits.passes.0.begins.asked.inner

@@ -1,5 +1,5 @@
 -- What passes over a link, and what it leaves of a buffer.
-use Rattle.std.specs.Prelude.{◌≡◌, ◌≢◌, ⊤, ℕ, ◌≤◌, List, length, Option, Some, None, Result, Ok, Err, OnOk, IfOk}
+use Rattle.std.specs.Prelude.{◌≡◌, ◌≢◌, ℕ, ◌≤◌, List, length, Option, Some, None, Result, Ok, Err, OnOk, IfOk}
 use Rattle.rga_ops.specs.Content.{Content, IsWithin, IsSound, Agree, join, content_of, known_count}
 use Rattle.rga_ops.specs.Operations.{operations}
 use Rattle.rga_ops.specs.declared.op.Op.{Op}
@@ -52,18 +52,6 @@ pub record HearsOver {L : Type 0} (remaining : L → Option (List ℕ)) (old new
   pub device : CountsAs receive.Read answer old new
   pub rest : d ≡ record b { buffer = d.buffer }
 
--- ---- between some states of a link
-
-pub record Sends {L : Type 0} (contents : L → Option (List ℕ)) (peer : Option Summary) (answer : Result ℕ SendFault) (c : Content) : Type 0 where
-  pub old : Calls L
-  pub new : Calls L
-  pub over : SendsOver peer contents old new answer c
-
-pub record Hears {L : Type 0} (remaining : L → Option (List ℕ)) (answer : Result ℕ ReceiveFault) (b d : OpenState) : Type 0 where
-  pub old : Calls L
-  pub new : Calls L
-  pub over : HearsOver remaining old new answer b d
-
 -- ---- what is gained
 
 -- The buffer has all that it had, and may have more. Its name, replica and limit, point, mark and groups stay.
@@ -71,13 +59,8 @@ pub record Gains (b d : OpenState) : Type 0 where
   pub within : IsWithin b.buffer.content d.buffer.content
   pub rest : d.buffer ≡ record b.buffer { content = d.buffer.content; unsaved = d.buffer.unsaved }
 
--- ---- where nothing is said of the link
-
 -- operations were taken into the buffer, and nothing else changed
-pub record TakesSome (answer : Result ℕ ReceiveFault) (b d : OpenState) : Type 0 where
+pub record TakesSome (b d : OpenState) : Type 0 where
   pub ops : List Op
   pub follows : Follows b.buffer ops d.buffer
   pub rest : d ≡ record b { buffer = d.buffer }
-
-abbrev pub SendsSome : Option Summary → Result ℕ SendFault → Content → Type 0
-SendsSome peer answer c = ⊤

@@ -2,7 +2,7 @@
 ghost use Rattle.std.specs.Prelude.{◌≡◌, IfOk};
 ghost use Rattle.rga_ops.specs.Content.{Content};
 ghost use Rattle.rga_brief.specs.Told.{IsTold};
-ghost use Rattle.mg_sync.specs.Asking.{Answers, Asks, LearnsOver, SaysOver};
+ghost use Rattle.mg_sync.specs.Asking.{Asks, Connects, LearnsOver, SaysOver, Waits};
 
 use crate::fault::ExchangeFault;
 use mg_files::VisitedBuffer;
@@ -22,8 +22,8 @@ pub(crate) fn ask<S: Teller, L: Read + Write>(
     opened: &VisitedBuffer<S>,
     link: &mut Counted<L>,
 ) -> Result<Option<Summary>, ExchangeFault>
-    ensures { Asks L.remaining L.contents opened.now.brief link.old link.new
-        opened.now.buffer.content result }
+    ensures { Asks (record { remaining = L.remaining; contents = L.contents }) Connects opened.now
+        link.old link.new result }
 {
     if !opened.is_brief() {
         return Ok(None);
@@ -41,8 +41,8 @@ pub(crate) fn answer<S: Teller, L: Read + Write>(
     opened: &VisitedBuffer<S>,
     link: &mut Counted<L>,
 ) -> Result<Option<Summary>, ExchangeFault>
-    ensures { Answers L.remaining L.contents opened.now.brief link.old link.new
-        opened.now.buffer.content result }
+    ensures { Asks (record { remaining = L.remaining; contents = L.contents }) Waits opened.now
+        link.old link.new result }
 {
     if !opened.is_brief() {
         return Ok(None);

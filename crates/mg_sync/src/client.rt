@@ -1,7 +1,7 @@
 //! The replica that connects.
-ghost use Rattle.mg_sync.specs.Meeting as spec;
-ghost use Rattle.mg_sync.specs.Linking.{ExchangesOver};
-ghost use Rattle.mg_sync.specs.Talking.{Sends, Hears};
+ghost use Rattle.mg_sync.specs.Asking.{Connects};
+ghost use Rattle.mg_sync.specs.Linking.{ExchangesOver, account};
+ghost use Rattle.mg_sync.specs.Meeting.{CountsFaults};
 
 use crate::asking::ask;
 use crate::fault::ExchangeFault;
@@ -29,12 +29,10 @@ pub fn exchange<S: Teller, P: Port>(
     opened: &mut VisitedBuffer<S>,
     port: &mut P,
 ) -> Result<Exchanged, ExchangeFault>
-    ensures exchanges { spec.Exchanges (Hears P.Link.remaining) (Sends P.Link.contents)
-        (P.calls port.old) (P.calls port.new) opened.old opened.new result }
-    // So it is over the one link that the port opened, from the one state of it to the next.
-    ensures over { ExchangesOver P.Link.remaining P.Link.contents (P.links port.old)
-        (P.links port.new) (P.calls port.old) (P.calls port.new) opened.old opened.new result }
-    ensures device { spec.CountsFaults result (P.failures port.old) (P.failures port.new) }
+    ensures exchanges { ExchangesOver
+        (account P.Link.remaining P.Link.contents P.links P.calls port.old port.new)
+        opened.old opened.new Connects result }
+    ensures device { CountsFaults result (P.failures port.old) (P.failures port.new) }
 {
     opened.save(port)?;
     let mut writer = Counted::new(port.connect()?);

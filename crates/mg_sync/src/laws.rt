@@ -1,12 +1,12 @@
 //! Theorems about exchanges. Each function does nothing: its contract is the theorem.
-ghost use Rattle.std.specs.Prelude.{◌≡◌, ℕ, List, Option, Some, Ok};
+ghost use Rattle.std.specs.Prelude.{◌≡◌, false, ℕ, List, Some, Ok};
 ghost use Rattle.rga_ops.specs.Content.{Agree, IsSound, join, content_of};
 ghost use Rattle.rga_lines.specs.Log.{stream_operations};
 ghost use Rattle.rga_digest.specs.Summary.{DigestsTellApart};
-ghost use Rattle.mg_files.specs.Calls.{Call};
 ghost use Rattle.mg_files.specs.OpenState.{OpenState};
-ghost use Rattle.mg_sync.specs.Linking.{SendsFirst, HearsFirst, ExchangesOver, ServesOver};
-ghost use Rattle.mg_sync.specs.Linking.{HaveMet, HaveMetBriefly, JoinsPart, Meet};
+ghost use Rattle.mg_sync.specs.Asking.{Role, Connects, Waits};
+ghost use Rattle.mg_sync.specs.Linking.{Account, ExchangesOver, Whole};
+ghost use Rattle.mg_sync.specs.Linking.{HaveMetBriefly, JoinsPart, Meet};
 ghost use Rattle.mg_sync.specs.declared.talking.Exchanged.{Exchanged};
 
 use mg_files::Port;
@@ -14,29 +14,21 @@ use mg_files::Port;
 /// What answers its counts had one link, which the port opened for it: all that was sent and heard
 /// is over this one, and in its order.
 pub fn what_is_exchanged_has_a_link<P: Port>()
-    ensures exchanges { (links more : Option (List P.Link)) (old new : Option (List Call))
-        (b d : OpenState) (e : Exchanged)
-        → ExchangesOver P.Link.remaining P.Link.contents links more old new b d (Ok e)
-        → SendsFirst P.Link.remaining P.Link.contents links more old new b d (Ok e) }
-    ensures serves { (links more : Option (List P.Link)) (old new : Option (List Call))
-        (b d : OpenState) (e : Exchanged)
-        → ServesOver P.Link.remaining P.Link.contents links more old new b d (Ok e)
-        → HearsFirst P.Link.remaining P.Link.contents links more old new b d (Ok e) }
+    ensures { (a : Account P.Link) (b d : OpenState) (role : Role) (e : Exchanged)
+        → ExchangesOver a b d role (Ok e) → Whole a b d role e }
 {}
 
 /// Behind an exchange over a link that tells bytes, once all was sent or as it stood when the peer
 /// began to send, the content is what it was, joined with what the lines of these bytes stand for:
 /// so it is whatever was told before of what either knows.
 pub fn what_a_link_tells_is_joined<P: Port>()
-    ensures exchanges { (links more : Option (List P.Link)) (old new : Option (List Call))
-        (b d : OpenState) (e : Exchanged) (bytes : List ℕ)
-        (over : SendsFirst P.Link.remaining P.Link.contents links more old new b d (Ok e))
-        → P.Link.remaining over.sent.inner ≡ Some bytes
+    ensures exchanges { (a : Account P.Link) (b d : OpenState) (e : Exchanged) (bytes : List ℕ)
+        (over : Whole a b d Connects e)
+        → a.wire.remaining over.passes.first.sent.inner ≡ Some bytes
         → d.buffer.content ≡ join b.buffer.content (content_of (stream_operations bytes)) }
-    ensures serves { (links more : Option (List P.Link)) (old new : Option (List Call))
-        (b d : OpenState) (e : Exchanged) (bytes : List ℕ)
-        (over : HearsFirst P.Link.remaining P.Link.contents links more old new b d (Ok e))
-        → P.Link.remaining over.answered.inner ≡ Some bytes
+    ensures serves { (a : Account P.Link) (b d : OpenState) (e : Exchanged) (bytes : List ℕ)
+        (over : Whole a b d Waits e)
+        → a.wire.remaining over.passes.0.begins.asked.inner ≡ Some bytes
         → d.buffer.content ≡ join b.buffer.content (content_of (stream_operations bytes)) }
 {}
 
@@ -44,8 +36,9 @@ pub fn what_a_link_tells_is_joined<P: Port>()
 /// tells what the other wrote, and neither of them briefly, hold one content behind it, where their
 /// operations are well-formed and agree: the join of both.
 pub fn two_that_meet_hold_one_content<P: Port, Q: Port>()
-    ensures { (b d their_b their_d : OpenState) → HaveMet P.Link.remaining P.Link.contents
-        Q.Link.remaining Q.Link.contents b d their_b their_d
+    ensures { (a : Account P.Link) (b d : OpenState) (their : Account Q.Link)
+        (their_b their_d : OpenState) → Meet a b d their their_b their_d
+        → b.brief ≡ false → their_b.brief ≡ false
         → IsSound b.buffer.content → IsSound their_b.buffer.content
         → Agree b.buffer.content their_b.buffer.content
         → (d.buffer.content ≡ join b.buffer.content their_b.buffer.content)
@@ -55,8 +48,8 @@ pub fn two_that_meet_hold_one_content<P: Port, Q: Port>()
 /// The same of two that meet briefly, each of which tells truly what it knows, where digests tell
 /// their deletions apart: of both as they were, and of the one that connected and both joined.
 pub fn two_that_meet_briefly_hold_one_content<P: Port, Q: Port>()
-    ensures { (b d their_b their_d : OpenState) → HaveMetBriefly P.Link.remaining P.Link.contents
-        Q.Link.remaining Q.Link.contents b d their_b their_d
+    ensures { (a : Account P.Link) (b d : OpenState) (their : Account Q.Link)
+        (their_b their_d : OpenState) → HaveMetBriefly a b d their their_b their_d
         → IsSound b.buffer.content → IsSound their_b.buffer.content
         → Agree b.buffer.content their_b.buffer.content
         → DigestsTellApart b.buffer.content their_b.buffer.content
@@ -68,8 +61,8 @@ pub fn two_that_meet_briefly_hold_one_content<P: Port, Q: Port>()
 /// Whatever the two told each other of what they know, what each takes is a part of what the other
 /// holds: so a wrong claim leaves operations out, and does nothing else.
 pub fn what_is_taken_is_the_peers<P: Port, Q: Port>()
-    ensures { (b d their_b their_d : OpenState) → Meet P.Link.remaining P.Link.contents
-        Q.Link.remaining Q.Link.contents b d their_b their_d
+    ensures { (a : Account P.Link) (b d : OpenState) (their : Account Q.Link)
+        (their_b their_d : OpenState) → Meet a b d their their_b their_d
         → IsSound b.buffer.content → IsSound their_b.buffer.content
         → Agree b.buffer.content their_b.buffer.content
         → JoinsPart their_b.buffer.content b.buffer.content their_d.buffer.content

@@ -1,7 +1,7 @@
 //! The replica that waits.
-ghost use Rattle.mg_sync.specs.Meeting as spec;
-ghost use Rattle.mg_sync.specs.Linking.{ServesOver};
-ghost use Rattle.mg_sync.specs.Talking.{Sends, Hears};
+ghost use Rattle.mg_sync.specs.Asking.{Waits};
+ghost use Rattle.mg_sync.specs.Linking.{ExchangesOver, account};
+ghost use Rattle.mg_sync.specs.Meeting.{CountsFaults};
 
 use crate::asking::answer;
 use crate::fault::ExchangeFault;
@@ -29,12 +29,10 @@ pub fn serve<S: Teller, P: Port>(
     opened: &mut VisitedBuffer<S>,
     port: &mut P,
 ) -> Result<Exchanged, ExchangeFault>
-    ensures serves { spec.Serves (Hears P.Link.remaining) (Sends P.Link.contents)
-        (P.calls port.old) (P.calls port.new) opened.old opened.new result }
-    // So it is over the one link that the port opened, from the one state of it to the next.
-    ensures over { ServesOver P.Link.remaining P.Link.contents (P.links port.old)
-        (P.links port.new) (P.calls port.old) (P.calls port.new) opened.old opened.new result }
-    ensures device { spec.CountsFaults result (P.failures port.old) (P.failures port.new) }
+    ensures serves { ExchangesOver
+        (account P.Link.remaining P.Link.contents P.links P.calls port.old port.new)
+        opened.old opened.new Waits result }
+    ensures device { CountsFaults result (P.failures port.old) (P.failures port.new) }
 {
     opened.save(port)?;
     let mut reader = Counted::new(port.accept()?);

@@ -2,4 +2,4 @@ use Rattle.mg_sync.proofs.JoinedLaws.{meet}
 use Rattle.mg_sync.proofs.laws.two_that_meet_hold_one_content.Goals as goal
 
 pub returns : goal.returns
-returns g c = meet _ _ _ _
+returns g c = meet
