@@ -101,8 +101,9 @@ impl Pages {
         Ok(())
     }
 
-    /// Entries come in behind all others. `Memory` alone, which changes nothing; it is answered too
-    /// where the first of them is not above all others.
+    /// Entries come in behind all others, some few: what the last page has no room for begins one
+    /// more. `Memory` alone, which changes nothing; it is answered too where the first of them is
+    /// not above all others.
     pub fn append(&mut self, entries: &[(Id, Record)]) -> Result<(), Refusal>
         requires { AreOrdered entries.now }
         ensures entries { OnOk result (self.new ≡ self.old ++ entries.now) }

@@ -10,7 +10,7 @@ use crate::spot::Spot;
 use rga_ops::Id;
 
 /// Where an identifier is, or where it would come in. It is looked for first behind the place that
-/// was used last, and then beside it in that page.
+/// was used last.
 pub(crate) fn find(pages: &Vec<Page>, last: Spot, id: Id) -> Spot
     requires ordered { AreOrdered (flat pages.now.items) }
     requires filled { AreFilled pages.now.items }
@@ -18,10 +18,30 @@ pub(crate) fn find(pages: &Vec<Page>, last: Spot, id: Id) -> Spot
     ensures page { result.page < vec_len pages.now }
     ensures spot { IsSpot pages.now.items result.page result.index result.found id }
 {
-    if is_next(pages, last, id) {
+    let page = last.page;
+    let index = last.index.saturating_add(1);
+    if stands_at(pages, page, index, id) {
+        return Spot {
+            page,
+            index,
+            found: true,
+        };
+    }
+    find_again(pages, last, id)
+}
+
+/// The same, looked for first at the place that was used last, and then in its page and beside it.
+pub(crate) fn find_again(pages: &Vec<Page>, last: Spot, id: Id) -> Spot
+    requires ordered { AreOrdered (flat pages.now.items) }
+    requires filled { AreFilled pages.now.items }
+    requires some { 0 < vec_len pages.now }
+    ensures page { result.page < vec_len pages.now }
+    ensures spot { IsSpot pages.now.items result.page result.index result.found id }
+{
+    if stands_at(pages, last.page, last.index, id) {
         return Spot {
             page: last.page,
-            index: last.index + 1,
+            index: last.index,
             found: true,
         };
     }
@@ -39,22 +59,17 @@ fn is_same(entry: &(Id, Record), id: Id) -> bool
     entry.0 == id
 }
 
-/// Whether an identifier is directly behind a place, in the same page.
+/// Whether an identifier stands at an index in a page.
 #[inline(always)]
-fn is_next(pages: &Vec<Page>, at: Spot, id: Id) -> bool
+fn stands_at(pages: &Vec<Page>, page: usize, index: usize, id: Id) -> bool
     requires { AreOrdered (flat pages.now.items) }
-    ensures few { result ≡ true → at.index < MOST }
-    ensures page { result ≡ true → at.page < vec_len pages.now }
-    ensures spot { result ≡ true → IsSpot pages.now.items at.page (at.index + 1) true id }
+    ensures page { result ≡ true → page < vec_len pages.now }
+    ensures spot { result ≡ true → IsSpot pages.now.items page index true id }
 {
-    if at.page >= pages.len() {
+    if page >= pages.len() {
         return false;
     }
-    let entries = pages[at.page].entries();
-    if at.index >= MOST {
-        return false;
-    }
-    let index = at.index + 1;
+    let entries = pages[page].entries();
     if index >= entries.len() {
         return false;
     }

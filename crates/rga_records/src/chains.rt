@@ -30,6 +30,7 @@ pub(crate) fn append_chain(
 {
     let mut rows = Vec::with_capacity(alloc, chain.len())?;
     add_rows(parent, near, chain, &mut rows);
+    // All that has a record is known, so what is newer comes behind it.
     entries.append(rows.as_slice())
 }
 
