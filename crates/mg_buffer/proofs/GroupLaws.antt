@@ -46,13 +46,6 @@ taken_at groups (suc k) i h = by (slice_get groups k) refl h
           there = ap (slice_get groups) (sym same) ∙ e;
         }
 
-pub none_taken : (groups : List Past) (n : ℕ) → option_map (λ (p : ℕ × Past). p.0) (last_group groups n) ≡ None → last_group groups n ≡ None
-none_taken groups n h = by (last_group groups n) h
-  where
-    by : (o : Option (ℕ × Past)) → option_map (λ (p : ℕ × Past). p.0) o ≡ None → o ≡ None
-    by None h = refl
-    by (Some p) h = let clash : Some p.0 ≡ None = h in cc
-
 pub none_first : (groups : List Past) (n : ℕ) → n ≡ 0 → None ≡ option_map (λ (p : ℕ × Past). p.0) (last_group groups n)
 none_first groups n zero_is = ap (λ m. option_map (λ (p : ℕ × Past). p.0) (last_group groups m)) (sym zero_is)
 

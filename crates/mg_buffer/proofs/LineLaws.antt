@@ -19,11 +19,6 @@ lines_between text from to order =
     let behind = ap (count_by is_newline) (drop-drop (to - from) from text ∙ ap (λ n. drop n text) end) in
     omega (arith, before, all, between, behind)
 
-pub line_within : (text : List ℕ) (place : ℕ) → line_of text place ≤ length text
-line_within text place =
-    let some = sum_by-take-le (λ x. cond (is_newline x) 1 0) text place in
-    omega (arith, some, count_by-le-length is_newline text)
-
 -- what begins as another list is as long
 within_same : (n : ℕ) (xs ys : List ℕ) → take n xs ≡ take n ys → n ≤ length ys → n ≤ length xs
 within_same n xs ys same within =
@@ -77,7 +72,3 @@ front_stays place chars (s ∷ splices) within =
     let inside = within_same least after chars kept (omega (arith, first, within)) in
     front_stays least after splices inside ∙ ap (take (least_begin least splices)) parts
     ∙ take_front (least_begin least splices) s.lo chars rest (omega (arith, below, begin)) (omega (arith, below, first, within))
-
-pub least_in_text : (place : ℕ) (chars : List ℕ) (splices : List Splice) → place ≤ length chars → least_begin place splices ≤ length (text_after chars splices)
-least_in_text place chars splices within =
-    within_same (least_begin place splices) (text_after chars splices) chars (front_stays place chars splices within) (omega (arith, least_within place splices, within))

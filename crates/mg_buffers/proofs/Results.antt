@@ -1,14 +1,6 @@
 -- What is known of a result, case by case.
 use Rattle.std.proofs.Common.{Result, Ok, Err, IfOk, OnOk, OnErr, MatchResult}
 
-pub match_result : {T E : Type 0} (r : Result T E) (A B : Type 0) → OnOk r A → OnErr r B → MatchResult r (λ _. A) (λ _. B)
-match_result (Ok x) A B a b = a
-match_result (Err e) A B a b = b
-
-pub both_on_err : {T E : Type 0} (r : Result T E) (A B : Type 0) → OnErr r A → OnErr r B → OnErr r (A × B)
-both_on_err (Ok x) A B a b = tt
-both_on_err (Err e) A B a b = (a, b)
-
 pub on_ok_map : {T E : Type 0} (r : Result T E) (A B : Type 0) → (A → B) → OnOk r A → OnOk r B
 on_ok_map (Ok x) A B f a = f a
 on_ok_map (Err e) A B f a = tt

@@ -5,7 +5,7 @@
 //! prompt and no action in sight. The crate stands on mg_files and mg_buffer for buffers, and is
 //! generic over any `TextStore`. The layer above may rest on equations over the list of them and
 //! the index of the current one; where one is removed, `moved` says where each other stands then.
-//! Want of memory changes nothing, but that some may be listed.
+//! Want of memory changes nothing.
 #![tactic(auto)]
 
 mod buffers;
