@@ -1,24 +1,22 @@
 -- The reads of the keys of a session, and what was taken of them.
-use Rattle.std.proofs.Common.{◌≡◌, ◌≢◌, inl, inr, arith, ℕ, ◌+◌, false, List, [], ◌∷◌, ◌++◌, length, take, refl, sym, ap, subst, ◌∙◌, true≢false, append-nil}
-use Rattle.std.proofs.KnownBytes.{Consumes-nil, Consumes-trans, Consumes-kept}
-use Rattle.std.specs.Io.KnownBytes.{Consumes, Keeps}
+use Rattle.std.proofs.Common.{◌≡◌, ◌≢◌, inl, inr, arith, ℕ, ◌+◌, List, [], ◌∷◌, ◌++◌, length, take, refl, sym, ap, subst, ◌∙◌, true≢false, append-nil}
+use Rattle.std.proofs.KnownBytes.{Consumes-nil, Consumes-trans}
+use Rattle.std.specs.Io.KnownBytes.{Consumes}
 use Rattle.std.specs.List.{concat}
-use Rattle.rga_lines.specs.Counting.{Calls, IsReadToEnd, one_more}
-use Rattle.mg_editor.specs.Editors.{Editor}
-use Rattle.mg_reports.specs.Reports.{Reports, fresh, after, block_events, read_events, after_reads, held_events, all_events}
+use Rattle.rga_lines.specs.Counting.{Calls}
+use Rattle.mg_reports.specs.Reports.{Reports, fresh, after, block_events, read_events, after_reads, held_events}
 use Rattle.mg_reports.proofs.ReportLaws.{read_more, after_more_reads, length_more, concat_more}
-use Rattle.mg_session.specs.Courses.{goes_on, is_unfailed, IsFailed, keys_failures}
+use Rattle.mg_session.specs.Courses.{goes_on}
 use Rattle.mg_session.specs.Display.{Shows}
-use Rattle.mg_session.specs.Moments.{Told, Known, Moment, moment, StepIf}
-use Rattle.mg_session.specs.Running.{TakesAll, GivesBytes, GivesBlocks, TakesBlocks, TakesKeys, Runs}
-use Rattle.mg_session.specs.declared.course.Course.{Course}
-use Rattle.mg_session.specs.declared.course.Course.TheVariants.{On, NoKeys}
+use Rattle.mg_session.specs.Moments.{Known, Moment, StepIf}
+use Rattle.mg_session.specs.Running.{TakesAll, GivesBytes, TakesKeys, Runs}
+use Rattle.mg_session.specs.declared.course.Course.TheVariants.{On}
 use Rattle.mg_session.specs.declared.manner.Manner.{Manner}
-use Rattle.mg_session.proofs.StandingLaws.{starts_stand, stands_if, stands_all, stopped}
+use Rattle.mg_session.proofs.StandingLaws.{stopped}
 use Rattle.mg_session.proofs.TakenLaws.{took_more, took_ended}
 
 -- Blocks of keys were read, what is certain of them was taken, and none quit: what is held now begins a report.
-pub record ReadsOn {R : Type 0} (remaining : R → Known) (how : Manner) (now : Reports) (before behind : Moment) (keys rest : Calls R) : Type 0 where
+pub record HasRead {R : Type 0} (remaining : R → Known) (how : Manner) (now : Reports) (before behind : Moment) (keys rest : Calls R) : Type 0 where
   pub blocks : List (List ℕ)
   pub read : Consumes (remaining keys.inner) (remaining rest.inner) (concat blocks)
   pub reads : keys.left ≡ rest.left + length blocks
@@ -39,59 +37,30 @@ block_read remaining from seen rest blocks block before next =
     subst (Consumes (remaining from.inner) (remaining rest.inner)) (sym (concat_more blocks block))
     (Consumes-trans (remaining from.inner) (remaining seen.inner) (remaining rest.inner) (concat blocks) block before next)
 
--- ---- by how the session stands
-
-all_blocks : (course : Course) (how : Manner) (blocks : List (List ℕ)) (a b : Moment) → course ≢ NoKeys
-    → TakesAll how (all_events (fresh how.resizable) blocks) a b → TakesBlocks course how blocks a b
-all_blocks NoKeys how blocks a b readable taken = absurd (readable refl)
-all_blocks course how blocks a b readable taken = taken
-
-no_failure : (course : Course) (n : ℕ) → course ≢ NoKeys → n ≡ keys_failures course n
-no_failure NoKeys n readable = absurd (readable refl)
-no_failure course n readable = refl
-
 module _ {R : Type 0} {remaining : R → Known} {how : Manner} where
-  -- events were taken up to one behind which the session ends, or to the end
-  all_taken : (blocks : List (List ℕ)) (a b : Moment) (keys rest : Calls R) → a.course ≡ On
-      → Consumes (remaining keys.inner) (remaining rest.inner) (concat blocks) → GivesBlocks keys rest blocks → (b.course ≡ On → IsReadToEnd remaining rest)
-      → rest.failures ≡ keys.failures → TakesAll how (all_events (fresh how.resizable) blocks) a b → TakesKeys remaining how a b keys rest
-  all_taken blocks a b keys rest on read reads whole unfailed taken =
-      let stands = stands_all how (all_events (fresh how.resizable) blocks) a b (starts_stand a on) taken in
-      record {
-        blocks = blocks;
-        unread = λ off. absurd (true≢false (sym (ap goes_on on) ∙ off));
-        read = read;
-        reads = λ _. reads;
-        whole = whole;
-        device = unfailed ∙ no_failure b.course keys.failures stands.readable;
-        taken = all_blocks b.course how blocks a b stands.readable taken;
-      }
-
   -- a session that the frame at its start ended reads none
   pub none_taken : (a b : Moment) (keys : Calls R) → a.course ≡ On → b.course ≢ On → StepIf how.trace (Shows how.cursor) a b → Runs remaining how a b keys keys
-  none_taken a b keys on stops shown =
-      let stands = stands_if how.cursor how.trace a b (ap is_unfailed on) (starts_stand a on) shown in
-      record {
-        begun = b;
-        ended = b;
-        starts = shown;
-        taken = record {
-          blocks = [];
-          unread = λ _. refl;
-          read = Consumes-nil (remaining keys.inner);
-          reads = λ _. inl (omega arith);
-          whole = λ goes. absurd (stops goes);
-          device = no_failure b.course keys.failures stands.readable;
-          taken = all_blocks b.course how [] b b stands.readable refl;
-        };
-        finishes = rw (stopped how.cursor how.trace a b on stops shown) refl;
-      }
+  none_taken a b keys on stops shown = record {
+    begun = b;
+    ended = b;
+    starts = shown;
+    taken = inl (record {
+      blocks = [];
+      unread = λ _. refl;
+      read = Consumes-nil (remaining keys.inner);
+      reads = inl (omega arith);
+      whole = λ goes. absurd (stops goes);
+      unfailed = refl;
+      taken = refl;
+    });
+    finishes = rw (stopped how.cursor how.trace a b on stops shown) refl;
+  }
 
-  pub none_read : (m : Moment) (keys : Calls R) → ReadsOn remaining how (fresh how.resizable) m m keys keys
+  pub none_read : (m : Moment) (keys : Calls R) → HasRead remaining how (fresh how.resizable) m m keys keys
   none_read m keys = record { blocks = []; read = Consumes-nil (remaining keys.inner); reads = omega arith; unfailed = refl; taken = refl; left = refl }
 
   -- a block more, of which its own events were taken
-  behind_blocks : {now : Reports} {keys seen : Calls R} {a b : Moment} (before : ReadsOn remaining how now a b keys seen) (block : List ℕ) (c : Moment)
+  behind_blocks : {now : Reports} {keys seen : Calls R} {a b : Moment} (before : HasRead remaining how now a b keys seen) (block : List ℕ) (c : Moment)
       → TakesAll how (block_events now block) b c → TakesAll how (read_events (fresh how.resizable) (before.blocks ++ block ∷ [])) a c
   behind_blocks {now} {keys} {seen} {a} {b} before block c taken =
       let r = fresh how.resizable in
@@ -99,8 +68,8 @@ module _ {R : Type 0} {remaining : R → Known} {how : Manner} where
       (subst (λ s. TakesAll how (block_events s block) b c) before.left taken)
 
   pub more_read : {now then : Reports} {keys seen rest : Calls R} {a b : Moment} (count : ℕ) (bytes : List ℕ) (c : Moment)
-      → ReadsOn remaining how now a b keys seen → GivesBytes remaining count bytes seen rest
-      → TakesAll how (block_events now (take count bytes)) b c → then ≡ after now (take count bytes) → ReadsOn remaining how then a c keys rest
+      → HasRead remaining how now a b keys seen → GivesBytes remaining count bytes seen rest
+      → TakesAll how (block_events now (take count bytes)) b c → then ≡ after now (take count bytes) → HasRead remaining how then a c keys rest
   more_read {now} {then} {keys} {seen} {rest} {a} {b} count bytes c before gives taken left =
       let block = take count bytes in
       record {
@@ -113,41 +82,39 @@ module _ {R : Type 0} {remaining : R → Known} {how : Manner} where
       }
 
   -- a block behind whose events the session does not go on
+  -- a block behind whose events the session does not go on
   pub last_read : {now : Reports} {keys seen rest : Calls R} {a b : Moment} (count : ℕ) (bytes : List ℕ) (c : Moment) → a.course ≡ On
-      → ReadsOn remaining how now a b keys seen → GivesBytes remaining count bytes seen rest → c.course ≢ On
+      → HasRead remaining how now a b keys seen → GivesBytes remaining count bytes seen rest → c.course ≢ On
       → TakesAll how (block_events now (take count bytes)) b c → TakesKeys remaining how a c keys rest
   last_read {now} {keys} {seen} {rest} {a} {b} count bytes c on before gives ended taken =
       let block = take count bytes in
       let blocks = before.blocks ++ block ∷ [] in
       let r = fresh how.resizable in
-      all_taken blocks a c keys rest on (block_read remaining keys seen rest before.blocks block before.read gives.read)
-      (inl (reads_more keys seen rest before.blocks block before.reads gives.call)) (λ goes. absurd (ended goes)) (gives.unfailed ∙ before.unfailed)
-      (took_ended how (read_events r blocks) (held_events (after_reads r blocks).held) a c refl ended (behind_blocks before block c taken))
+      inl (record {
+        blocks = blocks;
+        unread = λ off. absurd (true≢false (sym (ap goes_on on) ∙ off));
+        read = block_read remaining keys seen rest before.blocks block before.read gives.read;
+        reads = inl (reads_more keys seen rest before.blocks block before.reads gives.call);
+        whole = λ goes. absurd (ended goes);
+        unfailed = gives.unfailed ∙ before.unfailed;
+        taken = took_ended how (read_events r blocks) (held_events (after_reads r blocks).held) a c refl ended (behind_blocks before block c taken);
+      })
 
   -- the end of the input, where what is held is pressed
   pub end_read : {now : Reports} {keys seen rest : Calls R} {a b : Moment} (held bytes : List ℕ) (c : Moment) → a.course ≡ On
-      → ReadsOn remaining how now a b keys seen → GivesBytes remaining 0 bytes seen rest → held ≡ now.held
+      → HasRead remaining how now a b keys seen → GivesBytes remaining 0 bytes seen rest → held ≡ now.held
       → TakesAll how (held_events held) b c → TakesKeys remaining how a c keys rest
   end_read {now} {keys} {seen} {rest} {a} {b} held bytes c on before gives is taken =
       let blocks = before.blocks in
       let r = fresh how.resizable in
       let left : held_events held ≡ held_events (after_reads r blocks).held = ap held_events is ∙ ap (λ (s : Reports). held_events s.held) before.left in
-      all_taken blocks a c keys rest on
-      (subst (Consumes (remaining keys.inner) (remaining rest.inner)) (append-nil (concat blocks))
-      (Consumes-trans (remaining keys.inner) (remaining seen.inner) (remaining rest.inner) (concat blocks) [] before.read gives.read))
-      (inr (omega (arith, before.reads, gives.call))) (λ _. gives.end refl) (gives.unfailed ∙ before.unfailed)
-      (took_more how (read_events r blocks) (held_events held) a b c (ap (λ es. read_events r blocks ++ es) (sym left)) before.taken taken)
-
-  -- a read that failed: what is held is not pressed
-  pub failed_read : {now : Reports} {keys seen rest : Calls R} {a : Moment} (editor : Editor) (calls : Told) (screen : Calls Known) → a.course ≡ On
-      → ReadsOn remaining how now a (moment editor calls screen On) keys seen → Keeps (remaining seen.inner) (remaining rest.inner) × IsFailed seen rest
-      → TakesKeys remaining how a (moment editor calls screen NoKeys) keys rest
-  failed_read {now} {keys} {seen} {rest} {a} editor calls screen on before (keeps, failed) = record {
-    blocks = before.blocks;
-    unread = λ off. absurd (true≢false (sym (ap goes_on on) ∙ off));
-    read = Consumes-kept (remaining keys.inner) (remaining seen.inner) (remaining rest.inner) (concat before.blocks) before.read keeps;
-    reads = λ readable. absurd (readable refl);
-    whole = λ h. cc;
-    device = failed ∙ ap one_more before.unfailed;
-    taken = before.taken;
-  }
+      inl (record {
+        blocks = blocks;
+        unread = λ off. absurd (true≢false (sym (ap goes_on on) ∙ off));
+        read = subst (Consumes (remaining keys.inner) (remaining rest.inner)) (append-nil (concat blocks))
+            (Consumes-trans (remaining keys.inner) (remaining seen.inner) (remaining rest.inner) (concat blocks) [] before.read gives.read);
+        reads = inr (omega (arith, before.reads, gives.call));
+        whole = λ _. gives.end refl;
+        unfailed = gives.unfailed ∙ before.unfailed;
+        taken = took_more how (read_events r blocks) (held_events held) a b c (ap (λ es. read_events r blocks ++ es) (sym left)) before.taken taken;
+      })

@@ -1,35 +1,51 @@
--- How a session stands behind what was written, and what that leaves of the screen.
-use Rattle.std.proofs.Common.{◌≡◌, ◌≢◌, ℕ, ◌&&◌, not, Bool, true, false, List, [], ◌∷◌, refl, sym, ap, subst, ◌∙◌, true≢false}
+-- How a session stands behind what it took, and what that tells of its devices.
+use Rattle.std.proofs.Common.{◌≡◌, ◌≢◌, inl, inr, ◌&&◌, not, Bool, true, false, List, [], ◌∷◌, refl, sym, ap, subst, ◌∙◌, true≢false}
 use Rattle.rga_lines.specs.Counting.{Calls, one_more}
 use Rattle.mg_minibuffer.specs.declared.ending.Request.{Request}
 use Rattle.mg_minibuffer.specs.declared.ending.Request.TheVariants as request
 use Rattle.mg_reports.specs.Reports.{Event, key, size, block_end, fresh, read_events, all_events}
-use Rattle.mg_session.specs.Courses.{goes_on, is_unfailed, keys_failures}
+use Rattle.mg_session.specs.Courses.{goes_on, is_unfailed, IsFailed}
 use Rattle.mg_session.specs.Display.{Shows, whole, begun, unmade, follows_key, follows_step, follows_block}
 use Rattle.mg_session.specs.Keys.{course_behind}
-use Rattle.mg_session.specs.Moments.{Told, Known, Moment, moment, StepIf}
-use Rattle.mg_session.specs.Running.{resized_editor, TakesEvent, TakesAll, TakesBlocks, TakesKeys, Runs}
-use Rattle.mg_editor.specs.Editors.{Editor}
+use Rattle.mg_session.specs.Moments.{Known, Moment, StepIf}
+use Rattle.mg_session.specs.Running.{resized_editor, TakesEvent, TakesAll, TakesKeys, Runs}
 use Rattle.mg_session.specs.declared.course.Course.{Course}
-use Rattle.mg_session.specs.declared.course.Course.TheVariants.{On, Quit, NoKeys, NoScreen, NoMemory}
+use Rattle.mg_session.specs.declared.course.Course.TheVariants.{On, Quit, NoKeys, NoScreen}
 use Rattle.mg_session.specs.declared.manner.Manner.{Manner}
 
--- the failures of the screen's device, one more than before exactly where that is how a session stands
-abbrev pub screen_failures : Course → ℕ → ℕ
-screen_failures NoScreen n = one_more n
-screen_failures course n = n
+-- no call of the device failed, and where all was flushed before, all is
+pub record IsUnfailed {T : Type 0} (old new : Calls T) : Type 0 where
+  pub failures : new.failures ≡ old.failures
+  pub flushed : old.flushed ≡ true → new.flushed ≡ true
 
--- all is flushed, where it was before, unless the device failed
-pub record Leaves (from : Calls Known) (m : Moment) : Type 0 where
-  pub failures : m.screen.failures ≡ screen_failures m.course from.failures
-  pub flushed : m.course ≢ NoScreen → from.flushed ≡ true → m.screen.flushed ≡ true
+-- what a session that stands so leaves of the screen, and it reads its keys
+abbrev Stands : {W : Type 0} → Course → Calls W → Calls W → Type 0
+Stands NoKeys old new = ⊥
+Stands NoScreen old new = IsFailed old new
+Stands course old new = IsUnfailed old new
 
--- the same of a session whose keys could be read
-pub record Stands (from : Calls Known) (m : Moment) : Type 0 where
-  pub leaves : Leaves from m
-  pub readable : m.course ≢ NoKeys
+-- what one leaves of both devices
+abbrev pub Leaves : {R W : Type 0} → Course → Calls R → Calls R → Calls W → Calls W → Type 0
+Leaves NoKeys keys rest old new = IsFailed keys rest × IsUnfailed old new
+Leaves NoScreen keys rest old new = (rest.failures ≡ keys.failures) × IsFailed old new
+Leaves course keys rest old new = (rest.failures ≡ keys.failures) × IsUnfailed old new
 
 -- ---- of courses
+
+unfailed : {W : Type 0} (course : Course) {old new : Calls W} → is_unfailed course ≡ true → Stands course old new → IsUnfailed old new
+unfailed On ok s = s
+unfailed Quit ok s = s
+unfailed course ok s = absurd (true≢false (sym ok))
+
+stands : {W : Type 0} (course : Course) {old new : Calls W} → is_unfailed course ≡ true → IsUnfailed old new → Stands course old new
+stands On ok u = u
+stands Quit ok u = u
+stands course ok u = absurd (true≢false (sym ok))
+
+leaves : {R W : Type 0} (course : Course) (keys rest : Calls R) (old new : Calls W) → rest.failures ≡ keys.failures → Stands course old new → Leaves course keys rest old new
+leaves NoKeys keys rest old new same s = absurd s
+leaves NoScreen keys rest old new same s = (same, s)
+leaves course keys rest old new same s = (same, s)
 
 unfailed_going : (course : Course) → goes_on course ≡ true → is_unfailed course ≡ true
 unfailed_going On is = refl
@@ -39,97 +55,69 @@ unfailed_request : (asked : Request) → is_unfailed (course_behind asked) ≡ t
 unfailed_request request.Quit = refl
 unfailed_request asked = refl
 
-unfailed_screen : (course : Course) (n : ℕ) → is_unfailed course ≡ true → screen_failures course n ≡ n
-unfailed_screen NoScreen n is = absurd (true≢false (sym is))
-unfailed_screen course n is = refl
-
-unfailed_keys : (course : Course) (n : ℕ) → is_unfailed course ≡ true → keys_failures course n ≡ n
-unfailed_keys NoKeys n is = absurd (true≢false (sym is))
-unfailed_keys course n is = refl
-
-screen_is_whole : (course : Course) → is_unfailed course ≡ true → course ≢ NoScreen
-screen_is_whole course is met = true≢false (sym is ∙ ap is_unfailed met)
-
-keys_are_whole : (course : Course) → is_unfailed course ≡ true → course ≢ NoKeys
-keys_are_whole course is met = true≢false (sym is ∙ ap is_unfailed met)
-
-both : (a b : Bool) → a && b ≡ true → a ≡ true
-both true b is = refl
-both false b is = is
-
 -- ---- behind what was taken
 
-pub starts_stand : (a : Moment) → a.course ≡ On → Stands a.screen a
-starts_stand a on = record {
-  leaves = record { failures = sym (ap (λ c. screen_failures c a.screen.failures) on); flushed = λ _ was. was };
-  readable = keys_are_whole a.course (ap is_unfailed on);
-}
+module _ (from : Calls Known) where
+  abbrev StandsAt : Moment → Type 0
+  StandsAt m = Stands m.course from m.screen
 
-module _ {from : Calls Known} where
-  stands_shown : {has_cursor : Bool} (a b : Moment) → is_unfailed a.course ≡ true → Leaves from a → Shows has_cursor a b → Stands from b
-  stands_shown a b ok l (whole new text shown frame written is) = subst (Stands from) (sym is) (record {
-    leaves = record { failures = written.failures ∙ l.failures; flushed = λ _ _. written.flushed };
-    readable = keys_are_whole a.course ok;
-  })
-  stands_shown a b ok l (begun new text shown frame part is) = subst (Stands from) (sym is) (record {
-    leaves = record { failures = part.failed ∙ ap one_more (l.failures ∙ unfailed_screen a.course from.failures ok); flushed = λ no. absurd (no refl) };
-    readable = λ h. cc;
-  })
-  stands_shown a b ok l (unmade new is) = subst (Stands from) (sym is) (record {
-    leaves = record { failures = l.failures ∙ unfailed_screen a.course from.failures ok; flushed = λ _. l.flushed (screen_is_whole a.course ok) };
-    readable = λ h. cc;
-  })
+  stands_shown : {has_cursor : Bool} (a b : Moment) → is_unfailed a.course ≡ true → StandsAt a → Shows has_cursor a b → StandsAt b
+  stands_shown a b ok s (whole new text shown frame written is) =
+      let before = unfailed a.course ok s in
+      subst StandsAt (sym is) (stands a.course ok (record { failures = written.failures ∙ before.failures; flushed = λ _. written.flushed }))
+  stands_shown a b ok s (begun new text shown frame part is) =
+      let before = unfailed a.course ok s in
+      subst StandsAt (sym is) (part.failed ∙ ap one_more before.failures)
+  stands_shown a b ok s (unmade new is) = subst StandsAt (sym is) (unfailed a.course ok s)
 
-  pub stands_if : (has_cursor asked : Bool) (a b : Moment) → is_unfailed a.course ≡ true → Stands from a → StepIf asked (Shows has_cursor) a b → Stands from b
-  stands_if has_cursor true a b ok s shown = stands_shown a b ok s.leaves shown
-  stands_if has_cursor false a b ok s same = subst (Stands from) (sym same) s
+  stands_if : (has_cursor asked : Bool) (a b : Moment) → is_unfailed a.course ≡ true → StandsAt a → StepIf asked (Shows has_cursor) a b → StandsAt b
+  stands_if has_cursor true a b ok s shown = stands_shown a b ok s shown
+  stands_if has_cursor false a b ok s same = subst StandsAt (sym same) s
 
-  -- what leaves the screen as it was, and is no fault
-  stands_on : (a b : Moment) → is_unfailed a.course ≡ true → is_unfailed b.course ≡ true → b.screen ≡ a.screen → Stands from a → Stands from b
-  stands_on a b ok fine same s =
-      let seen : Leaves from (record a { screen = b.screen }) = subst (λ (c : Calls Known). Leaves from (record a { screen = c })) (sym same) s.leaves in
-      record {
-        leaves = record {
-          failures = seen.failures ∙ unfailed_screen a.course from.failures ok ∙ sym (unfailed_screen b.course from.failures fine);
-          flushed = λ _. seen.flushed (screen_is_whole a.course ok);
-        };
-        readable = keys_are_whole b.course fine;
-      }
-
-  stands_event : (how : Manner) (event : Event) (a b : Moment) → is_unfailed a.course ≡ true → Stands from a → TakesEvent how event a b → Stands from b
+  stands_event : (how : Manner) (event : Event) (a b : Moment) → is_unfailed a.course ≡ true → StandsAt a → TakesEvent how event a b → StandsAt b
   stands_event how (key byte) a b ok s taken =
-      let fine : is_unfailed taken.between.course ≡ true = ap is_unfailed taken.taken.course ∙ unfailed_request taken.taken.asked in
-      stands_if how.cursor (follows_key how taken.between.course taken.amid) taken.between b fine (stands_on a taken.between ok fine taken.taken.screen s) taken.shown
+      let pressed = taken.between in
+      let fine : is_unfailed pressed.course ≡ true = ap is_unfailed taken.taken.course ∙ unfailed_request taken.taken.asked in
+      let same : IsUnfailed from pressed.screen = subst (IsUnfailed from) (sym taken.taken.screen) (unfailed a.course ok s) in
+      stands_if how.cursor (follows_key how pressed.course taken.amid) pressed b fine (stands pressed.course fine same) taken.shown
   stands_event how (size rows columns) a b ok s shown =
-      let sized = record a { editor = resized_editor rows columns a.editor } in
-      stands_if how.cursor (follows_step how a.course) sized b ok (stands_on a sized ok ok refl s) shown
+      stands_if how.cursor (follows_step how a.course) (record a { editor = resized_editor rows columns a.editor }) b ok s shown
   stands_event how block_end a b ok s shown = stands_if how.cursor (follows_block how) a b ok s shown
 
-  stands_step : (how : Manner) (event : Event) (go : Bool) (a b : Moment) → goes_on a.course ≡ go → Stands from a → StepIf go (TakesEvent how event) a b → Stands from b
+  stands_step : (how : Manner) (event : Event) (go : Bool) (a b : Moment) → goes_on a.course ≡ go → StandsAt a → StepIf go (TakesEvent how event) a b → StandsAt b
   stands_step how event true a b on s taken = stands_event how event a b (unfailed_going a.course on) s taken
-  stands_step how event false a b on s same = subst (Stands from) (sym same) s
+  stands_step how event false a b on s same = subst StandsAt (sym same) s
 
-  pub stands_all : (how : Manner) (events : List Event) (a b : Moment) → Stands from a → TakesAll how events a b → Stands from b
-  stands_all how [] a b s same = subst (Stands from) (sym same) s
+  stands_all : (how : Manner) (events : List Event) (a b : Moment) → StandsAt a → TakesAll how events a b → StandsAt b
+  stands_all how [] a b s same = subst StandsAt (sym same) s
   stands_all how (x ∷ xs) a b s (mid, step, rest) = stands_all how xs mid b (stands_step how x (goes_on a.course) a mid refl s step) rest
 
-  leaves_blocks : (course : Course) (how : Manner) (blocks : List (List ℕ)) (a : Moment) (editor : Editor) (calls : Told) (screen : Calls Known)
-      → Stands from a → TakesBlocks course how blocks a (moment editor calls screen course) → Leaves from (moment editor calls screen course)
-  leaves_blocks NoKeys how blocks a editor calls screen s taken =
-      let l = stands_all how (read_events (fresh how.resizable) blocks) a (moment editor calls screen On) s taken in
-      record { failures = l.leaves.failures; flushed = λ _. l.leaves.flushed (λ h. cc) }
-  leaves_blocks course how blocks a editor calls screen s taken =
-      let l = stands_all how (all_events (fresh how.resizable) blocks) a (moment editor calls screen course) s taken in
-      l.leaves
-
   -- the frame at the end
-  leaves_end : (has_cursor asked : Bool) (a b : Moment) → (asked ≡ true → is_unfailed a.course ≡ true) → Leaves from a → StepIf asked (Shows has_cursor) a b → Leaves from b
-  leaves_end has_cursor true a b ok l shown = let s = stands_shown a b (ok refl) l shown in s.leaves
-  leaves_end has_cursor false a b ok l same = subst (Leaves from) (sym same) l
+  stands_last : (has_cursor ok asked : Bool) (a b : Moment) → is_unfailed a.course ≡ ok → StandsAt a → StepIf (ok && asked) (Shows has_cursor) a b → StandsAt b
+  stands_last has_cursor true asked a b is s shown = stands_if has_cursor asked a b is s shown
+  stands_last has_cursor false asked a b is s same = subst StandsAt (sym same) s
 
 -- ---- behind a whole session
 
--- the frame at the start ended it
+module _ {R : Type 0} {remaining : R → Known} {how : Manner} {keys rest : Calls R} where
+  leaves_keys : (from : Calls Known) (a ended b : Moment) → Stands a.course from a.screen → TakesKeys remaining how a ended keys rest
+      → StepIf (is_unfailed ended.course && not how.trace) (Shows how.cursor) ended b → Leaves b.course keys rest from b.screen
+  leaves_keys from a ended b s (inl taken) finish =
+      let seen = stands_all from how (all_events (fresh how.resizable) taken.blocks) a ended s taken.taken in
+      leaves b.course keys rest from b.screen taken.unfailed (stands_last from how.cursor (is_unfailed ended.course) (not how.trace) ended b refl seen finish)
+  leaves_keys from a ended b s (inr off) finish =
+      let seen : IsUnfailed from ended.screen = stands_all from how (read_events (fresh how.resizable) off.blocks) a (record ended { course = On }) s off.taken in
+      let same : b ≡ ended = subst (λ ok. StepIf (ok && not how.trace) (Shows how.cursor) ended b) (ap is_unfailed off.course) finish in
+      subst (λ (m : Moment). Leaves m.course keys rest from m.screen) (sym same) (subst (λ c. Leaves c keys rest from ended.screen) (sym off.course) (off.failed, seen))
+
+  pub run_leaves : {a b : Moment} → a.course ≡ On → Runs remaining how a b keys rest → Leaves b.course keys rest a.screen b.screen
+  run_leaves {a} {b} on ran =
+      let ok = ap is_unfailed on in
+      let first = stands a.course ok (record { failures = refl; flushed = λ was. was }) in
+      leaves_keys a.screen ran.begun ran.ended b (stands_if a.screen how.cursor how.trace a ran.begun ok first ran.starts) ran.taken ran.finishes
+
+-- ---- behind a session that the frame at its start ended
+
 stopped_shown : {has_cursor : Bool} (a b : Moment) → a.course ≡ On → b.course ≢ On → Shows has_cursor a b → is_unfailed b.course ≡ false
 stopped_shown a b on stops (whole new text shown frame written is) = absurd (stops (ap (λ (m : Moment). m.course) is ∙ on))
 stopped_shown a b on stops (begun new text shown frame part is) = ap (λ (m : Moment). is_unfailed m.course) is
@@ -138,28 +126,3 @@ stopped_shown a b on stops (unmade new is) = ap (λ (m : Moment). is_unfailed m.
 pub stopped : (has_cursor asked : Bool) (a b : Moment) → a.course ≡ On → b.course ≢ On → StepIf asked (Shows has_cursor) a b → is_unfailed b.course ≡ false
 stopped has_cursor true a b on stops shown = stopped_shown a b on stops shown
 stopped has_cursor false a b on stops same = absurd (stops (ap (λ (m : Moment). m.course) same ∙ on))
-
--- a frame tells nothing of the keys
-keys_shown : {has_cursor : Bool} (n : ℕ) (a b : Moment) → is_unfailed a.course ≡ true → Shows has_cursor a b → keys_failures a.course n ≡ keys_failures b.course n
-keys_shown n a b ok (whole new text shown frame written is) = sym (ap (λ (m : Moment). keys_failures m.course n) is)
-keys_shown n a b ok (begun new text shown frame part is) = unfailed_keys a.course n ok ∙ sym (ap (λ (m : Moment). keys_failures m.course n) is)
-keys_shown n a b ok (unmade new is) = unfailed_keys a.course n ok ∙ sym (ap (λ (m : Moment). keys_failures m.course n) is)
-
-keys_end : (has_cursor asked : Bool) (n : ℕ) (a b : Moment) → (asked ≡ true → is_unfailed a.course ≡ true) → StepIf asked (Shows has_cursor) a b
-    → keys_failures a.course n ≡ keys_failures b.course n
-keys_end has_cursor true n a b ok shown = keys_shown n a b (ok refl) shown
-keys_end has_cursor false n a b ok same = sym (ap (λ (m : Moment). keys_failures m.course n) same)
-
-module _ {R : Type 0} {remaining : R → Known} {how : Manner} {keys rest : Calls R} where
-  pub runs_screen : {a b : Moment} → a.course ≡ On → Runs remaining how a b keys rest → Leaves a.screen b
-  runs_screen {a} {b} on ran =
-      let ended = ran.ended in
-      let seen = stands_if how.cursor how.trace a ran.begun (ap is_unfailed on) (starts_stand a on) ran.starts in
-      leaves_end how.cursor (is_unfailed ended.course && not how.trace) ended b (both (is_unfailed ended.course) (not how.trace))
-      (leaves_blocks ended.course how ran.taken.blocks ran.begun ended.editor ended.calls ended.screen seen ran.taken.taken) ran.finishes
-
-  pub runs_keys : {a b : Moment} → Runs remaining how a b keys rest → rest.failures ≡ keys_failures b.course keys.failures
-  runs_keys {a} {b} ran =
-      let ended = ran.ended in
-      ran.taken.device
-      ∙ keys_end how.cursor (is_unfailed ended.course && not how.trace) keys.failures ended b (both (is_unfailed ended.course) (not how.trace)) ran.finishes

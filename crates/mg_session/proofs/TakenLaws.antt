@@ -10,7 +10,7 @@ use Rattle.mg_session.specs.Keys.{TakesKey}
 use Rattle.mg_session.specs.Moments.{Moment, StepIf}
 use Rattle.mg_session.specs.Running.{TakesByte, TakesEvent, TakesAll}
 use Rattle.mg_session.specs.declared.course.Course.{Course}
-use Rattle.mg_session.specs.declared.course.Course.TheVariants.{On, Quit, NoKeys, NoScreen, NoMemory}
+use Rattle.mg_session.specs.declared.course.Course.TheVariants.{On}
 use Rattle.mg_session.specs.declared.manner.Manner.{Manner}
 
 pub does_not_go_on : (course : Course) → course ≢ On → goes_on course ≡ false

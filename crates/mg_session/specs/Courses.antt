@@ -1,5 +1,5 @@
 -- How a session stands, and what that says of its devices.
-use Rattle.std.specs.Prelude.{◌≡◌, ℕ, Bool, true, false, Result, Ok, Err}
+use Rattle.std.specs.Prelude.{◌≡◌, Bool, true, false, Result, Ok, Err}
 use Rattle.rga_lines.specs.Counting.{Calls, one_more}
 use Rattle.mg_session.specs.declared.course.Course.{Course}
 use Rattle.mg_session.specs.declared.course.Course.TheVariants.{On, Quit, NoKeys, NoScreen, NoMemory}
@@ -25,8 +25,3 @@ answer NoMemory = Err Memory
 
 abbrev pub IsFailed : {T : Type 0} → Calls T → Calls T → Type 0
 IsFailed old new = new.failures ≡ one_more old.failures
-
--- the failures of the keys' device, one more than before exactly where that is how a session stands
-abbrev pub keys_failures : Course → ℕ → ℕ
-keys_failures NoKeys n = one_more n
-keys_failures course n = n

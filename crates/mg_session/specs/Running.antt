@@ -14,14 +14,14 @@ use Rattle.mg_workspace.specs.Actions.{resized}
 use Rattle.mg_editor.specs.Editors.{Editor}
 use Rattle.mg_editor.specs.Opening.{Opens}
 use Rattle.mg_reports.specs.Reports.{Event, key, size, block_end, fresh, read_events, all_events}
-use Rattle.mg_session.specs.Courses.{goes_on, is_unfailed, answer, IsFailed, keys_failures}
+use Rattle.mg_session.specs.Courses.{goes_on, is_unfailed, answer, IsFailed}
 use Rattle.mg_session.specs.Display.{Shows, follows_step, follows_key, follows_block, manner_of}
 use Rattle.mg_session.specs.Keys.{TakesKey}
 use Rattle.mg_session.specs.Moments.{Told, Known, seen, Moment, moment, StepIf}
 use Rattle.mg_session.specs.declared.course.Course.{Course}
 use Rattle.mg_session.specs.declared.course.Course.TheVariants.{On, NoKeys}
 use Rattle.mg_session.specs.declared.fault.SessionFault.{SessionFault}
-use Rattle.mg_session.specs.declared.fault.SessionFault.TheVariants.{Load, File, Keys, Screen, Memory}
+use Rattle.mg_session.specs.declared.fault.SessionFault.TheVariants.{Load, File, Memory}
 use Rattle.mg_session.specs.declared.manner.Manner.{Manner}
 
 -- ---- events
@@ -70,21 +70,28 @@ ReadsBlock remaining None bytes keys rest = Keeps (remaining keys.inner) (remain
 abbrev pub GivesBlocks : {R : Type 0} → Calls R → Calls R → List (List ℕ) → Type 0
 GivesBlocks keys rest blocks = (keys.left ≡ rest.left + length blocks) ⊎ (keys.left ≡ rest.left + (length blocks + 1))
 
--- What their bytes mean was taken. Where the next ones could not be read, bytes that begin a report were not.
-abbrev pub TakesBlocks : Course → Manner → List (List ℕ) → Moment → Moment → Type 0
-TakesBlocks NoKeys how blocks before behind = TakesAll how (read_events (fresh how.resizable) blocks) before (record behind { course = On })
-TakesBlocks course how blocks before behind = TakesAll how (all_events (fresh how.resizable) blocks) before behind
+module _ {R : Type 0} (remaining : R → Known) (how : Manner) (before behind : Moment) (keys rest : Calls R) where
+  -- Keys were read, and what their bytes mean was taken, up to an event behind which the session ends, or to their end. A
+  -- session that does not go on reads none.
+  pub record ReadsOn : Type 0 where
+    pub blocks : List (List ℕ)
+    pub unread : goes_on before.course ≡ false → rest ≡ keys
+    pub read : Consumes (remaining keys.inner) (remaining rest.inner) (concat blocks)
+    pub reads : GivesBlocks keys rest blocks
+    pub whole : behind.course ≡ On → IsReadToEnd remaining rest
+    pub unfailed : rest.failures ≡ keys.failures
+    pub taken : TakesAll how (all_events (fresh how.resizable) blocks) before behind
 
--- Where the session goes on keys were read, and what their bytes mean was taken, up to an event behind which the session
--- ends, or to the end of the keys, or to a read that failed.
-pub record TakesKeys {R : Type 0} (remaining : R → Known) (how : Manner) (before behind : Moment) (keys rest : Calls R) : Type 0 where
-  pub blocks : List (List ℕ)
-  pub unread : goes_on before.course ≡ false → rest ≡ keys
-  pub read : Consumes (remaining keys.inner) (remaining rest.inner) (concat blocks)
-  pub reads : behind.course ≢ NoKeys → GivesBlocks keys rest blocks
-  pub whole : behind.course ≡ On → IsReadToEnd remaining rest
-  pub device : rest.failures ≡ keys_failures behind.course keys.failures
-  pub taken : TakesBlocks behind.course how blocks before behind
+  -- The next ones could not be read. Bytes that begin a report were not taken then.
+  pub record BreaksOff : Type 0 where
+    pub blocks : List (List ℕ)
+    pub read : Consumes (remaining keys.inner) (remaining rest.inner) (concat blocks)
+    pub failed : IsFailed keys rest
+    pub taken : TakesAll how (read_events (fresh how.resizable) blocks) before (record behind { course = On })
+    pub course : behind.course ≡ NoKeys
+
+  abbrev pub TakesKeys : Type 0
+  TakesKeys = ReadsOn ⊎ BreaksOff
 
 -- ---- the load of the settings' name
 

@@ -66,7 +66,7 @@ pub fn run_keys<S: Teller, R: Read, W: Write, P: Port>(
     // or up to a read that failed, or to a frame that could not be written or made: then a beginning of
     // it, or nothing. Where the first load was refused, or nothing is loaded by what it answered, no
     // key was read, and nothing was written.
-    ensures session { running.IsSession R.remaining W.contents settings.now result
+    ensures ran { running.IsSession R.remaining W.contents settings.now result
         (running.devices keys.old screen.old (P.calls port.old))
         (running.devices keys.new screen.new (P.calls port.new)) }
 

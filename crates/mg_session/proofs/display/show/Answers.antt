@@ -1,5 +1,5 @@
 use Rattle.mg_session.specs.Display.{whole, begun, unmade}
-use Rattle.std.proofs.Common.{rules, refl}
+use Rattle.std.proofs.Common.{refl}
 use Rattle.mg_session.proofs.display.show.Goals as goal
 
 pub returns-in_default : goal.returns-in_default
