@@ -1,15 +1,15 @@
 -- Frames, as they are written.
-use Rattle.std.specs.Prelude.{◌≡◌, ℕ, Bool, true, not, List, [], ◌∷◌, ◌++◌, ◌&&◌, Option, Some, None, map, string_bytes, codes, if◌then◌else◌}
+use Rattle.std.specs.Prelude.{◌≡◌, ℕ, Bool, true, not, List, [], ◌∷◌, ◌++◌, ◌&&◌, Option, Some, None, codes, if◌then◌else◌}
 use Rattle.std.specs.Fmt.{decimal}
 use Rattle.std.specs.Io.KnownBytes.{Appends}
-use Rattle.std.specs.declared.alloc.Global.{Global}
-use Rattle.std.specs.declared.string.String.{String}
 use Rattle.rga_lines.specs.Counting.{Calls}
 use Rattle.rga_lines.specs.Stream.{bytes_of_lines}
+use Rattle.mg_screen.specs.Frame.{frame_rows}
+use Rattle.mg_screen.specs.Written.{utf8}
 use Rattle.mg_screen.specs.declared.screen.Position.{Position}
 use Rattle.mg_settings.specs.Settings.{Values}
 use Rattle.mg_editor.specs.Editors.{Editor}
-use Rattle.mg_editor.specs.Frames.{IsPlaced, ShowsRows, ShowsCursor}
+use Rattle.mg_editor.specs.Frames.{IsPlaced, ShowsCursor, screen_of}
 use Rattle.mg_session.specs.Courses.{goes_on, IsFailed}
 use Rattle.mg_session.specs.Moments.{Known, Moment}
 use Rattle.mg_session.specs.declared.course.Course.{Course}
@@ -47,18 +47,20 @@ frame_lines rows (Some at) = rows ++ position_text at ∷ []
 abbrev pub frame_text : List (List ℕ) → Option Position → List ℕ
 frame_text rows cursor = bytes_of_lines (frame_lines rows cursor)
 
+-- the rows of an editor, in UTF-8
+abbrev pub editor_rows : Editor → List (List ℕ)
+editor_rows e = utf8 (frame_rows e.work.columns (screen_of e))
+
 -- what is shown of where the cursor stands
 abbrev pub shown_cursor : Bool → Position → Option Position
 shown_cursor has_cursor at = if has_cursor then Some at else None
 
 -- the text is the frame of the editor, whose windows were placed for it
 pub record ShowsFrame (has_cursor : Bool) (old new : Editor) (text : List ℕ) : Type 0 where
-  pub rows : List (String Global)
   pub at : Position
   pub placed : IsPlaced old new
-  pub spelled : ShowsRows new rows
   pub cursor : ShowsCursor new at
-  pub written : text ≡ frame_text (map string_bytes rows) (shown_cursor has_cursor at)
+  pub written : text ≡ frame_text (editor_rows new) (shown_cursor has_cursor at)
 
 -- ---- how it is written
 
