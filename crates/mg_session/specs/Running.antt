@@ -99,24 +99,13 @@ module _ {R : Type 0} (remaining : R → Known) (how : Manner) (before behind : 
 abbrev pub IsFound : Values → Files → Told → Told → Type 0
 IsFound v found calls told = Adds calls told (found_call v.name found ∷ [])
 
--- an editor that opens by what it answered
-pub record IsOpened (v : Values) (calls told : Told) (first : Editor) : Type 0 where
-  pub found : Files
-  pub load : IsFound v found calls told
-  pub opens : Opens v found (Ok first)
-
--- why none opens by these files
-abbrev pub IsUnloaded : Values → Files → SessionFault → Type 0
-IsUnloaded v found (Load e) = (load_outcome v.name v.replica v.limit found ≡ Err e) × (e ≢ load.Memory)
-IsUnloaded v found Memory = ⊤
-IsUnloaded v found fault = ⊥
-
--- It was refused, or none opens by what it answered, for this fault.
-abbrev pub FailsToOpen : Values → Told → Told → SessionFault → Type 0
-FailsToOpen v calls told (Load e) = (found : Files) × IsFound v found calls told × IsUnloaded v found (Load e)
-FailsToOpen v calls told File = Adds calls told (refused (load_call v.name) ∷ [])
-FailsToOpen v calls told Memory = ⊤
-FailsToOpen v calls told fault = ⊥
+-- This editor opens by what it answered, or none does, for this fault, or it was refused.
+abbrev pub LoadsTo : Values → Told → Told → Result Editor SessionFault → Type 0
+LoadsTo v calls told (Ok first) = (found : Files) × IsFound v found calls told × Opens v found (Ok first)
+LoadsTo v calls told (Err (Load e)) = (found : Files) × IsFound v found calls told × (load_outcome v.name v.replica v.limit found ≡ Err e) × (e ≢ load.Memory)
+LoadsTo v calls told (Err File) = Adds calls told (refused (load_call v.name) ∷ [])
+LoadsTo v calls told (Err Memory) = ⊤
+LoadsTo v calls told (Err fault) = ⊥
 
 -- ---- a session
 
@@ -143,7 +132,7 @@ pub record RunsFrom {R W : Type 0} (remaining : R → Known) (contents : W → K
   pub first : Editor
   pub last : Editor
   pub course : Course
-  pub opened : IsOpened v before.calls told first
+  pub opened : LoadsTo v before.calls told (Ok first)
   pub ran : Runs remaining (manner_of v) (moment first told (seen contents before.screen) On) (moment last behind.calls (seen contents behind.screen) course) before.keys behind.keys
   pub answered : r ≡ answer course
 
@@ -151,7 +140,7 @@ pub record RunsFrom {R W : Type 0} (remaining : R → Known) (contents : W → K
 pub record NeverOpens {R W : Type 0} (v : Values) (r : Result (Unit {0}) SessionFault) (before behind : Devices R W) : Type 0 where
   pub fault : SessionFault
   pub answered : r ≡ Err fault
-  pub fails : FailsToOpen v before.calls behind.calls fault
+  pub fails : LoadsTo v before.calls behind.calls (Err fault)
   pub unread : behind.keys ≡ before.keys
   pub unwritten : behind.screen ≡ before.screen
 

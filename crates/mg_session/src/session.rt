@@ -1,7 +1,6 @@
 //! Sessions.
-ghost use Rattle.std.specs.Prelude.{◌≡◌, ◌<◌, [], ◌∷◌, length, Ok, Err, IfOk, IfErr, MatchResult};
+ghost use Rattle.std.specs.Prelude.{◌≡◌, ◌≢◌, ◌<◌, [], ◌∷◌, length, Err};
 ghost use Rattle.rga_lines.specs.Counting.{CountsAs, StaysFlushed, one_more};
-ghost use Rattle.mg_editor.specs.Opening.{Opens};
 ghost use Rattle.mg_reports.specs.Reports as report;
 ghost use Rattle.mg_session.specs.Display as frames;
 ghost use Rattle.mg_session.specs.Moments.{Told, seen, moment, StepIf};
@@ -92,10 +91,7 @@ fn open<S: TextStore, P: Port>(
     port: &mut P,
     settings: &Settings,
 ) -> Result<Editor<S>, SessionFault>
-    ensures opened { IfOk result
-        (running.IsOpened settings.now (P.calls port.old) (P.calls port.new)) }
-    ensures failed { IfErr result
-        (running.FailsToOpen settings.now (P.calls port.old) (P.calls port.new)) }
+    ensures loaded { running.LoadsTo settings.now (P.calls port.old) (P.calls port.new) result }
     ensures file { result ≡ Err File → P.failures port.new ≡ one_more (P.failures port.old) }
 {
     match port.load(settings.values().name.as_str()) {
@@ -110,8 +106,9 @@ fn edit<S: TextStore>(
     settings: &Settings,
     found: Found,
 ) -> Result<Editor<S>, SessionFault>
-    ensures { MatchResult result
-        (λ first. Opens settings.now found (Ok first)) (running.IsUnloaded settings.now found) }
+    ensures loaded { (calls told : Told) → running.IsFound settings.now found calls told →
+        running.LoadsTo settings.now calls told result }
+    ensures file { result ≢ Err File }
 {
     match Editor::new(alloc, settings, found) {
         Ok(editor) => Ok(editor),
