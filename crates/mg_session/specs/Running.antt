@@ -1,6 +1,6 @@
 -- What a session does with its keys.
-use Rattle.std.specs.Prelude.{◌≡◌, ◌≢◌, ◌⊎◌, ◌↔◌, ⊤, ℕ, ◌+◌, ◌≤◌, Bool, false, not, ◌&&◌, List, [], ◌∷◌, length, take, min, max, Option, Some, None, Result, Ok, Err}
-use Rattle.std.specs.Io.KnownBytes.{Consumes, Keeps}
+use Rattle.std.specs.Prelude.{◌≡◌, ◌≢◌, ◌⊎◌, ◌↔◌, ⊤, ℕ, ◌+◌, ◌≤◌, Bool, false, not, ◌&&◌, List, [], ◌∷◌, length, take, min, max, Result, Ok, Err}
+use Rattle.std.specs.Io.KnownBytes.{Consumes}
 use Rattle.std.specs.List.{concat}
 use Rattle.rga_lines.specs.Counting.{Calls, IsReadToEnd}
 use Rattle.mg_files.specs.Calls.{Adds, load_call, found_call, refused}
@@ -60,11 +60,6 @@ pub record GivesBytes {R : Type 0} (remaining : R → Known) (count : ℕ) (byte
   pub call : keys.left ≡ rest.left + 1
   pub unfailed : rest.failures ≡ keys.failures
   pub end : count ≡ 0 → IsReadToEnd remaining rest
-
--- one was answered, or failed
-abbrev pub ReadsBlock : {R : Type 0} → (R → Known) → Option ℕ → List ℕ → Calls R → Calls R → Type 0
-ReadsBlock remaining (Some count) bytes keys rest = GivesBytes remaining count bytes keys rest
-ReadsBlock remaining None bytes keys rest = Keeps (remaining keys.inner) (remaining rest.inner) × IsFailed keys rest
 
 -- Each gave a block, but the last one may have given no bytes.
 abbrev pub GivesBlocks : {R : Type 0} → Calls R → Calls R → List (List ℕ) → Type 0

@@ -1,7 +1,9 @@
 //! Sessions.
-ghost use Rattle.std.specs.Prelude.{◌≡◌, ◌≢◌, ◌<◌, [], ◌∷◌, length, Err};
+ghost use Rattle.std.specs.Prelude.{◌≡◌, ◌≢◌, ◌<◌, [], ◌∷◌, length, Err, IfOk, OnErr};
+ghost use Rattle.std.specs.Io.KnownBytes.{Keeps};
 ghost use Rattle.rga_lines.specs.Counting.{CountsAs, StaysFlushed, one_more};
 ghost use Rattle.mg_reports.specs.Reports as report;
+ghost use Rattle.mg_session.specs.Courses.{IsFailed};
 ghost use Rattle.mg_session.specs.Display as frames;
 ghost use Rattle.mg_session.specs.Moments.{Told, seen, moment, StepIf};
 ghost use Rattle.mg_session.specs.Running as running;
@@ -22,6 +24,7 @@ use rga_lines::Counted;
 use rga_store::TextStore;
 use rga_telling::Teller;
 use std::alloc::Global;
+use std::io;
 use std::io::{Read, Write};
 
 /// How many bytes one read of the keys asks for.
@@ -327,12 +330,12 @@ impl Session {
         let mut block = [0u8; BLOCK];
         'reads: loop {
             match read_block(keys, &mut block) {
-                None => return Course::NoKeys,
-                Some(0) => {
+                Err(_) => return Course::NoKeys,
+                Ok(0) => {
                     let held = reports.take_held();
                     return self.press_held(editor, held.as_slice(), screen, port);
                 }
-                Some(count) => {
+                Ok(count) => {
                     match self.take_block(editor, &mut reports, &block[..count], screen, port) {
                         Course::On => {}
                         ended => return ended,
@@ -343,14 +346,15 @@ impl Session {
     }
 }
 
-/// Reads bytes of the keys, and answers how many; nothing where that fails.
-fn read_block<R: Read>(keys: &mut Counted<R>, block: &mut [u8]) -> Option<usize>
+/// Reads bytes of the keys, and answers how many.
+fn read_block<R: Read>(keys: &mut Counted<R>, block: &mut [u8]) -> io::Result<usize>
     requires { 0 < length block.old }
     ensures length { length block.new ≡ length block.old }
-    ensures read { running.ReadsBlock R.remaining result block.new keys.old keys.new }
+    ensures given { IfOk result
+        (λ count. running.GivesBytes R.remaining count block.new keys.old keys.new) }
+    ensures failed { OnErr result
+        (Keeps (R.remaining keys.old.inner) (R.remaining keys.new.inner)
+        × IsFailed keys.old keys.new) }
 {
-    match keys.read(block) {
-        Ok(count) => Some(count),
-        Err(_) => None,
-    }
+    keys.read(block)
 }
