@@ -1,4 +1,4 @@
--- How a session stands, and what that says of its devices.
+-- How a session stands, and what it is answered by.
 use Rattle.std.specs.Prelude.{◌≡◌, Bool, true, false, Result, Ok, Err}
 use Rattle.rga_lines.specs.Counting.{Calls, one_more}
 use Rattle.mg_session.specs.declared.course.Course.{Course}
@@ -6,9 +6,10 @@ use Rattle.mg_session.specs.declared.course.Course.TheVariants.{On, Quit, NoKeys
 use Rattle.mg_session.specs.declared.fault.SessionFault.{SessionFault}
 use Rattle.mg_session.specs.declared.fault.SessionFault.TheVariants.{Keys, Screen, Memory}
 
-abbrev pub goes_on : Course → Bool
-goes_on On = true
-goes_on course = false
+-- it goes on
+abbrev pub is_on : Course → Bool
+is_on On = true
+is_on course = false
 
 -- neither a device nor memory failed
 abbrev pub is_unfailed : Course → Bool
@@ -16,6 +17,7 @@ is_unfailed On = true
 is_unfailed Quit = true
 is_unfailed course = false
 
+-- what a session that stands so is answered by
 abbrev pub answer : Course → Result (Unit {0}) SessionFault
 answer On = Ok tt
 answer Quit = Ok tt
@@ -23,5 +25,6 @@ answer NoKeys = Err Keys
 answer NoScreen = Err Screen
 answer NoMemory = Err Memory
 
+-- a call of the device more failed
 abbrev pub IsFailed : {T : Type 0} → Calls T → Calls T → Type 0
 IsFailed old new = new.failures ≡ one_more old.failures

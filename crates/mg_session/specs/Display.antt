@@ -10,7 +10,7 @@ use Rattle.mg_screen.specs.declared.screen.Position.{Position}
 use Rattle.mg_settings.specs.Settings.{Values}
 use Rattle.mg_editor.specs.Editors.{Editor}
 use Rattle.mg_editor.specs.Frames.{IsPlaced, ShowsCursor, screen_of}
-use Rattle.mg_session.specs.Courses.{goes_on, IsFailed}
+use Rattle.mg_session.specs.Courses.{is_on, IsFailed}
 use Rattle.mg_session.specs.Moments.{Known, Moment}
 use Rattle.mg_session.specs.declared.course.Course.{Course}
 use Rattle.mg_session.specs.declared.course.Course.TheVariants.{NoScreen, NoMemory}
@@ -23,7 +23,7 @@ manner_of v = record { resizable = v.resizable; trace = v.trace; newest = v.newe
 
 -- one behind a step: each where steps are traced, but of the newest alone that behind which the session ends
 abbrev pub follows_step : Manner → Course → Bool
-follows_step how course = if how.newest then how.trace && not (goes_on course) else how.trace
+follows_step how course = if how.newest then how.trace && not (is_on course) else how.trace
 
 -- one behind a key, unless it leaves a key sequence begun
 abbrev pub follows_key : Manner → Course → Bool → Bool
@@ -71,7 +71,7 @@ pub record IsWritten (text : List ℕ) (old new : Calls Known) : Type 0 where
   pub flushed : new.flushed ≡ true
 
 -- a beginning of the text, behind which the device failed
-pub record IsBegun (text : List ℕ) (old new : Calls Known) : Type 0 where
+pub record IsCutShort (text : List ℕ) (old new : Calls Known) : Type 0 where
   pub front : List ℕ
   pub rest : List ℕ
   pub parts : text ≡ front ++ rest
@@ -79,9 +79,9 @@ pub record IsBegun (text : List ℕ) (old new : Calls Known) : Type 0 where
   pub failed : IsFailed old new
 
 -- A frame of the editor was written, or its text was only begun, or memory was wanting for it, and nothing was written.
-pub data Shows (has_cursor : Bool) (before behind : Moment) : Type 0 where
+pub data Displays (has_cursor : Bool) (before behind : Moment) : Type 0 where
   whole : (new : Editor) (text : List ℕ) (shown : Calls Known) → ShowsFrame has_cursor before.editor new text → IsWritten text before.screen shown
-      → behind ≡ record before { editor = new; screen = shown } → Shows has_cursor before behind
-  begun : (new : Editor) (text : List ℕ) (shown : Calls Known) → ShowsFrame has_cursor before.editor new text → IsBegun text before.screen shown
-      → behind ≡ record before { editor = new; screen = shown; course = NoScreen } → Shows has_cursor before behind
-  unmade : (new : Editor) → behind ≡ record before { editor = new; course = NoMemory } → Shows has_cursor before behind
+      → behind ≡ record before { editor = new; screen = shown } → Displays has_cursor before behind
+  begun : (new : Editor) (text : List ℕ) (shown : Calls Known) → ShowsFrame has_cursor before.editor new text → IsCutShort text before.screen shown
+      → behind ≡ record before { editor = new; screen = shown; course = NoScreen } → Displays has_cursor before behind
+  unmade : (new : Editor) → behind ≡ record before { editor = new; course = NoMemory } → Displays has_cursor before behind

@@ -6,25 +6,25 @@ use Rattle.mg_editor.specs.Editors.{Editor}
 use Rattle.mg_session.specs.declared.course.Course.{Course}
 
 -- the calls that a port tells
-abbrev pub Told : Type 0
-Told = Option (List Call)
+abbrev pub ToldCalls : Type 0
+ToldCalls = Option (List Call)
 
 -- the bytes of a device, where they are known
 abbrev pub Known : Type 0
 Known = Option (List ℕ)
 
--- a device by these
+-- a device, by these in its place
 abbrev pub seen : {T : Type 0} → (T → Known) → Calls T → Calls Known
 seen known c = record { inner = known c.inner; failures = c.failures; left = c.left; at_end = c.at_end; flushed = c.flushed }
 
 -- its editor, the calls that its port has told, its screen, and how it stands
 pub record Moment : Type 0 where
   pub editor : Editor
-  pub calls : Told
+  pub calls : ToldCalls
   pub screen : Calls Known
   pub course : Course
 
-abbrev pub moment : Editor → Told → Calls Known → Course → Moment
+abbrev pub moment : Editor → ToldCalls → Calls Known → Course → Moment
 moment editor calls screen course = record { editor = editor; calls = calls; screen = screen; course = course }
 
 -- what is done from one moment to another where that is asked for, and else nothing

@@ -14,10 +14,10 @@ use Rattle.mg_workspace.specs.Actions.{resized}
 use Rattle.mg_editor.specs.Editors.{Editor}
 use Rattle.mg_editor.specs.Opening.{Opens}
 use Rattle.mg_reports.specs.Reports.{Event, key, size, block_end, fresh, read_events, all_events}
-use Rattle.mg_session.specs.Courses.{goes_on, is_unfailed, answer, IsFailed}
-use Rattle.mg_session.specs.Display.{Shows, follows_step, follows_key, follows_block, manner_of}
+use Rattle.mg_session.specs.Courses.{is_on, is_unfailed, answer, IsFailed}
+use Rattle.mg_session.specs.Display.{Displays, follows_step, follows_key, follows_block, manner_of}
 use Rattle.mg_session.specs.Keys.{TakesKey}
-use Rattle.mg_session.specs.Moments.{Told, Known, seen, Moment, moment, StepIf}
+use Rattle.mg_session.specs.Moments.{ToldCalls, Known, seen, Moment, moment, StepIf}
 use Rattle.mg_session.specs.declared.course.Course.{Course}
 use Rattle.mg_session.specs.declared.course.Course.TheVariants.{On, NoKeys}
 use Rattle.mg_session.specs.declared.fault.SessionFault.{SessionFault}
@@ -32,7 +32,7 @@ pub record TakesByte (how : Manner) (byte : ℕ) (before behind : Moment) : Type
   pub taken : TakesKey byte before between
   pub amid : Bool
   pub is_amid : (amid ≡ false) ↔ HasBegun between.editor.talk.keys []
-  pub shown : StepIf (follows_key how between.course amid) (Shows how.cursor) between behind
+  pub shown : StepIf (follows_key how between.course amid) (Displays how.cursor) between behind
 
 -- on a screen of so many rows and columns, each brought within its limits
 abbrev pub resized_editor : ℕ → ℕ → Editor → Editor
@@ -42,14 +42,14 @@ resized_editor rows columns e = record e { work = resized (min (max rows MIN_ROW
 abbrev pub TakesEvent : Manner → Event → Moment → Moment → Type 0
 TakesEvent how (key byte) before behind = TakesByte how byte before behind
 TakesEvent how (size rows columns) before behind =
-    StepIf (follows_step how before.course) (Shows how.cursor) (record before { editor = resized_editor rows columns before.editor }) behind
-TakesEvent how block_end before behind = StepIf (follows_block how) (Shows how.cursor) before behind
+    StepIf (follows_step how before.course) (Displays how.cursor) (record before { editor = resized_editor rows columns before.editor }) behind
+TakesEvent how block_end before behind = StepIf (follows_block how) (Displays how.cursor) before behind
 
 -- They were taken in turn, as long as the session went on.
-abbrev pub TakesAll : Manner → List Event → Moment → Moment → Type 0
-TakesAll how [] before behind = behind ≡ before
-TakesAll how (event ∷ rest) before behind =
-    (between : Moment) × StepIf (goes_on before.course) (TakesEvent how event) before between × TakesAll how rest between behind
+abbrev pub TakesEvents : Manner → List Event → Moment → Moment → Type 0
+TakesEvents how [] before behind = behind ≡ before
+TakesEvents how (event ∷ rest) before behind =
+    (between : Moment) × StepIf (is_on before.course) (TakesEvent how event) before between × TakesEvents how rest between behind
 
 -- ---- the reads of the keys
 
@@ -68,34 +68,34 @@ GivesBlocks keys rest blocks = (keys.left ≡ rest.left + length blocks) ⊎ (ke
 module _ {R : Type 0} (remaining : R → Known) (how : Manner) (before behind : Moment) (keys rest : Calls R) where
   -- Keys were read, and what their bytes mean was taken, up to an event behind which the session ends, or to their end. A
   -- session that does not go on reads none.
-  pub record ReadsOn : Type 0 where
+  pub record ReadsThrough : Type 0 where
     pub blocks : List (List ℕ)
-    pub unread : goes_on before.course ≡ false → rest ≡ keys
+    pub unread : is_on before.course ≡ false → rest ≡ keys
     pub read : Consumes (remaining keys.inner) (remaining rest.inner) (concat blocks)
     pub reads : GivesBlocks keys rest blocks
     pub whole : behind.course ≡ On → IsReadToEnd remaining rest
     pub unfailed : rest.failures ≡ keys.failures
-    pub taken : TakesAll how (all_events (fresh how.resizable) blocks) before behind
+    pub taken : TakesEvents how (all_events (fresh how.resizable) blocks) before behind
 
   -- The next ones could not be read. Bytes that begin a report were not taken then.
   pub record BreaksOff : Type 0 where
     pub blocks : List (List ℕ)
     pub read : Consumes (remaining keys.inner) (remaining rest.inner) (concat blocks)
     pub failed : IsFailed keys rest
-    pub taken : TakesAll how (read_events (fresh how.resizable) blocks) before (record behind { course = On })
+    pub taken : TakesEvents how (read_events (fresh how.resizable) blocks) before (record behind { course = On })
     pub course : behind.course ≡ NoKeys
 
-  abbrev pub TakesKeys : Type 0
-  TakesKeys = ReadsOn ⊎ BreaksOff
+  abbrev pub ReadsKeys : Type 0
+  ReadsKeys = ReadsThrough ⊎ BreaksOff
 
 -- ---- the load of the settings' name
 
--- It was the first call, and it answered these files.
-abbrev pub IsFound : Values → Files → Told → Told → Type 0
+-- It was the one call, and it answered these files.
+abbrev pub IsFound : Values → Files → ToldCalls → ToldCalls → Type 0
 IsFound v found calls told = Adds calls told (found_call v.name found ∷ [])
 
 -- This editor opens by what it answered, or none does, for this fault, or it was refused.
-abbrev pub LoadsTo : Values → Told → Told → Result Editor SessionFault → Type 0
+abbrev pub LoadsTo : Values → ToldCalls → ToldCalls → Result Editor SessionFault → Type 0
 LoadsTo v calls told (Ok first) = (found : Files) × IsFound v found calls told × Opens v found (Ok first)
 LoadsTo v calls told (Err (Load e)) = (found : Files) × IsFound v found calls told × (load_outcome v.name v.replica v.limit found ≡ Err e) × (e ≢ load.Memory)
 LoadsTo v calls told (Err File) = Adds calls told (refused (load_call v.name) ∷ [])
@@ -104,26 +104,27 @@ LoadsTo v calls told (Err fault) = ⊥
 
 -- ---- a session
 
--- once its editor is opened: a frame at the start, where steps are traced, what the keys lead to, and else a frame at the end
+-- Once its editor is opened, a frame is written at the start, where steps are traced, then the keys are read, and else a
+-- frame is written at the end, unless the session failed before.
 pub record Runs {R : Type 0} (remaining : R → Known) (how : Manner) (before behind : Moment) (keys rest : Calls R) : Type 0 where
   pub begun : Moment
   pub ended : Moment
-  pub starts : StepIf how.trace (Shows how.cursor) before begun
-  pub taken : TakesKeys remaining how begun ended keys rest
-  pub finishes : StepIf (is_unfailed ended.course && not how.trace) (Shows how.cursor) ended behind
+  pub starts : StepIf how.trace (Displays how.cursor) before begun
+  pub taken : ReadsKeys remaining how begun ended keys rest
+  pub finishes : StepIf (is_unfailed ended.course && not how.trace) (Displays how.cursor) ended behind
 
 -- its keys, its screen, and the calls that its port has told
 pub record Devices (R W : Type 0) : Type 0 where
   pub keys : Calls R
   pub screen : Calls W
-  pub calls : Told
+  pub calls : ToldCalls
 
-abbrev pub devices : {R W : Type 0} → Calls R → Calls W → Told → Devices R W
+abbrev pub devices : {R W : Type 0} → Calls R → Calls W → ToldCalls → Devices R W
 devices keys screen calls = record { keys = keys; screen = screen; calls = calls }
 
--- An editor opened, and the session ran, and is answered by how it stands then.
+-- An editor opened, and the session is answered by how it stands in the end.
 pub record RunsFrom {R W : Type 0} (remaining : R → Known) (contents : W → Known) (v : Values) (r : Result (Unit {0}) SessionFault) (before behind : Devices R W) : Type 0 where
-  pub told : Told
+  pub told : ToldCalls
   pub first : Editor
   pub last : Editor
   pub course : Course
@@ -131,7 +132,7 @@ pub record RunsFrom {R W : Type 0} (remaining : R → Known) (contents : W → K
   pub ran : Runs remaining (manner_of v) (moment first told (seen contents before.screen) On) (moment last behind.calls (seen contents behind.screen) course) before.keys behind.keys
   pub answered : r ≡ answer course
 
--- None opened: no key was read then, and nothing was written.
+-- None opened: no key was read, and nothing was written.
 pub record NeverOpens {R W : Type 0} (v : Values) (r : Result (Unit {0}) SessionFault) (before behind : Devices R W) : Type 0 where
   pub fault : SessionFault
   pub answered : r ≡ Err fault
@@ -139,6 +140,6 @@ pub record NeverOpens {R W : Type 0} (v : Values) (r : Result (Unit {0}) Session
   pub unread : behind.keys ≡ before.keys
   pub unwritten : behind.screen ≡ before.screen
 
--- one, as it is answered
+-- a session of these settings, and its answer
 abbrev pub IsSession : {R W : Type 0} → (R → Known) → (W → Known) → Values → Result (Unit {0}) SessionFault → Devices R W → Devices R W → Type 0
 IsSession remaining contents v r before behind = RunsFrom remaining contents v r before behind ⊎ NeverOpens v r before behind

@@ -20,8 +20,8 @@ pub(crate) enum Course {
 }
 
 /// Whether a session that stands so goes on.
-pub(crate) fn goes_on(course: Course) -> bool
-    ensures { result ≡ spec.goes_on course }
+pub(crate) fn is_on(course: Course) -> bool
+    ensures { result ≡ spec.is_on course }
 {
     match course {
         Course::On => true,

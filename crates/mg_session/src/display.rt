@@ -2,7 +2,7 @@
 ghost use Rattle.std.specs.Prelude.{◌≡◌, ◌∷◌, ◌++◌, [], map, string_bytes, IfOk, OnOk, OnErr, IfSome};
 ghost use Rattle.rga_lines.specs.Stream.{newline, bytes_of_lines};
 ghost use Rattle.mg_session.specs.Display as spec;
-ghost use Rattle.mg_session.specs.Moments.{Told, seen, moment};
+ghost use Rattle.mg_session.specs.Moments.{ToldCalls, seen, moment};
 
 use crate::course::Course;
 use mg_editor::Editor;
@@ -63,7 +63,7 @@ fn write_text<W: Write>(text: &str, screen: &mut Counted<W>) -> io::Result<()>
     ensures written { OnOk result
         (spec.IsWritten text.now (seen W.contents screen.old) (seen W.contents screen.new)) }
     ensures begun { OnErr result
-        (spec.IsBegun text.now (seen W.contents screen.old) (seen W.contents screen.new)) }
+        (spec.IsCutShort text.now (seen W.contents screen.old) (seen W.contents screen.new)) }
 {
     screen.write_all(text.as_bytes())?;
     screen.flush()
@@ -96,7 +96,7 @@ pub(crate) fn show<S: TextStore, W: Write>(
     screen: &mut Counted<W>,
     course: Course,
 ) -> Course
-    ensures { (calls : Told) → spec.Shows has_cursor
+    ensures { (calls : ToldCalls) → spec.Displays has_cursor
         (moment editor.old calls (seen W.contents screen.old) course)
         (moment editor.new calls (seen W.contents screen.new) result) }
 {

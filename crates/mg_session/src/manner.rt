@@ -2,7 +2,7 @@
 ghost use Rattle.std.specs.Prelude.{◌≡◌};
 ghost use Rattle.mg_session.specs.Display as spec;
 
-use crate::course::{Course, goes_on};
+use crate::course::{Course, is_on};
 
 /// How a session reads its keys, which frames it writes, and what stands behind each.
 #[derive(Clone, Copy)]
@@ -22,7 +22,7 @@ pub(crate) fn follows_step(manner: Manner, course: Course) -> bool
     ensures { result ≡ spec.follows_step manner course }
 {
     if manner.newest {
-        return manner.trace && !goes_on(course);
+        return manner.trace && !is_on(course);
     }
     manner.trace
 }

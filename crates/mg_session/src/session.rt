@@ -5,7 +5,7 @@ ghost use Rattle.rga_lines.specs.Counting.{CountsAs, StaysFlushed, one_more};
 ghost use Rattle.mg_reports.specs.Reports as report;
 ghost use Rattle.mg_session.specs.Courses.{IsFailed};
 ghost use Rattle.mg_session.specs.Display as frames;
-ghost use Rattle.mg_session.specs.Moments.{Told, seen, moment, StepIf};
+ghost use Rattle.mg_session.specs.Moments.{ToldCalls, seen, moment, StepIf};
 ghost use Rattle.mg_session.specs.Running as running;
 ghost use Rattle.mg_session.specs.declared.course.Course.TheVariants.{On};
 ghost use Rattle.mg_session.specs.declared.fault.SessionFault.TheVariants.{File, Keys, Screen};
@@ -109,7 +109,7 @@ fn edit<S: TextStore>(
     settings: &Settings,
     found: Found,
 ) -> Result<Editor<S>, SessionFault>
-    ensures loaded { (calls told : Told) → running.IsFound settings.now found calls told →
+    ensures loaded { (calls told : ToldCalls) → running.IsFound settings.now found calls told →
         running.LoadsTo settings.now calls told result }
     ensures file { result ≢ Err File }
 {
@@ -166,7 +166,7 @@ impl Session {
         screen: &mut Counted<W>,
         course: Course,
     ) -> Course
-        ensures { (calls : Told) → StepIf is_asked (frames.Shows self.now.manner.cursor)
+        ensures { (calls : ToldCalls) → StepIf is_asked (frames.Displays self.now.manner.cursor)
             (moment editor.old calls (seen W.contents screen.old) course)
             (moment editor.new calls (seen W.contents screen.new) result) }
     {
@@ -185,7 +185,7 @@ impl Session {
         screen: &mut Counted<W>,
         port: &mut P,
     ) -> Course
-        ensures { running.TakesAll self.now.manner (report.key key ∷ [])
+        ensures { running.TakesEvents self.now.manner (report.key key ∷ [])
             (moment editor.old (P.calls port.old) (seen W.contents screen.old) On)
             (moment editor.new (P.calls port.new) (seen W.contents screen.new) result) }
     {
@@ -202,7 +202,7 @@ impl Session {
         screen: &mut Counted<W>,
         port: &mut P,
     ) -> Course
-        ensures { running.TakesAll self.now.manner (report.keys keys.now)
+        ensures { running.TakesEvents self.now.manner (report.keys keys.now)
             (moment editor.old (P.calls port.old) (seen W.contents screen.old) On)
             (moment editor.new (P.calls port.new) (seen W.contents screen.new) result) }
     {
@@ -223,7 +223,7 @@ impl Session {
         columns: usize,
         screen: &mut Counted<W>,
     ) -> Course
-        ensures { (calls : Told) → running.TakesAll self.now.manner
+        ensures { (calls : ToldCalls) → running.TakesEvents self.now.manner
             (report.size rows columns ∷ [])
             (moment editor.old calls (seen W.contents screen.old) On)
             (moment editor.new calls (seen W.contents screen.new) result) }
@@ -242,7 +242,7 @@ impl Session {
         editor: &mut Editor<S>,
         screen: &mut Counted<W>,
     ) -> Course
-        ensures { (calls : Told) → running.TakesAll self.now.manner (report.block_end ∷ [])
+        ensures { (calls : ToldCalls) → running.TakesEvents self.now.manner (report.block_end ∷ [])
             (moment editor.old calls (seen W.contents screen.old) On)
             (moment editor.new calls (seen W.contents screen.new) result) }
     {
@@ -257,7 +257,7 @@ impl Session {
         screen: &mut Counted<W>,
         port: &mut P,
     ) -> Course
-        ensures { running.TakesAll self.now.manner (report.events_of meaning)
+        ensures { running.TakesEvents self.now.manner (report.events_of meaning)
             (moment editor.old (P.calls port.old) (seen W.contents screen.old) On)
             (moment editor.new (P.calls port.new) (seen W.contents screen.new) result) }
     {
@@ -276,7 +276,7 @@ impl Session {
         screen: &mut Counted<W>,
         port: &mut P,
     ) -> Course
-        ensures taken { running.TakesAll self.now.manner
+        ensures taken { running.TakesEvents self.now.manner
             (report.block_events reports.old block.now)
             (moment editor.old (P.calls port.old) (seen W.contents screen.old) On)
             (moment editor.new (P.calls port.new) (seen W.contents screen.new) result) }
@@ -299,7 +299,7 @@ impl Session {
         screen: &mut Counted<W>,
         port: &mut P,
     ) -> Course
-        ensures { running.TakesAll self.now.manner (report.held_events held.now)
+        ensures { running.TakesEvents self.now.manner (report.held_events held.now)
             (moment editor.old (P.calls port.old) (seen W.contents screen.old) On)
             (moment editor.new (P.calls port.new) (seen W.contents screen.new) result) }
     {
@@ -321,7 +321,7 @@ impl Session {
         screen: &mut Counted<W>,
         port: &mut P,
     ) -> Course
-        ensures { running.TakesKeys R.remaining self.now.manner
+        ensures { running.ReadsKeys R.remaining self.now.manner
             (moment editor.old (P.calls port.old) (seen W.contents screen.old) On)
             (moment editor.new (P.calls port.new) (seen W.contents screen.new) result)
             keys.old keys.new }

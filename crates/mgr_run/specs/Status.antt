@@ -33,13 +33,13 @@ pub record Streams (R W : Type 0) : Type 0 where
   pub output : Calls W
   pub told : Told
 
--- a port, and what was told there
-pub record Site (P : Type 0) : Type 0 where
+-- the port, and what was told on standard error
+pub record PortSide (P : Type 0) : Type 0 where
   pub port : P
   pub told : Told
 
 -- all of these
-pub record Place (R W P : Type 0) : Type 0 where
+pub record Surroundings (R W P : Type 0) : Type 0 where
   pub input : Calls R
   pub output : Calls W
   pub port : P
@@ -48,14 +48,14 @@ pub record Place (R W P : Type 0) : Type 0 where
 abbrev pub streams : {R W : Type 0} → Calls R → Calls W → Told → Streams R W
 streams input output told = record { input = input; output = output; told = told }
 
-abbrev pub site : {P : Type 0} → P → Told → Site P
-site port told = record { port = port; told = told }
+abbrev pub port_side : {P : Type 0} → P → Told → PortSide P
+port_side port told = record { port = port; told = told }
 
-abbrev pub place : {R W P : Type 0} → Calls R → Calls W → P → Told → Place R W P
-place input output port told = record { input = input; output = output; port = port; told = told }
+abbrev pub surroundings : {R W P : Type 0} → Calls R → Calls W → P → Told → Surroundings R W P
+surroundings input output port told = record { input = input; output = output; port = port; told = told }
 
 -- the bytes that are known of the input and the output, and what the port tells
-pub record Known (R W P : Type 0) : Type 0 where
+pub record Knowledge (R W P : Type 0) : Type 0 where
   pub remaining : R → Option (List ℕ)
   pub contents : W → Option (List ℕ)
   pub calls : P → Option (List Call)
@@ -63,7 +63,7 @@ pub record Known (R W P : Type 0) : Type 0 where
   pub standing : P → List ℕ → Option (List ℕ)
   pub steps : P → Option (List Step)
 
-abbrev pub known : {R W P : Type 0} → (R → Option (List ℕ)) → (W → Option (List ℕ)) → (P → Option (List Call)) → (P → ℕ) → (P → List ℕ → Option (List ℕ)) → (P → Option (List Step)) → Known R W P
+abbrev pub known : {R W P : Type 0} → (R → Option (List ℕ)) → (W → Option (List ℕ)) → (P → Option (List Call)) → (P → ℕ) → (P → List ℕ → Option (List ℕ)) → (P → Option (List Step)) → Knowledge R W P
 known remaining contents calls failures standing steps =
     record { remaining = remaining; contents = contents; calls = calls; failures = failures; standing = standing; steps = steps }
 
@@ -85,7 +85,7 @@ pub record IsStatusOfShow {R W : Type 0} (remaining : R → Option (List ℕ)) (
   pub writes : CountsAs fault.Write answer before.output after.output
 
 -- That of an answer to `compact`, which says what became of the log of its name, where that is told, and what is told.
-pub record IsStatusOfCompact {P : Type 0} (standing : P → List ℕ → Option (List ℕ)) (steps : P → Option (List Step)) (c : Compaction) (status : ℕ) (before after : Site P) : Type 0 where
+pub record IsStatusOfCompact {P : Type 0} (standing : P → List ℕ → Option (List ℕ)) (steps : P → Option (List Step)) (c : Compaction) (status : ℕ) (before after : PortSide P) : Type 0 where
   pub answer : Result (Unit {0}) ShowFault
   pub exact : status ≡ shown_status answer
   pub told_line : Tells before.told after.told (shown_telling answer)
@@ -94,9 +94,9 @@ pub record IsStatusOfCompact {P : Type 0} (standing : P → List ℕ → Option 
   pub begun : OnErr answer (IfSome (standing before.port (string_bytes c.name)) (λ bytes. StopsBefore (steps before.port) (steps after.port) (whole_steps true (compacted c.dels bytes))))
   pub untouched : IfErr answer (λ e. e ≢ fault.Write → e ≢ fault.Memory → steps after.port ≡ steps before.port)
 
-module _ {R W P : Type 0} (k : Known R W P) where
+module _ {R W P : Type 0} (k : Knowledge R W P) where
   -- That of an answer of a session, which says what became of the keys, which device failed and what is told.
-  pub record IsStatusOfEdit (settings : Values) (status : ℕ) (before after : Place R W P) : Type 0 where
+  pub record IsStatusOfEdit (settings : Values) (status : ℕ) (before after : Surroundings R W P) : Type 0 where
     pub answer : Result (Unit {0}) SessionFault
     pub exact : status ≡ edited_status answer
     pub told_line : Tells before.told after.told (edited_telling answer)
@@ -107,12 +107,12 @@ module _ {R W P : Type 0} (k : Known R W P) where
     pub file : answer ≡ Err session.File → k.failures after.port ≡ one_more (k.failures before.port)
 
   -- of a job; `show` has nothing to do with the port, and `compact` nothing with standard input and output
-  abbrev pub IsStatusOfJob : Job → ℕ → Place R W P → Place R W P → Type 0
+  abbrev pub IsStatusOfJob : Job → ℕ → Surroundings R W P → Surroundings R W P → Type 0
   IsStatusOfJob Show status before after =
       IsStatusOfShow k.remaining k.contents status (streams before.input before.output before.told) (streams after.input after.output after.told) × (after.port ≡ before.port)
   IsStatusOfJob (Edit settings) status before after = IsStatusOfEdit settings status before after
   IsStatusOfJob (Compact c) status before after =
-      IsStatusOfCompact k.standing k.steps c status (site before.port before.told) (site after.port after.told) × (after.input ≡ before.input) × (after.output ≡ before.output)
+      IsStatusOfCompact k.standing k.steps c status (port_side before.port before.told) (port_side after.port after.told) × (after.input ≡ before.input) × (after.output ≡ before.output)
 
 module _ {W : Type 0} where
   -- A text that was asked for was printed, or not: 3 exactly where standard output failed, and else 0, or 4 where

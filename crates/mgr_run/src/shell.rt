@@ -70,8 +70,8 @@ pub fn do_job<R: Read, W: Write, P: Port + Logs, T: Tell>(
     ensures status { MatchResult job.now
         (λ job. status.IsStatusOfJob
         (status.known R.remaining W.contents P.calls P.failures P.standing P.steps) job result
-        (status.place reader.old writer.old port.old (T.told errors.old))
-        (status.place reader.new writer.new port.new (T.told errors.new)))
+        (status.surroundings reader.old writer.old port.old (T.told errors.old))
+        (status.surroundings reader.new writer.new port.new (T.told errors.new)))
         (λ fault. status.IsStatusOf fault result writer.old writer.new
         (T.told errors.old) (T.told errors.new)) }
     ensures idle { IfErr job.now (λ _. (reader.new ≡ reader.old) × (port.new ≡ port.old)) }
@@ -113,8 +113,8 @@ fn edit<R: Read, W: Write, P: Port + Logs, T: Tell>(
     ensures status { status.IsStatusOfEdit
         (status.known R.remaining W.contents P.calls P.failures P.standing P.steps)
         settings.now result
-        (status.place reader.old writer.old port.old (T.told errors.old))
-        (status.place reader.new writer.new port.new (T.told errors.new)) }
+        (status.surroundings reader.old writer.old port.old (T.told errors.old))
+        (status.surroundings reader.new writer.new port.new (T.told errors.new)) }
     ensures bound { result ≤ 4 }
 {
     match run_keys::<FlatStore, _, _, _>(alloc, reader, writer, port, settings) {
@@ -125,7 +125,7 @@ fn edit<R: Read, W: Write, P: Port + Logs, T: Tell>(
 
 fn compact<P: Logs, T: Tell>(alloc: Global, log: &Compaction, port: &mut P, errors: &mut T) -> u8
     ensures status { status.IsStatusOfCompact P.standing P.steps log.now result
-        (status.site port.old (T.told errors.old)) (status.site port.new (T.told errors.new)) }
+        (status.port_side port.old (T.told errors.old)) (status.port_side port.new (T.told errors.new)) }
     ensures bound { result ≤ 4 }
 {
     match compact_note(alloc, port, log.name.as_str(), log.dels) {
