@@ -90,7 +90,7 @@ module _ {R : Type 0} (remaining : R → Known) (how : Manner) (before behind : 
 
 -- ---- the load of the settings' name
 
--- It was the one call, and it answered these files.
+-- It was the first call, and it answered these files.
 abbrev pub IsFound : Values → Files → ToldCalls → ToldCalls → Type 0
 IsFound v found calls told = Adds calls told (found_call v.name found ∷ [])
 
