@@ -1,5 +1,5 @@
 -- The exit status of the program.
-use Rattle.std.specs.Prelude.{◌≡◌, ◌≢◌, ◌⊎◌, ℕ, Bool, true, List, [], ◌∷◌, Option, Result, Err, IfSome, codes, OnOk, OnErr, IfErr, string_bytes}
+use Rattle.std.specs.Prelude.{◌≡◌, ◌≢◌, ◌⊎◌, ℕ, true, List, [], ◌∷◌, Option, Result, Err, IfSome, codes, OnOk, OnErr, IfErr, string_bytes}
 use Rattle.rga_ops.specs.Content.{Content, nothing as no_content}
 use Rattle.rga_store.specs.declared.text_store.TheConstants.{MAX_LIMIT}
 use Rattle.rga_lines.specs.Counting.{Calls, CountsAs, StaysFlushed, OnBytes, WritesNothing, one_more}
