@@ -1,5 +1,4 @@
-pub mod FrameLaws
 pub mod TakenLaws
+pub mod StandingLaws
 pub mod SessionLaws
 pub mod AnswerLaws
-pub mod FaultLaws

@@ -1,19 +1,23 @@
--- How a session stands, and what that says of its devices.
-use Rattle.std.specs.Prelude.{◌≡◌, Bool, true, Result, Ok, Err, if◌then◌else◌}
+-- How a session stands, and what it is answered by.
+use Rattle.std.specs.Prelude.{◌≡◌, Bool, true, false, Result, Ok, Err}
 use Rattle.rga_lines.specs.Counting.{Calls, one_more}
 use Rattle.mg_session.specs.declared.course.Course.{Course}
 use Rattle.mg_session.specs.declared.course.Course.TheVariants.{On, Quit, NoKeys, NoScreen, NoMemory}
 use Rattle.mg_session.specs.declared.fault.SessionFault.{SessionFault}
 use Rattle.mg_session.specs.declared.fault.SessionFault.TheVariants.{Keys, Screen, Memory}
 
--- behind a key that quits, or not
-abbrev pub behind_key : Bool → Course → Course
-behind_key quits On = if quits then Quit else On
-behind_key quits Quit = Quit
-behind_key quits NoKeys = NoKeys
-behind_key quits NoScreen = NoScreen
-behind_key quits NoMemory = NoMemory
+-- it goes on
+abbrev pub is_on : Course → Bool
+is_on On = true
+is_on course = false
 
+-- neither a device nor memory failed
+abbrev pub is_unfailed : Course → Bool
+is_unfailed On = true
+is_unfailed Quit = true
+is_unfailed course = false
+
+-- what a session that stands so is answered by
 abbrev pub answer : Course → Result (Unit {0}) SessionFault
 answer On = Ok tt
 answer Quit = Ok tt
@@ -21,26 +25,6 @@ answer NoKeys = Err Keys
 answer NoScreen = Err Screen
 answer NoMemory = Err Memory
 
--- no call of the device failed, and where all was flushed before, all is
-pub record IsUnfailed {T : Type 0} (old new : Calls T) : Type 0 where
-  pub failures : new.failures ≡ old.failures
-  pub flushed : old.flushed ≡ true → new.flushed ≡ true
-
+-- a call of the device more failed
 abbrev pub IsFailed : {T : Type 0} → Calls T → Calls T → Type 0
 IsFailed old new = new.failures ≡ one_more old.failures
-
--- the device of the screen failed exactly where that is how a session stands
-abbrev pub LeavesScreen : {W : Type 0} → Course → Calls W → Calls W → Type 0
-LeavesScreen On old new = IsUnfailed old new
-LeavesScreen Quit old new = IsUnfailed old new
-LeavesScreen NoKeys old new = IsUnfailed old new
-LeavesScreen NoScreen old new = IsFailed old new
-LeavesScreen NoMemory old new = IsUnfailed old new
-
--- so did that of the keys
-abbrev pub LeavesKeys : {R : Type 0} → Course → Calls R → Calls R → Type 0
-LeavesKeys On old new = new.failures ≡ old.failures
-LeavesKeys Quit old new = new.failures ≡ old.failures
-LeavesKeys NoKeys old new = IsFailed old new
-LeavesKeys NoScreen old new = new.failures ≡ old.failures
-LeavesKeys NoMemory old new = new.failures ≡ old.failures

@@ -1,36 +1,36 @@
 -- Frames, as they are written.
-use Rattle.std.specs.Prelude.{◌≡◌, ℕ, Bool, true, false, not, List, [], ◌∷◌, ◌++◌, ◌&&◌, Option, Some, None, map, string_bytes, codes, if◌then◌else◌}
+use Rattle.std.specs.Prelude.{◌≡◌, ℕ, Bool, true, not, List, [], ◌∷◌, ◌++◌, ◌&&◌, Option, Some, None, codes, if◌then◌else◌}
 use Rattle.std.specs.Fmt.{decimal}
-use Rattle.std.specs.declared.alloc.Global.{Global}
-use Rattle.std.specs.declared.string.String.{String}
-use Rattle.rga_lines.specs.Counting.{Calls, Writes, WritesFront}
+use Rattle.std.specs.Io.KnownBytes.{Appends}
+use Rattle.rga_lines.specs.Counting.{Calls}
 use Rattle.rga_lines.specs.Stream.{bytes_of_lines}
+use Rattle.mg_screen.specs.Frame.{frame_rows}
+use Rattle.mg_screen.specs.Written.{utf8}
 use Rattle.mg_screen.specs.declared.screen.Position.{Position}
 use Rattle.mg_settings.specs.Settings.{Values}
 use Rattle.mg_editor.specs.Editors.{Editor}
-use Rattle.mg_editor.specs.Frames.{IsPlaced, ShowsRows, ShowsCursor}
-use Rattle.mg_session.specs.Courses.{IsFailed, LeavesScreen}
+use Rattle.mg_editor.specs.Frames.{IsPlaced, ShowsCursor, screen_of}
+use Rattle.mg_session.specs.Courses.{is_on, IsFailed}
+use Rattle.mg_session.specs.Moments.{Known, Moment}
 use Rattle.mg_session.specs.declared.course.Course.{Course}
-use Rattle.mg_session.specs.declared.course.Course.TheVariants.{On, Quit, NoKeys, NoScreen, NoMemory}
-use Rattle.mg_session.specs.declared.fault.SessionFault.{SessionFault}
-use Rattle.mg_session.specs.declared.fault.SessionFault.TheVariants.{Load, File, Keys, Screen, Memory}
-use Rattle.mg_session.specs.declared.showing.Showing.{Showing}
+use Rattle.mg_session.specs.declared.course.Course.TheVariants.{NoScreen, NoMemory}
+use Rattle.mg_session.specs.declared.manner.Manner.{Manner}
 
 -- ---- which frames are written
 
-abbrev pub showing_of : Values → Showing
-showing_of v = record { trace = v.trace; newest = v.newest; cursor = v.cursor }
+abbrev pub manner_of : Values → Manner
+manner_of v = record { resizable = v.resizable; trace = v.trace; newest = v.newest; cursor = v.cursor }
 
 -- one behind a step: each where steps are traced, but of the newest alone that behind which the session ends
-abbrev pub follows_step : Showing → Bool → Bool
-follows_step how ends = if how.newest then how.trace && ends else how.trace
+abbrev pub follows_step : Manner → Course → Bool
+follows_step how course = if how.newest then how.trace && not (is_on course) else how.trace
 
 -- one behind a key, unless it leaves a key sequence begun
-abbrev pub follows_key : Showing → Bool → Bool → Bool
-follows_key how ends amid = follows_step how ends && not amid
+abbrev pub follows_key : Manner → Course → Bool → Bool
+follows_key how course amid = follows_step how course && not amid
 
 -- one behind a block of keys
-abbrev pub follows_block : Showing → Bool
+abbrev pub follows_block : Manner → Bool
 follows_block how = how.trace && how.newest
 
 -- ---- a frame
@@ -47,58 +47,41 @@ frame_lines rows (Some at) = rows ++ position_text at ∷ []
 abbrev pub frame_text : List (List ℕ) → Option Position → List ℕ
 frame_text rows cursor = bytes_of_lines (frame_lines rows cursor)
 
+-- the rows of an editor, in UTF-8
+abbrev pub editor_rows : Editor → List (List ℕ)
+editor_rows e = utf8 (frame_rows e.work.columns (screen_of e))
+
 -- what is shown of where the cursor stands
 abbrev pub shown_cursor : Bool → Position → Option Position
 shown_cursor has_cursor at = if has_cursor then Some at else None
 
 -- the text is the frame of the editor, whose windows were placed for it
 pub record ShowsFrame (has_cursor : Bool) (old new : Editor) (text : List ℕ) : Type 0 where
-  pub rows : List (String Global)
   pub at : Position
   pub placed : IsPlaced old new
-  pub spelled : ShowsRows new rows
   pub cursor : ShowsCursor new at
-  pub written : text ≡ frame_text (map string_bytes rows) (shown_cursor has_cursor at)
+  pub written : text ≡ frame_text (editor_rows new) (shown_cursor has_cursor at)
 
--- a frame where one is asked for, and else nothing
-abbrev pub ShowsIf : Bool → Bool → Editor → Editor → List ℕ → Type 0
-ShowsIf true has_cursor old new text = ShowsFrame has_cursor old new text
-ShowsIf false has_cursor old new text = (new ≡ old) × (text ≡ [])
+-- ---- how it is written
 
--- A frame was only begun, and this part of its text was written: a beginning where the screen failed, and nothing where
--- memory is wanting. No other fault comes there.
-abbrev pub BeginsFrame : SessionFault → Bool → Editor → List ℕ → Type 0
-BeginsFrame Screen has_cursor old part = (new : Editor) × (text : List ℕ) × (rest : List ℕ) × ShowsFrame has_cursor old new text × (text ≡ part ++ rest)
-BeginsFrame Memory has_cursor old part = part ≡ []
-BeginsFrame Keys has_cursor old part = ⊥
-BeginsFrame File has_cursor old part = ⊥
-BeginsFrame (Load e) has_cursor old part = ⊥
+-- all of the text, and it was flushed
+pub record IsWritten (text : List ℕ) (old new : Calls Known) : Type 0 where
+  pub written : Appends old.inner new.inner text
+  pub failures : new.failures ≡ old.failures
+  pub flushed : new.flushed ≡ true
 
--- one that is asked for
-abbrev pub BeginsIf : Bool → SessionFault → Bool → Editor → List ℕ → Type 0
-BeginsIf true fault has_cursor old part = BeginsFrame fault has_cursor old part
-BeginsIf false fault has_cursor old part = ⊥
+-- a beginning of the text, behind which the device failed
+pub record IsCutShort (text : List ℕ) (old new : Calls Known) : Type 0 where
+  pub front : List ℕ
+  pub rest : List ℕ
+  pub parts : text ≡ front ++ rest
+  pub written : Appends old.inner new.inner front
+  pub failed : IsFailed old new
 
--- ---- how it was written
-
--- a text, and all of it was flushed, or the device of the screen failed amid it
-abbrev pub Wrote : {W : Type 0} → (W → Option (List ℕ)) → List ℕ → Course → Calls W → Calls W → Type 0
-Wrote contents text On screen shown = Writes contents screen shown text × (shown.failures ≡ screen.failures) × (shown.flushed ≡ true)
-Wrote contents text Quit screen shown = ⊥
-Wrote contents text NoKeys screen shown = ⊥
-Wrote contents text NoScreen screen shown = WritesFront contents screen shown text × IsFailed screen shown
-Wrote contents text NoMemory screen shown = ⊥
-
--- this is what was written where a frame was asked for, or not
-abbrev pub ShowsSome : Course → Bool → Bool → Editor → Editor → List ℕ → Type 0
-ShowsSome On asked has_cursor old new text = ShowsIf asked has_cursor old new text
-ShowsSome Quit asked has_cursor old new text = ⊥
-ShowsSome NoKeys asked has_cursor old new text = ⊥
-ShowsSome NoScreen asked has_cursor old new text = BeginsIf asked Screen has_cursor old text
-ShowsSome NoMemory asked has_cursor old new text = BeginsIf asked Memory has_cursor old text
-
-pub record Showed {W : Type 0} (contents : W → Option (List ℕ)) (asked has_cursor : Bool) (old new : Editor) (course : Course) (screen shown : Calls W) : Type 0 where
-  pub text : List ℕ
-  pub shows : ShowsSome course asked has_cursor old new text
-  pub written : Writes contents screen shown text
-  pub device : LeavesScreen course screen shown
+-- A frame of the editor was written, or its text was only begun, or memory was wanting for it, and nothing was written.
+pub data Displays (has_cursor : Bool) (before behind : Moment) : Type 0 where
+  whole : (new : Editor) (text : List ℕ) (shown : Calls Known) → ShowsFrame has_cursor before.editor new text → IsWritten text before.screen shown
+      → behind ≡ record before { editor = new; screen = shown } → Displays has_cursor before behind
+  begun : (new : Editor) (text : List ℕ) (shown : Calls Known) → ShowsFrame has_cursor before.editor new text → IsCutShort text before.screen shown
+      → behind ≡ record before { editor = new; screen = shown; course = NoScreen } → Displays has_cursor before behind
+  unmade : (new : Editor) → behind ≡ record before { editor = new; course = NoMemory } → Displays has_cursor before behind

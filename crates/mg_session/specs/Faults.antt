@@ -1,11 +1,10 @@
 -- Faults, as those of a session.
-use Rattle.std.specs.Prelude.{⊤}
 use Rattle.mg_files.specs.declared.fault.LoadFault.{LoadFault}
 use Rattle.mg_files.specs.declared.fault.LoadFault.TheVariants as load
 use Rattle.mg_files.specs.declared.port.PortFault.{PortFault}
 use Rattle.mg_files.specs.declared.port.PortFault.TheVariants as port
 use Rattle.mg_session.specs.declared.fault.SessionFault.{SessionFault}
-use Rattle.mg_session.specs.declared.fault.SessionFault.TheVariants.{Load, File, Keys, Screen, Memory}
+use Rattle.mg_session.specs.declared.fault.SessionFault.TheVariants.{Load, File, Memory}
 
 abbrev pub load_fault : LoadFault → SessionFault
 load_fault (load.Log e) = Load (load.Log e)
@@ -16,11 +15,3 @@ load_fault load.Memory = Memory
 abbrev pub port_fault : PortFault → SessionFault
 port_fault port.File = File
 port_fault port.Memory = Memory
-
--- faults of the first load alone
-abbrev pub IsOfLoad : SessionFault → Type 0
-IsOfLoad (Load e) = ⊤
-IsOfLoad File = ⊤
-IsOfLoad Keys = ⊥
-IsOfLoad Screen = ⊥
-IsOfLoad Memory = ⊥

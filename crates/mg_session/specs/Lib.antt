@@ -1,5 +1,6 @@
 pub mod Faults
 pub mod Courses
+pub mod Moments
 pub mod Display
 pub mod Keys
 pub mod Running

@@ -19,16 +19,23 @@ pub(crate) enum Course {
     NoMemory,
 }
 
-/// Behind a key that quits a session that went on ends.
-pub(crate) fn behind_key(quits: bool, course: Course) -> Course
-    ensures { result ≡ spec.behind_key quits course }
+/// Whether a session that stands so goes on.
+pub(crate) fn is_on(course: Course) -> bool
+    ensures { result ≡ spec.is_on course }
 {
     match course {
-        Course::On => { if quits { Course::Quit } else { Course::On } }
-        Course::Quit => Course::Quit,
-        Course::NoKeys => Course::NoKeys,
-        Course::NoScreen => Course::NoScreen,
-        Course::NoMemory => Course::NoMemory,
+        Course::On => true,
+        Course::Quit | Course::NoKeys | Course::NoScreen | Course::NoMemory => false,
+    }
+}
+
+/// Whether neither a device nor memory failed.
+pub(crate) fn is_unfailed(course: Course) -> bool
+    ensures { result ≡ spec.is_unfailed course }
+{
+    match course {
+        Course::On | Course::Quit => true,
+        Course::NoKeys | Course::NoScreen | Course::NoMemory => false,
     }
 }
 

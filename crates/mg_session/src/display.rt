@@ -1,7 +1,8 @@
 //! Frames, as they are written.
-ghost use Rattle.std.specs.Prelude.{◌≡◌, ◌∷◌, ◌++◌, [], true, map, string_bytes, IfOk, OnOk, IfSome};
+ghost use Rattle.std.specs.Prelude.{◌≡◌, ◌∷◌, ◌++◌, [], map, string_bytes, IfOk, OnOk, OnErr, IfSome};
 ghost use Rattle.rga_lines.specs.Stream.{newline, bytes_of_lines};
 ghost use Rattle.mg_session.specs.Display as spec;
+ghost use Rattle.mg_session.specs.Moments.{ToldCalls, seen, moment};
 
 use crate::course::Course;
 use mg_editor::Editor;
@@ -9,6 +10,7 @@ use mg_screen::Position;
 use rga_lines::Counted;
 use rga_store::TextStore;
 use std::alloc::{AllocError, Global};
+use std::io;
 use std::io::Write;
 
 fn push_row(text: &mut String, row: &str) -> Result<(), AllocError>
@@ -57,16 +59,14 @@ fn frame_text(
 }
 
 /// Writes a text, and flushes the device.
-fn write_text<W: Write>(text: &str, screen: &mut Counted<W>) -> Course
-    ensures { spec.Wrote W.contents text.now result screen.old screen.new }
+fn write_text<W: Write>(text: &str, screen: &mut Counted<W>) -> io::Result<()>
+    ensures written { OnOk result
+        (spec.IsWritten text.now (seen W.contents screen.old) (seen W.contents screen.new)) }
+    ensures begun { OnErr result
+        (spec.IsCutShort text.now (seen W.contents screen.old) (seen W.contents screen.new)) }
 {
-    let Ok(()) = screen.write_all(text.as_bytes()) else {
-        return Course::NoScreen;
-    };
-    let Ok(()) = screen.flush() else {
-        return Course::NoScreen;
-    };
-    Course::On
+    screen.write_all(text.as_bytes())?;
+    screen.flush()
 }
 
 /// Where the cursor stands, where that is shown.
@@ -87,18 +87,24 @@ fn frame_of<S: TextStore>(alloc: Global, editor: &mut Editor<S>, has_cursor: boo
     }
 }
 
-/// Writes a frame of the editor, and behind it the line of the cursor, where that is asked.
+/// Writes a frame of the editor, and behind it the line of the cursor, where that is asked. The
+/// session then stands as it did, unless that fails.
 pub(crate) fn show<S: TextStore, W: Write>(
     alloc: Global,
     editor: &mut Editor<S>,
     has_cursor: bool,
     screen: &mut Counted<W>,
+    course: Course,
 ) -> Course
-    ensures { spec.Showed W.contents true has_cursor
-        editor.old editor.new result screen.old screen.new }
+    ensures { (calls : ToldCalls) → spec.Displays has_cursor
+        (moment editor.old calls (seen W.contents screen.old) course)
+        (moment editor.new calls (seen W.contents screen.new) result) }
 {
-    match frame_of(alloc, editor, has_cursor) {
-        Some(text) => write_text(text.as_str(), screen),
-        None => Course::NoMemory,
+    let Some(text) = frame_of(alloc, editor, has_cursor) else {
+        return Course::NoMemory;
+    };
+    match write_text(text.as_str(), screen) {
+        Ok(()) => course,
+        Err(_) => Course::NoScreen,
     }
 }

@@ -1,7 +1,11 @@
 //! Keys of a session, one by one.
 ghost use Rattle.std.specs.Prelude.{◌≡◌};
 ghost use Rattle.mg_session.specs.Keys as spec;
+ghost use Rattle.mg_session.specs.Moments.{Known, moment};
+ghost use Rattle.mg_session.specs.declared.course.Course.TheVariants.{On};
+ghost use Rattle.rga_lines.specs.Counting.{Calls};
 
+use crate::course::Course;
 use mg_editor::{Editor, Fault};
 use mg_files::Port;
 use mg_minibuffer::{Message, Request};
@@ -22,25 +26,26 @@ fn press<S: TextStore>(editor: &mut Editor<S>, byte: u8) -> Request
     }
 }
 
-/// Presses a byte, carries what it requests, and answers whether the session ends. What fails is
+/// Presses a byte, carries what it requests, and answers how the session stands then. What fails is
 /// said.
-pub(crate) fn take_key<S: Teller, P: Port>(editor: &mut Editor<S>, byte: u8, port: &mut P) -> bool
-    ensures { spec.TakesKey byte
-        (P.calls port.old) (P.calls port.new) editor.old editor.new result }
+pub(crate) fn take_key<S: Teller, P: Port>(editor: &mut Editor<S>, byte: u8, port: &mut P) -> Course
+    ensures { (screen : Calls Known) → spec.TakesKey byte
+        (moment editor.old (P.calls port.old) screen On)
+        (moment editor.new (P.calls port.new) screen result) }
 {
     let request = press(editor, byte);
-    let ends = quits(&request);
+    let course = course_behind(&request);
     let _ = editor.carry(request, port);
-    ends
+    course
 }
 
-/// Whether a session ends behind a request.
-fn quits(request: &Request) -> bool
-    ensures { result ≡ spec.quits request.now }
+/// How a session stands behind a request.
+fn course_behind(request: &Request) -> Course
+    ensures { result ≡ spec.course_behind request.now }
 {
     match request {
         Request::Idle | Request::Save | Request::Find(_) | Request::Exchange | Request::Serve =>
-            false,
-        Request::Quit => true,
+            Course::On,
+        Request::Quit => Course::Quit,
     }
 }

@@ -13,8 +13,8 @@ mod course;
 mod display;
 mod fault;
 mod keys;
+mod manner;
 mod session;
-mod showing;
 
 pub use fault::SessionFault;
 pub use session::run_keys;

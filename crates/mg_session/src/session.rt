@@ -1,19 +1,20 @@
 //! Sessions.
-ghost use Rattle.std.specs.Prelude.{◌≡◌, ◌≢◌, ◌⊎◌, ◌<◌, [], ◌∷◌, length, Err, IfOk, OnOk, IfErr};
+ghost use Rattle.std.specs.Prelude.{◌≡◌, ◌≢◌, ◌<◌, [], ◌∷◌, length, Err, IfOk, OnErr};
+ghost use Rattle.std.specs.Io.KnownBytes.{Keeps};
 ghost use Rattle.rga_lines.specs.Counting.{CountsAs, StaysFlushed, one_more};
-ghost use Rattle.mg_files.specs.declared.fault.LoadFault.TheVariants.{Memory as NoMemory};
 ghost use Rattle.mg_reports.specs.Reports as report;
+ghost use Rattle.mg_session.specs.Courses.{IsFailed};
 ghost use Rattle.mg_session.specs.Display as frames;
-ghost use Rattle.mg_session.specs.Faults as spec;
+ghost use Rattle.mg_session.specs.Moments.{ToldCalls, seen, moment, StepIf};
 ghost use Rattle.mg_session.specs.Running as running;
 ghost use Rattle.mg_session.specs.declared.course.Course.TheVariants.{On};
-ghost use Rattle.mg_session.specs.declared.fault.SessionFault.TheVariants.{Load, File, Keys, Screen, Memory};
+ghost use Rattle.mg_session.specs.declared.fault.SessionFault.TheVariants.{File, Keys, Screen};
 
-use crate::course::{Course, answer, behind_key};
+use crate::course::{Course, answer, is_unfailed};
 use crate::display::show;
 use crate::fault::{SessionFault, of_load, of_port};
 use crate::keys::take_key;
-use crate::showing::{Showing, follows_block, follows_key, follows_step};
+use crate::manner::{Manner, follows_block, follows_key, follows_step};
 use mg_editor::Editor;
 use mg_files::{Found, Port};
 use mg_reports::{Meaning, Reports};
@@ -23,6 +24,7 @@ use rga_lines::Counted;
 use rga_store::TextStore;
 use rga_telling::Teller;
 use std::alloc::Global;
+use std::io;
 use std::io::{Read, Write};
 
 /// How many bytes one read of the keys asks for.
@@ -32,10 +34,7 @@ const BLOCK: usize = 4096;
 #[derive(Drop)]
 struct Session {
     alloc: Global,
-    /// Whether there are reports of the screen's size among the keys.
-    resizable: bool,
-    /// Which frames are written.
-    showing: Showing,
+    manner: Manner,
 }
 
 /// Runs a session: loads what is there under the name of the settings, which is its first call of the
@@ -65,20 +64,13 @@ pub fn run_keys<S: Teller, R: Read, W: Write, P: Port>(
     port: &mut P,
     settings: &Settings,
 ) -> Result<(), SessionFault>
-    // At the end of a session what the bytes mean was taken in turn, and what it shows was written.
-    ensures ran { OnOk result (running.RanFrom R.remaining W.contents settings.now
-        keys.old keys.new (P.calls port.old) (P.calls port.new) screen.old screen.new) }
-    // So was what is certain before a read that failed.
-    ensures broken { result ≡ Err Keys → running.BrokeOffFrom R.remaining W.contents settings.now
-        keys.old keys.new (P.calls port.old) (P.calls port.new) screen.old screen.new }
-    // Where a frame could not be written or made, a beginning of what the session shows was written:
-    // of that frame a beginning, or nothing where memory is wanting.
-    ensures begun { result ≡ Err Screen → running.StopsFrom R.remaining W.contents settings.now
-        Screen keys.old keys.new (P.calls port.old) (P.calls port.new) screen.old screen.new }
-    // Where memory is wanting at the load, no key was read and nothing was written.
-    ensures memory { result ≡ Err Memory → ((keys.new ≡ keys.old) × (screen.new ≡ screen.old))
-        ⊎ running.StopsFrom R.remaining W.contents settings.now
-        Memory keys.old keys.new (P.calls port.old) (P.calls port.new) screen.old screen.new }
+    // What the bytes mean was taken in turn, and what it shows was written, to the end of the session,
+    // or up to a read that failed, or to a frame that could not be written or made: then a beginning of
+    // it, or nothing. Where the first load was refused, or nothing is loaded by what it answered, no
+    // key was read, and nothing was written.
+    ensures ran { running.IsSession R.remaining W.contents settings.now result
+        (running.devices keys.old screen.old (P.calls port.old))
+        (running.devices keys.new screen.new (P.calls port.new)) }
 
     // What is written is flushed before the next read, and at the end.
     ensures flushed { StaysFlushed Screen result screen.old screen.new }
@@ -87,14 +79,6 @@ pub fn run_keys<S: Teller, R: Read, W: Write, P: Port>(
     ensures keys { CountsAs Keys result keys.old keys.new }
     ensures screen { CountsAs Screen result screen.old screen.new }
     ensures file { result ≡ Err File → P.failures port.new ≡ one_more (P.failures port.old) }
-
-    // Nothing is loaded where the first load was refused, or by what it answered: no key was read
-    // then, and nothing was written.
-    ensures load { IfErr result
-        (running.FailsToOpen settings.now (P.calls port.old) (P.calls port.new)) }
-    ensures unread { IfErr result (λ e. spec.IsOfLoad e → keys.new ≡ keys.old) }
-    ensures unwritten { IfErr result (λ e. spec.IsOfLoad e → screen.new ≡ screen.old) }
-    ensures folded { result ≢ Err (Load NoMemory) }
 {
     match open::<S, P>(alloc, port, settings) {
         Ok(mut editor) => {
@@ -110,11 +94,7 @@ fn open<S: TextStore, P: Port>(
     port: &mut P,
     settings: &Settings,
 ) -> Result<Editor<S>, SessionFault>
-    ensures opened { IfOk result
-        (running.IsOpened settings.now (P.calls port.old) (P.calls port.new)) }
-    ensures failed { IfErr result
-        (running.FailsToOpen settings.now (P.calls port.old) (P.calls port.new)) }
-    ensures fault { IfErr result (λ e. (e ≢ Keys) × (e ≢ Screen) × (e ≢ Load NoMemory)) }
+    ensures loaded { running.LoadsTo settings.now (P.calls port.old) (P.calls port.new) result }
     ensures file { result ≡ Err File → P.failures port.new ≡ one_more (P.failures port.old) }
 {
     match port.load(settings.values().name.as_str()) {
@@ -129,7 +109,9 @@ fn edit<S: TextStore>(
     settings: &Settings,
     found: Found,
 ) -> Result<Editor<S>, SessionFault>
-    ensures { running.Edits settings.now found result }
+    ensures loaded { (calls told : ToldCalls) → running.IsFound settings.now found calls told →
+        running.LoadsTo settings.now calls told result }
+    ensures file { result ≢ Err File }
 {
     match Editor::new(alloc, settings, found) {
         Ok(editor) => Ok(editor),
@@ -139,14 +121,13 @@ fn edit<S: TextStore>(
 
 /// The session that the settings ask for.
 fn session_of(alloc: Global, settings: &Settings) -> Session
-    ensures resizable { result.resizable ≡ settings.now.resizable }
-    ensures showing { result.showing ≡ frames.showing_of settings.now }
+    ensures { result.manner ≡ frames.manner_of settings.now }
 {
     let values = settings.values();
     Session {
         alloc,
-        resizable: values.resizable,
-        showing: Showing {
+        manner: Manner {
+            resizable: values.resizable,
             trace: values.trace,
             newest: values.newest,
             cursor: values.cursor,
@@ -163,34 +144,36 @@ impl Session {
         screen: &mut Counted<W>,
         port: &mut P,
     ) -> Course
-        ensures { running.Ended R.remaining W.contents result
-            (report.fresh self.now.resizable) self.now.showing keys.old keys.new
-            (P.calls port.old) (P.calls port.new) editor.old screen.old screen.new }
+        ensures { running.Runs R.remaining self.now.manner
+            (moment editor.old (P.calls port.old) (seen W.contents screen.old) On)
+            (moment editor.new (P.calls port.new) (seen W.contents screen.new) result)
+            keys.old keys.new }
     {
-        match self.show_if(editor, self.showing.trace, screen) {
+        match self.show_if(editor, self.manner.trace, screen, Course::On) {
             Course::On => {}
             stopped => return stopped,
         }
-        match self.take_keys(editor, keys, screen, port) {
-            Course::On | Course::Quit => self.show_if(editor, !self.showing.trace, screen),
-            stopped => stopped,
-        }
+        let ended = self.take_keys(editor, keys, screen, port);
+        let is_asked = is_unfailed(ended) && !self.manner.trace;
+        self.show_if(editor, is_asked, screen, ended)
     }
 
-    /// Writes a frame, where one is asked for.
+    /// Writes a frame, where one is asked for. The session then stands as it did, unless that fails.
     fn show_if<S: TextStore, W: Write>(
         &self,
         editor: &mut Editor<S>,
         is_asked: bool,
         screen: &mut Counted<W>,
+        course: Course,
     ) -> Course
-        ensures { frames.Showed W.contents is_asked self.now.showing.cursor
-            editor.old editor.new result screen.old screen.new }
+        ensures { (calls : ToldCalls) → StepIf is_asked (frames.Displays self.now.manner.cursor)
+            (moment editor.old calls (seen W.contents screen.old) course)
+            (moment editor.new calls (seen W.contents screen.new) result) }
     {
         if is_asked {
-            show(self.alloc, editor, self.showing.cursor, screen)
+            show(self.alloc, editor, self.manner.cursor, screen, course)
         } else {
-            Course::On
+            course
         }
     }
 
@@ -202,13 +185,13 @@ impl Session {
         screen: &mut Counted<W>,
         port: &mut P,
     ) -> Course
-        ensures { running.Took W.contents self.now.showing (report.key key ∷ [])
-            (P.calls port.old) (P.calls port.new) editor.old editor.new
-            result screen.old screen.new }
+        ensures { running.TakesEvents self.now.manner (report.key key ∷ [])
+            (moment editor.old (P.calls port.old) (seen W.contents screen.old) On)
+            (moment editor.new (P.calls port.new) (seen W.contents screen.new) result) }
     {
-        let quits = take_key(editor, key, port);
-        let is_asked = follows_key(self.showing, quits, editor.is_amid_keys());
-        behind_key(quits, self.show_if(editor, is_asked, screen))
+        let course = take_key(editor, key, port);
+        let is_asked = follows_key(self.manner, course, editor.is_amid_keys());
+        self.show_if(editor, is_asked, screen, course)
     }
 
     /// Presses keys up to one that quits.
@@ -219,9 +202,9 @@ impl Session {
         screen: &mut Counted<W>,
         port: &mut P,
     ) -> Course
-        ensures { running.Took W.contents self.now.showing (report.keys keys.now)
-            (P.calls port.old) (P.calls port.new) editor.old editor.new
-            result screen.old screen.new }
+        ensures { running.TakesEvents self.now.manner (report.keys keys.now)
+            (moment editor.old (P.calls port.old) (seen W.contents screen.old) On)
+            (moment editor.new (P.calls port.new) (seen W.contents screen.new) result) }
     {
         for key in keys {
             match self.press(editor, *key, screen, port) {
@@ -240,15 +223,17 @@ impl Session {
         columns: usize,
         screen: &mut Counted<W>,
     ) -> Course
-        ensures { (calls : running.Told) → running.Took W.contents self.now.showing
-            (report.size rows columns ∷ []) calls calls editor.old editor.new
-            result screen.old screen.new }
+        ensures { (calls : ToldCalls) → running.TakesEvents self.now.manner
+            (report.size rows columns ∷ [])
+            (moment editor.old calls (seen W.contents screen.old) On)
+            (moment editor.new calls (seen W.contents screen.new) result) }
     {
         editor.resize(
             rows.max(MIN_ROWS).min(MAX_ROWS),
             columns.max(MIN_COLUMNS).min(MAX_COLUMNS),
         );
-        self.show_if(editor, follows_step(self.showing, false), screen)
+        let is_asked = follows_step(self.manner, Course::On);
+        self.show_if(editor, is_asked, screen, Course::On)
     }
 
     /// A block of keys ended.
@@ -257,11 +242,11 @@ impl Session {
         editor: &mut Editor<S>,
         screen: &mut Counted<W>,
     ) -> Course
-        ensures { (calls : running.Told) → running.Took W.contents self.now.showing
-            (report.block_end ∷ []) calls calls editor.old editor.new
-            result screen.old screen.new }
+        ensures { (calls : ToldCalls) → running.TakesEvents self.now.manner (report.block_end ∷ [])
+            (moment editor.old calls (seen W.contents screen.old) On)
+            (moment editor.new calls (seen W.contents screen.new) result) }
     {
-        self.show_if(editor, follows_block(self.showing), screen)
+        self.show_if(editor, follows_block(self.manner), screen, Course::On)
     }
 
     /// Takes what a byte leads to.
@@ -272,9 +257,9 @@ impl Session {
         screen: &mut Counted<W>,
         port: &mut P,
     ) -> Course
-        ensures { running.Took W.contents self.now.showing (report.events_of meaning)
-            (P.calls port.old) (P.calls port.new) editor.old editor.new
-            result screen.old screen.new }
+        ensures { running.TakesEvents self.now.manner (report.events_of meaning)
+            (moment editor.old (P.calls port.old) (seen W.contents screen.old) On)
+            (moment editor.new (P.calls port.new) (seen W.contents screen.new) result) }
     {
         match meaning {
             Meaning::Keys(keys) => self.press_all(editor, keys.as_slice(), screen, port),
@@ -291,10 +276,10 @@ impl Session {
         screen: &mut Counted<W>,
         port: &mut P,
     ) -> Course
-        ensures taken { running.Took W.contents self.now.showing
+        ensures taken { running.TakesEvents self.now.manner
             (report.block_events reports.old block.now)
-            (P.calls port.old) (P.calls port.new) editor.old editor.new
-            result screen.old screen.new }
+            (moment editor.old (P.calls port.old) (seen W.contents screen.old) On)
+            (moment editor.new (P.calls port.new) (seen W.contents screen.new) result) }
         ensures left { result ≡ On → reports.new ≡ report.after reports.old block.now }
     {
         for byte in block {
@@ -314,9 +299,9 @@ impl Session {
         screen: &mut Counted<W>,
         port: &mut P,
     ) -> Course
-        ensures { running.Took W.contents self.now.showing (report.held_events held.now)
-            (P.calls port.old) (P.calls port.new) editor.old editor.new
-            result screen.old screen.new }
+        ensures { running.TakesEvents self.now.manner (report.held_events held.now)
+            (moment editor.old (P.calls port.old) (seen W.contents screen.old) On)
+            (moment editor.new (P.calls port.new) (seen W.contents screen.new) result) }
     {
         if held.is_empty() {
             return Course::On;
@@ -336,21 +321,21 @@ impl Session {
         screen: &mut Counted<W>,
         port: &mut P,
     ) -> Course
-        ensures { running.TookKeys R.remaining W.contents self.now.showing
-            (report.fresh self.now.resizable) keys.old keys.new
-            (P.calls port.old) (P.calls port.new) editor.old editor.new
-            result screen.old screen.new }
+        ensures { running.ReadsKeys R.remaining self.now.manner
+            (moment editor.old (P.calls port.old) (seen W.contents screen.old) On)
+            (moment editor.new (P.calls port.new) (seen W.contents screen.new) result)
+            keys.old keys.new }
     {
-        let mut reports = Reports::new(self.resizable);
+        let mut reports = Reports::new(self.manner.resizable);
         let mut block = [0u8; BLOCK];
         'reads: loop {
             match read_block(keys, &mut block) {
-                None => return Course::NoKeys,
-                Some(0) => {
+                Err(_) => return Course::NoKeys,
+                Ok(0) => {
                     let held = reports.take_held();
                     return self.press_held(editor, held.as_slice(), screen, port);
                 }
-                Some(count) => {
+                Ok(count) => {
                     match self.take_block(editor, &mut reports, &block[..count], screen, port) {
                         Course::On => {}
                         ended => return ended,
@@ -361,14 +346,15 @@ impl Session {
     }
 }
 
-/// Reads bytes of the keys, and answers how many; nothing where that fails.
-fn read_block<R: Read>(keys: &mut Counted<R>, block: &mut [u8]) -> Option<usize>
+/// Reads bytes of the keys, and answers how many.
+fn read_block<R: Read>(keys: &mut Counted<R>, block: &mut [u8]) -> io::Result<usize>
     requires { 0 < length block.old }
     ensures length { length block.new ≡ length block.old }
-    ensures read { running.ReadsBlock R.remaining result block.new keys.old keys.new }
+    ensures given { IfOk result
+        (λ count. running.GivesBytes R.remaining count block.new keys.old keys.new) }
+    ensures failed { OnErr result
+        (Keeps (R.remaining keys.old.inner) (R.remaining keys.new.inner)
+        × IsFailed keys.old keys.new) }
 {
-    match keys.read(block) {
-        Ok(count) => Some(count),
-        Err(_) => None,
-    }
+    keys.read(block)
 }

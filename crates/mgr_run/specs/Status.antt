@@ -1,5 +1,5 @@
 -- The exit status of the program.
-use Rattle.std.specs.Prelude.{◌≡◌, ◌≢◌, ◌⊎◌, ℕ, Bool, true, List, [], ◌∷◌, Option, Result, Err, IfSome, codes, OnOk, OnErr, IfErr, string_bytes}
+use Rattle.std.specs.Prelude.{◌≡◌, ◌≢◌, ◌⊎◌, ℕ, true, List, [], ◌∷◌, Option, Result, Err, IfSome, codes, OnOk, OnErr, IfErr, string_bytes}
 use Rattle.rga_ops.specs.Content.{Content, nothing as no_content}
 use Rattle.rga_store.specs.declared.text_store.TheConstants.{MAX_LIMIT}
 use Rattle.rga_lines.specs.Counting.{Calls, CountsAs, StaysFlushed, OnBytes, WritesNothing, one_more}
@@ -13,10 +13,9 @@ use Rattle.mgr_run.specs.Telling.{Told, Tells, line, text, shown_telling, edited
 use Rattle.mg_session.specs.declared.fault.SessionFault.{SessionFault}
 use Rattle.mg_session.specs.declared.fault.SessionFault.TheVariants as session
 use Rattle.mg_files.specs.Calls.{Call}
-use Rattle.mg_files.specs.declared.fault.LoadFault.TheVariants as unloaded
-use Rattle.mg_session.specs.Faults.{IsOfLoad}
-use Rattle.mg_session.specs.Running.{RanFrom, BrokeOffFrom, StopsFrom, FailsToOpen}
+use Rattle.mg_session.specs.Running.{devices, IsSession}
 use Rattle.mg_settings.specs.Settings.{Values}
+use Rattle.mgr_args.specs.declared.given.Compaction.{Compaction}
 use Rattle.mgr_args.specs.declared.job.Job.{Job}
 use Rattle.mgr_args.specs.declared.job.Job.TheVariants.{Show, Edit, Compact}
 use Rattle.mgr_port.specs.Disk.{Step, StopsBefore, whole_steps}
@@ -26,60 +25,94 @@ use Rattle.mgr_show.specs.Shown.{IsOfInput, Shows, BeginsToShow}
 use Rattle.mgr_show.specs.declared.fault.ShowFault.{ShowFault}
 use Rattle.mgr_show.specs.declared.fault.ShowFault.TheVariants as fault
 
-module _ {R W : Type 0} (remaining : R → Option (List ℕ)) (contents : W → Option (List ℕ)) where
-  -- The status is that of an answer to `show`, which says what was read, what was written and what is told.
-  pub record IsStatusOfShow (status : ℕ) (r s : Calls R) (old new : Calls W) (told telling : Told) : Type 0 where
-    pub answer : Result (Unit {0}) ShowFault
-    pub exact : status ≡ shown_status answer
-    pub told_line : Tells told telling (shown_telling answer)
-    pub shown : OnOk answer (OnBytes remaining r (Shows contents old new))
-    pub refused : IfErr answer (λ e. IsOfInput e → OnBytes remaining r (λ bytes. log_of MAX_LIMIT bytes ≡ Err e))
-    pub nothing : IfErr answer (λ e. e ≢ fault.Write → e ≢ fault.Memory → WritesNothing contents old new)
-    pub unwritten : IfErr answer (λ e. e ≢ fault.Write → new ≡ old)
-    pub flushed : OnOk answer (new.flushed ≡ true)
-    pub begun : OnErr answer (OnBytes remaining r (λ bytes. WritesNothing contents old new ⊎ BeginsToShow contents old new bytes))
-    pub whole_lines : answer ≡ Err fault.Read → (c : Content) × HasTakenWholeLines Log remaining (λ _. MAX_LIMIT) (λ held. held) (λ _ _ _. Unit {0}) r s no_content c
-    pub reads : CountsAs fault.Read answer r s
-    pub writes : CountsAs fault.Write answer old new
+-- ---- what a job has to do with
 
-module _ {P : Type 0} (standing : P → List ℕ → Option (List ℕ)) (steps : P → Option (List Step)) where
-  -- The status is that of an answer to `compact` of a name, which says what became of its log, where that is told, and
-  -- what is told.
-  pub record IsStatusOfCompact (name : List ℕ) (dels : Bool) (status : ℕ) (before after : P) (told telling : Told) : Type 0 where
-    pub answer : Result (Unit {0}) ShowFault
-    pub exact : status ≡ shown_status answer
-    pub told_line : Tells told telling (shown_telling answer)
-    pub keeps : OnOk answer (IfSome (standing before name) (λ bytes. KeepsContent dels bytes × Made (steps before) (steps after) (whole_steps true (compacted dels bytes))))
-    pub refused : IfErr answer (λ e. IsOfInput e → IfSome (standing before name) (λ bytes. log_of MAX_LIMIT bytes ≡ Err e))
-    pub begun : OnErr answer (IfSome (standing before name) (λ bytes. StopsBefore (steps before) (steps after) (whole_steps true (compacted dels bytes))))
-    pub untouched : IfErr answer (λ e. e ≢ fault.Write → e ≢ fault.Memory → steps after ≡ steps before)
+-- standard input and output, and what was told on standard error
+pub record Streams (R W : Type 0) : Type 0 where
+  pub input : Calls R
+  pub output : Calls W
+  pub told : Told
 
-module _ {R W P : Type 0} (remaining : R → Option (List ℕ)) (contents : W → Option (List ℕ)) (calls : P → Option (List Call)) (failures : P → ℕ) where
-  -- The status is that of an answer of a session, which says what became of the keys, which device failed
-  -- and what is told.
-  pub record IsStatusOfEdit (settings : Values) (status : ℕ) (r s : Calls R) (old new : Calls W) (before after : P) (told telling : Told) : Type 0 where
+-- the port, and what was told on standard error
+pub record PortSide (P : Type 0) : Type 0 where
+  pub port : P
+  pub told : Told
+
+-- all of these
+pub record Surroundings (R W P : Type 0) : Type 0 where
+  pub input : Calls R
+  pub output : Calls W
+  pub port : P
+  pub told : Told
+
+abbrev pub streams : {R W : Type 0} → Calls R → Calls W → Told → Streams R W
+streams input output told = record { input = input; output = output; told = told }
+
+abbrev pub port_side : {P : Type 0} → P → Told → PortSide P
+port_side port told = record { port = port; told = told }
+
+abbrev pub surroundings : {R W P : Type 0} → Calls R → Calls W → P → Told → Surroundings R W P
+surroundings input output port told = record { input = input; output = output; port = port; told = told }
+
+-- the bytes that are known of the input and the output, and what the port tells
+pub record Knowledge (R W P : Type 0) : Type 0 where
+  pub remaining : R → Option (List ℕ)
+  pub contents : W → Option (List ℕ)
+  pub calls : P → Option (List Call)
+  pub failures : P → ℕ
+  pub standing : P → List ℕ → Option (List ℕ)
+  pub steps : P → Option (List Step)
+
+abbrev pub known : {R W P : Type 0} → (R → Option (List ℕ)) → (W → Option (List ℕ)) → (P → Option (List Call)) → (P → ℕ) → (P → List ℕ → Option (List ℕ)) → (P → Option (List Step)) → Knowledge R W P
+known remaining contents calls failures standing steps =
+    record { remaining = remaining; contents = contents; calls = calls; failures = failures; standing = standing; steps = steps }
+
+-- ---- the status of a job
+
+-- That of an answer to `show`, which says what was read, what was written and what is told.
+pub record IsStatusOfShow {R W : Type 0} (remaining : R → Option (List ℕ)) (contents : W → Option (List ℕ)) (status : ℕ) (before after : Streams R W) : Type 0 where
+  pub answer : Result (Unit {0}) ShowFault
+  pub exact : status ≡ shown_status answer
+  pub told_line : Tells before.told after.told (shown_telling answer)
+  pub shown : OnOk answer (OnBytes remaining before.input (Shows contents before.output after.output))
+  pub refused : IfErr answer (λ e. IsOfInput e → OnBytes remaining before.input (λ bytes. log_of MAX_LIMIT bytes ≡ Err e))
+  pub nothing : IfErr answer (λ e. e ≢ fault.Write → e ≢ fault.Memory → WritesNothing contents before.output after.output)
+  pub unwritten : IfErr answer (λ e. e ≢ fault.Write → after.output ≡ before.output)
+  pub flushed : OnOk answer (after.output.flushed ≡ true)
+  pub begun : OnErr answer (OnBytes remaining before.input (λ bytes. WritesNothing contents before.output after.output ⊎ BeginsToShow contents before.output after.output bytes))
+  pub whole_lines : answer ≡ Err fault.Read → (c : Content) × HasTakenWholeLines Log remaining (λ _. MAX_LIMIT) (λ held. held) (λ _ _ _. Unit {0}) before.input after.input no_content c
+  pub reads : CountsAs fault.Read answer before.input after.input
+  pub writes : CountsAs fault.Write answer before.output after.output
+
+-- That of an answer to `compact`, which says what became of the log of its name, where that is told, and what is told.
+pub record IsStatusOfCompact {P : Type 0} (standing : P → List ℕ → Option (List ℕ)) (steps : P → Option (List Step)) (c : Compaction) (status : ℕ) (before after : PortSide P) : Type 0 where
+  pub answer : Result (Unit {0}) ShowFault
+  pub exact : status ≡ shown_status answer
+  pub told_line : Tells before.told after.told (shown_telling answer)
+  pub keeps : OnOk answer (IfSome (standing before.port (string_bytes c.name)) (λ bytes. KeepsContent c.dels bytes × Made (steps before.port) (steps after.port) (whole_steps true (compacted c.dels bytes))))
+  pub refused : IfErr answer (λ e. IsOfInput e → IfSome (standing before.port (string_bytes c.name)) (λ bytes. log_of MAX_LIMIT bytes ≡ Err e))
+  pub begun : OnErr answer (IfSome (standing before.port (string_bytes c.name)) (λ bytes. StopsBefore (steps before.port) (steps after.port) (whole_steps true (compacted c.dels bytes))))
+  pub untouched : IfErr answer (λ e. e ≢ fault.Write → e ≢ fault.Memory → steps after.port ≡ steps before.port)
+
+module _ {R W P : Type 0} (k : Knowledge R W P) where
+  -- That of an answer of a session, which says what became of the keys, which device failed and what is told.
+  pub record IsStatusOfEdit (settings : Values) (status : ℕ) (before after : Surroundings R W P) : Type 0 where
     pub answer : Result (Unit {0}) SessionFault
     pub exact : status ≡ edited_status answer
-    pub told_line : Tells told telling (edited_telling answer)
-    pub ran : OnOk answer (RanFrom remaining contents settings r s (calls before) (calls after) old new)
-    pub broken : answer ≡ Err session.Keys → BrokeOffFrom remaining contents settings r s (calls before) (calls after) old new
-    pub begun : answer ≡ Err session.Screen → StopsFrom remaining contents settings session.Screen r s (calls before) (calls after) old new
-    pub memory : answer ≡ Err session.Memory → ((s ≡ r) × (new ≡ old)) ⊎ StopsFrom remaining contents settings session.Memory r s (calls before) (calls after) old new
-    pub load : IfErr answer (FailsToOpen settings (calls before) (calls after))
-    pub unread : IfErr answer (λ e. IsOfLoad e → s ≡ r)
-    pub unwritten : IfErr answer (λ e. IsOfLoad e → new ≡ old)
-    pub flushed : StaysFlushed session.Screen answer old new
-    pub folded : answer ≢ Err (session.Load unloaded.Memory)
-    pub keys : CountsAs session.Keys answer r s
-    pub screen : CountsAs session.Screen answer old new
-    pub file : answer ≡ Err session.File → failures after ≡ one_more (failures before)
+    pub told_line : Tells before.told after.told (edited_telling answer)
+    pub ran : IsSession k.remaining k.contents settings answer (devices before.input before.output (k.calls before.port)) (devices after.input after.output (k.calls after.port))
+    pub flushed : StaysFlushed session.Screen answer before.output after.output
+    pub keys : CountsAs session.Keys answer before.input after.input
+    pub screen : CountsAs session.Screen answer before.output after.output
+    pub file : answer ≡ Err session.File → k.failures after.port ≡ one_more (k.failures before.port)
 
-module _ {R W P : Type 0} (remaining : R → Option (List ℕ)) (contents : W → Option (List ℕ)) (calls : P → Option (List Call)) (failures : P → ℕ) (standing : P → List ℕ → Option (List ℕ)) (steps : P → Option (List Step)) where
   -- of a job; `show` has nothing to do with the port, and `compact` nothing with standard input and output
-  abbrev pub IsStatusOfJob : Job → ℕ → Calls R → Calls R → Calls W → Calls W → P → P → Told → Told → Type 0
-  IsStatusOfJob Show status r s old new before after told telling = IsStatusOfShow remaining contents status r s old new told telling × (after ≡ before)
-  IsStatusOfJob (Edit settings) status r s old new before after told telling = IsStatusOfEdit remaining contents calls failures settings status r s old new before after told telling
-  IsStatusOfJob (Compact c) status r s old new before after told telling = IsStatusOfCompact standing steps (string_bytes c.name) c.dels status before after told telling × (s ≡ r) × (new ≡ old)
+  abbrev pub IsStatusOfJob : Job → ℕ → Surroundings R W P → Surroundings R W P → Type 0
+  IsStatusOfJob Show status before after =
+      IsStatusOfShow k.remaining k.contents status (streams before.input before.output before.told) (streams after.input after.output after.told) × (after.port ≡ before.port)
+  IsStatusOfJob (Edit settings) status before after = IsStatusOfEdit settings status before after
+  IsStatusOfJob (Compact c) status before after =
+      IsStatusOfCompact k.standing k.steps c status (port_side before.port before.told) (port_side after.port after.told) × (after.input ≡ before.input) × (after.output ≡ before.output)
 
 module _ {W : Type 0} where
   -- A text that was asked for was printed, or not: 3 exactly where standard output failed, and else 0, or 4 where

@@ -2,7 +2,7 @@
 ghost use Rattle.std.specs.Prelude.{◌≡◌, ◌≤◌, [], ◌∷◌, IfErr, MatchResult};
 ghost use Rattle.mgr_run.specs.Report.{message_text};
 ghost use Rattle.mgr_run.specs.Telling.{Tells, line};
-ghost use Rattle.mgr_run.specs.Status.{IsStatusOf, IsStatusOfJob, IsStatusOfEdit, IsStatusOfCompact, IsStatusOfPrint, IsStatusOfShow};
+ghost use Rattle.mgr_run.specs.Status as status;
 ghost use Rattle.mgr_run.specs.Peers as spec;
 
 use crate::report::Report;
@@ -10,7 +10,7 @@ use crate::tell::{StandardError, Tell};
 use mg_files::Port;
 use mg_session::run_keys;
 use mg_settings::Settings;
-use mgr_args::{Job, JobFault, job_of, job_status, words};
+use mgr_args::{Compaction, Job, JobFault, job_of, job_status, words};
 use mgr_compact::compact_note;
 use mgr_port::{FilePort, Logs};
 use mgr_show::{show_ops, write_text};
@@ -68,10 +68,11 @@ pub fn do_job<R: Read, W: Write, P: Port + Logs, T: Tell>(
     errors: &mut T,
 ) -> u8
     ensures status { MatchResult job.now
-        (λ job. IsStatusOfJob R.remaining W.contents P.calls P.failures P.standing P.steps job result
-        reader.old reader.new writer.old writer.new port.old port.new
-        (T.told errors.old) (T.told errors.new))
-        (λ fault. IsStatusOf fault result writer.old writer.new
+        (λ job. status.IsStatusOfJob
+        (status.known R.remaining W.contents P.calls P.failures P.standing P.steps) job result
+        (status.surroundings reader.old writer.old port.old (T.told errors.old))
+        (status.surroundings reader.new writer.new port.new (T.told errors.new)))
+        (λ fault. status.IsStatusOf fault result writer.old writer.new
         (T.told errors.old) (T.told errors.new)) }
     ensures idle { IfErr job.now (λ _. (reader.new ≡ reader.old) × (port.new ≡ port.old)) }
     ensures bound { result ≤ 4 }
@@ -79,7 +80,7 @@ pub fn do_job<R: Read, W: Write, P: Port + Logs, T: Tell>(
     match job {
         Ok(Job::Show) => show(alloc, reader, writer, errors),
         Ok(Job::Edit(settings)) => edit(alloc, settings, reader, writer, port, errors),
-        Ok(Job::Compact(log)) => compact(alloc, log.name.as_str(), log.dels, port, errors),
+        Ok(Job::Compact(log)) => compact(alloc, log, port, errors),
         Err(fault) => refuse(alloc, fault, writer, errors),
     }
 }
@@ -90,8 +91,9 @@ fn show<R: Read, W: Write, T: Tell>(
     writer: &mut Counted<W>,
     errors: &mut T,
 ) -> u8
-    ensures status { IsStatusOfShow R.remaining W.contents result
-        reader.old reader.new writer.old writer.new (T.told errors.old) (T.told errors.new) }
+    ensures status { status.IsStatusOfShow R.remaining W.contents result
+        (status.streams reader.old writer.old (T.told errors.old))
+        (status.streams reader.new writer.new (T.told errors.new)) }
     ensures bound { result ≤ 4 }
 {
     match show_ops(alloc, reader, writer) {
@@ -100,7 +102,7 @@ fn show<R: Read, W: Write, T: Tell>(
     }
 }
 
-fn edit<R: Read, W: Write, P: Port, T: Tell>(
+fn edit<R: Read, W: Write, P: Port + Logs, T: Tell>(
     alloc: Global,
     settings: &Settings,
     reader: &mut Counted<R>,
@@ -108,9 +110,11 @@ fn edit<R: Read, W: Write, P: Port, T: Tell>(
     port: &mut P,
     errors: &mut T,
 ) -> u8
-    ensures status { IsStatusOfEdit R.remaining W.contents P.calls P.failures settings.now result
-        reader.old reader.new writer.old writer.new port.old port.new
-        (T.told errors.old) (T.told errors.new) }
+    ensures status { status.IsStatusOfEdit
+        (status.known R.remaining W.contents P.calls P.failures P.standing P.steps)
+        settings.now result
+        (status.surroundings reader.old writer.old port.old (T.told errors.old))
+        (status.surroundings reader.new writer.new port.new (T.told errors.new)) }
     ensures bound { result ≤ 4 }
 {
     match run_keys::<FlatStore, _, _, _>(alloc, reader, writer, port, settings) {
@@ -119,18 +123,12 @@ fn edit<R: Read, W: Write, P: Port, T: Tell>(
     }
 }
 
-fn compact<P: Logs, T: Tell>(
-    alloc: Global,
-    name: &str,
-    dels: bool,
-    port: &mut P,
-    errors: &mut T,
-) -> u8
-    ensures status { IsStatusOfCompact P.standing P.steps name.now dels result port.old port.new
-        (T.told errors.old) (T.told errors.new) }
+fn compact<P: Logs, T: Tell>(alloc: Global, log: &Compaction, port: &mut P, errors: &mut T) -> u8
+    ensures status { status.IsStatusOfCompact P.standing P.steps log.now result
+        (status.port_side port.old (T.told errors.old)) (status.port_side port.new (T.told errors.new)) }
     ensures bound { result ≤ 4 }
 {
-    match compact_note(alloc, port, name, dels) {
+    match compact_note(alloc, port, log.name.as_str(), log.dels) {
         Ok(()) => 0,
         Err(fault) => told(errors, Report::of_show(&fault)),
     }
@@ -142,7 +140,7 @@ fn refuse<W: Write, T: Tell>(
     writer: &mut Counted<W>,
     errors: &mut T,
 ) -> u8
-    ensures { IsStatusOf fault.now result writer.old writer.new
+    ensures { status.IsStatusOf fault.now result writer.old writer.new
         (T.told errors.old) (T.told errors.new) }
 {
     match fault {
@@ -162,7 +160,7 @@ fn print<D: Display, W: Write, T: Tell>(
     writer: &mut Counted<W>,
     errors: &mut T,
 ) -> u8
-    ensures { IsStatusOfPrint result writer.old writer.new
+    ensures { status.IsStatusOfPrint result writer.old writer.new
         (T.told errors.old) (T.told errors.new) }
 {
     let Ok(text) = text.to_string(alloc) else {

@@ -9,7 +9,7 @@ returns-in-Err-clause-status g c =
       exact = c.told.ensures.status ∙ c.of_show.ensures.status;
       told_line = rw c.of_show.ensures.text at c.told.ensures.told;
       keeps = e.compacted;
-      refused = e.refused;
-      begun = e.begun;
+      refused = rw c.as_str.ensures.value at e.refused;
+      begun = rw c.as_str.ensures.value at e.begun;
       untouched = e.untouched;
     }

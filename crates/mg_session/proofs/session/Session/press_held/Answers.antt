@@ -1,13 +1,16 @@
-use Rattle.std.proofs.Common.{sym}
+use Rattle.std.proofs.Common.{refl, sym, [], ◌∷◌}
+use Rattle.mg_reports.specs.Reports.{keys, block_end}
 use Rattle.mg_reports.proofs.ReportLaws.{held_some, held_none}
-use Rattle.mg_session.proofs.TakenLaws.{took_none, took_more, took_ended}
+use Rattle.mg_session.proofs.TakenLaws.{took_more, took_ended}
 use Rattle.mg_session.proofs.session.Session.press_held.Goals as goal
 
 pub returns-then-is_empty : goal.returns-then-is_empty
-returns-then-is_empty g c = rw (held_none c.args.held.now (sym c.if-is_empty.ensures)) (took_none _ _ _)
+returns-then-is_empty g c = rw (held_none c.args.held.now (sym c.if-is_empty.ensures)) refl
 
 pub returns-in-On : goal.returns-in-On
-returns-in-On g c = took_more (held_some c.args.held.now (sym c.if-is_empty.ensures)) c.in-On.ensures (c.end_block.ensures _)
+returns-in-On g c =
+    took_more c.args.self.now.manner (keys c.args.held.now) (block_end ∷ []) _ _ _ (held_some c.args.held.now (sym c.if-is_empty.ensures)) c.in-On.ensures (c.end_block.ensures _)
 
 pub returns-in_default : goal.returns-in_default
-returns-in_default g c = took_ended _ (held_some c.args.held.now (sym c.if-is_empty.ensures)) c.in_default.not-On c.press_all.ensures
+returns-in_default g c =
+    took_ended c.args.self.now.manner (keys c.args.held.now) (block_end ∷ []) _ _ (held_some c.args.held.now (sym c.if-is_empty.ensures)) c.in_default.not-On c.press_all.ensures
