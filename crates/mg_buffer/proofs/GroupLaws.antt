@@ -49,23 +49,6 @@ taken_at groups (suc k) i h = by (slice_get groups k) refl h
 pub none_first : (groups : List Past) (n : ℕ) → n ≡ 0 → None ≡ option_map (λ (p : ℕ × Past). p.0) (last_group groups n)
 none_first groups n zero_is = ap (λ m. option_map (λ (p : ℕ × Past). p.0) (last_group groups m)) (sym zero_is)
 
-pub none_past : (groups : List Past) (n : ℕ) → length groups < n → None ≡ option_map (λ (p : ℕ × Past). p.0) (last_group groups n)
-none_past groups zero past = absurd (omega (arith, past))
-none_past groups (suc k) past = ap (λ o. option_map (λ (p : ℕ × Past). p.0) (option_map (λ (g : Past). (k, g)) o)) (sym (slice_get_past groups k (omega (arith, past))))
-
-pub index_taken : (groups : List Past) (n : ℕ) → ¬ (n ≡ 0) → n ≤ length groups → Some (n - 1) ≡ option_map (λ (p : ℕ × Past). p.0) (last_group groups n)
-index_taken groups zero other within = absurd (other refl)
-index_taken groups (suc k) other within = by (slice_get groups k) refl
-  where
-    by : (o : Option Past) → slice_get groups k ≡ o → Some (suc k - 1) ≡ option_map (λ (p : ℕ × Past). p.0) (option_map (λ (g : Past). (k, g)) o)
-    by None e = absurd (omega (arith, within, past_if_none groups k e))
-      where
-        past_if_none : (gs : List Past) (j : ℕ) → slice_get gs j ≡ None → length gs ≤ j
-        past_if_none [] j e = omega arith
-        past_if_none (g ∷ gs) zero e = let clash : Some g ≡ None = e in cc
-        past_if_none (g ∷ gs) (suc j) e = omega (arith, past_if_none gs j e)
-    by (Some g) e = let same : suc k - 1 ≡ k = omega arith in ap Some same
-
 -- the group at an index is the one that is read there
 pub group_is : {A : Type 0} (groups : List A) (i : ℕ) (x g : A) → x ≡ get_or groups i x → i < length groups → slice_get groups i ≡ Some g → g ≡ x
 group_is groups i x g is within at = same_Some g (get_or groups i x) (sym at ∙ slice_get-get_or groups i x within) ∙ sym is

@@ -52,16 +52,8 @@ stands_within pattern text i inside h =
     let t = length-drop i text in
     omega (arith, long, t, inside)
 
--- the first match from a place on
-pub match_here : (pattern text : List ℕ) (i : ℕ) → i ≤ length text → stands_at pattern text i ≡ true → first_match pattern text i ≡ Some i
-match_here pattern text i inside h = found_here (stands_at pattern text) i (suc (length text)) (omega (arith, inside)) h
-
 pub match_later : (pattern text : List ℕ) (i : ℕ) → i ≤ length text → stands_at pattern text i ≡ false → first_match pattern text i ≡ first_match pattern text (i + 1)
 match_later pattern text i inside h = found_later (stands_at pattern text) i (suc (length text)) (omega (arith, inside)) h
-
-pub match_nowhere : (pattern text : List ℕ) (i : ℕ) → i ≡ length text → stands_at pattern text i ≡ false → first_match pattern text i ≡ None
-match_nowhere pattern text i end h =
-    match_later pattern text i (omega (arith, end)) h ∙ found_nowhere (stands_at pattern text) (i + 1) (suc (length text)) (omega (arith, end))
 
 -- the last match up to a place, which lies in the text
 pub last_is : (pattern text : List ℕ) (start i : ℕ) → last_match pattern text start ≡ Some i → (start ≤ length text) × IsGreatest (stands_at pattern text) (suc start) i

@@ -20,23 +20,6 @@ cells_left line column i d inside met =
     let more : drop i line ≡ d ∷ drop (i + 1) line = drop_more line i d inside ∙ ap (λ x. x ∷ drop (i + 1) line) (sym met) in
     ap (cells_from column) more
 
--- the width of a line, whose rest begins at a column
-pub width_on : (line : List ℕ) (column i d w : ℕ) → i < length line → d ≡ get_or line i d → w ≡ (cell_of column d).width
-    → column + width_of (cells_from column (drop i line)) ≡ width_of (cells line)
-    → (column + w) + width_of (cells_from (column + w) (drop (i + 1) line)) ≡ width_of (cells line)
-width_on line column i d w inside met is sofar =
-    let more = ap width_of (cells_left line column i d inside met) in
-    let rest : width_of (cells_from (column + w) (drop (i + 1) line)) ≡ width_of (cells_from (column + (cell_of column d).width) (drop (i + 1) line)) =
-    ap (λ k. width_of (cells_from (column + k) (drop (i + 1) line))) is in
-    omega (arith, more, rest, is, sofar)
-
--- a line whose next cell has no room is too wide
-pub too_wide : (line : List ℕ) (most column i d w : ℕ) → i < length line → d ≡ get_or line i d → w ≡ (cell_of column d).width → most - column < w → column ≤ most
-    → column + width_of (cells_from column (drop i line)) ≡ width_of (cells line) → most < width_of (cells line)
-too_wide line most column i d w inside met is over fits sofar =
-    let more = ap width_of (cells_left line column i d inside met) in
-    omega (arith, more, is, over, fits, sofar)
-
 -- the longest beginning of the rest, whose first cell has room
 pub beginning_on : (line : List ℕ) (most column i d w : ℕ) → i < length line → d ≡ get_or line i d → w ≡ (cell_of column d).width → w ≤ most - column → column ≤ most
     → beginning (most - column) (cells_from column (drop i line)) ≡ cell_of column d ∷ beginning (most - (column + w)) (cells_from (column + w) (drop (i + 1) line))
@@ -95,10 +78,6 @@ is_some_fits cs most (Some w) is some = (has_width cs most w is).0
 pub is_none_over : (cs : List Cell) (most : ℕ) (o : Option ℕ) → o ≡ width_if cs most → is_some o ≡ false → nat_le (width_of cs) most ≡ false
 is_none_over cs most None is none = has_no_width cs most is
 is_none_over cs most (Some w) is none = absurd cc
-
--- the law of the longest beginning
-abbrev Fits : ℕ → List Cell → List Cell → Type 0
-Fits most all begun = width_of begun ≤ most
 
 begins : (most : ℕ) (all : List Cell) → beginning most all ≡ take (length (beginning most all)) all
 begins most [] = refl

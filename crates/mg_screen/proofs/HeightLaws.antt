@@ -157,9 +157,6 @@ removal_keeps hs gs ss ts i j rows old several paired less heir is =
     kept hs gs ss ts i j rows old paired (omega (arith, less, old.here, several, heir)) (ap rows_of is ∙ rows-remove i (windows_of hs ss))
     (subst IsTall (sym is) (tall-remove i (windows_of hs ss) old.tall))
 
-pub same_keeps : {T : Type 0} (hs gs : List ℕ) (ss ts : List T) (i rows : ℕ) → gs ≡ hs → ts ≡ ss → IsKept hs ss i rows → IsKept gs ts i rows
-same_keeps {T} hs gs ss ts i rows same also old = subst (λ xs. IsKept xs ts i rows) (sym same) (subst (λ (ys : List T). IsKept hs ys i rows) (sym also) old)
-
 -- the next window
 pub next_window : {T : Type 0} (hs : List ℕ) (ss : List T) (i : ℕ) → length hs ≡ length ss → i + 1 < length hs → layout (windows_of hs ss) (i + 1) ≡ other_layout (layout (windows_of hs ss) i)
 next_window hs ss i e inside =

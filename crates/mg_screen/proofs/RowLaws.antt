@@ -32,11 +32,3 @@ row_filled row before text columns w was is has =
     let width = (has_width (cells text) columns w has).1 in
     is ∙ ap₂ (λ b k. b ++ encode_utf8_all (replicate (columns - k) 45)) was width
     ∙ sym (encode_utf8_all-append (cut_row columns text) (replicate (columns - width_of (cells text)) 45))
-
-pub row_unfilled : (row text : List ℕ) (columns : ℕ) → row ≡ encode_utf8_all (cut_row columns text) → None ≡ width_if (cells text) columns → row ≡ encode_utf8_all (filled_row columns text)
-row_unfilled row text columns is has =
-    let over = has_no_width (cells text) columns has in
-    let wide : columns ≤ width_of (cells text) = grind (arith, nat_tests) in
-    let none : columns - width_of (cells text) ≡ 0 = omega (arith, wide) in
-    let whole : filled_row columns text ≡ cut_row columns text ++ [] = rw none refl in
-    is ∙ ap encode_utf8_all (sym (whole ∙ append-nil (cut_row columns text)))

@@ -28,11 +28,6 @@ text_row_on old new before columns n left all ls next row one is_row is_next is 
 utf8-append : (xs ys : List (List ℕ)) → utf8 (xs ++ ys) ≡ utf8 xs ++ utf8 ys
 utf8-append xs ys = map-append encode_utf8_all xs ys
 
--- rows in two parts
-pub rows_and : (old middle new first second : List (List ℕ)) → middle ≡ old ++ utf8 first → new ≡ middle ++ utf8 second → new ≡ old ++ utf8 (first ++ second)
-rows_and old middle new first second is more =
-    more ∙ ap (λ rs. rs ++ utf8 second) is ∙ append_assoc old (utf8 first) (utf8 second) ∙ ap (λ rs. old ++ rs) (sym (utf8-append first second))
-
 -- rows of a pane, of those that are left
 pub pane_on : (old new all : List (List ℕ)) (columns i : ℕ) (ps : List Pane) (p : Pane) → i < length ps → p ≡ get_or ps i p → new ≡ old ++ utf8 (pane_rows columns p)
     → old ++ utf8 (panes_rows columns (drop i ps)) ≡ all → new ++ utf8 (panes_rows columns (drop (i + 1) ps)) ≡ all

@@ -34,16 +34,6 @@ scan_on p n bound inside h = ap (λ o. unwrap_or o bound) (found_later p n bound
 pub scan_end : (p : ℕ → Bool) (n bound : ℕ) → bound ≤ n → least_from p n bound ≡ bound
 scan_end p n bound out = ap (λ o. unwrap_or o bound) (found_nowhere p n bound out)
 
--- a scan back
-pub back_here : (p : ℕ → Bool) (n : ℕ) → p n ≡ true → greatest_up_to p n ≡ n
-back_here p n h = ap (λ b. unwrap_or (if b then Some n else greatest p n) 0) h
-
-pub back_on : (p : ℕ → Bool) (n : ℕ) → p (n + 1) ≡ false → greatest_up_to p (n + 1) ≡ greatest_up_to p n
-back_on p n h =
-    let e : n + 1 ≡ suc n = omega arith in
-    let g : p (suc n) ≡ false = subst (λ k. p k ≡ false) e h in
-    ap (greatest_up_to p) e ∙ ap (λ b. unwrap_or (if b then Some (suc n) else greatest p (suc n)) 0) g
-
 pub back_end : (p : ℕ → Bool) → greatest_up_to p 0 ≡ 0
 back_end p = elim (p 0) as (λ b. unwrap_or (if b then Some 0 else greatest p 0) 0 ≡ 0) [ true ↦ refl | false ↦ refl ]
 
@@ -52,13 +42,3 @@ back_step p q some h =
     let e : q ≡ suc (q - 1) = omega (arith, some) in
     let g : p (suc (q - 1)) ≡ false = subst (λ k. p k ≡ false) e h in
     ap (greatest_up_to p) e ∙ ap (λ b. unwrap_or (if b then Some (suc (q - 1)) else greatest p (suc (q - 1))) 0) g
-
-pub back_stop : (p : ℕ → Bool) (q : ℕ) → q ≤ 0 → greatest_up_to p q ≡ q
-back_stop p q none =
-    let e : q ≡ 0 = omega (arith, none) in
-    subst (λ k. greatest_up_to p k ≡ k) (sym e) (back_end p)
-
-pub scan_stop : (p : ℕ → Bool) (n bound : ℕ) → n ≤ bound → bound ≤ n → least_from p n bound ≡ n
-scan_stop p n bound lo hi =
-    let e : n ≡ bound = omega (arith, lo, hi) in
-    scan_end p n bound hi ∙ sym e

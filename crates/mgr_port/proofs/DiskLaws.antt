@@ -158,7 +158,3 @@ stops_longer a b wanted more s = record { made = s.made; begins = begins_longer 
 
 pub stops_at : (a b : Option (List Step)) (made more : List Step) → Tells a b made → StopsBefore a b (made ++ more)
 stops_at a b made more told = record { made = made; begins = begins_all made more; tells = told }
-
--- nothing was done
-pub stops_at_once : (a b : Option (List Step)) (wanted : List Step) → b ≡ a → StopsBefore a b wanted
-stops_at_once a b wanted same = record { made = []; begins = begins_all [] wanted; tells = subst (λ o. Tells a o []) (sym same) (tells_nothing a) }

@@ -54,9 +54,6 @@ grown_knows (x ∷ rs) (suc i) r id other l is filled h =
 still_filled : (r k x l n : ℕ) → nat_le x l ≡ true → ((r == k) && ((l + 1) == n)) ≡ true → nat_le x n ≡ true
 still_filled r k x l n f h = grind (arith, nat_tests)
 
-pub grown_filled : (r : KnownRange) (id : Identifier) → is_filled r ≡ true → touches r id ≡ true → is_filled (ending r id.counter) ≡ true
-grown_filled r id filled h = still_filled r.replica id.replica r.first r.last id.counter filled h
-
 in_one : (r q n m : ℕ) → ((r == q) && (nat_le n m && nat_le m n)) ≡ ((n == m) && (r == q))
 in_one r q n m = grind (arith, nat_tests)
 

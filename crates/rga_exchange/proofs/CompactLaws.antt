@@ -357,11 +357,3 @@ one_line r = by_chars r.chars
     by_chars [] h = absurd (omega (arith, h))
     by_chars (ch ∷ []) h = refl
     by_chars (ch ∷ d ∷ chars) h = absurd (omega (arith, h))
-
-pub more_line : (r : Stretch) → 0 < length r.chars → length r.chars ≢ 1 → stretch_line r ≡ run_line r
-more_line r = by_chars r.chars
-  where
-    by_chars : (chars : List ℕ) → 0 < length chars → length chars ≢ 1 → shortest_line r.id r.parent chars ≡ run_line (stretch r.id r.parent chars)
-    by_chars [] some other = absurd (omega (arith, some))
-    by_chars (ch ∷ []) some other = absurd (other refl)
-    by_chars (ch ∷ d ∷ chars) some other = refl

@@ -233,9 +233,6 @@ one_alone line op says = ap (λ r. then_operations r []) (stands line (Ok (One o
 pub run_alone : (line : List ℕ) (r : Stretch) → any_line_at line ≡ Ok (Run r) → operations_of (line ∷ []) ≡ stretch_operations r
 run_alone line r says = ap (λ r. then_operations r []) (stands line (Ok (Run r)) says) ∙ append-nil (stretch_operations r)
 
-pub run_alone-length : (line : List ℕ) (r : Stretch) → any_line_at line ≡ Ok (Run r) → length (operations_of (line ∷ [])) ≡ length r.chars
-run_alone-length line r says = ap (λ (ops : List Op). length ops) (run_alone line r says) ∙ run_operations-length r.id r.parent r.chars
-
 pub deletions_alone : (line : List ℕ) (r : DeletionRun) → any_line_at line ≡ Ok (Deletions r) → operations_of (line ∷ []) ≡ run_deletions r
 deletions_alone line r says = ap (λ r. then_operations r []) (stands line (Ok (Deletions r)) says) ∙ append-nil (run_deletions r)
 

@@ -53,16 +53,6 @@ end_of : (xs : List Step) → xs ≡ xs ++ []
 end_of [] = refl
 end_of (x ∷ xs) = ap (λ r. x ∷ r) (end_of xs)
 
-pub gathered_none : (limit : ℕ) (c : Content) (steps : List Step) → CanGoBack steps c → IsGathered limit c c [] steps steps
-gathered_none limit c steps back = record {
-  taken = refl;
-  within = record { inserted = λ k x g. g; deleted = λ k h. h };
-  back = back;
-  own = [];
-  noted = end_of steps;
-  gone = refl;
-}
-
 pub gathered_more : (limit : ℕ) (base c d : Content) (step : Step) (ops : List Op) (before steps : List Step) → IsGathered limit base c ops before steps → answer limit c step.op.now ≡ Ok New → d ≡ join c (single step.op.now) → step.clock ≡ clock_of c
     → IsGathered limit base d (ops ++ step.op.now ∷ []) before (steps ++ step ∷ [])
 gathered_more limit base c d step ops before steps g answered joined clocked =
@@ -129,12 +119,6 @@ drop_front (x ∷ xs) ys = drop_front xs ys
 take_front : (xs ys : List Step) → take (length xs) (xs ++ ys) ≡ xs
 take_front [] ys = refl
 take_front (x ∷ xs) ys = ap (λ r. x ∷ r) (take_front xs ys)
-
-pub gathered_gone : (limit : ℕ) (base c : Content) (ops : List Op) (before steps : List Step) (n : ℕ) → n ≡ length before → IsGathered limit base c ops before steps → gone_back (drop n steps) c ≡ base
-gathered_gone limit base c ops before steps n is g = ap (λ ss. gone_back ss c) ((λ i. drop (is i) (g.noted i)) ∙ drop_front before g.own) ∙ g.gone
-
-pub gathered_before : (limit : ℕ) (base c : Content) (ops : List Op) (before steps : List Step) (n : ℕ) → n ≡ length before → IsGathered limit base c ops before steps → take n steps ≡ before
-gathered_before limit base c ops before steps n is g = (λ i. take (is i) (g.noted i)) ∙ take_front before g.own
 
 -- one step less behind those that stay
 pub left_gone : (from : ℕ) (ss : List Step) (s : Step) (c : Content) → from < length (ss ++ s ∷ []) → gone_back (drop from ss) (without s.op.now c) ≡ gone_back (drop from (ss ++ s ∷ [])) c
@@ -227,6 +211,3 @@ module _ (limit : ℕ) (c d : Content) (last : Identifier) (e : Entry) (sound : 
               ∙ ap (λ k. put_entry k e v) (sym last_is)
               ∙ (λ i. put_entry last (record { id = e.id; ch = e.ch; deleted = deleted_now i }) v))),
         )
-
-pub shows_none : (c : Content) (parent : Identifier) (w : Waiting) → ChainShows c c parent [] w
-shows_none c parent w s done flat = (tt, flat)

@@ -279,16 +279,6 @@ module _ (d : Content) (sound : IsSound d) (id parent : Identifier) (ch : ℕ) (
 
 -- ---- which are complete
 
-pub complete_marked : (c : Content) (N : Identifier → Bool) (id : Identifier) (x : Element) → AreMarked c N → finite_map.get c.inserted id ≡ Some x → not (N id) ≡ is_complete c id
-complete_marked c N id x marks g = either (is_complete c id)
-    (λ t. ap not (marks.complete id t) ∙ sym t)
-    (λ f. ap not (marks.waits id x g f) ∙ sym f)
-
-pub complete_inserted : (c : Content) (id : Identifier) → finite_map.get c.inserted id ≡ None → false ≡ is_complete c id
-complete_inserted c id g = either (is_complete c id)
-    (λ t. absurd (none-some _ (sym g ∙ (inserted_if_complete c id t).1)))
-    (λ f. sym f)
-
 -- ---- what it was based on
 
 abbrev child_at : Option Element → Identifier → Bool

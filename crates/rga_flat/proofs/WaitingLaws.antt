@@ -24,12 +24,6 @@ pub found_or_new : (o : Option Children) (found new : Children) → found ≡ un
 found_or_new None found new same empty = ap (λ (v : Children). v.items) same ∙ empty
 found_or_new (Some v) found new same empty = ap (λ (v : Children). v.items) same
 
-pub kept_under : (old new : Waiting) → new.entries ≡ old.entries → KeepsUnder old new
-kept_under old new e p = ap (λ es. option_map_or (λ (v : Children). v.items) (lookup (is p) es) []) e
-
-pub kept_lists : (old new : Waiting) (id : Identifier) → new.entries ≡ old.entries → KeepsLists old new id
-kept_lists old new id e = (λ p h. ap (λ es. is_some (lookup (is p) es)) e ∙ h, λ p f. ap (λ es. is_some (lookup (is p) es)) e)
-
 -- no list is empty
 pub under_none : (w : Waiting) (p : Identifier) → has_list w p ≡ false → under w p ≡ []
 under_none w p h = none (get id_cmp w p) h
@@ -107,15 +101,6 @@ module _ (w : Waiting) (old new : BTreeSet Identifier) (id : Identifier) (change
   pub listed_else : (p : Identifier) → is id p ≡ false → is_listed w new p ≡ is_listed w old p
   listed_else p f = ap (λ b. has_list w p && not b) (changed p ∙ ap (λ b. cond b true (contains id_cmp old p)) f)
 
-pub settles_none : (w : Waiting) (done : BTreeSet Identifier) → Settles w done done
-settles_none w done = record { grows = λ p h. h; within = λ p h. inl h }
-
-pub settles_same : (w : Waiting) (old new : BTreeSet Identifier) → new.keys ≡ old.keys → Settles w old new
-settles_same w old new e = record {
-  grows = λ p h. ap (λ ks. list_any (is p) ks) e ∙ h;
-  within = λ p h. inl (sym (ap (λ ks. list_any (is p) ks) e) ∙ h);
-}
-
 pub settles_on : (w : Waiting) (a b c : BTreeSet Identifier) → Settles w a b → Settles w b c → Settles w a c
 settles_on w a b c s t = record {
   grows = λ p h. t.grows p (s.grows p h);
@@ -131,12 +116,6 @@ none_under w e p = ap (λ es. option_map_or (λ (v : Children). v.items) (lookup
 
 pub none_listed : (w : Waiting) → w.entries ≡ [] → (p : Identifier) → has_list w p ≡ false
 none_listed w e p = ap (λ es. is_some (lookup (is p) es)) e
-
-pub inserted_none : (c : Content) (done : BTreeSet Identifier) → AreInserted c done done
-inserted_none c done p h = inl h
-
-pub inserted_same : (c : Content) (old new : BTreeSet Identifier) → new.keys ≡ old.keys → AreInserted c old new
-inserted_same c old new e p h = inl (sym (ap (λ ks. list_any (is p) ks) e) ∙ h)
 
 pub inserted_on : (d : Content) (a b c : BTreeSet Identifier) → AreInserted d a b → AreInserted d b c → AreInserted d a c
 inserted_on d a b c s t p h = elim (t p h) [

@@ -294,10 +294,3 @@ ends s (Feed piece ∷ calls) good =
 ends s (Next ∷ calls) good = ends_next s calls good (λ t better. ends t calls better) (next_cases s (next_of s).0 (next_of s).1 refl)
 
 -- ---- lines by themselves
-
-pub long_line : (bytes : List ℕ) → MAX_LINE < length bytes → line_at bytes ≡ Err fault.Long
-long_line bytes h = alone bytes (Err fault.Long) (too_long bytes h)
-
-pub no_line : line_at [] ≡ Err fault.Json
-unfolding serde_json_on_literals
-no_line = alone [] (Err fault.Json) (refused [] (omega arith) (λ _. refl))

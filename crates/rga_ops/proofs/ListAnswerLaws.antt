@@ -325,31 +325,3 @@ joinable_append c xs ys = (
     apart : (o : Option Identifier) → first_conflict c xs ≡ o → option_or o (first_conflict (join c (content_of xs)) ys) ≡ None → IsJoinable c xs × IsJoinable (join c (content_of xs)) ys
     apart None first second = ((no_conflict-iff c xs).0 first, (no_conflict-iff (join c (content_of xs)) ys).0 second)
     apart (Some id) first clash = absurd (none-some _ (sym clash))
-
--- two lists in a row are taken where the first is, and then the second
-pub list_taken_append : (limit : ℕ) (c : Content) (xs ys : List Op) → (list_answer limit c (xs ++ ys) ≡ Ok tt) ↔ ((list_answer limit c xs ≡ Ok tt) × (list_answer limit (join c (content_of xs)) ys ≡ Ok tt))
-list_taken_append limit c xs ys = (
-  λ h.
-      let w = (list_taken-iff limit c (xs ++ ys)).0 h in
-      let well = (well_formed_append xs ys).0 w.0 in
-      let joinable = (joinable_append c xs ys).0 w.1 in
-      let fits : finite_set.len (known_ids (join d (content_of ys))) ≤ limit = subst (λ e. finite_set.len (known_ids e) ≤ limit) (sym whole) w.2 in
-      let fewer : finite_set.len (known_ids d) ≤ finite_set.len (known_ids (join d (content_of ys))) = subst (λ s. finite_set.len (known_ids d) ≤ finite_set.len s) (sym (known_join d (content_of ys))) (len-le_union (known_ids d) (known_ids (content_of ys))) in (
-        (list_taken-iff limit c xs).1 (well.0, joinable.0, le_trans fewer fits),
-        (list_taken-iff limit d ys).1 (well.1, joinable.1, fits),
-      ),
-  λ (first, second).
-      let v = (list_taken-iff limit c xs).0 first in
-      let w = (list_taken-iff limit d ys).0 second in
-      (list_taken-iff limit c (xs ++ ys)).1 (
-        (well_formed_append xs ys).1 (v.0, w.0),
-        (joinable_append c xs ys).1 (v.1, w.1),
-        subst (λ e. finite_set.len (known_ids e) ≤ limit) whole w.2,
-      ),
-)
-  where
-    d : Content
-    d = join c (content_of xs)
-
-    whole : join d (content_of ys) ≡ join c (content_of (xs ++ ys))
-    whole = join_assoc c (content_of xs) (content_of ys) ∙ ap (join c) (sym (content_of-append xs ys))

@@ -105,20 +105,6 @@ entries_are c es sorted sound full =
 pub order_is : (c : Content) (es : List (Path × Identifier)) → T (is_sorted path_cmp es) → ((p : Path) (id : Identifier) → find path_cmp p es ≡ Some id → IsPlaced c id p) → ((p : Path) (id : Identifier) → IsPlaced c id p → find path_cmp p es ≡ Some id) → map (λ e. e.1) es ≡ order c
 order_is c es sorted sound full = ap (map (λ (e : Path × Identifier). e.1)) (entries_are c es sorted sound full)
 
--- what is found under a path is one of the identifiers that the entries were made of
-pub find-among : (c : Content) (ks : List Identifier) (p : Path) (id : Identifier) → find path_cmp p (filter_map (placed c) ks) ≡ Some id → list_any (is id) ks ≡ true
-find-among c [] p id h = absurd (none-some _ h)
-find-among c (k ∷ ks) p id h =
-    elim (placed c k) as (λ o. placed c k ≡ o → find path_cmp p (cons_option o (filter_map (placed c) ks)) ≡ Some id → (is id k || list_any (is id) ks) ≡ true) [
-      | None ↦ λ f h. or_right (is id k) (list_any (is id) ks) (find-among c ks p id h)
-      | Some e ↦ λ f h. elim (eq_by_cmp path_cmp p e.0) as (λ b. cond b (Some e.1) (find path_cmp p (filter_map (placed c) ks)) ≡ Some id → (is id k || list_any (is id) ks) ≡ true) [
-        | true ↦ λ h.
-            let w : (e.1 ≡ k) × IsPlaced c k e.0 = placed-is c k e f in
-            ap (λ i. is i k || list_any (is id) ks) (sym (same_Some _ _ h) ∙ w.0) ∙ ap (λ b. b || list_any (is id) ks) (ap is_eq (tied_itself ids_total k))
-        | false ↦ λ h. or_right (is id k) (list_any (is id) ks) (find-among c ks p id h)
-      ] h
-    ] refl h
-
 -- ---- entries in the order of their paths
 
 pub entries_placed : (c : Content) → AllByRecursion (λ (e : Path × Identifier). IsPlaced c e.1 e.0) (finite_map.entries (by_path c))

@@ -91,19 +91,6 @@ unknown_more c e es a b known new =
     split true = ap (λ t. length (cond t (e.0 ∷ unknown_ids c es) (unknown_ids c es))) new ∙ one b (unknown_ids c es)
     split false = omega arith
 
-pub unknown_within : (c : Content) (es : Entries) → length (unknown_ids c es) ≤ length es
-unknown_within c [] = omega arith
-unknown_within c (e ∷ es) =
-    let rest : length (unknown_ids c es) ≤ length es = unknown_within c es in
-    let most : (b : Bool) → cond b 1 0 ≤ 1 = λ b. elim b as (λ t. cond t 1 0 ≤ 1) [ true ↦ omega arith | false ↦ omega arith ] in
-    omega (arith, rest, unknown_more c e es _ _ refl refl, most (is_meaningful e.1 && not (finite_set.contains (known_ids c) e.0)))
-
-pub unknown_both : (c : Content) (xs ys : Entries) → length (unknown_ids c (xs ++ ys)) ≡ length (unknown_ids c xs) + length (unknown_ids c ys)
-unknown_both c [] ys = omega arith
-unknown_both c (x ∷ xs) ys =
-    let rest : length (unknown_ids c (xs ++ ys)) ≡ length (unknown_ids c xs) + length (unknown_ids c ys) = unknown_both c xs ys in
-    omega (arith, rest, unknown_more c x (xs ++ ys) _ _ refl refl, unknown_more c x xs _ _ refl refl)
-
 -- the join knows these too, and nothing else
 pub unknown_counted : (c : Content) (es : Entries) → AreOrdered es → finite_set.len (known_ids (join c (content_of_records es))) ≡ finite_set.len (known_ids c) + length (unknown_ids c es)
 unknown_counted c es h =

@@ -83,11 +83,6 @@ pub counts_taken : (n : ℕ) (counts : List ℕ) (bs : Blocks) → AreCounts cou
 counts_taken n counts bs all =
     record { whole = omega (arith, length-take n counts, all.whole); counted = notes_taken IsCount n counts bs all.counted }
 
-pub counts_more : (counts : List ℕ) (n : ℕ) (bs : Blocks) → AreCounts counts bs → length counts * GROUP + GROUP ≤ length bs → IsCount n (length counts * GROUP) (length counts * GROUP + GROUP) bs → AreCounts (counts ++ n ∷ []) bs
-counts_more counts n bs all room one =
-    let more : length (counts ++ n ∷ []) ≡ length counts + 1 = length-append counts (n ∷ []) in
-    record { whole = omega (arith, more, room); counted = notes_more IsCount counts n bs all.counted one }
-
 -- the groups that end before a block
 pub counts_below : (counts : List ℕ) (bs cs : Blocks) (b : ℕ) → AreCounts counts bs → length counts * GROUP ≤ b → b ≤ length bs → take b cs ≡ take b bs → AreCounts counts cs
 counts_below counts bs cs b all early w same =

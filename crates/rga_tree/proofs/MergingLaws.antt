@@ -46,9 +46,6 @@ pub record IsLeastSoFar (p : Identifier → Bool) (ns : Nodes) (count : ℕ) (le
   pub passes : (k : Identifier) → least ≡ Some k → p k ≡ true
   pub bounds : (i : ℕ) (q : Identifier) → i < count → StandsAt ns i q → p q ≡ true → IsAtMost least q
 
-pub least_at_start : (p : Identifier → Bool) (ns : Nodes) → IsLeastSoFar p ns 0 None
-least_at_start p ns = record { passes = λ k h. absurd (none-some k h); bounds = λ i q early. absurd (omega (arith, early)) }
-
 key_there : (ns : Nodes) (i : ℕ) (k : Identifier) (v : Node) → slice_get ns i ≡ Some (k, v) → StandsAt ns i k
 key_there [] i k v h = absurd (none-some _ h)
 key_there (n ∷ ns) zero k v h = ap (option_map (λ (m : Identifier × Node). m.0)) h

@@ -75,15 +75,6 @@ ran_on w v u events i e inside is h step =
     next : (i : ℕ) → i + 1 ≡ suc i
     next i = omega arith
 
-pub ran_all : (w v : World) (events : List Event) (i : ℕ) → length events ≤ i → ran w (take i events) ≡ Ok v → ran w events ≡ Ok v
-ran_all w v events i end h = ap (ran w) (sym (whole events i end)) ∙ h
-  where
-    whole : (xs : List Event) (n : ℕ) → length xs ≤ n → take n xs ≡ xs
-    whole [] zero end = refl
-    whole [] (suc n) end = refl
-    whole (x ∷ xs) zero end = absurd (omega (arith, end))
-    whole (x ∷ xs) (suc n) end = ap (λ ys. x ∷ ys) (whole xs n (omega (arith, end)))
-
 -- what is said of an outcome that is no refusal
 pub said_of_ok : (r : Result (Unit {0}) WorldRefusal) {P : Type 0} → OnOk r P → ((e : WorldRefusal) → r ≡ Err e → ⊥) → P
 said_of_ok (Ok u) h never = h

@@ -94,9 +94,6 @@ pub record AreNew (limit number : ℕ) (xs : List SiteState) : Type 0 where
   pub numbered : AreSites limit xs
   pub empty : sites_of xs ≡ replicate number (site nothing nothing)
 
-pub none_new : (limit : ℕ) → AreNew limit 0 []
-none_new limit = record { counted = refl; numbered = λ i s at. absurd (none-some s at); empty = refl }
-
 push_place : {A : Type 0} (xs : List A) (x y : A) (i : ℕ) → slice_get (xs ++ x ∷ []) i ≡ Some y → ((i ≡ length xs) × (y ≡ x)) ⊎ (slice_get xs i ≡ Some y)
 push_place [] x y zero h = inl (refl, sym (same_Some x y h))
 push_place [] x y (suc i) h = absurd (none-some y h)
