@@ -5,7 +5,7 @@
 //! `all` does the three, and `split` splits a window and takes one away again. The number is a sum
 //! over what comes of it.
 ghost use Rattle.std.specs.Prelude.{◌≡◌, ◌≤◌, length, IfOk};
-ghost use Rattle.mg_screen.specs.Frame.{rows_of};
+ghost use Rattle.mg_screen.specs.Frame.{screen_rows};
 ghost use Rattle.mg_screen.specs.Lines as spec;
 
 use crate::fault::Fault;
@@ -84,7 +84,7 @@ fn work_at(
     old: usize,
 ) -> Result<usize, FrameFault>
     requires within { point ≤ length text.now }
-    requires line { line ≡ spec.line_of text.now point }
+    requires line { line ≡ spec.line_index text.now point }
 {
     let first = match work {
         Work::FirstLine | Work::All => first_line(line, old, HEIGHT),
@@ -99,7 +99,7 @@ fn work_at(
 
 /// A sum over the rows, the place of the cursor, or both.
 fn look(alloc: Global, work: Work, screen: &Screen<'_>) -> Result<usize, FrameFault>
-    requires { rows_of screen.now ≡ 24 }
+    requires { screen_rows screen.now ≡ 24 }
 {
     match work {
         Work::Cursor => Ok(cursor_sum(screen)),
@@ -110,7 +110,7 @@ fn look(alloc: Global, work: Work, screen: &Screen<'_>) -> Result<usize, FrameFa
 
 /// How long the rows are together.
 fn row_sum(alloc: Global, screen: &Screen<'_>) -> Result<usize, FrameFault>
-    requires { rows_of screen.now ≡ 24 }
+    requires { screen_rows screen.now ≡ 24 }
 {
     let mut sum: usize = 0;
     for row in &frame(alloc, ROWS, COLUMNS, screen)? {
@@ -121,7 +121,7 @@ fn row_sum(alloc: Global, screen: &Screen<'_>) -> Result<usize, FrameFault>
 
 /// The row and the column of the cursor together.
 fn cursor_sum(screen: &Screen<'_>) -> usize
-    requires { rows_of screen.now ≡ 24 }
+    requires { screen_rows screen.now ≡ 24 }
 {
     match cursor(COLUMNS, screen, 0) {
         Some(position) => position.row.wrapping_add(position.column),
@@ -138,8 +138,8 @@ fn screen_over<'a>(
     first: usize,
 ) -> Result<Screen<'a>, FrameFault>
     requires within { point ≤ length text.now }
-    requires line { line ≡ spec.line_of text.now point }
-    ensures { IfOk result (λ s. rows_of s ≡ 24) }
+    requires line { line ≡ spec.line_index text.now point }
+    ensures { IfOk result (λ s. screen_rows s ≡ 24) }
 {
     let pane = Pane {
         text,

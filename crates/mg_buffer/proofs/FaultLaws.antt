@@ -7,7 +7,7 @@ use Rattle.rga_ops.specs.declared.refusal.Refusal.TheVariants.{Memory}
 use Rattle.rga_doc.specs.LocalEdit.{edit_answer, splices_answer}
 use Rattle.mg_plain.specs.declared.command.Command.{Command}
 use Rattle.mg_plain.specs.Commands.{effect}
-use Rattle.mg_plain.specs.Effect.{Effect, IsWithin}
+use Rattle.mg_plain.specs.Effect.{Effect, IsWithinText}
 use Rattle.mg_plain.proofs.EffectLaws.{effect-within}
 use Rattle.mg_buffer.specs.declared.fault.BufferFault.TheVariants.{Store}
 use Rattle.mg_buffer.specs.Faults.{stored, planned_answer, run_answer}
@@ -17,7 +17,7 @@ use Rattle.mg_buffer.proofs.PlaceLaws.{is_view}
 
 module _ (command : Command) (n column : ℕ) (b : State) (notes : Notes) (plan : Effect) (due : effect command n (situation_of b notes) column ≡ Ok plan) where
   -- what a command does stays within the text
-  pub plan_within : IsWithin (situation_of b notes) plan
+  pub plan_within : IsWithinText (situation_of b notes) plan
   plan_within = effect-within command n (situation_of b notes) column plan (is_view b notes) due
 
   pub answer_is : run_answer command n column b notes ≡ stored (splices_answer b.limit b.content plan.splices)

@@ -6,7 +6,7 @@ use Rattle.std.proofs.Math.Nat.{min-le_left, min-le_right, min-eq_left}
 use Rattle.rga_ops.specs.Splice.{Splice, spliced, text_after}
 use Rattle.mg_text.specs.Characters.{is_newline}
 use Rattle.mg_buffer.specs.declared.line_numbers.KnownLine.{KnownLine}
-use Rattle.mg_buffer.specs.Kept.{IsLine}
+use Rattle.mg_buffer.specs.Kept.{IsLineOfPlace}
 use Rattle.mg_buffer.specs.LineNumbers.{line_of, least_begin}
 
 -- of two places the one behind has the newlines between both more
@@ -27,18 +27,18 @@ within_same n xs ys same within =
 
 -- ---- known lines
 
-pub first_line : (text : List ℕ) (line : KnownLine) → line.place ≡ 0 → line.number ≡ 0 → IsLine text line
+pub first_line : (text : List ℕ) (line : KnownLine) → line.place ≡ 0 → line.number ≡ 0 → IsLineOfPlace text line
 first_line text line at none = record { within = omega (arith, at); numbered = none ∙ ap (line_of text) (sym at) }
 
 -- a line stays where the text up to its place does
-pub line_stays : (old new : List ℕ) (line : KnownLine) → take line.place new ≡ take line.place old → IsLine old line → IsLine new line
+pub line_stays : (old new : List ℕ) (line : KnownLine) → take line.place new ≡ take line.place old → IsLineOfPlace old line → IsLineOfPlace new line
 line_stays old new line same known = record {
   within = within_same line.place new old same known.within;
   numbered = known.numbered ∙ ap (count_by is_newline) (sym same);
 }
 
 -- and so where more of it does
-pub line_in_front : (old new : List ℕ) (front : ℕ) (line : KnownLine) → line.place ≤ front → take front new ≡ take front old → IsLine old line → IsLine new line
+pub line_in_front : (old new : List ℕ) (front : ℕ) (line : KnownLine) → line.place ≤ front → take front new ≡ take front old → IsLineOfPlace old line → IsLineOfPlace new line
 line_in_front old new front line early same known =
     line_stays old new line (sym (take_of_front new) ∙ ap (take line.place) same ∙ take_of_front old) known
   where

@@ -7,7 +7,7 @@ use Rattle.std.proofs.lemmas.Option.{slice_get-get_or, slice_get_within}
 use Rattle.std.proofs.lemmas.List.{map-append, take_more}
 use Rattle.mg_slots.specs.Slots.{with_element, with_elements}
 use Rattle.rga_ops.specs.Identifier.{Identifier, is_id, root}
-use Rattle.mg_buffer.specs.Slots.{element_in, deleted_by, AreIn, AreDeletedIn}
+use Rattle.mg_buffer.specs.Slots.{element_at_slot, deleted_at_slot, AreIn, AreDeletedIn}
 
 -- ---- lists that grow
 
@@ -63,7 +63,7 @@ pub slots_more : (old new : List Identifier) → Grows old new → (slots : List
 slots_more old new g slots ids s id h at =
     map-append (slice_get new) slots (s ∷ []) ∙ (λ k. slots_kept old new g slots ids h k ++ at k ∷ []) ∙ sym (map-append Some ids (id ∷ []))
 
-pub elements_are : (elements : List Identifier) (slots : List ℕ) (ids : List Identifier) → AreIn elements slots ids → map (element_in elements) slots ≡ ids
+pub elements_are : (elements : List Identifier) (slots : List ℕ) (ids : List Identifier) → AreIn elements slots ids → map (element_at_slot elements) slots ≡ ids
 elements_are elements [] [] h = refl
 elements_are elements [] (id ∷ ids) h = let clash : map (slice_get elements) [] ≡ Some id ∷ map Some ids = h in cc
 elements_are elements (s ∷ slots) [] h = let clash : slice_get elements s ∷ map (slice_get elements) slots ≡ map Some [] = h in cc
@@ -107,7 +107,7 @@ pub deleted_more : (old new : List Identifier) → Grows old new → (slots : Li
 deleted_more old new g slots deleted s d h at =
     map-append (found_in new) slots ((s, d.1) ∷ []) ∙ (λ k. deleted_kept old new g slots deleted h k ++ (at k, d.1) ∷ []) ∙ sym (map-append found deleted (d ∷ []))
 
-pub deleted_are : (elements : List Identifier) (slots : List (ℕ × ℕ)) (deleted : List (Identifier × ℕ)) → AreDeletedIn elements slots deleted → map (deleted_by elements) slots ≡ deleted
+pub deleted_are : (elements : List Identifier) (slots : List (ℕ × ℕ)) (deleted : List (Identifier × ℕ)) → AreDeletedIn elements slots deleted → map (deleted_at_slot elements) slots ≡ deleted
 deleted_are elements [] [] h = refl
 deleted_are elements [] (d ∷ deleted) h = let clash : map (found_in elements) [] ≡ found d ∷ map found deleted = h in cc
 deleted_are elements (b ∷ slots) [] h = let clash : found_in elements b ∷ map (found_in elements) slots ≡ map found [] = h in cc
@@ -131,7 +131,7 @@ pub mapped_more : {A B : Type 0} (f : A → B) (xs : List A) (i : ℕ) (x : A) �
 mapped_more f xs i x within is = ap (map f) (taken_more xs i x within is) ∙ map-append f (take i xs) (x ∷ [])
 
 -- the element that is read at a slot
-pub element_is : (elements : List Identifier) (slot : ℕ) (id : Identifier) → slot < length elements → id ≡ get_or elements slot id → element_in elements slot ≡ id
+pub element_is : (elements : List Identifier) (slot : ℕ) (id : Identifier) → slot < length elements → id ≡ get_or elements slot id → element_at_slot elements slot ≡ id
 element_is elements slot id within is = ap (λ o. unwrap_or o root) (slice_get-get_or elements slot id within) ∙ sym is
 
 pub all_at : {A : Type 0} (P : A → Type 0) (xs : List A) (i : ℕ) (x : A) → AllByRecursion P xs → i < length xs → x ≡ get_or xs i x → P x

@@ -18,7 +18,7 @@ use Rattle.rga_ops.specs.declared.refusal.Refusal.TheVariants.{Conflict, Full, M
 use Rattle.rga_doc.specs.Document.{Document}
 use Rattle.rga_doc.specs.Following.{Follows as DocumentFollows}
 use Rattle.mg_buffer.specs.State.{State}
-use Rattle.mg_buffer.specs.Following.{Follows, follows_nothing}
+use Rattle.mg_buffer.specs.Following.{TakesOperations, takes_no_operations}
 
 -- ---- refusals
 
@@ -26,8 +26,8 @@ pub match_err : {T E : Type 0} (P : T → Type 0) (Q : Type 0) (r : Result T E) 
 match_err P Q (Ok x) h q = absurd (true≢false (sym h))
 match_err P Q (Err e) h q = q
 
-pub follows_same : (b d : State) → d ≡ b → Follows b [] d
-follows_same b d same = subst (Follows b []) (sym same) (follows_nothing b)
+pub follows_same : (b d : State) → d ≡ b → TakesOperations b [] d
+follows_same b d same = subst (TakesOperations b []) (sym same) (takes_no_operations b)
 
 -- a document that took nothing is the same
 pub same_document : (d e : Document) → e.content ≡ d.content → e.limit ≡ d.limit → DocumentFollows d [] e → e ≡ d
@@ -54,7 +54,7 @@ list_without_memory limit c ops = by (all_checked ops) refl
 
 -- ---- what is known
 
-pub follows_known : (limit : ℕ) (b : State) (op : Op) → answer limit b.content op ≡ Ok Known → Follows b (op ∷ []) b
+pub follows_known : (limit : ℕ) (b : State) (op : Op) → answer limit b.content op ≡ Ok Known → TakesOperations b (op ∷ []) b
 follows_known limit b op h = record {
   content = sym (ap (join b.content) (join_nothing (single op)) ∙ held_adds_nothing b.content op ((known-iff limit b.content op).0 h).1);
   unsaved = sym (ap (λ xs. b.unsaved ++ xs) (none_if_known limit b.content op h) ∙ append-nil b.unsaved);

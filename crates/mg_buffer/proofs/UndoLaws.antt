@@ -11,7 +11,7 @@ use Rattle.rga_doc.specs.Revert.{revert_operations}
 use Rattle.rga_doc.proofs.UndoApart.{undo_of_edit}
 use Rattle.mg_plain.specs.declared.command.Command.{Command}
 use Rattle.mg_buffer.specs.Groups.{Past, past_of, with_group, last_group, group_to_undo}
-use Rattle.mg_buffer.specs.Ran.{Ran, operations_of}
+use Rattle.mg_buffer.specs.Ran.{Ran, operations_of_splices}
 use Rattle.mg_buffer.specs.Sight.{Notes}
 use Rattle.mg_buffer.specs.State.{State}
 use Rattle.mg_buffer.specs.Undid.{Undid}
@@ -30,9 +30,9 @@ added : (groups : List Past) (g : Past) (ops : List Op) → ops ≢ [] → with_
 added groups g [] some = absurd (some refl)
 added groups g (op ∷ ops) some = refl
 
-pub undone_text : (command : Command) (n column : ℕ) (before between after : State) (first second third : Notes) (ran : Ran command n column before first between second) → operations_of before ran.plan.splices ≢ [] → Undid between second after third → text after.content ≡ text before.content
+pub undone_text : (command : Command) (n column : ℕ) (before between after : State) (first second third : Notes) (ran : Ran command n column before first between second) → operations_of_splices before ran.plan.splices ≢ [] → Undid between second after third → text after.content ≡ text before.content
 undone_text command n column before between after first second third ran some undid =
-    let ops : List Op = operations_of before ran.plan.splices in
+    let ops : List Op = operations_of_splices before ran.plan.splices in
     let past : Past = past_of before.content ops in
     let groups : between.groups ≡ before.groups ++ past ∷ [] = ran.edited.groups ∙ added before.groups past ops some in
     let taken : Some (undid.index, undid.group) ≡ Some (length before.groups, past) =

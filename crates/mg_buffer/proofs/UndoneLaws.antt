@@ -16,7 +16,7 @@ use Rattle.rga_doc.specs.Revert.{are_restorable, revert_operations}
 use Rattle.rga_doc.proofs.UndoLists.{as_many_inserted}
 use Rattle.mg_buffer.specs.Groups.{Past, past_of, with_group, are_revertible, stand_in, substituted, all_substituted}
 use Rattle.mg_slots.specs.Slots.{with_elements}
-use Rattle.mg_buffer.specs.Slots.{Slotted, element_in, deleted_by, past_by, pasts_by, AreFilled, AreOld, AreStandIns, deleted_ones}
+use Rattle.mg_buffer.specs.Slots.{Slotted, element_at_slot, deleted_at_slot, past_by, pasts_by, AreFilledSlots, AreOld, AreStandIns, deleted_ones}
 use Rattle.mg_buffer.proofs.GroupLaws.{revertible_at}
 use Rattle.mg_buffer.proofs.HistoryLaws.{filled_at, map-with_group}
 use Rattle.mg_buffer.proofs.OldLaws.{with_old, substituted_old}
@@ -26,12 +26,12 @@ use Rattle.mg_buffer.proofs.StandInLaws.{AreThere, revert_stands_in, substituted
 
 -- ---- what is in slots is there
 
-in_its_slot : (elements : List Identifier) (s : ℕ) → s < length elements → list_any (is_id (element_in elements s)) elements ≡ true
+in_its_slot : (elements : List Identifier) (s : ℕ) → s < length elements → list_any (is_id (element_at_slot elements s)) elements ≡ true
 in_its_slot [] s within = absurd (omega (arith, within))
 in_its_slot (x ∷ xs) zero within = or_left (is_id x x) (list_any (is_id x) xs) (is_id-itself x)
-in_its_slot (x ∷ xs) (suc s) within = or_right (is_id (element_in xs s) x) (list_any (is_id (element_in xs s)) xs) (in_its_slot xs s (omega (arith, within)))
+in_its_slot (x ∷ xs) (suc s) within = or_right (is_id (element_at_slot xs s) x) (list_any (is_id (element_at_slot xs s)) xs) (in_its_slot xs s (omega (arith, within)))
 
-all_in_slots : (elements : List Identifier) (slots : List (ℕ × ℕ)) → AllByRecursion (λ (b : ℕ × ℕ). b.0 < length elements) slots → AreThere elements (map (deleted_by elements) slots)
+all_in_slots : (elements : List Identifier) (slots : List (ℕ × ℕ)) → AllByRecursion (λ (b : ℕ × ℕ). b.0 < length elements) slots → AreThere elements (map (deleted_at_slot elements) slots)
 all_in_slots elements [] h = tt
 all_in_slots elements (b ∷ slots) h = (in_its_slot elements b.0 h.0, all_in_slots elements slots h.1)
 
@@ -51,7 +51,7 @@ group_of elements [] i undone at = let clash : None ≡ Some undone = at in cc
 group_of elements (g ∷ groups) zero undone at = (g, refl, sym (same_Some (past_by elements g) undone at))
 group_of elements (g ∷ groups) (suc i) undone at = group_of elements groups i undone at
 
-module _ (replica : ℕ) (c : Content) (elements : List Identifier) (groups : List Slotted) (filled : AreFilled elements groups) (old : AreOld c elements) (revertible : are_revertible c (pasts_by elements groups) ≡ true) (i : ℕ) (undone : Past) (at : slice_get (pasts_by elements groups) i ≡ Some undone) where
+module _ (replica : ℕ) (c : Content) (elements : List Identifier) (groups : List Slotted) (filled : AreFilledSlots elements groups) (old : AreOld c elements) (revertible : are_revertible c (pasts_by elements groups) ≡ true) (i : ℕ) (undone : Past) (at : slice_get (pasts_by elements groups) i ≡ Some undone) where
   abbrev pub ops : List Op
   ops = revert_operations replica c undone.inserted undone.deleted
 
@@ -68,7 +68,7 @@ module _ (replica : ℕ) (c : Content) (elements : List Identifier) (groups : Li
   -- as many are restored as the group deleted
   pub as_many_restored : (g : Slotted) → slice_get groups i ≡ Some g → length g.deleted ≡ length (past_of c ops).inserted
   as_many_restored g here =
-      sym (length-map g.deleted (deleted_by elements)) ∙ ap (λ (x : Past). length x.deleted) (sym (undone_is g here))
+      sym (length-map g.deleted (deleted_at_slot elements)) ∙ ap (λ (x : Past). length x.deleted) (sym (undone_is g here))
       ∙ sym (as_many_inserted replica c undone.inserted undone.deleted)
 
   known_old : AreOld c known

@@ -28,8 +28,8 @@ abbrev pub FaultVerdict : Type 0
 FaultVerdict = Result (Unit {0}) BufferFault
 
 -- the result is as the verdict says, want of memory aside
-abbrev pub IsAnswer : FaultVerdict → FaultVerdict → Type 0
-IsAnswer r verdict = MatchResult r (λ _. verdict ≡ Ok tt) (λ e. (e ≡ Store Memory) ⊎ (verdict ≡ Err e))
+abbrev pub IsFaultAnswer : FaultVerdict → FaultVerdict → Type 0
+IsFaultAnswer r verdict = MatchResult r (λ _. verdict ≡ Ok tt) (λ e. (e ≡ Store Memory) ⊎ (verdict ≡ Err e))
 
 abbrev pub stored : Verdict → FaultVerdict
 stored (Ok u) = Ok tt

@@ -9,18 +9,18 @@ use Rattle.rga_ops.proofs.NewLaws.{new_in_parts}
 use Rattle.mg_buffer.specs.State.{State}
 
 -- `unsaved` grows by exactly those that were new, in order; point, mark, groups and all else stay
-pub record Follows (b : State) (ops : List Op) (d : State) : Type 0 where
+pub record TakesOperations (b : State) (ops : List Op) (d : State) : Type 0 where
   pub content : d.content ≡ join b.content (content_of ops)
   pub unsaved : d.unsaved ≡ b.unsaved ++ new_operations b.content ops
   pub rest : d ≡ record b { content = d.content; unsaved = d.unsaved }
 
 -- to take nothing changes nothing
-pub follows_nothing : (b : State) → Follows b [] b
-follows_nothing b = record { content = sym (join_nothing b.content); unsaved = sym (append-nil b.unsaved); rest = refl }
+pub takes_no_operations : (b : State) → TakesOperations b [] b
+takes_no_operations b = record { content = sym (join_nothing b.content); unsaved = sym (append-nil b.unsaved); rest = refl }
 
 -- operations may be taken in parts
-pub follows_on : (b d e : State) (xs ys : List Op) → Follows b xs d → Follows d ys e → Follows b (xs ++ ys) e
-follows_on b d e xs ys f g = record {
+pub takes_more_operations : (b d e : State) (xs ys : List Op) → TakesOperations b xs d → TakesOperations d ys e → TakesOperations b (xs ++ ys) e
+takes_more_operations b d e xs ys f g = record {
   content = g.content ∙ ap (λ c. join c (content_of ys)) f.content ∙ join_assoc b.content (content_of xs) (content_of ys) ∙ ap (join b.content) (sym (content_of-append xs ys));
   unsaved = g.unsaved ∙ (λ k. f.unsaved k ++ new_operations (f.content k) ys)
       ∙ append_assoc b.unsaved (new_operations b.content xs) (new_operations (join b.content (content_of xs)) ys)

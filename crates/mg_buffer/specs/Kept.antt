@@ -10,7 +10,7 @@ use Rattle.mg_buffer.specs.declared.line_numbers.KnownLine.{KnownLine}
 use Rattle.mg_buffer.specs.declared.marker.Marker.{Marker}
 use Rattle.mg_buffer.specs.Groups.{are_revertible}
 use Rattle.mg_buffer.specs.LineNumbers.{line_of}
-use Rattle.mg_buffer.specs.Slots.{Slotted, AreFilled, AreOld, pasts_by}
+use Rattle.mg_buffer.specs.Slots.{Slotted, AreFilledSlots, AreOld, pasts_by}
 
 -- the element has a place
 abbrev pub stands : Content → Marker → Bool
@@ -21,7 +21,7 @@ abbrev pub IsPlaced : Content → Marker → Type 0
 IsPlaced c s = place c s.element ≡ Some s.place
 
 -- the number is that of the line in which the place stands, which is in the text
-pub record IsLine (text : List ℕ) (line : KnownLine) : Type 0 where
+pub record IsLineOfPlace (text : List ℕ) (line : KnownLine) : Type 0 where
   pub within : line.place ≤ length text
   pub numbered : line.number ≡ line_of text line.place
 
@@ -34,11 +34,11 @@ pub record IsAtHand (d : Document) (point : Marker) (line : KnownLine) (mark : O
 
 -- point and mark have places, and a line is known; there are elements in the slots of the groups, none newer than the clock, by which every
 -- group can be reverted; and what is listed is at hand
-pub record IsKept (d : Document) (point : Marker) (line : KnownLine) (mark : Option Marker) (elements : List Identifier) (groups : List Slotted) (listed : Bool) : Type 0 where
+pub record IsKeptBuffer (d : Document) (point : Marker) (line : KnownLine) (mark : Option Marker) (elements : List Identifier) (groups : List Slotted) (listed : Bool) : Type 0 where
   pub point_stands : stands d.content point ≡ true
   pub mark_stands : option_map_or (stands d.content) mark true ≡ true
-  pub line_known : IsLine (text d.content) line
-  pub filled : AreFilled elements groups
+  pub line_known : IsLineOfPlace (text d.content) line
+  pub filled : AreFilledSlots elements groups
   pub old : AreOld d.content elements
   pub revertible : are_revertible d.content (pasts_by elements groups) ≡ true
   pub at_hand : listed ≡ true → IsAtHand d point line mark

@@ -14,20 +14,20 @@ use Rattle.mg_buffer.specs.State.{State}
 use Rattle.mg_buffer.specs.Sight.{Notes, notes_after, situation_of}
 
 -- the operations that splices stand for at a buffer
-abbrev pub operations_of : State → List Splice → List Op
-operations_of b splices = splices_operations b.replica b.content splices
+abbrev pub operations_of_splices : State → List Splice → List Op
+operations_of_splices b splices = splices_operations b.replica b.content splices
 
 -- The splices were taken, with all that comes with it: point and mark stand behind exactly the elements that are left of
 -- their places in the new text.
 pub record Edited (splices : List Splice) (at : ℕ) (mark_at : Option ℕ) (b d : State) : Type 0 where
   pub allowed : splices_answer b.limit b.content splices ≡ Ok tt
-  pub content : d.content ≡ join b.content (content_of (operations_of b splices))
+  pub content : d.content ≡ join b.content (content_of (operations_of_splices b splices))
   pub text : text d.content ≡ text_after (text b.content) splices
   pub point : element_behind d.content at ≡ Some d.point
   pub mark : option_map (element_behind d.content) mark_at ≡ option_map Some d.mark
-  pub groups : d.groups ≡ with_group b.groups (past_of b.content (operations_of b splices)) (operations_of b splices)
+  pub groups : d.groups ≡ with_group b.groups (past_of b.content (operations_of_splices b splices)) (operations_of_splices b splices)
   pub undone : d.undone ≡ None
-  pub unsaved : d.unsaved ≡ b.unsaved ++ operations_of b splices
+  pub unsaved : d.unsaved ≡ b.unsaved ++ operations_of_splices b splices
   pub name : d.name ≡ b.name
   pub limit : d.limit ≡ b.limit
   pub replica : d.replica ≡ b.replica

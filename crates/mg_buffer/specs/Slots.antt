@@ -20,14 +20,14 @@ slotted_code = code_by (List ℕ × List (ℕ × ℕ)) (coded× (coded_list code
 
 -- ---- what groups are about, by the elements in the slots
 
-abbrev pub element_in : List Identifier → ℕ → Identifier
-element_in elements slot = unwrap_or (slice_get elements slot) root
+abbrev pub element_at_slot : List Identifier → ℕ → Identifier
+element_at_slot elements slot = unwrap_or (slice_get elements slot) root
 
-abbrev pub deleted_by : List Identifier → ℕ × ℕ → Identifier × ℕ
-deleted_by elements b = (element_in elements b.0, b.1)
+abbrev pub deleted_at_slot : List Identifier → ℕ × ℕ → Identifier × ℕ
+deleted_at_slot elements b = (element_at_slot elements b.0, b.1)
 
 abbrev pub past_by : List Identifier → Slotted → Past
-past_by elements g = record { inserted = map (element_in elements) g.inserted; deleted = map (deleted_by elements) g.deleted }
+past_by elements g = record { inserted = map (element_at_slot elements) g.inserted; deleted = map (deleted_at_slot elements) g.deleted }
 
 abbrev pub pasts_by : List Identifier → List Slotted → List Past
 pasts_by elements groups = map (past_by elements) groups
@@ -37,8 +37,8 @@ pub record IsFilled (elements : List Identifier) (g : Slotted) : Type 0 where
   pub inserted : AllByRecursion (λ s. s < length elements) g.inserted
   pub deleted : AllByRecursion (λ (b : ℕ × ℕ). b.0 < length elements) g.deleted
 
-abbrev pub AreFilled : List Identifier → List Slotted → Type 0
-AreFilled elements groups = AllByRecursion (IsFilled elements) groups
+abbrev pub AreFilledSlots : List Identifier → List Slotted → Type 0
+AreFilledSlots elements groups = AllByRecursion (IsFilled elements) groups
 
 -- no counter among the elements is above the clock
 abbrev pub AreOld : Content → List Identifier → Type 0

@@ -46,7 +46,7 @@ impl<S: TextStore> Model for Buffer<S> {
     ghost use Rattle.std.specs.Option.{option_map};
     ghost use Rattle.std.specs.String.{string_bytes};
     ghost use Rattle.mg_buffer.specs.State.{State, state_code, state};
-    ghost use Rattle.mg_buffer.specs.Kept.{IsKept};
+    ghost use Rattle.mg_buffer.specs.Kept.{IsKeptBuffer};
     ghost use Rattle.mg_buffer.specs.Slots.{pasts_by};
 
     ghost Value = { State };
@@ -58,7 +58,7 @@ impl<S: TextStore> Model for Buffer<S> {
         (pasts_by b.history.elements.elements b.history.groups.items)
         b.undone b.unsaved.items };
 
-    ghost invariant = { λ b. IsKept b.doc b.point b.line b.mark
+    ghost invariant = { λ b. IsKeptBuffer b.doc b.point b.line b.mark
         b.history.elements.elements b.history.groups.items b.listed };
 }
 

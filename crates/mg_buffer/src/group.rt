@@ -1,7 +1,7 @@
 //! Undo groups.
 ghost use Rattle.std.specs.Prelude.{◌≡◌, ◌<◌, length, map, IfOk, IfErr};
 ghost use Rattle.std.specs.List.{AllByRecursion};
-ghost use Rattle.mg_buffer.specs.Slots.{IsFilled, deleted_by, element_in, past_by};
+ghost use Rattle.mg_buffer.specs.Slots.{IsFilled, deleted_at_slot, element_at_slot, past_by};
 
 use crate::change::Change;
 use rga_ops::{Id, Refusal};
@@ -42,7 +42,7 @@ impl Group {
 /// The elements in slots. `Memory` alone.
 fn elements_in(alloc: Global, elements: &[Id], slots: &[usize]) -> Result<Vec<Id>, Refusal>
     requires { AllByRecursion (λ s. s < length elements.now) slots.now }
-    ensures ok { IfOk result (λ ids. ids.items ≡ map (element_in elements.now) slots.now) }
+    ensures ok { IfOk result (λ ids. ids.items ≡ map (element_at_slot elements.now) slots.now) }
     ensures memory { IfErr result (λ e. e ≡ Refusal.Memory) }
 {
     let mut ids = Vec::new(alloc);
@@ -60,7 +60,7 @@ fn deleted_in(
 ) -> Result<Vec<(Id, char)>, Refusal>
     requires { AllByRecursion (λ b. b.0 < length elements.now) slots.now }
     ensures ok { IfOk result
-        (λ deleted. deleted.items ≡ map (deleted_by elements.now) slots.now) }
+        (λ deleted. deleted.items ≡ map (deleted_at_slot elements.now) slots.now) }
     ensures memory { IfErr result (λ e. e ≡ Refusal.Memory) }
 {
     let mut deleted = Vec::new(alloc);

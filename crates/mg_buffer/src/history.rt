@@ -6,7 +6,7 @@ ghost use Rattle.rga_doc.specs.UndoGroup.{inserted_elements};
 ghost use Rattle.mg_buffer.specs.Groups.{all_substituted, stand_in, with_group};
 ghost use Rattle.mg_buffer.specs.Room.{HasRoom};
 ghost use Rattle.mg_slots.specs.Slots.{with_elements};
-ghost use Rattle.mg_buffer.specs.Slots.{AreFilled, AreStandIns, Slotted, deleted_ones, past_by, pasts_by, with_past};
+ghost use Rattle.mg_buffer.specs.Slots.{AreFilledSlots, AreStandIns, Slotted, deleted_ones, past_by, pasts_by, with_past};
 
 use crate::change::Change;
 use crate::group::Group;
@@ -48,7 +48,7 @@ impl History {
     /// What the group at an index did, by the elements that are in its slots now. `Memory` alone.
     pub(crate) fn change_at(&self, alloc: Global, index: usize) -> Result<Change, Refusal>
         requires within { index < length self.now.groups.items }
-        requires filled { AreFilled self.now.elements.elements self.now.groups.items }
+        requires filled { AreFilledSlots self.now.elements.elements self.now.groups.items }
         ensures ok { IfOk result (λ change. slice_get
             (pasts_by self.now.elements.elements self.now.groups.items) index ≡ Some change) }
         ensures memory { IfErr result (λ e. e ≡ Refusal.Memory) }
@@ -86,12 +86,12 @@ impl History {
     /// Adds the group of what a command did, unless there was no operation. There is room.
     pub(crate) fn add(&mut self, room: Room, change: &Change, ops: &[Op])
         requires room { HasRoom self.old room change.now }
-        requires filled { AreFilled self.old.elements.elements self.old.groups.items }
+        requires filled { AreFilledSlots self.old.elements.elements self.old.groups.items }
         ensures pasts { pasts_by self.new.elements.elements self.new.groups.items
             ≡ with_group (pasts_by self.old.elements.elements self.old.groups.items) change.now ops.now }
         ensures elements { self.new.elements.elements
             ≡ with_past self.old.elements.elements change.now }
-        ensures filled { AreFilled self.new.elements.elements self.new.groups.items }
+        ensures filled { AreFilledSlots self.new.elements.elements self.new.groups.items }
     {
         let Room {
             mut inserted,
@@ -109,7 +109,7 @@ impl History {
         requires within { index < length self.old.groups.items }
         requires room { HasRoom self.old room change.now }
         requires single { room.is_row ≡ false }
-        requires filled { AreFilled self.old.elements.elements self.old.groups.items }
+        requires filled { AreFilledSlots self.old.elements.elements self.old.groups.items }
         requires restored { (g : Slotted) → slice_get self.old.groups.items index ≡ Some g →
             length g.deleted ≡ length change.now.inserted }
         requires inserted { inserted_elements ops.now ≡ change.now.inserted }
@@ -123,7 +123,7 @@ impl History {
             (record { inserted = restored; deleted = change.now.deleted }) ops.now) }
         ensures elements { self.new.elements.elements ≡ map (stand_in ops.now)
             (with_elements self.old.elements.elements (deleted_ones change.now.deleted)) }
-        ensures filled { AreFilled self.new.elements.elements self.new.groups.items }
+        ensures filled { AreFilledSlots self.new.elements.elements self.new.groups.items }
     {
         let Room {
             mut inserted,

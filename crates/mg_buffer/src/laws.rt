@@ -7,7 +7,7 @@ ghost use Rattle.rga_ops.specs.Order.{order, text};
 ghost use Rattle.rga_ops.specs.Took.{Took};
 ghost use Rattle.rga_ops.specs.declared.op.Op.{Op as Operation};
 ghost use Rattle.mg_plain.specs.declared.command.Command.{Command as Action};
-ghost use Rattle.mg_buffer.specs.Ran.{Ran, operations_of};
+ghost use Rattle.mg_buffer.specs.Ran.{Ran, operations_of_splices};
 ghost use Rattle.mg_buffer.specs.Sight.{Notes};
 ghost use Rattle.mg_buffer.specs.State.{State};
 ghost use Rattle.mg_buffer.specs.Undid.{Undid};
@@ -20,7 +20,7 @@ use rga_store::laws::replicas_that_took_the_same_show_the_same;
 pub fn undoing_a_command_gives_the_text_before()
     ensures { (command : Action) (n column : ℕ) (before between after : State)
         (first second third : Notes) (ran : Ran command n column before first between second) →
-        operations_of before ran.plan.splices ≢ [] → Undid between second after third →
+        operations_of_splices before ran.plan.splices ≢ [] → Undid between second after third →
         text after.content ≡ text before.content }
 {}
 

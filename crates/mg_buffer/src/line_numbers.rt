@@ -1,6 +1,6 @@
 //! The line of a place: counted, or moved to another place.
 ghost use Rattle.std.specs.Prelude.{◌≡◌, ◌≤◌, ℕ, List, take, length, count_by};
-ghost use Rattle.mg_buffer.specs.Kept.{IsLine};
+ghost use Rattle.mg_buffer.specs.Kept.{IsLineOfPlace};
 ghost use Rattle.mg_buffer.specs.declared.line_numbers.TheConstants.{BLOCK};
 ghost use Rattle.mg_buffer.specs.LineNumbers as spec;
 ghost use Rattle.mg_text.specs.Characters.{is_newline};
@@ -65,9 +65,9 @@ impl KnownLine {
 
     /// That of another place, so that no more is looked at than what stands between both.
     pub(crate) fn moved(self, text: &[char], place: usize) -> KnownLine
-        requires line { IsLine text.now self }
+        requires line { IsLineOfPlace text.now self }
         requires place { place ≤ length text.now }
-        ensures line { IsLine text.now result }
+        ensures line { IsLineOfPlace text.now result }
         ensures place { result.place ≡ place }
     {
         if place <= self.place {
@@ -81,8 +81,8 @@ impl KnownLine {
     /// The same where so many characters at the front stayed, and that of the front where its place
     /// is behind them.
     pub(crate) fn kept_in(self, front: usize) -> KnownLine
-        ensures { (old new : List ℕ) → take front new ≡ take front old → IsLine old self →
-            IsLine new result }
+        ensures { (old new : List ℕ) → take front new ≡ take front old → IsLineOfPlace old self →
+            IsLineOfPlace new result }
     {
         if self.place <= front {
             return self;

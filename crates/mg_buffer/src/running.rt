@@ -5,7 +5,7 @@ ghost use Rattle.rga_ops.specs.ListAnswer.{IsAnswer};
 ghost use Rattle.rga_ops.specs.Splice.{text_after};
 ghost use Rattle.rga_doc.specs.LocalEdit.{splices_answer};
 ghost use Rattle.mg_plain.specs.Commands.{effect};
-ghost use Rattle.mg_buffer.specs.Faults.{IsAnswer as IsFaultAnswer, run_answer};
+ghost use Rattle.mg_buffer.specs.Faults.{IsFaultAnswer, run_answer};
 ghost use Rattle.mg_buffer.specs.Ran.{Edited, Ran};
 ghost use Rattle.mg_buffer.specs.Sight.{situation_of};
 ghost use Rattle.rga_ops.specs.declared.refusal.Refusal.TheVariants.{Memory};

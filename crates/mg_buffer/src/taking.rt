@@ -1,6 +1,6 @@
 //! Operations that a buffer takes from elsewhere.
 ghost use Rattle.std.specs.Prelude.{◌≡◌, List, ℕ, [], true};
-ghost use Rattle.mg_buffer.specs.Kept.{IsLine};
+ghost use Rattle.mg_buffer.specs.Kept.{IsLineOfPlace};
 
 use crate::buffer::Buffer;
 use crate::line_numbers::KnownLine;
@@ -9,7 +9,7 @@ use rga_ops::{Op, Refusal, Taken};
 use rga_store::{Taker, TextStore, answer_at, early_answer_at, new_operations_at};
 
 impl<S: TextStore> Taker for Buffer<S> {
-    ghost use Rattle.mg_buffer.specs.Following.{Follows, follows_nothing, follows_on};
+    ghost use Rattle.mg_buffer.specs.Following.{TakesOperations, takes_no_operations, takes_more_operations};
 
     ghost content = { λ b. b.content };
 
@@ -17,11 +17,11 @@ impl<S: TextStore> Taker for Buffer<S> {
 
     ghost may_grow = { λ b op. Unit {0} };
 
-    ghost follows = { λ b ops d. Follows b ops d };
+    ghost follows = { λ b ops d. TakesOperations b ops d };
 
-    ghost follows_nothing = { λ b. follows_nothing b };
+    ghost follows_nothing = { λ b. takes_no_operations b };
 
-    ghost follows_on = { λ b d e xs ys f g. follows_on b d e xs ys f g };
+    ghost follows_on = { λ b d e xs ys f g. takes_more_operations b d e xs ys f g };
 
     fn apply(&mut self, op: Op) -> Result<Taken, Refusal> {
         if answer_at(self.doc.store(), op)? == Taken::Known {
@@ -58,8 +58,8 @@ fn stays_listed(listed: bool, ops: &[Op]) -> bool
 /// The line that is known once operations were taken: where there was none, it is the same.
 fn stays_known(line: KnownLine, ops: &[Op]) -> KnownLine
     ensures kept { ops.now ≡ [] → result ≡ line }
-    ensures known { (old new : List ℕ) → (ops.now ≡ [] → new ≡ old) → IsLine old line →
-        IsLine new result }
+    ensures known { (old new : List ℕ) → (ops.now ≡ [] → new ≡ old) → IsLineOfPlace old line →
+        IsLineOfPlace new result }
 {
     if ops.is_empty() {
         return line;

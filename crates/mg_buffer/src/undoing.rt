@@ -4,9 +4,9 @@ ghost use Rattle.std.specs.Option.{option_map};
 ghost use Rattle.std.specs.List.{slice_get};
 ghost use Rattle.rga_ops.specs.ListAnswer.{IsAnswer};
 ghost use Rattle.rga_ops.specs.Order.{text};
-ghost use Rattle.mg_buffer.specs.Faults.{IsAnswer as IsFaultAnswer, growth_answer, undo_answer};
+ghost use Rattle.mg_buffer.specs.Faults.{IsFaultAnswer, growth_answer, undo_answer};
 ghost use Rattle.mg_buffer.specs.Groups.{Past, group_to_undo};
-ghost use Rattle.mg_buffer.specs.Kept.{IsLine};
+ghost use Rattle.mg_buffer.specs.Kept.{IsLineOfPlace};
 ghost use Rattle.mg_buffer.specs.Undid.{Reverted, Undid};
 ghost use Rattle.rga_ops.specs.declared.refusal.Refusal.TheVariants.{Memory};
 ghost use Rattle.mg_buffer.specs.declared.fault.BufferFault.TheVariants.{Store};
@@ -83,7 +83,7 @@ impl<S: TextStore> Buffer<S> {
     ) -> Result<(), Refusal>
         requires within { index < length self.old.groups }
         requires at { slice_get self.old.groups index ≡ Some undone.now }
-        requires line { IsLine (text self.old.content) line }
+        requires line { IsLineOfPlace (text self.old.content) line }
         ensures exact { IsAnswer result (growth_answer self.old (length undone.now.deleted)) }
         ensures reverted { OnOk result (Reverted index undone.now self.old self.new) }
         ensures same { OnErr result (self.new ≡ self.old) }
@@ -115,7 +115,7 @@ impl<S: TextStore> Buffer<S> {
     /// The line of a place up to which the text most likely stays where elements go: before point,
     /// and before the first and the last of them.
     fn line_before(&self, gone: &[Id]) -> KnownLine
-        ensures { IsLine (text self.now.content) result }
+        ensures { IsLineOfPlace (text self.now.content) result }
     {
         if !self.listed {
             return self.line;

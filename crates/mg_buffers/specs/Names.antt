@@ -8,12 +8,12 @@ abbrev pub is_named : List ℕ → OpenState → Bool
 is_named name b = pointwise nat_eq (chars b.buffer.name) name
 
 -- the index of the buffer of that name
-abbrev pub named : List ℕ → List OpenState → Option ℕ
-named name bs = position (is_named name) bs
+abbrev pub buffer_named : List ℕ → List OpenState → Option ℕ
+buffer_named name bs = position (is_named name) bs
 
 -- the index of the buffer that an answer asks for: without a name another one, which is this
 abbrev pub asked : List ℕ → ℕ → List OpenState → Option ℕ
-asked name otherwise bs = if nat_eq (length name) 0 then Some otherwise else named name bs
+asked name otherwise bs = if nat_eq (length name) 0 then Some otherwise else buffer_named name bs
 
 -- the next index of so many, round
 abbrev pub next_round : ℕ → ℕ → ℕ

@@ -193,7 +193,7 @@ fn behind_round(count: usize, index: usize) -> usize
 
 /// The index of the buffer of a name, among these.
 fn index_named<S: TextStore>(all: &[VisitedBuffer<S>], name: &[char]) -> Option<usize>
-    ensures exact { result ≡ names.named name.now all.now }
+    ensures exact { result ≡ names.buffer_named name.now all.now }
     ensures within { IfSome result (λ i. i < length all.now) }
 {
     for index in 0..all.len() {

@@ -1,7 +1,7 @@
 -- What the echo line says.
 use Rattle.std.specs.Prelude.{ℕ, Bool, true, false, List, [], ◌++◌, Option, Some, None, encode_utf8_all}
 use Rattle.mg_minibuffer.specs.Messages.{message_text}
-use Rattle.mg_minibuffer.specs.Prompts.{label, answer}
+use Rattle.mg_minibuffer.specs.Prompts.{label, typed_answer}
 use Rattle.mg_minibuffer.specs.declared.message.Message.{Message}
 use Rattle.mg_minibuffer.specs.declared.message.Message.TheVariants.{Nothing}
 use Rattle.mg_minibuffer.specs.declared.prompt.Prompt.{Prompt}
@@ -11,7 +11,7 @@ use Rattle.mg_dialogue.specs.Dialogues.{Dialogue}
 -- an open prompt, and the answer so far, as UTF-8
 abbrev pub prompt_text : Option Prompt → List ℕ
 prompt_text None = []
-prompt_text (Some p) = label p ++ encode_utf8_all (answer p)
+prompt_text (Some p) = label p ++ encode_utf8_all (typed_answer p)
 
 -- the message, of a buffer with that name; where there is none, the open prompt
 abbrev pub said_text : Message → Option Prompt → List ℕ → List ℕ

@@ -1,6 +1,6 @@
 //! The echo line.
 ghost use Rattle.std.specs.Prelude.{◌≡◌, ◌++◌, IfOk, encode_utf8_all, string_bytes};
-ghost use Rattle.mg_minibuffer.specs.Prompts.{label, answer};
+ghost use Rattle.mg_minibuffer.specs.Prompts.{label, typed_answer};
 ghost use Rattle.mg_dialogue.specs.Echo as spec;
 
 use crate::dialogue::Dialogue;
@@ -62,7 +62,8 @@ fn prompt_text(alloc: Global, prompt: &Option<Prompt>) -> Result<String, AllocEr
 
 fn asked_text(alloc: Global, prompt: &Prompt) -> Result<String, AllocError>
     ensures { IfOk result
-        (λ text. string_bytes text ≡ label prompt.now ++ encode_utf8_all (answer prompt.now)) }
+        (λ text. string_bytes text ≡ label prompt.now
+        ++ encode_utf8_all (typed_answer prompt.now)) }
 {
     let mut text = String::from_str(alloc, prompt.label())?;
     push_characters(&mut text, prompt.answer())?;

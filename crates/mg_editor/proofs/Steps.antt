@@ -3,26 +3,26 @@ use Rattle.std.proofs.Common.{◌≡◌, ◌≢◌, ℕ, Ok, Err, OnOk, refl, ap
 use Rattle.mg_dialogue.specs.Dialogues.{Dialogue, Fed, Forgot}
 use Rattle.mg_editor.specs.Editors.{Editor}
 use Rattle.mg_keys.specs.declared.step.Step.{Step}
-use Rattle.mg_editor.specs.Presses.{Answer, IsRefused, IsAsBefore, RanOut, LeftBy, LeftPlainly, Stepped, StepTaken}
+use Rattle.mg_editor.specs.Presses.{PressAnswer, IsRefused, IsAsBefore, RanOut, LeftBy, LeftPlainly, Stepped, StepTaken}
 use Rattle.mg_keys.specs.declared.step.Step.TheVariants.{Pending, Leave}
 use Rattle.mg_minibuffer.specs.declared.prompt.Search.{Search}
 use Rattle.mg_editor.specs.declared.fault.Fault.TheVariants.{Memory}
 
 -- what holds whatever the answer is
-pub on_ok : {P : Type 0} (r : Answer) → P → OnOk r P
+pub on_ok : {P : Type 0} (r : PressAnswer) → P → OnOk r P
 on_ok (Ok request) p = p
 on_ok (Err fault) p = tt
 
-pub ran_out : (old new : Editor) (r : Answer) → new.work ≡ old.work → Forgot old.talk new.talk → r ≡ Err Memory → RanOut old new r
+pub ran_out : (old new : Editor) (r : PressAnswer) → new.work ≡ old.work → Forgot old.talk new.talk → r ≡ Err Memory → RanOut old new r
 ran_out old new r work talk answer = record { refused = record { work = work; talk = talk }; answer = answer }
 
 -- ---- by cases on the step
 
-pub left_default : (s : Search) (step : Step) (old new : Editor) (r : Answer) → step ≢ Pending → LeftPlainly s step old new r → LeftBy s step old new r
+pub left_default : (s : Search) (step : Step) (old new : Editor) (r : PressAnswer) → step ≢ Pending → LeftPlainly s step old new r → LeftBy s step old new r
 left_default s Pending old new r other left = absurd (other refl)
 left_default s step old new r other left = left
 
-pub taken_default : (step : Step) (byte : ℕ) (old new : Editor) (r : Answer) → step ≢ Pending → step ≢ Leave → Stepped step old new r → StepTaken step byte old new r
+pub taken_default : (step : Step) (byte : ℕ) (old new : Editor) (r : PressAnswer) → step ≢ Pending → step ≢ Leave → Stepped step old new r → StepTaken step byte old new r
 taken_default Pending byte old new r pending leave stepped = absurd (pending refl)
 taken_default Leave byte old new r pending leave stepped = absurd (leave refl)
 taken_default step byte old new r pending leave stepped = stepped

@@ -10,13 +10,13 @@ use Rattle.mg_files.specs.declared.fault.LoadFault.TheVariants.{Memory}
 use Rattle.mg_files.specs.declared.port.PortFault.{PortFault}
 use Rattle.mg_minibuffer.specs.declared.message.Message.{Message}
 use Rattle.mg_minibuffer.specs.declared.message.Message.TheVariants as message
-use Rattle.mg_buffers.specs.Names.{named}
+use Rattle.mg_buffers.specs.Names.{buffer_named}
 use Rattle.mg_workspace.specs.Actions.{gone_to}
 use Rattle.mg_workspace.specs.Opening.{is_full, OpensBy}
 use Rattle.mg_workspace.specs.Workspaces.{Workspace}
 use Rattle.mg_editor.specs.Editors.{Editor}
 use Rattle.mg_editor.specs.Opening.{message_of_end}
-use Rattle.mg_editor.specs.Telling.{Answer, message_of_fault, told}
+use Rattle.mg_editor.specs.Telling.{CarryAnswer, message_of_fault, editor_saying}
 use Rattle.mg_editor.specs.declared.fault.CarryFault.{CarryFault}
 use Rattle.mg_editor.specs.declared.fault.CarryFault.TheVariants.{Port, Load}
 
@@ -30,7 +30,7 @@ abbrev pub message_of_opening : Opening → Message
 message_of_opening (Ok end) = message_of_end end
 message_of_opening (Err fault) = message_of_fault fault
 
-abbrev pub opening_done : Opening → Answer
+abbrev pub opening_done : Opening → CarryAnswer
 opening_done (Ok end) = Ok tt
 opening_done (Err fault) = Err fault
 
@@ -47,7 +47,7 @@ pub record AsksNothing (calls more : Option (List Call)) (w v : Workspace) (r : 
   pub done : r ≡ Err (Load Memory)
 
 -- the port answered a fault to the load of that name
-pub record IsRefused (name : List ℕ) (calls more : Option (List Call)) (w v : Workspace) (r : Opening) : Type 0 where
+pub record IsRefusedLoad (name : List ℕ) (calls more : Option (List Call)) (w v : Workspace) (r : Opening) : Type 0 where
   pub fault : PortFault
   pub call : Adds calls more (refusals fault (load_call name))
   pub same : v ≡ w
@@ -66,27 +66,27 @@ pub record IsAnswered (name : List ℕ) (calls more : Option (List Call)) (w v :
 
 -- the files of that name were asked for, and a buffer was opened by them, or nothing changed
 abbrev pub Loads : List ℕ → Option (List Call) → Option (List Call) → Workspace → Workspace → Opening → Type 0
-Loads name calls more w v r = AsksNothing calls more w v r ⊎ IsRefused name calls more w v r ⊎ IsAnswered name calls more w v r
+Loads name calls more w v r = AsksNothing calls more w v r ⊎ IsRefusedLoad name calls more w v r ⊎ IsAnswered name calls more w v r
 
 -- it was opened or not, and that is said
-pub record Opened (name : List ℕ) (calls more : Option (List Call)) (old new : Editor) (r : Answer) : Type 0 where
+pub record Opened (name : List ℕ) (calls more : Option (List Call)) (old new : Editor) (r : CarryAnswer) : Type 0 where
   pub answer : Opening
   pub loads : Loads (encode_utf8_all name) calls more old.work new.work answer
-  pub rest : new ≡ told new.work (message_of_opening answer) old
+  pub rest : new ≡ editor_saying new.work (message_of_opening answer) old
   pub done : r ≡ opening_done answer
 
 -- without a call of the port the editor became this one
-pub record Becomes (now : Editor) (calls more : Option (List Call)) (new : Editor) (r : Answer) : Type 0 where
+pub record Becomes (now : Editor) (calls more : Option (List Call)) (new : Editor) (r : CarryAnswer) : Type 0 where
   pub no_call : more ≡ calls
   pub is : new ≡ now
   pub done : r ≡ Ok tt
 
 -- the buffer at that index is gone to; where there is none it is opened, unless as many are open as may be
-abbrev pub FoundAt : Option ℕ → List ℕ → Option (List Call) → Option (List Call) → Editor → Editor → Answer → Type 0
+abbrev pub FoundAt : Option ℕ → List ℕ → Option (List Call) → Option (List Call) → Editor → Editor → CarryAnswer → Type 0
 FoundAt (Some i) name calls more old new r = Becomes (record old { work = gone_to i old.work }) calls more new r
 FoundAt None name calls more old new r =
-    MatchBool (is_full old.work) (Becomes (told old.work message.TooManyBuffers old) calls more new r) (Opened name calls more old new r)
+    MatchBool (is_full old.work) (Becomes (editor_saying old.work message.TooManyBuffers old) calls more new r) (Opened name calls more old new r)
 
 -- the buffer of that name is gone to, or opened
-abbrev pub Found : List ℕ → Option (List Call) → Option (List Call) → Editor → Editor → Answer → Type 0
-Found name calls more old new r = FoundAt (named name old.work.buffers.all) name calls more old new r
+abbrev pub FoundBuffer : List ℕ → Option (List Call) → Option (List Call) → Editor → Editor → CarryAnswer → Type 0
+FoundBuffer name calls more old new r = FoundAt (buffer_named name old.work.buffers.all) name calls more old new r

@@ -10,11 +10,11 @@ use Rattle.mg_screen.specs.Written.{SpellRows}
 use Rattle.mg_dialogue.specs.Echo.{echo_text, has_cursor}
 use Rattle.mg_editor.specs.Editors.{Editor}
 use Rattle.mg_workspace.specs.Showing.{placed_work, work_panes}
-use Rattle.mg_workspace.specs.Workspaces.{current_buffer}
+use Rattle.mg_workspace.specs.Workspaces.{workspace_buffer}
 
 -- the screen of an editor: its windows, each over its buffer, and the echo line
 abbrev pub screen_of : Editor → Screen
-screen_of e = record { panes = work_panes e.work; echo = echo_text e.talk (current_buffer e.work).buffer.name }
+screen_of e = record { panes = work_panes e.work; echo = echo_text e.talk (workspace_buffer e.work).buffer.name }
 
 -- the cursor: in the echo line behind an answer that is typed there, else in the current window at point
 abbrev pub cursor_in : Editor → Screen → Option Position
@@ -35,5 +35,5 @@ abbrev pub ShowsCursor : Editor → Position → Type 0
 ShowsCursor e at = cursor_in e (screen_of e) ≡ Some at
 
 -- the windows were placed, and nothing else changed
-abbrev pub IsPlaced : Editor → Editor → Type 0
-IsPlaced old new = new ≡ placed_editor old
+abbrev pub PlacesWindows : Editor → Editor → Type 0
+PlacesWindows old new = new ≡ placed_editor old

@@ -13,7 +13,7 @@ use Rattle.mg_dialogue.specs.Dialogues.{Begins}
 use Rattle.mg_editor.specs.Editors.{Editor}
 use Rattle.mg_settings.specs.Settings.{Values}
 use Rattle.mg_workspace.specs.Opening.{workspace}
-use Rattle.mg_workspace.specs.Workspaces.{current_buffer}
+use Rattle.mg_workspace.specs.Workspaces.{workspace_buffer}
 
 -- a log that was torn is told
 abbrev pub message_of_end : LogEnd → Message
@@ -27,13 +27,13 @@ pub record IsEditorOf (v : Values) (b : OpenState) (end : LogEnd) (e : Editor) :
   pub talk : Begins (message_of_end end) e.talk
 
 -- as what was found is loaded, or its fault
-abbrev pub OpensBy : Values → Result (OpenState × LogEnd) LoadFault → Result Editor LoadFault → Type 0
-OpensBy v (Ok l) r = (e : Editor) × (r ≡ Ok e) × IsEditorOf v l.0 l.1 e
-OpensBy v (Err fault) r = r ≡ Err fault
+abbrev pub OpensEditorBy : Values → Result (OpenState × LogEnd) LoadFault → Result Editor LoadFault → Type 0
+OpensEditorBy v (Ok l) r = (e : Editor) × (r ≡ Ok e) × IsEditorOf v l.0 l.1 e
+OpensEditorBy v (Err fault) r = r ≡ Err fault
 
-abbrev pub Opens : Values → Files → Result Editor LoadFault → Type 0
-Opens v found r = OpensBy v (load_outcome v.name v.replica v.limit found) r
+abbrev pub OpensEditor : Values → Files → Result Editor LoadFault → Type 0
+OpensEditor v found r = OpensEditorBy v (load_outcome v.name v.replica v.limit found) r
 
 -- the text of the buffer that is current
 abbrev pub IsText : Editor → List ℕ → Type 0
-IsText e chars = chars ≡ text (current_buffer e.work).buffer.content
+IsText e chars = chars ≡ text (workspace_buffer e.work).buffer.content

@@ -22,8 +22,8 @@ use Rattle.mg_editor.specs.Editors.{Editor}
 use Rattle.mg_editor.specs.declared.fault.CarryFault.{CarryFault}
 use Rattle.mg_editor.specs.declared.fault.CarryFault.TheVariants.{Port, Load, Exchange}
 
-abbrev pub Answer : Type 0
-Answer = Result (Unit {0}) CarryFault
+abbrev pub CarryAnswer : Type 0
+CarryAnswer = Result (Unit {0}) CarryFault
 
 -- how many calls of the port failed, before and after one request that is answered so
 abbrev pub CountsBehind : {A : Type 0} → Result A CarryFault → ℕ → ℕ → Type 0
@@ -86,11 +86,11 @@ message_of_fault (Exchange fault) = message_of_exchange fault
 -- ---- what is told
 
 -- the editor that says something, and has this workspace
-abbrev pub told : Workspace → Message → Editor → Editor
-told work said e = record { work = work; talk = record e.talk { message = said } }
+abbrev pub editor_saying : Workspace → Message → Editor → Editor
+editor_saying work said e = record { work = work; talk = record e.talk { message = said } }
 
 -- no call of the port was made, and nothing changed
-pub record IsNothing (calls more : Option (List Call)) (old new : Editor) (r : Answer) : Type 0 where
+pub record IsNothing (calls more : Option (List Call)) (old new : Editor) (r : CarryAnswer) : Type 0 where
   pub no_call : more ≡ calls
   pub same : new ≡ old
   pub done : r ≡ Ok tt

@@ -101,7 +101,7 @@ impl<S: Teller> Editor<S> {
 
     /// The buffer of a name is current, opened if need be.
     fn find<P: Port>(&mut self, name: &[char], port: &mut P) -> Result<(), CarryFault>
-        ensures found { finding.Found name.now
+        ensures found { finding.FoundBuffer name.now
             (P.calls port.old) (P.calls port.new) self.old self.new result }
         ensures device { telling.CountsBehind result (P.failures port.old) (P.failures port.new) }
     {

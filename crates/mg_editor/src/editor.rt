@@ -3,7 +3,7 @@ ghost use Rattle.std.specs.Prelude.{◌≡◌, ◌≤◌, ◌↔◌, [], false};
 ghost use Rattle.mg_keys.specs.Begun.{HasBegun};
 ghost use Rattle.mg_screen.specs.Layout.{FillsRows};
 ghost use Rattle.mg_screen.specs.declared.size.TheConstants.{MIN_ROWS, MAX_ROWS, MIN_COLUMNS, MAX_COLUMNS};
-ghost use Rattle.mg_workspace.specs.Actions.{resized};
+ghost use Rattle.mg_workspace.specs.Actions.{resized_work};
 
 use mg_dialogue::Dialogue;
 use mg_minibuffer::Message;
@@ -65,7 +65,8 @@ impl<S: TextStore> Editor<S> {
         requires rows_to { rows ≤ MAX_ROWS }
         requires columns_from { MIN_COLUMNS ≤ columns }
         requires columns_to { columns ≤ MAX_COLUMNS }
-        ensures exact { self.new ≡ record self.old { work = resized rows columns self.old.work } }
+        ensures exact { self.new ≡
+            record self.old { work = resized_work rows columns self.old.work } }
         ensures filled { FillsRows rows self.new.work.windows }
     {
         self.work.resize(rows, columns);

@@ -1,7 +1,7 @@
 //! Frames of the editor's own windows.
 ghost use Rattle.std.specs.Prelude.{◌≡◌, ◌≤◌, Some, IfOk, OnOk, OnErr, IsSome};
 ghost use Rattle.mg_screen.specs.Cursor as cursors;
-ghost use Rattle.mg_screen.specs.Frame.{rows_of};
+ghost use Rattle.mg_screen.specs.Frame.{screen_rows};
 ghost use Rattle.mg_screen.specs.declared.size.TheConstants.{MAX_ROWS, MIN_COLUMNS};
 ghost use Rattle.mg_editor.specs.Frames as spec;
 ghost use Rattle.mg_workspace.specs.Showing.{IsOnScreen};
@@ -20,7 +20,7 @@ pub struct Frame {
 
 /// The cursor at point, in the window at an index, which shows it.
 fn window_cursor(columns: usize, screen: &Screen<'_>, index: usize) -> Position
-    requires rows_to { rows_of screen.now ≤ MAX_ROWS }
+    requires rows_to { screen_rows screen.now ≤ MAX_ROWS }
     requires columns_from { MIN_COLUMNS ≤ columns }
     requires shown { IsSome (cursors.cursor columns screen.now index) }
     ensures { cursors.cursor columns screen.now index ≡ Some result }
@@ -46,7 +46,7 @@ impl<S: TextStore> Editor<S> {
 
     /// The cursor of the screen.
     fn cursor_in(&self, screen: &Screen<'_>) -> Position
-        requires rows_to { rows_of screen.now ≤ MAX_ROWS }
+        requires rows_to { screen_rows screen.now ≤ MAX_ROWS }
         requires shown { let work = self.now.work in
             IsSome (cursors.cursor work.columns screen.now work.windows.current) }
         ensures { spec.cursor_in self.now screen.now ≡ Some result }
@@ -82,7 +82,7 @@ impl<S: TextStore> Editor<S> {
     ///
     /// The only fault is `Memory`: nothing changed then.
     pub fn frame(&mut self) -> Result<Frame, Fault>
-        ensures placed { OnOk result (spec.IsPlaced self.old self.new) }
+        ensures placed { OnOk result (spec.PlacesWindows self.old self.new) }
         ensures rows { IfOk result (λ frame. spec.ShowsRows self.new frame.rows.items) }
         ensures cursor { IfOk result (λ frame. spec.ShowsCursor self.new frame.cursor) }
         ensures same { OnErr result (self.new ≡ self.old) }

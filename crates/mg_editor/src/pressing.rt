@@ -96,7 +96,7 @@ impl<S: TextStore> Editor<S> {
 
     /// What a reaction asks for.
     fn follow(&mut self, reaction: Reaction) -> Result<Request, Fault>
-        ensures follows { spec.Follows reaction self.old self.new result }
+        ensures follows { spec.FollowsReaction reaction self.old self.new result }
         ensures refused { OnErr result (spec.IsRefused self.old self.new) }
     {
         match reaction {
@@ -155,7 +155,7 @@ impl<S: TextStore> Editor<S> {
 
     fn find_next(&mut self, pattern: &[char], put: &[char], count: usize) -> Result<Request, Fault>
         ensures found { OnOk result
-            (spec.Found pattern.now put.now count self.old self.new result) }
+            (spec.FoundMatch pattern.now put.now count self.old self.new result) }
         ensures refused { OnErr result (spec.IsRefused self.old self.new) }
     {
         let Ok(()) = self.work.list() else {
@@ -184,7 +184,7 @@ impl<S: TextStore> Editor<S> {
 
     /// A byte that leaves the search that is open.
     fn leave(&mut self, byte: u8) -> Result<Request, Fault>
-        ensures leaves { spec.Leaves byte self.old self.new result }
+        ensures leaves { spec.LeavesOpenSearch byte self.old self.new result }
         ensures refused { OnErr result (spec.IsAsBefore self.old self.new) }
     {
         match self.talk.take_search() {

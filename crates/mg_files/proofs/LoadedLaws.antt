@@ -34,7 +34,7 @@ use Rattle.rga_exchange.specs.Log.{log_outcome, log_end, TakesLog}
 use Rattle.mg_files.specs.declared.fault.LoadFault.{LoadFault}
 use Rattle.mg_files.specs.declared.fault.LoadFault.TheVariants.{Store}
 use Rattle.mg_files.specs.Faults.{store_fault}
-use Rattle.mg_files.specs.Loading.{Loaded, loaded, of_log, log_loaded, insertions, characters_loaded, text_loaded, opening_answer}
+use Rattle.mg_files.specs.Loading.{Loaded, loaded, of_log, log_loaded, text_insertions, characters_loaded, text_loaded, opening_answer}
 use Rattle.mg_files.specs.declared.fault.LoadFault.TheVariants as load
 
 abbrev ended : LogEnd → Result LogEnd ReceiveFault
@@ -180,14 +180,14 @@ text_refused replica limit bytes put doc e limited utf8 made same h = by (nat_lt
     by : (b : Bool) → nat_lt limit (length (chars bytes)) ≡ b → cond b (refused Full) fits ≡ refused e → IsTooLong replica limit bytes e
     by true p q = let full : Full ≡ e = cc in record {
       told = ap store_fault (sym full);
-      outcome = text_is replica limit bytes utf8 ∙ ap (λ b. cond b (faulty (Store Full)) (Ok (loaded (content_of (insertions replica (chars bytes))) (insertions replica (chars bytes)) Whole))) p;
+      outcome = text_is replica limit bytes utf8 ∙ ap (λ b. cond b (faulty (Store Full)) (Ok (loaded (content_of (text_insertions replica (chars bytes))) (text_insertions replica (chars bytes)) Whole))) p;
     }
     by false p q = let clash : fits ≡ refused e = q in absurd cc
 
 -- what is loaded of a text
-pub text_taken : (replica limit : ℕ) (bytes put : List ℕ) (doc : Document) → is_limit limit ≡ true → is_utf8 bytes ≡ true → doc ≡ document nothing limit replica false → put ≡ chars bytes → splice_answer doc.limit doc.content 0 0 put ≡ Ok tt → text_loaded replica limit bytes ≡ Ok (loaded (content_of (insertions replica (chars bytes))) (insertions replica (chars bytes)) Whole)
+pub text_taken : (replica limit : ℕ) (bytes put : List ℕ) (doc : Document) → is_limit limit ≡ true → is_utf8 bytes ≡ true → doc ≡ document nothing limit replica false → put ≡ chars bytes → splice_answer doc.limit doc.content 0 0 put ≡ Ok tt → text_loaded replica limit bytes ≡ Ok (loaded (content_of (text_insertions replica (chars bytes))) (text_insertions replica (chars bytes)) Whole)
 text_taken replica limit bytes put doc limited utf8 made same h = by (nat_lt limit (length (chars bytes))) refl (answered limit bytes put doc replica fits limited made same h)
   where
-    by : (b : Bool) → nat_lt limit (length (chars bytes)) ≡ b → cond b (refused Full) fits ≡ fits → text_loaded replica limit bytes ≡ Ok (loaded (content_of (insertions replica (chars bytes))) (insertions replica (chars bytes)) Whole)
+    by : (b : Bool) → nat_lt limit (length (chars bytes)) ≡ b → cond b (refused Full) fits ≡ fits → text_loaded replica limit bytes ≡ Ok (loaded (content_of (text_insertions replica (chars bytes))) (text_insertions replica (chars bytes)) Whole)
     by true p q = let clash : refused Full ≡ fits = q in absurd cc
-    by false p q = text_is replica limit bytes utf8 ∙ ap (λ b. cond b (faulty (Store Full)) (Ok (loaded (content_of (insertions replica (chars bytes))) (insertions replica (chars bytes)) Whole))) p
+    by false p q = text_is replica limit bytes utf8 ∙ ap (λ b. cond b (faulty (Store Full)) (Ok (loaded (content_of (text_insertions replica (chars bytes))) (text_insertions replica (chars bytes)) Whole))) p

@@ -41,14 +41,14 @@ log_loaded limit bytes = of_log bytes (log_end (log_outcome limit nothing bytes)
 -- ---- a text
 
 -- the operations by which a replica that holds nothing inserts these characters
-abbrev pub insertions : ℕ → List ℕ → List Op
-insertions replica put = splice_operations replica nothing 0 0 put
+abbrev pub text_insertions : ℕ → List ℕ → List Op
+text_insertions replica put = splice_operations replica nothing 0 0 put
 
 -- the content of these, all unsaved
 abbrev pub characters_loaded : ℕ → ℕ → List ℕ → Result Loaded LoadFault
 characters_loaded replica limit put =
     if nat_lt limit (length put) then Err (Store Full)
-    else Ok (loaded (content_of (insertions replica put)) (insertions replica put) Whole)
+    else Ok (loaded (content_of (text_insertions replica put)) (text_insertions replica put) Whole)
 
 abbrev pub text_loaded : ℕ → ℕ → List ℕ → Result Loaded LoadFault
 text_loaded replica limit bytes = if is_utf8 bytes then characters_loaded replica limit (chars bytes) else Err NotText

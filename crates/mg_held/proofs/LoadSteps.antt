@@ -9,7 +9,7 @@ use Rattle.mg_files.specs.Loading.{loaded, either_loaded, files_loaded, opening_
 use Rattle.mg_files.specs.declared.fault.LoadFault.{LoadFault}
 use Rattle.mg_files.specs.Calls.{refusals, found_call}
 use Rattle.mg_files.specs.declared.port.PortFault.{PortFault}
-use Rattle.mg_held.specs.Held.{Held, MayLeave, MayLead, Answers}
+use Rattle.mg_held.specs.Held.{Held, MayLeave, MayLead, AnswersLoad}
 use Rattle.mg_held.specs.Kept.{IsThere, IsLogged, OpensSaved, Grows}
 use Rattle.mg_held.proofs.LogSteps.{IsFurther, log_given}
 use Rattle.mg_held.proofs.SaveSteps.{save_answered, save_failed_at_log, save_failed_at_text}
@@ -21,7 +21,7 @@ abbrev opens : Opening
 opens = Ok tt
 
 -- files with a log open a buffer with the content that it stands for, nothing of it unsaved
-pub opened_again : (held : Content) (b : OpenState) (f found : Files) → IsLogged held b f.log → IsThere f.log → Answers f found → opening_answer b.buffer.replica b.buffer.limit ≡ Ok tt
+pub opened_again : (held : Content) (b : OpenState) (f found : Files) → IsLogged held b f.log → IsThere f.log → AnswersLoad f found → opening_answer b.buffer.replica b.buffer.limit ≡ Ok tt
     → OpensSaved b.buffer.name b.buffer.replica b.buffer.limit found held
 opened_again held b f found h (bytes, there) answers opening =
     let log : found.log ≡ Some bytes = answers.log ∙ there in

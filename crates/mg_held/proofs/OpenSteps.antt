@@ -32,7 +32,7 @@ use Rattle.rga_exchange.specs.Sending.{StandsFor}
 use Rattle.rga_exchange.proofs.OperationLaws.{IsRead, is_read, no_fault, log_joined}
 use Rattle.rga_exchange.proofs.LogLaws.{log_stands}
 use Rattle.mg_files.specs.Files.{Files}
-use Rattle.mg_files.specs.Loading.{Loaded, loaded, of_log, log_loaded, insertions, text_loaded, either_loaded, files_loaded, opened, opened_and_end, opening_answer, after_opening, load_outcome, ends_open}
+use Rattle.mg_files.specs.Loading.{Loaded, loaded, of_log, log_loaded, text_insertions, text_loaded, either_loaded, files_loaded, opened, opened_and_end, opening_answer, after_opening, load_outcome, ends_open}
 use Rattle.mg_files.specs.OpenState.{OpenState, with_brief, with_runs}
 use Rattle.mg_files.specs.declared.fault.LoadFault.{LoadFault}
 use Rattle.mg_files.specs.declared.fault.LoadFault.TheVariants.{Log, NotText, Store}
@@ -174,10 +174,10 @@ fine = Ok tt
 text_read : (name : List ℕ) (replica limit : ℕ) (bytes : List ℕ) (l : Loaded) → is_limit limit ≡ true → text_loaded replica limit bytes ≡ good l → Buffered name replica limit l → IsLoggedBy (opened name replica limit l) None
 text_read name replica limit bytes l limited h is = by (is_utf8 bytes) (nat_lt limit (length (chars bytes))) refl h
   where
-    by : (u w : Bool) → nat_lt limit (length (chars bytes)) ≡ w → cond u (cond w (bad (Store Full)) (good (loaded (content_of (insertions replica (chars bytes))) (insertions replica (chars bytes)) Whole))) (bad NotText) ≡ good l → IsLoggedBy (opened name replica limit l) None
+    by : (u w : Bool) → nat_lt limit (length (chars bytes)) ≡ w → cond u (cond w (bad (Store Full)) (good (loaded (content_of (text_insertions replica (chars bytes))) (text_insertions replica (chars bytes)) Whole))) (bad NotText) ≡ good l → IsLoggedBy (opened name replica limit l) None
     by true true p g = absurd (let clash : bad (Store Full) ≡ good l = g in cc)
     by true false p g =
-        let ops : List Op = insertions replica (chars bytes) in
+        let ops : List Op = text_insertions replica (chars bytes) in
         let fits : splice_answer limit nothing 0 0 (chars bytes) ≡ Ok tt = splice_of_nothing limit (chars bytes) limited ∙ ap (λ w. cond w full fine) p in
         let taken = (list_taken-iff limit nothing ops).0 (splice_taken limit replica 0 0 nothing (chars bytes) fits) in
         let whole : loaded (content_of ops) ops Whole ≡ l = same_loaded (loaded (content_of ops) ops Whole) l g in

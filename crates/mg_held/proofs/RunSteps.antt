@@ -9,12 +9,12 @@ use Rattle.mg_files.specs.OpenState.{OpenState}
 use Rattle.mg_files.specs.Calls.{Call, Adds, refusals}
 use Rattle.mg_files.specs.Saving.{has_unsaved, unlogged, written, logged, saved, save_calls, log_call, log_calls, text_call, SaveFailed}
 use Rattle.mg_files.specs.declared.port.PortFault.{PortFault}
-use Rattle.mg_buffer.specs.Ran.{operations_of}
+use Rattle.mg_buffer.specs.Ran.{operations_of_splices}
 use Rattle.mg_buffer.specs.Undid.{undo_operations}
 use Rattle.rga_ops.specs.NewOperations.{new_operations}
 use Rattle.mg_held.specs.Held.{Held, MayLead}
 use Rattle.mg_held.specs.Kept.{IsLogged, Grows}
-use Rattle.mg_held.specs.Run.{Step, Saves, Runs, Undoes, Takes, Rests, ChangesAlone, SavesOnce, MayStep, MayGo, HoldsMore}
+use Rattle.mg_held.specs.Run.{BufferStep, Saves, Runs, Undoes, Takes, Rests, ChangesAlone, SavesOnce, MayStep, MayGo, HoldsMore}
 use Rattle.mg_held.proofs.ChangeSteps.{after_change, ran_joins, undid_joins, taken_joins, kept_logged}
 use Rattle.mg_held.proofs.SaveSteps.{save_answered}
 use Rattle.mg_held.proofs.LoadSteps.{held_within, grows_at_log, grows_at_text}
@@ -61,11 +61,11 @@ changed : (held : Content) (b d : OpenState) (s t : Held) → d.buffer.name ≡ 
 changed held b d s t name h alone =
     named held held b.buffer.name d t name (within_itself held) (subst (λ (f : Files). IsLogged held d f.log) (sym alone.held) h)
 
-pub after_step : (held : Content) (step : Step) (b d : OpenState) (s t : Held) → IsLogged held b (s b.buffer.name).log → MayStep step b s d t → HoldsMore held d t
+pub after_step : (held : Content) (step : BufferStep) (b d : OpenState) (s t : Held) → IsLogged held b (s b.buffer.name).log → MayStep step b s d t → HoldsMore held d t
 after_step held (Saves answer) b d s t h m = after_save held answer b d s t h m
 after_step held (Runs command n column old new) b d s t h (alone, ran) =
     let j = ran_joins command n column b.buffer old d.buffer new ran in
-    changed held b d s t j.name (after_change held b d s t (s b.buffer.name).log (operations_of b.buffer ran.plan.splices) h alone j) alone
+    changed held b d s t j.name (after_change held b d s t (s b.buffer.name).log (operations_of_splices b.buffer ran.plan.splices) h alone j) alone
 after_step held (Undoes old new) b d s t h (alone, u) =
     let j = undid_joins b.buffer old d.buffer new u in
     changed held b d s t j.name (after_change held b d s t (s b.buffer.name).log (undo_operations b.buffer u.undid.group) h alone j) alone
@@ -75,7 +75,7 @@ after_step held (Takes ops) b d s t h (alone, takes) =
 after_step held Rests b d s t h (alone, kept) =
     changed held b d s t kept.name (kept_logged held b d s t (s b.buffer.name).log h alone kept) alone
 
-pub after_run : (steps : List Step) (held : Content) (b d : OpenState) (s t : Held) → IsLogged held b (s b.buffer.name).log → MayGo steps b s d t → HoldsMore held d t
+pub after_run : (steps : List BufferStep) (held : Content) (b d : OpenState) (s t : Held) → IsLogged held b (s b.buffer.name).log → MayGo steps b s d t → HoldsMore held d t
 after_run [] held b d s t h (e, same) =
     subst (λ x. HoldsMore held x t) (sym e)
     (named held held b.buffer.name b t refl (within_itself held) (subst (λ (f : Files). IsLogged held b f.log) (sym same) h))

@@ -11,7 +11,7 @@ log_bytes (Some bytes) = bytes
 log_bytes None = []
 
 -- the log is there, with a beginning of the bytes, be it of none or of all, behind those that it had
-pub record HasBegun (old bytes : List ℕ) (new : Option (List ℕ)) : Type 0 where
+pub record HasBegunLog (old bytes : List ℕ) (new : Option (List ℕ)) : Type 0 where
   pub front : List ℕ
   pub rest : List ℕ
   pub cut : front ++ rest ≡ bytes
@@ -19,7 +19,7 @@ pub record HasBegun (old bytes : List ℕ) (new : Option (List ℕ)) : Type 0 wh
 
 -- what an append that was refused leaves: a log that was not there is made whole or not at all
 abbrev pub BegunLog : Option (List ℕ) → List ℕ → Option (List ℕ) → Type 0
-BegunLog (Some old) bytes new = HasBegun old bytes new
+BegunLog (Some old) bytes new = HasBegunLog old bytes new
 BegunLog None bytes new = (new ≡ None) ⊎ (new ≡ Some bytes)
 
 -- the log is the old one or this one
@@ -45,14 +45,14 @@ abbrev pub Held : Type 0
 Held = List ℕ → Files
 
 -- a load answered what is there; beside a log the text may be left out
-pub record Answers (f found : Files) : Type 0 where
+pub record AnswersLoad (f found : Files) : Type 0 where
   pub log : found.log ≡ f.log
   pub text : f.log ≡ None → found.text ≡ f.text
 
 -- one call may lead from these files to those: none but those under its name change, and a load answers them
 pub record MayLeave (c : Call) (s t : Held) : Type 0 where
   pub here : Leaves c.kind c.answered c.bytes (s c.name) (t c.name)
-  pub found : IfSome c.found (Answers (s c.name))
+  pub found : IfSome c.found (AnswersLoad (s c.name))
   pub elsewhere : (name : List ℕ) → name ≢ c.name → t name ≡ s name
 
 -- and so may calls in a row

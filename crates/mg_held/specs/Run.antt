@@ -5,7 +5,7 @@ use Rattle.rga_ops.specs.ListAnswer.{list_answer}
 use Rattle.rga_ops.specs.declared.op.Op.{Op}
 use Rattle.mg_plain.specs.declared.command.Command.{Command}
 use Rattle.mg_buffer.specs.Faults.{undo_answer}
-use Rattle.mg_buffer.specs.Following.{Follows}
+use Rattle.mg_buffer.specs.Following.{TakesOperations}
 use Rattle.mg_buffer.specs.Groups.{are_revertible}
 use Rattle.mg_buffer.specs.Ran.{Ran}
 use Rattle.mg_buffer.specs.Sight.{Notes}
@@ -21,12 +21,12 @@ use Rattle.mg_held.specs.Kept.{IsWritableWhole, IsLogged}
 -- A save, by what it answered; a command with its argument and the fill column, and an undo, each with what it found of
 -- the notes and left of them; operations of others that were taken; or anything else that leaves the operations, as the
 -- save of another buffer.
-pub data Step : Type 0 where
-  Saves : Result Bool PortFault → Step
-  Runs : Command → ℕ → ℕ → Notes → Notes → Step
-  Undoes : Notes → Notes → Step
-  Takes : List Op → Step
-  Rests : Step
+pub data BufferStep : Type 0 where
+  Saves : Result Bool PortFault → BufferStep
+  Runs : Command → ℕ → ℕ → Notes → Notes → BufferStep
+  Undoes : Notes → Notes → BufferStep
+  Takes : List Op → BufferStep
+  Rests : BufferStep
 
 -- the buffer alone changed, and its files stayed, whatever became of others
 pub record ChangesAlone (b d : OpenState) (s t : Held) : Type 0 where
@@ -50,7 +50,7 @@ pub record UndoesOne (b : State) (old : Notes) (d : State) (new : Notes) : Type 
 -- operations none of which was refused
 pub record TakesAll (b : State) (ops : List Op) (d : State) : Type 0 where
   pub allowed : list_answer b.limit b.content ops ≡ Ok tt
-  pub follows : Follows b ops d
+  pub follows : TakesOperations b ops d
 
 -- a save told these calls, which lead to what is held behind it
 pub record SavesOnce (answer : Result Bool PortFault) (b d : OpenState) (s t : Held) : Type 0 where
@@ -59,14 +59,14 @@ pub record SavesOnce (answer : Result Bool PortFault) (b d : OpenState) (s t : H
   pub saves : SavesTo answer (Some before) (Some (before ++ made)) b d
   pub leads : MayLead made s t
 
-abbrev pub MayStep : Step → OpenState → Held → OpenState → Held → Type 0
+abbrev pub MayStep : BufferStep → OpenState → Held → OpenState → Held → Type 0
 MayStep (Saves answer) b s d t = SavesOnce answer b d s t
 MayStep (Runs command n column old new) b s d t = ChangesAlone b d s t × Ran command n column b.buffer old d.buffer new
 MayStep (Undoes old new) b s d t = ChangesAlone b d s t × UndoesOne b.buffer old d.buffer new
 MayStep (Takes ops) b s d t = ChangesAlone b d s t × TakesAll b.buffer ops d.buffer
 MayStep Rests b s d t = ChangesAlone b d s t × KeepsOperations b.buffer d.buffer
 
-abbrev pub MayGo : List Step → OpenState → Held → OpenState → Held → Type 0
+abbrev pub MayGo : List BufferStep → OpenState → Held → OpenState → Held → Type 0
 MayGo [] b s d t = (d ≡ b) × (t b.buffer.name ≡ s b.buffer.name)
 MayGo (step ∷ steps) b s d t = (c : OpenState) × (u : Held) × MayStep step b s c u × MayGo steps c u d t
 

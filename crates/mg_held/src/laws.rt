@@ -8,9 +8,9 @@ ghost use Rattle.mg_files.specs.Loading.{load_outcome, opening_answer};
 ghost use Rattle.mg_files.specs.OpenState.{OpenState, with_brief, with_runs};
 ghost use Rattle.mg_files.specs.Saving.{is_changed, written, saved, save_calls, log_call};
 ghost use Rattle.mg_files.specs.declared.port.PortFault.{PortFault};
-ghost use Rattle.mg_held.specs.Held.{Held, Answers, MayLeave, MayLead};
+ghost use Rattle.mg_held.specs.Held.{Held, AnswersLoad, MayLeave, MayLead};
 ghost use Rattle.mg_held.specs.Kept.{IsThere, IsBuffer, IsLogged, IsLoggedBy, OpensSaved};
-ghost use Rattle.mg_held.specs.Run.{Step, SavesOnce, MayStep, MayGo, HoldsMore};
+ghost use Rattle.mg_held.specs.Run.{BufferStep, SavesOnce, MayStep, MayGo, HoldsMore};
 
 use mg_files::VisitedBuffer;
 use rga_store::TextStore;
@@ -35,7 +35,8 @@ pub fn what_is_opened_is_logged()
 /// What a log that is there stands for is loaded, and nothing of it is unsaved.
 pub fn what_is_logged_is_loaded()
     ensures { (held : Content) (b : OpenState) (f found : Files) → IsLogged held b f.log
-        → IsThere f.log → Answers f found → opening_answer b.buffer.replica b.buffer.limit ≡ Ok tt
+        → IsThere f.log → AnswersLoad f found
+        → opening_answer b.buffer.replica b.buffer.limit ≡ Ok tt
         → OpensSaved b.buffer.name b.buffer.replica b.buffer.limit found held }
 {}
 
@@ -65,13 +66,13 @@ pub fn a_save_loses_nothing()
 /// So it does after any step: a save, a command, an undo, operations of others, or what leaves the
 /// operations.
 pub fn what_is_held_stays_held()
-    ensures { (step : Step) (held : Content) (b d : OpenState) (s t : Held)
+    ensures { (step : BufferStep) (held : Content) (b d : OpenState) (s t : Held)
         → IsLogged held b (s b.buffer.name).log → MayStep step b s d t → HoldsMore held d t }
 {}
 
 /// Through any list of steps, what was held once is held ever after.
 pub fn what_was_held_once_is_held()
-    ensures { (steps : List Step) (held : Content) (b d : OpenState) (s t : Held)
+    ensures { (steps : List BufferStep) (held : Content) (b d : OpenState) (s t : Held)
         → IsLogged held b (s b.buffer.name).log → MayGo steps b s d t → HoldsMore held d t }
 {}
 

@@ -10,8 +10,8 @@ use Rattle.mg_keys.specs.declared.step.Mode.TheVariants as mode
 use Rattle.mg_keys.specs.declared.step.Step.TheVariants as step
 use Rattle.mg_keys.specs.Argument.{value}
 use Rattle.mg_keys.specs.Begun.{KeyState, HasBegun, waits}
-use Rattle.mg_keys.specs.Meaning.{whole, beginning, no_key, insertion, text}
-use Rattle.mg_keys.specs.Utf8.{Reading, is, begins, neither, behind}
+use Rattle.mg_keys.specs.Meaning.{whole, beginning, no_key, insertion_meaning, text_meaning}
+use Rattle.mg_keys.specs.Utf8.{Utf8Reading, is, begins, neither, reading_behind}
 
 keys_of : Mode → Argument → Sequence → KeyState
 keys_of m a s = record { mode = m; argument = a; sequence = s }
@@ -41,12 +41,12 @@ fresh mode.Query a s w = record { same = λ rest. refl }
 
 -- ---- one has: some byte means another thing behind it
 
-no_insertion : (n m : ℕ) (r : Reading) → whole (step.Run run.BeginningOfLine m) ≡ insertion n r → ⊥
+no_insertion : (n m : ℕ) (r : Utf8Reading) → whole (step.Run run.BeginningOfLine m) ≡ insertion_meaning n r → ⊥
 no_insertion n m (is c) e = cc
 no_insertion n m begins e = cc
 no_insertion n m neither e = cc
 
-no_text : (r : Reading) → whole step.Rub ≡ text r → ⊥
+no_text : (r : Utf8Reading) → whole step.Rub ≡ text_meaning r → ⊥
 no_text (is c) e = cc
 no_text begins e = cc
 no_text neither e = cc
@@ -67,19 +67,19 @@ not_yet mode.Plain a ControlX h =
     let e : whole (step.Run (run.Insert 53) 1) ≡ no_key = h.same (53 ∷ []) in
     absurd cc
 not_yet mode.Plain a Quote h =
-    let e : beginning ≡ insertion (value a) (is 27) = h.same (27 ∷ []) in
+    let e : beginning ≡ insertion_meaning (value a) (is 27) = h.same (27 ∷ []) in
     absurd cc
-not_yet mode.Plain a (Character begun) h = absurd (no_insertion (value a) 1 (behind begun (1 ∷ [])) (h.same (1 ∷ [])))
+not_yet mode.Plain a (Character begun) h = absurd (no_insertion (value a) 1 (reading_behind begun (1 ∷ [])) (h.same (1 ∷ [])))
 not_yet mode.Prompt a Start h = refl
 not_yet mode.Prompt a Escape h = refl
 not_yet mode.Prompt a ControlX h = refl
 not_yet mode.Prompt a Quote h = refl
-not_yet mode.Prompt a (Character begun) h = absurd (no_text (behind begun (127 ∷ [])) (h.same (127 ∷ [])))
+not_yet mode.Prompt a (Character begun) h = absurd (no_text (reading_behind begun (127 ∷ [])) (h.same (127 ∷ [])))
 not_yet mode.Search a Start h = refl
 not_yet mode.Search a Escape h = refl
 not_yet mode.Search a ControlX h = refl
 not_yet mode.Search a Quote h = refl
-not_yet mode.Search a (Character begun) h = absurd (no_text (behind begun (127 ∷ [])) (h.same (127 ∷ [])))
+not_yet mode.Search a (Character begun) h = absurd (no_text (reading_behind begun (127 ∷ [])) (h.same (127 ∷ [])))
 not_yet mode.Query a s h = refl
 
 -- no sequence has begun exactly where the keys do not wait

@@ -6,10 +6,10 @@ use Rattle.mg_keys.specs.declared.command.KeyCommand.{KeyCommand}
 use Rattle.mg_keys.specs.declared.argument.Argument.{Argument}
 use Rattle.mg_keys.specs.declared.step.Step.TheVariants as step
 use Rattle.mg_keys.specs.KeyTable.{Row, rows, same_keys, begins, first_with, bound, begins_some}
-use Rattle.mg_keys.specs.Utf8.{character}
+use Rattle.mg_keys.specs.Utf8.{multibyte_character}
 use Rattle.mg_keys.specs.Argument.{with_byte, value}
 use Rattle.mg_keys.specs.Commands.{step_of}
-use Rattle.mg_keys.specs.Meaning.{Meaning, whole, beginning, is_cancel, inserted_character, insertion, meaning_of_keys, plain_meaning}
+use Rattle.mg_keys.specs.Meaning.{Meaning, whole, beginning, is_cancel, inserted_character, insertion_meaning, meaning_of_keys, plain_meaning}
 
 ne : (a b : ℕ) → a < b → nat_eq a b ≡ false
 ne a b h = grind (arith, nat_tests)
@@ -79,22 +79,22 @@ no_argument a b h = rw (en 21 b (omega arith)) (rw (le_yes 48 b (omega arith)) (
 not_cancel : (b : ℕ) (rest : List ℕ) → 128 ≤ b → is_cancel (b ∷ rest) ≡ false
 not_cancel b rest h = rw (ne 7 b (omega arith)) (rw (ne 27 b (omega arith)) (rw (ne 24 b (omega arith)) refl))
 
-inserted_high : (b : ℕ) (rest : List ℕ) → 128 ≤ b → inserted_character (b ∷ rest) ≡ character b rest
+inserted_high : (b : ℕ) (rest : List ℕ) → 128 ≤ b → inserted_character (b ∷ rest) ≡ multibyte_character b rest
 inserted_high b rest h =
     rw (en 17 b (omega arith)) (rw (en 9 b (omega arith)) (rw (le_yes 32 b (omega arith)) (rw (le_no 126 b (omega arith)) (rw (le_yes 128 b h) refl))))
 
-high_keys : (n b : ℕ) (rest : List ℕ) → 128 ≤ b → meaning_of_keys n (b ∷ rest) ≡ insertion n (character b rest)
+high_keys : (n b : ℕ) (rest : List ℕ) → 128 ≤ b → meaning_of_keys n (b ∷ rest) ≡ insertion_meaning n (multibyte_character b rest)
 high_keys n b rest h =
     let none : bound (b ∷ rest) ≡ None = none_named rows b rest h rows_low in
     let no : begins_some (b ∷ rest) ≡ false = none_begun rows b rest h rows_low in
-    let last : Bool → Meaning = λ t. if t then beginning else insertion n (inserted_character (b ∷ rest)) in
+    let last : Bool → Meaning = λ t. if t then beginning else insertion_meaning n (inserted_character (b ∷ rest)) in
     let named : Option KeyCommand → Meaning = λ o. elim o [ Some x ↦ whole (step_of x n) | None ↦ last (begins_some (b ∷ rest)) ] in
     let cancel : Bool → Meaning = λ t. if t then whole step.Cancel else named (bound (b ∷ rest)) in
     let e1 : meaning_of_keys n (b ∷ rest) ≡ named (bound (b ∷ rest)) = ap cancel (not_cancel b rest h) in
-    e1 ∙ ap named none ∙ ap last no ∙ ap (insertion n) (inserted_high b rest h)
+    e1 ∙ ap named none ∙ ap last no ∙ ap (insertion_meaning n) (inserted_high b rest h)
 
 -- a byte that is none of ASCII begins a character that is inserted
-pub high_meaning : (a : Argument) (b : ℕ) (rest : List ℕ) → 128 ≤ b → plain_meaning a (b ∷ rest) ≡ insertion (value a) (character b rest)
+pub high_meaning : (a : Argument) (b : ℕ) (rest : List ℕ) → 128 ≤ b → plain_meaning a (b ∷ rest) ≡ insertion_meaning (value a) (multibyte_character b rest)
 high_meaning a b rest h =
     let f : Option Argument → Meaning = λ o. elim o [ Some c ↦ plain_meaning c rest | None ↦ meaning_of_keys (value a) (b ∷ rest) ] in
     let e : plain_meaning a (b ∷ rest) ≡ meaning_of_keys (value a) (b ∷ rest) = ap f (no_argument a b h) in

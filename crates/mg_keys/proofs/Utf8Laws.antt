@@ -5,7 +5,7 @@ use Rattle.std.proofs.lemmas.Bool.Decides.{nat_tests}
 use Rattle.std.specs.Char.{encode_utf8, IsScalar}
 use lib.Utf8.{scalar_cases}
 use Rattle.mg_keys.specs.declared.utf8.Continuation.{Continuation}
-use Rattle.mg_keys.specs.Utf8.{is_between, continuation, first_byte, is, begins, neither, is_scalar, joined_bits, ended, behind, character, characters}
+use Rattle.mg_keys.specs.Utf8.{is_between, continuation, first_byte, is, begins, neither, is_scalar, joined_bits, ended_character, reading_behind, multibyte_character, characters}
 
 -- ---- tests
 
@@ -26,26 +26,26 @@ up_to_high low high b h = grind (arith, nat_tests)
 
 -- ---- the UTF-8 of a scalar value is read as that value
 
-first_read : {begun : Continuation} (b : ℕ) (bs : List ℕ) → first_byte b ≡ Some begun → character b bs ≡ behind begun bs
-first_read b bs e = ap (λ o. elim o [ Some k ↦ behind k bs | None ↦ neither ]) e
+first_read : {begun : Continuation} (b : ℕ) (bs : List ℕ) → first_byte b ≡ Some begun → multibyte_character b bs ≡ reading_behind begun bs
+first_read b bs e = ap (λ o. elim o [ Some k ↦ reading_behind k bs | None ↦ neither ]) e
 
 -- a byte that is not the last
 next_read : (count bits low high x : ℕ) (rest : List ℕ) → low ≤ x → x ≤ high → 1 < count → bits * 64 + (x - 128) ≤ 4294967295
-    → behind (continuation count bits low high) (x ∷ rest) ≡ behind (continuation (count - 1) (bits * 64 + (x - 128)) 128 191) rest
+    → reading_behind (continuation count bits low high) (x ∷ rest) ≡ reading_behind (continuation (count - 1) (bits * 64 + (x - 128)) 128 191) rest
 next_read count bits low high x rest lo hi more fits =
     let begun = continuation count bits low high in
     let whole : joined_bits begun x ≡ bits * 64 + (x - 128) = omega arith in
-    let read : behind begun (x ∷ rest) ≡ behind (continuation (count - 1) (joined_bits begun x) 128 191) rest =
+    let read : reading_behind begun (x ∷ rest) ≡ reading_behind (continuation (count - 1) (joined_bits begun x) 128 191) rest =
     rw (le-leb low x lo, le-leb x high hi, lt-leb count 1 more) in
-    read ∙ ap (λ v. behind (continuation (count - 1) v 128 191) rest) whole
+    read ∙ ap (λ v. reading_behind (continuation (count - 1) v 128 191) rest) whole
 
-last_read : (bits low high x c : ℕ) → low ≤ x → x ≤ high → c ≡ bits * 64 + (x - 128) → IsScalar c → behind (continuation 1 bits low high) (x ∷ []) ≡ is c
+last_read : (bits low high x c : ℕ) → low ≤ x → x ≤ high → c ≡ bits * 64 + (x - 128) → IsScalar c → reading_behind (continuation 1 bits low high) (x ∷ []) ≡ is c
 last_read bits low high x c lo hi code good =
     let begun = continuation 1 bits low high in
     let small = scalar_bound c good in
     let whole : joined_bits begun x ≡ c = omega arith in
-    let read : behind begun (x ∷ []) ≡ ended (joined_bits begun x) [] = rw (le-leb low x lo, le-leb x high hi) in
-    read ∙ ap (λ v. ended v []) whole ∙ ap (λ t. if t then is c else neither) (is-scalar c good)
+    let read : reading_behind begun (x ∷ []) ≡ ended_character (joined_bits begun x) [] = rw (le-leb low x lo, le-leb x high hi) in
+    read ∙ ap (λ v. ended_character v []) whole ∙ ap (λ t. if t then is c else neither) (is-scalar c good)
 
 two_read : (c : ℕ) → 128 ≤ c → c < 2048 → IsScalar c → characters ((192 + c / 64) ∷ (128 + c % 64) ∷ []) ≡ is c
 two_read c low h good =
@@ -154,35 +154,35 @@ record IsEnd (code : ℕ) (bs : List ℕ) (c : ℕ) : Type 0 where
   same : code ≡ c
   good : IsScalar c
 
-end_from : (code : ℕ) (bs : List ℕ) (c : ℕ) → ended code bs ≡ is c → IsEnd code bs c
+end_from : (code : ℕ) (bs : List ℕ) (c : ℕ) → ended_character code bs ≡ is c → IsEnd code bs c
 end_from code [] c =
     cond_both (is_scalar code) (is code) neither (λ r. r ≡ is c → IsEnd code [] c)
     (λ t e. let same : code ≡ c = cc in record { none = refl; same = same; good = scalar-is c (subst (λ v. is_scalar v ≡ true) same t) })
     (λ _ e. absurd cc)
 end_from code (b ∷ bs) c = λ e. absurd cc
 
-not_ended : (code c : ℕ) (bs more : List ℕ) → more ≢ [] → ended code (bs ++ more) ≡ is c → ⊥
+not_ended : (code c : ℕ) (bs more : List ℕ) → more ≢ [] → ended_character code (bs ++ more) ≡ is c → ⊥
 not_ended code c [] more some e = some (end_from code more c e).none
 not_ended code c (b ∷ bs) more some e = absurd cc
 
-behind-begins : (begun : Continuation) (c : ℕ) (bs more : List ℕ) → more ≢ [] → behind begun (bs ++ more) ≡ is c → behind begun bs ≡ begins
-behind-begins begun c [] more some = λ _. refl
-behind-begins begun c (b ∷ bs) more some =
+reading_behind-begins : (begun : Continuation) (c : ℕ) (bs more : List ℕ) → more ≢ [] → reading_behind begun (bs ++ more) ≡ is c → reading_behind begun bs ≡ begins
+reading_behind-begins begun c [] more some = λ _. refl
+reading_behind-begins begun c (b ∷ bs) more some =
     let bits = joined_bits begun b in
     let next = continuation (begun.count - 1) bits 128 191 in
     let last = nat_le begun.count 1 in
-    let Goal : Type 0 = behind begun (b ∷ bs) ≡ begins in
-    cond_both (is_between begun.low begun.high b) (if last then ended bits (bs ++ more) else behind next (bs ++ more)) neither (λ r. r ≡ is c → Goal)
-    (λ t. cond_both last (ended bits (bs ++ more)) (behind next (bs ++ more)) (λ r. r ≡ is c → Goal)
+    let Goal : Type 0 = reading_behind begun (b ∷ bs) ≡ begins in
+    cond_both (is_between begun.low begun.high b) (if last then ended_character bits (bs ++ more) else reading_behind next (bs ++ more)) neither (λ r. r ≡ is c → Goal)
+    (λ t. cond_both last (ended_character bits (bs ++ more)) (reading_behind next (bs ++ more)) (λ r. r ≡ is c → Goal)
     (λ _ e. absurd (not_ended bits c bs more some e))
-    (λ n e. rw (t, n) (behind-begins next c bs more some e)))
+    (λ n e. rw (t, n) (reading_behind-begins next c bs more some e)))
     (λ _ e. absurd cc)
 
 characters-begins : (c : ℕ) (bs more : List ℕ) → more ≢ [] → characters (bs ++ more) ≡ is c → characters bs ≡ begins
 characters-begins c [] more some = λ _. refl
 characters-begins c (b ∷ bs) more some =
-    elim (first_byte b) as (λ o. elim o [ Some k ↦ behind k (bs ++ more) | None ↦ neither ] ≡ is c → elim o [ Some k ↦ behind k bs | None ↦ neither ] ≡ begins) [
-      | Some k ↦ behind-begins k c bs more some
+    elim (first_byte b) as (λ o. elim o [ Some k ↦ reading_behind k (bs ++ more) | None ↦ neither ] ≡ is c → elim o [ Some k ↦ reading_behind k bs | None ↦ neither ] ≡ begins) [
+      | Some k ↦ reading_behind-begins k c bs more some
       | None ↦ λ e. absurd cc
     ]
 
@@ -207,26 +207,26 @@ record IsNext (count bits low high : ℕ) (bs : List ℕ) (c : ℕ) : Type 0 whe
   all : bs ≡ x ∷ rest
   lo : low ≤ x
   hi : x ≤ high
-  left : behind (continuation (count - 1) (min (bits * 64 + (x - 128)) 4294967295) 128 191) rest ≡ is c
+  left : reading_behind (continuation (count - 1) (min (bits * 64 + (x - 128)) 4294967295) 128 191) rest ≡ is c
 
-last_from : (bits low high : ℕ) (bs : List ℕ) (c : ℕ) → behind (continuation 1 bits low high) bs ≡ is c → IsLast bits low high bs c
+last_from : (bits low high : ℕ) (bs : List ℕ) (c : ℕ) → reading_behind (continuation 1 bits low high) bs ≡ is c → IsLast bits low high bs c
 last_from bits low high [] c = λ e. absurd cc
 last_from bits low high (b ∷ bs) c =
     let code = min (bits * 64 + (b - 128)) 4294967295 in
-    cond_both (is_between low high b) (ended code bs) neither (λ r. r ≡ is c → IsLast bits low high (b ∷ bs) c)
+    cond_both (is_between low high b) (ended_character code bs) neither (λ r. r ≡ is c → IsLast bits low high (b ∷ bs) c)
     (λ t e.
     let end = end_from code bs c e in
     record { x = b; all = ap (λ l. b ∷ l) end.none; lo = from_low low high b t; hi = up_to_high low high b t; code = end.same; good = end.good })
     (λ _ e. absurd cc)
 
-next_from : (count bits low high : ℕ) (bs : List ℕ) (c : ℕ) → nat_le count 1 ≡ false → behind (continuation count bits low high) bs ≡ is c → IsNext count bits low high bs c
+next_from : (count bits low high : ℕ) (bs : List ℕ) (c : ℕ) → nat_le count 1 ≡ false → reading_behind (continuation count bits low high) bs ≡ is c → IsNext count bits low high bs c
 next_from count bits low high [] c more = λ e. absurd cc
 next_from count bits low high (b ∷ bs) c more =
     let joined = min (bits * 64 + (b - 128)) 4294967295 in
-    let left = behind (continuation (count - 1) joined 128 191) bs in
-    cond_both (is_between low high b) (if nat_le count 1 then ended joined bs else left) neither (λ r. r ≡ is c → IsNext count bits low high (b ∷ bs) c)
+    let left = reading_behind (continuation (count - 1) joined 128 191) bs in
+    cond_both (is_between low high b) (if nat_le count 1 then ended_character joined bs else left) neither (λ r. r ≡ is c → IsNext count bits low high (b ∷ bs) c)
     (λ t e.
-    let goes-on : left ≡ is c = ap (λ v. if v then ended joined bs else left) (sym more) ∙ e in
+    let goes-on : left ≡ is c = ap (λ v. if v then ended_character joined bs else left) (sym more) ∙ e in
     record { x = b; rest = bs; all = refl; lo = from_low low high b t; hi = up_to_high low high b t; left = goes-on })
     (λ _ e. absurd cc)
 
@@ -264,14 +264,14 @@ four_of b x y z c least most narrow x-lo x-hi y-lo y-hi z-lo z-hi code good =
     let last : 128 + c % 64 ≡ z = omega arith in
     record { good = good; high = omega arith; bytes = rw (le-ltb c 128 (omega arith), le-ltb c 2048 (omega arith), le-ltb c 65536 above, first, second, third, last) refl }
 
-two_from : (b : ℕ) (bs : List ℕ) (c : ℕ) → 194 ≤ b → b ≤ 223 → behind (continuation 1 (b - 192) 128 191) bs ≡ is c → IsUtf8Of c b bs
+two_from : (b : ℕ) (bs : List ℕ) (c : ℕ) → 194 ≤ b → b ≤ 223 → reading_behind (continuation 1 (b - 192) 128 191) bs ≡ is c → IsUtf8Of c b bs
 two_from b bs c least most e =
     let p = last_from (b - 192) 128 191 bs c e in
     let code : c ≡ (b - 192) * 64 + (p.x - 128) = omega (arith, p.code, p.hi) in
     subst (IsUtf8Of c b) (sym p.all) (two_of b p.x c least most p.lo p.hi code p.good)
 
 three_from : (b bits low high : ℕ) (bs : List ℕ) (c : ℕ) → 224 ≤ b → b ≤ 239 → bits ≡ b - 224 → 128 ≤ low → high ≤ 191 → (b ≡ 224 → 160 ≤ low)
-    → behind (continuation 2 bits low high) bs ≡ is c → IsUtf8Of c b bs
+    → reading_behind (continuation 2 bits low high) bs ≡ is c → IsUtf8Of c b bs
 three_from b bits low high bs c least most is-bits above below narrow e =
     let p = next_from 2 bits low high bs c refl e in
     let joined = min (bits * 64 + (p.x - 128)) 4294967295 in
@@ -282,7 +282,7 @@ three_from b bits low high bs c least most is-bits above below narrow e =
     subst (IsUtf8Of c b) (sym (p.all ∙ ap (λ l. p.x ∷ l) q.all)) form
 
 four_from : (b bits low high : ℕ) (bs : List ℕ) (c : ℕ) → 240 ≤ b → b ≤ 244 → bits ≡ b - 240 → 128 ≤ low → high ≤ 191 → (b ≡ 240 → 144 ≤ low)
-    → behind (continuation 3 bits low high) bs ≡ is c → IsUtf8Of c b bs
+    → reading_behind (continuation 3 bits low high) bs ≡ is c → IsUtf8Of c b bs
 four_from b bits low high bs c least most is-bits above below narrow e =
     let p = next_from 3 bits low high bs c refl e in
     let joined = min (bits * 64 + (p.x - 128)) 4294967295 in
@@ -297,27 +297,27 @@ four_from b bits low high bs c least most is-bits above below narrow e =
 
 -- ---- the rows of the table, by their first bytes
 
-at_224 : (b : ℕ) (bs : List ℕ) (c : ℕ) → b ≡ 224 → behind (continuation 2 0 160 191) bs ≡ is c → IsUtf8Of c b bs
+at_224 : (b : ℕ) (bs : List ℕ) (c : ℕ) → b ≡ 224 → reading_behind (continuation 2 0 160 191) bs ≡ is c → IsUtf8Of c b bs
 at_224 b bs c at = three_from b 0 160 191 bs c (omega arith) (omega arith) (omega arith) (omega arith) (omega arith) (λ _. omega arith)
 
-at_237 : (b : ℕ) (bs : List ℕ) (c : ℕ) → b ≡ 237 → behind (continuation 2 13 128 159) bs ≡ is c → IsUtf8Of c b bs
+at_237 : (b : ℕ) (bs : List ℕ) (c : ℕ) → b ≡ 237 → reading_behind (continuation 2 13 128 159) bs ≡ is c → IsUtf8Of c b bs
 at_237 b bs c at = three_from b 13 128 159 bs c (omega arith) (omega arith) (omega arith) (omega arith) (omega arith) (λ e. absurd (omega (arith, e)))
 
-from_225 : (b : ℕ) (bs : List ℕ) (c : ℕ) → 225 ≤ b → b ≤ 239 → behind (continuation 2 (b - 224) 128 191) bs ≡ is c → IsUtf8Of c b bs
+from_225 : (b : ℕ) (bs : List ℕ) (c : ℕ) → 225 ≤ b → b ≤ 239 → reading_behind (continuation 2 (b - 224) 128 191) bs ≡ is c → IsUtf8Of c b bs
 from_225 b bs c least most = three_from b (b - 224) 128 191 bs c (omega arith) most refl (omega arith) (omega arith) (λ e. absurd (omega (arith, e)))
 
-at_240 : (b : ℕ) (bs : List ℕ) (c : ℕ) → b ≡ 240 → behind (continuation 3 0 144 191) bs ≡ is c → IsUtf8Of c b bs
+at_240 : (b : ℕ) (bs : List ℕ) (c : ℕ) → b ≡ 240 → reading_behind (continuation 3 0 144 191) bs ≡ is c → IsUtf8Of c b bs
 at_240 b bs c at = four_from b 0 144 191 bs c (omega arith) (omega arith) (omega arith) (omega arith) (omega arith) (λ _. omega arith)
 
-from_241 : (b : ℕ) (bs : List ℕ) (c : ℕ) → 241 ≤ b → b ≤ 243 → behind (continuation 3 (b - 240) 128 191) bs ≡ is c → IsUtf8Of c b bs
+from_241 : (b : ℕ) (bs : List ℕ) (c : ℕ) → 241 ≤ b → b ≤ 243 → reading_behind (continuation 3 (b - 240) 128 191) bs ≡ is c → IsUtf8Of c b bs
 from_241 b bs c least most = four_from b (b - 240) 128 191 bs c (omega arith) (omega arith) refl (omega arith) (omega arith) (λ e. absurd (omega (arith, e)))
 
-at_244 : (b : ℕ) (bs : List ℕ) (c : ℕ) → b ≡ 244 → behind (continuation 3 4 128 143) bs ≡ is c → IsUtf8Of c b bs
+at_244 : (b : ℕ) (bs : List ℕ) (c : ℕ) → b ≡ 244 → reading_behind (continuation 3 4 128 143) bs ≡ is c → IsUtf8Of c b bs
 at_244 b bs c at = four_from b 4 128 143 bs c (omega arith) (omega arith) (omega arith) (omega arith) (omega arith) (λ e. absurd (omega (arith, e)))
 
-utf8_from : (b : ℕ) (bs : List ℕ) (c : ℕ) → character b bs ≡ is c → IsUtf8Of c b bs
+utf8_from : (b : ℕ) (bs : List ℕ) (c : ℕ) → multibyte_character b bs ≡ is c → IsUtf8Of c b bs
 utf8_from b bs c =
-    let P : Option Continuation → Type 0 = λ o. elim o [ Some k ↦ behind k bs | None ↦ neither ] ≡ is c → IsUtf8Of c b bs in
+    let P : Option Continuation → Type 0 = λ o. elim o [ Some k ↦ reading_behind k bs | None ↦ neither ] ≡ is c → IsUtf8Of c b bs in
     cond_both (is_between 194 223 b) _ _ P (λ t. two_from b bs c (from_low 194 223 b t) (up_to_high 194 223 b t))
     (λ _. cond_both (nat_eq b 224) _ _ P (λ t. at_224 b bs c (eqb-true b 224 t))
     (λ _. cond_both (nat_eq b 237) _ _ P (λ t. at_237 b bs c (eqb-true b 237 t))

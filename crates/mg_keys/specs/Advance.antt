@@ -5,17 +5,17 @@ use Rattle.mg_keys.specs.declared.sequence.Advance.TheVariants.{Whole, On, Nothi
 use Rattle.mg_keys.specs.declared.step.Mode.{Mode}
 use Rattle.mg_keys.specs.declared.utf8.Read.{Read}
 use Rattle.mg_keys.specs.declared.utf8.Read.TheVariants as read
-use Rattle.mg_keys.specs.Utf8.{Reading, is, begins, neither, behind}
+use Rattle.mg_keys.specs.Utf8.{Utf8Reading, is, begins, neither, reading_behind}
 use Rattle.mg_keys.specs.Meaning.{Meaning, whole, beginning, no_key, itself}
 use Rattle.mg_keys.specs.Begun.{KeyState, plain_rest, text_rest, rest_meaning}
 
 -- of a character
-abbrev pub ReadsOn : (List ℕ → Reading) → ℕ → Read → Type 0
+abbrev pub ReadsOn : (List ℕ → Utf8Reading) → ℕ → Read → Type 0
 ReadsOn f byte (read.Character c) = f (byte ∷ []) ≡ is c
-ReadsOn f byte (read.More begun) = (f (byte ∷ []) ≡ begins) × ((rest : List ℕ) → f (byte ∷ rest) ≡ behind begun rest)
+ReadsOn f byte (read.More begun) = (f (byte ∷ []) ≡ begins) × ((rest : List ℕ) → f (byte ∷ rest) ≡ reading_behind begun rest)
 ReadsOn f byte read.Nothing = f (byte ∷ []) ≡ neither
 
-abbrev pub by_itself : List ℕ → Reading
+abbrev pub by_itself : List ℕ → Utf8Reading
 by_itself [] = begins
 by_itself (b ∷ bs) = itself b bs
 

@@ -6,8 +6,8 @@ use Rattle.mg_keys.specs.declared.argument.TheConstants.{MAX_ARGUMENT}
 use Rattle.mg_keys.specs.declared.bytes.TheConstants.{UNIVERSAL_ARGUMENT}
 use Rattle.mg_keys.specs.Utf8.{is_between}
 
-abbrev pub is_digit : ℕ → Bool
-is_digit b = is_between 48 57 b
+abbrev pub is_digit_byte : ℕ → Bool
+is_digit_byte b = is_between 48 57 b
 
 abbrev pub capped : ℕ → ℕ
 capped n = min n MAX_ARGUMENT
@@ -25,7 +25,7 @@ four_times (Typed n) = Multiplied (capped (4 * n))
 
 -- the argument with one byte more of an argument part, if the byte goes on with it
 abbrev pub with_byte : Argument → ℕ → Option Argument
-with_byte a b = if nat_eq b UNIVERSAL_ARGUMENT then Some (four_times a) else (if is_digit b then with_digit a (b - 48) else None)
+with_byte a b = if nat_eq b UNIVERSAL_ARGUMENT then Some (four_times a) else (if is_digit_byte b then with_digit a (b - 48) else None)
 
 abbrev pub value : Argument → ℕ
 value Absent = 1

@@ -10,8 +10,8 @@ use Rattle.mg_keys.specs.declared.step.Mode.TheVariants as mode
 use Rattle.mg_keys.specs.declared.step.Step.{Step}
 use Rattle.mg_keys.specs.declared.step.Step.TheVariants as step
 use Rattle.mg_keys.specs.Argument.{value}
-use Rattle.mg_keys.specs.Utf8.{behind}
-use Rattle.mg_keys.specs.Meaning.{Meaning, whole, beginning, no_key, meaning, plain_meaning, meaning_of_keys, insertion, text, query_meaning}
+use Rattle.mg_keys.specs.Utf8.{reading_behind}
+use Rattle.mg_keys.specs.Meaning.{Meaning, whole, beginning, no_key, meaning, plain_meaning, meaning_of_keys, insertion_meaning, text_meaning, query_meaning}
 
 -- what the keys have read since the last whole sequence
 pub record KeyState : Type 0 where
@@ -25,10 +25,10 @@ plain_rest a Start rest = plain_meaning a rest
 plain_rest a Escape rest = meaning_of_keys (value a) (ESCAPE ∷ rest)
 plain_rest a ControlX rest = meaning_of_keys (value a) (CONTROL_X ∷ rest)
 plain_rest a Quote rest = meaning_of_keys (value a) (QUOTE ∷ rest)
-plain_rest a (Character begun) rest = insertion (value a) (behind begun rest)
+plain_rest a (Character begun) rest = insertion_meaning (value a) (reading_behind begun rest)
 
 abbrev pub text_rest : Mode → Sequence → List ℕ → Meaning
-text_rest m (Character begun) rest = text (behind begun rest)
+text_rest m (Character begun) rest = text_meaning (reading_behind begun rest)
 text_rest m sequence rest = meaning m rest
 
 -- the same in any mode

@@ -13,8 +13,8 @@ pub record Row : Type 0 where
   pub keys : List ℕ
   pub command : KeyCommand
 
-abbrev pub alone : ℕ → KeyCommand → Row
-alone byte command = record { keys = byte ∷ []; command = command }
+abbrev pub single_key : ℕ → KeyCommand → Row
+single_key byte command = record { keys = byte ∷ []; command = command }
 
 abbrev pub meta : ℕ → KeyCommand → Row
 meta byte command = record { keys = ESCAPE ∷ byte ∷ []; command = command }
@@ -25,27 +25,27 @@ control_x byte command = record { keys = CONTROL_X ∷ byte ∷ []; command = co
 -- the key sequences; behind ESC an upper-case letter counts as the lower-case one
 abbrev pub rows : List Row
 rows =
-    alone 0 SetMarkCommand ∷
-    alone 1 BeginningOfLine ∷
-    alone 5 EndOfLine ∷
-    alone 2 BackwardChar ∷
-    alone 6 ForwardChar ∷
-    alone 4 DeleteChar ∷
-    alone 127 DeleteBackwardChar ∷
-    alone 10 NewlineAndIndent ∷
-    alone 13 Newline ∷
-    alone 15 OpenLine ∷
-    alone 11 KillLine ∷
-    alone 23 KillRegion ∷
-    alone 25 Yank ∷
-    alone 12 Recenter ∷
-    alone 14 NextLine ∷
-    alone 16 PreviousLine ∷
-    alone 19 IsearchForward ∷
-    alone 18 IsearchBackward ∷
-    alone 20 TransposeChars ∷
-    alone 22 ScrollUp ∷
-    alone 31 Undo ∷
+    single_key 0 SetMarkCommand ∷
+    single_key 1 BeginningOfLine ∷
+    single_key 5 EndOfLine ∷
+    single_key 2 BackwardChar ∷
+    single_key 6 ForwardChar ∷
+    single_key 4 DeleteChar ∷
+    single_key 127 DeleteBackwardChar ∷
+    single_key 10 NewlineAndIndent ∷
+    single_key 13 Newline ∷
+    single_key 15 OpenLine ∷
+    single_key 11 KillLine ∷
+    single_key 23 KillRegion ∷
+    single_key 25 Yank ∷
+    single_key 12 Recenter ∷
+    single_key 14 NextLine ∷
+    single_key 16 PreviousLine ∷
+    single_key 19 IsearchForward ∷
+    single_key 18 IsearchBackward ∷
+    single_key 20 TransposeChars ∷
+    single_key 22 ScrollUp ∷
+    single_key 31 Undo ∷
     meta 60 BeginningOfBuffer ∷
     meta 62 EndOfBuffer ∷
     meta 37 QueryReplace ∷

@@ -12,7 +12,7 @@ use Rattle.mg_keys.specs.declared.step.Step.TheVariants as step
 use Rattle.mg_keys.specs.Argument.{with_byte, value}
 use Rattle.mg_keys.specs.Commands.{step_of}
 use Rattle.mg_keys.specs.KeyTable.{bound, begins_some, same_keys}
-use Rattle.mg_keys.specs.Utf8.{Reading, is, begins, neither, is_between, ended, character}
+use Rattle.mg_keys.specs.Utf8.{Utf8Reading, is, begins, neither, is_between, ended_character, multibyte_character}
 
 -- bytes that are a key sequence, a proper beginning of one, or neither
 pub data Meaning : Type 0 where
@@ -27,29 +27,29 @@ abbrev pub is_cancel : List ℕ → Bool
 is_cancel keys = same_keys (CANCEL ∷ []) keys || (same_keys (ESCAPE ∷ CANCEL ∷ []) keys || same_keys (CONTROL_X ∷ CANCEL ∷ []) keys)
 
 -- the character that C-q takes
-abbrev pub quoted : List ℕ → Reading
+abbrev pub quoted : List ℕ → Utf8Reading
 quoted [] = begins
-quoted (b ∷ bs) = if nat_lt b 128 then ended b bs else character b bs
+quoted (b ∷ bs) = if nat_lt b 128 then ended_character b bs else multibyte_character b bs
 
 -- the character that bytes are by themselves: none of the control characters but TAB
-abbrev pub itself : ℕ → List ℕ → Reading
-itself b bs = if nat_eq b TAB || is_between 32 126 b then ended b bs else (if nat_le 128 b then character b bs else neither)
+abbrev pub itself : ℕ → List ℕ → Utf8Reading
+itself b bs = if nat_eq b TAB || is_between 32 126 b then ended_character b bs else (if nat_le 128 b then multibyte_character b bs else neither)
 
-abbrev pub inserted_character : List ℕ → Reading
+abbrev pub inserted_character : List ℕ → Utf8Reading
 inserted_character [] = neither
 inserted_character (k ∷ ks) = if nat_eq k QUOTE then quoted ks else itself k ks
 
-abbrev pub insertion : ℕ → Reading → Meaning
-insertion n (is c) = whole (step.Run (run.Insert c) n)
-insertion n begins = beginning
-insertion n neither = no_key
+abbrev pub insertion_meaning : ℕ → Utf8Reading → Meaning
+insertion_meaning n (is c) = whole (step.Run (run.Insert c) n)
+insertion_meaning n begins = beginning
+insertion_meaning n neither = no_key
 
 -- what the keys behind an argument part mean
 abbrev pub meaning_of_keys : ℕ → List ℕ → Meaning
 meaning_of_keys n keys =
     if is_cancel keys then whole step.Cancel else elim (bound keys) [
       | Some command ↦ whole (step_of command n)
-      | None ↦ (if begins_some keys then beginning else insertion n (inserted_character keys))
+      | None ↦ (if begins_some keys then beginning else insertion_meaning n (inserted_character keys))
     ]
 
 -- the argument part as far as it goes, then the keys behind it
@@ -59,10 +59,10 @@ plain_meaning a (b ∷ bs) = elim (with_byte a b) [ Some c ↦ plain_meaning c b
 
 -- ---- prompts
 
-abbrev pub text : Reading → Meaning
-text (is c) = whole (step.Text c)
-text begins = beginning
-text neither = no_key
+abbrev pub text_meaning : Utf8Reading → Meaning
+text_meaning (is c) = whole (step.Text c)
+text_meaning begins = beginning
+text_meaning neither = no_key
 
 abbrev pub line_key : ℕ → Option Step
 line_key k =
@@ -90,13 +90,13 @@ or_leave no_key = whole step.Leave
 
 abbrev pub prompt_meaning : List ℕ → Meaning
 prompt_meaning [] = beginning
-prompt_meaning (k ∷ ks) = elim (line_key k) [ Some s ↦ whole s | None ↦ text (itself k ks) ]
+prompt_meaning (k ∷ ks) = elim (line_key k) [ Some s ↦ whole s | None ↦ text_meaning (itself k ks) ]
 
 -- a byte by itself may leave the search; a sequence that breaks is no key, and the search stays
 abbrev pub search_meaning : List ℕ → Meaning
 search_meaning [] = beginning
-search_meaning (k ∷ []) = elim (search_key k) [ Some s ↦ whole s | None ↦ or_leave (text (itself k [])) ]
-search_meaning (k ∷ c ∷ cs) = text (itself k (c ∷ cs))
+search_meaning (k ∷ []) = elim (search_key k) [ Some s ↦ whole s | None ↦ or_leave (text_meaning (itself k [])) ]
+search_meaning (k ∷ c ∷ cs) = text_meaning (itself k (c ∷ cs))
 
 abbrev pub query_meaning : List ℕ → Meaning
 query_meaning [] = beginning

@@ -62,13 +62,13 @@ names =
     entry (codes "replica-exchange") ReplicaExchange ∷
     entry (codes "replica-serve") ReplicaServe ∷ []
 
-abbrev pub first_with : List Named → List ℕ → Option NamedCommand
-first_with [] text = None
-first_with (n ∷ ns) text = if same_keys n.name text then Some n.command else first_with ns text
+abbrev pub first_of_name : List Named → List ℕ → Option NamedCommand
+first_of_name [] text = None
+first_of_name (n ∷ ns) text = if same_keys n.name text then Some n.command else first_of_name ns text
 
 -- the command of that name
-abbrev pub named : List ℕ → Option NamedCommand
-named text = first_with names text
+abbrev pub command_named : List ℕ → Option NamedCommand
+command_named text = first_of_name names text
 
 -- ---- the table as the code has it
 

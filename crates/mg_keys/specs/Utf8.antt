@@ -20,10 +20,10 @@ first_byte b =
     if nat_eq b 244 then Some (continuation 3 4 128 143) else None))))))
 
 -- what bytes are: a character, a proper beginning of one, or neither
-pub data Reading : Type 0 where
-  is : ℕ → Reading
-  begins : Reading
-  neither : Reading
+pub data Utf8Reading : Type 0 where
+  is : ℕ → Utf8Reading
+  begins : Utf8Reading
+  neither : Utf8Reading
 
 abbrev pub is_scalar : ℕ → Bool
 is_scalar c = nat_lt c 55296 || (nat_le 57344 c && nat_lt c 1114112)
@@ -33,22 +33,22 @@ abbrev pub joined_bits : Continuation → ℕ → ℕ
 joined_bits begun b = min (begun.bits * 64 + (b - 128)) 4294967295
 
 -- a character whose last byte has come, if nothing follows
-abbrev pub ended : ℕ → List ℕ → Reading
-ended c [] = if is_scalar c then is c else neither
-ended c (b ∷ bs) = neither
+abbrev pub ended_character : ℕ → List ℕ → Utf8Reading
+ended_character c [] = if is_scalar c then is c else neither
+ended_character c (b ∷ bs) = neither
 
 -- what the bytes behind a beginning make of it
-abbrev pub behind : Continuation → List ℕ → Reading
-behind begun [] = begins
-behind begun (b ∷ bs) =
+abbrev pub reading_behind : Continuation → List ℕ → Utf8Reading
+reading_behind begun [] = begins
+reading_behind begun (b ∷ bs) =
     if is_between begun.low begun.high b
-    then (if nat_le begun.count 1 then ended (joined_bits begun b) bs else behind (continuation (begun.count - 1) (joined_bits begun b) 128 191) bs)
+    then (if nat_le begun.count 1 then ended_character (joined_bits begun b) bs else reading_behind (continuation (begun.count - 1) (joined_bits begun b) 128 191) bs)
     else neither
 
 -- what bytes are, the first of which is none of ASCII
-abbrev pub character : ℕ → List ℕ → Reading
-character b bs = elim (first_byte b) [ Some begun ↦ behind begun bs | None ↦ neither ]
+abbrev pub multibyte_character : ℕ → List ℕ → Utf8Reading
+multibyte_character b bs = elim (first_byte b) [ Some begun ↦ reading_behind begun bs | None ↦ neither ]
 
-abbrev pub characters : List ℕ → Reading
+abbrev pub characters : List ℕ → Utf8Reading
 characters [] = begins
-characters (b ∷ bs) = character b bs
+characters (b ∷ bs) = multibyte_character b bs

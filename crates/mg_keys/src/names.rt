@@ -240,7 +240,7 @@ fn first_named(entries: &[Entry], text: &[char]) -> Option<NamedCommand>
 /// `quoted-insert`, `universal-argument`, `execute-extended-command` and `keyboard-quit`, which M-x
 /// does not take. Takes no memory.
 pub fn named(text: &[char]) -> Option<NamedCommand>
-    ensures { result ≡ spec.named text.now }
+    ensures { result ≡ spec.command_named text.now }
 {
     first_named(&NAMES, text)
 }

@@ -86,7 +86,7 @@ fn joined_bits(begun: Continuation, byte: u8) -> u32
 
 /// One byte more of a character.
 pub(crate) fn read_on(begun: Continuation, byte: u8) -> Read
-    ensures { ReadsOn (spec.behind begun) byte result }
+    ensures { ReadsOn (spec.reading_behind begun) byte result }
 {
     if byte < begun.low || byte > begun.high {
         return Read::Nothing;

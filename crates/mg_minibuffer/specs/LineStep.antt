@@ -1,7 +1,7 @@
 -- What a step leads to while a line of text is asked for, or whether to quit.
 use Rattle.std.specs.Prelude.{ℕ, List, [], length, Some, None, nat_eq, if◌then◌else◌}
 use Rattle.mg_keys.specs.Commands.{step_of}
-use Rattle.mg_keys.specs.Names.{named}
+use Rattle.mg_keys.specs.Names.{command_named}
 use Rattle.mg_keys.specs.declared.names.NamedCommand.{NamedCommand}
 use Rattle.mg_keys.specs.declared.names.NamedCommand.TheVariants.{Key, ReplicaExchange, ReplicaServe}
 use Rattle.mg_keys.specs.declared.step.Step.{Step}
@@ -33,7 +33,7 @@ named_step ReplicaExchange scene = asks_for request.Exchange
 named_step ReplicaServe scene = asks_for request.Serve
 
 abbrev pub extended : List ℕ → Scene → Reaction
-extended answer scene = elim (named answer) [
+extended answer scene = elim (command_named answer) [
   | Some command ↦ Ends (closing (named_step command scene))
   | None ↦ shows Closed message.NoSuchCommand
 ]
@@ -60,12 +60,12 @@ accepted Find answer scene = finds answer
 accepted Switch answer scene = closes (action.Switch answer)
 accepted Kill answer scene = closes (action.Kill answer)
 
-abbrev pub line_step : Asked → List ℕ → Step → Scene → Reaction
-line_step asked answer (Text c) scene = asks_on asked (typed answer c)
-line_step asked answer Rub scene = asks_on asked (rubbed answer)
-line_step asked answer Accept scene = accepted asked answer scene
-line_step asked answer Cancel scene = idles Closed message.Quit
-line_step asked answer _ scene = unbound
+abbrev pub line_prompt_step : Asked → List ℕ → Step → Scene → Reaction
+line_prompt_step asked answer (Text c) scene = asks_on asked (typed answer c)
+line_prompt_step asked answer Rub scene = asks_on asked (rubbed answer)
+line_prompt_step asked answer Accept scene = accepted asked answer scene
+line_prompt_step asked answer Cancel scene = idles Closed message.Quit
+line_prompt_step asked answer _ scene = unbound
 
 -- `y` quits, and any other step ends the question
 abbrev pub quit_step : Step → Reaction

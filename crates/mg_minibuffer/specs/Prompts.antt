@@ -33,9 +33,9 @@ label (Replacing pattern put count) = codes "Query replacing (y n ! q): "
 label Quitting = codes "Changed buffers; quit (y or n): "
 
 -- the answer so far
-abbrev pub answer : Prompt → List ℕ
-answer (Line asked chars) = chars
-answer (Replacement pattern chars) = chars
-answer (Searching search) = search.pattern
-answer (Replacing pattern put count) = []
-answer Quitting = []
+abbrev pub typed_answer : Prompt → List ℕ
+typed_answer (Line asked chars) = chars
+typed_answer (Replacement pattern chars) = chars
+typed_answer (Searching search) = search.pattern
+typed_answer (Replacing pattern put count) = []
+typed_answer Quitting = []

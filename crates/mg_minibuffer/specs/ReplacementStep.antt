@@ -30,22 +30,22 @@ asks_or_ends pattern put count scene otherwise = elim (found_match Forward patte
   | None ↦ ending_of action.Nothing Closed otherwise
 ]
 
-abbrev pub next_match : List ℕ → List ℕ → ℕ → Scene → Ending
-next_match pattern put count scene = asks_or_ends pattern put count scene (message.Replaced count)
+abbrev pub asks_at_next_match : List ℕ → List ℕ → ℕ → Scene → Ending
+asks_at_next_match pattern put count scene = asks_or_ends pattern put count scene (message.Replaced count)
 
 -- an empty pattern has no match
-abbrev pub first_match : List ℕ → List ℕ → Scene → Reaction
-first_match pattern put scene =
+abbrev pub asks_at_first_match : List ℕ → List ℕ → Scene → Reaction
+asks_at_first_match pattern put scene =
     let failed = message.Refused SearchFailed in
     if nat_eq (length pattern) 0 then shows Closed failed else Ends (asks_or_ends pattern put 0 scene failed)
 
-abbrev pub asks_on : List ℕ → List ℕ → Reaction
-asks_on pattern answer = shows (Open (Replacement pattern answer)) message.Nothing
+abbrev pub asks_replacement_on : List ℕ → List ℕ → Reaction
+asks_replacement_on pattern answer = shows (Open (Replacement pattern answer)) message.Nothing
 
 abbrev pub replacement_step : List ℕ → List ℕ → Step → Scene → Reaction
-replacement_step pattern answer (Text c) scene = asks_on pattern (typed answer c)
-replacement_step pattern answer Rub scene = asks_on pattern (rubbed answer)
-replacement_step pattern answer Accept scene = first_match pattern answer scene
+replacement_step pattern answer (Text c) scene = asks_replacement_on pattern (typed answer c)
+replacement_step pattern answer Rub scene = asks_replacement_on pattern (rubbed answer)
+replacement_step pattern answer Accept scene = asks_at_first_match pattern answer scene
 replacement_step pattern answer Cancel scene = idles Closed message.Quit
 replacement_step pattern answer _ scene = unbound
 
@@ -56,7 +56,7 @@ replaces_all pattern put count scene =
 
 abbrev pub replacing_step : List ℕ → List ℕ → ℕ → Step → Scene → Reaction
 replacing_step pattern put count (Answer answers.Yes) scene = Replaces pattern put count
-replacing_step pattern put count (Answer answers.No) scene = Ends (next_match pattern put count scene)
+replacing_step pattern put count (Answer answers.No) scene = Ends (asks_at_next_match pattern put count scene)
 replacing_step pattern put count (Answer answers.All) scene = replaces_all pattern put count scene
 replacing_step pattern put count (Answer answers.Quit) scene = shows Closed (message.Replaced count)
 replacing_step pattern put count Cancel scene = idles Closed message.Quit

@@ -22,16 +22,16 @@ use Rattle.mg_minibuffer.specs.Endings.{shows, runs, unbound}
 use Rattle.mg_minibuffer.specs.Typing.{rubbed}
 
 -- the place before one, and the place behind it
-abbrev pub before : ℕ → Option ℕ
-before i = if nat_eq i 0 then None else Some (i - 1)
+abbrev pub place_one_back : ℕ → Option ℕ
+place_one_back i = if nat_eq i 0 then None else Some (i - 1)
 
-abbrev pub behind : ℕ → Option ℕ
-behind i = if nat_lt (i + 1) (2 ^ 64) then Some (i + 1) else None
+abbrev pub place_one_on : ℕ → Option ℕ
+place_one_on i = if nat_lt (i + 1) (2 ^ 64) then Some (i + 1) else None
 
 -- where a search without a match begins: at its origin, or backward just before it
 abbrev pub start_from : Direction → ℕ → Option ℕ
 start_from Forward origin = Some origin
-start_from Backward origin = before origin
+start_from Backward origin = place_one_back origin
 
 abbrev pub from_origin : Search → Option ℕ
 from_origin s = start_from s.direction s.origin
@@ -41,8 +41,8 @@ abbrev pub from_match : Search → Option ℕ
 from_match s = elim s.found [ Some i ↦ Some i | None ↦ from_origin s ]
 
 abbrev pub past : Direction → ℕ → Option ℕ
-past Forward i = behind i
-past Backward i = before i
+past Forward i = place_one_on i
+past Backward i = place_one_back i
 
 -- where the search for the next match begins: past the match, if there is one; nowhere without a pattern
 abbrev pub past_match : Search → Option ℕ
@@ -94,8 +94,8 @@ lengthened s c text =
 abbrev pub or_last : List ℕ → List ℕ → List ℕ
 or_last pattern last = if nat_eq (length pattern) 0 then last else pattern
 
-abbrev pub turned : Search → Direction → List ℕ → Search
-turned s direction last = record s { direction = direction; pattern = or_last s.pattern last }
+abbrev pub turned_search : Search → Direction → List ℕ → Search
+turned_search s direction last = record s { direction = direction; pattern = or_last s.pattern last }
 
 -- on to the next match; direction and pattern stay also where there is none
 abbrev pub goes_on : Search → List ℕ → Reaction
@@ -119,8 +119,8 @@ anew s text = seek text s (first_start s) (returns s.origin (Open (Searching s))
 abbrev pub search_step : Search → Step → List ℕ → List ℕ → Reaction
 search_step s (step.Text c) text last = lengthened s c text
 search_step s step.Rub text last = anew (shorter s) text
-search_step s step.Next text last = goes_on (turned s Forward last) text
-search_step s step.Prev text last = goes_on (turned s Backward last) text
+search_step s step.Next text last = goes_on (turned_search s Forward last) text
+search_step s step.Prev text last = goes_on (turned_search s Backward last) text
 search_step s step.Accept text last = Accepts
 search_step s step.Cancel text last = returns s.origin Closed message.Quit
 search_step s _ text last = unbound

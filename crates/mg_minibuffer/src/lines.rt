@@ -92,7 +92,7 @@ pub(crate) fn line_step(
     step: &Step,
     scene: &Scene<'_>,
 ) -> Result<Reaction, AllocError>
-    ensures { let due = spec.line_step asked answer.now step.now scene.now in
+    ensures { let due = spec.line_prompt_step asked answer.now step.now scene.now in
         IfOk result (λ reaction. reaction ≡ due) }
 {
     match step {

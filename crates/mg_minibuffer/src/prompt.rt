@@ -92,7 +92,7 @@ impl Prompt {
 
     /// The answer so far, as the echo line shows it.
     pub fn answer(&self) -> &[char]
-        ensures { result.now ≡ spec.answer self.now }
+        ensures { result.now ≡ spec.typed_answer self.now }
     {
         match self {
             Prompt::Line { answer, .. } | Prompt::Replacement { answer, .. } => answer.as_slice(),

@@ -67,7 +67,7 @@ pub fn next_match(
     count: usize,
     scene: &Scene<'_>,
 ) -> Result<Ending, AllocError>
-    ensures { let due = spec.next_match pattern.now put.now count scene.now in
+    ensures { let due = spec.asks_at_next_match pattern.now put.now count scene.now in
         IfOk result (λ ending. ending ≡ due) }
 {
     asks_or_ends(alloc, pattern, put, count, scene, Message::Replaced(count))
@@ -80,7 +80,7 @@ fn first_match(
     put: &[char],
     scene: &Scene<'_>,
 ) -> Result<Reaction, AllocError>
-    ensures { let due = spec.first_match pattern.now put.now scene.now in
+    ensures { let due = spec.asks_at_first_match pattern.now put.now scene.now in
         IfOk result (λ reaction. reaction ≡ due) }
 {
     let failed = Message::Refused(Notice::SearchFailed);
@@ -91,7 +91,7 @@ fn first_match(
 }
 
 fn asks_on(alloc: Global, pattern: &[char], answer: Chars) -> Result<Reaction, AllocError>
-    ensures { IfOk result (λ reaction. reaction ≡ spec.asks_on pattern.now answer) }
+    ensures { IfOk result (λ reaction. reaction ≡ spec.asks_replacement_on pattern.now answer) }
 {
     let pattern = Chars::from_slice(alloc, pattern)?;
     let prompt = Prompt::Replacement { pattern, answer };

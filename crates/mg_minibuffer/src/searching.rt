@@ -151,7 +151,7 @@ fn turned(
     direction: Direction,
     last: &[char],
 ) -> Result<Search, AllocError>
-    ensures { let due = spec.turned search.now direction last.now in
+    ensures { let due = spec.turned_search search.now direction last.now in
         IfOk result (λ turned. turned ≡ due) }
 {
     Ok(Search {

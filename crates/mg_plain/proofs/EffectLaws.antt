@@ -17,13 +17,13 @@ use Rattle.mg_plain.specs.declared.steps.Direction.TheVariants.{Backward, Forwar
 use Rattle.mg_plain.specs.declared.steps.Piece.TheVariants.{Line, Word}
 use Rattle.mg_plain.specs.declared.view.Kind.TheVariants.{Killing}
 use Rattle.mg_plain.specs.Cases.{character_splices, first_word_character, recased_char, recasing, recasing_up_to}
-use Rattle.mg_text.specs.Characters.{is_newline, newline}
+use Rattle.mg_text.specs.Characters.{is_newline, newline_character}
 use Rattle.mg_plain.specs.Commands.{effect}
-use Rattle.mg_plain.specs.Effect.{Effect, IsWithin, edit_effect, motion, one_splice, removed_characters}
+use Rattle.mg_plain.specs.Effect.{Effect, IsWithinText, edit_effect, motion, one_splice, removed_characters}
 use Rattle.mg_text.specs.Splices.{splice}
 use Rattle.mg_text.specs.Filling.{alters, columns, filling, gaps}
-use Rattle.mg_plain.specs.Insertions.{indentation, insert, insertion, newline_and_indent, open_line, typing, yank}
-use Rattle.mg_plain.specs.Kills.{deletion, kill_after, kill_effect, kill_region, kill_so_far, kill_up_to}
+use Rattle.mg_plain.specs.Insertions.{indentation, insert, insertion_effect, newline_and_indent, open_line, typing, yank}
+use Rattle.mg_plain.specs.Kills.{deletion_effect, kill_after, kill_effect, kill_region, kill_so_far, kill_up_to}
 use Rattle.mg_plain.specs.Lines.{at_goal}
 use Rattle.mg_text.specs.Lines.{begins_line, line_begin, line_end}
 use Rattle.mg_plain.specs.Matches.{first_match, last_match, match_at, matches, next_match, stands_at}
@@ -31,12 +31,12 @@ use Rattle.mg_plain.specs.Motions.{by_lines, by_words, end_notice, goal_of, scro
 use Rattle.mg_text.specs.Paragraphs.{begins_paragraph, ends_paragraph, has_nonblank, next_word, paragraph, words}
 use Rattle.mg_plain.specs.Replacement.{all_matches, current_match, last_end, replacement, replacement_effect, replacements, stands_before_point}
 use Rattle.mg_plain.specs.Situation.{IsView, Situation}
-use Rattle.mg_text.specs.Spans.{AreRising, Span}
+use Rattle.mg_text.specs.Spans.{AreRisingSpans, Span}
 use Rattle.mg_plain.specs.Steps.{step, steps, steps_up_to}
 use Rattle.mg_plain.specs.Words.{begins_word, ends_word, word_begin, word_end}
 use Rattle.mg_plain.proofs.FallingLaws.{AreFalling, IsInside, RiseBetween, edit-within, falls, filter-rising, last_end-within, length_made, motion-within, one_splice-falling, place_after-within, raise, replacement-rising, reverse-falling, weaken}
 use Rattle.mg_plain.proofs.MatchLaws.{last_is, stands_within}
-use Rattle.mg_text.proofs.RangeLaws.{FindsWithin, chain-rising, greatest_up_to-within, least_found, least_from-within}
+use Rattle.mg_text.proofs.RangeLaws.{FindsWithin, span_chain-rising, greatest_up_to-within, least_found, least_from-within}
 use Rattle.mg_plain.proofs.StepLaws.{StaysWithin, steps-within, steps_up_to-within}
 use Rattle.mg_text.proofs.WordLaws.{finds_words}
 use Rattle.mg_plain.specs.declared.command.Command.TheVariants.{BeginningOfBuffer, EndOfBuffer as ToEndOfBuffer}
@@ -144,8 +144,8 @@ by_words-within direction n s e seen h =
 
 -- ---- insertions, deletions, kills
 
-insertion-within : (s : Situation) (put : List ℕ) → IsView s → IsInside s (insertion s put)
-insertion-within s put seen = edit-within s (one_splice s.point s.point put) seen (one_splice-falling s.point s.point (length s.text) put (omega arith) seen.point)
+insertion_effect-within : (s : Situation) (put : List ℕ) → IsView s → IsInside s (insertion_effect s put)
+insertion_effect-within s put seen = edit-within s (one_splice s.point s.point put) seen (one_splice-falling s.point s.point (length s.text) put (omega arith) seen.point)
 
 typing_point : (text put : List ℕ) (p : ℕ) → p ≤ length text → p + length put ≤ length (text_after text (one_splice p p put))
 typing_point text put p up = elim (cases_Bool (nat_eq p p && nat_eq (length put) 0)) [
@@ -161,7 +161,7 @@ typing_point text put p up = elim (cases_Bool (nat_eq p p && nat_eq (length put)
 
 typing-within : (s : Situation) (put : List ℕ) → IsView s → IsInside s (typing s put)
 typing-within s put seen =
-    let w = insertion-within s put seen in
+    let w = insertion_effect-within s put seen in
     record { falling = w.falling; point = typing_point s.text put s.point seen.point; mark = w.mark }
 
 yank-within : (s : Situation) → IsView s → IsInside s (yank s)
@@ -176,11 +176,11 @@ yank-within s seen =
           omega (arith, e, p);
     }
 
-deletion-within : (s : Situation) (lo hi : ℕ) → IsView s → lo ≤ hi → hi ≤ length s.text → IsInside s (deletion s lo hi)
-deletion-within s lo hi seen up within = edit-within s (one_splice lo hi []) seen (one_splice-falling lo hi (length s.text) [] up within)
+deletion_effect-within : (s : Situation) (lo hi : ℕ) → IsView s → lo ≤ hi → hi ≤ length s.text → IsInside s (deletion_effect s lo hi)
+deletion_effect-within s lo hi seen up within = edit-within s (one_splice lo hi []) seen (one_splice-falling lo hi (length s.text) [] up within)
 
 kill-within : (s : Situation) (lo hi : ℕ) → IsView s → lo ≤ hi → hi ≤ length s.text → IsInside s (kill_effect s lo hi)
-kill-within s lo hi seen up within = let w = deletion-within s lo hi seen up within in record { falling = w.falling; point = w.point; mark = w.mark }
+kill-within s lo hi seen up within = let w = deletion_effect-within s lo hi seen up within in record { falling = w.falling; point = w.point; mark = w.mark }
 
 -- the region
 region : (s : Situation) (f : ℕ → Effect) (e : Effect) → IsView s → ((m : ℕ) → m ≤ length s.text → IsInside s (f m)) → ◌≡◌ {A = Result Effect Notice} (elim s.mark [ None ↦ Err NoMark | Some m ↦ Ok (f m) ]) (Ok e) → IsInside s e
@@ -243,10 +243,10 @@ finds_matches pattern text = λ q m up h. at q m (first_match pattern text q) re
         let w = match-within pattern text q i e in
         subst (λ (r : Span). (q ≤ r.lo) × (r.lo ≤ r.hi) × (r.hi ≤ length text)) same (w.0, omega arith, w.1)
 
-all_matches-rising : (pattern : List ℕ) (s : Situation) → IsView s → stands_before_point pattern s ≡ true → AreRising 0 (length s.text) (all_matches pattern s.text s.point)
-all_matches-rising pattern s seen h = (omega arith, omega arith, seen.point, chain-rising (next_match pattern s.text) (length s.text) (finds_matches pattern s.text) (length s.text) s.point seen.point)
+all_matches-rising : (pattern : List ℕ) (s : Situation) → IsView s → stands_before_point pattern s ≡ true → AreRisingSpans 0 (length s.text) (all_matches pattern s.text s.point)
+all_matches-rising pattern s seen h = (omega arith, omega arith, seen.point, span_chain-rising (next_match pattern s.text) (length s.text) (finds_matches pattern s.text) (length s.text) s.point seen.point)
 
-replacements-falling : (put : List ℕ) (n : ℕ) (ms : List Span) → AreRising 0 n ms → AreFalling n (replacements put ms)
+replacements-falling : (put : List ℕ) (n : ℕ) (ms : List Span) → AreRisingSpans 0 n ms → AreFalling n (replacements put ms)
 replacements-falling put n ms r = reverse-falling 0 n (map (replacement put) ms) (omega arith) (replacement-rising put 0 n ms r)
 
 replacement_effect-within : (pattern put : List ℕ) (s : Situation) → IsView s → stands_before_point pattern s ≡ true → IsInside s (replacement_effect put (all_matches pattern s.text s.point) s)
@@ -259,7 +259,7 @@ replacement_effect-within pattern put s seen h =
 
 -- ---- filled
 
-gaps-rising : (column : ℕ) (used : Option ℕ) (at end : ℕ) (ws : List Span) → at ≤ end → AreRising at end ws → RiseBetween at end (gaps column used at end ws)
+gaps-rising : (column : ℕ) (used : Option ℕ) (at end : ℕ) (ws : List Span) → at ≤ end → AreRisingSpans at end ws → RiseBetween at end (gaps column used at end ws)
 gaps-rising column used at end [] up r = (omega arith, up, omega arith, tt)
 gaps-rising column used at end (w ∷ ws) up r =
     (omega arith, r.0, omega (arith, r.1, r.2), raise w.hi w.lo end (gaps column (Some (columns column used w)) w.hi end ws) r.1 (gaps-rising column (Some (columns column used w)) w.hi end ws r.2 r.3))
@@ -267,7 +267,7 @@ gaps-rising column used at end (w ∷ ws) up r =
 filling-falling : (column : ℕ) (text : List ℕ) (lo hi : ℕ) → lo ≤ hi → AreFalling hi (filling column text (record { lo = lo; hi = hi }))
 filling-falling column text lo hi up =
     let ws : List Span = words text lo hi in
-    let r = gaps-rising column None lo hi ws up (chain-rising (next_word text hi) hi (finds_words text hi) (length text) lo up) in
+    let r = gaps-rising column None lo hi ws up (span_chain-rising (next_word text hi) hi (finds_words text hi) (length text) lo up) in
     reverse-falling lo hi (filter (alters text) (gaps column None lo hi ws)) up (filter-rising (alters text) lo hi (gaps column None lo hi ws) r)
 
 fill-within : (column : ℕ) (s : Situation) → IsView s → (b : Bool) → IsInside s (edit_effect s (if b then filling column s.text (paragraph s.text s.point) else []))
@@ -282,9 +282,9 @@ fill-within column s seen false = edit-within s [] seen tt
 
 effect-inside : (c : Command) (n : ℕ) (s : Situation) (column : ℕ) (e : Effect) → IsView s → effect c n s column ≡ Ok e → IsInside s e
 effect-inside (Insert ch) n s column e seen h = by_ok s (insert ch n s) e (typing-within s (replicate n ch) seen) h
-effect-inside Newline n s column e seen h = by_ok s (insert newline n s) e (typing-within s (replicate n newline) seen) h
-effect-inside OpenLine n s column e seen h = by_ok s (open_line n s) e (insertion-within s (replicate n newline) seen) h
-effect-inside NewlineAndIndent n s column e seen h = by_ok s (newline_and_indent s) e (typing-within s (newline ∷ indentation s) seen) h
+effect-inside Newline n s column e seen h = by_ok s (insert newline_character n s) e (typing-within s (replicate n newline_character) seen) h
+effect-inside OpenLine n s column e seen h = by_ok s (open_line n s) e (insertion_effect-within s (replicate n newline_character) seen) h
+effect-inside NewlineAndIndent n s column e seen h = by_ok s (newline_and_indent s) e (typing-within s (newline_character ∷ indentation s) seen) h
 effect-inside ForwardChar n s column e seen h =
     by_if s (nat_le (s.point + n) (length s.text)) (motion s (s.point + n)) EndOfBuffer e (λ t. motion-within s (s.point + n) seen (leb-true (s.point + n) (length s.text) t)) h
 effect-inside BackwardChar n s column e seen h = by_if s (nat_le n s.point) (motion s (s.point - n)) AtBeginning e (λ t. motion-within s (s.point - n) seen (omega (arith, seen.point))) h
@@ -301,8 +301,8 @@ effect-inside (ScrollDown rows) n s column e seen h = scroll-within Backward row
 effect-inside ForwardWord n s column e seen h = by_words-within Forward n s e seen h
 effect-inside BackwardWord n s column e seen h = by_words-within Backward n s e seen h
 effect-inside DeleteChar n s column e seen h =
-    by_if s (nat_le (s.point + n) (length s.text)) (deletion s s.point (s.point + n)) EndOfBuffer e (λ t. deletion-within s s.point (s.point + n) seen (omega arith) (leb-true (s.point + n) (length s.text) t)) h
-effect-inside DeleteBackwardChar n s column e seen h = by_if s (nat_le n s.point) (deletion s (s.point - n) s.point) AtBeginning e (λ t. deletion-within s (s.point - n) s.point seen (omega arith) seen.point) h
+    by_if s (nat_le (s.point + n) (length s.text)) (deletion_effect s s.point (s.point + n)) EndOfBuffer e (λ t. deletion_effect-within s s.point (s.point + n) seen (omega arith) (leb-true (s.point + n) (length s.text) t)) h
+effect-inside DeleteBackwardChar n s column e seen h = by_if s (nat_le n s.point) (deletion_effect s (s.point - n) s.point) AtBeginning e (λ t. deletion_effect-within s (s.point - n) s.point seen (omega arith) seen.point) h
 effect-inside KillLine n s column e seen h =
     let hi : ℕ = max (line_end s.text s.point) (s.point + 1) in
     let ends = line_end-within s.text s.point seen.point in
@@ -341,7 +341,7 @@ effect-inside (ReplaceAll pattern put) n s column e seen h =
     by_if s (stands_before_point pattern s) (replacement_effect put (all_matches pattern s.text s.point) s) SearchFailed e (λ t. replacement_effect-within pattern put s seen t) h
 effect-inside FillParagraph n s column e seen h = by_ok s (edit_effect s (if has_nonblank s.text (line_begin s.text s.point) then filling column s.text (paragraph s.text s.point) else [])) e (fill-within column s seen (has_nonblank s.text (line_begin s.text s.point))) h
 
-pub effect-within : (command : Command) (n : ℕ) (s : Situation) (column : ℕ) (e : Effect) → IsView s → effect command n s column ≡ Ok e → IsWithin s e
+pub effect-within : (command : Command) (n : ℕ) (s : Situation) (column : ℕ) (e : Effect) → IsView s → effect command n s column ≡ Ok e → IsWithinText s e
 effect-within command n s column e seen h =
     let inside = effect-inside command n s column e seen h in
     record { falling = falls (length s.text) e.splices inside.falling; point = inside.point; mark = inside.mark }

@@ -10,7 +10,7 @@ use Rattle.mg_plain.specs.Effect.{Effect, carried_place, edit_effect, motion, on
 use Rattle.mg_text.specs.Splices.{splice}
 use Rattle.mg_plain.specs.Replacement.{last_end, replacement}
 use Rattle.mg_plain.specs.Situation.{IsView, Situation}
-use Rattle.mg_text.specs.Spans.{AreRising, Span}
+use Rattle.mg_text.specs.Spans.{AreRisingSpans, Span}
 
 -- splices that fall and keep apart, in parts
 abbrev pub AreFalling : ℕ → List Splice → Type 0
@@ -131,10 +131,10 @@ filter-rising p from to (c ∷ cs) r =
       | false ↦ raise c.hi from to (filter p cs) (omega (arith, r.0, r.1)) rest
     ]
 
-pub replacement-rising : (put : List ℕ) (from to : ℕ) (ms : List Span) → AreRising from to ms → RiseBetween from to (map (replacement put) ms)
+pub replacement-rising : (put : List ℕ) (from to : ℕ) (ms : List Span) → AreRisingSpans from to ms → RiseBetween from to (map (replacement put) ms)
 replacement-rising put from to [] r = tt
 replacement-rising put from to (m ∷ ms) r = (r.0, r.1, r.2, replacement-rising put m.hi to ms r.3)
 
-pub last_end-within : (from to : ℕ) (ms : List Span) → from ≤ to → AreRising from to ms → last_end from ms ≤ to
+pub last_end-within : (from to : ℕ) (ms : List Span) → from ≤ to → AreRisingSpans from to ms → last_end from ms ≤ to
 last_end-within from to [] up r = up
 last_end-within from to (m ∷ ms) up r = last_end-within m.hi to ms r.2 r.3

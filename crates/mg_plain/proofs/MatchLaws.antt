@@ -4,7 +4,7 @@ use Rattle.std.specs.Prelude.{nat_le}
 use Rattle.std.proofs.lemmas.Bool.{leb-true}
 use Rattle.std.proofs.lemmas.Option.{none-some}
 use Rattle.mg_plain.specs.Matches.{alike, begins_with, first_match, last_match, stands_at}
-use Rattle.mg_text.specs.Scans.{IsGreatest, greatest}
+use Rattle.mg_text.specs.Scans.{IsGreatest, greatest_passing}
 use Rattle.mg_text.proofs.RangeLaws.{greatest_is}
 use Rattle.mg_text.proofs.ScanLaws.{found_here, found_later, found_nowhere}
 
@@ -57,7 +57,7 @@ match_later pattern text i inside h = found_later (stands_at pattern text) i (su
 
 -- the last match up to a place, which lies in the text
 pub last_is : (pattern text : List ℕ) (start i : ℕ) → last_match pattern text start ≡ Some i → (start ≤ length text) × IsGreatest (stands_at pattern text) (suc start) i
-last_is pattern text start i h = elim (nat_le start (length text)) as (λ b. nat_le start (length text) ≡ b → ◌≡◌ {A = Option ℕ} (if b then greatest (stands_at pattern text) (suc start) else None) (Some i) → (start ≤ length text) × IsGreatest (stands_at pattern text) (suc start) i) [
+last_is pattern text start i h = elim (nat_le start (length text)) as (λ b. nat_le start (length text) ≡ b → ◌≡◌ {A = Option ℕ} (if b then greatest_passing (stands_at pattern text) (suc start) else None) (Some i) → (start ≤ length text) × IsGreatest (stands_at pattern text) (suc start) i) [
   | true ↦ λ up g. (leb-true start (length text) up, greatest_is (stands_at pattern text) (suc start) i g)
   | false ↦ λ up g. absurd (none-some _ g)
 ] refl h

@@ -5,7 +5,7 @@ use Rattle.rga_ops.specs.Splice.{Splice}
 use Rattle.mg_text.specs.Splices.{splice}
 use Rattle.mg_plain.specs.Matches.{first_match, match_at, match_count, matches, next_match, stands_at}
 use Rattle.mg_plain.specs.Replacement.{all_matches, current_match, last_end, replacement, replacements}
-use Rattle.mg_text.specs.Spans.{Span, chain}
+use Rattle.mg_text.specs.Spans.{Span, span_chain}
 use Rattle.mg_text.proofs.RangeLaws.{chain_ends, chain_more}
 use Rattle.mg_text.proofs.ScanLaws.{found_nowhere}
 
@@ -18,7 +18,7 @@ pub record Replacing (pattern put text : List ℕ) (point : ℕ) (splices : List
   pub done : List Span
   pub left : ℕ
   pub made : splices ≡ map (replacement put) done
-  pub all : done ++ chain (next_match pattern text) left end ≡ all_matches pattern text point
+  pub all : done ++ span_chain (next_match pattern text) left end ≡ all_matches pattern text point
   pub ends : last_end point done ≡ end
   pub enough : length text ≤ left + end
   pub within : end ≤ length text
@@ -39,13 +39,13 @@ replacing_on pattern put text point splices end i s so_far found behind inside s
     let m : Span = match_at pattern i in
     let more : so_far.left ≡ suc (so_far.left - 1) = omega (arith, so_far.enough, behind, inside, some) in
     let next : next_match pattern text end ≡ Some m = ap (option_map (match_at pattern)) found in
-    let rest : chain (next_match pattern text) so_far.left end ≡ m ∷ chain (next_match pattern text) (so_far.left - 1) m.hi =
-    ap (λ k. chain (next_match pattern text) k end) more ∙ chain_more (next_match pattern text) (so_far.left - 1) end m next in
+    let rest : span_chain (next_match pattern text) so_far.left end ≡ m ∷ span_chain (next_match pattern text) (so_far.left - 1) m.hi =
+    ap (λ k. span_chain (next_match pattern text) k end) more ∙ chain_more (next_match pattern text) (so_far.left - 1) end m next in
     record {
       done = so_far.done ++ m ∷ [];
       left = so_far.left - 1;
       made = (λ j. so_far.made j ++ h j ∷ []) ∙ sym (map_push (replacement put) so_far.done m);
-      all = append_assoc so_far.done (m ∷ []) (chain (next_match pattern text) (so_far.left - 1) m.hi) ∙ ap (λ ys. so_far.done ++ ys) (sym rest) ∙ so_far.all;
+      all = append_assoc so_far.done (m ∷ []) (span_chain (next_match pattern text) (so_far.left - 1) m.hi) ∙ ap (λ ys. so_far.done ++ ys) (sym rest) ∙ so_far.all;
       ends = last_end-push point so_far.done m;
       enough = omega (arith, so_far.enough, behind, inside, some, more);
       within = inside;
@@ -65,7 +65,7 @@ replacing_done pattern put text point splices end so_far found =
 -- so many matches have been counted, up to an end, and what is still to come
 pub record Counting (pattern text : List ℕ) (start count end : ℕ) : Type 0 where
   pub left : ℕ
-  pub all : count + length (chain (next_match pattern text) left end) ≡ length (matches pattern text start)
+  pub all : count + length (span_chain (next_match pattern text) left end) ≡ length (matches pattern text start)
   pub enough : length text ≤ left + end
   pub within : end ≤ length text
   pub bound : count ≤ end
@@ -78,9 +78,9 @@ counting_on pattern text start count end i so_far found behind inside some =
     let m : Span = match_at pattern i in
     let more : so_far.left ≡ suc (so_far.left - 1) = omega (arith, so_far.enough, behind, inside, some) in
     let next : next_match pattern text end ≡ Some m = ap (option_map (match_at pattern)) found in
-    let rest : chain (next_match pattern text) so_far.left end ≡ m ∷ chain (next_match pattern text) (so_far.left - 1) m.hi =
-    ap (λ k. chain (next_match pattern text) k end) more ∙ chain_more (next_match pattern text) (so_far.left - 1) end m next in
-    let longer : length (chain (next_match pattern text) so_far.left end) ≡ suc (length (chain (next_match pattern text) (so_far.left - 1) m.hi)) = ap length rest in
+    let rest : span_chain (next_match pattern text) so_far.left end ≡ m ∷ span_chain (next_match pattern text) (so_far.left - 1) m.hi =
+    ap (λ k. span_chain (next_match pattern text) k end) more ∙ chain_more (next_match pattern text) (so_far.left - 1) end m next in
+    let longer : length (span_chain (next_match pattern text) so_far.left end) ≡ suc (length (span_chain (next_match pattern text) (so_far.left - 1) m.hi)) = ap length rest in
     record {
       left = so_far.left - 1;
       all = omega (arith, so_far.all, longer);
@@ -92,7 +92,7 @@ counting_on pattern text start count end i so_far found behind inside some =
 pub counting_done : (pattern text : List ℕ) (start count end : ℕ) → Counting pattern text start count end → first_match pattern text end ≡ None → 0 < length pattern → count ≡ match_count pattern text start
 counting_done pattern text start count end so_far found some =
     let next : next_match pattern text end ≡ None = ap (option_map (match_at pattern)) found in
-    let none : length (chain (next_match pattern text) so_far.left end) ≡ 0 = ap length (chain_ends (next_match pattern text) so_far.left end next) in
+    let none : length (span_chain (next_match pattern text) so_far.left end) ≡ 0 = ap length (chain_ends (next_match pattern text) so_far.left end next) in
     let all : count ≡ length (matches pattern text start) = omega (arith, so_far.all, none) in
     all ∙ sym (ap (λ b. if b then 0 else length (matches pattern text start)) (ne_eqb (length pattern) 0 (λ e. omega (arith, e, some))))
 

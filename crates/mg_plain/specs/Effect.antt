@@ -54,7 +54,7 @@ removed_characters text [] = []
 removed_characters text (s ∷ splices) = removed_characters text splices ++ slice_range text s.lo s.hi
 
 -- the splices fall within the text; point and mark are places of the text that they leave
-pub record IsWithin (s : Situation) (e : Effect) : Type 0 where
+pub record IsWithinText (s : Situation) (e : Effect) : Type 0 where
   pub falling : are_falling (length s.text) e.splices ≡ true
   pub point : e.point ≤ length (text_after s.text e.splices)
   pub mark : ForSome e.mark (λ m. m ≤ length (text_after s.text e.splices))

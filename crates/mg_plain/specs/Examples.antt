@@ -4,7 +4,7 @@ use Rattle.rga_ops.specs.Splice.{Splice, text_after}
 use Rattle.mg_plain.specs.declared.view.Kind.TheVariants.{Plain, Killing}
 use Rattle.mg_plain.specs.declared.outcome.Notice.{Notice}
 use Rattle.mg_plain.specs.Situation.{Situation}
-use Rattle.mg_text.specs.Characters.{newline}
+use Rattle.mg_text.specs.Characters.{newline_character}
 use Rattle.mg_plain.specs.Effect.{Effect, motion}
 use Rattle.mg_plain.specs.Kills.{kill_after}
 
@@ -42,7 +42,7 @@ kill_of s one kill = record (motion s s.point) { splices = one ∷ []; mark = So
 
 -- two lines with a short one between
 abbrev pub short_line : List ℕ
-short_line = codes "abcd" ++ newline ∷ codes "x" ++ newline ∷ codes "abcd"
+short_line = codes "abcd" ++ newline_character ∷ codes "x" ++ newline_character ∷ codes "abcd"
 
 abbrev pub five_lines : List ℕ
-five_lines = codes "a" ++ newline ∷ codes "b" ++ newline ∷ codes "c" ++ newline ∷ codes "d" ++ newline ∷ codes "e"
+five_lines = codes "a" ++ newline_character ∷ codes "b" ++ newline_character ∷ codes "c" ++ newline_character ∷ codes "d" ++ newline_character ∷ codes "e"

@@ -11,17 +11,17 @@ use Rattle.mg_plain.specs.Effect.{Effect, one_splice, edit_effect}
 use Rattle.mg_text.specs.Lines.{line_end}
 use Rattle.mg_plain.specs.Words.{word_end}
 
-abbrev pub deletion : Situation → ℕ → ℕ → Effect
-deletion s lo hi = edit_effect s (one_splice lo hi [])
+abbrev pub deletion_effect : Situation → ℕ → ℕ → Effect
+deletion_effect s lo hi = edit_effect s (one_splice lo hi [])
 
 abbrev pub delete_char : ℕ → Situation → Result Effect Notice
-delete_char n s = if nat_le (s.point + n) (length s.text) then Ok (deletion s s.point (s.point + n)) else Err EndOfBuffer
+delete_char n s = if nat_le (s.point + n) (length s.text) then Ok (deletion_effect s s.point (s.point + n)) else Err EndOfBuffer
 
 abbrev pub delete_backward_char : ℕ → Situation → Result Effect Notice
-delete_backward_char n s = if nat_le n s.point then Ok (deletion s (s.point - n) s.point) else Err BeginningOfBuffer
+delete_backward_char n s = if nat_le n s.point then Ok (deletion_effect s (s.point - n) s.point) else Err BeginningOfBuffer
 
 abbrev pub kill_effect : Situation → ℕ → ℕ → Effect
-kill_effect s lo hi = record (deletion s lo hi) { kill = Some (slice_range s.text lo hi); kind = Killing }
+kill_effect s lo hi = record (deletion_effect s lo hi) { kill = Some (slice_range s.text lo hi); kind = Killing }
 
 -- from point to a place behind it, of which there is none at the end of the text
 abbrev pub kill_up_to : Situation → ℕ → Result Effect Notice

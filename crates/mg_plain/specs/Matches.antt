@@ -3,8 +3,8 @@ use Rattle.std.specs.Prelude.{ℕ, suc, ◌+◌, ◌-◌, ◌&&◌, Bool, true, 
 use Rattle.std.specs.Option.{option_map}
 use Rattle.mg_plain.specs.declared.steps.Direction.{Direction}
 use Rattle.mg_plain.specs.declared.steps.Direction.TheVariants.{Forward, Backward}
-use Rattle.mg_text.specs.Scans.{least, greatest}
-use Rattle.mg_text.specs.Spans.{Span, chain}
+use Rattle.mg_text.specs.Scans.{least, greatest_passing}
+use Rattle.mg_text.specs.Spans.{Span, span_chain}
 use Rattle.mg_text.specs.Characters.{lower}
 
 -- the same character, ASCII letters without regard to case
@@ -27,7 +27,7 @@ first_match pattern text start = least (stands_at pattern text) start (suc (leng
 
 -- the greatest index up to the start at which the pattern stands; there is none from behind the text
 abbrev pub last_match : List ℕ → List ℕ → ℕ → Option ℕ
-last_match pattern text start = if nat_le start (length text) then greatest (stands_at pattern text) (suc start) else None
+last_match pattern text start = if nat_le start (length text) then greatest_passing (stands_at pattern text) (suc start) else None
 
 -- the match that a search from the start finds
 abbrev pub found_match : Direction → List ℕ → List ℕ → ℕ → Option ℕ
@@ -43,7 +43,7 @@ next_match pattern text start = option_map (match_at pattern) (first_match patte
 
 -- the matches from the start on, each found from the end of the one before
 abbrev pub matches : List ℕ → List ℕ → ℕ → List Span
-matches pattern text start = chain (next_match pattern text) (length text) start
+matches pattern text start = span_chain (next_match pattern text) (length text) start
 
 -- how many they are; an empty pattern, which stands everywhere, has none that follow one another
 abbrev pub match_count : List ℕ → List ℕ → ℕ → ℕ

@@ -1,7 +1,7 @@
 //! Characters that change places, and letters that change case.
 ghost use Rattle.std.specs.Prelude.{◌≡◌, ◌≤◌, ◌<◌, ◌-◌, length, IfOk};
 ghost use Rattle.std.specs.List.{slice_index};
-ghost use Rattle.mg_plain.specs.Answer.{IsAnswer};
+ghost use Rattle.mg_plain.specs.Answer.{IsEffectAnswer};
 ghost use Rattle.mg_plain.specs.Cases as spec;
 
 use crate::characters::{lower, upper};
@@ -26,7 +26,7 @@ fn transpose(alloc: Global, view: &View<'_>) -> Result<Plan, AllocError>
 }
 
 pub(crate) fn transpose_chars(alloc: Global, view: &View<'_>) -> Result<Plan, Notice>
-    ensures { IsAnswer result (spec.transpose_chars view.now) }
+    ensures { IsEffectAnswer result (spec.transpose_chars view.now) }
 {
     if view.point == 0 {
         return Err(Notice::BeginningOfBuffer);
@@ -124,7 +124,7 @@ fn recase_up_to(
 }
 
 pub(crate) fn recase_word(alloc: Global, view: &View<'_>, casing: Casing) -> Result<Plan, Notice>
-    ensures { IsAnswer result (spec.recasing casing view.now) }
+    ensures { IsEffectAnswer result (spec.recasing casing view.now) }
 {
     if view.point == view.text.len() {
         return Err(Notice::EndOfBuffer);

@@ -1,6 +1,6 @@
 //! Filling: the words of a paragraph into lines.
 ghost use Rattle.std.specs.Prelude.{◌≡◌, ◌<◌, ◌^◌, Ok, IfOk};
-ghost use Rattle.mg_plain.specs.Answer.{IsAnswer};
+ghost use Rattle.mg_plain.specs.Answer.{IsEffectAnswer};
 ghost use Rattle.mg_plain.specs.Filling as spec;
 
 use crate::edit::edit;
@@ -18,7 +18,7 @@ fn fill(alloc: Global, view: &View<'_>, column: usize) -> Result<Plan, AllocErro
 }
 
 pub(crate) fn fill_paragraph(alloc: Global, view: &View<'_>, column: u16) -> Result<Plan, Notice>
-    ensures { IsAnswer result (Ok (spec.fill_paragraph column view.now)) }
+    ensures { IsEffectAnswer result (Ok (spec.fill_paragraph column view.now)) }
 {
     Ok(fill(alloc, view, usize::from(column))?)
 }

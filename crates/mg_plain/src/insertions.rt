@@ -1,7 +1,7 @@
 //! Insertions at point.
 ghost use Rattle.std.specs.Prelude.{◌≡◌, ◌∷◌, replicate, take_while, IfOk, Ok};
-ghost use Rattle.mg_text.specs.Characters.{is_blank, newline};
-ghost use Rattle.mg_plain.specs.Answer.{IsAnswer};
+ghost use Rattle.mg_text.specs.Characters.{is_blank, newline_character};
+ghost use Rattle.mg_plain.specs.Answer.{IsEffectAnswer};
 ghost use Rattle.mg_plain.specs.Insertions as spec;
 
 use crate::characters::is_blank;
@@ -13,14 +13,14 @@ use std::alloc::{AllocError, Global};
 
 /// Characters at point, which stays.
 fn put(alloc: Global, view: &View<'_>, chars: Vec<char>) -> Result<Plan, Notice>
-    ensures { IsAnswer result (Ok (spec.insertion view.now chars.items)) }
+    ensures { IsEffectAnswer result (Ok (spec.insertion_effect view.now chars.items)) }
 {
     Ok(change(alloc, view, view.point, view.point, chars)?)
 }
 
 /// Characters at point, which goes behind them.
 fn type_in(alloc: Global, view: &View<'_>, chars: Vec<char>) -> Result<Plan, Notice>
-    ensures { IsAnswer result (Ok (spec.typing view.now chars.items)) }
+    ensures { IsEffectAnswer result (Ok (spec.typing view.now chars.items)) }
 {
     let count = chars.as_slice().len();
     let plan = put(alloc, view, chars)?;
@@ -37,20 +37,20 @@ fn repeated(alloc: Global, ch: char, n: u16) -> Result<Vec<char>, AllocError>
 }
 
 pub(crate) fn insert(alloc: Global, view: &View<'_>, ch: char, n: u16) -> Result<Plan, Notice>
-    ensures { IsAnswer result (Ok (spec.insert ch n view.now)) }
+    ensures { IsEffectAnswer result (Ok (spec.insert ch n view.now)) }
 {
     type_in(alloc, view, repeated(alloc, ch, n)?)
 }
 
 pub(crate) fn open_line(alloc: Global, view: &View<'_>, n: u16) -> Result<Plan, Notice>
-    ensures { IsAnswer result (Ok (spec.open_line n view.now)) }
+    ensures { IsEffectAnswer result (Ok (spec.open_line n view.now)) }
 {
     put(alloc, view, repeated(alloc, '\n', n)?)
 }
 
 /// A newline and the blanks that the line begins with.
 fn newline_and_blanks(alloc: Global, line: &[char]) -> Result<Vec<char>, AllocError>
-    ensures { IfOk result (λ v. v.items ≡ newline ∷ take_while is_blank line.now) }
+    ensures { IfOk result (λ v. v.items ≡ newline_character ∷ take_while is_blank line.now) }
 {
     let mut put = vec![in alloc; '\n']?;
     for c in line {
@@ -63,7 +63,7 @@ fn newline_and_blanks(alloc: Global, line: &[char]) -> Result<Vec<char>, AllocEr
 }
 
 pub(crate) fn newline_and_indent(alloc: Global, view: &View<'_>) -> Result<Plan, Notice>
-    ensures { IsAnswer result (Ok (spec.newline_and_indent view.now)) }
+    ensures { IsEffectAnswer result (Ok (spec.newline_and_indent view.now)) }
 {
     let begin = line_begin(view.text, view.point);
     let put = newline_and_blanks(alloc, &view.text[begin..view.point])?;
@@ -71,7 +71,7 @@ pub(crate) fn newline_and_indent(alloc: Global, view: &View<'_>) -> Result<Plan,
 }
 
 pub(crate) fn yank(alloc: Global, view: &View<'_>) -> Result<Plan, Notice>
-    ensures { IsAnswer result (Ok (spec.yank view.now)) }
+    ensures { IsEffectAnswer result (Ok (spec.yank view.now)) }
 {
     let plan = type_in(alloc, view, copy(alloc, view.kill)?)?;
     Ok(Plan {

@@ -1,7 +1,7 @@
 //! Deletions, and kills, which keep what they take. What is killed is copied once: it does not matter how
 //! much the kill buffer holds that it goes behind.
 ghost use Rattle.std.specs.Prelude.{◌≡◌, ◌≤◌, length, IfOk};
-ghost use Rattle.mg_plain.specs.Answer.{IsAnswer};
+ghost use Rattle.mg_plain.specs.Answer.{IsEffectAnswer};
 ghost use Rattle.mg_plain.specs.Kills as spec;
 
 use crate::edit::change;
@@ -12,13 +12,13 @@ use mg_text::{copy, line_end};
 use std::alloc::{AllocError, Global};
 
 fn delete(alloc: Global, view: &View<'_>, lo: usize, hi: usize) -> Result<Plan, AllocError>
-    ensures { IfOk result (λ p. p ≡ spec.deletion view.now lo hi) }
+    ensures { IfOk result (λ p. p ≡ spec.deletion_effect view.now lo hi) }
 {
     change(alloc, view, lo, hi, Vec::new(alloc))
 }
 
 pub(crate) fn delete_char(alloc: Global, view: &View<'_>, n: u16) -> Result<Plan, Notice>
-    ensures { IsAnswer result (spec.delete_char n view.now) }
+    ensures { IsEffectAnswer result (spec.delete_char n view.now) }
 {
     if usize::from(n) > view.text.len() - view.point {
         return Err(Notice::EndOfBuffer);
@@ -27,7 +27,7 @@ pub(crate) fn delete_char(alloc: Global, view: &View<'_>, n: u16) -> Result<Plan
 }
 
 pub(crate) fn delete_backward_char(alloc: Global, view: &View<'_>, n: u16) -> Result<Plan, Notice>
-    ensures { IsAnswer result (spec.delete_backward_char n view.now) }
+    ensures { IsEffectAnswer result (spec.delete_backward_char n view.now) }
 {
     if usize::from(n) > view.point {
         return Err(Notice::BeginningOfBuffer);
@@ -50,7 +50,7 @@ fn kill(alloc: Global, view: &View<'_>, lo: usize, hi: usize) -> Result<Plan, Al
 }
 
 pub(crate) fn kill_line(alloc: Global, view: &View<'_>) -> Result<Plan, Notice>
-    ensures { IsAnswer result (spec.kill_line view.now) }
+    ensures { IsEffectAnswer result (spec.kill_line view.now) }
 {
     if view.point == view.text.len() {
         return Err(Notice::EndOfBuffer);
@@ -60,7 +60,7 @@ pub(crate) fn kill_line(alloc: Global, view: &View<'_>) -> Result<Plan, Notice>
 }
 
 pub(crate) fn kill_word(alloc: Global, view: &View<'_>) -> Result<Plan, Notice>
-    ensures { IsAnswer result (spec.kill_word view.now) }
+    ensures { IsEffectAnswer result (spec.kill_word view.now) }
 {
     if view.point == view.text.len() {
         return Err(Notice::EndOfBuffer);
@@ -69,7 +69,7 @@ pub(crate) fn kill_word(alloc: Global, view: &View<'_>) -> Result<Plan, Notice>
 }
 
 pub(crate) fn kill_region(alloc: Global, view: &View<'_>) -> Result<Plan, Notice>
-    ensures { IsAnswer result (spec.kill_region view.now) }
+    ensures { IsEffectAnswer result (spec.kill_region view.now) }
 {
     match view.mark {
         None => Err(Notice::NoMark),

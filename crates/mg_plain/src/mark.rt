@@ -1,6 +1,6 @@
 //! The mark, and the region between it and point.
 ghost use Rattle.std.specs.Prelude.{◌≡◌, ◌≤◌, length, IfOk};
-ghost use Rattle.mg_plain.specs.Answer.{IsAnswer};
+ghost use Rattle.mg_plain.specs.Answer.{IsEffectAnswer};
 ghost use Rattle.mg_plain.specs.Mark as spec;
 
 use crate::motions::move_to;
@@ -53,7 +53,7 @@ fn copy_as_kill(alloc: Global, view: &View<'_>, lo: usize, hi: usize) -> Result<
 }
 
 pub(crate) fn copy_region_as_kill(alloc: Global, view: &View<'_>) -> Result<Plan, Notice>
-    ensures { IsAnswer result (spec.copy_region_as_kill view.now) }
+    ensures { IsEffectAnswer result (spec.copy_region_as_kill view.now) }
 {
     match view.mark {
         None => Err(Notice::NoMark),

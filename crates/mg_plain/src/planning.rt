@@ -1,6 +1,6 @@
 //! What each command does.
 ghost use Rattle.std.specs.Prelude.{◌≡◌, true, Err};
-ghost use Rattle.mg_plain.specs.Answer.{IsAnswer};
+ghost use Rattle.mg_plain.specs.Answer.{IsEffectAnswer};
 ghost use Rattle.mg_plain.specs.Commands.{effect, needs_memory};
 ghost use Rattle.mg_plain.specs.declared.outcome.Notice.TheVariants.{Memory};
 
@@ -37,7 +37,7 @@ pub fn plan(
     view: &View<'_>,
     fill: u16,
 ) -> Result<Plan, Notice>
-    ensures exact { IsAnswer result (effect command.now arg view.now fill) }
+    ensures exact { IsEffectAnswer result (effect command.now arg view.now fill) }
     ensures memory { result ≡ Err Memory → needs_memory command.now ≡ true }
 {
     match command {

@@ -1,6 +1,6 @@
 //! Replacements of matches.
 ghost use Rattle.std.specs.Prelude.{◌≡◌, ◌≤◌, ◌<◌, ◌∷◌, length, [], true, IfOk};
-ghost use Rattle.mg_plain.specs.Answer.{IsAnswer};
+ghost use Rattle.mg_plain.specs.Answer.{IsEffectAnswer};
 ghost use Rattle.mg_plain.specs.Effect.{edit_effect};
 ghost use Rattle.mg_plain.specs.Replacement as spec;
 
@@ -76,7 +76,7 @@ pub(crate) fn replace_all(
     put: &[char],
     view: &View<'_>,
 ) -> Result<Plan, Notice>
-    ensures { IsAnswer result (spec.replace_all pattern.now put.now view.now) }
+    ensures { IsEffectAnswer result (spec.replace_all pattern.now put.now view.now) }
 {
     if !stands_before_point(pattern, view) {
         return Err(Notice::SearchFailed);
@@ -105,7 +105,7 @@ pub(crate) fn replace_one(
     put: &[char],
     view: &View<'_>,
 ) -> Result<Plan, Notice>
-    ensures { IsAnswer result (spec.replace_one pattern.now put.now view.now) }
+    ensures { IsEffectAnswer result (spec.replace_one pattern.now put.now view.now) }
 {
     if !stands_before_point(pattern, view) {
         return Err(Notice::SearchFailed);

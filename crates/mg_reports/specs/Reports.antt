@@ -48,13 +48,13 @@ columns_progress rows n b (Some more) = Begun (Columns rows more)
 columns_progress rows n b None = if nat_eq b 116 then (if nat_lt 0 n.digits then Whole rows n.value else Broken) else Broken
 
 -- what a byte makes of a report of which this is awaited
-abbrev pub progress : Awaited → ℕ → Progress
-progress Escape b = sign_progress b ESCAPE Bracket
-progress Bracket b = sign_progress b 91 Eight
-progress Eight b = sign_progress b 56 Semicolon
-progress Semicolon b = sign_progress b 59 (Rows (number 0 0))
-progress (Rows n) b = rows_progress n b (number_with b n)
-progress (Columns rows n) b = columns_progress rows n b (number_with b n)
+abbrev pub report_progress : Awaited → ℕ → Progress
+report_progress Escape b = sign_progress b ESCAPE Bracket
+report_progress Bracket b = sign_progress b 91 Eight
+report_progress Eight b = sign_progress b 56 Semicolon
+report_progress Semicolon b = sign_progress b 59 (Rows (number 0 0))
+report_progress (Rows n) b = rows_progress n b (number_with b n)
+report_progress (Columns rows n) b = columns_progress rows n b (number_with b n)
 
 -- ---- bytes that are held, since they begin a report
 
@@ -88,7 +88,7 @@ read_by Broken r b = broken r b
 
 -- where there are no reports, a key
 abbrev pub read : Reports → ℕ → Read
-read r b = if r.resizable then read_by (progress r.awaited b) r b else reads r (keys (b ∷ []))
+read r b = if r.resizable then read_by (report_progress r.awaited b) r b else reads r (keys (b ∷ []))
 
 -- ---- bytes, one after the other
 

@@ -112,7 +112,7 @@ fn follow_sign(byte: u8, sign: u8, next: Awaited) -> Progress
 /// What a byte makes of a report of which this is awaited.
 fn follow(awaited: Awaited, byte: u8) -> Progress
     requires { spec.IsNumbered awaited }
-    ensures { result ≡ spec.progress awaited byte }
+    ensures { result ≡ spec.report_progress awaited byte }
 {
     match awaited {
         Awaited::Escape => follow_sign(byte, ESCAPE, Awaited::Bracket),

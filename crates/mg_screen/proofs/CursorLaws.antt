@@ -9,11 +9,11 @@ use Rattle.std.proofs.lemmas.Bool.Decides.{nat_tests}
 use Rattle.std.proofs.Math.Nat.{min-le_right, min-eq_left, min-eq_right, le-min, div-lt_self}
 use Rattle.mg_screen.specs.declared.screen.Position.{Position}
 use Rattle.mg_screen.specs.Screen.{Pane, Screen}
-use Rattle.mg_screen.specs.Lines.{is_newline, lines, line_of, column_of, first_line, shows_line}
-use Rattle.mg_screen.specs.Cells.{Cell, cell, cell_of, cells, cells_from, width_of, shown, beginning}
+use Rattle.mg_screen.specs.Lines.{ends_line, lines, line_index, column_of, first_line, shows_line}
+use Rattle.mg_screen.specs.Cells.{Cell, cell, cell_of, cells, cells_from, width_of, shown_cells, cells_within}
 use Rattle.mg_screen.specs.Rows.{text_row, filled_row, cut_row}
 use Rattle.mg_screen.specs.Frame.{first_row, text_rows, pane_rows, panes_rows, frame_rows, mode_text}
-use Rattle.mg_screen.specs.Cursor.{position, row_cells, last_column, column_behind, line_at, place_column, shows_point, pane_cursor, rows_above, cursor, echo_column, echo_cursor, ShowsAt}
+use Rattle.mg_screen.specs.Cursor.{position, row_cells, last_column, column_behind, place_line, place_column, shows_point, pane_cursor, rows_above, cursor, echo_column, echo_cursor, ShowsAt}
 use Rattle.mg_screen.proofs.CellLaws.{is_longest}
 use Rattle.mg_screen.proofs.ScreenLaws.{length-text_rows, length-frame_rows, length-panes_rows}
 
@@ -32,11 +32,11 @@ width_of-take [] (suc k) = omega arith
 width_of-take (x ∷ cs) (suc k) = let rest = width_of-take cs k in omega (arith, rest)
 
 -- what is shown, parted at a cell
-shown_at : (cs : List Cell) (k : ℕ) (x : Cell) → slice_get cs k ≡ Some x → shown cs ≡ shown (take k cs) ++ (x.shown ++ shown (drop (suc k) cs))
+shown_at : (cs : List Cell) (k : ℕ) (x : Cell) → slice_get cs k ≡ Some x → shown_cells cs ≡ shown_cells (take k cs) ++ (x.shown ++ shown_cells (drop (suc k) cs))
 shown_at [] k x is = let none : None ≡ Some x = is in absurd cc
-shown_at (y ∷ cs) zero x is = let same : y ≡ x = some_same y x is in ap (λ (z : Cell). z.shown ++ shown cs) same
+shown_at (y ∷ cs) zero x is = let same : y ≡ x = some_same y x is in ap (λ (z : Cell). z.shown ++ shown_cells cs) same
 shown_at (y ∷ cs) (suc k) x is =
-    ap (λ t. y.shown ++ t) (shown_at cs k x is) ∙ sym (append_assoc y.shown (shown (take k cs)) (x.shown ++ shown (drop (suc k) cs)))
+    ap (λ t. y.shown ++ t) (shown_at cs k x is) ∙ sym (append_assoc y.shown (shown_cells (take k cs)) (x.shown ++ shown_cells (drop (suc k) cs)))
 
 -- the row of a line shows a beginning of its cells, and a dollar sign where that is not all
 row_begins : (columns : ℕ) (line : List ℕ) → row_cells columns line ≡ take (length (row_cells columns line)) (cells line)
@@ -45,15 +45,15 @@ row_begins columns line = by_width (nat_le (width_of (cells line)) columns) refl
     by_width : (b : Bool) → nat_le (width_of (cells line)) columns ≡ b → row_cells columns line ≡ take (length (row_cells columns line)) (cells line)
     by_width true e = let all : row_cells columns line ≡ cells line = rw e refl in
         all ∙ sym (take_all (length (row_cells columns line)) (cells line) (omega (arith, ap length all)))
-    by_width false e = let part : row_cells columns line ≡ beginning (columns - 1) (cells line) = rw e refl in
+    by_width false e = let part : row_cells columns line ≡ cells_within (columns - 1) (cells line) = rw e refl in
         part ∙ (is_longest (columns - 1) (cells line)).begins ∙ ap (λ cs. take (length cs) (cells line)) (sym part)
 
-row_shows : (columns : ℕ) (line : List ℕ) → (rest : List ℕ) × (text_row columns line ≡ shown (row_cells columns line) ++ rest)
+row_shows : (columns : ℕ) (line : List ℕ) → (rest : List ℕ) × (text_row columns line ≡ shown_cells (row_cells columns line) ++ rest)
 row_shows columns line = by_width (nat_le (width_of (cells line)) columns) refl
   where
-    by_width : (b : Bool) → nat_le (width_of (cells line)) columns ≡ b → (rest : List ℕ) × (text_row columns line ≡ shown (row_cells columns line) ++ rest)
-    by_width true e = let all : text_row columns line ≡ shown (row_cells columns line) = rw e refl in ([], all ∙ sym (append-nil (shown (row_cells columns line))))
-    by_width false e = let part : text_row columns line ≡ shown (row_cells columns line) ++ 36 ∷ [] = rw e refl in (36 ∷ [], part)
+    by_width : (b : Bool) → nat_le (width_of (cells line)) columns ≡ b → (rest : List ℕ) × (text_row columns line ≡ shown_cells (row_cells columns line) ++ rest)
+    by_width true e = let all : text_row columns line ≡ shown_cells (row_cells columns line) = rw e refl in ([], all ∙ sym (append-nil (shown_cells (row_cells columns line))))
+    by_width false e = let part : text_row columns line ≡ shown_cells (row_cells columns line) ++ 36 ∷ [] = rw e refl in (36 ∷ [], part)
 
 -- the cells before one that the row shows
 before_cell : (columns : ℕ) (line : List ℕ) (k : ℕ) (x : Cell) → slice_get (row_cells columns line) k ≡ Some x → take k (row_cells columns line) ≡ cells (take k line)
@@ -74,10 +74,10 @@ row_shows_cell : (columns : ℕ) (line : List ℕ) (k : ℕ) (x : Cell) → slic
 row_shows_cell columns line k x is inside =
     let row = row_shows columns line in
     let front = take k (row_cells columns line) in
-    let more : List ℕ = shown (drop (suc k) (row_cells columns line)) in
-    let parts : shown (row_cells columns line) ++ row.0 ≡ shown front ++ (x.shown ++ (more ++ row.0)) =
-    ap (λ t. t ++ row.0) (shown_at (row_cells columns line) k x is) ∙ append_assoc (shown front) (x.shown ++ more) row.0
-    ∙ ap (λ t. shown front ++ t) (append_assoc x.shown more row.0) in
+    let more : List ℕ = shown_cells (drop (suc k) (row_cells columns line)) in
+    let parts : shown_cells (row_cells columns line) ++ row.0 ≡ shown_cells front ++ (x.shown ++ (more ++ row.0)) =
+    ap (λ t. t ++ row.0) (shown_at (row_cells columns line) k x is) ∙ append_assoc (shown_cells front) (x.shown ++ more) row.0
+    ∙ ap (λ t. shown_cells front ++ t) (append_assoc x.shown more row.0) in
     (front, more ++ row.0, sym (column_at columns line k x is inside), row.1 ∙ parts)
 
 -- a row that is cut shows its sign behind the cells before a place that it does not show
@@ -85,8 +85,8 @@ row_shows_sign : (columns : ℕ) (line : List ℕ) (k : ℕ) → columns < width
     → ShowsAt (text_row columns line) (column_behind columns line k) (cell (36 ∷ []) 1)
 row_shows_sign columns line k over behind =
     let wide : nat_le (width_of (cells line)) columns ≡ false = grind (arith, nat_tests) in
-    let part : row_cells columns line ≡ beginning (columns - 1) (cells line) = rw wide refl in
-    let cut : text_row columns line ≡ shown (row_cells columns line) ++ 36 ∷ [] = rw wide refl in
+    let part : row_cells columns line ≡ cells_within (columns - 1) (cells line) = rw wide refl in
+    let cut : text_row columns line ≡ shown_cells (row_cells columns line) ++ 36 ∷ [] = rw wide refl in
     let room : width_of (row_cells columns line) ≤ columns - 1 = omega (arith, ap width_of part, (is_longest (columns - 1) (cells line)).fits) in
     let front : row_cells columns line ≡ take (length (row_cells columns line)) (cells (take k line)) =
     row_begins columns line ∙ sym (take-take (length (row_cells columns line)) k (cells line) behind) ∙ ap (take (length (row_cells columns line))) (sym (cells_taken 0 line k)) in
@@ -107,7 +107,7 @@ column_within_screen columns line count some =
     omega (arith, most, last_column_within columns line some)
 
 echo_within_screen : (columns : ℕ) (text : List ℕ) → 0 < columns → echo_column columns text < columns
-echo_within_screen columns text some = let most = min-le_right (width_of (beginning columns (cells text))) (columns - 1) in omega (arith, most, some)
+echo_within_screen columns text some = let most = min-le_right (width_of (cells_within columns (cells text))) (columns - 1) in omega (arith, most, some)
 
 -- the rows of one window, in those of all
 text_row_at : (columns n : ℕ) (ls : List (List ℕ)) (i : ℕ) → i < n → get_or (text_rows columns n ls) i [] ≡ first_row columns (drop i ls)
@@ -154,20 +154,20 @@ rows_within ps index p is =
     omega (arith, more, same)
 
 -- the line of a place is one of the text
-line_inside : (text : List ℕ) (place : ℕ) → line_of text place < length (lines text)
+line_inside : (text : List ℕ) (place : ℕ) → line_index text place < length (lines text)
 line_inside text place =
-    let count = length-slice_split is_newline text in
-    let less = sum_by-take-le (λ c. cond (is_newline c) 1 0) text place in
+    let count = length-slice_split ends_line text in
+    let less = sum_by-take-le (λ c. cond (ends_line c) 1 0) text place in
     omega (arith, count, less)
 
-lines_at : (text : List ℕ) (place : ℕ) → drop (line_of text place) (lines text) ≡ line_at text place ∷ drop (line_of text place + 1) (lines text)
-lines_at text place = drop_more (lines text) (line_of text place) [] (line_inside text place)
+lines_at : (text : List ℕ) (place : ℕ) → drop (line_index text place) (lines text) ≡ place_line text place ∷ drop (line_index text place + 1) (lines text)
+lines_at text place = drop_more (lines text) (line_index text place) [] (line_inside text place)
 
 -- what a cursor in a window says
 pub record StandsIn (columns above : ℕ) (p : Pane) (at : Position) : Type 0 where
-  pub from : p.first ≤ line_of p.text p.point
-  pub to : line_of p.text p.point < p.first + p.height
-  pub row : at.row ≡ above + (line_of p.text p.point - p.first)
+  pub from : p.first ≤ line_index p.text p.point
+  pub to : line_index p.text p.point < p.first + p.height
+  pub row : at.row ≡ above + (line_index p.text p.point - p.first)
   pub column : at.column ≡ place_column columns p.text p.point
 
 both_true : (a b : Bool) → (a && b) ≡ true → (a ≡ true) × (b ≡ true)
@@ -180,13 +180,13 @@ stands_in : (columns above : ℕ) (p : Pane) (at : Position) → pane_cursor col
 stands_in columns above p at is = by_shown (shows_point p) refl
   where
     there : Position
-    there = position (above + (line_of p.text p.point - p.first)) (place_column columns p.text p.point)
+    there = position (above + (line_index p.text p.point - p.first)) (place_column columns p.text p.point)
 
     by_shown : (b : Bool) → shows_point p ≡ b → StandsIn columns above p at
     by_shown true e =
-        let some : pane_cursor columns above p ≡ Some (position (above + (line_of p.text p.point - p.first)) (place_column columns p.text p.point)) = rw e refl in
-        let same : at ≡ position (above + (line_of p.text p.point - p.first)) (place_column columns p.text p.point) = some_same _ _ (sym is ∙ some) in
-        let shown = both_true (nat_le p.first (line_of p.text p.point)) (nat_lt (line_of p.text p.point) (p.first + p.height)) e in
+        let some : pane_cursor columns above p ≡ Some (position (above + (line_index p.text p.point - p.first)) (place_column columns p.text p.point)) = rw e refl in
+        let same : at ≡ position (above + (line_index p.text p.point - p.first)) (place_column columns p.text p.point) = some_same _ _ (sym is ∙ some) in
+        let shown = both_true (nat_le p.first (line_index p.text p.point)) (nat_lt (line_index p.text p.point) (p.first + p.height)) e in
         record {
           from = grind (arith, nat_tests, shown.0);
           to = grind (arith, nat_tests, shown.1);
@@ -216,7 +216,7 @@ cursor_within columns s index at some is = by_found (slice_get s.panes index) re
         let stands = cursor_in columns s index p at found is in
         let rows = rows_within s.panes index p found in
         let count = length-frame_rows columns s in
-        let column = column_within_screen columns (line_at p.text p.point) (column_of p.text p.point) some in
+        let column = column_within_screen columns (place_line p.text p.point) (column_of p.text p.point) some in
         (omega (arith, stands.from, stands.to, stands.row, rows, count), omega (arith, stands.column, column))
 
 pub echo_within : (columns : ℕ) (s : Screen) → 0 < columns → ((echo_cursor columns s).row + 1 ≡ length (frame_rows columns s)) × ((echo_cursor columns s).column < columns)
@@ -226,12 +226,12 @@ echo_within columns s some =
 
 -- the row of the cursor is that of point's line
 cursor_row : (columns : ℕ) (s : Screen) (index : ℕ) (p : Pane) (at : Position) → slice_get s.panes index ≡ Some p → cursor columns s index ≡ Some at
-    → get_or (frame_rows columns s) at.row [] ≡ text_row columns (line_at p.text p.point)
+    → get_or (frame_rows columns s) at.row [] ≡ text_row columns (place_line p.text p.point)
 cursor_row columns s index p at found is =
     let stands = cursor_in columns s index p at found is in
-    let i = line_of p.text p.point - p.first in
+    let i = line_index p.text p.point - p.first in
     let inside : i < p.height = omega (arith, stands.from, stands.to) in
-    let line : p.first + i ≡ line_of p.text p.point = omega (arith, stands.from) in
+    let line : p.first + i ≡ line_index p.text p.point = omega (arith, stands.from) in
     let rows = rows_within s.panes index p found in
     let count = length-panes_rows columns s.panes in
     ap (λ k. get_or (frame_rows columns s) k []) stands.row
@@ -240,35 +240,35 @@ cursor_row columns s index p at found is =
     ∙ ap (λ k. first_row columns (drop k (lines p.text))) line ∙ ap (first_row columns) (lines_at p.text p.point)
 
 pub cursor_on_cell : (columns : ℕ) (s : Screen) (index : ℕ) (p : Pane) (at : Position) (x : Cell) → slice_get s.panes index ≡ Some p → cursor columns s index ≡ Some at
-    → slice_get (row_cells columns (line_at p.text p.point)) (column_of p.text p.point) ≡ Some x
-    → width_of (take (column_of p.text p.point) (row_cells columns (line_at p.text p.point))) < columns
+    → slice_get (row_cells columns (place_line p.text p.point)) (column_of p.text p.point) ≡ Some x
+    → width_of (take (column_of p.text p.point) (row_cells columns (place_line p.text p.point))) < columns
     → ShowsAt (get_or (frame_rows columns s) at.row []) at.column x
 cursor_on_cell columns s index p at x found is cell inside =
     let stands = cursor_in columns s index p at found is in
     let row = cursor_row columns s index p at found is in
-    let shows = row_shows_cell columns (line_at p.text p.point) (column_of p.text p.point) x cell inside in
+    let shows = row_shows_cell columns (place_line p.text p.point) (column_of p.text p.point) x cell inside in
     (shows.0, shows.1, shows.2 ∙ sym stands.column, row ∙ shows.3)
 
 pub cursor_on_sign : (columns : ℕ) (s : Screen) (index : ℕ) (p : Pane) (at : Position) → slice_get s.panes index ≡ Some p → cursor columns s index ≡ Some at
-    → columns < width_of (cells (line_at p.text p.point)) → length (row_cells columns (line_at p.text p.point)) ≤ column_of p.text p.point
+    → columns < width_of (cells (place_line p.text p.point)) → length (row_cells columns (place_line p.text p.point)) ≤ column_of p.text p.point
     → ShowsAt (get_or (frame_rows columns s) at.row []) at.column (cell (36 ∷ []) 1)
 cursor_on_sign columns s index p at found is over behind =
     let stands = cursor_in columns s index p at found is in
     let row = cursor_row columns s index p at found is in
-    let shows = row_shows_sign columns (line_at p.text p.point) (column_of p.text p.point) over behind in
+    let shows = row_shows_sign columns (place_line p.text p.point) (column_of p.text p.point) over behind in
     (shows.0, shows.1, shows.2 ∙ sym stands.column, row ∙ shows.3)
 
 -- a window shows the line of point from its first line on
-pub placed_shows : (text : List ℕ) (point first height : ℕ) → 0 < height → shows_line (first_line text point first height) height (line_of text point) ≡ true
-placed_shows text point first height some = by_shown (shows_line first height (line_of text point)) refl
+pub placed_shows : (text : List ℕ) (point first height : ℕ) → 0 < height → shows_line (first_line text point first height) height (line_index text point) ≡ true
+placed_shows text point first height some = by_shown (shows_line first height (line_index text point)) refl
   where
-    by_shown : (b : Bool) → shows_line first height (line_of text point) ≡ b → shows_line (first_line text point first height) height (line_of text point) ≡ true
+    by_shown : (b : Bool) → shows_line first height (line_index text point) ≡ b → shows_line (first_line text point first height) height (line_index text point) ≡ true
     by_shown true e =
         let same : first_line text point first height ≡ first = rw e refl in
-        ap (λ k. shows_line k height (line_of text point)) same ∙ e
+        ap (λ k. shows_line k height (line_index text point)) same ∙ e
     by_shown false e =
-        let other : first_line text point first height ≡ line_of text point - height / 2 = rw e refl in
+        let other : first_line text point first height ≡ line_index text point - height / 2 = rw e refl in
         let half : height / 2 < height = div-lt_self some (omega arith) in
-        let from : nat_le (line_of text point - height / 2) (line_of text point) ≡ true = grind (arith, nat_tests) in
-        let to : nat_lt (line_of text point) (line_of text point - height / 2 + height) ≡ true = grind (arith, nat_tests, half) in
-        ap (λ k. shows_line k height (line_of text point)) other ∙ rw from to
+        let from : nat_le (line_index text point - height / 2) (line_index text point) ≡ true = grind (arith, nat_tests) in
+        let to : nat_lt (line_index text point) (line_index text point - height / 2 + height) ≡ true = grind (arith, nat_tests, half) in
+        ap (λ k. shows_line k height (line_index text point)) other ∙ rw from to

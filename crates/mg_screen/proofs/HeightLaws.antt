@@ -6,7 +6,7 @@ use Rattle.std.proofs.lemmas.List.Edits.{length-remove, length-insert}
 use Rattle.std.proofs.Common.{length-set}
 use Rattle.mg_screen.specs.declared.size.TheConstants.{MAX_ROWS}
 use Rattle.mg_screen.specs.Layout.{Layout, window, layout, heights, all_shown, windows_of, rows_of, upper_half, lower_half, split_at, remove_at, only_at, shows_at, of_height, IsTall, FillsRows, KeepsRows, other_layout, only_layout, current_height}
-use Rattle.mg_screen.specs.Inside.{IsKept}
+use Rattle.mg_screen.specs.Inside.{AreKeptWindows}
 use Rattle.mg_screen.proofs.LayoutLaws.{rows-split, tall-split, rows-remove, tall-remove, tall-shown, rows-shown}
 
 pub length-windows_of : {T : Type 0} (hs : List ℕ) (ss : List T) → length hs ≡ length ss → length (windows_of hs ss) ≡ length hs
@@ -127,8 +127,8 @@ rows_joined i j h k most hs gs inside less here is read few =
     omega (arith, whole, part, rest, is, read, few)
 
 -- what is kept of windows of which the first so many rows hold
-pub kept : {T : Type 0} (hs gs : List ℕ) (ss ts : List T) (i j rows : ℕ) → IsKept hs ss i rows → length gs ≡ length ts → j < length gs
-    → rows_of (windows_of gs ts) ≡ rows_of (windows_of hs ss) → IsTall (windows_of gs ts) → IsKept gs ts j rows
+pub kept : {T : Type 0} (hs gs : List ℕ) (ss ts : List T) (i j rows : ℕ) → AreKeptWindows hs ss i rows → length gs ≡ length ts → j < length gs
+    → rows_of (windows_of gs ts) ≡ rows_of (windows_of hs ss) → IsTall (windows_of gs ts) → AreKeptWindows gs ts j rows
 kept hs gs ss ts i j rows old paired here same tall = record {
   paired = paired;
   here = here;
@@ -141,18 +141,18 @@ pub height_of : {T : Type 0} (hs : List ℕ) (ss : List T) (i : ℕ) → length 
 height_of hs ss i e = ap (λ xs. get_or xs i 0) (heights-windows_of hs ss e)
 
 -- no window has more text rows than the screen
-pub sum-windows_of : {T : Type 0} (hs : List ℕ) (ss : List T) (i rows : ℕ) → IsKept hs ss i rows → sum_by (λ h. h + 1) hs ≤ MAX_ROWS
+pub sum-windows_of : {T : Type 0} (hs : List ℕ) (ss : List T) (i rows : ℕ) → AreKeptWindows hs ss i rows → sum_by (λ h. h + 1) hs ≤ MAX_ROWS
 sum-windows_of hs ss i rows old = omega (arith, rows-windows_of hs ss old.paired, old.whole, old.few)
 
-pub split_keeps : {T : Type 0} (hs gs : List ℕ) (ss ts : List T) (i rows : ℕ) → IsKept hs ss i rows → 3 ≤ get_or hs i 0 → length gs ≡ length ts → length gs ≡ length hs + 1
-    → windows_of gs ts ≡ split_at i (windows_of hs ss) → IsKept gs ts i rows
+pub split_keeps : {T : Type 0} (hs gs : List ℕ) (ss ts : List T) (i rows : ℕ) → AreKeptWindows hs ss i rows → 3 ≤ get_or hs i 0 → length gs ≡ length ts → length gs ≡ length hs + 1
+    → windows_of gs ts ≡ split_at i (windows_of hs ss) → AreKeptWindows gs ts i rows
 split_keeps hs gs ss ts i rows old large paired longer is =
     let tall_height = height_of hs ss i old.paired in
     kept hs gs ss ts i i rows old paired (omega (arith, longer, old.here)) (ap rows_of is ∙ rows-split i (windows_of hs ss) old.tall)
     (subst IsTall (sym is) (tall-split i (windows_of hs ss) old.tall (omega (arith, large, tall_height))))
 
-pub removal_keeps : {T : Type 0} (hs gs : List ℕ) (ss ts : List T) (i j rows : ℕ) → IsKept hs ss i rows → 1 < length hs → length gs ≡ length ts → length gs + 1 ≡ length hs → j ≡ i - 1
-    → windows_of gs ts ≡ remove_at i (windows_of hs ss) → IsKept gs ts j rows
+pub removal_keeps : {T : Type 0} (hs gs : List ℕ) (ss ts : List T) (i j rows : ℕ) → AreKeptWindows hs ss i rows → 1 < length hs → length gs ≡ length ts → length gs + 1 ≡ length hs → j ≡ i - 1
+    → windows_of gs ts ≡ remove_at i (windows_of hs ss) → AreKeptWindows gs ts j rows
 removal_keeps hs gs ss ts i j rows old several paired less heir is =
     kept hs gs ss ts i j rows old paired (omega (arith, less, old.here, several, heir)) (ap rows_of is ∙ rows-remove i (windows_of hs ss))
     (subst IsTall (sym is) (tall-remove i (windows_of hs ss) old.tall))
@@ -171,12 +171,12 @@ first_window hs ss i e outside =
     rw none refl
 
 -- one window alone, as it is made
-pub only_made : {T : Type 0} (hs gs : List ℕ) (ss ts : List T) (i rows : ℕ) (s : T) → IsKept hs ss i rows → s ≡ get_or ss i s → gs ≡ take 1 hs → ts ≡ take 1 ss
+pub only_made : {T : Type 0} (hs gs : List ℕ) (ss ts : List T) (i rows : ℕ) (s : T) → AreKeptWindows hs ss i rows → s ≡ get_or ss i s → gs ≡ take 1 hs → ts ≡ take 1 ss
     → layout (windows_of (set gs 0 (rows - 2)) (set ts 0 s)) 0 ≡ only_layout (layout (windows_of hs ss) i)
 only_made {T} hs gs ss ts i rows s old met cut also =
     ap₂ (λ xs (ys : List T). layout (windows_of (set xs 0 (rows - 2)) (set ys 0 s)) 0) cut also ∙ by_lists hs ss old met
   where
-    by_lists : (ks : List ℕ) (bs : List T) → IsKept ks bs i rows → s ≡ get_or bs i s
+    by_lists : (ks : List ℕ) (bs : List T) → AreKeptWindows ks bs i rows → s ≡ get_or bs i s
         → layout (windows_of (set (take 1 ks) 0 (rows - 2)) (set (take 1 bs) 0 s)) 0 ≡ only_layout (layout (windows_of ks bs) i)
     by_lists [] bs old met = absurd (omega (arith, old.here))
     by_lists (a ∷ ks) [] old met = absurd (omega (arith, old.paired))
@@ -204,7 +204,7 @@ lengths_removed hs gs ss ts i j v less also e inside =
     let made = length-set gs j v in
     (omega (arith, one, other, here, there, made, e), omega (arith, one, here, made))
 
-pub shown_keeps : {T : Type 0} (hs : List ℕ) (ss : List T) (i j rows : ℕ) (s : T) → IsKept hs ss i rows → IsKept hs (set ss j s) i rows
+pub shown_keeps : {T : Type 0} (hs : List ℕ) (ss : List T) (i j rows : ℕ) (s : T) → AreKeptWindows hs ss i rows → AreKeptWindows hs (set ss j s) i rows
 shown_keeps hs ss i j rows s old =
     let same = length-set ss j s in
     let is = windows-shown j hs ss s old.paired in
@@ -220,11 +220,11 @@ pub current_counted : {T : Type 0} (hs : List ℕ) (ss : List T) (i n : ℕ) (l 
 current_counted hs ss i n l e is met = met ∙ sym (height_of hs ss i e) ∙ ap current_height is
 
 -- what is kept, as it is seen
-pub fills : {T : Type 0} (hs : List ℕ) (ss : List T) (i rows : ℕ) → IsKept hs ss i rows → FillsRows rows (layout (windows_of hs ss) i)
+pub fills : {T : Type 0} (hs : List ℕ) (ss : List T) (i rows : ℕ) → AreKeptWindows hs ss i rows → FillsRows rows (layout (windows_of hs ss) i)
 fills hs ss i rows old = record { tall = old.tall; here = omega (arith, length-windows_of hs ss old.paired, old.here); whole = old.whole }
 
 -- two lists of windows that are kept on one screen fill as many rows
-pub keeps : {T : Type 0} (hs gs : List ℕ) (ss ts : List T) (i j rows : ℕ) (l : Layout T) → IsKept hs ss i rows → IsKept gs ts j rows → layout (windows_of hs ss) i ≡ l
+pub keeps : {T : Type 0} (hs gs : List ℕ) (ss ts : List T) (i j rows : ℕ) (l : Layout T) → AreKeptWindows hs ss i rows → AreKeptWindows gs ts j rows → layout (windows_of hs ss) i ≡ l
     → KeepsRows l (layout (windows_of gs ts) j)
 keeps hs gs ss ts i j rows l old new is n filled =
     let whole : n ≡ rows = sym filled.whole ∙ ap (λ k. rows_of k.windows + 1) (sym is) ∙ old.whole in

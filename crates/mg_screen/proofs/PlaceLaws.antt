@@ -5,8 +5,8 @@ use Rattle.std.proofs.lemmas.List.{get_or-drop, length-take}
 use Rattle.std.proofs.lemmas.List.Sums.{position_or_len_is, suffix_len-take_no, suffix_len-take_yes, suffix_len-le-length, count_by_more_yes, count_by_more_no, prefix_len_stops}
 use Rattle.std.proofs.lemmas.Bool.Decides.{nat_tests}
 use Rattle.std.proofs.Math.Nat.{min-le_left, min-eq_left}
-use Rattle.mg_screen.specs.Lines.{is_newline, lines, lines_from, line_of, column_of}
-use Rattle.mg_screen.specs.Cursor.{line_at}
+use Rattle.mg_screen.specs.Lines.{ends_line, lines, lines_on, line_index, column_of}
+use Rattle.mg_screen.specs.Cursor.{place_line}
 use Rattle.mg_screen.proofs.LineLaws.{lines_less, next_line}
 
 abbrev begin_of : List ℕ → ℕ → ℕ
@@ -14,78 +14,78 @@ begin_of text place = place - column_of text place
 
 -- there the line of a place begins, and no newline stands between
 pub record BeginsLine (text : List ℕ) (place : ℕ) : Type 0 where
-  pub begins : lines_from text (place - column_of text place) ≡ drop (line_of text place) (lines text)
-  pub clear : (k : ℕ) → place - column_of text place ≤ k → k < place → is_newline (get_or text k 0) ≡ false
+  pub begins : lines_on text (place - column_of text place) ≡ drop (line_index text place) (lines text)
+  pub clear : (k : ℕ) → place - column_of text place ≤ k → k < place → ends_line (get_or text k 0) ≡ false
   pub first : column_of text (place - column_of text place) ≡ 0
-  pub same : line_of text (place - column_of text place) ≡ line_of text place
+  pub same : line_index text (place - column_of text place) ≡ line_index text place
 
 pub column_within : (text : List ℕ) (place : ℕ) → column_of text place ≤ place
 column_within text place =
-    let some = suffix_len-le-length (λ c. not (is_newline c)) (take place text) in
+    let some = suffix_len-le-length (λ c. not (ends_line c)) (take place text) in
     omega (arith, some, length-take place text, min-le_left place (length text))
 
 -- the line of a place ends at the first newline behind its begin
-ends_at : (text : List ℕ) (n : ℕ) → n < length text → is_newline (get_or text n 0) ≡ true → BeginsLine text n
-    → n ≡ begin_of text n + position_or_len is_newline (drop (begin_of text n) text)
+ends_at : (text : List ℕ) (n : ℕ) → n < length text → ends_line (get_or text n 0) ≡ true → BeginsLine text n
+    → n ≡ begin_of text n + position_or_len ends_line (drop (begin_of text n) text)
 ends_at text n inside e before =
     let start = begin_of text n in
     let fits : start + (n - start) ≡ n = omega arith in
     let long = length-drop start text in
-    let here : is_newline (get_or (drop start text) (n - start) 0) ≡ true = ap is_newline (get_or-drop start text (n - start) 0 ∙ ap (λ k. get_or text k 0) fits) ∙ e in
-    let place : position_or_len is_newline (drop start text) ≡ n - start =
-    position_or_len_is is_newline (drop start text) (n - start) 0 (omega (arith, long, inside))
-    (λ k h. ap is_newline (get_or-drop start text k 0) ∙ before.clear (start + k) (omega arith) (omega (arith, h, fits))) (λ _. here) in
+    let here : ends_line (get_or (drop start text) (n - start) 0) ≡ true = ap ends_line (get_or-drop start text (n - start) 0 ∙ ap (λ k. get_or text k 0) fits) ∙ e in
+    let place : position_or_len ends_line (drop start text) ≡ n - start =
+    position_or_len_is ends_line (drop start text) (n - start) 0 (omega (arith, long, inside))
+    (λ k h. ap ends_line (get_or-drop start text k 0) ∙ before.clear (start + k) (omega arith) (omega (arith, h, fits))) (λ _. here) in
     omega (arith, place, fits)
 
 next_place : (text : List ℕ) (n : ℕ) → n < length text → BeginsLine text n → BeginsLine text (n + 1)
-next_place text n inside before = by_char (is_newline (get_or text n 0)) refl
+next_place text n inside before = by_char (ends_line (get_or text n 0)) refl
   where
     last : n + 1 - 1 ≡ n
     last = omega arith
 
-    by_char : (b : Bool) → is_newline (get_or text n 0) ≡ b → BeginsLine text (n + 1)
+    by_char : (b : Bool) → ends_line (get_or text n 0) ≡ b → BeginsLine text (n + 1)
     by_char true e =
-        let here : not (is_newline (get_or text (n + 1 - 1) 0)) ≡ false = ap (λ k. not (is_newline (get_or text k 0))) last ∙ ap not e in
-        let none : column_of text (n + 1) ≡ 0 = suffix_len-take_no (λ c. not (is_newline c)) text (n + 1) 0 (omega arith) (omega (arith, inside)) here in
-        let more : line_of text (n + 1) ≡ line_of text n + 1 = count_by_more_yes is_newline text n 0 inside e in
-        let next : lines_from text (n + 1) ≡ drop (line_of text n + 1) (lines text) =
-        lines_less text (lines text) (begin_of text n) n (line_of text n) (omega (arith, inside)) (ends_at text n inside e before) before.begins in
+        let here : not (ends_line (get_or text (n + 1 - 1) 0)) ≡ false = ap (λ k. not (ends_line (get_or text k 0))) last ∙ ap not e in
+        let none : column_of text (n + 1) ≡ 0 = suffix_len-take_no (λ c. not (ends_line c)) text (n + 1) 0 (omega arith) (omega (arith, inside)) here in
+        let more : line_index text (n + 1) ≡ line_index text n + 1 = count_by_more_yes ends_line text n 0 inside e in
+        let next : lines_on text (n + 1) ≡ drop (line_index text n + 1) (lines text) =
+        lines_less text (lines text) (begin_of text n) n (line_index text n) (omega (arith, inside)) (ends_at text n inside e before) before.begins in
         let begin : n + 1 - column_of text (n + 1) ≡ n + 1 = omega (arith, none) in
         record {
-          begins = ap (lines_from text) begin ∙ next ∙ ap (λ k. drop k (lines text)) (sym more);
+          begins = ap (lines_on text) begin ∙ next ∙ ap (λ k. drop k (lines text)) (sym more);
           clear = λ k from to. absurd (omega (arith, begin, from, to));
           first = ap (column_of text) begin ∙ none;
-          same = ap (line_of text) begin;
+          same = ap (line_index text) begin;
         }
     by_char false e =
-        let here : not (is_newline (get_or text (n + 1 - 1) 0)) ≡ true = ap (λ k. not (is_newline (get_or text k 0))) last ∙ ap not e in
+        let here : not (ends_line (get_or text (n + 1 - 1) 0)) ≡ true = ap (λ k. not (ends_line (get_or text k 0))) last ∙ ap not e in
         let more : column_of text (n + 1) ≡ 1 + column_of text n =
-        suffix_len-take_yes (λ c. not (is_newline c)) text (n + 1) 0 (omega arith) (omega (arith, inside)) here ∙ ap (λ k. 1 + column_of text k) last in
-        let same : line_of text (n + 1) ≡ line_of text n = count_by_more_no is_newline text n 0 inside e in
+        suffix_len-take_yes (λ c. not (ends_line c)) text (n + 1) 0 (omega arith) (omega (arith, inside)) here ∙ ap (λ k. 1 + column_of text k) last in
+        let same : line_index text (n + 1) ≡ line_index text n = count_by_more_no ends_line text n 0 inside e in
         let begin : n + 1 - column_of text (n + 1) ≡ begin_of text n = omega (arith, more) in
         record {
-          begins = ap (lines_from text) begin ∙ before.begins ∙ ap (λ k. drop k (lines text)) (sym same);
+          begins = ap (lines_on text) begin ∙ before.begins ∙ ap (λ k. drop k (lines text)) (sym same);
           clear = λ k from to. by_place e k (omega (arith, begin, from)) to (nat_lt k n) refl;
           first = ap (column_of text) begin ∙ before.first;
-          same = ap (line_of text) begin ∙ before.same ∙ sym same;
+          same = ap (line_index text) begin ∙ before.same ∙ sym same;
         }
       where
-        by_place : is_newline (get_or text n 0) ≡ false → (k : ℕ) → begin_of text n ≤ k → k < n + 1 → (b : Bool) → nat_lt k n ≡ b → is_newline (get_or text k 0) ≡ false
+        by_place : ends_line (get_or text n 0) ≡ false → (k : ℕ) → begin_of text n ≤ k → k < n + 1 → (b : Bool) → nat_lt k n ≡ b → ends_line (get_or text k 0) ≡ false
         by_place e k from to true less = before.clear k from (grind (arith, nat_tests))
         by_place e k from to false most =
             let is : k ≡ n = grind (arith, nat_tests) in
-            ap (λ j. is_newline (get_or text j 0)) is ∙ e
+            ap (λ j. ends_line (get_or text j 0)) is ∙ e
 
 pub line_begin : (text : List ℕ) (place : ℕ) → place ≤ length text → BeginsLine text place
 line_begin text zero within =
     let start : 0 - column_of text 0 ≡ 0 = omega arith in
     let some : nat_le 0 (length text) ≡ true = grind (arith, nat_tests) in
-    let whole : lines_from text 0 ≡ lines text = rw some refl in
+    let whole : lines_on text 0 ≡ lines text = rw some refl in
     record {
-      begins = ap (lines_from text) start ∙ whole;
+      begins = ap (lines_on text) start ∙ whole;
       clear = λ k _ before. absurd (omega (arith, before));
       first = ap (column_of text) start;
-      same = ap (line_of text) start;
+      same = ap (line_index text) start;
     }
 line_begin text (suc n) within =
     let one : n + 1 ≡ suc n = omega arith in
@@ -99,15 +99,15 @@ first_left ls rest n l is =
 
 -- the line of a place, from its begin to its end
 pub line_is : (text : List ℕ) (place start end : ℕ) → place ≤ length text → start ≡ place - column_of text place
-    → end ≡ start + position_or_len is_newline (drop start text) → take (end - start) (drop start text) ≡ line_at text place
+    → end ≡ start + position_or_len ends_line (drop start text) → take (end - start) (drop start text) ≡ place_line text place
 line_is text place start end within begin is =
     let parts = next_line text start end (omega (arith, begin, within)) is in
-    let left : drop (line_of text place) (lines text) ≡ lines_from text start = sym ((line_begin text place within).begins) ∙ ap (lines_from text) (sym begin) in
-    sym (first_left (lines text) (lines_from text (end + 1)) (line_of text place) (take (end - start) (drop start text)) (left ∙ parts))
+    let left : drop (line_index text place) (lines text) ≡ lines_on text start = sym ((line_begin text place within).begins) ∙ ap (lines_on text) (sym begin) in
+    sym (first_left (lines text) (lines_on text (end + 1)) (line_index text place) (take (end - start) (drop start text)) (left ∙ parts))
 
 -- a place is not behind the end of its line
 pub place_in_line : (text : List ℕ) (place start end : ℕ) → place ≤ length text → start ≡ place - column_of text place
-    → end ≡ start + position_or_len is_newline (drop start text) → place ≤ end
+    → end ≡ start + position_or_len ends_line (drop start text) → place ≤ end
 place_in_line text place start end within begin is = by_end (nat_le place end) refl
   where
     by_end : (b : Bool) → nat_le place end ≡ b → place ≤ end
@@ -115,18 +115,18 @@ place_in_line text place start end within begin is = by_end (nat_le place end) r
     by_end false e =
         let less : end < place = grind (arith, nat_tests) in
         let long = length-drop start text in
-        let short : position_or_len is_newline (drop start text) < length (drop start text) = omega (arith, less, is, long, within) in
-        let stops : not (is_newline (get_or (drop start text) (position_or_len is_newline (drop start text)) 0)) ≡ false =
-        prefix_len_stops (λ c. not (is_newline c)) (drop start text) 0 short in
-        let at_end : get_or (drop start text) (position_or_len is_newline (drop start text)) 0 ≡ get_or text end 0 =
-        get_or-drop start text (position_or_len is_newline (drop start text)) 0 ∙ ap (λ k. get_or text k 0) (sym is) in
-        let none : is_newline (get_or text end 0) ≡ false = (line_begin text place within).clear end (omega (arith, is, begin)) less in
-        let wrong : not false ≡ false = ap not (sym none ∙ ap is_newline (sym at_end)) ∙ stops in
+        let short : position_or_len ends_line (drop start text) < length (drop start text) = omega (arith, less, is, long, within) in
+        let stops : not (ends_line (get_or (drop start text) (position_or_len ends_line (drop start text)) 0)) ≡ false =
+        prefix_len_stops (λ c. not (ends_line c)) (drop start text) 0 short in
+        let at_end : get_or (drop start text) (position_or_len ends_line (drop start text)) 0 ≡ get_or text end 0 =
+        get_or-drop start text (position_or_len ends_line (drop start text)) 0 ∙ ap (λ k. get_or text k 0) (sym is) in
+        let none : ends_line (get_or text end 0) ≡ false = (line_begin text place within).clear end (omega (arith, is, begin)) less in
+        let wrong : not false ≡ false = ap not (sym none ∙ ap ends_line (sym at_end)) ∙ stops in
         absurd cc
 
 -- what stands before a place in its line is as long as its column
 pub column_in_line : (text : List ℕ) (place start end : ℕ) → place ≤ length text → start ≡ place - column_of text place
-    → end ≡ start + position_or_len is_newline (drop start text) → end ≤ length text → column_of text place ≤ length (take (end - start) (drop start text))
+    → end ≡ start + position_or_len ends_line (drop start text) → end ≤ length text → column_of text place ≤ length (take (end - start) (drop start text))
 column_in_line text place start end within begin is inside =
     let before = place_in_line text place start end within begin is in
     let column = column_within text place in
@@ -136,10 +136,10 @@ column_in_line text place start end within begin is inside =
     omega (arith, all, before, begin, column)
 
 -- behind a place at which a line begins, where it is not the first, stands a newline that is the end of the line above
-pub line_above : (text : List ℕ) (begin : ℕ) → begin ≤ length text → column_of text begin ≡ 0 → 0 < line_of text begin
-    → (0 < begin) × (line_of text (begin - 1) + 1 ≡ line_of text begin)
+pub line_above : (text : List ℕ) (begin : ℕ) → begin ≤ length text → column_of text begin ≡ 0 → 0 < line_index text begin
+    → (0 < begin) × (line_index text (begin - 1) + 1 ≡ line_index text begin)
 line_above text zero within first some = absurd (omega (arith, some))
-line_above text (suc n) within first some = by_char (is_newline (get_or text n 0)) refl
+line_above text (suc n) within first some = by_char (ends_line (get_or text n 0)) refl
   where
     one : n + 1 ≡ suc n
     one = omega arith
@@ -147,19 +147,19 @@ line_above text (suc n) within first some = by_char (is_newline (get_or text n 0
     last : suc n - 1 ≡ n
     last = omega arith
 
-    by_char : (b : Bool) → is_newline (get_or text n 0) ≡ b → (0 < suc n) × (line_of text (suc n - 1) + 1 ≡ line_of text (suc n))
+    by_char : (b : Bool) → ends_line (get_or text n 0) ≡ b → (0 < suc n) × (line_index text (suc n - 1) + 1 ≡ line_index text (suc n))
     by_char true e =
-        let more : line_of text (n + 1) ≡ line_of text n + 1 = count_by_more_yes is_newline text n 0 (omega (arith, within)) e in
-        (omega arith, ap (λ k. line_of text k + 1) last ∙ sym more ∙ ap (line_of text) one)
+        let more : line_index text (n + 1) ≡ line_index text n + 1 = count_by_more_yes ends_line text n 0 (omega (arith, within)) e in
+        (omega arith, ap (λ k. line_index text k + 1) last ∙ sym more ∙ ap (line_index text) one)
     by_char false e =
-        let here : not (is_newline (get_or text (suc n - 1) 0)) ≡ true = ap (λ k. not (is_newline (get_or text k 0))) last ∙ ap not e in
+        let here : not (ends_line (get_or text (suc n - 1) 0)) ≡ true = ap (λ k. not (ends_line (get_or text k 0))) last ∙ ap not e in
         let more : column_of text (suc n) ≡ 1 + column_of text (suc n - 1) =
-        suffix_len-take_yes (λ c. not (is_newline c)) text (suc n) 0 (omega arith) within here in
+        suffix_len-take_yes (λ c. not (ends_line c)) text (suc n) 0 (omega arith) within here in
         absurd (omega (arith, first, more))
 
 -- the lines from the begin of one on
-pub lines_at_begin : (text : List ℕ) (begin line : ℕ) → begin ≤ length text → column_of text begin ≡ 0 → line_of text begin ≡ line
-    → lines_from text begin ≡ drop line (lines text)
+pub lines_at_begin : (text : List ℕ) (begin line : ℕ) → begin ≤ length text → column_of text begin ≡ 0 → line_index text begin ≡ line
+    → lines_on text begin ≡ drop line (lines text)
 lines_at_begin text begin line within first is =
     let start : begin - column_of text begin ≡ begin = omega (arith, first) in
-    ap (lines_from text) (sym start) ∙ (line_begin text begin within).begins ∙ ap (λ k. drop k (lines text)) is
+    ap (lines_on text) (sym start) ∙ (line_begin text begin within).begins ∙ ap (λ k. drop k (lines text)) is

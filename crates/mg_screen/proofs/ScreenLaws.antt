@@ -7,7 +7,7 @@ use Rattle.std.proofs.lemmas.List.Sums.{sum_by-cons}
 use Rattle.mg_screen.specs.Screen.{Pane, Screen}
 use Rattle.mg_screen.specs.Lines.{lines}
 use Rattle.mg_screen.specs.Rows.{filled_row, cut_row}
-use Rattle.mg_screen.specs.Frame.{first_row, text_rows, mode_text, pane_rows, panes_rows, frame_rows, rows_of}
+use Rattle.mg_screen.specs.Frame.{first_row, text_rows, mode_text, pane_rows, panes_rows, frame_rows, screen_rows}
 use Rattle.mg_screen.specs.Written.{utf8}
 
 -- rows that were written, and one more of those that are left
@@ -51,12 +51,12 @@ length-panes_rows columns (p ∷ ps) =
     omega (arith, rest, texts, rows, parts, total)
 
 -- a frame has one row for each text row, one for each mode line and the echo line
-pub length-frame_rows : (columns : ℕ) (s : Screen) → length (frame_rows columns s) ≡ rows_of s
+pub length-frame_rows : (columns : ℕ) (s : Screen) → length (frame_rows columns s) ≡ screen_rows s
 length-frame_rows columns s =
     let panes = length-panes_rows columns s.panes in
     let all = length-append (panes_rows columns s.panes) (cut_row columns (chars s.echo) ∷ []) in
     omega (arith, panes, all)
 
-pub rows_counted : (frame : List (String Global)) (columns rows : ℕ) (s : Screen) → map string_bytes frame ≡ utf8 (frame_rows columns s) → rows_of s ≡ rows → length frame ≡ rows
+pub rows_counted : (frame : List (String Global)) (columns rows : ℕ) (s : Screen) → map string_bytes frame ≡ utf8 (frame_rows columns s) → screen_rows s ≡ rows → length frame ≡ rows
 rows_counted frame columns rows s is whole =
     sym (length-map frame string_bytes) ∙ ap length is ∙ length-map (frame_rows columns s) encode_utf8_all ∙ length-frame_rows columns s ∙ whole

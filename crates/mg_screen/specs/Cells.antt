@@ -40,14 +40,14 @@ abbrev pub width_if : List Cell → ℕ → Option ℕ
 width_if cells most = if nat_le (width_of cells) most then Some (width_of cells) else None
 
 -- the characters that cells show
-abbrev pub shown : List Cell → List ℕ
-shown [] = []
-shown (x ∷ xs) = x.shown ++ shown xs
+abbrev pub shown_cells : List Cell → List ℕ
+shown_cells [] = []
+shown_cells (x ∷ xs) = x.shown ++ shown_cells xs
 
 -- the longest beginning of at most this width
-abbrev pub beginning : ℕ → List Cell → List Cell
-beginning most [] = []
-beginning most (x ∷ xs) = if nat_le x.width most then x ∷ beginning (most - x.width) xs else []
+abbrev pub cells_within : ℕ → List Cell → List Cell
+cells_within most [] = []
+cells_within most (x ∷ xs) = if nat_le x.width most then x ∷ cells_within (most - x.width) xs else []
 
 -- a beginning of cells of at most this width, and no longer beginning is
 pub record IsLongest (most : ℕ) (all begun : List Cell) : Type 0 where

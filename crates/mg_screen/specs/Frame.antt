@@ -2,7 +2,7 @@
 use Rattle.std.specs.Prelude.{ℕ, Bool, ◌+◌, List, [], ◌∷◌, ◌++◌, drop, codes, chars, sum_by, if◌then◌else◌, suc, zero}
 use Rattle.std.specs.Fmt.{decimal}
 use Rattle.mg_screen.specs.Screen.{Pane, Screen}
-use Rattle.mg_screen.specs.Lines.{lines, line_of, column_of}
+use Rattle.mg_screen.specs.Lines.{lines, line_index, column_of}
 use Rattle.mg_screen.specs.Rows.{text_row, filled_row, cut_row}
 
 -- the row of the first of some lines: an empty one where there is none
@@ -27,7 +27,7 @@ mode_line mark name line column waiting =
 -- what the mode line says, as UTF-8: lines count from 1 there
 abbrev pub mode_text : Pane → List ℕ
 mode_text p =
-    mode_line (changed_mark p.changed) p.name (line_of p.text p.point + 1) (column_of p.text p.point) p.waiting
+    mode_line (changed_mark p.changed) p.name (line_index p.text p.point + 1) (column_of p.text p.point) p.waiting
 
 -- the rows of one window
 abbrev pub pane_rows : ℕ → Pane → List (List ℕ)
@@ -44,5 +44,5 @@ abbrev pub frame_rows : ℕ → Screen → List (List ℕ)
 frame_rows columns s = panes_rows columns s.panes ++ cut_row columns (chars s.echo) ∷ []
 
 -- how many rows the screen has
-abbrev pub rows_of : Screen → ℕ
-rows_of s = sum_by (λ p. p.height + 1) s.panes + 1
+abbrev pub screen_rows : Screen → ℕ
+screen_rows s = sum_by (λ p. p.height + 1) s.panes + 1

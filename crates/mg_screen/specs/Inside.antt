@@ -4,7 +4,7 @@ use Rattle.mg_screen.specs.declared.size.TheConstants.{MAX_ROWS}
 use Rattle.mg_screen.specs.Layout.{windows_of, rows_of, IsTall}
 
 -- heights and what is shown are in step, and make a layout that fills so many rows
-pub record IsKept {T : Type 0} (heights : List ℕ) (shown : List T) (current rows : ℕ) : Type 0 where
+pub record AreKeptWindows {T : Type 0} (heights : List ℕ) (shown : List T) (current rows : ℕ) : Type 0 where
   pub paired : length heights ≡ length shown
   pub here : current < length heights
   pub tall : IsTall (windows_of heights shown)

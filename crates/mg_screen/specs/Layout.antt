@@ -58,15 +58,15 @@ split_at zero (w ∷ ws) = of_height (upper_half w.height) w ∷ of_height (lowe
 split_at (suc i) (w ∷ ws) = w ∷ split_at i ws
 
 -- a window with the rows of another one and of its mode line
-abbrev pub joined : {T : Type 0} → Window T → Window T → Window T
-joined v w = of_height (v.height + w.height + 1) v
+abbrev pub joined_windows : {T : Type 0} → Window T → Window T → Window T
+joined_windows v w = of_height (v.height + w.height + 1) v
 
 -- without the window at an index, whose rows go to the window above, or for the topmost to the one below
 abbrev pub remove_at : {T : Type 0} → ℕ → List (Window T) → List (Window T)
 remove_at i [] = []
 remove_at i (w ∷ []) = w ∷ []
-remove_at zero (v ∷ w ∷ ws) = joined w v ∷ ws
-remove_at (suc zero) (v ∷ w ∷ ws) = joined v w ∷ ws
+remove_at zero (v ∷ w ∷ ws) = joined_windows w v ∷ ws
+remove_at (suc zero) (v ∷ w ∷ ws) = joined_windows v w ∷ ws
 remove_at (suc (suc i)) (v ∷ w ∷ ws) = v ∷ remove_at (suc i) (w ∷ ws)
 
 -- the window at an index alone, with all rows

@@ -8,8 +8,8 @@ abbrev pub Spells : List ℕ → String Global → Type 0
 Spells characters row = string_bytes row ≡ encode_utf8_all characters
 
 -- these characters more stand at the end of a string
-abbrev pub Adds : List ℕ → String Global → String Global → Type 0
-Adds characters old new = string_bytes new ≡ string_bytes old ++ encode_utf8_all characters
+abbrev pub AddsCharacters : List ℕ → String Global → String Global → Type 0
+AddsCharacters characters old new = string_bytes new ≡ string_bytes old ++ encode_utf8_all characters
 
 -- rows of characters, as UTF-8
 abbrev pub utf8 : List (List ℕ) → List (List ℕ)

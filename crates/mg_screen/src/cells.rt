@@ -1,6 +1,6 @@
 //! What a character shows in a row, and how wide it is.
 ghost use Rattle.std.specs.Prelude.{◌≡◌, ◌≤◌, chars, replicate, OnOk};
-ghost use Rattle.mg_screen.specs.Written.{Adds};
+ghost use Rattle.mg_screen.specs.Written.{AddsCharacters};
 ghost use Rattle.mg_screen.specs.declared.cells.TheConstants.{TAB_STOP};
 ghost use Rattle.mg_screen.specs.Cells as spec;
 
@@ -25,7 +25,7 @@ fn cell_width(column: usize, c: char) -> usize
 
 /// Writes a character so many times.
 pub(crate) fn push_times(row: &mut String, c: char, count: usize) -> Result<(), AllocError>
-    ensures { OnOk result (Adds (replicate count c) row.old row.new) }
+    ensures { OnOk result (AddsCharacters (replicate count c) row.old row.new) }
 {
     for _i in 0..count {
         row.push(c)?;
@@ -35,7 +35,7 @@ pub(crate) fn push_times(row: &mut String, c: char, count: usize) -> Result<(), 
 
 /// Writes the cell of a character that begins at this column.
 fn push_cell(row: &mut String, column: usize, c: char) -> Result<(), AllocError>
-    ensures { OnOk result (Adds (spec.cell_of column c).shown row.old row.new) }
+    ensures { OnOk result (AddsCharacters (spec.cell_of column c).shown row.old row.new) }
 {
     match c {
         '\t' => push_times(row, ' ', TAB_STOP - column % TAB_STOP)?,
@@ -67,7 +67,7 @@ pub(crate) fn width_within(line: &[char], most: usize) -> Option<usize>
 
 /// The width of the longest beginning of whole cells of a line whose width is at most `most`.
 pub(crate) fn beginning_width(line: &[char], most: usize) -> usize
-    ensures { result ≡ spec.width_of (spec.beginning most (spec.cells line.now)) }
+    ensures { result ≡ spec.width_of (spec.cells_within most (spec.cells line.now)) }
 {
     let mut column = 0;
     for c in line {
@@ -82,7 +82,7 @@ pub(crate) fn beginning_width(line: &[char], most: usize) -> usize
 
 /// The same of a text.
 pub(crate) fn text_width(text: &str, most: usize) -> usize
-    ensures { result ≡ spec.width_of (spec.beginning most (spec.cells (chars text.now))) }
+    ensures { result ≡ spec.width_of (spec.cells_within most (spec.cells (chars text.now))) }
 {
     let mut column = 0;
     for c in text.chars() {
@@ -97,8 +97,8 @@ pub(crate) fn text_width(text: &str, most: usize) -> usize
 
 /// Writes the longest beginning of whole cells of a line whose width is at most `most`.
 pub(crate) fn push_beginning(row: &mut String, line: &[char], most: usize) -> Result<(), AllocError>
-    ensures { let cells = spec.beginning most (spec.cells line.now) in
-        OnOk result (Adds (spec.shown cells) row.old row.new) }
+    ensures { let cells = spec.cells_within most (spec.cells line.now) in
+        OnOk result (AddsCharacters (spec.shown_cells cells) row.old row.new) }
 {
     let mut column = 0;
     for c in line {

@@ -2,7 +2,7 @@
 ghost use Rattle.std.specs.Prelude.{◌≡◌, ◌≤◌, ◌<◌, ◌+◌, length, chars, sum_by};
 ghost use Rattle.mg_screen.specs.declared.size.TheConstants.{MAX_ROWS, MIN_COLUMNS};
 ghost use Rattle.mg_screen.specs.Cells.{width_of};
-ghost use Rattle.mg_screen.specs.Frame.{rows_of};
+ghost use Rattle.mg_screen.specs.Frame.{screen_rows};
 ghost use Rattle.mg_screen.specs.Cursor as spec;
 
 use crate::cells::{beginning_width, text_width, width_within};
@@ -79,7 +79,7 @@ fn rows_of_panes(panes: &[Pane]) -> usize
 /// behind the last column. `None` where there is no such window, or where it does not show point's
 /// line (`first_line` has it shown). Takes no memory.
 pub fn cursor(columns: usize, screen: &Screen, index: usize) -> Option<Position>
-    requires rows_to { rows_of screen.now ≤ MAX_ROWS }
+    requires rows_to { screen_rows screen.now ≤ MAX_ROWS }
     requires columns_from { MIN_COLUMNS ≤ columns }
     ensures { result ≡ spec.cursor columns screen.now index }
 {
@@ -91,7 +91,7 @@ pub fn cursor(columns: usize, screen: &Screen, index: usize) -> Option<Position>
 /// Where the cursor of a frame stands that is behind the text of the echo line: in the last row, at
 /// the end of what that shows, and never behind the last column. Takes no memory.
 pub fn echo_cursor(columns: usize, screen: &Screen) -> Position
-    requires rows_to { rows_of screen.now ≤ MAX_ROWS }
+    requires rows_to { screen_rows screen.now ≤ MAX_ROWS }
     requires columns_from { MIN_COLUMNS ≤ columns }
     ensures { result ≡ spec.echo_cursor columns screen.now }
 {

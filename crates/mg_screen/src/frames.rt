@@ -55,7 +55,7 @@ pub fn frame(
     columns: usize,
     screen: &Screen,
 ) -> Result<Vec<String>, FrameFault>
-    requires whole { spec.rows_of screen.now ≡ rows }
+    requires whole { spec.screen_rows screen.now ≡ rows }
     requires rows_from { MIN_ROWS ≤ rows }
     requires rows_to { rows ≤ MAX_ROWS }
     requires columns_from { MIN_COLUMNS ≤ columns }

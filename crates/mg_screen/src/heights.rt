@@ -2,7 +2,7 @@
 ghost use Rattle.std.specs.Prelude.{◌≡◌, ℕ, ◌+◌, ◌-◌, ◌*◌, ◌<◌, ◌≤◌, OnOk, OnErr};
 ghost use Rattle.std.specs.Prelude.{length, insert, slice_index, sum_by};
 ghost use Rattle.mg_screen.specs.declared.size.TheConstants.{MAX_ROWS, MIN_SPLIT_HEIGHT};
-ghost use Rattle.mg_screen.specs.Inside.{IsKept};
+ghost use Rattle.mg_screen.specs.Inside.{AreKeptWindows};
 ghost use Rattle.mg_screen.specs.Layout as spec;
 
 use std::alloc::AllocError;
@@ -42,8 +42,8 @@ pub(crate) fn split_both<T: Copy>(
     ensures exact { OnOk result
         (spec.windows_of heights.new.items shown.new.items ≡
         spec.split_at index (spec.windows_of heights.old.items shown.old.items)) }
-    ensures kept { (rows : ℕ) → IsKept heights.old.items shown.old.items index rows →
-        IsKept heights.new.items shown.new.items index rows }
+    ensures kept { (rows : ℕ) → AreKeptWindows heights.old.items shown.old.items index rows →
+        AreKeptWindows heights.new.items shown.new.items index rows }
     ensures grown { OnOk result (length heights.new.items ≡ length heights.old.items + 1) }
     ensures same_count { OnErr result (length heights.new.items ≡ length heights.old.items) }
     ensures same { OnErr result
@@ -69,8 +69,8 @@ pub(crate) fn remove_both<T: Copy>(
     requires several { 1 < length heights.old.items }
     requires rows_to { sum_by (λ h. h + 1) heights.old.items ≤ MAX_ROWS }
     ensures paired { length heights.new.items ≡ length shown.new.items }
-    ensures kept { (rows : ℕ) → IsKept heights.old.items shown.old.items index rows →
-        IsKept heights.new.items shown.new.items result rows }
+    ensures kept { (rows : ℕ) → AreKeptWindows heights.old.items shown.old.items index rows →
+        AreKeptWindows heights.new.items shown.new.items result rows }
     ensures less { length heights.new.items + 1 ≡ length heights.old.items }
     ensures heir { result ≡ index - 1 }
     ensures exact { spec.windows_of heights.new.items shown.new.items ≡

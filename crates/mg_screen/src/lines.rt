@@ -11,7 +11,7 @@ const BLOCK: usize = 512;
 /// How many newlines a block has.
 fn newlines(block: &[char]) -> u32
     requires { length block.now ≤ BLOCK }
-    ensures exact { result ≡ count_by spec.is_newline block.now }
+    ensures exact { result ≡ count_by spec.ends_line block.now }
     ensures bound { result ≤ length block.now }
 {
     let mut count: u32 = 0;
@@ -61,7 +61,7 @@ pub fn centred_line(line: usize, height: usize) -> usize
 /// line then, else the one that puts point's line in its middle. `line` is that of point, in any
 /// text. Lines count from 0. Takes no memory.
 pub fn first_line(line: usize, first: usize, height: usize) -> usize
-    ensures { (text : List ℕ) (point : ℕ) → line ≡ spec.line_of text point →
+    ensures { (text : List ℕ) (point : ℕ) → line ≡ spec.line_index text point →
         result ≡ spec.first_line text point first height }
 {
     if line < first || line - first >= height {
@@ -73,7 +73,7 @@ pub fn first_line(line: usize, first: usize, height: usize) -> usize
 
 /// How many characters the first line of a text has.
 fn front_len(text: &[char]) -> usize
-    ensures exact { result ≡ position_or_len spec.is_newline text.now }
+    ensures exact { result ≡ position_or_len spec.ends_line text.now }
     ensures within { result ≤ length text.now }
 {
     for (n, c) in text.iter().enumerate() {
@@ -87,8 +87,8 @@ fn front_len(text: &[char]) -> usize
 /// A place of the same line, some whole blocks behind.
 fn blocks_behind(text: &[char], place: usize) -> usize
     requires { place ≤ length text.now }
-    ensures same_line { result + position_or_len spec.is_newline (drop result text.now) ≡
-        place + position_or_len spec.is_newline (drop place text.now) }
+    ensures same_line { result + position_or_len spec.ends_line (drop result text.now) ≡
+        place + position_or_len spec.ends_line (drop place text.now) }
     ensures within { result ≤ length text.now }
 {
     let mut end = place;
@@ -101,7 +101,7 @@ fn blocks_behind(text: &[char], place: usize) -> usize
 /// The end of the line that begins at a place.
 pub(crate) fn line_end(text: &[char], start: usize) -> usize
     requires { start ≤ length text.now }
-    ensures exact { result ≡ start + position_or_len spec.is_newline (drop start text.now) }
+    ensures exact { result ≡ start + position_or_len spec.ends_line (drop start text.now) }
     ensures within { result ≤ length text.now }
 {
     let near = blocks_behind(text, start);
@@ -112,7 +112,7 @@ pub(crate) fn line_end(text: &[char], start: usize) -> usize
 fn line_begin(text: &[char], place: usize) -> usize
     requires { place ≤ length text.now }
     ensures begins { spec.column_of text.now result ≡ 0 }
-    ensures line { spec.line_of text.now result ≡ spec.line_of text.now place }
+    ensures line { spec.line_index text.now result ≡ spec.line_index text.now place }
     ensures within { result ≤ length text.now }
 {
     place - column_of(text, place)
@@ -122,9 +122,9 @@ fn line_begin(text: &[char], place: usize) -> usize
 fn begin_above(text: &[char], begin: usize, count: usize) -> usize
     requires within { begin ≤ length text.now }
     requires begins { spec.column_of text.now begin ≡ 0 }
-    requires above { count ≤ spec.line_of text.now begin }
+    requires above { count ≤ spec.line_index text.now begin }
     ensures begins { spec.column_of text.now result ≡ 0 }
-    ensures line { spec.line_of text.now result + count ≡ spec.line_of text.now begin }
+    ensures line { spec.line_index text.now result + count ≡ spec.line_index text.now begin }
     ensures within { result ≤ length text.now }
 {
     let mut start = begin;
@@ -138,7 +138,7 @@ fn begin_above(text: &[char], begin: usize, count: usize) -> usize
 /// the text has not begins behind its end.
 fn begin_below(text: &[char], begin: usize, count: usize) -> usize
     requires { begin ≤ length text.now }
-    ensures exact { spec.lines_from text.now result ≡ drop count (spec.lines_from text.now begin) }
+    ensures exact { spec.lines_on text.now result ≡ drop count (spec.lines_on text.now begin) }
     ensures within { result ≤ length text.now + 1 }
 {
     let mut start = begin;
@@ -155,8 +155,8 @@ fn begin_below(text: &[char], begin: usize, count: usize) -> usize
 /// the text is read than what stands between. A line that the text has not begins behind its end.
 pub(crate) fn line_start(text: &[char], place: usize, here: usize, line: usize) -> usize
     requires within { place ≤ length text.now }
-    requires here { here ≡ spec.line_of text.now place }
-    ensures exact { spec.lines_from text.now result ≡ drop line (spec.lines text.now) }
+    requires here { here ≡ spec.line_index text.now place }
+    ensures exact { spec.lines_on text.now result ≡ drop line (spec.lines text.now) }
     ensures within { result ≤ length text.now + 1 }
 {
     let begin = line_begin(text, place);

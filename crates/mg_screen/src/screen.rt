@@ -27,7 +27,7 @@ pub struct Pane<'a> {
 impl<'a> Model for Pane<'a> {
     ghost use Rattle.std.specs.Prelude.{◌≡◌, ◌≤◌, length, string_bytes};
     ghost use Rattle.mg_screen.specs.Screen as spec;
-    ghost use Rattle.mg_screen.specs.Lines.{line_of};
+    ghost use Rattle.mg_screen.specs.Lines.{line_index};
     ghost use Rattle.mg_screen.specs.declared.size.TheConstants.{MAX_ROWS};
 
     ghost Value = { spec.Pane };
@@ -44,7 +44,7 @@ impl<'a> Model for Pane<'a> {
 
     ghost invariant = { λ p.
         (p.point ≤ length p.text.now) × (1 ≤ p.height) × (p.height ≤ MAX_ROWS)
-        × (p.line ≡ line_of p.text.now p.point) };
+        × (p.line ≡ line_index p.text.now p.point) };
 }
 
 /// The windows from the top on, and what the echo line says.

@@ -1,7 +1,7 @@
 //! The text rows of a window.
 ghost use Rattle.std.specs.Prelude.{◌≡◌, ◌≤◌, ◌<◌, ◌+◌, length, drop, IfOk, OnOk};
 ghost use Rattle.mg_screen.specs.Written.{Spells, AddsRows};
-ghost use Rattle.mg_screen.specs.Lines.{lines_from};
+ghost use Rattle.mg_screen.specs.Lines.{lines_on};
 ghost use Rattle.mg_screen.specs.Frame as spec;
 
 use crate::lines::line_end;
@@ -17,10 +17,10 @@ fn next_row(
 ) -> Result<(String, usize), AllocError>
     requires some { 0 < columns }
     requires within { start ≤ length text.now + 1 }
-    ensures row { let rest = lines_from text.now start in
+    ensures row { let rest = lines_on text.now start in
         IfOk result (λ r. Spells (spec.first_row columns rest) r.0) }
-    ensures next { let rest = lines_from text.now start in
-        IfOk result (λ r. lines_from text.now r.1 ≡ drop 1 rest) }
+    ensures next { let rest = lines_on text.now start in
+        IfOk result (λ r. lines_on text.now r.1 ≡ drop 1 rest) }
     ensures bound { IfOk result (λ r. r.1 ≤ length text.now + 1) }
 {
     if start > text.len() {
@@ -42,7 +42,7 @@ pub(crate) fn push_text_rows(
 ) -> Result<(), AllocError>
     requires some { 0 < columns }
     requires within { begin ≤ length text.now + 1 }
-    ensures { let shown = lines_from text.now begin in
+    ensures { let shown = lines_on text.now begin in
         OnOk result (AddsRows (spec.text_rows columns height shown) rows.old.items rows.new.items) }
 {
     let mut start = begin;

@@ -49,11 +49,11 @@ impl<T: Copy> Model for Windows<T> {
     ghost coded = { layout_code T.code };
 
     ghost use Rattle.mg_screen.specs.Layout.{layout, windows_of};
-    ghost use Rattle.mg_screen.specs.Inside.{IsKept};
+    ghost use Rattle.mg_screen.specs.Inside.{AreKeptWindows};
 
     ghost view = { λ w. layout (windows_of w.heights.items w.shown.items) w.current };
 
-    ghost invariant = { λ w. IsKept w.heights.items w.shown.items w.current w.rows };
+    ghost invariant = { λ w. AreKeptWindows w.heights.items w.shown.items w.current w.rows };
 }
 
 fn one<T: Copy>(alloc: Global, item: T) -> Result<Vec<T>, AllocError>

@@ -18,12 +18,12 @@ is_unfailed Quit = true
 is_unfailed course = false
 
 -- what a session that stands so is answered by
-abbrev pub answer : Course → Result (Unit {0}) SessionFault
-answer On = Ok tt
-answer Quit = Ok tt
-answer NoKeys = Err Keys
-answer NoScreen = Err Screen
-answer NoMemory = Err Memory
+abbrev pub course_answer : Course → Result (Unit {0}) SessionFault
+course_answer On = Ok tt
+course_answer Quit = Ok tt
+course_answer NoKeys = Err Keys
+course_answer NoScreen = Err Screen
+course_answer NoMemory = Err Memory
 
 -- a call of the device more failed
 abbrev pub IsFailed : {T : Type 0} → Calls T → Calls T → Type 0

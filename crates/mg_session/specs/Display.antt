@@ -9,7 +9,7 @@ use Rattle.mg_screen.specs.Written.{utf8}
 use Rattle.mg_screen.specs.declared.screen.Position.{Position}
 use Rattle.mg_settings.specs.Settings.{Values}
 use Rattle.mg_editor.specs.Editors.{Editor}
-use Rattle.mg_editor.specs.Frames.{IsPlaced, ShowsCursor, screen_of}
+use Rattle.mg_editor.specs.Frames.{PlacesWindows, ShowsCursor, screen_of}
 use Rattle.mg_session.specs.Courses.{is_on, IsFailed}
 use Rattle.mg_session.specs.Moments.{Known, Moment}
 use Rattle.mg_session.specs.declared.course.Course.{Course}
@@ -58,7 +58,7 @@ shown_cursor has_cursor at = if has_cursor then Some at else None
 -- the text is the frame of the editor, whose windows were placed for it
 pub record ShowsFrame (has_cursor : Bool) (old new : Editor) (text : List ℕ) : Type 0 where
   pub at : Position
-  pub placed : IsPlaced old new
+  pub placed : PlacesWindows old new
   pub cursor : ShowsCursor new at
   pub written : text ≡ frame_text (editor_rows new) (shown_cursor has_cursor at)
 

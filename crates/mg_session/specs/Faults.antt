@@ -6,11 +6,11 @@ use Rattle.mg_files.specs.declared.port.PortFault.TheVariants as port
 use Rattle.mg_session.specs.declared.fault.SessionFault.{SessionFault}
 use Rattle.mg_session.specs.declared.fault.SessionFault.TheVariants.{Load, File, Memory}
 
-abbrev pub load_fault : LoadFault → SessionFault
-load_fault (load.Log e) = Load (load.Log e)
-load_fault load.NotText = Load load.NotText
-load_fault (load.Store e) = Load (load.Store e)
-load_fault load.Memory = Memory
+abbrev pub session_load_fault : LoadFault → SessionFault
+session_load_fault (load.Log e) = Load (load.Log e)
+session_load_fault load.NotText = Load load.NotText
+session_load_fault (load.Store e) = Load (load.Store e)
+session_load_fault load.Memory = Memory
 
 abbrev pub port_fault : PortFault → SessionFault
 port_fault port.File = File

@@ -13,18 +13,18 @@ use Rattle.mg_session.specs.declared.course.Course.{Course}
 use Rattle.mg_session.specs.declared.course.Course.TheVariants.{On, Quit}
 
 -- what a press requests
-abbrev pub request_of : presses.Answer → Request
+abbrev pub request_of : presses.PressAnswer → Request
 request_of (Ok asked) = asked
 request_of (Err fault) = request.Idle
 
 -- want of memory is said
-abbrev pub said : presses.Answer → Editor → Editor
+abbrev pub said : presses.PressAnswer → Editor → Editor
 said (Ok asked) e = e
 said (Err fault) e = record e { talk = record e.talk { message = Refused notice.Memory } }
 
 -- the byte was pressed
 pub record Presses (byte : ℕ) (old new : Editor) (asked : Request) : Type 0 where
-  pub answer : presses.Answer
+  pub answer : presses.PressAnswer
   pub between : Editor
   pub pressed : presses.Pressed byte old between answer
   pub left : new ≡ said answer between
@@ -39,7 +39,7 @@ course_behind asked = On
 pub record TakesKey (byte : ℕ) (before behind : Moment) : Type 0 where
   pub asked : Request
   pub pressed : Editor
-  pub answer : telling.Answer
+  pub answer : telling.CarryAnswer
   pub presses : Presses byte before.editor pressed asked
   pub carried : carrying.Carried asked before.calls behind.calls pressed behind.editor answer
   pub screen : behind.screen ≡ before.screen

@@ -10,11 +10,11 @@ use Rattle.mg_files.specs.declared.fault.LoadFault.TheVariants as load
 use Rattle.mg_keys.specs.Begun.{HasBegun}
 use Rattle.mg_screen.specs.declared.size.TheConstants.{MIN_ROWS, MAX_ROWS, MIN_COLUMNS, MAX_COLUMNS}
 use Rattle.mg_settings.specs.Settings.{Values}
-use Rattle.mg_workspace.specs.Actions.{resized}
+use Rattle.mg_workspace.specs.Actions.{resized_work}
 use Rattle.mg_editor.specs.Editors.{Editor}
-use Rattle.mg_editor.specs.Opening.{Opens}
+use Rattle.mg_editor.specs.Opening.{OpensEditor}
 use Rattle.mg_reports.specs.Reports.{Event, key, size, block_end, fresh, read_events, all_events}
-use Rattle.mg_session.specs.Courses.{is_on, is_unfailed, answer, IsFailed}
+use Rattle.mg_session.specs.Courses.{is_on, is_unfailed, course_answer, IsFailed}
 use Rattle.mg_session.specs.Display.{Displays, follows_step, follows_key, follows_block, manner_of}
 use Rattle.mg_session.specs.Keys.{TakesKey}
 use Rattle.mg_session.specs.Moments.{ToldCalls, Known, seen, Moment, moment, StepIf}
@@ -36,7 +36,7 @@ pub record TakesByte (how : Manner) (byte : ℕ) (before behind : Moment) : Type
 
 -- on a screen of so many rows and columns, each brought within its limits
 abbrev pub resized_editor : ℕ → ℕ → Editor → Editor
-resized_editor rows columns e = record e { work = resized (min (max rows MIN_ROWS) MAX_ROWS) (min (max columns MIN_COLUMNS) MAX_COLUMNS) e.work }
+resized_editor rows columns e = record e { work = resized_work (min (max rows MIN_ROWS) MAX_ROWS) (min (max columns MIN_COLUMNS) MAX_COLUMNS) e.work }
 
 -- a byte, a size that the screen takes, or the end of a block
 abbrev pub TakesEvent : Manner → Event → Moment → Moment → Type 0
@@ -96,7 +96,7 @@ IsFound v found calls told = Adds calls told (found_call v.name found ∷ [])
 
 -- This editor opens by what it answered, or none does, for this fault, or it was refused.
 abbrev pub LoadsTo : Values → ToldCalls → ToldCalls → Result Editor SessionFault → Type 0
-LoadsTo v calls told (Ok first) = (found : Files) × IsFound v found calls told × Opens v found (Ok first)
+LoadsTo v calls told (Ok first) = (found : Files) × IsFound v found calls told × OpensEditor v found (Ok first)
 LoadsTo v calls told (Err (Load e)) = (found : Files) × IsFound v found calls told × (load_outcome v.name v.replica v.limit found ≡ Err e) × (e ≢ load.Memory)
 LoadsTo v calls told (Err File) = Adds calls told (refused (load_call v.name) ∷ [])
 LoadsTo v calls told (Err Memory) = ⊤
@@ -130,7 +130,7 @@ pub record RunsFrom {R W : Type 0} (remaining : R → Known) (contents : W → K
   pub course : Course
   pub opened : LoadsTo v before.calls told (Ok first)
   pub ran : Runs remaining (manner_of v) (moment first told (seen contents before.screen) On) (moment last behind.calls (seen contents behind.screen) course) before.keys behind.keys
-  pub answered : r ≡ answer course
+  pub answered : r ≡ course_answer course
 
 -- None opened: no key was read, and nothing was written.
 pub record NeverOpens {R W : Type 0} (v : Values) (r : Result (Unit {0}) SessionFault) (before behind : Devices R W) : Type 0 where

@@ -41,7 +41,7 @@ pub(crate) fn is_unfailed(course: Course) -> bool
 
 /// What a session that stands so is answered by.
 pub(crate) fn answer(course: Course) -> Result<(), SessionFault>
-    ensures { result ≡ spec.answer course }
+    ensures { result ≡ spec.course_answer course }
 {
     match course {
         Course::On | Course::Quit => Ok(()),

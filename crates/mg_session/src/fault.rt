@@ -21,7 +21,7 @@ pub enum SessionFault {
 
 /// The fault of a load.
 pub(crate) fn of_load(fault: LoadFault) -> SessionFault
-    ensures { result ≡ spec.load_fault fault }
+    ensures { result ≡ spec.session_load_fault fault }
 {
     match fault {
         LoadFault::Memory => SessionFault::Memory,

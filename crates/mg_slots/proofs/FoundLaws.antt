@@ -7,7 +7,7 @@ use Rattle.indexmap.specs.IndexMap.{IndexMap, get}
 use Rattle.rga_ops.specs.Identifier.{Identifier, is_id}
 use Rattle.rga_ops.proofs.IdentifierLaws.{is_id-is, is_id-itself}
 use Rattle.mg_slots.specs.declared.row.Row.{Row}
-use Rattle.mg_slots.specs.Slots.{AreApart, AreFound, IsInRow, IsRow, IsSlotOf, first_counter}
+use Rattle.mg_slots.specs.Slots.{AreRowsApart, AreFound, IsInRow, IsRow, IsSlotOf, first_counter}
 use Rattle.mg_slots.proofs.ListLaws.{IsBehind, at_behind, at_either, at_front, at_replaced, not_at, only_one, only_zero, place_of}
 
 module _ {S : Type 0} (E : IndexMap Identifier ℕ S) (R : List Row) (xs : List Identifier) (g : ℕ) (kept : AreFound E R xs g) where
@@ -130,7 +130,7 @@ module _ {S : Type 0} (E : IndexMap Identifier ℕ S) (R : List Row) (xs : List 
     in_old_row : (x : Identifier) (i : ℕ) → IsInRow R x i → IsInRow (R ++ a ∷ []) x i
     in_old_row x i r = record { index = r.index; row = r.row; there = at_front R (a ∷ []) r.index r.row r.there; from = r.from; up_to = r.up_to; slot_is = r.slot_is }
 
-    apart_now : AreApart (R ++ a ∷ [])
+    apart_now : AreRowsApart (R ++ a ∷ [])
     apart_now i j b c before at_b at_c = elim (at_either R (a ∷ []) j c at_c) as (λ _. b.counter + b.count ≤ c.counter) [
       | inl f ↦ elim (at_either R (a ∷ []) i b at_b) as (λ _. b.counter + b.count ≤ c.counter) [
         | inl e ↦ kept.apart i j b c before e.at f.at

@@ -4,10 +4,10 @@ use Rattle.std.specs.List.Sorted.{IsNonDecreasingBy, IsPartitionPoint}
 use Rattle.std.proofs.lemmas.Option.{slice_get_within, slice_get-get_or, get_or_from_slice_get}
 use Rattle.rga_ops.specs.Identifier.{Identifier}
 use Rattle.mg_slots.specs.declared.row.Row.{Row}
-use Rattle.mg_slots.specs.Slots.{AreApart, IsInRow}
+use Rattle.mg_slots.specs.Slots.{AreRowsApart, IsInRow}
 use Rattle.mg_slots.proofs.ListLaws.{is_one}
 
-module _ (rows : List Row) (apart : AreApart rows) where
+module _ (rows : List Row) (apart : AreRowsApart rows) where
   pub rows_rise : IsNonDecreasingBy (λ (row : Row). row.counter) rows
   rows_rise i j d up within = elim (is_one i j) as (λ _. (get_or rows i d).counter ≤ (get_or rows j d).counter) [
     | inl same ↦ omega (arith, ap (λ k. (get_or rows k d).counter) same)

@@ -34,8 +34,8 @@ IsRow ids = (k : ℕ) (id : Identifier) → slice_get ids k ≡ Some id → id.c
 -- ---- how slots are found
 
 -- an earlier row ends before a later one begins
-abbrev pub AreApart : List Row → Type 0
-AreApart rows = (i j : ℕ) (a b : Row) → i < j → slice_get rows i ≡ Some a → slice_get rows j ≡ Some b → a.counter + a.count ≤ b.counter
+abbrev pub AreRowsApart : List Row → Type 0
+AreRowsApart rows = (i j : ℕ) (a b : Row) → i < j → slice_get rows i ≡ Some a → slice_get rows j ≡ Some b → a.counter + a.count ≤ b.counter
 
 -- a row has the slot for the identifier
 pub record IsInRow (rows : List Row) (id : Identifier) (slot : ℕ) : Type 0 where
@@ -54,6 +54,6 @@ module _ {S : Type 0} (entries : IndexMap Identifier ℕ S) (rows : List Row) wh
   -- the slot of each element is found, and no counter is above the greatest
   pub record AreFound (elements : List Identifier) (greatest : ℕ) : Type 0 where
     pub found : (slot : ℕ) (id : Identifier) → slice_get elements slot ≡ Some id → IsSlotOf id slot
-    pub apart : AreApart rows
+    pub apart : AreRowsApart rows
     pub entries_old : (id : Identifier) (slot : ℕ) → get is_id entries id ≡ Some slot → id.counter ≤ greatest
     pub rows_old : (i : ℕ) (row : Row) → slice_get rows i ≡ Some row → row.counter + row.count ≤ greatest + 1

@@ -2,7 +2,7 @@
 ghost use Rattle.std.specs.Prelude.{◌≡◌, ◌<◌, ◌≤◌, ◌+◌, ◌-◌, ℕ, Some, true, length};
 ghost use Rattle.std.specs.List.{slice_get};
 ghost use Rattle.rga_ops.specs.Identifier.{Identifier};
-ghost use Rattle.mg_slots.specs.Slots.{AreApart, IsInRow, IsRow};
+ghost use Rattle.mg_slots.specs.Slots.{AreRowsApart, IsInRow, IsRow};
 
 use rga_ops::Id;
 
@@ -17,7 +17,7 @@ pub(crate) struct Row {
 /// The slot that a row has for an identifier. Rows do not tell replicas: another element may be
 /// there.
 pub(crate) fn slot_in_rows(rows: &[Row], id: Id) -> Option<usize>
-    requires { AreApart rows.now }
+    requires { AreRowsApart rows.now }
     ensures { (slot : ℕ) → IsInRow rows.now id slot → slot ≤ usize.MAX →
         result ≡ Some slot }
 {
@@ -37,7 +37,7 @@ pub(crate) fn slot_in_rows(rows: &[Row], id: Id) -> Option<usize>
 /// How many rows do not begin above a counter. The last of these has the identifiers with that
 /// counter, if a row has.
 fn count_up_to(rows: &[Row], counter: u64) -> usize
-    requires { AreApart rows.now }
+    requires { AreRowsApart rows.now }
     ensures within { result ≤ length rows.now }
     ensures up_to { (row : Row) → 0 < result → slice_get rows.now (result - 1) ≡ Some row →
         row.counter ≤ counter }

@@ -4,7 +4,7 @@ ghost use Rattle.std.specs.List.{list_any, slice_get};
 ghost use Rattle.std.specs.Vec.{vec_capacity, vec_len};
 ghost use Rattle.indexmap.specs.IndexMap.{get, spare};
 ghost use Rattle.rga_ops.specs.Identifier.{Identifier, is_id};
-ghost use Rattle.mg_slots.specs.Slots.{AreApart, IsRow, IsSlotOf, first_counter, with_element, with_elements};
+ghost use Rattle.mg_slots.specs.Slots.{AreRowsApart, IsRow, IsSlotOf, first_counter, with_element, with_elements};
 
 use crate::row::{Row, go_on, slot_in_rows};
 use indexmap::IndexMap;
@@ -180,7 +180,7 @@ impl Slots {
 
 /// The slot of an element that has one; where it has none, any slot or none.
 fn guess(entries: &IndexMap<Id, usize>, rows: &[Row], id: Id) -> Option<usize>
-    requires { AreApart rows.now }
+    requires { AreRowsApart rows.now }
     ensures { (slot : ℕ) → IsSlotOf entries.now rows.now id slot → slot ≤ usize.MAX →
         result ≡ Some slot }
 {

@@ -15,7 +15,7 @@ use Rattle.mg_sync.specs.declared.fault.ExchangeFault.TheVariants.{Save, Link, S
 use Rattle.mg_sync.specs.declared.talking.Exchanged.{Exchanged}
 use Rattle.mg_sync.specs.Asking.{Role, Connects, Waits, Asks, Wire}
 use Rattle.mg_sync.specs.Talking.{HearsOver, TakesSome}
-use Rattle.mg_sync.specs.Meeting.{Ending, Unopened, Unasked, Unsent, Unended, Met, answer_of, whole_answer, peer_answer, opening, is_talk, EndsBehind, Takes, Meets, Came}
+use Rattle.mg_sync.specs.Meeting.{Ending, Unopened, Unasked, Unsent, Unended, Met, answer_of, whole_answer, peer_answer, opening, is_talk, EndsBehind, TakesAndSaves, Meets, Came}
 use Rattle.mg_sync.specs.Linking.{counted, Account, BeginsOver, SendsFirst, ThenHears, HearsFirst, ThenSends, PassesOver, ExchangesOver}
 use Rattle.mg_sync.proofs.MeetingLaws.{adds_then, saved_brief, gains_came}
 
@@ -80,7 +80,7 @@ module _ {L : Type 0} {a : Account L} {b s : OpenState} (k : Saved a b s) where
       (n, subst (λ x. SendsFirst a x (Ok n)) k.left sends)
 
   -- what was heard and saved behind these calls
-  module _ (mid : Option (List Call)) (reader heard : Calls L) (d : OpenState) (r : Result ℕ ExchangeFault) (t : Takes (HearsOver a.wire.remaining reader heard) mid a.made s d r) where
+  module _ (mid : Option (List Call)) (reader heard : Calls L) (d : OpenState) (r : Result ℕ ExchangeFault) (t : TakesAndSaves (HearsOver a.wire.remaining reader heard) mid a.made s d r) where
     abbrev meets : (made : List Call) → Adds k.calls mid made → Meets a.calls a.made b d made t.kept
     meets made makes = record {
       mid = mid;

@@ -51,7 +51,7 @@ answer_of (Met sent heard kept) = whole_answer sent (peer_answer heard kept)
 -- ---- what was done
 
 -- A peer was heard, of which this is said, to its end or not, and then what was held was saved or not.
-pub record Takes (Hears : Result ℕ ReceiveFault → OpenState → OpenState → Type 0) (old new : Option (List Call)) (b d : OpenState) (answer : Result ℕ ExchangeFault) : Type 0 where
+pub record TakesAndSaves (Hears : Result ℕ ReceiveFault → OpenState → OpenState → Type 0) (old new : Option (List Call)) (b d : OpenState) (answer : Result ℕ ExchangeFault) : Type 0 where
   pub heard : Result ℕ ReceiveFault
   pub kept : Result Bool PortFault
   pub answered : answer ≡ peer_answer heard kept

@@ -14,7 +14,7 @@ use Rattle.rga_exchange.specs.declared.fault.ReceiveFault.TheVariants as receive
 use Rattle.rga_exchange.specs.declared.fault.SendFault.{SendFault}
 use Rattle.rga_exchange.specs.declared.fault.SendFault.TheVariants as send
 use Rattle.rga_digest.specs.Summary.{Summary, missing}
-use Rattle.mg_buffer.specs.Following.{Follows}
+use Rattle.mg_buffer.specs.Following.{TakesOperations}
 use Rattle.mg_buffer.specs.State.{State}
 use Rattle.mg_files.specs.OpenState.{OpenState}
 
@@ -46,7 +46,7 @@ pub record SendsOver {L : Type 0} (peer : Option Summary) (contents : L → Opti
 -- cut the bytes, they lead to what all of them lead to; heard to its end, the content is joined with their operations.
 -- `Read` is answered exactly where a call of the link failed.
 pub record HearsOver {L : Type 0} (remaining : L → Option (List ℕ)) (old new : Calls L) (answer : Result ℕ ReceiveFault) (b d : OpenState) : Type 0 where
-  pub lines : HasTakenLines Exchange remaining (λ (s : State). s.limit) (λ (s : State). s.content) Follows old new b.buffer d.buffer
+  pub lines : HasTakenLines Exchange remaining (λ (s : State). s.limit) (λ (s : State). s.content) TakesOperations old new b.buffer d.buffer
   pub outcome : answer ≢ Err receive.Read → answer ≢ Err receive.Memory → OnBytes remaining old (λ bytes. exchange_outcome b.buffer.limit b.buffer.content bytes ≡ (d.buffer.content, answer))
   pub joined : OnOk answer (OnBytes remaining old (λ bytes. d.buffer.content ≡ join b.buffer.content (content_of (stream_operations bytes))))
   pub device : CountsAs receive.Read answer old new
@@ -62,5 +62,5 @@ pub record Gains (b d : OpenState) : Type 0 where
 -- operations were taken into the buffer, and nothing else changed
 pub record TakesSome (b d : OpenState) : Type 0 where
   pub ops : List Op
-  pub follows : Follows b.buffer ops d.buffer
+  pub follows : TakesOperations b.buffer ops d.buffer
   pub rest : d ≡ record b { buffer = d.buffer }

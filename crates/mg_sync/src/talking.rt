@@ -45,7 +45,7 @@ pub(crate) fn hear_and_save<S: TextStore, L: Read, P: Port>(
     reader: &mut Counted<L>,
     port: &mut P,
 ) -> Result<u64, ExchangeFault>
-    ensures takes { spec.Takes (HearsOver L.remaining reader.old reader.new)
+    ensures takes { spec.TakesAndSaves (HearsOver L.remaining reader.old reader.new)
         (P.calls port.old) (P.calls port.new) opened.old opened.new result }
     ensures links { P.links port.new ≡ P.links port.old }
     ensures device { spec.CountsFaults result (P.failures port.old) (P.failures port.new) }

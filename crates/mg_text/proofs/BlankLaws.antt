@@ -2,26 +2,26 @@
 use Rattle.std.proofs.Common.{Bool, List, None, Option, Some, [], ap, arith, false, filter, if◌then◌else◌, inl, inr, length, not, option_map, refl, reverse, subst, suc, sym, true, zero, ℕ, ◌++◌, ◌+◌, ◌-◌, ◌<◌, ◌∷◌, ◌≡◌, ◌≤◌, ◌⊎◌}
 use Rattle.std.proofs.lemmas.List.{reverse-append}
 use Rattle.rga_ops.specs.Splice.{Splice}
-use Rattle.mg_text.specs.Characters.{newline, space}
+use Rattle.mg_text.specs.Characters.{newline_character, space}
 use Rattle.mg_text.specs.Filling.{alters, columns, filling, fits, gaps, joint}
 use Rattle.mg_text.specs.Layout.{AreOfBlanks, IsOfBlanks}
 use Rattle.mg_text.specs.Paragraphs.{begins_paragraph, ends_paragraph, is_nonblank, next_word, paragraph, word_at, words}
 use Rattle.mg_text.specs.Scans.{least, least_from}
-use Rattle.mg_text.specs.Spans.{Span, chain}
+use Rattle.mg_text.specs.Spans.{Span, span_chain}
 use Rattle.mg_text.proofs.RangeLaws.{greatest_up_to-within, least_found, least_from-within, none_found}
 use Rattle.mg_text.proofs.ScanLaws.{scan_on}
 
-of_joint : (column : ℕ) (used : Option ℕ) (w : Span) → (joint column used w ≡ []) ⊎ ((joint column used w ≡ space ∷ []) ⊎ (joint column used w ≡ newline ∷ []))
+of_joint : (column : ℕ) (used : Option ℕ) (w : Span) → (joint column used w ≡ []) ⊎ ((joint column used w ≡ space ∷ []) ⊎ (joint column used w ≡ newline_character ∷ []))
 of_joint column None w = inl refl
-of_joint column (Some used) w = elim (fits column used w) as (λ b. ((if b then space else newline) ∷ [] ≡ []) ⊎ (((if b then space else newline) ∷ [] ≡ space ∷ []) ⊎ ((if b then space else newline) ∷ [] ≡ newline ∷ []))) [
+of_joint column (Some used) w = elim (fits column used w) as (λ b. ((if b then space else newline_character) ∷ [] ≡ []) ⊎ (((if b then space else newline_character) ∷ [] ≡ space ∷ []) ⊎ ((if b then space else newline_character) ∷ [] ≡ newline_character ∷ []))) [
   | true ↦ inr (inl refl)
   | false ↦ inr (inr refl)
 ]
 
-gaps_of_blanks : (column : ℕ) (text : List ℕ) (hi left at : ℕ) (used : Option ℕ) → at ≤ hi → hi ≤ length text → length text ≤ left + at → AreOfBlanks text (gaps column used at hi (chain (next_word text hi) left at))
+gaps_of_blanks : (column : ℕ) (text : List ℕ) (hi left at : ℕ) (used : Option ℕ) → at ≤ hi → hi ≤ length text → length text ≤ left + at → AreOfBlanks text (gaps column used at hi (span_chain (next_word text hi) left at))
 gaps_of_blanks column text hi zero at used up within enough = (record { gone = λ k lo below. absurd (omega (arith, lo, below, within, enough)); put = inl refl }, tt)
 gaps_of_blanks column text hi (suc left) at used up within enough =
-    elim (least (is_nonblank text) at (hi - at)) as (λ o. least (is_nonblank text) at (hi - at) ≡ o → AreOfBlanks text (gaps column used at hi (elim (option_map (word_at text hi) o) [ None ↦ [] | Some s ↦ s ∷ chain (next_word text hi) left s.hi ]))) [
+    elim (least (is_nonblank text) at (hi - at)) as (λ o. least (is_nonblank text) at (hi - at) ≡ o → AreOfBlanks text (gaps column used at hi (elim (option_map (word_at text hi) o) [ None ↦ [] | Some s ↦ s ∷ span_chain (next_word text hi) left s.hi ]))) [
       | None ↦ λ h. (record { gone = λ k lo below. none_found (is_nonblank text) at (hi - at) h k lo (omega (arith, below, up)); put = inl refl }, tt)
       | Some b ↦ λ h.
           let found = least_found (is_nonblank text) at (hi - at) b h in

@@ -5,7 +5,7 @@ use Rattle.mg_text.specs.Splices.{splice}
 use Rattle.mg_text.specs.Filling.{alters, columns, filling, gaps, joint}
 use Rattle.mg_text.specs.Paragraphs.{is_nonblank, next_word, word_at}
 use Rattle.mg_text.specs.Scans.{least}
-use Rattle.mg_text.specs.Spans.{Span, chain}
+use Rattle.mg_text.specs.Spans.{Span, span_chain}
 use Rattle.mg_text.proofs.RangeLaws.{chain_ends, chain_more}
 
 filter-cons : {X : Type 0} (p : X → Bool) (x : X) (xs : List X) → filter p (x ∷ xs) ≡ filter p (x ∷ []) ++ filter p xs
@@ -13,7 +13,7 @@ filter-cons p x xs = elim (p x) as (λ b. (if b then x ∷ filter p xs else filt
 
 -- what is still to come, from a place on
 abbrev pub to_come : ℕ → List ℕ → ℕ → Option ℕ → ℕ → ℕ → List Splice
-to_come column text hi used left at = filter (alters text) (gaps column used at hi (chain (next_word text hi) left at))
+to_come column text hi used left at = filter (alters text) (gaps column used at hi (span_chain (next_word text hi) left at))
 
 -- what has been made of the gaps up to a place
 pub record Filling (column : ℕ) (text : List ℕ) (lo hi : ℕ) (splices : List Splice) (used : Option ℕ) (at : ℕ) : Type 0 where
@@ -33,10 +33,10 @@ filling_on column text lo hi splices more used at b e within so_far found behind
     let w : Span = word_at text hi b in
     let next : next_word text hi at ≡ Some w = ap (option_map (word_at text hi)) found in
     let less : so_far.left ≡ suc (so_far.left - 1) = omega (arith, so_far.enough, behind, some, order, within) in
-    let rest : chain (next_word text hi) so_far.left at ≡ w ∷ chain (next_word text hi) (so_far.left - 1) w.hi =
-    ap (λ k. chain (next_word text hi) k at) less ∙ chain_more (next_word text hi) (so_far.left - 1) at w next in
+    let rest : span_chain (next_word text hi) so_far.left at ≡ w ∷ span_chain (next_word text hi) (so_far.left - 1) w.hi =
+    ap (λ k. span_chain (next_word text hi) k at) less ∙ chain_more (next_word text hi) (so_far.left - 1) at w next in
     let gap : Splice = splice at b (joint column used w) in
-    let after : List Splice = gaps column (Some (columns column used w)) w.hi hi (chain (next_word text hi) (so_far.left - 1) w.hi) in
+    let after : List Splice = gaps column (Some (columns column used w)) w.hi hi (span_chain (next_word text hi) (so_far.left - 1) w.hi) in
     let split : to_come column text hi used so_far.left at ≡ filter (alters text) (gap ∷ []) ++ filter (alters text) after =
     ap (λ ws. filter (alters text) (gaps column used at hi ws)) rest ∙ filter-cons (alters text) gap after in
     let there : filter (alters text) after ≡ to_come column text hi (Some (columns column used w)) (so_far.left - 1) e =

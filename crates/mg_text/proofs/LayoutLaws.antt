@@ -3,7 +3,7 @@ use Rattle.std.proofs.Common.{List, None, Some, [], ap, arith, drop, false, if�
 use Rattle.std.specs.Prelude.{nat_le}
 use Rattle.std.proofs.lemmas.Bool.{le-leb, leb-false, leb-true, lt-leb}
 use Rattle.std.proofs.lemmas.List.Sums.{sum_by-cons}
-use Rattle.mg_text.specs.Characters.{newline, space}
+use Rattle.mg_text.specs.Characters.{newline_character, space}
 use Rattle.mg_text.specs.Splices.{splice}
 use Rattle.mg_text.specs.Filling.{gaps}
 use Rattle.mg_text.specs.Layout.{IsLayout, IsLine, layout_joints, line_joints, line_width, put_of, word_length}
@@ -19,10 +19,10 @@ pub record IsRest (column used : ℕ) (ls : List ℕ) (r : ℕ) : Type 0 where
   pub full : r < length ls → column < used + (r + 1) + sum (take (suc r) ls)
 
 first_fits : (column used : ℕ) (w : Span) (at end : ℕ) (ws : List Span) → used + 1 + word_length w ≤ column → gaps column (Some used) at end (w ∷ ws) ≡ splice at w.lo (space ∷ []) ∷ gaps column (Some (used + 1 + word_length w)) w.hi end ws
-first_fits column used w at end ws h = ap (λ b. splice at w.lo ((if b then space else newline) ∷ []) ∷ gaps column (Some (if b then used + 1 + (w.hi - w.lo) else w.hi - w.lo)) w.hi end ws) (le-leb (used + 1 + (w.hi - w.lo)) column h)
+first_fits column used w at end ws h = ap (λ b. splice at w.lo ((if b then space else newline_character) ∷ []) ∷ gaps column (Some (if b then used + 1 + (w.hi - w.lo) else w.hi - w.lo)) w.hi end ws) (le-leb (used + 1 + (w.hi - w.lo)) column h)
 
-first_does_not : (column used : ℕ) (w : Span) (at end : ℕ) (ws : List Span) → column < used + 1 + word_length w → gaps column (Some used) at end (w ∷ ws) ≡ splice at w.lo (newline ∷ []) ∷ gaps column (Some (word_length w)) w.hi end ws
-first_does_not column used w at end ws h = ap (λ b. splice at w.lo ((if b then space else newline) ∷ []) ∷ gaps column (Some (if b then used + 1 + (w.hi - w.lo) else w.hi - w.lo)) w.hi end ws) (lt-leb (used + 1 + (w.hi - w.lo)) column h)
+first_does_not : (column used : ℕ) (w : Span) (at end : ℕ) (ws : List Span) → column < used + 1 + word_length w → gaps column (Some used) at end (w ∷ ws) ≡ splice at w.lo (newline_character ∷ []) ∷ gaps column (Some (word_length w)) w.hi end ws
+first_does_not column used w at end ws h = ap (λ b. splice at w.lo ((if b then space else newline_character) ∷ []) ∷ gaps column (Some (if b then used + 1 + (w.hi - w.lo) else w.hi - w.lo)) w.hi end ws) (lt-leb (used + 1 + (w.hi - w.lo)) column h)
 
 take_sum : (r l : ℕ) (ls : List ℕ) → sum (take (suc r) (l ∷ ls)) ≡ l + sum (take r ls)
 take_sum r l ls = sum_by-cons (λ x. x) l (take r ls)
@@ -93,8 +93,8 @@ rest_joints column used zero at end (w ∷ ws) (suc r ∷ ns) rest lay =
     let past : column < used + (0 + 1) + (word_length w + 0) = subst (λ k. column < used + (0 + 1) + k) (take_sum 0 (word_length w) (lengths ws)) (rest.full (omega arith)) in
     let over : column < used + 1 + word_length w = omega (arith, past) in
     let less : suc r - 1 ≡ r = omega arith in
-    ap (map put_of) (first_does_not column used w at end ws over) ∙ ap (λ js. (newline ∷ []) ∷ js) (rest_joints column (word_length w) r w.hi end ws ns (rest_of column (word_length w) (lengths ws) r lay.0) lay.1)
-    ∙ ap (λ k. (newline ∷ []) ∷ replicate k (space ∷ []) ++ line_joints ns ++ [] ∷ []) (sym less)
+    ap (map put_of) (first_does_not column used w at end ws over) ∙ ap (λ js. (newline_character ∷ []) ∷ js) (rest_joints column (word_length w) r w.hi end ws ns (rest_of column (word_length w) (lengths ws) r lay.0) lay.1)
+    ∙ ap (λ k. (newline_character ∷ []) ∷ replicate k (space ∷ []) ++ line_joints ns ++ [] ∷ []) (sym less)
 
 pub all_joints : (column lo hi : ℕ) (ws : List Span) (ns : List ℕ) → (ws ≡ [] → ⊥) → IsLayout column (lengths ws) ns → map put_of (gaps column None lo hi ws) ≡ layout_joints ns ++ [] ∷ []
 all_joints column lo hi [] ns some lay = absurd (some refl)

@@ -1,7 +1,7 @@
 -- Scans for the least number from a place on, and for the greatest up to it.
 use Rattle.std.proofs.Common.{Bool, None, Some, ap, arith, false, if◌then◌else◌, refl, subst, suc, sym, true, zero, ℕ, ◌+◌, ◌-◌, ◌<◌, ◌∙◌, ◌≡◌, ◌≤◌}
 use Rattle.std.specs.Option.{unwrap_or}
-use Rattle.mg_text.specs.Scans.{greatest, greatest_up_to, least, least_from}
+use Rattle.mg_text.specs.Scans.{greatest_passing, greatest_up_to, least, least_from}
 
 least-first : (p : ℕ → Bool) (n count : ℕ) → p n ≡ true → least p n (suc count) ≡ Some n
 least-first p n count h = ap (λ b. if b then Some n else least p (n + 1) count) h
@@ -31,14 +31,8 @@ scan_here p n bound inside h = ap (λ o. unwrap_or o bound) (found_here p n boun
 pub scan_on : (p : ℕ → Bool) (n bound : ℕ) → n < bound → p n ≡ false → least_from p n bound ≡ least_from p (n + 1) bound
 scan_on p n bound inside h = ap (λ o. unwrap_or o bound) (found_later p n bound inside h)
 
-pub scan_end : (p : ℕ → Bool) (n bound : ℕ) → bound ≤ n → least_from p n bound ≡ bound
-scan_end p n bound out = ap (λ o. unwrap_or o bound) (found_nowhere p n bound out)
-
-pub back_end : (p : ℕ → Bool) → greatest_up_to p 0 ≡ 0
-back_end p = elim (p 0) as (λ b. unwrap_or (if b then Some 0 else greatest p 0) 0 ≡ 0) [ true ↦ refl | false ↦ refl ]
-
 pub back_step : (p : ℕ → Bool) (q : ℕ) → 0 < q → p q ≡ false → greatest_up_to p q ≡ greatest_up_to p (q - 1)
 back_step p q some h =
     let e : q ≡ suc (q - 1) = omega (arith, some) in
     let g : p (suc (q - 1)) ≡ false = subst (λ k. p k ≡ false) e h in
-    ap (greatest_up_to p) e ∙ ap (λ b. unwrap_or (if b then Some (suc (q - 1)) else greatest p (suc (q - 1))) 0) g
+    ap (greatest_up_to p) e ∙ ap (λ b. unwrap_or (if b then Some (suc (q - 1)) else greatest_passing p (suc (q - 1))) 0) g

@@ -6,8 +6,8 @@ use Rattle.std.proofs.lemmas.List.Elements.{All-cons, All-contains, All-nil, Con
 use Rattle.std.proofs.lemmas.Option.{none-some, same_Some}
 use Rattle.mg_text.specs.Paragraphs.{IsWord, is_nonblank, next_word, word_at, words}
 use Rattle.mg_text.specs.Scans.{IsLeast, least, least_from}
-use Rattle.mg_text.specs.Spans.{AreRising, Span, chain}
-use Rattle.mg_text.proofs.RangeLaws.{FindsWithin, chain-rising, least_found, least_from-is, least_from-within, none_found}
+use Rattle.mg_text.specs.Spans.{AreRisingSpans, Span, span_chain}
+use Rattle.mg_text.proofs.RangeLaws.{FindsWithin, span_chain-rising, least_found, least_from-is, least_from-within, none_found}
 use Rattle.mg_text.proofs.ScanLaws.{scan_on}
 
 -- a scan for the first place that is blank ends at the end of the run
@@ -87,19 +87,19 @@ found_word text lo hi from b low up may h =
         let same : b ≡ from = omega (arith, here, found.from) in
         absurd (true≢false (sym found.passes ∙ ap (is_nonblank text) same ∙ blank))
 
-all_words : (text : List ℕ) (lo hi left from : ℕ) → lo ≤ from → from ≤ hi → MayBegin text lo hi from → All (IsWord text lo hi) (chain (next_word text hi) left from)
+all_words : (text : List ℕ) (lo hi left from : ℕ) → lo ≤ from → from ≤ hi → MayBegin text lo hi from → All (IsWord text lo hi) (span_chain (next_word text hi) left from)
 all_words text lo hi zero from low up may = All-nil (IsWord text lo hi)
-all_words text lo hi (suc left) from low up may = elim (least (is_nonblank text) from (hi - from)) as (λ o. least (is_nonblank text) from (hi - from) ≡ o → All (IsWord text lo hi) (elim (option_map (word_at text hi) o) [ None ↦ [] | Some s ↦ s ∷ chain (next_word text hi) left s.hi ])) [
+all_words text lo hi (suc left) from low up may = elim (least (is_nonblank text) from (hi - from)) as (λ o. least (is_nonblank text) from (hi - from) ≡ o → All (IsWord text lo hi) (elim (option_map (word_at text hi) o) [ None ↦ [] | Some s ↦ s ∷ span_chain (next_word text hi) left s.hi ])) [
   | None ↦ λ h. All-nil (IsWord text lo hi)
   | Some b ↦ λ h.
       let w = found_word text lo hi from b low up may h in
-      All-cons (IsWord text lo hi) (word_at text hi b) (chain (next_word text hi) left (word_at text hi b).hi) w.0 (all_words text lo hi left (word_at text hi b).hi (omega (arith, w.0.from, w.0.some)) w.0.up_to w.1)
+      All-cons (IsWord text lo hi) (word_at text hi b) (span_chain (next_word text hi) left (word_at text hi b).hi) w.0 (all_words text lo hi left (word_at text hi b).hi (omega (arith, w.0.from, w.0.some)) w.0.up_to w.1)
 ] refl
 
 -- a word that is not behind a place is found from there on
-found_later_on : (text : List ℕ) (lo hi left from : ℕ) (w : Span) → lo ≤ from → hi ≤ length text → length text ≤ left + from → IsWord text lo hi w → from ≤ w.lo → Contains (chain (next_word text hi) left from) w
+found_later_on : (text : List ℕ) (lo hi left from : ℕ) (w : Span) → lo ≤ from → hi ≤ length text → length text ≤ left + from → IsWord text lo hi w → from ≤ w.lo → Contains (span_chain (next_word text hi) left from) w
 found_later_on text lo hi zero from w low within enough is ahead = absurd (omega (arith, enough, ahead, is.some, is.up_to, within))
-found_later_on text lo hi (suc left) from w low within enough is ahead = elim (least (is_nonblank text) from (hi - from)) as (λ o. least (is_nonblank text) from (hi - from) ≡ o → Contains (elim (option_map (word_at text hi) o) [ None ↦ [] | Some s ↦ s ∷ chain (next_word text hi) left s.hi ]) w) [
+found_later_on text lo hi (suc left) from w low within enough is ahead = elim (least (is_nonblank text) from (hi - from)) as (λ o. least (is_nonblank text) from (hi - from) ≡ o → Contains (elim (option_map (word_at text hi) o) [ None ↦ [] | Some s ↦ s ∷ span_chain (next_word text hi) left s.hi ]) w) [
   | None ↦ λ h.
       let blank : is_nonblank text w.lo ≡ false = none_found (is_nonblank text) from (hi - from) h w.lo ahead (omega (arith, ahead, is.some, is.up_to)) in
       absurd (true≢false (sym here ∙ blank))
@@ -113,7 +113,7 @@ found_later_on text lo hi (suc left) from w low within enough is ahead = elim (l
             let first : least_from test b hi ≡ least_from test (b + 1) hi = scan_on test b hi below (ap not found.passes) in
             let behind = least_from-within test (b + 1) hi (omega (arith, below)) in
             let end : least_from test b hi ≤ w.lo - 1 = ends_by b before blank below in
-            Contains-append_right (word_at text hi b ∷ []) (chain (next_word text hi) left (word_at text hi b).hi) w
+            Contains-append_right (word_at text hi b ∷ []) (span_chain (next_word text hi) left (word_at text hi b).hi) w
             (found_later_on text lo hi left (word_at text hi b).hi w (omega (arith, low, found.from, first, behind.0)) within (omega (arith, enough, found.from, first, behind.0)) is (omega (arith, end)))
         | inr not_before ↦
             let same : b ≡ w.lo = omega (arith, not_before, least_is b found) in
@@ -147,5 +147,5 @@ word_is_run text lo hi w up at = All-contains (IsWord text lo hi) (words text lo
 pub run_is_word : (text : List ℕ) (lo hi : ℕ) (w : Span) → hi ≤ length text → IsWord text lo hi w → Contains (words text lo hi) w
 run_is_word text lo hi w within is = found_later_on text lo hi (length text) lo w (omega arith) within (omega arith) is is.from
 
-pub words-rising : (text : List ℕ) (lo hi : ℕ) → lo ≤ hi → AreRising lo hi (words text lo hi)
-words-rising text lo hi up = chain-rising (next_word text hi) hi (finds_words text hi) (length text) lo up
+pub words-rising : (text : List ℕ) (lo hi : ℕ) → lo ≤ hi → AreRisingSpans lo hi (words text lo hi)
+words-rising text lo hi up = span_chain-rising (next_word text hi) hi (finds_words text hi) (length text) lo up

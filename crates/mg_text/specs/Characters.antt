@@ -1,8 +1,8 @@
 -- Kinds of characters, by their codes.
 use Rattle.std.specs.Prelude.{ℕ, ◌+◌, ◌-◌, ◌&&◌, ◌||◌, Bool, nat_le, nat_eq, if◌then◌else◌}
 
-abbrev pub newline : ℕ
-newline = 10
+abbrev pub newline_character : ℕ
+newline_character = 10
 
 abbrev pub space : ℕ
 space = 32

@@ -5,7 +5,7 @@ use lib.Pointwise.{pointwise}
 use Rattle.rga_ops.specs.Splice.{Splice}
 use Rattle.mg_text.specs.Spans.{Span}
 use Rattle.mg_text.specs.Splices.{splice}
-use Rattle.mg_text.specs.Characters.{space, newline}
+use Rattle.mg_text.specs.Characters.{space, newline_character}
 use Rattle.mg_text.specs.Lines.{line_begin}
 use Rattle.mg_text.specs.Paragraphs.{has_nonblank, paragraph, words}
 
@@ -17,7 +17,7 @@ fits column used w = nat_le (used + 1 + (w.hi - w.lo)) column
 -- where the word fits, else a newline
 abbrev pub joint : ℕ → Option ℕ → Span → List ℕ
 joint column None w = []
-joint column (Some used) w = (if fits column used w then space else newline) ∷ []
+joint column (Some used) w = (if fits column used w then space else newline_character) ∷ []
 
 -- how many columns its line has at its end
 abbrev pub columns : ℕ → Option ℕ → Span → ℕ

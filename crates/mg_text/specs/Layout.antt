@@ -2,13 +2,13 @@
 use Rattle.std.specs.Prelude.{◌≡◌, ℕ, ◌+◌, ◌-◌, ◌<◌, ◌≤◌, ◌⊎◌, false, List, [], ◌∷◌, ◌++◌, length, take, drop, replicate, sum}
 use Rattle.rga_ops.specs.Splice.{Splice}
 use Rattle.mg_text.specs.Spans.{Span}
-use Rattle.mg_text.specs.Characters.{space, newline}
+use Rattle.mg_text.specs.Characters.{space, newline_character}
 use Rattle.mg_text.specs.Paragraphs.{is_nonblank}
 
 -- a splice that touches no word: spaces, tabs and newlines become one space, one newline or nothing
 pub record IsOfBlanks (text : List ℕ) (s : Splice) : Type 0 where
   pub gone : (k : ℕ) → s.lo ≤ k → k < s.hi → is_nonblank text k ≡ false
-  pub put : (s.put ≡ []) ⊎ ((s.put ≡ space ∷ []) ⊎ (s.put ≡ newline ∷ []))
+  pub put : (s.put ≡ []) ⊎ ((s.put ≡ space ∷ []) ⊎ (s.put ≡ newline_character ∷ []))
 
 abbrev pub AreOfBlanks : List ℕ → List Splice → Type 0
 AreOfBlanks text [] = Unit {0}
@@ -36,7 +36,7 @@ IsLayout column lengths (n ∷ ns) = IsLine column lengths n × IsLayout column 
 -- what such a layout puts before each word: a newline before the first one of a line, a space before the others
 abbrev pub line_joints : List ℕ → List (List ℕ)
 line_joints [] = []
-line_joints (n ∷ ns) = (newline ∷ []) ∷ replicate (n - 1) (space ∷ []) ++ line_joints ns
+line_joints (n ∷ ns) = (newline_character ∷ []) ∷ replicate (n - 1) (space ∷ []) ++ line_joints ns
 
 -- before the first one of all nothing
 abbrev pub layout_joints : List ℕ → List (List ℕ)

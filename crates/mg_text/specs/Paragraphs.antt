@@ -3,7 +3,7 @@ use Rattle.std.specs.Prelude.{◌≡◌, ℕ, ◌+◌, ◌-◌, ◌<◌, ◌≤�
 use Rattle.std.specs.List.{slice_index}
 use Rattle.std.specs.Option.{is_some, option_map}
 use Rattle.mg_text.specs.Scans.{least, least_from, greatest_up_to}
-use Rattle.mg_text.specs.Spans.{Span, chain}
+use Rattle.mg_text.specs.Spans.{Span, span_chain}
 use Rattle.mg_text.specs.Characters.{is_blank, is_newline}
 use Rattle.mg_text.specs.Lines.{begins_line, line_begin, line_end}
 
@@ -40,7 +40,7 @@ abbrev pub next_word : List ℕ → ℕ → ℕ → Option Span
 next_word text hi q = option_map (word_at text hi) (least (is_nonblank text) q (hi - q))
 
 abbrev pub words : List ℕ → ℕ → ℕ → List Span
-words text lo hi = chain (next_word text hi) (length text) lo
+words text lo hi = span_chain (next_word text hi) (length text) lo
 
 -- ---- in words
 

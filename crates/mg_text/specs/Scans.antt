@@ -8,9 +8,9 @@ least p n zero = None
 least p n (suc count) = if p n then Some n else least p (n + 1) count
 
 -- the greatest of the numbers below `n` that passes
-abbrev pub greatest : (ℕ → Bool) → ℕ → Option ℕ
-greatest p zero = None
-greatest p (suc n) = if p n then Some n else greatest p n
+abbrev pub greatest_passing : (ℕ → Bool) → ℕ → Option ℕ
+greatest_passing p zero = None
+greatest_passing p (suc n) = if p n then Some n else greatest_passing p n
 
 -- the least number from `n` on and below the bound that passes, else the bound
 abbrev pub least_from : (ℕ → Bool) → ℕ → ℕ → ℕ
@@ -18,7 +18,7 @@ least_from p n bound = unwrap_or (least p n (bound - n)) bound
 
 -- the greatest number up to `n` that passes, else 0
 abbrev pub greatest_up_to : (ℕ → Bool) → ℕ → ℕ
-greatest_up_to p n = unwrap_or (greatest p (suc n)) 0
+greatest_up_to p n = unwrap_or (greatest_passing p (suc n)) 0
 
 -- ---- in words
 

@@ -7,8 +7,8 @@ ghost use Rattle.std.specs.List.{Contains};
 ghost use Rattle.mg_text.specs.Filling.{gaps};
 ghost use Rattle.mg_text.specs.Layout.{IsLayout, layout_joints, word_length, put_of};
 ghost use Rattle.mg_text.specs.Paragraphs.{IsWord, words};
-ghost use Rattle.mg_text.specs.Scans.{least, greatest, IsLeast, IsGreatest};
-ghost use Rattle.mg_text.specs.Spans.{Span, AreRising};
+ghost use Rattle.mg_text.specs.Scans.{least, greatest_passing, IsLeast, IsGreatest};
+ghost use Rattle.mg_text.specs.Spans.{Span, AreRisingSpans};
 
 /// A scan finds the least number that passes, or the greatest, and nothing where none does.
 pub fn scans_find_the_least_and_the_greatest()
@@ -17,15 +17,16 @@ pub fn scans_find_the_least_and_the_greatest()
     ensures no_least { (p : ℕ → Bool) (n count : ℕ) →
         least p n count ≡ None → (k : ℕ) → n ≤ k → k < n + count → p k ≡ false }
     ensures greatest { (p : ℕ → Bool) (bound q : ℕ) →
-        greatest p bound ≡ Some q → IsGreatest p bound q }
+        greatest_passing p bound ≡ Some q → IsGreatest p bound q }
     ensures no_greatest { (p : ℕ → Bool) (bound : ℕ) →
-        greatest p bound ≡ None → (k : ℕ) → k < bound → p k ≡ false }
+        greatest_passing p bound ≡ None → (k : ℕ) → k < bound → p k ≡ false }
 {}
 
 /// The words between two places are the greatest runs there of what is neither space nor tab nor
 /// newline, all of them and in order.
 pub fn words_are_the_greatest_runs()
-    ensures order { (text : List ℕ) (lo hi : ℕ) → lo ≤ hi → AreRising lo hi (words text lo hi) }
+    ensures order { (text : List ℕ) (lo hi : ℕ) → lo ≤ hi →
+        AreRisingSpans lo hi (words text lo hi) }
     ensures runs { (text : List ℕ) (lo hi : ℕ) (w : Span) → lo ≤ hi → hi ≤ length text →
         Contains (words text lo hi) w ↔ IsWord text lo hi w }
 {}

@@ -9,15 +9,15 @@ use Rattle.mg_buffers.specs.Buffers.{Buffers}
 use Rattle.mg_workspace.specs.declared.fault.ActionFault.TheVariants as action_fault
 use Rattle.mg_workspace.specs.declared.viewport.Viewport.{Viewport}
 use Rattle.mg_workspace.specs.declared.workspace.TheConstants.{MAX_BUFFERS}
-use Rattle.mg_workspace.specs.Actions.{ActionVerdict, WindowVerdict, IsWindowAnswer, window_answer, arranged, windows_after, lacks_memory, idled, with_windows, rearranged, Arranged}
+use Rattle.mg_workspace.specs.Actions.{ActionVerdict, WindowVerdict, IsWindowAnswer, window_answer, arranged, windows_after, lacks_memory, idled_work, with_windows, rearranged, Arranged}
 use Rattle.mg_workspace.specs.Viewports.{current_viewport, ShowThese, AreShown}
-use Rattle.mg_workspace.specs.Workspaces.{Workspace, current_buffer}
+use Rattle.mg_workspace.specs.Workspaces.{Workspace, workspace_buffer}
 
 pub is_rearranged : (answer : WindowVerdict) (a : Arrangement) (w v : Workspace) (l : Layout Viewport) → lacks_memory answer ≡ false
-    → OnOk answer (l ≡ arranged a (current_buffer w) w.windows) → OnErr answer (l ≡ w.windows) → v ≡ with_windows l (idled w) → v ≡ rearranged answer (windows_after answer a (current_buffer w) w.windows) w
-is_rearranged (Ok u) a w v l enough done same is = is ∙ ap (λ x. with_windows x (idled w)) done
-is_rearranged (Err TooSmall) a w v l enough done same is = is ∙ ap (λ x. with_windows x (idled w)) same
-is_rearranged (Err OnlyOne) a w v l enough done same is = is ∙ ap (λ x. with_windows x (idled w)) same
+    → OnOk answer (l ≡ arranged a (workspace_buffer w) w.windows) → OnErr answer (l ≡ w.windows) → v ≡ with_windows l (idled_work w) → v ≡ rearranged answer (windows_after answer a (workspace_buffer w) w.windows) w
+is_rearranged (Ok u) a w v l enough done same is = is ∙ ap (λ x. with_windows x (idled_work w)) done
+is_rearranged (Err TooSmall) a w v l enough done same is = is ∙ ap (λ x. with_windows x (idled_work w)) same
+is_rearranged (Err OnlyOne) a w v l enough done same is = is ∙ ap (λ x. with_windows x (idled_work w)) same
 is_rearranged (Err Memory) a w v l enough done same is = absurd (true≢false enough)
 
 -- want of memory

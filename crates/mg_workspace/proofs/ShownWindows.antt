@@ -15,7 +15,7 @@ use Rattle.mg_buffers.specs.Buffers.{Buffers}
 use Rattle.mg_workspace.proofs.MappedLaws.{mapped_to, mapped_on}
 use Rattle.mg_workspace.specs.declared.viewport.Viewport.{Viewport}
 use Rattle.mg_workspace.specs.Viewports.{viewport, AreShown}
-use Rattle.mg_workspace.specs.Showing.{buffer_of, first_over, placed_window, placed, IsPlacedViewport, pane_over, pane_of, panes_of}
+use Rattle.mg_workspace.specs.Showing.{buffer_of, first_over, placed_window, placed_windows, IsPlacedViewport, pane_over, pane_of, panes_of}
 use Rattle.mg_workspace.proofs.ViewportLaws.{show_map, mapped_shows, shows_mapped}
 
 -- ---- heights
@@ -42,7 +42,7 @@ some_rows (w ∷ ws) tall some = omega (arith, tall.0)
 
 -- ---- what is placed shows the same buffers
 
-pub placed_shown : (bs : Buffers) (l : Layout Viewport) → AreShown bs l → AreShown bs (placed bs.all l)
+pub placed_shown : (bs : Buffers) (l : Layout Viewport) → AreShown bs l → AreShown bs (placed_windows bs.all l)
 placed_shown bs l shown = record {
   few = shown.few;
   each = show_map (length bs.all) (length bs.all) (placed_window bs.all) l.windows (λ w here. here) shown.each;
@@ -80,7 +80,7 @@ shows_over (Some b) w tall = placed_shows (text b.buffer.content) (place_of b.bu
 shows_over None w tall = placed_shows [] 0 w.shown.first w.height tall
 
 -- the cursor is in each window
-pub cursor_shown : (bs : List OpenState) (l : Layout Viewport) (columns : ℕ) (s : Screen) (i : ℕ) → s.panes ≡ panes_of bs (placed bs l) → IsTall l.windows → i < length l.windows
+pub cursor_shown : (bs : List OpenState) (l : Layout Viewport) (columns : ℕ) (s : Screen) (i : ℕ) → s.panes ≡ panes_of bs (placed_windows bs l) → IsTall l.windows → i < length l.windows
     → IsSome (cursor columns s i)
 cursor_shown bs l columns s i is tall inside =
     let w = get_or l.windows i (window 0 (viewport 0 0)) in
@@ -118,7 +118,7 @@ length-shows_at (suc i) s (w ∷ ws) = let rest = length-shows_at i s ws in omeg
 
 -- one window more shows what it shows once it is placed
 pub placed_on : (bs : List OpenState) (l v new : Layout Viewport) (placed_ones : List Viewport) (i : ℕ) (x : Viewport) → i < length l.windows
-    → placed_ones ≡ all_shown (placed bs l).windows → slice_get placed_ones i ≡ Some x
+    → placed_ones ≡ all_shown (placed_windows bs l).windows → slice_get placed_ones i ≡ Some x
     → v ≡ layout (mapped_to (placed_window bs) i l.windows) l.current → new ≡ shown_layout i x v → new ≡ layout (mapped_to (placed_window bs) (i + 1) l.windows) l.current
 placed_on bs l v new placed_ones i x inside are at is shows =
     let f = placed_window bs in

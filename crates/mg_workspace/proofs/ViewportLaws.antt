@@ -12,7 +12,7 @@ use Rattle.mg_buffers.specs.Names.{moved}
 use Rattle.mg_buffers.proofs.Moves.{moved_first, moved_within}
 use Rattle.mg_workspace.specs.declared.viewport.Viewport.{Viewport}
 use Rattle.mg_workspace.specs.declared.workspace.TheConstants.{MAX_BUFFERS}
-use Rattle.mg_workspace.specs.Viewports.{viewport, current_viewport, turned, window_without, layout_without, ShowThese, AreShown}
+use Rattle.mg_workspace.specs.Viewports.{viewport, current_viewport, turned_to_buffer, window_without, layout_without, ShowThese, AreShown}
 
 -- ---- the window at an index
 
@@ -128,14 +128,14 @@ left_at gone (w ∷ ws) (suc i) s x at is = ap (λ us. w ∷ us) (left_at gone w
 
 -- ---- the windows of a workspace show its buffers
 
-pub gone_shown : (bs : Buffers) (l new : Layout Viewport) (i : ℕ) → AreShown bs l → i < length bs.all → new ≡ turned i l → (current_viewport new).buffer ≡ i → AreShown (record bs { current = i }) new
+pub gone_shown : (bs : Buffers) (l new : Layout Viewport) (i : ℕ) → AreShown bs l → i < length bs.all → new ≡ turned_to_buffer i l → (current_viewport new).buffer ≡ i → AreShown (record bs { current = i }) new
 gone_shown bs l new i shown inside is here = record {
   few = shown.few;
   each = subst (λ (v : Layout Viewport). ShowThese (length bs.all) v.windows) (sym is) (show_at (length bs.all) l.current (viewport i (current_viewport l).first) l.windows inside shown.each);
   current = here;
 }
 
-pub opened_shown : (bs : Buffers) (l new : Layout Viewport) (b : OpenState) → AreShown bs l → length bs.all < MAX_BUFFERS → new ≡ turned (length bs.all) l → (current_viewport new).buffer ≡ length bs.all
+pub opened_shown : (bs : Buffers) (l new : Layout Viewport) (b : OpenState) → AreShown bs l → length bs.all < MAX_BUFFERS → new ≡ turned_to_buffer (length bs.all) l → (current_viewport new).buffer ≡ length bs.all
     → AreShown (with_buffer b bs) new
 opened_shown bs l new b shown room is here =
     let more : length (bs.all ++ b ∷ []) ≡ length bs.all + 1 = length_push bs.all b in

@@ -8,7 +8,7 @@ use Rattle.mg_screen.specs.Layout.{layout, window}
 use Rattle.mg_settings.specs.Settings.{Values}
 use Rattle.mg_buffers.specs.Buffers.{with_buffer}
 use Rattle.mg_workspace.specs.declared.workspace.TheConstants.{MAX_BUFFERS}
-use Rattle.mg_workspace.specs.Viewports.{viewport, turned}
+use Rattle.mg_workspace.specs.Viewports.{viewport, turned_to_buffer}
 use Rattle.mg_workspace.specs.Workspaces.{Workspace}
 
 -- one buffer in one window, from its first line on
@@ -32,7 +32,7 @@ is_full w = nat_le MAX_BUFFERS (length w.buffers.all)
 -- one more buffer, of which saves append runs or do not, and exchanges are brief or not, as of the first, and which is
 -- current and shown by the current window
 abbrev pub with_opened : OpenState → Workspace → Workspace
-with_opened b w = record w { buffers = with_buffer (with_brief w.brief (with_runs w.runs b)) w.buffers; windows = turned (length w.buffers.all) w.windows }
+with_opened b w = record w { buffers = with_buffer (with_brief w.brief (with_runs w.runs b)) w.buffers; windows = turned_to_buffer (length w.buffers.all) w.windows }
 
 -- as what was found is loaded, or its fault
 abbrev pub OpensBy : Result (OpenState × LogEnd) LoadFault → Workspace → Workspace → Result LogEnd LoadFault → Type 0

@@ -26,8 +26,8 @@ abbrev pub placed_window : List OpenState → Window Viewport → Window Viewpor
 placed_window bs w = window w.height (viewport w.shown.buffer (first_over (buffer_of bs w) w))
 
 -- all windows
-abbrev pub placed : List OpenState → Layout Viewport → Layout Viewport
-placed bs l = layout (map (placed_window bs) l.windows) l.current
+abbrev pub placed_windows : List OpenState → Layout Viewport → Layout Viewport
+placed_windows bs l = layout (map (placed_window bs) l.windows) l.current
 
 -- what the window at an index shows once it is placed
 abbrev pub IsPlacedViewport : List OpenState → List (Window Viewport) → ℕ → Viewport → Type 0
@@ -61,7 +61,7 @@ panes_of bs l = map (pane_of bs) l.windows
 
 -- each window shows the line of point
 abbrev pub placed_work : Workspace → Workspace
-placed_work w = record w { windows = placed w.buffers.all w.windows }
+placed_work w = record w { windows = placed_windows w.buffers.all w.windows }
 
 -- the windows as they are shown
 abbrev pub work_panes : Workspace → List Pane

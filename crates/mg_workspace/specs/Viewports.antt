@@ -19,8 +19,8 @@ abbrev pub current_viewport : Layout Viewport → Viewport
 current_viewport l = get_or (all_shown l.windows) l.current (viewport 0 0)
 
 -- the current window shows another buffer, from the same line on
-abbrev pub turned : ℕ → Layout Viewport → Layout Viewport
-turned i l = shown_layout l.current (viewport i (current_viewport l).first) l
+abbrev pub turned_to_buffer : ℕ → Layout Viewport → Layout Viewport
+turned_to_buffer i l = shown_layout l.current (viewport i (current_viewport l).first) l
 
 -- the current window shows its buffer from another line on
 abbrev pub scrolled : ℕ → Layout Viewport → Layout Viewport

@@ -24,17 +24,17 @@ pub record Workspace : Type 0 where
   pub brief : Bool
 
 -- the current buffer
-abbrev pub current_buffer : Workspace → OpenState
-current_buffer w = buffers.current_buffer w.buffers
+abbrev pub workspace_buffer : Workspace → OpenState
+workspace_buffer w = buffers.current_buffer w.buffers
 
 -- with another as the current buffer
-abbrev pub with_current : Workspace → OpenState → Workspace
-with_current w b = record w { buffers = buffers.with_current w.buffers b }
+abbrev pub with_workspace_buffer : Workspace → OpenState → Workspace
+with_workspace_buffer w b = record w { buffers = buffers.with_current w.buffers b }
 
 -- what a step is decided from
 abbrev pub scene_of : Workspace → scenes.Scene
 scene_of w =
-    let b = (current_buffer w).buffer in
+    let b = (workspace_buffer w).buffer in
     record {
       text = text b.content;
       point = place_of b.content b.point;

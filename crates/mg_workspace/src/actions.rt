@@ -31,7 +31,7 @@ impl<S: TextStore> Workspace<S> {
 
     /// The current buffer runs a command.
     pub fn run(&mut self, command: &Command, argument: u16) -> Result<(), ActionFault>
-        ensures ran { spec.Ran command.now argument self.old self.new result }
+        ensures ran { spec.RanInCurrent command.now argument self.old self.new result }
         ensures kept { result ≡ Err Memory → self.new ≡ self.old }
     {
         let current = self.buffers.current_mut();
@@ -43,7 +43,7 @@ impl<S: TextStore> Workspace<S> {
 
     /// The current buffer undoes.
     fn undo(&mut self) -> Result<(), ActionFault>
-        ensures undid { spec.Undid self.old self.new result }
+        ensures undid { spec.UndidInCurrent self.old self.new result }
         ensures kept { result ≡ Err Memory → self.new ≡ self.old }
     {
         let answer = self.buffers.current_mut().buffer.undo(&mut self.memo);
@@ -52,7 +52,7 @@ impl<S: TextStore> Workspace<S> {
 
     /// A run of commands ends.
     fn idle(&mut self)
-        ensures { self.new ≡ spec.idled self.old }
+        ensures { self.new ≡ spec.idled_work self.old }
     {
         self.buffers.idle(&mut self.memo);
     }

@@ -124,7 +124,7 @@ impl<S: TextStore> Workspace<S> {
         requires rows_to { rows ≤ MAX_ROWS }
         requires columns_from { MIN_COLUMNS ≤ columns }
         requires columns_to { columns ≤ MAX_COLUMNS }
-        ensures exact { self.new ≡ spec.resized rows columns self.old }
+        ensures exact { self.new ≡ spec.resized_work rows columns self.old }
         ensures filled { FillsRows rows self.new.windows }
     {
         self.windows.resize(rows);

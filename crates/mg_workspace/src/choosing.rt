@@ -22,7 +22,7 @@ use rga_store::TextStore;
 
 /// The current window shows another buffer, from the same line on.
 fn turn(windows: &mut Windows<Viewport>, buffer: usize)
-    ensures exact { windows.new ≡ viewports.turned buffer windows.old }
+    ensures exact { windows.new ≡ viewports.turned_to_buffer buffer windows.old }
     ensures current { (viewports.current_viewport windows.new).buffer ≡ buffer }
 {
     let first = current_viewport(windows).first;

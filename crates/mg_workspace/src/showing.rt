@@ -5,7 +5,7 @@ ghost use Rattle.mg_screen.specs.Layout.{all_shown, window, FillsRows};
 ghost use Rattle.mg_files.specs.OpenState.{OpenState};
 ghost use Rattle.mg_workspace.specs.Viewports.{ShowThese};
 ghost use Rattle.mg_workspace.specs.Showing as spec;
-ghost use Rattle.mg_workspace.specs.Workspaces.{current_buffer};
+ghost use Rattle.mg_workspace.specs.Workspaces.{workspace_buffer};
 
 use crate::arranging::{height_at, viewport_at};
 use crate::viewport::Viewport;
@@ -45,7 +45,7 @@ fn placed_viewports<S: TextStore>(
     buffers: &Buffers<S>,
 ) -> Result<Vec<Viewport>, FrameFault>
     requires shown { ShowThese (length buffers.now.all) windows.now.windows }
-    ensures { let placed = spec.placed buffers.now.all windows.now in
+    ensures { let placed = spec.placed_windows buffers.now.all windows.now in
         IfOk result (λ viewports. viewports.items ≡ all_shown placed.windows) }
 {
     let mut placed = Vec::new(alloc);
@@ -64,8 +64,8 @@ fn placed_viewports<S: TextStore>(
 fn place_windows(windows: &mut Windows<Viewport>, placed: &[Viewport])
     requires { length placed.now ≡ length windows.old.windows }
     ensures { (bs : List OpenState) →
-        placed.now ≡ all_shown (spec.placed bs windows.old).windows →
-        windows.new ≡ spec.placed bs windows.old }
+        placed.now ≡ all_shown (spec.placed_windows bs windows.old).windows →
+        windows.new ≡ spec.placed_windows bs windows.old }
 {
     for index in 0..placed.len() {
         windows.show(index, placed[index]);
@@ -114,7 +114,7 @@ fn placed_pane<'a, S: TextStore>(
     requires within { index < length windows.now.windows }
     requires on_screen { spec.IsOnScreen windows.now }
     ensures { let bs = buffers.now.all in
-        let panes = spec.panes_of bs (spec.placed bs windows.now) in
+        let panes = spec.panes_of bs (spec.placed_windows bs windows.now) in
         IfOk result (λ p. slice_get panes index ≡ Some p) }
 {
     let Some(placed) = placed_viewport(windows, index, buffers) else {
@@ -140,7 +140,7 @@ fn placed_panes<'a, S: TextStore>(
     requires shown { ShowThese (length buffers.now.all) windows.now.windows }
     requires on_screen { spec.IsOnScreen windows.now }
     ensures { let bs = buffers.now.all in
-        let panes = spec.panes_of bs (spec.placed bs windows.now) in
+        let panes = spec.panes_of bs (spec.placed_windows bs windows.now) in
         IfOk result (λ ps. ps.items ≡ panes) }
 {
     let mut panes = Vec::new(alloc);
@@ -154,7 +154,7 @@ fn placed_panes<'a, S: TextStore>(
 impl<S: TextStore> Workspace<S> {
     /// The name of the current buffer.
     pub fn name(&self) -> &str
-        ensures { result.now ≡ (current_buffer self.now).buffer.name }
+        ensures { result.now ≡ (workspace_buffer self.now).buffer.name }
     {
         self.buffers.current().buffer.name()
     }

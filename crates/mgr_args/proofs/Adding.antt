@@ -7,24 +7,24 @@ use Rattle.clap.specs.Walk.{Rule, rule_of}
 use Rattle.clap.specs.declared.builder.arg.Arg.{Arg}
 use Rattle.clap.specs.declared.builder.command.Command.{Command}
 use Rattle.clap.specs.declared.builder.command.Command.TheViews.{out-Command as fields_of}
-use Rattle.mgr_args.specs.Rules.{Adds, AddsJob, AddsJobs, AreJobs, IsPlain, IsToldOf, local, sketched, told, with_jobs, with_rules}
+use Rattle.mgr_args.specs.Rules.{AddsArguments, AddsJob, AddsJobs, AreJobs, IsPlain, IsToldOf, local, sketched, told_rules, with_jobs, with_rules}
 
 -- one argument more
-pub added : (old new : List Arg) (a : Arg) (r : Rule) → new ≡ old ++ a ∷ [] → rule_of a ≡ r → a.global ≡ false → Adds old new (r ∷ [])
+pub added : (old new : List Arg) (a : Arg) (r : Rule) → new ≡ old ++ a ∷ [] → rule_of a ≡ r → a.global ≡ false → AddsArguments old new (r ∷ [])
 added old new a r is rule alone = record {
-  told = ap told is ∙ map-append (λ a. (rule_of a, a.global)) old (a ∷ []) ∙ ap₂ (λ x y. told old ++ (x, y) ∷ []) rule alone;
+  told = ap told_rules is ∙ map-append (λ a. (rule_of a, a.global)) old (a ∷ []) ∙ ap₂ (λ x y. told_rules old ++ (x, y) ∷ []) rule alone;
 }
 
 -- some, and then more
-pub both : (old mid new : List Arg) (rs ss : List Rule) → Adds old mid rs → Adds mid new ss → Adds old new (rs ++ ss)
+pub both : (old mid new : List Arg) (rs ss : List Rule) → AddsArguments old mid rs → AddsArguments mid new ss → AddsArguments old new (rs ++ ss)
 both old mid new rs ss one two = record {
-  told = two.told ∙ ap (λ l. l ++ local ss) one.told ∙ append_assoc (told old) (local rs) (local ss)
-      ∙ ap (λ l. told old ++ l) (sym (map-append (λ r. (r, false)) rs ss));
+  told = two.told ∙ ap (λ l. l ++ local ss) one.told ∙ append_assoc (told_rules old) (local rs) (local ss)
+      ∙ ap (λ l. told_rules old ++ l) (sym (map-append (λ r. (r, false)) rs ss));
 }
 
 -- to none
-pub of_none : (old new : List Arg) (rules : List Rule) → old ≡ [] → Adds old new rules → IsToldOf new rules
-of_none old new rules none adds = adds.told ∙ ap (λ l. told l ++ local rules) none
+pub of_none : (old new : List Arg) (rules : List Rule) → old ≡ [] → AddsArguments old new rules → IsToldOf new rules
+of_none old new rules none adds = adds.told ∙ ap (λ l. told_rules l ++ local rules) none
 
 same_cons : {A : Type 0} (x y : A) (xs ys : List A) → x ∷ xs ≡ y ∷ ys → (x ≡ y) × (xs ≡ ys)
 same_cons x y xs ys same = (cc, cc)
@@ -36,7 +36,7 @@ with_all old new [] [] is same alone = (sym (ap app_of is), ap (λ c. (fields_of
 with_all old new [] (r ∷ rules) is same alone = absurd cc
 with_all old new (a ∷ args) [] is same alone = absurd cc
 with_all old new (a ∷ args) (r ∷ rules) is same alone =
-    let parts = same_cons (rule_of a, a.global) (r, false) (told args) (local rules) same in
+    let parts = same_cons (rule_of a, a.global) (r, false) (told_rules args) (local rules) same in
     let own : a.global ≡ false = ap (λ p. p.1) parts.0 in
     let globals : (fields_of is.0).has_globals ≡ false = is.1.globals ∙ ap₂ (λ x y. x || y) alone own in
     let app : app_of is.0 ≡ with_rule (app_of old) r = is.1.shape own ∙ ap (λ p. with_rule (app_of old) p.0) parts.0 in

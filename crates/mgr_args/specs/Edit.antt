@@ -12,24 +12,24 @@ use Rattle.mgr_args.specs.Rules.{flag, name_rule, with_rules}
 -- ---- what it takes
 
 -- a number behind `--id`, within limits
-abbrev pub number : List ℕ → ℕ → ℕ → Rule
-number id least most = record (new_rule id) { long = Some id; action = Some Set; value_names = 1; parser = Some (parser.Unsigned least most) }
+abbrev pub number_rule : List ℕ → ℕ → ℕ → Rule
+number_rule id least most = record (new_rule id) { long = Some id; action = Some Set; value_names = 1; parser = Some (parser.Unsigned least most) }
 
 abbrev pub with_default : List ℕ → Rule → Rule
 with_default value rule = record rule { defaults = value ∷ [] }
 
 abbrev pub replica_rule : Rule
-replica_rule = record (number (codes "replica") 1 65535) { required = true }
+replica_rule = record (number_rule (codes "replica") 1 65535) { required = true }
 
 abbrev pub port_rule : Rule
-port_rule = number (codes "port") 1 65535
+port_rule = number_rule (codes "port") 1 65535
 
 -- the sizes of the screen, the fill column and the port
 abbrev pub number_rules : List Rule
 number_rules =
-    with_default (codes "24") (number (codes "rows") 3 200)
-    ∷ with_default (codes "80") (number (codes "cols") 20 500)
-    ∷ with_default (codes "70") (number (codes "fill") 1 9999)
+    with_default (codes "24") (number_rule (codes "rows") 3 200)
+    ∷ with_default (codes "80") (number_rule (codes "cols") 20 500)
+    ∷ with_default (codes "70") (number_rule (codes "fill") 1 9999)
     ∷ port_rule ∷ []
 
 -- what frames there are

@@ -21,19 +21,19 @@ with_rules app [] = app
 with_rules app (rule ∷ rules) = with_rules (with_rule app rule) rules
 
 -- the rules of arguments, and whether they hold for subcommands too
-abbrev pub told : List Arg → List (Rule × Bool)
-told args = map (λ a. (rule_of a, a.global)) args
+abbrev pub told_rules : List Arg → List (Rule × Bool)
+told_rules args = map (λ a. (rule_of a, a.global)) args
 
 -- rules that hold for one command alone
 abbrev pub local : List Rule → List (Rule × Bool)
 local rules = map (λ r. (r, false)) rules
 
 abbrev pub IsToldOf : List Arg → List Rule → Type 0
-IsToldOf args rules = told args ≡ local rules
+IsToldOf args rules = told_rules args ≡ local rules
 
 -- `new` is `old` with arguments of these rules behind
-pub record Adds (old new : List Arg) (rules : List Rule) : Type 0 where
-  pub told : told new ≡ told old ++ local rules
+pub record AddsArguments (old new : List Arg) (rules : List Rule) : Type 0 where
+  pub told : told_rules new ≡ told_rules old ++ local rules
 
 -- that command, and nothing of it holds for subcommands
 abbrev pub IsPlain : App → Command → Type 0

@@ -4,7 +4,7 @@ ghost use Rattle.clap.specs.Simple.{app_of};
 ghost use Rattle.clap.specs.Walk.{rule_of};
 ghost use Rattle.clap.specs.declared.builder.command.Command.TheViews.{out-Command as fields_of};
 ghost use Rattle.mgr_args.specs.Edit as spec;
-ghost use Rattle.mgr_args.specs.Rules.{Adds, IsToldOf};
+ghost use Rattle.mgr_args.specs.Rules.{AddsArguments, IsToldOf};
 
 use crate::part::{add_flag, add_name, described, push};
 use clap::builder::ValueParser;
@@ -21,7 +21,7 @@ The log is NAME.ops, and the text NAME. C-x C-s saves, C-x C-c ends:
 
 /// A number behind `--id`, within limits.
 fn number<'a>(alloc: Global, id: &'a str, least: u64, most: u64) -> Arg<'a>
-    ensures rule { rule_of result ≡ spec.number id.entry.now least most }
+    ensures rule { rule_of result ≡ spec.number_rule id.entry.now least most }
     ensures local { result.global ≡ false }
 {
     Arg::new(alloc, id)
@@ -41,8 +41,8 @@ fn add_number<'a>(
     value: &'a str,
     help: &'a str,
 ) -> Result<(), AllocError>
-    ensures { OnOk result (Adds args.old.items args.new.items
-        (spec.with_default value.entry.now (spec.number id.entry.now least most) ∷ [])) }
+    ensures { OnOk result (AddsArguments args.old.items args.new.items
+        (spec.with_default value.entry.now (spec.number_rule id.entry.now least most) ∷ [])) }
 {
     let number = number(alloc, id, least, most);
     push(args, number.default_value(value).help(help))
@@ -50,7 +50,7 @@ fn add_number<'a>(
 
 /// The number of the replica, which has to be given.
 fn add_replica<'a>(alloc: Global, args: &mut Vec<Arg<'a>>) -> Result<(), AllocError>
-    ensures { OnOk result (Adds args.old.items args.new.items (spec.replica_rule ∷ [])) }
+    ensures { OnOk result (AddsArguments args.old.items args.new.items (spec.replica_rule ∷ [])) }
 {
     let replica = number(alloc, "replica", 1, 65535);
     let help = "The number of this copy, which no other copy of the text has";
@@ -59,7 +59,7 @@ fn add_replica<'a>(alloc: Global, args: &mut Vec<Arg<'a>>) -> Result<(), AllocEr
 
 /// The port, which may be left out.
 fn add_port<'a>(alloc: Global, args: &mut Vec<Arg<'a>>) -> Result<(), AllocError>
-    ensures { OnOk result (Adds args.old.items args.new.items (spec.port_rule ∷ [])) }
+    ensures { OnOk result (AddsArguments args.old.items args.new.items (spec.port_rule ∷ [])) }
 {
     let port = number(alloc, "port", 1, 65535);
     push(args, port.help("The port of exchanges"))
@@ -67,7 +67,7 @@ fn add_port<'a>(alloc: Global, args: &mut Vec<Arg<'a>>) -> Result<(), AllocError
 
 /// The sizes of the screen, the fill column and the port.
 fn add_numbers<'a>(alloc: Global, args: &mut Vec<Arg<'a>>) -> Result<(), AllocError>
-    ensures { OnOk result (Adds args.old.items args.new.items spec.number_rules) }
+    ensures { OnOk result (AddsArguments args.old.items args.new.items spec.number_rules) }
 {
     add_number(alloc, args, "rows", 3, 200, "24", "The rows of the screen")?;
     add_number(alloc, args, "cols", 20, 500, "80", "Its columns")?;
@@ -77,7 +77,7 @@ fn add_numbers<'a>(alloc: Global, args: &mut Vec<Arg<'a>>) -> Result<(), AllocEr
 
 /// What frames there are.
 fn add_trace<'a>(alloc: Global, args: &mut Vec<Arg<'a>>) -> Result<(), AllocError>
-    ensures { OnOk result (Adds args.old.items args.new.items spec.trace_rules) }
+    ensures { OnOk result (AddsArguments args.old.items args.new.items spec.trace_rules) }
 {
     let newest = "With --trace, write one behind all keys that are at hand";
     add_flag(alloc, args, "trace", "Write a frame behind each step")?;
@@ -86,7 +86,7 @@ fn add_trace<'a>(alloc: Global, args: &mut Vec<Arg<'a>>) -> Result<(), AllocErro
 
 /// What stands in them, in the log and in exchanges.
 fn add_contents<'a>(alloc: Global, args: &mut Vec<Arg<'a>>) -> Result<(), AllocError>
-    ensures { OnOk result (Adds args.old.items args.new.items spec.content_rules) }
+    ensures { OnOk result (AddsArguments args.old.items args.new.items spec.content_rules) }
 {
     let cursor = "Write the cursor's row and column behind each frame";
     let resizable = "Take reports of the screen's size among the keys";
@@ -100,7 +100,7 @@ fn add_contents<'a>(alloc: Global, args: &mut Vec<Arg<'a>>) -> Result<(), AllocE
 
 /// The arguments of `edit`.
 fn add_args<'a>(alloc: Global, args: &mut Vec<Arg<'a>>) -> Result<(), AllocError>
-    ensures { OnOk result (Adds args.old.items args.new.items spec.edit_rules) }
+    ensures { OnOk result (AddsArguments args.old.items args.new.items spec.edit_rules) }
 {
     add_name(alloc, args)?;
     add_replica(alloc, args)?;

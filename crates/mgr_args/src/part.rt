@@ -30,7 +30,7 @@ pub(crate) fn push<T: Drop>(list: &mut Vec<T>, more: T) -> Result<(), AllocError
 
 /// The name of a buffer.
 pub(crate) fn add_name<'a>(alloc: Global, args: &mut Vec<Arg<'a>>) -> Result<(), AllocError>
-    ensures { OnOk result (spec.Adds args.old.items args.new.items (spec.name_rule ∷ [])) }
+    ensures { OnOk result (spec.AddsArguments args.old.items args.new.items (spec.name_rule ∷ [])) }
 {
     let name = Arg::new(alloc, "name")
         .action(ArgAction::Set)
@@ -47,7 +47,8 @@ pub(crate) fn add_flag<'a>(
     id: &'a str,
     help: &'a str,
 ) -> Result<(), AllocError>
-    ensures { OnOk result (spec.Adds args.old.items args.new.items (spec.flag id.entry.now ∷ [])) }
+    ensures { OnOk result
+        (spec.AddsArguments args.old.items args.new.items (spec.flag id.entry.now ∷ [])) }
 {
     let flag = Arg::new(alloc, id)
         .long(id)

@@ -2,12 +2,12 @@
 use Rattle.std.proofs.Common.{◌≡◌, ℕ, Bool, List, [], true, Option, Some, None, sym, subst, refl, inl}
 use Rattle.std.specs.Prelude.{IfSome}
 use Rattle.std.specs.Io.KnownBytes.{Appends}
-use Rattle.mgr_port.specs.Disk.{Step, StopsBefore, whole_steps}
+use Rattle.mgr_port.specs.Disk.{DiskStep, StopsBefore, whole_steps}
 use Rattle.rga_lines.specs.Counting.{Calls}
 use Rattle.mgr_show.specs.Compacted.{compacted, Compacts}
 
 -- of a log that is told, where the file beside began empty and got the compacted lines
-pub stops_written : (dels : Bool) (standing : Option (List ℕ)) (old made new : Option (List Step)) (start written : Option (List ℕ)) → made ≡ old
+pub stops_written : (dels : Bool) (standing : Option (List ℕ)) (old made new : Option (List DiskStep)) (start written : Option (List ℕ)) → made ≡ old
     → IfSome old (λ _. start ≡ Some []) → IfSome standing (λ bytes. Appends start written (compacted dels bytes))
     → IfSome written (λ bytes. StopsBefore made new (whole_steps true bytes)) → IfSome standing (λ bytes. StopsBefore old new (whole_steps true (compacted dels bytes)))
 stops_written dels None old made new start written same empty appended stops = tt

@@ -1,6 +1,6 @@
 //! Theorems about compacted logs. Each function does nothing: its contract is the theorem.
 ghost use Rattle.std.specs.Prelude.{◌≡◌, ℕ, List, Bool, true, Option, Some};
-ghost use Rattle.mgr_port.specs.Disk.{Step, Place, Begins, IsUntouched, MayBeFound, behind, whole_steps};
+ghost use Rattle.mgr_port.specs.Disk.{DiskStep, Place, BeginsSteps, IsUntouched, MayBeFound, behind_steps, whole_steps};
 ghost use Rattle.mgr_show.specs.Compacted.{KeepsContent, compacted};
 ghost use Rattle.mgr_show.specs.Shown.{log_content};
 
@@ -8,8 +8,8 @@ ghost use Rattle.mgr_show.specs.Shown.{log_content};
 /// name, and it has the content of the old one.
 pub fn a_note_keeps_its_content_whenever_the_machine_stops()
     ensures { (dels : Bool) (bytes : List ℕ) (found : Option (List ℕ)) (p : Place)
-        (made : List Step) → KeepsContent dels bytes → IsUntouched p
-        → Begins made (whole_steps true (compacted dels bytes))
-        → MayBeFound (Some bytes) (behind p made) found
+        (made : List DiskStep) → KeepsContent dels bytes → IsUntouched p
+        → BeginsSteps made (whole_steps true (compacted dels bytes))
+        → MayBeFound (Some bytes) (behind_steps p made) found
         → (log : List ℕ) × (found ≡ Some log) × (log_content log ≡ log_content bytes) }
 {}

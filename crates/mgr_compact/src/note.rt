@@ -5,7 +5,7 @@ ghost use Rattle.mgr_show.specs.Log.{log_of};
 ghost use Rattle.mgr_show.specs.Shown.{IsOfInput};
 ghost use Rattle.mgr_show.specs.Compacted.{KeepsContent, compacted};
 ghost use Rattle.mgr_show.specs.declared.fault.ShowFault.TheVariants.{Memory};
-ghost use Rattle.mgr_port.specs.Disk.{Tells, StopsBefore, whole_steps};
+ghost use Rattle.mgr_port.specs.Disk.{TellsSteps, StopsBefore, whole_steps};
 
 use mgr_port::{Logs, Named};
 use mgr_show::{ShowFault, compact_log_with};
@@ -27,7 +27,7 @@ pub fn compact_note<L: Logs>(
 ) -> Result<(), ShowFault>
     // All steps were made, and the new log stands for the content of the old one.
     ensures compacted { OnOk result (IfSome (L.standing logs.old name.now)
-        (λ bytes. KeepsContent dels bytes × Tells (L.steps logs.old) (L.steps logs.new)
+        (λ bytes. KeepsContent dels bytes × TellsSteps (L.steps logs.old) (L.steps logs.new)
         (whole_steps true (compacted dels bytes)))) }
     ensures refused { IfErr result (λ e. IsOfInput e → IfSome (L.standing logs.old name.now)
         (λ bytes. log_of MAX_LIMIT bytes ≡ Err e)) }
@@ -67,7 +67,7 @@ fn give_name<L: Logs>(
     next: L::Next,
 ) -> Result<(), ShowFault>
     ensures named { OnOk result (IfSome (L.Next.contents next) (λ bytes.
-        Tells (L.steps logs.old) (L.steps logs.new) (whole_steps true bytes))) }
+        TellsSteps (L.steps logs.old) (L.steps logs.new) (whole_steps true bytes))) }
     ensures begun { OnErr result (IfSome (L.Next.contents next) (λ bytes.
         StopsBefore (L.steps logs.old) (L.steps logs.new) (whole_steps true bytes))) }
     ensures fault { IfErr result (λ e. (e ≡ ShowFault.Write) ⊎ (e ≡ Memory)) }

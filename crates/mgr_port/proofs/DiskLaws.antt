@@ -1,17 +1,17 @@
 -- What stands under a name behind each beginning of the steps that give it a file.
 use Rattle.std.proofs.Common.{◌≡◌, ◌⊎◌, inl, inr, ℕ, List, [], ◌∷◌, ◌++◌, Bool, true, false, Option, Some, None, refl, sym, ap, ◌∙◌, subst, append_assoc, append-nil}
-use Rattle.mgr_port.specs.Disk.{Step, Empties, Writes, Syncs, Keeps, TakesName, SyncsFolder, Begins, Place, behind_step, behind, MayStand, MayBeFound, IsUntouched, naming_steps, whole_steps, Tells, WritesFront, StopsBefore}
+use Rattle.mgr_port.specs.Disk.{DiskStep, Empties, Writes, Syncs, Keeps, TakesName, SyncsFolder, BeginsSteps, Place, behind_step, behind_steps, MayStand, MayBeFound, IsUntouched, naming_steps, whole_steps, TellsSteps, TellsWrittenFront, StopsBefore}
 
 -- What holds of a place, holds of it behind a part of the first step where that is a write, and behind that step and any
 -- beginning of the others, holds behind any beginning of all.
-begun : (Q : Place → Type 0) (p : Place) (step : Step) (later made : List Step) → Begins made (step ∷ later)
+begun : (Q : Place → Type 0) (p : Place) (step : DiskStep) (later made : List DiskStep) → BeginsSteps made (step ∷ later)
     → Q p → ((part more : List ℕ) → step ≡ Writes (part ++ more) → Q (behind_step p (Writes part)))
-    → ((others : List Step) → Begins others later → Q (behind (behind_step p step) others)) → Q (behind p made)
+    → ((others : List DiskStep) → BeginsSteps others later → Q (behind_steps (behind_step p step) others)) → Q (behind_steps p made)
 begun Q p step later made begins none half further =
     elim begins [
-      | inl is ↦ subst (λ (l : List Step). Q (behind p l)) (sym is) none
-      | inr (inl w) ↦ subst (λ (l : List Step). Q (behind p l)) (sym w.3) (half w.0 w.1 w.2)
-      | inr (inr f) ↦ subst (λ (l : List Step). Q (behind p l)) (sym f.1) (further f.0 f.2)
+      | inl is ↦ subst (λ (l : List DiskStep). Q (behind_steps p l)) (sym is) none
+      | inr (inl w) ↦ subst (λ (l : List DiskStep). Q (behind_steps p l)) (sym w.3) (half w.0 w.1 w.2)
+      | inr (inr f) ↦ subst (λ (l : List DiskStep). Q (behind_steps p l)) (sym f.1) (further f.0 f.2)
     ]
 
 unnamed : (old found : Option (List ℕ)) (p : Place) → p.is_named ≡ false → p.is_settled ≡ false → MayBeFound old p found → found ≡ old
@@ -23,25 +23,25 @@ IsOneOf old bytes found p = MayBeFound old p found → (found ≡ old) ⊎ (foun
 
 module _ (old found : Option (List ℕ)) (bytes : List ℕ) where
   -- as long as the file beside has no name
-  early : (p : Place) (step : Step) (later made : List Step) → p.is_named ≡ false → p.is_settled ≡ false → Begins made (step ∷ later)
-      → ((others : List Step) → Begins others later → IsOneOf old bytes found (behind (behind_step p step) others))
-      → IsOneOf old bytes found (behind p made)
+  early : (p : Place) (step : DiskStep) (later made : List DiskStep) → p.is_named ≡ false → p.is_settled ≡ false → BeginsSteps made (step ∷ later)
+      → ((others : List DiskStep) → BeginsSteps others later → IsOneOf old bytes found (behind_steps (behind_step p step) others))
+      → IsOneOf old bytes found (behind_steps p made)
   early p step later made named settled begins further =
       begun (IsOneOf old bytes found) p step later made begins
       (λ may. inl (unnamed old found p named settled may))
       (λ part more same may. inl (unnamed old found (behind_step p (Writes part)) named settled may))
       further
 
-  settled_now : (p : Place) (others : List Step) → p.is_named ≡ true → p.is_synced ≡ true → p.beside ≡ bytes → others ≡ []
-      → MayBeFound old (behind (behind_step p SyncsFolder) others) found → found ≡ Some bytes
+  settled_now : (p : Place) (others : List DiskStep) → p.is_named ≡ true → p.is_synced ≡ true → p.beside ≡ bytes → others ≡ []
+      → MayBeFound old (behind_steps (behind_step p SyncsFolder) others) found → found ≡ Some bytes
   settled_now p others named synced whole is may =
-      let here : MayBeFound old (behind_step p SyncsFolder) found = subst (λ (l : List Step). MayBeFound old (behind (behind_step p SyncsFolder) l) found) is may in
+      let here : MayBeFound old (behind_step p SyncsFolder) found = subst (λ (l : List DiskStep). MayBeFound old (behind_steps (behind_step p SyncsFolder) l) found) is may in
       let beside : MayStand true true old (behind_step p SyncsFolder) found = subst (λ b. MayStand b b old (behind_step p SyncsFolder) found) named here in
       beside synced ∙ ap (λ (l : List ℕ). Some l) whole
 
   -- the file beside has just got the name, with all of its bytes on the device
-  late : (p : Place) (made : List Step) → p.is_named ≡ true → p.is_settled ≡ false → p.is_synced ≡ true → p.beside ≡ bytes
-      → Begins made (SyncsFolder ∷ []) → IsOneOf old bytes found (behind p made)
+  late : (p : Place) (made : List DiskStep) → p.is_named ≡ true → p.is_settled ≡ false → p.is_synced ≡ true → p.beside ≡ bytes
+      → BeginsSteps made (SyncsFolder ∷ []) → IsOneOf old bytes found (behind_steps p made)
   late p made named settled synced whole begins =
       begun (IsOneOf old bytes found) p SyncsFolder [] made begins
       (λ may. elim (subst (λ b. MayStand true b old p found) settled (subst (λ b. MayStand b p.is_settled old p found) named may)) [
@@ -52,27 +52,27 @@ module _ (old found : Option (List ℕ)) (bytes : List ℕ) where
       (λ others is may. inr (settled_now p others named synced whole is may))
 
   -- all of its bytes are on the device, and it gets the name
-  taking : (p : Place) (made : List Step) → p.is_named ≡ false → p.is_settled ≡ false → p.is_synced ≡ true → p.beside ≡ bytes
-      → Begins made (TakesName ∷ SyncsFolder ∷ []) → IsOneOf old bytes found (behind p made)
+  taking : (p : Place) (made : List DiskStep) → p.is_named ≡ false → p.is_settled ≡ false → p.is_synced ≡ true → p.beside ≡ bytes
+      → BeginsSteps made (TakesName ∷ SyncsFolder ∷ []) → IsOneOf old bytes found (behind_steps p made)
   taking p made named settled synced whole begins =
       early p TakesName (SyncsFolder ∷ []) made named settled begins
       (λ others more. late (behind_step p TakesName) others refl settled synced whole more)
 
-  naming : (keeps : Bool) (p : Place) (made : List Step) → p.is_named ≡ false → p.is_settled ≡ false → p.is_synced ≡ true → p.beside ≡ bytes
-      → Begins made (naming_steps keeps ++ SyncsFolder ∷ []) → IsOneOf old bytes found (behind p made)
+  naming : (keeps : Bool) (p : Place) (made : List DiskStep) → p.is_named ≡ false → p.is_settled ≡ false → p.is_synced ≡ true → p.beside ≡ bytes
+      → BeginsSteps made (naming_steps keeps ++ SyncsFolder ∷ []) → IsOneOf old bytes found (behind_steps p made)
   naming false p made named settled synced whole begins = taking p made named settled synced whole begins
   naming true p made named settled synced whole begins =
       early p Keeps (TakesName ∷ SyncsFolder ∷ []) made named settled begins
       (λ others more. taking (behind_step p Keeps) others named settled synced whole more)
 
-  pub one_of_them : (p : Place) (keeps : Bool) (made : List Step) → IsUntouched p → Begins made (whole_steps keeps bytes) → IsOneOf old bytes found (behind p made)
+  pub one_of_them : (p : Place) (keeps : Bool) (made : List DiskStep) → IsUntouched p → BeginsSteps made (whole_steps keeps bytes) → IsOneOf old bytes found (behind_steps p made)
   one_of_them p keeps made u begins =
       early p Empties (Writes bytes ∷ Syncs ∷ (naming_steps keeps ++ SyncsFolder ∷ [])) made u.unnamed u.unsettled begins
       (λ written more. early (behind_step p Empties) (Writes bytes) (Syncs ∷ (naming_steps keeps ++ SyncsFolder ∷ [])) written u.unnamed u.unsettled more
       (λ synced then. early (behind_step (behind_step p Empties) (Writes bytes)) Syncs (naming_steps keeps ++ SyncsFolder ∷ []) synced u.unnamed u.unsettled then
       (λ named last. naming keeps (behind_step (behind_step (behind_step p Empties) (Writes bytes)) Syncs) named u.unnamed u.unsettled refl refl last)))
 
-  pub the_new_one : (p : Place) (keeps : Bool) → IsUntouched p → MayBeFound old (behind p (whole_steps keeps bytes)) found → found ≡ Some bytes
+  pub the_new_one : (p : Place) (keeps : Bool) → IsUntouched p → MayBeFound old (behind_steps p (whole_steps keeps bytes)) found → found ≡ Some bytes
   the_new_one p false u may = may refl
   the_new_one p true u may = may refl
 
@@ -85,12 +85,12 @@ IsKept p = p.is_named ≡ true → p.is_kept ≡ true
 unnamed_kept : (p : Place) → p.is_named ≡ false → IsKept p
 unnamed_kept p named is = let e : false ≡ true = sym named ∙ is in absurd cc
 
-early_kept : (p : Place) (step : Step) (later made : List Step) → p.is_named ≡ false → Begins made (step ∷ later)
-    → ((others : List Step) → Begins others later → IsKept (behind (behind_step p step) others)) → IsKept (behind p made)
+early_kept : (p : Place) (step : DiskStep) (later made : List DiskStep) → p.is_named ≡ false → BeginsSteps made (step ∷ later)
+    → ((others : List DiskStep) → BeginsSteps others later → IsKept (behind_steps (behind_step p step) others)) → IsKept (behind_steps p made)
 early_kept p step later made named begins further =
     begun IsKept p step later made begins (unnamed_kept p named) (λ part more same. unnamed_kept (behind_step p (Writes part)) named) further
 
-kept_for_good : (p : Place) (steps : List Step) → p.is_kept ≡ true → (behind p steps).is_kept ≡ true
+kept_for_good : (p : Place) (steps : List DiskStep) → p.is_kept ≡ true → (behind_steps p steps).is_kept ≡ true
 kept_for_good p [] kept = kept
 kept_for_good p (Empties ∷ steps) kept = kept_for_good (behind_step p Empties) steps kept
 kept_for_good p (Writes bytes ∷ steps) kept = kept_for_good (behind_step p (Writes bytes)) steps kept
@@ -99,7 +99,7 @@ kept_for_good p (Keeps ∷ steps) kept = kept_for_good (behind_step p Keeps) ste
 kept_for_good p (TakesName ∷ steps) kept = kept_for_good (behind_step p TakesName) steps kept
 kept_for_good p (SyncsFolder ∷ steps) kept = kept_for_good (behind_step p SyncsFolder) steps kept
 
-pub kept_before : (p : Place) (bytes : List ℕ) (made : List Step) → IsUntouched p → Begins made (whole_steps true bytes) → IsKept (behind p made)
+pub kept_before : (p : Place) (bytes : List ℕ) (made : List DiskStep) → IsUntouched p → BeginsSteps made (whole_steps true bytes) → IsKept (behind_steps p made)
 kept_before p bytes made u begins =
     early_kept p Empties (Writes bytes ∷ Syncs ∷ Keeps ∷ TakesName ∷ SyncsFolder ∷ []) made u.unnamed begins
     (λ written more. early_kept (behind_step p Empties) (Writes bytes) (Syncs ∷ Keeps ∷ TakesName ∷ SyncsFolder ∷ []) written u.unnamed more
@@ -109,21 +109,17 @@ kept_before p bytes made u begins =
 
 -- ---- the steps that were told
 
-tells_nothing : (a : Option (List Step)) → Tells a a []
-tells_nothing None = tt
-tells_nothing (Some steps) = ap (λ (l : List Step). Some l) (sym (append-nil steps))
-
-tells_more : (a b c : Option (List Step)) (xs ys : List Step) → Tells a b xs → Tells b c ys → Tells a c (xs ++ ys)
+tells_more : (a b c : Option (List DiskStep)) (xs ys : List DiskStep) → TellsSteps a b xs → TellsSteps b c ys → TellsSteps a c (xs ++ ys)
 tells_more None b c xs ys one two = tt
 tells_more (Some steps) b c xs ys one two =
-    subst (λ o. Tells o c ys) one two ∙ ap (λ (l : List Step). Some l) (append_assoc steps xs ys)
+    subst (λ o. TellsSteps o c ys) one two ∙ ap (λ (l : List DiskStep). Some l) (append_assoc steps xs ys)
 
 -- the step that comes next failed
-pub stops_here : (a b : Option (List Step)) (step : Step) (later : List Step) → Tells a b [] → StopsBefore a b (step ∷ later)
+pub stops_here : (a b : Option (List DiskStep)) (step : DiskStep) (later : List DiskStep) → TellsSteps a b [] → StopsBefore a b (step ∷ later)
 stops_here a b step later none = record { made = []; begins = inl refl; tells = none }
 
 -- of its bytes none were written, or a beginning
-pub stops_in_write : (a b : Option (List Step)) (bytes : List ℕ) (later : List Step) → Tells a b [] ⊎ WritesFront a b bytes → StopsBefore a b (Writes bytes ∷ later)
+pub stops_in_write : (a b : Option (List DiskStep)) (bytes : List ℕ) (later : List DiskStep) → TellsSteps a b [] ⊎ TellsWrittenFront a b bytes → StopsBefore a b (Writes bytes ∷ later)
 stops_in_write a b bytes later (inl none) = stops_here a b (Writes bytes) later none
 stops_in_write a b bytes later (inr w) = record {
   made = Writes w.front ∷ [];
@@ -132,7 +128,7 @@ stops_in_write a b bytes later (inr w) = record {
 }
 
 -- it was done, and a later one failed
-pub stops_behind : (a b c : Option (List Step)) (step : Step) (later : List Step) → Tells a b (step ∷ []) → StopsBefore b c later → StopsBefore a c (step ∷ later)
+pub stops_behind : (a b c : Option (List DiskStep)) (step : DiskStep) (later : List DiskStep) → TellsSteps a b (step ∷ []) → StopsBefore b c later → StopsBefore a c (step ∷ later)
 stops_behind a b c step later one s = record {
   made = step ∷ s.made;
   begins = inr (inr (s.made, refl, s.begins));
@@ -141,20 +137,20 @@ stops_behind a b c step later one s = record {
 
 -- ---- a beginning of some of the steps is one of all
 
-begins_longer : (made wanted more : List Step) → Begins made wanted → Begins made (wanted ++ more)
+begins_longer : (made wanted more : List DiskStep) → BeginsSteps made wanted → BeginsSteps made (wanted ++ more)
 begins_longer made [] [] none = none
 begins_longer made [] (step ∷ more) none = inl none
 begins_longer made (step ∷ later) more (inl none) = inl none
 begins_longer made (step ∷ later) more (inr (inl part)) = inr (inl part)
 begins_longer made (step ∷ later) more (inr (inr (others, is, begins))) = inr (inr (others, is, begins_longer others later more begins))
 
-begins_all : (made more : List Step) → Begins made (made ++ more)
+begins_all : (made more : List DiskStep) → BeginsSteps made (made ++ more)
 begins_all [] [] = refl
 begins_all [] (step ∷ more) = inl refl
 begins_all (step ∷ made) more = inr (inr (made, refl, begins_all made more))
 
-pub stops_longer : (a b : Option (List Step)) (wanted more : List Step) → StopsBefore a b wanted → StopsBefore a b (wanted ++ more)
+pub stops_longer : (a b : Option (List DiskStep)) (wanted more : List DiskStep) → StopsBefore a b wanted → StopsBefore a b (wanted ++ more)
 stops_longer a b wanted more s = record { made = s.made; begins = begins_longer s.made wanted more s.begins; tells = s.tells }
 
-pub stops_at : (a b : Option (List Step)) (made more : List Step) → Tells a b made → StopsBefore a b (made ++ more)
+pub stops_at : (a b : Option (List DiskStep)) (made more : List DiskStep) → TellsSteps a b made → StopsBefore a b (made ++ more)
 stops_at a b made more told = record { made = made; begins = begins_all made more; tells = told }

@@ -5,74 +5,74 @@ use Rattle.mgr_port.specs.declared.disk.Named.TheVariants.{Settled, Unsettled}
 
 -- The file beside is emptied; gets these bytes at its end; is brought to the device; what stands under the name is kept
 -- beside it; the file beside gets the name; and the names of the folder are brought to the device.
-pub data Step : Type 0 where
-  Empties : Step
-  Writes : List ℕ → Step
-  Syncs : Step
-  Keeps : Step
-  TakesName : Step
-  SyncsFolder : Step
+pub data DiskStep : Type 0 where
+  Empties : DiskStep
+  Writes : List ℕ → DiskStep
+  Syncs : DiskStep
+  Keeps : DiskStep
+  TakesName : DiskStep
+  SyncsFolder : DiskStep
 
 -- a disk that tells its steps tells these more
-abbrev pub Tells : Option (List Step) → Option (List Step) → List Step → Type 0
-Tells old new more = IfSome old (λ steps. new ≡ Some (steps ++ more))
+abbrev pub TellsSteps : Option (List DiskStep) → Option (List DiskStep) → List DiskStep → Type 0
+TellsSteps old new more = IfSome old (λ steps. new ≡ Some (steps ++ more))
 
 -- a step was done, or failed and was not done
-abbrev pub Does : {A E : Type 0} → Result A E → Step → Option (List Step) → Option (List Step) → Type 0
-Does (Ok a) step old new = Tells old new (step ∷ [])
-Does (Err e) step old new = Tells old new []
+abbrev pub Does : {A E : Type 0} → Result A E → DiskStep → Option (List DiskStep) → Option (List DiskStep) → Type 0
+Does (Ok a) step old new = TellsSteps old new (step ∷ [])
+Does (Err e) step old new = TellsSteps old new []
 
 -- a beginning of bytes was written
-pub record WritesFront (old new : Option (List Step)) (bytes : List ℕ) : Type 0 where
+pub record TellsWrittenFront (old new : Option (List DiskStep)) (bytes : List ℕ) : Type 0 where
   pub front : List ℕ
   pub rest : List ℕ
   pub parts : bytes ≡ front ++ rest
-  pub tells : Tells old new (Writes front ∷ [])
+  pub tells : TellsSteps old new (Writes front ∷ [])
 
 -- all bytes were written; or else none, or a beginning of them
-abbrev pub DoesWrite : {A E : Type 0} → Result A E → List ℕ → Option (List Step) → Option (List Step) → Type 0
-DoesWrite (Ok a) bytes old new = Tells old new (Writes bytes ∷ [])
-DoesWrite (Err e) bytes old new = Tells old new [] ⊎ WritesFront old new bytes
+abbrev pub DoesWrite : {A E : Type 0} → Result A E → List ℕ → Option (List DiskStep) → Option (List DiskStep) → Type 0
+DoesWrite (Ok a) bytes old new = TellsSteps old new (Writes bytes ∷ [])
+DoesWrite (Err e) bytes old new = TellsSteps old new [] ⊎ TellsWrittenFront old new bytes
 
 -- ---- a whole file
 
 -- it has the name once all of its bytes are on the device, and what stood there is kept where it is to be
-abbrev pub naming_steps : Bool → List Step
+abbrev pub naming_steps : Bool → List DiskStep
 naming_steps true = Keeps ∷ TakesName ∷ []
 naming_steps false = TakesName ∷ []
 
-abbrev pub synced_steps : Bool → List Step
+abbrev pub synced_steps : Bool → List DiskStep
 synced_steps keeps = Syncs ∷ naming_steps keeps
 
-abbrev pub named_steps : Bool → List ℕ → List Step
+abbrev pub named_steps : Bool → List ℕ → List DiskStep
 named_steps keeps bytes = Empties ∷ Writes bytes ∷ synced_steps keeps
 
 -- and then the name is on the device
-abbrev pub whole_steps : Bool → List ℕ → List Step
+abbrev pub whole_steps : Bool → List ℕ → List DiskStep
 whole_steps keeps bytes = named_steps keeps bytes ++ SyncsFolder ∷ []
 
 -- the steps behind the last write, and all of them
-abbrev pub last_steps : Named → Bool → List Step
+abbrev pub last_steps : Named → Bool → List DiskStep
 last_steps Settled keeps = synced_steps keeps ++ SyncsFolder ∷ []
 last_steps (Unsettled error) keeps = synced_steps keeps
 
-abbrev pub steps_to : Named → Bool → List ℕ → List Step
+abbrev pub steps_to : Named → Bool → List ℕ → List DiskStep
 steps_to named keeps bytes = Empties ∷ Writes bytes ∷ last_steps named keeps
 
 -- a write was done in part
-abbrev pub WritesPart : Step → List Step → Type 0
+abbrev pub WritesPart : DiskStep → List DiskStep → Type 0
 WritesPart step made = (part : List ℕ) × (more : List ℕ) × (step ≡ Writes (part ++ more)) × (made ≡ Writes part ∷ [])
 
 -- The first of these steps were done, and of the next one, if it is a write, perhaps a part.
-abbrev pub Begins : List Step → List Step → Type 0
-Begins made [] = made ≡ []
-Begins made (step ∷ later) = (made ≡ []) ⊎ WritesPart step made ⊎ ((others : List Step) × (made ≡ step ∷ others) × Begins others later)
+abbrev pub BeginsSteps : List DiskStep → List DiskStep → Type 0
+BeginsSteps made [] = made ≡ []
+BeginsSteps made (step ∷ later) = (made ≡ []) ⊎ WritesPart step made ⊎ ((others : List DiskStep) × (made ≡ step ∷ others) × BeginsSteps others later)
 
 -- so far it went, and the file beside has no name
-pub record StopsBefore (old new : Option (List Step)) (wanted : List Step) : Type 0 where
-  pub made : List Step
-  pub begins : Begins made wanted
-  pub tells : Tells old new made
+pub record StopsBefore (old new : Option (List DiskStep)) (wanted : List DiskStep) : Type 0 where
+  pub made : List DiskStep
+  pub begins : BeginsSteps made wanted
+  pub tells : TellsSteps old new made
 
 -- ---- a machine that stops
 
@@ -85,7 +85,7 @@ pub record Place : Type 0 where
   pub is_named : Bool
   pub is_settled : Bool
 
-abbrev pub behind_step : Place → Step → Place
+abbrev pub behind_step : Place → DiskStep → Place
 behind_step p Empties = record p { beside = []; is_synced = false }
 behind_step p (Writes bytes) = record p { beside = p.beside ++ bytes; is_synced = false }
 behind_step p Syncs = record p { is_synced = true }
@@ -93,9 +93,9 @@ behind_step p Keeps = record p { is_kept = true }
 behind_step p TakesName = record p { is_named = true }
 behind_step p SyncsFolder = record p { is_settled = p.is_named }
 
-abbrev pub behind : Place → List Step → Place
-behind p [] = p
-behind p (step ∷ steps) = behind (behind_step p step) steps
+abbrev pub behind_steps : Place → List DiskStep → Place
+behind_steps p [] = p
+behind_steps p (step ∷ steps) = behind_steps (behind_step p step) steps
 
 -- the file beside stands there: with all of its bytes where these are on the device, and else with whatever came there
 abbrev pub StandsBeside : Place → Option (List ℕ) → Type 0

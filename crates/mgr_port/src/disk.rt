@@ -1,7 +1,7 @@
 //! A file that is written whole beside another, and then takes its name.
 ghost use Rattle.std.specs.Prelude.{List, Option, IfOk, OnOk, OnErr};
-ghost use Rattle.mgr_port.specs.Disk.{Step, Empties, Syncs, Keeps, TakesName, SyncsFolder};
-ghost use Rattle.mgr_port.specs.Disk.{Does, DoesWrite, Tells, StopsBefore, naming_steps, synced_steps, last_steps, named_steps, steps_to};
+ghost use Rattle.mgr_port.specs.Disk.{DiskStep, Empties, Syncs, Keeps, TakesName, SyncsFolder};
+ghost use Rattle.mgr_port.specs.Disk.{Does, DoesWrite, TellsSteps, StopsBefore, naming_steps, synced_steps, last_steps, named_steps, steps_to};
 
 use mg_files::LogLines;
 use std::io;
@@ -9,7 +9,7 @@ use std::io;
 /// A file beside another, whose name it is to take. A disk may tell its steps, in their order.
 pub trait Disk {
     /// The steps so far, where the disk tells them.
-    ghost steps: { Self → Option (List Step) };
+    ghost steps: { Self → Option (List DiskStep) };
 
     /// Leaves nothing in the file beside.
     fn empty(&mut self) -> io::Result<()>
@@ -65,7 +65,7 @@ impl Named {
 #[tactic(auto, using(crate::proofs::DiskLaws::stops_here, crate::proofs::DiskLaws::stops_in_write, crate::proofs::DiskLaws::stops_behind))]
 pub fn put_whole<D: Disk>(disk: &mut D, bytes: &[u8], keeps: bool) -> io::Result<Named>
     ensures named { IfOk result (λ named.
-        Tells (D.steps disk.old) (D.steps disk.new) (steps_to named keeps bytes.now)) }
+        TellsSteps (D.steps disk.old) (D.steps disk.new) (steps_to named keeps bytes.now)) }
     ensures unnamed { OnErr result
         (StopsBefore (D.steps disk.old) (D.steps disk.new) (named_steps keeps bytes.now)) }
 {
@@ -78,7 +78,7 @@ pub fn put_whole<D: Disk>(disk: &mut D, bytes: &[u8], keeps: bool) -> io::Result
 #[tactic(auto, using(crate::proofs::DiskLaws::stops_here, crate::proofs::DiskLaws::stops_in_write, crate::proofs::DiskLaws::stops_behind))]
 pub fn put_log<D: Disk>(disk: &mut D, lines: &LogLines, keeps: bool) -> io::Result<Named>
     ensures named { IfOk result (λ named.
-        Tells (D.steps disk.old) (D.steps disk.new) (steps_to named keeps lines.now)) }
+        TellsSteps (D.steps disk.old) (D.steps disk.new) (steps_to named keeps lines.now)) }
     ensures unnamed { OnErr result
         (StopsBefore (D.steps disk.old) (D.steps disk.new) (named_steps keeps lines.now)) }
 {
@@ -92,7 +92,7 @@ pub fn put_log<D: Disk>(disk: &mut D, lines: &LogLines, keeps: bool) -> io::Resu
 #[tactic(auto, using(crate::proofs::DiskLaws::stops_here, crate::proofs::DiskLaws::stops_behind))]
 pub(crate) fn name_written<D: Disk>(disk: &mut D, keeps: bool) -> io::Result<Named>
     ensures named { IfOk result (λ named.
-        Tells (D.steps disk.old) (D.steps disk.new) (last_steps named keeps)) }
+        TellsSteps (D.steps disk.old) (D.steps disk.new) (last_steps named keeps)) }
     ensures unnamed { OnErr result
         (StopsBefore (D.steps disk.old) (D.steps disk.new) (synced_steps keeps)) }
 {
@@ -107,7 +107,8 @@ pub(crate) fn name_written<D: Disk>(disk: &mut D, keeps: bool) -> io::Result<Nam
 /// Gives the file beside the name, once what stands there is kept where it is to be.
 #[tactic(auto, using(crate::proofs::DiskLaws::stops_here, crate::proofs::DiskLaws::stops_behind))]
 fn give_name<D: Disk>(disk: &mut D, keeps: bool) -> io::Result<()>
-    ensures named { OnOk result (Tells (D.steps disk.old) (D.steps disk.new) (naming_steps keeps)) }
+    ensures named { OnOk result
+        (TellsSteps (D.steps disk.old) (D.steps disk.new) (naming_steps keeps)) }
     ensures unnamed { OnErr result
         (StopsBefore (D.steps disk.old) (D.steps disk.new) (naming_steps keeps)) }
 {

@@ -1,6 +1,6 @@
 //! Logs that are written anew.
 ghost use Rattle.std.specs.Prelude.{◌≡◌, ℕ, List, [], Option, Some, true, IfOk, IfSome, OnErr};
-ghost use Rattle.mgr_port.specs.Disk.{Step, Tells, StopsBefore, named_steps, steps_to};
+ghost use Rattle.mgr_port.specs.Disk.{DiskStep, TellsSteps, StopsBefore, named_steps, steps_to};
 
 use crate::disk::Named;
 use std::io;
@@ -19,7 +19,7 @@ pub trait Logs {
     ghost standing: { Self → List ℕ → Option (List ℕ) };
 
     /// The steps so far, where they are told.
-    ghost steps: { Self → Option (List Step) };
+    ghost steps: { Self → Option (List DiskStep) };
 
     /// Opens the log of a name. Nobody else has it as long as it is open; an error where somebody
     /// has, and where there is no log.
@@ -39,7 +39,7 @@ pub trait Logs {
     /// file beside any more.
     fn name_next(&mut self, name: &str, log: &Self::Log, next: Self::Next) -> io::Result<Named>
         ensures named { IfOk result (λ named. IfSome (Self.Next.contents next) (λ bytes.
-            Tells (steps self.old) (steps self.new) (steps_to named true bytes))) }
+            TellsSteps (steps self.old) (steps self.new) (steps_to named true bytes))) }
         ensures unnamed { OnErr result (IfSome (Self.Next.contents next) (λ bytes.
             StopsBefore (steps self.old) (steps self.new) (named_steps true bytes))) };
 

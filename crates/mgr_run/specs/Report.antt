@@ -68,16 +68,16 @@ edited_status (Err fault) = session_status fault
 
 -- ---- the line on standard error, without its newline
 
-abbrev pub line_text : ℕ → List ℕ → List ℕ
-line_text number name = codes "line " ++ (decimal number ++ (codes ": " ++ name))
+abbrev pub line_report : ℕ → List ℕ → List ℕ
+line_report number name = codes "line " ++ (decimal number ++ (codes ": " ++ name))
 
 abbrev pub line_message : ℕ → LineFault → List ℕ
 line_message number line.Memory = codes "out of memory"
-line_message number fault = line_text number (fault_name fault)
+line_message number fault = line_report number (fault_name fault)
 
 abbrev pub refused_message : ℕ → Refusal → List ℕ
 refused_message number refusal.Memory = codes "out of memory"
-refused_message number refusal = line_text number (refusal_name refusal)
+refused_message number refusal = line_report number (refusal_name refusal)
 
 abbrev pub log_message : ReceiveFault → List ℕ
 log_message (receive.Line number fault) = line_message number fault
@@ -100,7 +100,7 @@ load_message load.Memory = codes "out of memory"
 abbrev pub show_message : ShowFault → List ℕ
 show_message (show.Line number fault) = line_message number fault
 show_message (show.Refused number refusal) = refused_message number refusal
-show_message (show.Torn number) = line_text number (codes "Torn")
+show_message (show.Torn number) = line_report number (codes "Torn")
 show_message show.Read = codes "device fault"
 show_message show.Write = codes "device fault"
 show_message show.Memory = codes "out of memory"
@@ -113,8 +113,8 @@ session_message session.Screen = codes "device fault"
 session_message session.Memory = codes "out of memory"
 
 -- what a report says
-abbrev pub message_text : Message → List ℕ
-message_text (message.Line number name) = line_text number name.now
-message_text (message.File file name) = file.now ++ (codes ": " ++ name.now)
-message_text message.Device = codes "device fault"
-message_text message.Memory = codes "out of memory"
+abbrev pub report_text : Message → List ℕ
+report_text (message.Line number name) = line_report number name.now
+report_text (message.File file name) = file.now ++ (codes ": " ++ name.now)
+report_text message.Device = codes "device fault"
+report_text message.Memory = codes "out of memory"

@@ -9,7 +9,7 @@ use Rattle.mgr_args.specs.declared.job.JobFault.{JobFault}
 use Rattle.mgr_args.specs.declared.job.JobFault.TheVariants.{Help, Version, Usage, Memory}
 use Rattle.mgr_show.specs.Log.{log_of}
 use Rattle.mgr_run.specs.Report.{edited_status, shown_status}
-use Rattle.mgr_run.specs.Telling.{Told, Tells, line, text, shown_telling, edited_telling}
+use Rattle.mgr_run.specs.Telling.{KnownTelling, TellsMore, line, text, shown_telling, edited_telling}
 use Rattle.mg_session.specs.declared.fault.SessionFault.{SessionFault}
 use Rattle.mg_session.specs.declared.fault.SessionFault.TheVariants as session
 use Rattle.mg_files.specs.Calls.{Call}
@@ -18,10 +18,10 @@ use Rattle.mg_settings.specs.Settings.{Values}
 use Rattle.mgr_args.specs.declared.given.Compaction.{Compaction}
 use Rattle.mgr_args.specs.declared.job.Job.{Job}
 use Rattle.mgr_args.specs.declared.job.Job.TheVariants.{Show, Edit, Compact}
-use Rattle.mgr_port.specs.Disk.{Step, StopsBefore, whole_steps}
-use Rattle.mgr_port.specs.Disk.{Tells as Made}
+use Rattle.mgr_port.specs.Disk.{DiskStep, StopsBefore, whole_steps}
+use Rattle.mgr_port.specs.Disk.{TellsSteps as Made}
 use Rattle.mgr_show.specs.Compacted.{KeepsContent, compacted}
-use Rattle.mgr_show.specs.Shown.{IsOfInput, Shows, BeginsToShow}
+use Rattle.mgr_show.specs.Shown.{IsOfInput, ShowsLog, BeginsToShow}
 use Rattle.mgr_show.specs.declared.fault.ShowFault.{ShowFault}
 use Rattle.mgr_show.specs.declared.fault.ShowFault.TheVariants as fault
 
@@ -31,27 +31,27 @@ use Rattle.mgr_show.specs.declared.fault.ShowFault.TheVariants as fault
 pub record Streams (R W : Type 0) : Type 0 where
   pub input : Calls R
   pub output : Calls W
-  pub told : Told
+  pub told : KnownTelling
 
 -- the port, and what was told on standard error
 pub record PortSide (P : Type 0) : Type 0 where
   pub port : P
-  pub told : Told
+  pub told : KnownTelling
 
 -- all of these
 pub record Surroundings (R W P : Type 0) : Type 0 where
   pub input : Calls R
   pub output : Calls W
   pub port : P
-  pub told : Told
+  pub told : KnownTelling
 
-abbrev pub streams : {R W : Type 0} → Calls R → Calls W → Told → Streams R W
+abbrev pub streams : {R W : Type 0} → Calls R → Calls W → KnownTelling → Streams R W
 streams input output told = record { input = input; output = output; told = told }
 
-abbrev pub port_side : {P : Type 0} → P → Told → PortSide P
+abbrev pub port_side : {P : Type 0} → P → KnownTelling → PortSide P
 port_side port told = record { port = port; told = told }
 
-abbrev pub surroundings : {R W P : Type 0} → Calls R → Calls W → P → Told → Surroundings R W P
+abbrev pub surroundings : {R W P : Type 0} → Calls R → Calls W → P → KnownTelling → Surroundings R W P
 surroundings input output port told = record { input = input; output = output; port = port; told = told }
 
 -- the bytes that are known of the input and the output, and what the port tells
@@ -61,9 +61,9 @@ pub record Knowledge (R W P : Type 0) : Type 0 where
   pub calls : P → Option (List Call)
   pub failures : P → ℕ
   pub standing : P → List ℕ → Option (List ℕ)
-  pub steps : P → Option (List Step)
+  pub steps : P → Option (List DiskStep)
 
-abbrev pub known : {R W P : Type 0} → (R → Option (List ℕ)) → (W → Option (List ℕ)) → (P → Option (List Call)) → (P → ℕ) → (P → List ℕ → Option (List ℕ)) → (P → Option (List Step)) → Knowledge R W P
+abbrev pub known : {R W P : Type 0} → (R → Option (List ℕ)) → (W → Option (List ℕ)) → (P → Option (List Call)) → (P → ℕ) → (P → List ℕ → Option (List ℕ)) → (P → Option (List DiskStep)) → Knowledge R W P
 known remaining contents calls failures standing steps =
     record { remaining = remaining; contents = contents; calls = calls; failures = failures; standing = standing; steps = steps }
 
@@ -73,8 +73,8 @@ known remaining contents calls failures standing steps =
 pub record IsStatusOfShow {R W : Type 0} (remaining : R → Option (List ℕ)) (contents : W → Option (List ℕ)) (status : ℕ) (before after : Streams R W) : Type 0 where
   pub answer : Result (Unit {0}) ShowFault
   pub exact : status ≡ shown_status answer
-  pub told_line : Tells before.told after.told (shown_telling answer)
-  pub shown : OnOk answer (OnBytes remaining before.input (Shows contents before.output after.output))
+  pub told_line : TellsMore before.told after.told (shown_telling answer)
+  pub shown : OnOk answer (OnBytes remaining before.input (ShowsLog contents before.output after.output))
   pub refused : IfErr answer (λ e. IsOfInput e → OnBytes remaining before.input (λ bytes. log_of MAX_LIMIT bytes ≡ Err e))
   pub nothing : IfErr answer (λ e. e ≢ fault.Write → e ≢ fault.Memory → WritesNothing contents before.output after.output)
   pub unwritten : IfErr answer (λ e. e ≢ fault.Write → after.output ≡ before.output)
@@ -85,10 +85,10 @@ pub record IsStatusOfShow {R W : Type 0} (remaining : R → Option (List ℕ)) (
   pub writes : CountsAs fault.Write answer before.output after.output
 
 -- That of an answer to `compact`, which says what became of the log of its name, where that is told, and what is told.
-pub record IsStatusOfCompact {P : Type 0} (standing : P → List ℕ → Option (List ℕ)) (steps : P → Option (List Step)) (c : Compaction) (status : ℕ) (before after : PortSide P) : Type 0 where
+pub record IsStatusOfCompact {P : Type 0} (standing : P → List ℕ → Option (List ℕ)) (steps : P → Option (List DiskStep)) (c : Compaction) (status : ℕ) (before after : PortSide P) : Type 0 where
   pub answer : Result (Unit {0}) ShowFault
   pub exact : status ≡ shown_status answer
-  pub told_line : Tells before.told after.told (shown_telling answer)
+  pub told_line : TellsMore before.told after.told (shown_telling answer)
   pub keeps : OnOk answer (IfSome (standing before.port (string_bytes c.name)) (λ bytes. KeepsContent c.dels bytes × Made (steps before.port) (steps after.port) (whole_steps true (compacted c.dels bytes))))
   pub refused : IfErr answer (λ e. IsOfInput e → IfSome (standing before.port (string_bytes c.name)) (λ bytes. log_of MAX_LIMIT bytes ≡ Err e))
   pub begun : OnErr answer (IfSome (standing before.port (string_bytes c.name)) (λ bytes. StopsBefore (steps before.port) (steps after.port) (whole_steps true (compacted c.dels bytes))))
@@ -99,7 +99,7 @@ module _ {R W P : Type 0} (k : Knowledge R W P) where
   pub record IsStatusOfEdit (settings : Values) (status : ℕ) (before after : Surroundings R W P) : Type 0 where
     pub answer : Result (Unit {0}) SessionFault
     pub exact : status ≡ edited_status answer
-    pub told_line : Tells before.told after.told (edited_telling answer)
+    pub told_line : TellsMore before.told after.told (edited_telling answer)
     pub ran : IsSession k.remaining k.contents settings answer (devices before.input before.output (k.calls before.port)) (devices after.input after.output (k.calls after.port))
     pub flushed : StaysFlushed session.Screen answer before.output after.output
     pub keys : CountsAs session.Keys answer before.input after.input
@@ -117,19 +117,19 @@ module _ {R W P : Type 0} (k : Knowledge R W P) where
 module _ {W : Type 0} where
   -- A text that was asked for was printed, or not: 3 exactly where standard output failed, and else 0, or 4 where
   -- memory is wanting, and then nothing was written.
-  pub record IsStatusOfPrint (status : ℕ) (old new : Calls W) (told telling : Told) : Type 0 where
+  pub record IsStatusOfPrint (status : ℕ) (old new : Calls W) (told telling : KnownTelling) : Type 0 where
     pub failed : status ≡ 3 → new.failures ≡ one_more old.failures
     pub unfailed : status ≢ 3 → new.failures ≡ old.failures
     pub others : (status ≡ 0) ⊎ (status ≡ 3) ⊎ (status ≡ 4)
     pub unwritten : status ≡ 4 → new ≡ old
     pub flushed : status ≡ 0 → new.flushed ≡ true
-    pub untold : status ≡ 0 → Tells told telling []
-    pub device : status ≡ 3 → Tells told telling (line (codes "device fault") ∷ [])
-    pub memory : status ≡ 4 → Tells told telling (line (codes "out of memory") ∷ [])
+    pub untold : status ≡ 0 → TellsMore told telling []
+    pub device : status ≡ 3 → TellsMore told telling (line (codes "device fault") ∷ [])
+    pub memory : status ≡ 4 → TellsMore told telling (line (codes "out of memory") ∷ [])
 
   -- the exit status once the fault was told
-  abbrev pub IsStatusOf : JobFault → ℕ → Calls W → Calls W → Told → Told → Type 0
+  abbrev pub IsStatusOf : JobFault → ℕ → Calls W → Calls W → KnownTelling → KnownTelling → Type 0
   IsStatusOf (Help topic help) status old new told telling = IsStatusOfPrint status old new told telling
   IsStatusOf (Version version) status old new told telling = IsStatusOfPrint status old new told telling
-  IsStatusOf (Usage mistake) status old new told telling = (status ≡ 2) × (new ≡ old) × Tells told telling (text (Usage mistake) ∷ [])
-  IsStatusOf Memory status old new told telling = (status ≡ 4) × (new ≡ old) × Tells told telling (line (codes "out of memory") ∷ [])
+  IsStatusOf (Usage mistake) status old new told telling = (status ≡ 2) × (new ≡ old) × TellsMore told telling (text (Usage mistake) ∷ [])
+  IsStatusOf Memory status old new told telling = (status ≡ 4) × (new ≡ old) × TellsMore told telling (line (codes "out of memory") ∷ [])

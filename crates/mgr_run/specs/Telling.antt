@@ -11,12 +11,12 @@ pub data Telling : Type 0 where
   text : JobFault → Telling
 
 -- all of it, where that is known
-abbrev pub Told : Type 0
-Told = Option (List Telling)
+abbrev pub KnownTelling : Type 0
+KnownTelling = Option (List Telling)
 
 -- what is known grew by these
-abbrev pub Tells : Told → Told → List Telling → Type 0
-Tells old new more = IfSome old (λ known. new ≡ Some (known ++ more))
+abbrev pub TellsMore : KnownTelling → KnownTelling → List Telling → Type 0
+TellsMore old new more = IfSome old (λ known. new ≡ Some (known ++ more))
 
 -- what is told of an answer: the line of its fault, and nothing where there is none
 abbrev pub shown_telling : Result (Unit {0}) ShowFault → List Telling

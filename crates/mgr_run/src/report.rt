@@ -32,7 +32,7 @@ pub enum Message {
 }
 
 impl fmt::Display for Report {
-    ghost output = { λ report. Some (spec.message_text report.message) };
+    ghost output = { λ report. Some (spec.report_text report.message) };
 
     fn fmt<W: fmt::Write>(&self, f: &mut fmt::Formatter<W>) -> fmt::Result {
         match self.message {
@@ -74,7 +74,7 @@ impl Report {
     /// 3 and `device fault`, and where memory was wanting 4 and `out of memory`.
     pub fn of_show(fault: &ShowFault) -> Report
         ensures status { result.status ≡ spec.show_status fault.now }
-        ensures text { spec.message_text result.message ≡ spec.show_message fault.now }
+        ensures text { spec.report_text result.message ≡ spec.show_message fault.now }
     {
         match *fault {
             ShowFault::Memory => Report::memory(),
@@ -92,7 +92,7 @@ impl Report {
     /// a buffer. Devices and memory as for `mgr show`.
     pub fn of_session(fault: &SessionFault) -> Report
         ensures status { result.status ≡ spec.session_status fault.now }
-        ensures text { spec.message_text result.message ≡ spec.session_message fault.now }
+        ensures text { spec.report_text result.message ≡ spec.session_message fault.now }
     {
         match *fault {
             SessionFault::Load(fault) => of_load(fault),
@@ -112,7 +112,7 @@ fn refused(message: Message) -> Report
 
 fn of_line(line: u64, fault: LineFault) -> Report
     ensures status { result.status ≡ spec.line_status fault }
-    ensures text { spec.message_text result.message ≡ spec.line_message line fault }
+    ensures text { spec.report_text result.message ≡ spec.line_message line fault }
 {
     match fault {
         LineFault::Memory => Report::memory(),
@@ -122,7 +122,7 @@ fn of_line(line: u64, fault: LineFault) -> Report
 
 fn of_refused(line: u64, refusal: Refusal) -> Report
     ensures status { result.status ≡ spec.refusal_status refusal }
-    ensures text { spec.message_text result.message ≡ spec.refused_message line refusal }
+    ensures text { spec.report_text result.message ≡ spec.refused_message line refusal }
 {
     match refusal {
         Refusal::Memory => Report::memory(),
@@ -132,7 +132,7 @@ fn of_refused(line: u64, refusal: Refusal) -> Report
 
 fn of_load(fault: LoadFault) -> Report
     ensures status { result.status ≡ spec.load_status fault }
-    ensures text { spec.message_text result.message ≡ spec.load_message fault }
+    ensures text { spec.report_text result.message ≡ spec.load_message fault }
 {
     match fault {
         LoadFault::Log(fault) => of_log(fault),
@@ -144,7 +144,7 @@ fn of_load(fault: LoadFault) -> Report
 
 fn of_log(fault: ReceiveFault) -> Report
     ensures status { result.status ≡ spec.log_status fault }
-    ensures text { spec.message_text result.message ≡ spec.log_message fault }
+    ensures text { spec.report_text result.message ≡ spec.log_message fault }
 {
     match fault {
         ReceiveFault::Line(line, fault) => of_line(line, fault),

@@ -1,7 +1,7 @@
 //! The job of the command line, done, and what the shell is told of it.
 ghost use Rattle.std.specs.Prelude.{◌≡◌, ◌≤◌, [], ◌∷◌, IfErr, MatchResult};
-ghost use Rattle.mgr_run.specs.Report.{message_text};
-ghost use Rattle.mgr_run.specs.Telling.{Tells, line};
+ghost use Rattle.mgr_run.specs.Report.{report_text};
+ghost use Rattle.mgr_run.specs.Telling.{TellsMore, line};
 ghost use Rattle.mgr_run.specs.Status as status;
 ghost use Rattle.mgr_run.specs.Peers as spec;
 
@@ -175,8 +175,8 @@ fn print<D: Display, W: Write, T: Tell>(
 /// Tells of a fault, and answers its exit status.
 fn told<T: Tell>(errors: &mut T, report: Report) -> u8
     ensures status { result ≡ report.status }
-    ensures told { Tells (T.told errors.old) (T.told errors.new)
-        (line (message_text report.message) ∷ []) }
+    ensures told { TellsMore (T.told errors.old) (T.told errors.new)
+        (line (report_text report.message) ∷ []) }
 {
     errors.tell(report);
     report.status

@@ -1,7 +1,7 @@
 //! What is told beside what is written.
 ghost use Rattle.std.specs.Prelude.{[], ◌∷◌};
-ghost use Rattle.mgr_run.specs.Report.{message_text};
-ghost use Rattle.mgr_run.specs.Telling.{Told, Tells, line, text};
+ghost use Rattle.mgr_run.specs.Report.{report_text};
+ghost use Rattle.mgr_run.specs.Telling.{KnownTelling, TellsMore, line, text};
 
 use crate::report::Report;
 use mgr_args::JobFault;
@@ -11,15 +11,16 @@ use std::io::Eprint;
 /// so.
 pub trait Tell {
     /// What was told so far, where that is known.
-    ghost told: { Self → Told };
+    ghost told: { Self → KnownTelling };
 
     /// Tells the line of a report.
     fn tell(&mut self, report: Report)
-        ensures { Tells (told self.old) (told self.new) (line (message_text report.message) ∷ []) };
+        ensures { TellsMore (told self.old) (told self.new)
+            (line (report_text report.message) ∷ []) };
 
     /// Tells the text of a fault of the command line.
     fn tell_text(&mut self, fault: &JobFault)
-        ensures { Tells (told self.old) (told self.new) (text fault.now ∷ []) };
+        ensures { TellsMore (told self.old) (told self.new) (text fault.now ∷ []) };
 }
 
 /// Standard error, of which nothing is known.

@@ -19,16 +19,16 @@ use Rattle.rga_exchange.specs.Log.{LogOutcome, log_outcome}
 use Rattle.rga_exchange.proofs.OperationLaws.{log_taken}
 use Rattle.mgr_show.specs.declared.fault.ShowFault.{ShowFault}
 use Rattle.mgr_show.specs.declared.fault.ShowFault.TheVariants as fault
-use Rattle.mgr_show.specs.Log.{Outcome, show_fault, at_end, outcome_of, shown_from, log_of}
-use Rattle.mgr_show.specs.Shown.{text_bytes, log_content, IsAccepted, IsTextOf, Shows, BeginsToShow}
+use Rattle.mgr_show.specs.Log.{ShowOutcome, show_fault, at_end, outcome_of, shown_from, log_of}
+use Rattle.mgr_show.specs.Shown.{shown_bytes, log_content, IsAccepted, IsTextOf, ShowsLog, BeginsToShow}
 
-abbrev shows_it : Content → Outcome
+abbrev shows_it : Content → ShowOutcome
 shows_it c = Ok c
 
 abbrev outcome : Content → Result LogRead LogFault → LogOutcome
 outcome c r = (c, r)
 
-abbrev fails : ShowFault → Outcome
+abbrev fails : ShowFault → ShowOutcome
 fails e = Err e
 
 -- a log whose text is shown was read to its end
@@ -72,12 +72,12 @@ pub content_of_input : (known : Option (List ℕ)) (limit : ℕ) (start c : Cont
 content_of_input None limit start c same empty h = tt
 content_of_input (Some bytes) limit start c same empty h = content_of_log bytes c (sym (λ k. shown_from (same k) (empty k) bytes) ∙ h)
 
-text_of_content : (known : Option (List ℕ)) (c : Content) (written : List ℕ) → IfSome known (λ bytes. IsContentOf bytes c) → written ≡ text_bytes c → IfSome known (λ bytes. IsTextOf bytes written)
+text_of_content : (known : Option (List ℕ)) (c : Content) (written : List ℕ) → IfSome known (λ bytes. IsContentOf bytes c) → written ≡ shown_bytes c → IfSome known (λ bytes. IsTextOf bytes written)
 text_of_content None c written h is = tt
-text_of_content (Some bytes) c written h is = record { accepted = h.accepted; is = is ∙ ap text_bytes h.is }
+text_of_content (Some bytes) c written h is = record { accepted = h.accepted; is = is ∙ ap shown_bytes h.is }
 
 pub text_of_input : (known : Option (List ℕ)) (limit : ℕ) (start c : Content) (written : List ℕ) → limit ≡ MAX_LIMIT → start ≡ nothing
-    → IfSome known (λ bytes. shown_from limit start bytes ≡ Ok c) → written ≡ text_bytes c → IfSome known (λ bytes. IsTextOf bytes written)
+    → IfSome known (λ bytes. shown_from limit start bytes ≡ Ok c) → written ≡ shown_bytes c → IfSome known (λ bytes. IsTextOf bytes written)
 text_of_input known limit start c written same empty h is = text_of_content known c written (content_of_input known limit start c same empty h) is
 
 -- what holds of the fault holds of an answer that is it
@@ -89,7 +89,7 @@ pub written_of : (known : Option (List ℕ)) (made written : List ℕ) → writt
 written_of known made written same h = subst (λ w. IfSome known (λ bytes. IsTextOf bytes w)) (sym same) h
 
 module _ {W : Type 0} (contents : W → Option (List ℕ)) where
-  pub shows : (known : Option (List ℕ)) (old new : Calls W) (written : List ℕ) → IfSome known (λ bytes. IsTextOf bytes written) → Writes contents old new written → IfSome known (λ bytes. Shows contents old new bytes)
+  pub shows : (known : Option (List ℕ)) (old new : Calls W) (written : List ℕ) → IfSome known (λ bytes. IsTextOf bytes written) → Writes contents old new written → IfSome known (λ bytes. ShowsLog contents old new bytes)
   shows None old new written h w = tt
   shows (Some bytes) old new written h w = record { accepted = h.accepted; written = subst (λ l. Writes contents old new l) h.is w }
 

@@ -11,8 +11,8 @@ use Rattle.mgr_show.specs.declared.fault.ShowFault.{ShowFault}
 use Rattle.mgr_show.specs.declared.fault.ShowFault.TheVariants as fault
 
 -- the content of a log, or why its text is not shown
-abbrev pub Outcome : Type 0
-Outcome = Result Content ShowFault
+abbrev pub ShowOutcome : Type 0
+ShowOutcome = Result Content ShowFault
 
 abbrev pub show_fault : LogFault → ShowFault
 show_fault (log.Line n e) = fault.Line n e
@@ -21,19 +21,19 @@ show_fault log.Read = fault.Read
 show_fault log.Memory = fault.Memory
 
 -- behind n lines; a line that was cut off is the next one
-abbrev pub at_end : Content → ℕ → LogEnd → Outcome
+abbrev pub at_end : Content → ℕ → LogEnd → ShowOutcome
 at_end c n Whole = Ok c
 at_end c n Bare = Ok c
 at_end c n (Torn bytes) = Err (fault.Torn (n + 1))
 
-abbrev pub outcome_of : Content → Result LogRead LogFault → Outcome
+abbrev pub outcome_of : Content → Result LogRead LogFault → ShowOutcome
 outcome_of c (Ok read) = at_end c read.lines read.end
 outcome_of c (Err e) = Err (show_fault e)
 
 -- what a log leads to, at a store that may know that many identifiers and holds c
-abbrev pub shown_from : ℕ → Content → List ℕ → Outcome
+abbrev pub shown_from : ℕ → Content → List ℕ → ShowOutcome
 shown_from limit c bytes = let p = log_outcome limit c bytes in outcome_of p.0 p.1
 
 -- a whole log
-abbrev pub log_of : ℕ → List ℕ → Outcome
+abbrev pub log_of : ℕ → List ℕ → ShowOutcome
 log_of limit bytes = shown_from limit nothing bytes

@@ -19,8 +19,8 @@ IsOfInput fault.Write = ⊥
 IsOfInput fault.Memory = ⊥
 
 -- the text of a content in UTF-8
-abbrev pub text_bytes : Content → List ℕ
-text_bytes c = encode_utf8_all (text c)
+abbrev pub shown_bytes : Content → List ℕ
+shown_bytes c = encode_utf8_all (text c)
 
 -- the content of the operations of a log
 abbrev pub log_content : List ℕ → Content
@@ -34,15 +34,15 @@ pub record IsAccepted (bytes : List ℕ) : Type 0 where
 -- the text that was made of it
 pub record IsTextOf (bytes : List ℕ) (written : List ℕ) : Type 0 where
   pub accepted : IsAccepted bytes
-  pub is : written ≡ text_bytes (log_content bytes)
+  pub is : written ≡ shown_bytes (log_content bytes)
 
 module _ {W : Type 0} (contents : W → Option (List ℕ)) (old new : Calls W) where
   -- the text of an accepted log was written
-  pub record Shows (bytes : List ℕ) : Type 0 where
+  pub record ShowsLog (bytes : List ℕ) : Type 0 where
     pub accepted : IsAccepted bytes
-    pub written : Writes contents old new (text_bytes (log_content bytes))
+    pub written : Writes contents old new (shown_bytes (log_content bytes))
 
   -- a beginning of it was written
   pub record BeginsToShow (bytes : List ℕ) : Type 0 where
     pub accepted : IsAccepted bytes
-    pub begun : WritesFront contents old new (text_bytes (log_content bytes))
+    pub begun : WritesFront contents old new (shown_bytes (log_content bytes))

@@ -6,7 +6,7 @@ ghost use Rattle.rga_lines.specs.Counting.{CountsAs, OnBytes, Writes, WritesFron
 ghost use Rattle.rga_exchange.specs.Taking.{HasTakenWholeLines};
 ghost use Rattle.rga_exchange.specs.declared.taking.Form.TheVariants.{Log};
 ghost use Rattle.mgr_show.specs.Log.{log_of, shown_from};
-ghost use Rattle.mgr_show.specs.Shown.{IsOfInput, IsTextOf, Shows, BeginsToShow};
+ghost use Rattle.mgr_show.specs.Shown.{IsOfInput, IsTextOf, ShowsLog, BeginsToShow};
 
 use crate::fault::ShowFault;
 use crate::text::text_string;
@@ -28,7 +28,7 @@ pub fn show_ops<R: Read, W: Write>(
     writer: &mut Counted<W>,
 ) -> Result<(), ShowFault>
     ensures shown { OnOk result (OnBytes R.remaining reader.old
-        (λ bytes. Shows W.contents writer.old writer.new bytes)) }
+        (λ bytes. ShowsLog W.contents writer.old writer.new bytes)) }
 
     // A fault of the input is the first one of its bytes, however the reads cut them.
     ensures refused { IfErr result (λ e. IsOfInput e → OnBytes R.remaining reader.old

@@ -1,6 +1,6 @@
 //! Cursors that no window shows.
 ghost use Rattle.std.specs.Prelude.{◌≡◌, ◌≤◌, length, IfOk};
-ghost use Rattle.mg_screen.specs.Frame.{rows_of};
+ghost use Rattle.mg_screen.specs.Frame.{screen_rows};
 
 use crate::plans::chars_of;
 use mg_buffer::line_of;
@@ -32,7 +32,7 @@ fn pane_over<'a>(
 /// A window from line 0 on, and one from line 1 on below it.
 fn screen_over<'a>(alloc: Global, text: &'a [char], point: usize) -> Result<Screen<'a>, FrameFault>
     requires { point ≤ length text.now }
-    ensures { IfOk result (λ s. rows_of s ≡ 7) }
+    ensures { IfOk result (λ s. screen_rows s ≡ 7) }
 {
     let mut panes = Vec::new(alloc);
     if let Err(refused) = panes.push(pane_over(alloc, text, point, 0)?) {

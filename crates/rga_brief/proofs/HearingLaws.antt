@@ -18,7 +18,7 @@ use Rattle.rga_digest_lines.specs.declared.claim.Claim.{Claim}
 use Rattle.rga_brief.specs.Heard.{HasHeard}
 use Rattle.rga_brief.specs.Lines.{claim_line_at}
 use Rattle.rga_brief.proofs.LineLaws.{too_long}
-use Rattle.rga_brief.specs.Told.{after_line, lines_heard, bytes_heard, summary_heard}
+use Rattle.rga_brief.specs.Told.{after_claim_line, lines_heard, bytes_heard, summary_heard}
 use Rattle.rga_brief.specs.declared.hearing.TheConstants.{BLOCK}
 use Rattle.rga_brief.specs.declared.claim_line.ClaimLine.{ClaimLine}
 
@@ -30,14 +30,14 @@ failed e = Err e
 -- a line, or a rest, that is too long
 pub begins_long : (claims : List Claim) (lines : List (List ℕ)) (rest : List ℕ) → BeginsLong lines rest → lines_heard claims lines rest ≡ Err (fault.Line (length claims + 1) line_fault.Long)
 begins_long claims [] rest h = ap (λ b. cond b (failed (fault.Line (length claims + 1) line_fault.Long)) (failed fault.Cut)) (lt-ltb MAX_LINE (length rest) h)
-begins_long claims (line ∷ lines) rest h = ap (λ r. after_line claims r (λ more. lines_heard more lines rest)) (too_long line h)
+begins_long claims (line ∷ lines) rest h = ap (λ r. after_claim_line claims r (λ more. lines_heard more lines rest)) (too_long line h)
 
 -- the next line, whatever follows what waits
 pub next_heard : (s t : Splitting) (line : List ℕ) (claims : List Claim) (r : Result ClaimLine LineFault) → GivesLine s t line → claim_line_at line ≡ r → (more : List ℕ)
-    → bytes_heard claims (s.waiting ++ more) ≡ after_line claims r (λ cs. bytes_heard cs (t.waiting ++ more))
+    → bytes_heard claims (s.waiting ++ more) ≡ after_claim_line claims r (λ cs. bytes_heard cs (t.waiting ++ more))
 next_heard s t line claims r given says more =
     (λ k. lines_heard claims (given.lines more k) (given.rest more k))
-    ∙ ap (λ x. after_line claims x (λ cs. bytes_heard cs (t.waiting ++ more))) says
+    ∙ ap (λ x. after_claim_line claims x (λ cs. bytes_heard cs (t.waiting ++ more))) says
 
 -- where no line waits, and nothing follows
 pub none_waits : (claims : List Claim) (waiting : List ℕ) → lines_of waiting ≡ [] → length waiting ≤ MAX_LINE → bytes_heard claims (waiting ++ []) ≡ Err fault.Cut

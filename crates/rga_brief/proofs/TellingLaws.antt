@@ -42,7 +42,7 @@ use Rattle.rga_digest_lines.proofs.LineLaws.{line_of, one_line}
 use Rattle.rga_digest_lines.proofs.SummaryLaws.{comes_back}
 use Rattle.rga_brief.specs.Lines.{claim_line_at, end_said}
 use Rattle.rga_brief.proofs.LineLaws.{said}
-use Rattle.rga_brief.specs.Told.{IsTold, TellsSummary, claim_lines, summary_text, summary_or, after_line, lines_heard, summary_heard}
+use Rattle.rga_brief.specs.Told.{IsTold, TellsSummary, claim_lines, summary_text, summary_or, after_claim_line, lines_heard, summary_heard}
 use Rattle.rga_brief.specs.declared.claim_line.ClaimLine.TheVariants.{One, Last}
 
 -- the halves of a digest are numbers of the types
@@ -142,7 +142,7 @@ end_at n h =
 claims_heard : (before claims : List Claim) (lines : List (List ℕ)) (rest : List ℕ) → AllByRecursion IsInRange claims → lines_heard before (map claim_line claims ++ lines) rest ≡ lines_heard (before ++ claims) lines rest
 claims_heard before [] lines rest h = ap (λ (cs : List Claim). lines_heard cs lines rest) (sym (append-nil before))
 claims_heard before (claim ∷ claims) lines rest h =
-    ap (λ r. after_line before r (λ more. lines_heard more (map claim_line claims ++ lines) rest)) (claim_at claim h.0)
+    ap (λ r. after_claim_line before r (λ more. lines_heard more (map claim_line claims ++ lines) rest)) (claim_at claim h.0)
     ∙ claims_heard (before ++ claim ∷ []) claims lines rest h.1
     ∙ ap (λ (cs : List Claim). lines_heard cs lines rest) (append_assoc before (claim ∷ []) claims)
 
@@ -157,7 +157,7 @@ pub told_is_heard : (c : Content) (s : Summary) → IsSummary c s → AllByRecur
 told_is_heard c s is range few =
     (λ k. lines_heard [] (sym cut.0 k) (sym cut.1 k))
     ∙ claims_heard [] claims (end_line n ∷ []) [] range
-    ∙ ap (λ r. after_line claims r (λ more. lines_heard more [] [])) (end_at n few)
+    ∙ ap (λ r. after_claim_line claims r (λ more. lines_heard more [] [])) (end_at n few)
     ∙ ap (λ b. cond b (summary_or (n + 1) (summary_from claims)) (failed Count)) (eq-eqb n n refl)
     ∙ ap (summary_or (n + 1)) (comes_back c s is)
   where

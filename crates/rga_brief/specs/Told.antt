@@ -39,10 +39,10 @@ abbrev pub ended : List Claim → ℕ → Result Summary ReceiveFault
 ended claims number = if number == length claims then summary_or (length claims + 1) (summary_from claims) else Err fault.Count
 
 -- behind these claims, what comes of a line, and then of the lines behind it
-abbrev pub after_line : List Claim → Result ClaimLine LineFault → (List Claim → Result Summary ReceiveFault) → Result Summary ReceiveFault
-after_line claims (Ok (One claim)) behind = behind (claims ++ claim ∷ [])
-after_line claims (Ok (Last number)) behind = ended claims number
-after_line claims (Err e) behind = Err (fault.Line (length claims + 1) e)
+abbrev pub after_claim_line : List Claim → Result ClaimLine LineFault → (List Claim → Result Summary ReceiveFault) → Result Summary ReceiveFault
+after_claim_line claims (Ok (One claim)) behind = behind (claims ++ claim ∷ [])
+after_claim_line claims (Ok (Last number)) behind = ended claims number
+after_claim_line claims (Err e) behind = Err (fault.Line (length claims + 1) e)
 
 -- where all lines are claims; a rest that is too long is the fault of a line
 abbrev pub unended : List Claim → List ℕ → Result Summary ReceiveFault
@@ -51,7 +51,7 @@ unended claims rest = if nat_lt MAX_LINE (length rest) then Err (fault.Line (len
 -- behind these claims, what comes of lines in turn and a rest
 abbrev pub lines_heard : List Claim → List (List ℕ) → List ℕ → Result Summary ReceiveFault
 lines_heard claims [] rest = unended claims rest
-lines_heard claims (line ∷ lines) rest = after_line claims (claim_line_at line) (λ more. lines_heard more lines rest)
+lines_heard claims (line ∷ lines) rest = after_claim_line claims (claim_line_at line) (λ more. lines_heard more lines rest)
 
 -- and of bytes
 abbrev pub bytes_heard : List Claim → List ℕ → Result Summary ReceiveFault

@@ -19,7 +19,7 @@ use Rattle.rga_ops.proofs.OperationLaws.{get-single, content_of-append}
 use Rattle.rga_ops.specs.declared.op.Op.{Op}
 use Rattle.rga_ops.specs.declared.op.Op.TheVariants.{Insert, Delete}
 use Rattle.rga_digest.specs.declared.ranges.KnownRange.{KnownRange}
-use Rattle.rga_digest.specs.Ranges.{is_in, is_filled, AreFilled, is_known, is_apart, rise_behind, are_rising, starts_by, range_cmp, touches, meets, joined}
+use Rattle.rga_digest.specs.Ranges.{is_in, is_filled, AreFilledRanges, is_known, is_apart, rise_behind, are_rising, starts_by, range_cmp, touches, meets, joined}
 
 both_hold : (a b : Bool) → a ≡ true → b ≡ true → (a && b) ≡ true
 both_hold a b p q = λ k. p k && q k
@@ -156,11 +156,11 @@ same_apart None r last = refl
 same_apart (Some z) r last = refl
 
 -- and rises
-joined_rises : (before : Option KnownRange) (r : KnownRange) (ps : List KnownRange) → is_apart before r ≡ true → is_filled r ≡ true → AreFilled ps → in_order r ps ≡ true → rise_behind before (joined_on r ps) ≡ true
+joined_rises : (before : Option KnownRange) (r : KnownRange) (ps : List KnownRange) → is_apart before r ≡ true → is_filled r ≡ true → AreFilledRanges ps → in_order r ps ≡ true → rise_behind before (joined_on r ps) ≡ true
 joined_rises before r [] apart filled all up = both_hold (is_apart before r && is_filled r) true (both_hold (is_apart before r) (is_filled r) apart filled) refl
 joined_rises before r (p ∷ ps) apart filled all up =
     let parts : (starts_by (identifier p.first p.replica) r ≡ true) × (in_order p ps ≡ true) = and_parts (starts_by (identifier p.first p.replica) r) (in_order p ps) up in
-    let rest : AreFilled ps = λ k d l. all (suc k) d (omega arith) in
+    let rest : AreFilledRanges ps = λ k d l. all (suc k) d (omega arith) in
     let last : ℕ = cond (nat_lt r.last p.last) p.last r.last in
     by (meets r p) refl parts.0
     (joined_rises before (joined r p) ps (same_apart before r last ∙ apart) (longer r.first r.last p.last filled) rest (earlier r p ps last parts.0 parts.1))
@@ -177,7 +177,7 @@ pub all_known : (ps : List KnownRange) (id : Identifier) → IsSorted range_cmp 
 all_known [] id up = refl
 all_known (r ∷ rs) id up = joined_knows r rs id (order_from_sorted r rs up)
 
-pub all_rising : (ps : List KnownRange) → IsSorted range_cmp ps → AreFilled ps → are_rising (joined_all ps) ≡ true
+pub all_rising : (ps : List KnownRange) → IsSorted range_cmp ps → AreFilledRanges ps → are_rising (joined_all ps) ≡ true
 all_rising [] up all = refl
 all_rising (r ∷ rs) up all = joined_rises None r rs refl (all 0 r (omega arith)) (λ k d l. all (suc k) d (omega arith)) (order_from_sorted r rs up)
 

@@ -42,8 +42,8 @@ starts_by id r = nat_lt r.replica id.replica || ((r.replica == id.replica) && na
 abbrev pub touches : KnownRange → Identifier → Bool
 touches r id = (r.replica == id.replica) && (r.last + 1 == id.counter)
 
-abbrev pub AreFilled : List KnownRange → Type 0
-AreFilled rs = All (λ r. is_filled r ≡ true) rs
+abbrev pub AreFilledRanges : List KnownRange → Type 0
+AreFilledRanges rs = All (λ r. is_filled r ≡ true) rs
 
 -- by replica, by the first counter and then by the last
 abbrev pub range_cmp : KnownRange → KnownRange → Ordering

@@ -2,7 +2,7 @@
 ghost use Rattle.std.specs.Prelude.{◌≡◌, ◌||◌, ◌&&◌, ◌<◌, true, length, nat_le, slice_index_or, Some, None, IfSome, IfOk, IfErr, OnOk, if◌then◌else◌};
 ghost use Rattle.std.specs.List.Sorted.{IsSorted};
 ghost use Rattle.rga_ops.specs.Identifier.{Identifier, is_id};
-ghost use Rattle.rga_digest.specs.Ranges.{is_in, is_filled, AreFilled, is_known, is_apart, are_rising, starts_by, range_cmp, touches, meets, joined};
+ghost use Rattle.rga_digest.specs.Ranges.{is_in, is_filled, AreFilledRanges, is_known, is_apart, are_rising, starts_by, range_cmp, touches, meets, joined};
 ghost use Rattle.rga_digest.specs.declared.ranges.KnownRange.{KnownRange as RangeName};
 
 use rga_ops::{Id, Refusal};
@@ -114,8 +114,8 @@ pub(crate) fn have(ranges: &[KnownRange], index: &mut usize, id: Id) -> bool
 
 /// An identifier goes on one of the last ranges, or begins one. `Memory` alone.
 pub(crate) fn add_counter(parts: &mut Vec<KnownRange>, id: Id) -> Result<(), Refusal>
-    requires { AreFilled parts.old.items }
-    ensures filled { AreFilled parts.new.items }
+    requires { AreFilledRanges parts.old.items }
+    ensures filled { AreFilledRanges parts.new.items }
     ensures known { OnOk result ((other : Identifier) →
         is_known parts.new.items other ≡ (is_known parts.old.items other || is_id id other)) }
     ensures memory { IfErr result (λ e. e ≡ Refusal.Memory) }
@@ -151,7 +151,7 @@ fn touched(parts: &Vec<KnownRange>, id: Id) -> Option<usize>
 /// Ranges in order, as ranges of the same that rise and do not touch. `Memory` alone.
 pub(crate) fn join_parts(alloc: Global, parts: &[KnownRange]) -> Result<Vec<KnownRange>, Refusal>
     requires sorted { IsSorted range_cmp parts.now }
-    requires filled { AreFilled parts.now }
+    requires filled { AreFilledRanges parts.now }
     ensures rising { IfOk result (λ ranges. are_rising ranges.items ≡ true) }
     ensures known { IfOk result (λ ranges. (id : Identifier) →
         is_known ranges.items id ≡ is_known parts.now id) }

@@ -17,14 +17,14 @@ pub(crate) struct ToldRanges {
 
 impl Model for ToldRanges {
     ghost use Rattle.std.specs.Prelude.{List};
-    ghost use Rattle.rga_digest.specs.Ranges.{AreFilled};
+    ghost use Rattle.rga_digest.specs.Ranges.{AreFilledRanges};
     ghost use Rattle.rga_digest.specs.declared.ranges.KnownRange.{KnownRange as RangeName};
 
     ghost Value = { List RangeName };
 
     ghost view = { λ told. told.parts.items };
 
-    ghost invariant = { λ told. AreFilled told.parts.items };
+    ghost invariant = { λ told. AreFilledRanges told.parts.items };
 }
 
 impl Listener for ToldRanges {

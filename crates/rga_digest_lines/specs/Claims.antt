@@ -15,15 +15,15 @@ abbrev pub has_members : ℕ → Data → Bool
 has_members count d = option_map_or (λ ms. members_len ms == count) (as_object d) false
 
 -- a member that is a whole number below 2 ^ 64
-abbrev pub number_at : List ℕ → Data → Option ℕ
-number_at name d = option_and_then (λ x. option_and_then as_u64 (as_number x)) (get name d)
+abbrev pub number_member : List ℕ → Data → Option ℕ
+number_member name d = option_and_then (λ x. option_and_then as_u64 (as_number x)) (get name d)
 
 -- a number where it is below a bound
 abbrev pub below : ℕ → ℕ → Option ℕ
 below bound n = if nat_lt n bound then Some n else None
 
 abbrev pub number_below : ℕ → List ℕ → Data → Option ℕ
-number_below bound name d = option_and_then (below bound) (number_at name d)
+number_below bound name d = option_and_then (below bound) (number_member name d)
 
 -- ---- a range
 
@@ -32,7 +32,7 @@ range_of (Some replica) (Some first) (Some last) = Some (Known (record { replica
 range_of _ _ _ = None
 
 abbrev pub known_in : Data → Option Claim
-known_in d = if has_members 4 d then range_of (number_below 65536 (codes "replica") d) (number_at (codes "first") d) (number_at (codes "last") d) else None
+known_in d = if has_members 4 d then range_of (number_below 65536 (codes "replica") d) (number_member (codes "first") d) (number_member (codes "last") d) else None
 
 -- ---- a digest
 
@@ -40,18 +40,18 @@ abbrev pub digest_of : Option ℕ → Option ℕ → Option ℕ → Option ℕ �
 digest_of (Some replica) (Some block) (Some high) (Some low) = Some (Deleted (record { replica = replica; number = block }) (high * HALF + low))
 digest_of _ _ _ _ = None
 
-abbrev pub deleted_in : Data → Option Claim
-deleted_in d =
-    if has_members 5 d then digest_of (number_below 65536 (codes "replica") d) (number_at (codes "block") d) (number_below HALF (codes "high") d) (number_below HALF (codes "low") d)
+abbrev pub deleted_claim : Data → Option Claim
+deleted_claim d =
+    if has_members 5 d then digest_of (number_below 65536 (codes "replica") d) (number_member (codes "block") d) (number_below HALF (codes "high") d) (number_below HALF (codes "low") d)
     else None
 
 -- ---- either
 
-abbrev pub named : Data → List ℕ → Option Claim
-named d name = if bytes_eq name (codes "known") then known_in d else if bytes_eq name (codes "deleted") then deleted_in d else None
+abbrev pub claim_named : Data → List ℕ → Option Claim
+claim_named d name = if bytes_eq name (codes "known") then known_in d else if bytes_eq name (codes "deleted") then deleted_claim d else None
 
 abbrev pub claim_of : Data → Option Claim
-claim_of d = option_and_then (named d) (option_and_then as_str (get (codes "op") d))
+claim_of d = option_and_then (claim_named d) (option_and_then as_str (get (codes "op") d))
 
 -- what a text says
 abbrev pub claim_in : List ℕ → Option Claim

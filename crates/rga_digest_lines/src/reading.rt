@@ -1,7 +1,7 @@
 //! Lines read.
 ghost use Rattle.std.specs.Prelude.{◌≡◌, IfOk, IfErr};
 ghost use Rattle.serde_json.specs.View.{view};
-ghost use Rattle.rga_digest_lines.specs.Claims.{claim_in, claim_of, deleted_in, has_members, known_in, number_at};
+ghost use Rattle.rga_digest_lines.specs.Claims.{claim_in, claim_of, deleted_claim, has_members, known_in, number_member};
 
 use crate::claim::{Claim, HALF};
 use rga_digest::{Block, KnownRange};
@@ -65,7 +65,7 @@ fn known(value: &Value) -> Option<Claim>
 }
 
 fn deleted(value: &Value) -> Option<Claim>
-    ensures { result ≡ deleted_in (view value.now) }
+    ensures { result ≡ deleted_claim (view value.now) }
 {
     if !has_members(value, 5) {
         return None;
@@ -95,7 +95,7 @@ fn has_members(value: &Value, count: usize) -> bool
 
 /// The whole number below 2 ^ 64 that a member is.
 fn number(value: &Value, name: &str) -> Option<u64>
-    ensures { result ≡ number_at name.now (view value.now) }
+    ensures { result ≡ number_member name.now (view value.now) }
 {
     value.get(name)?.as_u64()
 }

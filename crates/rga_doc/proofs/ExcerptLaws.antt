@@ -13,7 +13,7 @@ use Rattle.rga_ops.specs.declared.op.Op.{Op}
 use Rattle.rga_ops.specs.declared.op.Op.TheVariants.{Delete}
 use Rattle.rga_ops.proofs.VisibleLaws.{text_long}
 use Rattle.rga_doc.specs.Excerpt.{Excerpted, excerpt, begin_of}
-use Rattle.rga_doc.specs.LocalEdit.{left_of, chain, operations_at, draft_operations, splice_operations, splices_operations, splices_answer}
+use Rattle.rga_doc.specs.LocalEdit.{left_of, chain, splice_operations_at, draft_operations, splice_operations, splices_operations, splices_answer}
 use Rattle.rga_characters.proofs.SplicedLists.{part}
 use Rattle.rga_doc.proofs.SplicedLists.{same_drop_left, left_of-take}
 use Rattle.rga_doc.proofs.EditLaws.{allowed}
@@ -96,7 +96,7 @@ module _ (xs : List Identifier) (begin end : ℕ) (up : begin ≤ end) (within :
       same_drop_left items (take end xs) j (same_from j (omega (arith, from)))
       ∙ sym (left_of-take (take end xs) (suc j)) ∙ ap (λ ys. left_of ys (suc j)) (take-take (suc j) end xs to) ∙ left_of-take xs (suc j)
 
-  pub same_operations : (replica last lo hi : ℕ) (put : List ℕ) → begin ≤ lo → lo ≤ hi → hi ≤ end → operations_at items replica last lo hi put ≡ operations_at xs replica last lo hi put
+  pub same_operations : (replica last lo hi : ℕ) (put : List ℕ) → begin ≤ lo → lo ≤ hi → hi ≤ end → splice_operations_at items replica last lo hi put ≡ splice_operations_at xs replica last lo hi put
   same_operations replica last lo hi put from ordered to =
       λ k. map Delete (same_part lo hi (omega (arith, from)) ordered to k) ++ chain replica last (same_left_there lo from (omega (arith, ordered, to)) k) put
 
@@ -111,10 +111,10 @@ module _ (xs : List Identifier) (begin end : ℕ) (up : begin ≤ end) (within :
 -- ---- the operations of an edit, by an excerpt
 
 -- operations that were added to none are those of the splice
-pub splice_by_excerpt : (replica lo hi : ℕ) (c : Content) (put : List ℕ) (ops first : List Op) (e : Excerpted) (own last : ℕ) → lo ≤ hi → hi ≤ length (visible c) → first ≡ [] → own ≡ replica → last ≡ clock_of c → e ≡ excerpt (visible c) lo hi → ops ≡ first ++ operations_at e.items own last lo hi put → ops ≡ splice_operations replica c lo hi put
+pub splice_by_excerpt : (replica lo hi : ℕ) (c : Content) (put : List ℕ) (ops first : List Op) (e : Excerpted) (own last : ℕ) → lo ≤ hi → hi ≤ length (visible c) → first ≡ [] → own ≡ replica → last ≡ clock_of c → e ≡ excerpt (visible c) lo hi → ops ≡ first ++ splice_operations_at e.items own last lo hi put → ops ≡ splice_operations replica c lo hi put
 splice_by_excerpt replica lo hi c put ops first e own last up within none of_own of_clock is made =
     splice_made replica lo hi c put ops first (visible c) own last none of_own of_clock refl
-    (made ∙ ap (λ (x : Excerpted). first ++ operations_at x.items own last lo hi put) is
+    (made ∙ ap (λ (x : Excerpted). first ++ splice_operations_at x.items own last lo hi put) is
     ∙ ap (λ xs. first ++ xs) (same_operations (visible c) lo hi up within own last lo hi put (omega arith) up (omega arith)))
 
 -- and so for several splices

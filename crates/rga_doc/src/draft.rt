@@ -2,7 +2,7 @@
 ghost use Rattle.std.specs.Prelude.{◌≡◌, ◌<◌, ◌≤◌, ◌+◌, ◌++◌, [], true, map, length, OnOk, IfErr};
 ghost use Rattle.rga_ops.specs.Splice.{are_falling, new_characters};
 ghost use Rattle.rga_doc.specs.Excerpt.{begin_of};
-ghost use Rattle.rga_doc.specs.LocalEdit.{chain, operations_at, draft_operations};
+ghost use Rattle.rga_doc.specs.LocalEdit.{chain, splice_operations_at, draft_operations};
 
 use crate::excerpt::Excerpt;
 use rga_ops::{Id, Op, Refusal, Splice};
@@ -47,7 +47,8 @@ impl Draft {
         requires in_text { hi ≤ length elements.now.items }
         requires counters { 0 < length put.now → self.old.last + length put.now ≤ Id.MAX_COUNTER }
         ensures ops { OnOk result (self.new.ops.items ≡ self.old.ops.items
-            ++ operations_at elements.now.items self.old.replica self.old.last lo hi put.now) }
+            ++ splice_operations_at elements.now.items self.old.replica self.old.last lo hi
+            put.now) }
         ensures last { OnOk result (self.new.last ≡ self.old.last + length put.now) }
         ensures replica { self.new.replica ≡ self.old.replica }
         ensures memory { IfErr result (λ e. e ≡ Refusal.Memory) }

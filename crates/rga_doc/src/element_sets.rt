@@ -3,7 +3,7 @@ ghost use Rattle.std.specs.Prelude.{◌≡◌, ◌||◌, not, false, IfOk, IfErr
 ghost use Rattle.std.specs.List.{list_any};
 ghost use Rattle.indexmap.specs.IndexSet.{contains};
 ghost use Rattle.rga_ops.specs.Prelude.{Identifier, is_id};
-ghost use Rattle.rga_doc.specs.Complete.{has, AreTheComplete};
+ghost use Rattle.rga_doc.specs.Complete.{is_one_of, AreTheComplete};
 ghost use Rattle.rga_doc.specs.Revert.{distinct_elements};
 
 use indexmap::IndexSet;
@@ -35,7 +35,7 @@ impl Complete {
 
     /// Whether an element is one of them.
     pub(crate) fn has<S: TextStore>(&self, store: &S, id: Id) -> bool
-        ensures { result ≡ has self.now (S.content store.now) id }
+        ensures { result ≡ is_one_of self.now (S.content store.now) id }
     {
         match self {
             Complete::Inserted => store.get(id).is_some(),

@@ -15,10 +15,10 @@ use Rattle.rga_ops.specs.declared.op.Op.{Op}
 use Rattle.rga_ops.specs.declared.op.Op.TheVariants.{Insert, Delete}
 use Rattle.rga_ops.specs.declared.refusal.Taken.TheVariants.{New}
 use Rattle.rga_sequence.specs.declared.entry.Entry.{Entry}
-use Rattle.rga_store.specs.Without.{without}
+use Rattle.rga_store.specs.Without.{without_operation}
 use Rattle.rga_store.proofs.WithoutLaws.{without_new, new_held}
 use Rattle.rga_flat.specs.declared.steps.Step.{Step}
-use Rattle.rga_flat.specs.Back.{gone_back, CanGoBack, IsLastStep}
+use Rattle.rga_flat.specs.Back.{without_noted, CanTakeBack, IsLastNoted}
 use Rattle.rga_flat.specs.Flat.{IsFlat}
 use Rattle.rga_flat.specs.Undo.{undone_entries, undone_under, IsGoingBack, IsReturnable}
 use Rattle.rga_flat.specs.Waiting.{Waiting, has_list}
@@ -27,41 +27,41 @@ use Rattle.rga_flat.proofs.UndoLaws.{going_insertion, going_deletion, going_end}
 
 -- ---- steps
 
-pub gone_back-push : (ss : List Step) (s : Step) (c : Content) → gone_back (ss ++ s ∷ []) c ≡ gone_back ss (without s.op.now c)
-gone_back-push [] s c = refl
-gone_back-push (t ∷ ss) s c = ap (without t.op.now) (gone_back-push ss s c)
+pub without_noted-push : (ss : List Step) (s : Step) (c : Content) → without_noted (ss ++ s ∷ []) c ≡ without_noted ss (without_operation s.op.now c)
+without_noted-push [] s c = refl
+without_noted-push (t ∷ ss) s c = ap (without_operation t.op.now) (without_noted-push ss s c)
 
-pub last_step : (ss : List Step) (s : Step) (c : Content) → CanGoBack (ss ++ s ∷ []) c → IsLastStep ss s.op.now s.clock c
+pub last_step : (ss : List Step) (s : Step) (c : Content) → CanTakeBack (ss ++ s ∷ []) c → IsLastNoted ss s.op.now s.clock c
 last_step [] s c h = record { held = h.1.0; clocked = h.1.1; rest = tt }
 last_step (t ∷ ss) s c h =
-    let last : IsLastStep ss s.op.now s.clock c = last_step ss s c h.0 in
+    let last : IsLastNoted ss s.op.now s.clock c = last_step ss s c h.0 in
     record {
       held = last.held;
       clocked = last.clocked;
-      rest = (last.rest, subst (λ d. Holds d t.op.now × (t.clock ≡ clock_of (without t.op.now d))) (gone_back-push ss s c) h.1);
+      rest = (last.rest, subst (λ d. Holds d t.op.now × (t.clock ≡ clock_of (without_operation t.op.now d))) (without_noted-push ss s c) h.1);
     }
 
-pub one_step_more : (ss : List Step) (s : Step) (c : Content) → IsLastStep ss s.op.now s.clock c → CanGoBack (ss ++ s ∷ []) c
+pub one_step_more : (ss : List Step) (s : Step) (c : Content) → IsLastNoted ss s.op.now s.clock c → CanTakeBack (ss ++ s ∷ []) c
 one_step_more [] s c last = (tt, (last.held, last.clocked))
 one_step_more (t ∷ ss) s c last = (
   one_step_more ss s c (record { held = last.held; clocked = last.clocked; rest = last.rest.0 }),
-  subst (λ d. Holds d t.op.now × (t.clock ≡ clock_of (without t.op.now d))) (sym (gone_back-push ss s c)) last.rest.1,
+  subst (λ d. Holds d t.op.now × (t.clock ≡ clock_of (without_operation t.op.now d))) (sym (without_noted-push ss s c)) last.rest.1,
 )
 
 module _ (limit : ℕ) (n m : Content) (op : Op) (answered : answer limit n op ≡ Ok New) (joined : m ≡ join n (single op)) where
-  pub without_taken : without op m ≡ n
-  without_taken = ap (without op) joined ∙ without_new limit n op answered
+  pub without_taken : without_operation op m ≡ n
+  without_taken = ap (without_operation op) joined ∙ without_new limit n op answered
 
-  pub last_taken : (ss : List Step) (before : ℕ) → before ≡ clock_of n → CanGoBack ss n → IsLastStep ss op before m
+  pub last_taken : (ss : List Step) (before : ℕ) → before ≡ clock_of n → CanTakeBack ss n → IsLastNoted ss op before m
   last_taken ss before same back = record {
     held = subst (λ d. Holds d op) (sym joined) (new_held limit n op answered);
     clocked = same ∙ ap clock_of (sym without_taken);
-    rest = subst (λ d. CanGoBack ss d) (sym without_taken) back;
+    rest = subst (λ d. CanTakeBack ss d) (sym without_taken) back;
   }
 
 -- ---- what is left is within what was there
 
-without_within : (op : Op) (c : Content) → IsWithin (without op c) c
+without_within : (op : Op) (c : Content) → IsWithin (without_operation op c) c
 without_within (Insert id parent ch) c = record {
   inserted = λ k x g. either (is k id)
       (λ t. absurd (none-some _ (sym (ap (λ b. cond b None (finite_map.get c.inserted k)) t) ∙ sym (finite_map.get-remove ids_total c.inserted id k) ∙ g)))
@@ -77,14 +77,14 @@ without_within (Delete id) c = record {
     second true b h = h
     second false b h = absurd (true≢false (sym h))
 
-pub gone_within : (ss : List Step) (c : Content) → IsWithin (gone_back ss c) c
+pub gone_within : (ss : List Step) (c : Content) → IsWithin (without_noted ss c) c
 gone_within [] c = record { inserted = λ k x g. g; deleted = λ k h. h }
-gone_within (s ∷ ss) c = within_chain (without s.op.now (gone_back ss c)) (gone_back ss c) c (without_within s.op.now (gone_back ss c)) (gone_within ss c)
+gone_within (s ∷ ss) c = within_chain (without_operation s.op.now (without_noted ss c)) (without_noted ss c) c (without_within s.op.now (without_noted ss c)) (gone_within ss c)
 
 -- ---- an operation goes
 
-pub going_undone : (op : Op) (top base c : Content) (es : List Entry) (K K' : Identifier → List Identifier) (E E' done : Identifier → Bool) → IsGoingBack top base c es K E done → Holds c op → IsWithin base (without op c)
-    → ((p : Identifier) → K' p ≡ undone_under op p (K p)) → ((p : Identifier) → E' p ≡ E p) → IsGoingBack top base (without op c) (undone_entries op es) K' E' done
+pub going_undone : (op : Op) (top base c : Content) (es : List Entry) (K K' : Identifier → List Identifier) (E E' done : Identifier → Bool) → IsGoingBack top base c es K E done → Holds c op → IsWithin base (without_operation op c)
+    → ((p : Identifier) → K' p ≡ undone_under op p (K p)) → ((p : Identifier) → E' p ≡ E p) → IsGoingBack top base (without_operation op c) (undone_entries op es) K' E' done
 going_undone (Insert id parent ch) top base c es K K' E E' done going held within lists marks = going_insertion top base c es K E done going id parent ch held within K' E' lists marks
 going_undone (Delete id) top base c es K K' E E' done going held within lists marks = going_deletion top base c es K E done going id within K' E' lists marks
 

@@ -20,18 +20,18 @@ use Rattle.rga_ops.proofs.ContentLaws.{within_join, within_chain}
 use Rattle.rga_ops.proofs.GrowLaws.{complete_stays}
 use Rattle.rga_ops.proofs.InsertionLaws.{contains-insertion}
 use Rattle.rga_ops.proofs.NewestLaws.{lower_counter}
-use Rattle.rga_store.specs.Without.{without}
+use Rattle.rga_store.specs.Without.{without_operation}
 use Rattle.rga_store.proofs.WithoutLaws.{new_held}
 use Rattle.rga_sequence.specs.declared.entry.Entry.{Entry}
 use Rattle.rga_sequence.specs.Entries.{has, put_entry, put_chain, CanFollow, IsChain}
-use Rattle.rga_records.specs.Chains.{last_of}
+use Rattle.rga_records.specs.Chains.{last_entry_of}
 use Rattle.rga_flat.specs.declared.steps.Step.{Step}
-use Rattle.rga_flat.specs.Back.{gone_back, CanGoBack}
+use Rattle.rga_flat.specs.Back.{without_noted, CanTakeBack}
 use Rattle.rga_flat.specs.Chains.{IsGathered, ChainShows}
 use Rattle.rga_flat.specs.Flat.{is_above, IsFlat}
 use Rattle.rga_flat.specs.Placing.{IsPlacing}
 use Rattle.rga_flat.specs.Waiting.{Waiting, under, has_list, is_listed}
-use Rattle.rga_flat.proofs.BackLaws.{gone_back-push, one_step_more, without_taken, last_taken}
+use Rattle.rga_flat.proofs.BackLaws.{without_noted-push, one_step_more, without_taken, last_taken}
 use Rattle.rga_flat.proofs.WaitingLaws.{under_none}
 use Rattle.rga_flat.proofs.PlacingLaws.{above_cases, of_root, of_complete, complete_of, place_start, place_step, place_absent, place_parent, placed_flat}
 
@@ -45,9 +45,9 @@ taken_on limit c d (x ∷ xs) ys h =
       | Err e ↦ λ k. absurd (cc)
     ] h
 
-pub gone_back-both : (xs ys : List Step) (c : Content) → gone_back (xs ++ ys) c ≡ gone_back xs (gone_back ys c)
-gone_back-both [] ys c = refl
-gone_back-both (x ∷ xs) ys c = ap (gone_back (x ∷ [])) (gone_back-both xs ys c)
+pub without_noted-both : (xs ys : List Step) (c : Content) → without_noted (xs ++ ys) c ≡ without_noted xs (without_noted ys c)
+without_noted-both [] ys c = refl
+without_noted-both (x ∷ xs) ys c = ap (without_noted (x ∷ [])) (without_noted-both xs ys c)
 
 end_of : (xs : List Step) → xs ≡ xs ++ []
 end_of [] = refl
@@ -63,7 +63,7 @@ gathered_more limit base c d step ops before steps g answered joined clocked =
       back = one_step_more steps step d (last_taken limit c d op answered joined steps step.clock clocked g.back);
       own = g.own ++ step ∷ [];
       noted = ap (λ ss. ss ++ step ∷ []) g.noted ∙ append_assoc before g.own (step ∷ []);
-      gone = gone_back-push g.own step d ∙ ap (gone_back g.own) (without_taken limit c d op answered joined) ∙ g.gone;
+      gone = without_noted-push g.own step d ∙ ap (without_noted g.own) (without_taken limit c d op answered joined) ∙ g.gone;
     }
 
 pub gathered_next : (limit : ℕ) (base c d : Content) (step : Step) (item : Op) (ops : List Op) (i : ℕ) (before steps later : List Step) → later ≡ steps ++ step ∷ [] → IsGathered limit base c (take i ops) before steps → i < length ops → item ≡ slice_index_or ops i item → item ≡ step.op.now
@@ -109,22 +109,18 @@ list_later limit c d ops i n h =
     ∙ ap (taken_one_by_one limit c) (take-append-drop n (drop i ops))
 
 -- the steps that were there lead where they led
-pub gathered_start : (limit : ℕ) (base c : Content) (ops : List Op) (before steps : List Step) → IsGathered limit base c ops before steps → gone_back steps c ≡ gone_back before base
-gathered_start limit base c ops before steps g = ap (λ ss. gone_back ss c) g.noted ∙ gone_back-both before g.own c ∙ ap (gone_back before) g.gone
-
-drop_front : (xs ys : List Step) → drop (length xs) (xs ++ ys) ≡ ys
-drop_front [] ys = refl
-drop_front (x ∷ xs) ys = drop_front xs ys
+pub gathered_start : (limit : ℕ) (base c : Content) (ops : List Op) (before steps : List Step) → IsGathered limit base c ops before steps → without_noted steps c ≡ without_noted before base
+gathered_start limit base c ops before steps g = ap (λ ss. without_noted ss c) g.noted ∙ without_noted-both before g.own c ∙ ap (without_noted before) g.gone
 
 take_front : (xs ys : List Step) → take (length xs) (xs ++ ys) ≡ xs
 take_front [] ys = refl
 take_front (x ∷ xs) ys = ap (λ r. x ∷ r) (take_front xs ys)
 
 -- one step less behind those that stay
-pub left_gone : (from : ℕ) (ss : List Step) (s : Step) (c : Content) → from < length (ss ++ s ∷ []) → gone_back (drop from ss) (without s.op.now c) ≡ gone_back (drop from (ss ++ s ∷ [])) c
+pub left_gone : (from : ℕ) (ss : List Step) (s : Step) (c : Content) → from < length (ss ++ s ∷ []) → without_noted (drop from ss) (without_operation s.op.now c) ≡ without_noted (drop from (ss ++ s ∷ [])) c
 left_gone from ss s c w =
     let many : length (ss ++ s ∷ []) ≡ length ss + 1 = length-append ss (s ∷ []) in
-    sym (ap (λ ts. gone_back ts c) (drop-append-le from ss (s ∷ []) (omega (arith, many, w))) ∙ gone_back-push (drop from ss) s c)
+    sym (ap (λ ts. without_noted ts c) (drop-append-le from ss (s ∷ []) (omega (arith, many, w))) ∙ without_noted-push (drop from ss) s c)
 
 pub left_kept : (from : ℕ) (ss : List Step) (s : Step) → from < length (ss ++ s ∷ []) → take from ss ≡ take from (ss ++ s ∷ [])
 left_kept from ss s w =
@@ -137,16 +133,16 @@ at_err P r e is h = subst (λ x. IfErr x P) (sym is) h
 
 -- ---- one more in the chain
 
-pub put_chain-push : (id : Identifier) (es : List Entry) (e : Entry) (s : List Entry) → put_chain id (es ++ e ∷ []) s ≡ put_entry (last_of id es) e (put_chain id es s)
+pub put_chain-push : (id : Identifier) (es : List Entry) (e : Entry) (s : List Entry) → put_chain id (es ++ e ∷ []) s ≡ put_entry (last_entry_of id es) e (put_chain id es s)
 put_chain-push id [] e s = refl
 put_chain-push id (x ∷ es) e s = put_chain-push x.id es e (put_entry id x s)
 
-follows_more : (id : Identifier) (es : List Entry) (e : Entry) (s : List Entry) → CanFollow id es s → is_root (last_of id es) ≡ false → is_gt (id_cmp e.id (last_of id es)) ≡ true → has e.id (put_chain id es s) ≡ false → CanFollow id (es ++ e ∷ []) s
+follows_more : (id : Identifier) (es : List Entry) (e : Entry) (s : List Entry) → CanFollow id es s → is_root (last_entry_of id es) ≡ false → is_gt (id_cmp e.id (last_entry_of id es)) ≡ true → has e.id (put_chain id es s) ≡ false → CanFollow id (es ++ e ∷ []) s
 follows_more id [] e s can proper up none = (proper, up, none, tt)
 follows_more id (x ∷ es) e s can proper up none = (can.0, can.1, can.2, follows_more x.id es e (put_entry id x s) can.3 proper up none)
 
-chain_more : (id : Identifier) (es : List Entry) (e : Entry) (s : List Entry) → IsChain id es s → (is_root (last_of id es) || has (last_of id es) (put_chain id es s)) ≡ true
-    → (0 < length es → is_root (last_of id es) ≡ false) → is_gt (id_cmp e.id (last_of id es)) ≡ true → has e.id (put_chain id es s) ≡ false → IsChain id (es ++ e ∷ []) s
+chain_more : (id : Identifier) (es : List Entry) (e : Entry) (s : List Entry) → IsChain id es s → (is_root (last_entry_of id es) || has (last_entry_of id es) (put_chain id es s)) ≡ true
+    → (0 < length es → is_root (last_entry_of id es) ≡ false) → is_gt (id_cmp e.id (last_entry_of id es)) ≡ true → has e.id (put_chain id es s) ≡ false → IsChain id (es ++ e ∷ []) s
 chain_more id [] e s chain there proper up none = (there, none, tt)
 chain_more id (x ∷ es) e s chain there proper up none = (chain.0, chain.1, follows_more x.id es e (put_entry id x s) chain.2 (proper (omega arith)) up none)
 
@@ -184,7 +180,7 @@ module _ (limit : ℕ) (c d : Content) (last : Identifier) (e : Entry) (sound : 
   pub own_above : is_above d e.id ≡ true
   own_above = of_complete d e.id (complete_of d sound_now e.id (element last e.ch) found (above_later c d in_now last above))
 
-  module _ (w : Waiting) (shown : e.deleted ≡ finite_set.contains c.deleted e.id) (unlisted : has_list w e.id ≡ false) (base : Content) (parent : Identifier) (es : List Entry) (last_is : last ≡ last_of parent es) (proper : 0 < length es → is_root last ≡ false) where
+  module _ (w : Waiting) (shown : e.deleted ≡ finite_set.contains c.deleted e.id) (unlisted : has_list w e.id ≡ false) (base : Content) (parent : Identifier) (es : List Entry) (last_is : last ≡ last_entry_of parent es) (proper : 0 < length es → is_root last ≡ false) where
     deleted_now : e.deleted ≡ finite_set.contains d.deleted e.id
     deleted_now = shown ∙ sym (ap (λ b. finite_set.contains b.deleted e.id) joined ∙ contains-insertion c e.id last e.ch e.id)
 

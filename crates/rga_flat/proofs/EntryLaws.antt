@@ -6,7 +6,7 @@ use Rattle.std.specs.Ordering.{is_gt}
 use Rattle.rga_ops.specs.Identifier.{Identifier, id_cmp, is_id, is_root}
 use Rattle.rga_ops.proofs.IdentifierLaws.{is, is_itself, is_id-same}
 use Rattle.rga_sequence.specs.declared.entry.Entry.{Entry}
-use Rattle.rga_sequence.specs.Entries.{ids, has, change_after, put_past_larger, put_entry, without_entry}
+use Rattle.rga_sequence.specs.Entries.{ids, has, change_after_entry, put_entry_past_larger, put_entry, without_entry}
 use Rattle.rga_flat.specs.Placing.{taken_out}
 
 pub either : (b : Bool) {P : Type 0} → (b ≡ true → P) → (b ≡ false → P) → P
@@ -21,22 +21,22 @@ has_ids k (e ∷ es) = ap (λ b. b || has k es) (is_id-same e.id k) ∙ ap (λ b
 -- ---- what holds of all
 
 module _ (P : Entry → Type 0) where
-  all_past : (e : Entry) (es : List Entry) → P e → AllByRecursion P es → AllByRecursion P (put_past_larger e es)
+  all_past : (e : Entry) (es : List Entry) → P e → AllByRecursion P es → AllByRecursion P (put_entry_past_larger e es)
   all_past e [] p h = (p, tt)
-  all_past e (x ∷ es) p h = elim (is_gt (id_cmp x.id e.id)) as (λ b. AllByRecursion P (cond b (x ∷ put_past_larger e es) (e ∷ x ∷ es))) [
+  all_past e (x ∷ es) p h = elim (is_gt (id_cmp x.id e.id)) as (λ b. AllByRecursion P (cond b (x ∷ put_entry_past_larger e es) (e ∷ x ∷ es))) [
     | true ↦ (h.0, all_past e es p h.1)
     | false ↦ (p, h)
   ]
 
-  all_after : (parent : Identifier) (e : Entry) (es : List Entry) → P e → AllByRecursion P es → AllByRecursion P (change_after parent (put_past_larger e) es)
+  all_after : (parent : Identifier) (e : Entry) (es : List Entry) → P e → AllByRecursion P es → AllByRecursion P (change_after_entry parent (put_entry_past_larger e) es)
   all_after parent e [] p h = tt
-  all_after parent e (x ∷ es) p h = elim (is_id x.id parent) as (λ b. AllByRecursion P (cond b (x ∷ put_past_larger e es) (x ∷ change_after parent (put_past_larger e) es))) [
+  all_after parent e (x ∷ es) p h = elim (is_id x.id parent) as (λ b. AllByRecursion P (cond b (x ∷ put_entry_past_larger e es) (x ∷ change_after_entry parent (put_entry_past_larger e) es))) [
     | true ↦ (h.0, all_past e es p h.1)
     | false ↦ (h.0, all_after parent e es p h.1)
   ]
 
   pub all_put : (parent : Identifier) (e : Entry) (es : List Entry) → P e → AllByRecursion P es → AllByRecursion P (put_entry parent e es)
-  all_put parent e es p h = elim (is_root parent) as (λ b. AllByRecursion P (cond b (put_past_larger e es) (change_after parent (put_past_larger e) es))) [
+  all_put parent e es p h = elim (is_root parent) as (λ b. AllByRecursion P (cond b (put_entry_past_larger e es) (change_after_entry parent (put_entry_past_larger e) es))) [
     | true ↦ all_past e es p h
     | false ↦ all_after parent e es p h
   ]
@@ -60,22 +60,22 @@ module _ (parent id : Identifier) (e : Entry) (it : e.id ≡ id) where
   same [] h = refl
   same (y ∷ es) h = keep y es (first y es h) ∙ ap (λ r. y ∷ r) (same es (rest y es h))
 
-  past : (es : List Entry) → has id es ≡ false → without_entry id (put_past_larger e es) ≡ es
+  past : (es : List Entry) → has id es ≡ false → without_entry id (put_entry_past_larger e es) ≡ es
   past [] h = skip_it []
   past (y ∷ es) h = either (is_gt (id_cmp y.id e.id))
-      (λ t. ap (λ b. without_entry id (cond b (y ∷ put_past_larger e es) (e ∷ y ∷ es))) t ∙ keep y (put_past_larger e es) (first y es h) ∙ ap (λ r. y ∷ r) (past es (rest y es h)))
-      (λ f. ap (λ b. without_entry id (cond b (y ∷ put_past_larger e es) (e ∷ y ∷ es))) f ∙ skip_it (y ∷ es) ∙ same (y ∷ es) h)
+      (λ t. ap (λ b. without_entry id (cond b (y ∷ put_entry_past_larger e es) (e ∷ y ∷ es))) t ∙ keep y (put_entry_past_larger e es) (first y es h) ∙ ap (λ r. y ∷ r) (past es (rest y es h)))
+      (λ f. ap (λ b. without_entry id (cond b (y ∷ put_entry_past_larger e es) (e ∷ y ∷ es))) f ∙ skip_it (y ∷ es) ∙ same (y ∷ es) h)
 
-  behind : (es : List Entry) → has id es ≡ false → without_entry id (change_after parent (put_past_larger e) es) ≡ es
+  behind : (es : List Entry) → has id es ≡ false → without_entry id (change_after_entry parent (put_entry_past_larger e) es) ≡ es
   behind [] h = refl
   behind (y ∷ es) h = either (is_id y.id parent)
-      (λ t. ap (λ b. without_entry id (cond b (y ∷ put_past_larger e es) (y ∷ change_after parent (put_past_larger e) es))) t ∙ keep y (put_past_larger e es) (first y es h) ∙ ap (λ r. y ∷ r) (past es (rest y es h)))
-      (λ f. ap (λ b. without_entry id (cond b (y ∷ put_past_larger e es) (y ∷ change_after parent (put_past_larger e) es))) f ∙ keep y (change_after parent (put_past_larger e) es) (first y es h) ∙ ap (λ r. y ∷ r) (behind es (rest y es h)))
+      (λ t. ap (λ b. without_entry id (cond b (y ∷ put_entry_past_larger e es) (y ∷ change_after_entry parent (put_entry_past_larger e) es))) t ∙ keep y (put_entry_past_larger e es) (first y es h) ∙ ap (λ r. y ∷ r) (past es (rest y es h)))
+      (λ f. ap (λ b. without_entry id (cond b (y ∷ put_entry_past_larger e es) (y ∷ change_after_entry parent (put_entry_past_larger e) es))) f ∙ keep y (change_after_entry parent (put_entry_past_larger e) es) (first y es h) ∙ ap (λ r. y ∷ r) (behind es (rest y es h)))
 
   pub put_gone : (es : List Entry) → has id es ≡ false → without_entry id (put_entry parent e es) ≡ es
   put_gone es h = either (is_root parent)
-      (λ t. ap (λ b. without_entry id (cond b (put_past_larger e es) (change_after parent (put_past_larger e) es))) t ∙ past es h)
-      (λ f. ap (λ b. without_entry id (cond b (put_past_larger e es) (change_after parent (put_past_larger e) es))) f ∙ behind es h)
+      (λ t. ap (λ b. without_entry id (cond b (put_entry_past_larger e es) (change_after_entry parent (put_entry_past_larger e) es))) t ∙ past es h)
+      (λ f. ap (λ b. without_entry id (cond b (put_entry_past_larger e es) (change_after_entry parent (put_entry_past_larger e) es))) f ∙ behind es h)
 
 pub taken_out-push : (ks : List Identifier) (k : Identifier) (es : List Entry) → taken_out (ks ++ k ∷ []) es ≡ taken_out ks (without_entry k es)
 taken_out-push [] k es = refl

@@ -14,7 +14,7 @@ use Rattle.rga_ops.proofs.IdentifierLaws.{is}
 use Rattle.rga_ops.proofs.VisibleLaws.{is_kept, visible_is, place_is}
 use Rattle.rga_ops.proofs.WaitingLaws.{ordered_and_waiting}
 use Rattle.rga_sequence.specs.declared.entry.Entry.{Entry}
-use Rattle.rga_sequence.specs.Entries.{ids, has, up_to, visible_entries, visible_count, visible_ids, visible_text, place_in}
+use Rattle.rga_sequence.specs.Entries.{ids, has, entries_up_to, visible_entries, visible_count, visible_ids, visible_text, place_in}
 use Rattle.rga_store.proofs.StepLaws.{len-keys}
 use Rattle.rga_flat.specs.Flat.{IsEntryOf}
 
@@ -23,9 +23,9 @@ has_among : (k : Identifier) (es : List Entry) → list_any (λ x. is_id x k) (i
 has_among k [] = refl
 has_among k (e ∷ es) = ap (λ b. is_id e.id k || b) (has_among k es)
 
-ids_up_to : (k : Identifier) (es : List Entry) → places.up_to k (ids es) ≡ ids (up_to k es)
+ids_up_to : (k : Identifier) (es : List Entry) → places.up_to k (ids es) ≡ ids (entries_up_to k es)
 ids_up_to k [] = refl
-ids_up_to k (e ∷ es) = elim (is_id e.id k) as (λ b. cond b (e.id ∷ []) (e.id ∷ places.up_to k (ids es)) ≡ ids (cond b (e ∷ []) (e ∷ up_to k es))) [
+ids_up_to k (e ∷ es) = elim (is_id e.id k) as (λ b. cond b (e.id ∷ []) (e.id ∷ places.up_to k (ids es)) ≡ ids (cond b (e ∷ []) (e ∷ entries_up_to k es))) [
   | true ↦ refl
   | false ↦ ap (λ r. e.id ∷ r) (ids_up_to k es)
 ]
@@ -60,9 +60,9 @@ module _ (c : Content) where
       split rest true = rest
       split rest false = ap (λ r. e.id ∷ r) rest
 
-  all_up_to : (k : Identifier) (es : List Entry) → AllByRecursion (IsEntryOf c) es → AllByRecursion (IsEntryOf c) (up_to k es)
+  all_up_to : (k : Identifier) (es : List Entry) → AllByRecursion (IsEntryOf c) es → AllByRecursion (IsEntryOf c) (entries_up_to k es)
   all_up_to k [] h = tt
-  all_up_to k (e ∷ es) h = elim (is_id e.id k) as (λ b. AllByRecursion (IsEntryOf c) (cond b (e ∷ []) (e ∷ up_to k es))) [
+  all_up_to k (e ∷ es) h = elim (is_id e.id k) as (λ b. AllByRecursion (IsEntryOf c) (cond b (e ∷ []) (e ∷ entries_up_to k es))) [
     | true ↦ (h.0, tt)
     | false ↦ (h.0, all_up_to k es h.1)
   ]
@@ -80,8 +80,8 @@ module _ (c : Content) where
         ∙ ap (λ xs. cond (list_any (λ x. is_id x id) xs) (Some (length (filter (is_kept c) (places.up_to id xs)))) None) listed
         ∙ sym (place_is c id proper)
       where
-        count : visible_count (up_to id es) ≡ length (filter (is_kept c) (places.up_to id (ids es)))
-        count = sym (length_ids (visible_entries (up_to id es))) ∙ ap length (kept_in (up_to id es) (all_up_to id es all)) ∙ ap (λ xs. length (filter (is_kept c) xs)) (sym (ids_up_to id es))
+        count : visible_count (entries_up_to id es) ≡ length (filter (is_kept c) (places.up_to id (ids es)))
+        count = sym (length_ids (visible_entries (entries_up_to id es))) ∙ ap length (kept_in (entries_up_to id es) (all_up_to id es all)) ∙ ap (λ xs. length (filter (is_kept c) xs)) (sym (ids_up_to id es))
 
     pub all_listed : length es + length (waiting c) ≡ finite_map.len c.inserted
     all_listed = ap (λ n. n + length (waiting c)) (sym (length_ids es) ∙ ap length listed) ∙ ordered_and_waiting c ∙ len-keys c

@@ -13,7 +13,7 @@ use Rattle.std.specs.FinMap as finite_map
 use Rattle.rga_ops.specs.Identifier.{Identifier, id_cmp}
 use Rattle.rga_ops.specs.Content.{Content}
 use Rattle.rga_ops.proofs.IdentifierLaws.{is, same_id, is_itself}
-use Rattle.rga_flat.specs.Waiting.{Waiting, under, has_list, is_listed, KeepsUnder, KeepsLists, Settles, AreInserted}
+use Rattle.rga_flat.specs.Waiting.{Waiting, under, has_list, is_listed, KeepsUnder, KeepsLists, SettlesLists, AreInserted}
 use Rattle.rga_flat.proofs.EntryLaws.{either}
 
 abbrev pub Children : Type 0
@@ -78,7 +78,7 @@ module _ (old new : Waiting) (id : Identifier) (changed : (q : Identifier) → g
 -- ---- lists that are done with
 
 module _ (w : Waiting) (old new : BTreeSet Identifier) (id : Identifier) (changed : (q : Identifier) → contains id_cmp new q ≡ cond (is id q) true (contains id_cmp old q)) where
-  pub settled_now : has_list w id ≡ true → Settles w old new
+  pub settled_now : has_list w id ≡ true → SettlesLists w old new
   settled_now h = record {
     grows = λ p t. changed p ∙ ap (cond (is id p) true) t ∙ same_true (is id p);
     within = λ p t. either (is id p)
@@ -101,7 +101,7 @@ module _ (w : Waiting) (old new : BTreeSet Identifier) (id : Identifier) (change
   pub listed_else : (p : Identifier) → is id p ≡ false → is_listed w new p ≡ is_listed w old p
   listed_else p f = ap (λ b. has_list w p && not b) (changed p ∙ ap (λ b. cond b true (contains id_cmp old p)) f)
 
-pub settles_on : (w : Waiting) (a b c : BTreeSet Identifier) → Settles w a b → Settles w b c → Settles w a c
+pub settles_on : (w : Waiting) (a b c : BTreeSet Identifier) → SettlesLists w a b → SettlesLists w b c → SettlesLists w a c
 settles_on w a b c s t = record {
   grows = λ p h. t.grows p (s.grows p h);
   within = λ p h. elim (t.within p h) [

@@ -8,7 +8,7 @@ use Rattle.rga_ops.specs.declared.op.Op.{Op}
 use Rattle.rga_sequence.specs.declared.entry.Entry.{Entry}
 use Rattle.rga_sequence.specs.Entries.{put_chain, IsChain}
 use Rattle.rga_flat.specs.declared.steps.Step.{Step}
-use Rattle.rga_flat.specs.Back.{gone_back, CanGoBack}
+use Rattle.rga_flat.specs.Back.{without_noted, CanTakeBack}
 use Rattle.rga_flat.specs.Flat.{IsFlat}
 use Rattle.rga_flat.specs.Waiting.{Waiting, under, is_listed}
 
@@ -16,10 +16,10 @@ use Rattle.rga_flat.specs.Waiting.{Waiting, under, is_listed}
 pub record IsGathered (limit : ℕ) (base c : Content) (ops : List Op) (before steps : List Step) : Type 0 where
   pub taken : taken_one_by_one limit base ops ≡ Ok c
   pub within : IsWithin base c
-  pub back : CanGoBack steps c
+  pub back : CanTakeBack steps c
   pub own : List Step
   pub noted : steps ≡ before ++ own
-  pub gone : gone_back own c ≡ base
+  pub gone : without_noted own c ≡ base
 
 -- whatever entries show the base, the chain can be put there, and then they show the content
 abbrev pub ChainShows : Content → Content → Identifier → List Entry → Waiting → Type 0

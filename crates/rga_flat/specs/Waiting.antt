@@ -38,7 +38,7 @@ abbrev pub is_listed : Waiting → BTreeSet Identifier → Identifier → Bool
 is_listed w done p = has_list w p && not (contains id_cmp done p)
 
 -- lists are done with, and of these no other
-pub record Settles (w : Waiting) (old new : BTreeSet Identifier) : Type 0 where
+pub record SettlesLists (w : Waiting) (old new : BTreeSet Identifier) : Type 0 where
   pub grows : (p : Identifier) → contains id_cmp old p ≡ true → contains id_cmp new p ≡ true
   pub within : (p : Identifier) → contains id_cmp new p ≡ true → (contains id_cmp old p ≡ true) ⊎ (has_list w p ≡ true)
 

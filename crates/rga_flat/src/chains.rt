@@ -5,7 +5,7 @@ ghost use Rattle.std.specs.FinSet as finite_set;
 ghost use Rattle.rga_ops.specs.Content.{join, single, clock_of};
 ghost use Rattle.rga_ops.specs.Answer.{answer};
 ghost use Rattle.rga_sequence.specs.Entries.{put_chain, IsChain};
-ghost use Rattle.rga_flat.specs.Back.{gone_back, CanGoBack};
+ghost use Rattle.rga_flat.specs.Back.{without_noted, CanTakeBack};
 ghost use Rattle.rga_flat.specs.Chains.{ChainShows, IsGathered};
 ghost use Rattle.rga_flat.specs.Flat.{is_above, IsFlat};
 ghost use Rattle.rga_flat.specs.Waiting.{under, has_list, is_listed};
@@ -34,7 +34,7 @@ pub(crate) fn take_chain<'a>(
     ops: &'a [Op],
     steps: &mut Vec<Step<'a>>,
 ) -> Result<usize, Refusal>
-    requires back { CanGoBack steps.old.items records.old.content }
+    requires back { CanTakeBack steps.old.items records.old.content }
     requires flat { IsFlat records.old.content sequence.old
         (under waiting.now) (is_listed waiting.now done.now) }
     ensures gathered { IfOk result (λ count. IsGathered records.old.limit records.old.content
@@ -111,7 +111,7 @@ fn gather<'a>(
     steps: &mut Vec<Step<'a>>,
     entries: &mut Vec<Entry>,
 ) -> Result<(), Refusal>
-    requires back { CanGoBack steps.old.items records.old.content }
+    requires back { CanTakeBack steps.old.items records.old.content }
     requires above { is_above records.old.content parent ≡ true }
     requires none { entries.old.items ≡ [] }
     requires room { min MOST_AT_ONCE (length ops.now) ≤ vec_capacity entries.old }
@@ -142,7 +142,7 @@ fn gather_each<'a>(
     steps: &mut Vec<Step<'a>>,
     entries: &mut Vec<Entry>,
 ) -> Result<(), Refusal>
-    requires back { CanGoBack steps.old.items records.old.content }
+    requires back { CanTakeBack steps.old.items records.old.content }
     requires above { is_above records.old.content parent ≡ true }
     requires none { entries.old.items ≡ [] }
     requires room { min MOST_AT_ONCE (length ops.now) ≤ vec_capacity entries.old }
@@ -289,9 +289,9 @@ fn put_chain(
 
 /// The operations of the steps from one on leave the records, the last first. Takes no memory.
 fn remove_from(records: &mut Records, steps: &mut Vec<Step<'_>>, from: usize)
-    requires { CanGoBack steps.old.items records.old.content }
+    requires { CanTakeBack steps.old.items records.old.content }
     ensures content { records.new.content
-        ≡ gone_back (drop from steps.old.items) records.old.content }
+        ≡ without_noted (drop from steps.old.items) records.old.content }
     ensures steps { steps.new.items ≡ take from steps.old.items }
     ensures limit { records.new.limit ≡ records.old.limit }
 {

@@ -3,7 +3,7 @@
 ghost use Rattle.std.specs.Prelude.{◌≡◌, ◌≤◌, ◌<◌, ◌+◌, [], true, false, length, take, min, vec_len, vec_capacity, IfSome, IfErr};
 ghost use Rattle.rga_ops.specs.Content.{known_count};
 ghost use Rattle.rga_records.specs.Chains.{grown, AreNewer};
-ghost use Rattle.rga_flat.specs.Back.{CanGoBack};
+ghost use Rattle.rga_flat.specs.Back.{CanTakeBack};
 ghost use Rattle.rga_flat.specs.Chains.{ChainShows, IsGathered};
 ghost use Rattle.rga_flat.specs.Flat.{is_above};
 ghost use Rattle.rga_flat.specs.Waiting.{has_list};
@@ -37,7 +37,7 @@ pub(crate) fn gather_newer<'a>(
     steps: &mut Vec<Step<'a>>,
     entries: &mut Vec<Entry>,
 ) -> Result<(), Refusal>
-    requires back { CanGoBack steps.old.items records.old.content }
+    requires back { CanTakeBack steps.old.items records.old.content }
     requires above { is_above records.old.content parent ≡ true }
     requires none { entries.old.items ≡ [] }
     requires room { min MOST_AT_ONCE (length ops.now) ≤ vec_capacity entries.old }
@@ -74,7 +74,7 @@ fn scan<'a>(
     steps: &mut Vec<Step<'a>>,
     entries: &mut Vec<Entry>,
 )
-    requires back { CanGoBack steps.old.items records.now.content }
+    requires back { CanTakeBack steps.old.items records.now.content }
     requires above { is_above records.now.content parent ≡ true }
     requires none { entries.old.items ≡ [] }
     requires room { min MOST_AT_ONCE (length ops.now) ≤ vec_capacity entries.old }

@@ -8,7 +8,7 @@ ghost use Rattle.rga_ops.specs.Content.{Element};
 ghost use Rattle.rga_sequence.specs.Entries.{has, put_entry};
 ghost use Rattle.rga_flat.specs.Flat.{entry_for};
 ghost use Rattle.rga_flat.specs.Placing.{IsPlacing, taken_out};
-ghost use Rattle.rga_flat.specs.Waiting.{under, is_listed, Settles, AreInserted};
+ghost use Rattle.rga_flat.specs.Waiting.{under, is_listed, SettlesLists, AreInserted};
 
 use crate::waiting::{push_waiting, settle_list};
 use rga_ops::{Id, Refusal};
@@ -33,7 +33,7 @@ pub(crate) fn place_all(
     ensures ok { OnOk result (IsPlacing records.old.content (under waiting.now)
         (is_listed waiting.now done.new) sequence.new []) }
     ensures same { OnErr result (sequence.new ≡ sequence.old) }
-    ensures settles { Settles waiting.now done.old done.new }
+    ensures settles { SettlesLists waiting.now done.old done.new }
     ensures inserted { AreInserted records.old.content done.old done.new }
     ensures records { records.new ≡ records.old }
     ensures memory { IfErr result (λ e. e ≡ Refusal.Memory) }
@@ -80,7 +80,7 @@ fn place_noted(
     ensures gone { OnOk result (is_listed waiting.now done.new id ≡ false) }
     ensures others { (p : Identifier) → eq_by_cmp id_cmp id p ≡ false →
         is_listed waiting.now done.new p ≡ is_listed waiting.now done.old p }
-    ensures settles { Settles waiting.now done.old done.new }
+    ensures settles { SettlesLists waiting.now done.old done.new }
     ensures inserted { AreInserted records.old.content done.old done.new }
     ensures noted { OnOk result (placed.new.items ≡ placed.old.items ++ id ∷ []) }
     ensures same { OnErr result (sequence.new ≡ sequence.old) }

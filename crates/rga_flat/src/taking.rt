@@ -12,7 +12,7 @@ ghost use Rattle.rga_store.specs.Growth.{NeedsRoom};
 ghost use Rattle.rga_flat.specs.Based.{IsBased};
 ghost use Rattle.rga_flat.specs.Flat.{is_above, AreMarked, IsFlat};
 ghost use Rattle.rga_flat.specs.Placing.{IsPlacing};
-ghost use Rattle.rga_flat.specs.Waiting.{StayListed, under, has_list, is_listed, Settles, AreInserted};
+ghost use Rattle.rga_flat.specs.Waiting.{StayListed, under, has_list, is_listed, SettlesLists, AreInserted};
 
 use crate::placing::{is_next, next, place_all, put_behind};
 use crate::waiting::{add_waiting, has_list, is_listed};
@@ -47,7 +47,7 @@ pub(crate) fn take(
         (under waiting.new) (is_listed waiting.new done.new)) }
     ensures back { OnErr result (IsFlat records.new.content sequence.new
         (under waiting.new) (is_listed waiting.new done.old)) }
-    ensures settles { Settles waiting.old done.old done.new }
+    ensures settles { SettlesLists waiting.old done.old done.new }
     ensures inserted { OnOk result (AreInserted records.new.content done.old done.new) }
     ensures lists { StayListed waiting.old waiting.new }
     ensures based { (base : Content) →
@@ -102,7 +102,7 @@ fn insert(
         (under waiting.new) (is_listed waiting.new done.new)) }
     ensures back { OnErr result (IsFlat records.new.content sequence.new
         (under waiting.new) (is_listed waiting.new done.old)) }
-    ensures settles { Settles waiting.old done.old done.new }
+    ensures settles { SettlesLists waiting.old done.old done.new }
     ensures inserted { OnOk result (AreInserted records.new.content done.old done.new) }
     ensures lists { StayListed waiting.old waiting.new }
     ensures based { (base : Content) →
@@ -156,7 +156,7 @@ fn settle(
         (under waiting.new) (is_listed waiting.new done.new)) }
     ensures same { OnErr result (IsFlat (without_insertion entry.now.id records.old.content)
         sequence.new (under waiting.new) (is_listed waiting.new done.old)) }
-    ensures settles { Settles waiting.old done.old done.new }
+    ensures settles { SettlesLists waiting.old done.old done.new }
     ensures inserted { AreInserted records.old.content done.old done.new }
     ensures lists { StayListed waiting.old waiting.new }
     ensures based { (base : Content) →
@@ -199,7 +199,7 @@ fn place(
     ensures ok { OnOk result (IsFlat records.old.content sequence.new
         (under waiting.now) (is_listed waiting.now done.new)) }
     ensures same { OnErr result (sequence.new ≡ sequence.old) }
-    ensures settles { Settles waiting.now done.old done.new }
+    ensures settles { SettlesLists waiting.now done.old done.new }
     ensures inserted { AreInserted records.old.content done.old done.new }
     ensures records { records.new ≡ records.old }
     ensures memory { IfErr result (λ e. e ≡ Refusal.Memory) }

@@ -3,8 +3,8 @@ ghost use Rattle.std.specs.Prelude.{◌≡◌, not, filter};
 ghost use Rattle.std.specs.BTreeSet.{contains};
 ghost use Rattle.rga_ops.specs.Identifier.{Identifier, id_cmp};
 ghost use Rattle.rga_ops.specs.Content.{clock_of, Holds};
-ghost use Rattle.rga_store.specs.Without.{without};
-ghost use Rattle.rga_flat.specs.Back.{gone_back, CanGoBack};
+ghost use Rattle.rga_store.specs.Without.{without_operation};
+ghost use Rattle.rga_flat.specs.Back.{without_noted, CanTakeBack};
 ghost use Rattle.rga_flat.specs.Flat.{IsFlat};
 ghost use Rattle.rga_flat.specs.Undo.{undone_entries, undone_under, IsReturnable};
 ghost use Rattle.rga_flat.specs.Waiting.{under, has_list};
@@ -24,10 +24,10 @@ pub(crate) fn go_back(
     done: &BTreeSet<Id>,
     mut steps: Vec<Step<'_>>,
 )
-    requires back { CanGoBack steps.items records.old.content }
+    requires back { CanTakeBack steps.items records.old.content }
     requires returnable { IsReturnable records.old.content
-        (gone_back steps.items records.old.content) sequence.old waiting.old done.now }
-    ensures content { records.new.content ≡ gone_back steps.entry.items records.old.content }
+        (without_noted steps.items records.old.content) sequence.old waiting.old done.now }
+    ensures content { records.new.content ≡ without_noted steps.entry.items records.old.content }
     ensures flat { IsFlat records.new.content sequence.new
         (under waiting.new) (has_list waiting.new) }
     ensures limit { records.new.limit ≡ records.old.limit }
@@ -56,8 +56,8 @@ fn undo(
     clock: u64,
 )
     requires held { Holds records.old.content op.now }
-    requires clock { clock ≡ clock_of (without op.now records.old.content) }
-    ensures content { records.new.content ≡ without op.now records.old.content }
+    requires clock { clock ≡ clock_of (without_operation op.now records.old.content) }
+    ensures content { records.new.content ≡ without_operation op.now records.old.content }
     ensures limit { records.new.limit ≡ records.old.limit }
     ensures entries { sequence.new ≡ undone_entries op.now sequence.old }
     ensures under { (p : Identifier) →

@@ -6,7 +6,7 @@ ghost use Rattle.rga_ops.specs.Identifier.{Identifier, id_cmp};
 ghost use Rattle.rga_ops.specs.Content.{Content};
 ghost use Rattle.rga_ops.specs.Placement.{without};
 ghost use Rattle.std.specs.BTreeSet.{contains};
-ghost use Rattle.rga_flat.specs.Waiting.{StayListed, under, has_list, is_listed, KeepsUnder, KeepsLists, Settles, AreInserted};
+ghost use Rattle.rga_flat.specs.Waiting.{StayListed, under, has_list, is_listed, KeepsUnder, KeepsLists, SettlesLists, AreInserted};
 
 use rga_ops::{Id, Refusal};
 use std::alloc::Global;
@@ -112,7 +112,7 @@ pub(crate) fn settle_list(
     ensures gone { OnOk result (is_listed waiting.now done.new id ≡ false) }
     ensures others { (p : Identifier) → eq_by_cmp id_cmp id p ≡ false →
         is_listed waiting.now done.new p ≡ is_listed waiting.now done.old p }
-    ensures settles { Settles waiting.now done.old done.new }
+    ensures settles { SettlesLists waiting.now done.old done.new }
     ensures inserted { (c : Content) → finite_map.contains_key c.inserted id ≡ true →
         AreInserted c done.old done.new }
     ensures memory { IfErr result (λ e. e ≡ Refusal.Memory) }

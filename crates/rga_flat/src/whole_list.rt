@@ -6,10 +6,10 @@ ghost use Rattle.std.specs.FinMap as finite_map;
 ghost use Rattle.rga_ops.specs.Identifier.{Identifier, id_cmp};
 ghost use Rattle.rga_ops.specs.Content.{Content};
 ghost use Rattle.rga_ops.specs.Answer.{taken, taken_one_by_one};
-ghost use Rattle.rga_flat.specs.Back.{gone_back, CanGoBack};
+ghost use Rattle.rga_flat.specs.Back.{without_noted, CanTakeBack};
 ghost use Rattle.rga_flat.specs.Based.{IsBased};
 ghost use Rattle.rga_flat.specs.Flat.{IsFlat};
-ghost use Rattle.rga_flat.specs.Waiting.{StayListed, under, has_list, is_listed, Settles};
+ghost use Rattle.rga_flat.specs.Waiting.{StayListed, under, has_list, is_listed, SettlesLists};
 
 use crate::chains::take_chain;
 use crate::steps::{Step, note};
@@ -72,7 +72,7 @@ fn take_next<'a>(
     steps: &mut Vec<Step<'a>>,
 ) -> Result<usize, Refusal>
     requires some { 0 < length ops.now }
-    requires back { CanGoBack steps.old.items records.old.content }
+    requires back { CanTakeBack steps.old.items records.old.content }
     requires inserted { (p : Identifier) → contains id_cmp done.old p ≡ true →
         finite_map.contains_key records.old.content.inserted p ≡ true }
     requires flat { IsFlat records.old.content sequence.old
@@ -83,16 +83,16 @@ fn take_next<'a>(
     ensures within { IfOk result (λ count. count ≤ length ops.now) }
     ensures refused { IfErr result (λ e. e ≢ Refusal.Memory →
         taken_one_by_one records.old.limit records.old.content ops.now ≡ Err e) }
-    ensures steps { CanGoBack steps.new.items records.new.content }
-    ensures start { gone_back steps.new.items records.new.content
-        ≡ gone_back steps.old.items records.old.content }
+    ensures steps { CanTakeBack steps.new.items records.new.content }
+    ensures start { without_noted steps.new.items records.new.content
+        ≡ without_noted steps.old.items records.old.content }
     ensures flat { OnOk result (IsFlat records.new.content sequence.new
         (under waiting.new) (is_listed waiting.new done.new)) }
     ensures left { OnErr result (IsFlat records.new.content sequence.new
         (under waiting.new) (is_listed waiting.new done.old)) }
     ensures inserted { OnOk result ((p : Identifier) → contains id_cmp done.new p ≡ true →
         finite_map.contains_key records.new.content.inserted p ≡ true) }
-    ensures settles { Settles waiting.old done.old done.new }
+    ensures settles { SettlesLists waiting.old done.old done.new }
     ensures lists { StayListed waiting.old waiting.new }
     ensures based { (base : Content) →
         IsBased base records.old.content (under waiting.old) (has_list waiting.old) →
@@ -121,7 +121,7 @@ fn take_noted<'a>(
     op: &'a Op,
     steps: &mut Vec<Step<'a>>,
 ) -> Result<(), Refusal>
-    requires back { CanGoBack steps.old.items records.old.content }
+    requires back { CanTakeBack steps.old.items records.old.content }
     requires inserted { (p : Identifier) → contains id_cmp done.old p ≡ true →
         finite_map.contains_key records.old.content.inserted p ≡ true }
     requires flat { IsFlat records.old.content sequence.old
@@ -130,16 +130,16 @@ fn take_noted<'a>(
         (taken records.old.limit records.old.content op.now ≡ Ok records.new.content) }
     ensures refused { IfErr result (λ e. e ≢ Refusal.Memory →
         taken records.old.limit records.old.content op.now ≡ Err e) }
-    ensures steps { CanGoBack steps.new.items records.new.content }
-    ensures start { gone_back steps.new.items records.new.content
-        ≡ gone_back steps.old.items records.old.content }
+    ensures steps { CanTakeBack steps.new.items records.new.content }
+    ensures start { without_noted steps.new.items records.new.content
+        ≡ without_noted steps.old.items records.old.content }
     ensures flat { OnOk result (IsFlat records.new.content sequence.new
         (under waiting.new) (is_listed waiting.new done.new)) }
     ensures left { OnErr result (IsFlat records.new.content sequence.new
         (under waiting.new) (is_listed waiting.new done.old)) }
     ensures inserted { OnOk result ((p : Identifier) → contains id_cmp done.new p ≡ true →
         finite_map.contains_key records.new.content.inserted p ≡ true) }
-    ensures settles { Settles waiting.old done.old done.new }
+    ensures settles { SettlesLists waiting.old done.old done.new }
     ensures lists { StayListed waiting.old waiting.new }
     ensures based { (base : Content) →
         IsBased base records.old.content (under waiting.old) (has_list waiting.old) →

@@ -18,7 +18,7 @@ use Rattle.serde_json.specs.Find.{get_member}
 use Rattle.serde_json.specs.Read.{read, of_json, of_members}
 use Rattle.serde_json.specs.Written.{outline}
 use Rattle.serde_json.proofs.Views.{get_member-put, get_member-put_other}
-use Rattle.rga_lines.specs.Members.{name, data_of, char_data, kind_data, pair_data, IsSound, AreSound, value_lexemes, member_lexemes, members_lexemes, BeginsWithMember, one, Holds, with_member, with_all, ListsMembers}
+use Rattle.rga_lines.specs.Members.{name, data_of, char_data, kind_data, pair_data, IsSoundMember, AreSound, value_lexemes, member_lexemes, members_lexemes, BeginsWithMember, count_found, HasExactly, with_member, with_all, ListsMembers}
 use Rattle.rga_lines.specs.Spelling.{IsElement, IsElementOrRoot}
 use Rattle.rga_ops.specs.Identifier.{Identifier}
 use Rattle.rga_lines.specs.declared.members.Kind.{Kind}
@@ -80,7 +80,7 @@ members_shallow : (ms : List Member) → tree.members_depth (json_members ms) �
 members_shallow [] = lit≤ tt
 members_shallow (m ∷ ms) = omega (arith, shallow m, members_shallow ms)
 
-value_read : (m : Member) → IsSound m → of_json (outline (data_of m)) ≡ Some (data_of m)
+value_read : (m : Member) → IsSoundMember m → of_json (outline (data_of m)) ≡ Some (data_of m)
 value_read (Char ch) h = refl
 value_read (Id id) h = pair-json id (within id h)
 value_read (named.Op kind) h = refl
@@ -115,49 +115,49 @@ put_new k d (member l e ms) absent = put_new_at (slice_cmp nat_cmp k l) k l d e 
 get_other : (q k : List ℕ) (d : Data) (ms : Members) → bytes_eq q k ≡ false → get_member q (put k d ms) ≡ get_member q ms
 get_other q k d ms differ = get_member-put_other q k d ms (λ e. true≢false (sym ((bytes_eq-Decides q k).1 e) ∙ differ))
 
-pub holds_char : (found : Found) (ms : Members) (x : ℕ) → IsScalar x → Holds found ms → found.ch ≡ None → Holds (record { ch = Some x; id = found.id; kind = found.kind; parent = found.parent }) (with_member (Char x) ms)
+pub holds_char : (found : Found) (ms : Members) (x : ℕ) → IsScalar x → HasExactly found ms → found.ch ≡ None → HasExactly (record { ch = Some x; id = found.id; kind = found.kind; parent = found.parent }) (with_member (Char x) ms)
 holds_char found ms x sound h absent = record {
   char = get_member-put (codes "char") (char_data x) ms;
   id = get_other (codes "id") (codes "char") (char_data x) ms refl ∙ h.id;
   op = get_other (codes "op") (codes "char") (char_data x) ms refl ∙ h.op;
   parent = get_other (codes "parent") (codes "char") (char_data x) ms refl ∙ h.parent;
-  count = omega (arith, put_new (codes "char") (char_data x) ms (h.char ∙ ap (option_map char_data) absent), h.count, ap one absent);
+  count = omega (arith, put_new (codes "char") (char_data x) ms (h.char ∙ ap (option_map char_data) absent), h.count, ap count_found absent);
   scalar = sound;
   element = h.element;
   element_or_root = h.element_or_root;
 }
 
-pub holds_id : (found : Found) (ms : Members) (x : Identifier) → IsElement x → Holds found ms → found.id ≡ None → Holds (record { ch = found.ch; id = Some x; kind = found.kind; parent = found.parent }) (with_member (Id x) ms)
+pub holds_id : (found : Found) (ms : Members) (x : Identifier) → IsElement x → HasExactly found ms → found.id ≡ None → HasExactly (record { ch = found.ch; id = Some x; kind = found.kind; parent = found.parent }) (with_member (Id x) ms)
 holds_id found ms x sound h absent = record {
   char = get_other (codes "char") (codes "id") (pair_data x) ms refl ∙ h.char;
   id = get_member-put (codes "id") (pair_data x) ms;
   op = get_other (codes "op") (codes "id") (pair_data x) ms refl ∙ h.op;
   parent = get_other (codes "parent") (codes "id") (pair_data x) ms refl ∙ h.parent;
-  count = omega (arith, put_new (codes "id") (pair_data x) ms (h.id ∙ ap (option_map pair_data) absent), h.count, ap one absent);
+  count = omega (arith, put_new (codes "id") (pair_data x) ms (h.id ∙ ap (option_map pair_data) absent), h.count, ap count_found absent);
   scalar = h.scalar;
   element = sound;
   element_or_root = h.element_or_root;
 }
 
-pub holds_op : (found : Found) (ms : Members) (x : Kind) → Holds found ms → found.kind ≡ None → Holds (record { ch = found.ch; id = found.id; kind = Some x; parent = found.parent }) (with_member (named.Op x) ms)
+pub holds_op : (found : Found) (ms : Members) (x : Kind) → HasExactly found ms → found.kind ≡ None → HasExactly (record { ch = found.ch; id = found.id; kind = Some x; parent = found.parent }) (with_member (named.Op x) ms)
 holds_op found ms x h absent = record {
   char = get_other (codes "char") (codes "op") (kind_data x) ms refl ∙ h.char;
   id = get_other (codes "id") (codes "op") (kind_data x) ms refl ∙ h.id;
   op = get_member-put (codes "op") (kind_data x) ms;
   parent = get_other (codes "parent") (codes "op") (kind_data x) ms refl ∙ h.parent;
-  count = omega (arith, put_new (codes "op") (kind_data x) ms (h.op ∙ ap (option_map kind_data) absent), h.count, ap one absent);
+  count = omega (arith, put_new (codes "op") (kind_data x) ms (h.op ∙ ap (option_map kind_data) absent), h.count, ap count_found absent);
   scalar = h.scalar;
   element = h.element;
   element_or_root = h.element_or_root;
 }
 
-pub holds_parent : (found : Found) (ms : Members) (x : Identifier) → IsElementOrRoot x → Holds found ms → found.parent ≡ None → Holds (record { ch = found.ch; id = found.id; kind = found.kind; parent = Some x }) (with_member (Parent x) ms)
+pub holds_parent : (found : Found) (ms : Members) (x : Identifier) → IsElementOrRoot x → HasExactly found ms → found.parent ≡ None → HasExactly (record { ch = found.ch; id = found.id; kind = found.kind; parent = Some x }) (with_member (Parent x) ms)
 holds_parent found ms x sound h absent = record {
   char = get_other (codes "char") (codes "parent") (pair_data x) ms refl ∙ h.char;
   id = get_other (codes "id") (codes "parent") (pair_data x) ms refl ∙ h.id;
   op = get_other (codes "op") (codes "parent") (pair_data x) ms refl ∙ h.op;
   parent = get_member-put (codes "parent") (pair_data x) ms;
-  count = omega (arith, put_new (codes "parent") (pair_data x) ms (h.parent ∙ ap (option_map pair_data) absent), h.count, ap one absent);
+  count = omega (arith, put_new (codes "parent") (pair_data x) ms (h.parent ∙ ap (option_map pair_data) absent), h.count, ap count_found absent);
   scalar = h.scalar;
   element = h.element;
   element_or_root = sound;
@@ -165,11 +165,11 @@ holds_parent found ms x sound h absent = record {
 
 -- ---- what an object with these members says
 
-pub says_insertion : (found : Found) (ms : Members) (ch : ℕ) (id parent : Identifier) → found.ch ≡ Some ch → found.id ≡ Some id → found.kind ≡ Some Insertion → found.parent ≡ Some parent → Holds found ms
+pub says_insertion : (found : Found) (ms : Members) (ch : ℕ) (id parent : Identifier) → found.ch ≡ Some ch → found.id ≡ Some id → found.kind ≡ Some Insertion → found.parent ≡ Some parent → HasExactly found ms
     → checked (Insert id parent ch) ≡ Ok tt → value_line (object ms) ≡ Ok (One (Insert id parent ch))
 unfolding value_line
 says_insertion found ms ch id parent a b k d h e =
-    let count : members_len ms ≡ 4 = omega (arith, h.count, ap one a, ap one b, ap one k, ap one d) in
+    let count : members_len ms ≡ 4 = omega (arith, h.count, ap count_found a, ap count_found b, ap count_found k, ap count_found d) in
     let char : get_member (codes "char") ms ≡ Some (char_data ch) = h.char ∙ ap (option_map char_data) a in
     let name : get_member (codes "id") ms ≡ Some (pair_data id) = h.id ∙ ap (option_map pair_data) b in
     let op : get_member (codes "op") ms ≡ Some (kind_data Insertion) = h.op ∙ ap (option_map kind_data) k in
@@ -180,10 +180,10 @@ says_insertion found ms ch id parent a b k d h e =
     let rising = (well_formed_insertion id parent ch e).1 in
     rw (count, op, char, name, above, element, parents, single, rising)
 
-pub says_deletion : (found : Found) (ms : Members) (id : Identifier) → found.ch ≡ None → found.id ≡ Some id → found.kind ≡ Some Deletion → found.parent ≡ None → Holds found ms → value_line (object ms) ≡ Ok (One (Delete id))
+pub says_deletion : (found : Found) (ms : Members) (id : Identifier) → found.ch ≡ None → found.id ≡ Some id → found.kind ≡ Some Deletion → found.parent ≡ None → HasExactly found ms → value_line (object ms) ≡ Ok (One (Delete id))
 unfolding value_line
 says_deletion found ms id a b k d h =
-    let count : members_len ms ≡ 2 = omega (arith, h.count, ap one a, ap one b, ap one k, ap one d) in
+    let count : members_len ms ≡ 2 = omega (arith, h.count, ap count_found a, ap count_found b, ap count_found k, ap count_found d) in
     let name : get_member (codes "id") ms ≡ Some (pair_data id) = h.id ∙ ap (option_map pair_data) b in
     let op : get_member (codes "op") ms ≡ Some (kind_data Deletion) = h.op ∙ ap (option_map kind_data) k in
     let element : IsElement id = subst (λ (o : Option Identifier). IfSome o IsElement) b h.element in
@@ -197,7 +197,7 @@ shorter (Id id) more = omega arith
 shorter (named.Op kind) more = omega arith
 shorter (Parent id) more = omega arith
 
-module _ (bytes behind : List ℕ) (m : Member) (found next : Found) (begins : BeginsWithMember bytes m behind) (holds : (ms : Members) → Holds found ms → Holds next (with_member m ms)) where
+module _ (bytes behind : List ℕ) (m : Member) (found next : Found) (begins : BeginsWithMember bytes m behind) (holds : (ms : Members) → HasExactly found ms → HasExactly next (with_member m ms)) where
   pub last_listed : (rest end : List ℕ) → lex between behind ≡ token end_object ∷ lex between rest → lex between end ≡ lex between rest → end ≡ [] → ListsMembers bytes found next
   unfolding lex
   last_listed rest end closed same empty = record {
@@ -223,8 +223,8 @@ module _ (bytes behind : List ℕ) (m : Member) (found next : Found) (begins : B
 
 -- ---- the whole
 
-pub listed_says : (bytes rest : List ℕ) (found all : Found) (op : Op) → length bytes ≤ MAX_LINE → IsUtf8 bytes → lex between bytes ≡ token begin_object ∷ lex between rest → Holds found no_members → ListsMembers rest found all
-    → ((ms : Members) → Holds all ms → value_line (object ms) ≡ Ok (One op)) → any_line_at bytes ≡ Ok (One op)
+pub listed_says : (bytes rest : List ℕ) (found all : Found) (op : Op) → length bytes ≤ MAX_LINE → IsUtf8 bytes → lex between bytes ≡ token begin_object ∷ lex between rest → HasExactly found no_members → ListsMembers rest found all
+    → ((ms : Members) → HasExactly all ms → value_line (object ms) ≡ Ok (One op)) → any_line_at bytes ≡ Ok (One op)
 listed_says bytes rest found all op short utf8 opened none l says =
     let members = l.first ∷ l.others in
     accepted bytes (object (with_all members no_members)) short utf8 (object_read bytes l.first l.others (opened ∙ ap (λ (ls : List Lexeme). token begin_object ∷ ls) l.lexemes) l.sound)

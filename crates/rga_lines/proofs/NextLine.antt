@@ -2,7 +2,7 @@
 use Rattle.std.proofs.Common.{◌≡◌, ℕ, ◌+◌, ◌<◌, ◌≤◌, Bool, false, List, ◌∷◌, length, take, drop, Some, None, position, refl, sym, ap, ap₂, ◌∙◌, arith, lt-ltb, le-ltb}
 use Rattle.std.proofs.lemmas.List.{length-take-le, take_all}
 use Rattle.rga_lines.specs.declared.reading.TheConstants.{MAX_LINE}
-use Rattle.rga_lines.specs.Stream.{lines_of, HasNoNewline, EndsNextLine, Splitting, holds, gave_up, Answer, next_of_lines, next_of}
+use Rattle.rga_lines.specs.Stream.{lines_of, HasNoNewline, EndsNextLine, Splitting, splitting_with, gave_up, Answer, next_of_lines, next_of}
 use Rattle.rga_lines.specs.declared.fault.LineFault.TheVariants as fault
 use Rattle.rga_lines.proofs.SplitterLemmas.{gave, gave_none, failed}
 use Rattle.rga_lines.proofs.StreamLemmas.{is_newline, FirstLine, first_line, no_first_line, lines-line, lines-none}
@@ -18,25 +18,25 @@ by_index waiting n first = ap lines_of first.parts ∙ lines-line (take n waitin
 length_by_index : (waiting : List ℕ) (n : ℕ) → FirstLine waiting n → length (take n waiting) ≡ n
 length_by_index waiting n first = length-take-le n waiting (omega (arith, first.within))
 
-gives : (waiting : List ℕ) (n : ℕ) → FirstLine waiting n → n ≤ MAX_LINE → next_of (holds waiting) ≡ (gave (take n waiting), holds (drop (n + 1) waiting))
+gives : (waiting : List ℕ) (n : ℕ) → FirstLine waiting n → n ≤ MAX_LINE → next_of (splitting_with waiting) ≡ (gave (take n waiting), splitting_with (drop (n + 1) waiting))
 gives waiting n first short =
     let l = length_by_index waiting n first in
-    ap (next_of_lines waiting) (by_index waiting n first) ∙ rw (le-ltb MAX_LINE (length (take n waiting)) (omega arith)) (ap (λ (k : ℕ). let p : Answer × Splitting = (gave (take n waiting), holds (drop (k + 1) waiting)) in p) l)
+    ap (next_of_lines waiting) (by_index waiting n first) ∙ rw (le-ltb MAX_LINE (length (take n waiting)) (omega arith)) (ap (λ (k : ℕ). let p : Answer × Splitting = (gave (take n waiting), splitting_with (drop (k + 1) waiting)) in p) l)
 
-gives_none : (waiting : List ℕ) → position is_newline waiting ≡ None → length waiting ≤ MAX_LINE → next_of (holds waiting) ≡ (gave_none, holds waiting)
+gives_none : (waiting : List ℕ) → position is_newline waiting ≡ None → length waiting ≤ MAX_LINE → next_of (splitting_with waiting) ≡ (gave_none, splitting_with waiting)
 gives_none waiting e short = ap (next_of_lines waiting) (lines-none waiting (no_first_line waiting e)) ∙ rw (le-ltb MAX_LINE (length waiting) short)
 
-gives_up : (waiting : List ℕ) (n : ℕ) → FirstLine waiting n → MAX_LINE < n → next_of (holds waiting) ≡ (failed fault.Long, gave_up)
+gives_up : (waiting : List ℕ) (n : ℕ) → FirstLine waiting n → MAX_LINE < n → next_of (splitting_with waiting) ≡ (failed fault.Long, gave_up)
 gives_up waiting n first long =
     let l = length_by_index waiting n first in
     ap (next_of_lines waiting) (by_index waiting n first) ∙ rw (lt-ltb MAX_LINE (length (take n waiting)) (omega arith))
 
-gives_up_rest : (waiting : List ℕ) → position is_newline waiting ≡ None → MAX_LINE < length waiting → next_of (holds waiting) ≡ (failed fault.Long, gave_up)
+gives_up_rest : (waiting : List ℕ) → position is_newline waiting ≡ None → MAX_LINE < length waiting → next_of (splitting_with waiting) ≡ (failed fault.Long, gave_up)
 gives_up_rest waiting e long = ap (next_of_lines waiting) (lines-none waiting (no_first_line waiting e)) ∙ rw (lt-ltb MAX_LINE (length waiting) long)
 
 -- ---- of a splitter, whose waiting bytes are a slice
 
-whole : (s : Splitting) (slice : List ℕ) → s.broken ≡ false → slice ≡ s.waiting → s ≡ holds slice
+whole : (s : Splitting) (slice : List ℕ) → s.broken ≡ false → slice ≡ s.waiting → s ≡ splitting_with slice
 whole s slice good waiting = ap₂ state (sym waiting) good
 
 pub line_waits : (s : Splitting) (slice : List ℕ) (n : ℕ) → s.broken ≡ false → slice ≡ s.waiting → Some n ≡ position is_newline slice → n ≤ MAX_LINE → EndsNextLine s n

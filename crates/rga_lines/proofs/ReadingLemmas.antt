@@ -22,7 +22,7 @@ use Rattle.rga_lines.specs.Runs.{Stretch, stretch, IsRun, deletion_run, IsDeleti
 use Rattle.rga_lines.specs.declared.run.TheConstants.{MAX_RUN}
 use Rattle.rga_lines.specs.declared.fault.LineFault.{LineFault}
 use Rattle.rga_lines.specs.declared.reading.TheConstants.{MAX_LINE}
-use Rattle.rga_lines.specs.Table.{Reading, AnyReading, only_char, two_numbers, if_in_range, element_of, parent_of, with_order, with_char, with_identifiers, with_types, insertion, with_identifier, with_type, deletion, with_run_order, with_run_chars, with_run_end, with_run_identifiers, with_run_types, run, with_deletion_count, with_deletion_end, with_deletion_identifier, with_deletion_types, deletions, with_version, heading, number_at, ending, one, run_of_deletions, last, of_kind, with_name, with_op, with_count, count_of, text_at, array_at, has, value_line, text_line, any_line_at, operation_alone, line_at}
+use Rattle.rga_lines.specs.Table.{Reading, AnyReading, only_char, two_numbers, if_in_range, element_of, parent_of, with_order, with_char, with_identifiers, with_types, insertion, with_identifier, with_type, deletion, with_run_order, with_run_chars, with_run_end, with_run_identifiers, with_run_types, run, with_deletion_count, with_deletion_end, with_deletion_identifier, with_deletion_types, deletions_reading, with_version, heading, number_at, ending, single_reading, run_of_deletions, last, of_kind, with_name, with_op, with_count, count_of, text_at, array_at, has_member, value_line, text_line, any_line_at, operation_alone, line_at}
 use Rattle.rga_lines.specs.declared.fault.LineFault.TheVariants as fault
 
 -- ---- one character
@@ -140,11 +140,11 @@ sound_if false r q first second = second
 
 sound_insertion : (count : ℕ) (d : Data) → IsSound (insertion count d)
 sound_insertion count d =
-    sound_if ((count == 4) && (has (codes "char") d && (has (codes "id") d && has (codes "parent") d))) (with_types (text_at (codes "char") d) (array_at (codes "id") d) (array_at (codes "parent") d)) (Err fault.Member)
+    sound_if ((count == 4) && (has_member (codes "char") d && (has_member (codes "id") d && has_member (codes "parent") d))) (with_types (text_at (codes "char") d) (array_at (codes "id") d) (array_at (codes "parent") d)) (Err fault.Member)
     (sound_types (text_at (codes "char") d) (array_at (codes "id") d) (array_at (codes "parent") d)) tt
 
 sound_deletion : (count : ℕ) (d : Data) → IsSound (deletion count d)
-sound_deletion count d = sound_if ((count == 2) && has (codes "id") d) (with_type (array_at (codes "id") d)) (Err fault.Member) (sound_type (array_at (codes "id") d)) tt
+sound_deletion count d = sound_if ((count == 2) && has_member (codes "id") d) (with_type (array_at (codes "id") d)) (Err fault.Member) (sound_type (array_at (codes "id") d)) tt
 
 -- the same of what may also be the end of an exchange
 abbrev IsSoundLine : AnyReading → Type 0
@@ -155,7 +155,7 @@ IsSoundLine (Ok Head) = ⊤
 IsSoundLine (Ok (Last operations)) = ⊤
 IsSoundLine (Err e) = ⊤
 
-sound_one : (r : Reading) → IsSound r → IsSoundLine (one r)
+sound_one : (r : Reading) → IsSound r → IsSoundLine (single_reading r)
 sound_one (Ok op) sound = sound
 sound_one (Err e) sound = tt
 
@@ -244,15 +244,15 @@ sound_deletion_types (Some count) (Some id) = by_identifier (element_of id) (ele
 sound_deletion_types (Some count) None = tt
 sound_deletion_types None id = tt
 
-sound_deletions : (count : ℕ) (d : Data) → IsSoundLine (run_of_deletions (deletions count d))
-sound_deletions count d = by_members ((count == 3) && (has (codes "count") d && has (codes "id") d))
+sound_deletions : (count : ℕ) (d : Data) → IsSoundLine (run_of_deletions (deletions_reading count d))
+sound_deletions count d = by_members ((count == 3) && (has_member (codes "count") d && has_member (codes "id") d))
   where
     by_members : (t : Bool) → IsSoundLine (run_of_deletions (cond t (with_deletion_types (number_at (codes "count") d) (array_at (codes "id") d)) (Err fault.Member)))
     by_members true = sound_deletion_types (number_at (codes "count") d) (array_at (codes "id") d)
     by_members false = tt
 
 sound_heading : (count : ℕ) (d : Data) → IsSoundLine (heading count d)
-sound_heading count d = sound_line_if ((count == 2) && has (codes "version") d) (with_version (number_at (codes "version") d)) (Err fault.Member) (by_version (number_at (codes "version") d)) tt
+sound_heading count d = sound_line_if ((count == 2) && has_member (codes "version") d) (with_version (number_at (codes "version") d)) (Err fault.Member) (by_version (number_at (codes "version") d)) tt
   where
     by_version : (version : Option ℕ) → IsSoundLine (with_version version)
     by_version (Some version) = sound_line_if (version == 2) (Ok Head) (Err fault.Kind) tt tt
@@ -262,12 +262,12 @@ sound_kind : (count : ℕ) (d : Data) (name : List ℕ) → IsSoundLine (of_kind
 sound_kind count d name =
     let ends : AnyReading = cond (bytes_eq name (codes "end")) (last (ending count d)) (Err fault.Kind) in
     let heads : AnyReading = cond (bytes_eq name (codes "head")) (heading count d) ends in
-    let dels : AnyReading = cond (bytes_eq name (codes "dels")) (run_of_deletions (deletions count d)) heads in
+    let dels : AnyReading = cond (bytes_eq name (codes "dels")) (run_of_deletions (deletions_reading count d)) heads in
     let runs : AnyReading = cond (bytes_eq name (codes "run")) (run count d) dels in
-    sound_line_if (bytes_eq name (codes "ins")) (one (insertion count d)) (cond (bytes_eq name (codes "del")) (one (deletion count d)) runs) (sound_one (insertion count d) (sound_insertion count d))
-    (sound_line_if (bytes_eq name (codes "del")) (one (deletion count d)) runs (sound_one (deletion count d) (sound_deletion count d))
+    sound_line_if (bytes_eq name (codes "ins")) (single_reading (insertion count d)) (cond (bytes_eq name (codes "del")) (single_reading (deletion count d)) runs) (sound_one (insertion count d) (sound_insertion count d))
+    (sound_line_if (bytes_eq name (codes "del")) (single_reading (deletion count d)) runs (sound_one (deletion count d) (sound_deletion count d))
     (sound_line_if (bytes_eq name (codes "run")) (run count d) dels (sound_run count d)
-    (sound_line_if (bytes_eq name (codes "dels")) (run_of_deletions (deletions count d)) heads (sound_deletions count d)
+    (sound_line_if (bytes_eq name (codes "dels")) (run_of_deletions (deletions_reading count d)) heads (sound_deletions count d)
     (sound_line_if (bytes_eq name (codes "head")) (heading count d) ends (sound_heading count d)
     (sound_line_if (bytes_eq name (codes "end")) (last (ending count d)) (Err fault.Kind) (sound_last (ending count d)) tt)))))
 

@@ -7,7 +7,7 @@ use Rattle.std.proofs.lemmas.List.Elements.{All-head, All-tail}
 use Rattle.serde_json.proofs.OnLiterals.{serde_json_on_literals}
 use Rattle.rga_lines.specs.declared.reading.TheConstants.{MAX_LINE}
 use Rattle.rga_lines.specs.Table.{line_at}
-use Rattle.rga_lines.specs.Stream.{newline, to_first_line, to_rest, lines_of, rest_of, HasNoNewline, bytes_of_lines, BeginsLong, Splitting, EndsNextLine, holds, gave_up, fed, Answer, next_of_lines, next_of, Call, Feed, Next, after_calls, line_in, lines_given, bytes_fed}
+use Rattle.rga_lines.specs.Stream.{newline, to_first_line, to_rest, lines_of, rest_of, HasNoNewline, bytes_of_lines, BeginsLong, Splitting, EndsNextLine, splitting_with, gave_up, fed, Answer, next_of_lines, next_of, StreamCall, Feed, Next, after_calls, line_in, lines_given, bytes_fed}
 use Rattle.rga_lines.specs.declared.fault.LineFault.{LineFault}
 use Rattle.rga_lines.specs.declared.fault.LineFault.TheVariants as fault
 use Rattle.rga_lines.proofs.ReadingLemmas.{too_long, refused, alone}
@@ -25,23 +25,23 @@ abbrev pub failed : LineFault → Answer
 failed e = Err e
 
 abbrev rest_answer : Bool → List ℕ → Answer × Splitting
-rest_answer long waiting = cond long (failed fault.Long, gave_up) (gave_none, holds waiting)
+rest_answer long waiting = cond long (failed fault.Long, gave_up) (gave_none, splitting_with waiting)
 
 abbrev line_answer : Bool → List ℕ → List ℕ → Answer × Splitting
-line_answer long line waiting = cond long (failed fault.Long, gave_up) (gave line, holds (drop (length line + 1) waiting))
+line_answer long line waiting = cond long (failed fault.Long, gave_up) (gave line, splitting_with (drop (length line + 1) waiting))
 
 -- ---- by the answer, what waited
 
 record HadLine (waiting : List ℕ) (lines : List (List ℕ)) (line : List ℕ) (t : Splitting) : Type 0 where
   others : List (List ℕ)
   is : lines ≡ line ∷ others
-  left : t ≡ holds (drop (length line + 1) waiting)
+  left : t ≡ splitting_with (drop (length line + 1) waiting)
 
 rest_is_no_line : (long : Bool) (waiting line : List ℕ) (t : Splitting) → rest_answer long waiting ≡ (gave line, t) → ⊥
 rest_is_no_line true waiting line t e = let f : failed fault.Long ≡ gave line = ap (λ (p : Answer × Splitting). p.0) e in cc
 rest_is_no_line false waiting line t e = let f : gave_none ≡ gave line = ap (λ (p : Answer × Splitting). p.0) e in cc
 
-line_is : (long : Bool) (first waiting line : List ℕ) (t : Splitting) → line_answer long first waiting ≡ (gave line, t) → (first ≡ line) × (t ≡ holds (drop (length first + 1) waiting))
+line_is : (long : Bool) (first waiting line : List ℕ) (t : Splitting) → line_answer long first waiting ≡ (gave line, t) → (first ≡ line) × (t ≡ splitting_with (drop (length first + 1) waiting))
 line_is true first waiting line t e = let f : failed fault.Long ≡ gave line = ap (λ (p : Answer × Splitting). p.0) e in absurd cc
 line_is false first waiting line t e =
     let f : gave first ≡ gave line = ap (λ (p : Answer × Splitting). p.0) e in
@@ -55,15 +55,15 @@ had_line waiting (first ∷ others) line t e =
     record {
       others = others;
       is = ap (λ (l : List ℕ). l ∷ others) h.0;
-      left = h.1 ∙ ap (λ (l : List ℕ). holds (drop (length l + 1) waiting)) h.0;
+      left = h.1 ∙ ap (λ (l : List ℕ). splitting_with (drop (length l + 1) waiting)) h.0;
     }
 
 record HadNone (waiting : List ℕ) (lines : List (List ℕ)) (t : Splitting) : Type 0 where
   is : lines ≡ []
-  left : t ≡ holds waiting
+  left : t ≡ splitting_with waiting
   short : length waiting ≤ MAX_LINE
 
-rest_is : (long : Bool) (waiting : List ℕ) (t : Splitting) → rest_answer long waiting ≡ (gave_none, t) → (long ≡ false) × (t ≡ holds waiting)
+rest_is : (long : Bool) (waiting : List ℕ) (t : Splitting) → rest_answer long waiting ≡ (gave_none, t) → (long ≡ false) × (t ≡ splitting_with waiting)
 rest_is true waiting t e = let f : failed fault.Long ≡ gave_none = ap (λ (p : Answer × Splitting). p.0) e in absurd cc
 rest_is false waiting t e = (refl, sym (ap (λ (p : Answer × Splitting). p.1) e))
 
@@ -154,10 +154,10 @@ gives_line s t line good e =
     }
 
 -- the same of a line that was lent, and then passed
-pub passes_line : (s t u : Splitting) (line : List ℕ) (end : ℕ) → s.broken ≡ false → t ≡ s → EndsNextLine s end → line ≡ take end t.waiting → u ≡ holds (drop (end + 1) t.waiting) → GivesLine s u line
+pub passes_line : (s t u : Splitting) (line : List ℕ) (end : ℕ) → s.broken ≡ false → t ≡ s → EndsNextLine s end → line ≡ take end t.waiting → u ≡ splitting_with (drop (end + 1) t.waiting) → GivesLine s u line
 passes_line s t u line end good same next lent left =
-    let is : (gave (take end s.waiting), holds (drop (end + 1) s.waiting)) ≡ (gave line, u) =
-    ap (λ (w : List ℕ). let p : Answer × Splitting = (gave (take end w), holds (drop (end + 1) w)) in p) (ap (λ (v : Splitting). v.waiting) (sym same)) ∙ ap₂ (λ (l : List ℕ) (v : Splitting). let p : Answer × Splitting = (gave l, v) in p) (sym lent) (sym left) in
+    let is : (gave (take end s.waiting), splitting_with (drop (end + 1) s.waiting)) ≡ (gave line, u) =
+    ap (λ (w : List ℕ). let p : Answer × Splitting = (gave (take end w), splitting_with (drop (end + 1) w)) in p) (ap (λ (v : Splitting). v.waiting) (sym same)) ∙ ap₂ (λ (l : List ℕ) (v : Splitting). let p : Answer × Splitting = (gave l, v) in p) (sym lent) (sym left) in
     gives_line s u line good (next.next ∙ is)
 
 -- ---- no line
@@ -171,7 +171,7 @@ pub record GivesNone (s t : Splitting) : Type 0 where
   pub rest : rest_of s.waiting ≡ s.waiting
   pub short : length s.waiting ≤ MAX_LINE
 
-whole_state : (s : Splitting) → s.broken ≡ false → s ≡ holds s.waiting
+whole_state : (s : Splitting) → s.broken ≡ false → s ≡ splitting_with s.waiting
 whole_state s good = ap (λ (b : Bool). let t : Splitting = record { waiting = s.waiting; broken = b } in t) good
 
 pub gives_none : (s t : Splitting) → s.broken ≡ false → next_of s ≡ (Ok None, t) → GivesNone s t
@@ -220,7 +220,7 @@ gives_up s t e good is =
 
 -- ---- a piece
 
-pub fed_holds : (s t : Splitting) (piece : List ℕ) → s.broken ≡ false → t ≡ fed piece s → t ≡ holds (s.waiting ++ piece)
+pub fed_holds : (s t : Splitting) (piece : List ℕ) → s.broken ≡ false → t ≡ fed piece s → t ≡ splitting_with (s.waiting ++ piece)
 fed_holds s t piece good e = rw good at e
 
 -- ---- many calls
@@ -249,7 +249,7 @@ ends_after_line s t line more given end h ends = record {
 ends_long : (bytes : List ℕ) → BeginsLong (lines_of bytes) (rest_of bytes) → Ends bytes [] gave_up
 ends_long bytes long = record { whole = λ e. absurd (true≢false e); broken = λ _. (lines_of bytes, refl, long) }
 
-given_up : (calls : List Call) → (after_calls gave_up calls ≡ gave_up) × (lines_given gave_up calls ≡ [])
+given_up : (calls : List StreamCall) → (after_calls gave_up calls ≡ gave_up) × (lines_given gave_up calls ≡ [])
 given_up [] = (refl, refl)
 given_up (Feed piece ∷ calls) = given_up calls
 given_up (Next ∷ calls) = given_up calls
@@ -264,13 +264,13 @@ next_cases s (Ok (Some line)) t e = line_next line t e
 next_cases s (Ok None) t e = none_next t e
 next_cases s (Err x) t e = fault_next x t e
 
-abbrev EndsNext : List ℕ → List Call → Answer × Splitting → Type 0
+abbrev EndsNext : List ℕ → List StreamCall → Answer × Splitting → Type 0
 EndsNext bytes calls p = Ends bytes (line_in p.0 ++ lines_given p.1 calls) (after_calls p.1 calls)
 
-abbrev EndsAfter : List ℕ → List Call → Splitting → Type 0
+abbrev EndsAfter : List ℕ → List StreamCall → Splitting → Type 0
 EndsAfter bytes calls t = Ends bytes (lines_given t calls) (after_calls t calls)
 
-ends_next : (s : Splitting) (calls : List Call) → s.broken ≡ false → ((t : Splitting) → t.broken ≡ false → EndsAfter (t.waiting ++ bytes_fed calls) calls t)
+ends_next : (s : Splitting) (calls : List StreamCall) → s.broken ≡ false → ((t : Splitting) → t.broken ≡ false → EndsAfter (t.waiting ++ bytes_fed calls) calls t)
     → NextCases s → EndsNext (s.waiting ++ bytes_fed calls) calls (next_of s)
 ends_next s calls good later (line_next line t e) =
     let h = gives_line s t line good e in
@@ -285,11 +285,11 @@ ends_next s calls good later (fault_next x t e) =
     let done : EndsAfter (s.waiting ++ bytes_fed calls) calls gave_up = rw (over.0, over.1) (ends_long (s.waiting ++ bytes_fed calls) long) in
     subst (EndsNext (s.waiting ++ bytes_fed calls) calls) (sym e) (subst (EndsAfter (s.waiting ++ bytes_fed calls) calls) (sym h.left) done)
 
-pub ends : (s : Splitting) (calls : List Call) → s.broken ≡ false → Ends (s.waiting ++ bytes_fed calls) (lines_given s calls) (after_calls s calls)
+pub ends : (s : Splitting) (calls : List StreamCall) → s.broken ≡ false → Ends (s.waiting ++ bytes_fed calls) (lines_given s calls) (after_calls s calls)
 ends s [] good = ends_here s good
 ends s (Feed piece ∷ calls) good =
     let next = fed_holds s (fed piece s) piece good refl in
-    let done = subst (λ (bytes : List ℕ). EndsAfter bytes calls (holds (s.waiting ++ piece))) (append_assoc s.waiting piece (bytes_fed calls)) (ends (holds (s.waiting ++ piece)) calls refl) in
+    let done = subst (λ (bytes : List ℕ). EndsAfter bytes calls (splitting_with (s.waiting ++ piece))) (append_assoc s.waiting piece (bytes_fed calls)) (ends (splitting_with (s.waiting ++ piece)) calls refl) in
     subst (EndsAfter (s.waiting ++ (piece ++ bytes_fed calls)) calls) (sym next) done
 ends s (Next ∷ calls) good = ends_next s calls good (λ t better. ends t calls better) (next_cases s (next_of s).0 (next_of s).1 refl)
 

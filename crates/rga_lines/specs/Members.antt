@@ -47,15 +47,15 @@ data_of (Id id) = pair_data id
 data_of (Op kind) = kind_data kind
 data_of (Parent id) = pair_data id
 
-abbrev pub IsSound : Member → Type 0
-IsSound (Char ch) = IsScalar ch
-IsSound (Id id) = IsElement id
-IsSound (Op kind) = Unit {0}
-IsSound (Parent id) = IsElementOrRoot id
+abbrev pub IsSoundMember : Member → Type 0
+IsSoundMember (Char ch) = IsScalar ch
+IsSoundMember (Id id) = IsElement id
+IsSoundMember (Op kind) = Unit {0}
+IsSoundMember (Parent id) = IsElementOrRoot id
 
 abbrev pub AreSound : List Member → Type 0
 AreSound [] = Unit {0}
-AreSound (m ∷ ms) = IsSound m × AreSound ms
+AreSound (m ∷ ms) = IsSoundMember m × AreSound ms
 
 -- ---- lexemes
 
@@ -97,15 +97,15 @@ members_lexemes m (n ∷ ms) = member_lexemes m ++ comma ∷ members_lexemes n m
 -- ---- what bytes begin with, and then the rest
 
 -- these lexemes, with any blanks before each
-abbrev pub BeginsWith : List ℕ → List Lexeme → List ℕ → Type 0
-BeginsWith bytes lexemes rest = lex between bytes ≡ lexemes ++ lex between rest
+abbrev pub BeginsWithLexemes : List ℕ → List Lexeme → List ℕ → Type 0
+BeginsWithLexemes bytes lexemes rest = lex between bytes ≡ lexemes ++ lex between rest
 
 -- a text of one character
 abbrev pub BeginsWithCharText : List ℕ → ℕ → List ℕ → Type 0
-BeginsWithCharText bytes ch rest = BeginsWith bytes (text_lexemes (encode_utf8 ch)) rest × IsScalar ch
+BeginsWithCharText bytes ch rest = BeginsWithLexemes bytes (text_lexemes (encode_utf8 ch)) rest × IsScalar ch
 
 abbrev pub BeginsWithMember : List ℕ → Member → List ℕ → Type 0
-BeginsWithMember bytes m rest = BeginsWith bytes (member_lexemes m) rest × IsSound m
+BeginsWithMember bytes m rest = BeginsWithLexemes bytes (member_lexemes m) rest × IsSoundMember m
 
 -- a hexadecimal digit that stands for the number
 pub record BeginsWithHexDigit (bytes : List ℕ) (value : ℕ) (rest : List ℕ) : Type 0 where
@@ -123,17 +123,17 @@ BeginsWithEscape bytes ch rest =
 
 -- ---- what was found
 
-abbrev pub one : {A : Type 0} → Option A → ℕ
-one None = 0
-one (Some x) = 1
+abbrev pub count_found : {A : Type 0} → Option A → ℕ
+count_found None = 0
+count_found (Some x) = 1
 
 -- the object has exactly the members that were found
-pub record Holds (found : Found) (ms : Members) : Type 0 where
+pub record HasExactly (found : Found) (ms : Members) : Type 0 where
   pub char : get_member (codes "char") ms ≡ option_map char_data found.ch
   pub id : get_member (codes "id") ms ≡ option_map pair_data found.id
   pub op : get_member (codes "op") ms ≡ option_map kind_data found.kind
   pub parent : get_member (codes "parent") ms ≡ option_map pair_data found.parent
-  pub count : members_len ms ≡ one found.ch + one found.id + one found.kind + one found.parent
+  pub count : members_len ms ≡ count_found found.ch + count_found found.id + count_found found.kind + count_found found.parent
   pub scalar : IfSome found.ch IsScalar
   pub element : IfSome found.id IsElement
   pub element_or_root : IfSome found.parent IsElementOrRoot
@@ -152,4 +152,4 @@ pub record ListsMembers (bytes : List ℕ) (found all : Found) : Type 0 where
   pub others : List Member
   pub lexemes : lex between bytes ≡ members_lexemes first others
   pub sound : AreSound (first ∷ others)
-  pub holds : (ms : Members) → Holds found ms → Holds all (with_all (first ∷ others) ms)
+  pub holds : (ms : Members) → HasExactly found ms → HasExactly all (with_all (first ∷ others) ms)

@@ -74,15 +74,15 @@ pub record IsKept (buffer : List ℕ) (len start searched : ℕ) (broken : Bool)
   pub none : HasNoNewline (take searched (drop start buffer))
   pub empty : broken ≡ true → buffer ≡ []
 
-abbrev pub holds : List ℕ → Splitting
-holds waiting = record { waiting = waiting; broken = false }
+abbrev pub splitting_with : List ℕ → Splitting
+splitting_with waiting = record { waiting = waiting; broken = false }
 
 abbrev pub gave_up : Splitting
 gave_up = record { waiting = []; broken = true }
 
 -- what is fed after a line that was too long is not kept
 abbrev pub fed : List ℕ → Splitting → Splitting
-fed piece s = if s.broken then s else holds (s.waiting ++ piece)
+fed piece s = if s.broken then s else splitting_with (s.waiting ++ piece)
 
 -- a line, or none where no whole one waits, or a fault
 abbrev pub Answer : Type 0
@@ -92,10 +92,10 @@ Answer = Result (Option (List ℕ)) LineFault
 abbrev pub next_of_lines : List ℕ → List (List ℕ) → Answer × Splitting
 next_of_lines waiting [] =
     if nat_lt MAX_LINE (length waiting) then (Err fault.Long, gave_up)
-    else (Ok None, holds waiting)
+    else (Ok None, splitting_with waiting)
 next_of_lines waiting (line ∷ lines) =
     if nat_lt MAX_LINE (length line) then (Err fault.Long, gave_up)
-    else (Ok (Some line), holds (drop (length line + 1) waiting))
+    else (Ok (Some line), splitting_with (drop (length line + 1) waiting))
 
 -- what the next line is, and what is left
 abbrev pub next_of : Splitting → Answer × Splitting
@@ -104,15 +104,15 @@ next_of s = if s.broken then (Err fault.Long, s) else next_of_lines s.waiting (l
 -- the next line is what waits before this index, and what waits behind it is left
 pub record EndsNextLine (s : Splitting) (end : ℕ) : Type 0 where
   pub within : end < length s.waiting
-  pub next : next_of s ≡ (Ok (Some (take end s.waiting)), holds (drop (end + 1) s.waiting))
+  pub next : next_of s ≡ (Ok (Some (take end s.waiting)), splitting_with (drop (end + 1) s.waiting))
 
 -- ---- many calls; one that finds no memory changes nothing, and is left out
 
-pub data Call : Type 0 where
-  Feed : List ℕ → Call
-  Next : Call
+pub data StreamCall : Type 0 where
+  Feed : List ℕ → StreamCall
+  Next : StreamCall
 
-abbrev pub after_calls : Splitting → List Call → Splitting
+abbrev pub after_calls : Splitting → List StreamCall → Splitting
 after_calls s [] = s
 after_calls s (Feed piece ∷ calls) = after_calls (fed piece s) calls
 after_calls s (Next ∷ calls) = after_calls (next_of s).1 calls
@@ -122,12 +122,12 @@ line_in (Ok (Some line)) = line ∷ []
 line_in (Ok None) = []
 line_in (Err e) = []
 
-abbrev pub lines_given : Splitting → List Call → List (List ℕ)
+abbrev pub lines_given : Splitting → List StreamCall → List (List ℕ)
 lines_given s [] = []
 lines_given s (Feed piece ∷ calls) = lines_given (fed piece s) calls
 lines_given s (Next ∷ calls) = line_in (next_of s).0 ++ lines_given (next_of s).1 calls
 
-abbrev pub bytes_fed : List Call → List ℕ
+abbrev pub bytes_fed : List StreamCall → List ℕ
 bytes_fed [] = []
 bytes_fed (Feed piece ∷ calls) = piece ++ bytes_fed calls
 bytes_fed (Next ∷ calls) = bytes_fed calls

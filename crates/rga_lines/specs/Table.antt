@@ -28,8 +28,8 @@ AnyReading = Result Line LineFault
 
 -- ---- members
 
-abbrev pub has : List ℕ → Data → Bool
-has name d = is_some (get name d)
+abbrev pub has_member : List ℕ → Data → Bool
+has_member name d = is_some (get name d)
 
 -- how many members the object has
 abbrev pub count_of : Data → Option ℕ
@@ -103,7 +103,7 @@ with_types _ _ _ = Err fault.Kind
 -- The members are these four: there are four, and each of the other three is there.
 abbrev pub insertion : ℕ → Data → Reading
 insertion count d =
-    if (count == 4) && (has (codes "char") d && (has (codes "id") d && has (codes "parent") d)) then
+    if (count == 4) && (has_member (codes "char") d && (has_member (codes "id") d && has_member (codes "parent") d)) then
     with_types (text_at (codes "char") d) (array_at (codes "id") d) (array_at (codes "parent") d)
     else Err fault.Member
 
@@ -119,7 +119,7 @@ with_type None = Err fault.Kind
 
 abbrev pub deletion : ℕ → Data → Reading
 deletion count d =
-    if (count == 2) && has (codes "id") d then with_type (array_at (codes "id") d)
+    if (count == 2) && has_member (codes "id") d then with_type (array_at (codes "id") d)
     else Err fault.Member
 
 -- ---- a run
@@ -151,7 +151,7 @@ with_run_types _ _ _ = Err fault.Kind
 -- The members are these four: there are four, and each of the other three is there.
 abbrev pub run : ℕ → Data → AnyReading
 run count d =
-    if (count == 4) && (has (codes "id") d && (has (codes "parent") d && has (codes "text") d)) then
+    if (count == 4) && (has_member (codes "id") d && (has_member (codes "parent") d && has_member (codes "text") d)) then
     with_run_types (text_at (codes "text") d) (array_at (codes "id") d) (array_at (codes "parent") d)
     else Err fault.Member
 
@@ -175,9 +175,9 @@ with_deletion_types (Some count) (Some id) = with_deletion_identifier (element_o
 with_deletion_types _ _ = Err fault.Kind
 
 -- The members are these three: there are three, and each of the other two is there.
-abbrev pub deletions : ℕ → Data → Result DeletionRun LineFault
-deletions members d =
-    if (members == 3) && (has (codes "count") d && has (codes "id") d) then
+abbrev pub deletions_reading : ℕ → Data → Result DeletionRun LineFault
+deletions_reading members d =
+    if (members == 3) && (has_member (codes "count") d && has_member (codes "id") d) then
     with_deletion_types (number_at (codes "count") d) (array_at (codes "id") d)
     else Err fault.Member
 
@@ -189,7 +189,7 @@ with_version None = Err fault.Kind
 
 abbrev pub heading : ℕ → Data → AnyReading
 heading count d =
-    if (count == 2) && has (codes "version") d then with_version (number_at (codes "version") d)
+    if (count == 2) && has_member (codes "version") d then with_version (number_at (codes "version") d)
     else Err fault.Member
 
 -- ---- the end of an exchange
@@ -197,14 +197,14 @@ heading count d =
 -- how many operations the exchange had
 abbrev pub ending : ℕ → Data → Result ℕ LineFault
 ending count d =
-    if (count == 2) && has (codes "count") d then ok_or (number_at (codes "count") d) fault.Kind
+    if (count == 2) && has_member (codes "count") d then ok_or (number_at (codes "count") d) fault.Kind
     else Err fault.Member
 
 -- ---- the whole
 
-abbrev pub one : Reading → AnyReading
-one (Ok op) = Ok (One op)
-one (Err e) = Err e
+abbrev pub single_reading : Reading → AnyReading
+single_reading (Ok op) = Ok (One op)
+single_reading (Err e) = Err e
 
 abbrev pub run_of_deletions : Result DeletionRun LineFault → AnyReading
 run_of_deletions (Ok r) = Ok (Deletions r)
@@ -216,10 +216,10 @@ last (Err e) = Err e
 
 abbrev pub of_kind : ℕ → Data → List ℕ → AnyReading
 of_kind count d name =
-    if bytes_eq name (codes "ins") then one (insertion count d)
-    else (if bytes_eq name (codes "del") then one (deletion count d)
+    if bytes_eq name (codes "ins") then single_reading (insertion count d)
+    else (if bytes_eq name (codes "del") then single_reading (deletion count d)
     else (if bytes_eq name (codes "run") then run count d
-    else (if bytes_eq name (codes "dels") then run_of_deletions (deletions count d)
+    else (if bytes_eq name (codes "dels") then run_of_deletions (deletions_reading count d)
     else (if bytes_eq name (codes "head") then heading count d
     else (if bytes_eq name (codes "end") then last (ending count d)
     else Err fault.Kind)))))

@@ -9,7 +9,7 @@ ghost use Rattle.rga_lines.specs.declared.deletion_run.DeletionRun.{DeletionRun}
 ghost use Rattle.rga_lines.specs.Spelling.{line, end_line, head_line, run_line, deletion_run_line};
 ghost use Rattle.rga_lines.specs.Spelling.{IsWritable, IsWritableRun};
 ghost use Rattle.rga_lines.specs.Stream.{HasNoNewline, lines_of, rest_of, IsCut, BeginsLong};
-ghost use Rattle.rga_lines.specs.Stream.{Call, holds, after_calls, lines_given, bytes_fed};
+ghost use Rattle.rga_lines.specs.Stream.{StreamCall, splitting_with, after_calls, lines_given, bytes_fed};
 ghost use Rattle.rga_lines.specs.declared.reading.Line.TheVariants.{One, Run as RunLine, Deletions, Head, Last};
 ghost use Rattle.rga_lines.specs.declared.fault.LineFault.{LineFault};
 ghost use Rattle.rga_lines.specs.declared.fault.LineFault.TheVariants.{Kind};
@@ -96,12 +96,14 @@ pub fn a_stream_has_one_cut()
 /// in whatever pieces and between whatever calls. Where it gave up, the lines before are those of
 /// the stream, and the next one has more than `MAX_LINE` bytes, or the rest where there is none.
 pub fn lines_do_not_depend_on_the_cutting()
-    ensures whole { (calls : List Call) → let end = after_calls (holds []) calls in
+    ensures whole { (calls : List StreamCall) → let end = after_calls (splitting_with []) calls in
         end.broken ≡ false
-        → (lines_of (bytes_fed calls) ≡ lines_given (holds []) calls ++ lines_of end.waiting)
+        → (lines_of (bytes_fed calls) ≡ lines_given (splitting_with []) calls
+        ++ lines_of end.waiting)
         × (rest_of (bytes_fed calls) ≡ rest_of end.waiting) }
-    ensures broken { (calls : List Call) → (after_calls (holds []) calls).broken ≡ true
+    ensures broken { (calls : List StreamCall)
+        → (after_calls (splitting_with []) calls).broken ≡ true
         → (others : List (List ℕ))
-        × (lines_of (bytes_fed calls) ≡ lines_given (holds []) calls ++ others)
+        × (lines_of (bytes_fed calls) ≡ lines_given (splitting_with []) calls ++ others)
         × BeginsLong others (rest_of (bytes_fed calls)) }
 {}

@@ -5,7 +5,7 @@ ghost use Rattle.json.specs.Word.{is_operator, is_space, ends_word};
 ghost use Rattle.json.specs.Lex.{between, lex};
 ghost use Rattle.json.specs.Print.{escape};
 ghost use Rattle.rga_lines.specs.Members.{operator_lexemes, text_lexemes, name_lexemes};
-ghost use Rattle.rga_lines.specs.Members.{number_lexemes, BeginsWith, BeginsWithCharText};
+ghost use Rattle.rga_lines.specs.Members.{number_lexemes, BeginsWithLexemes, BeginsWithCharText};
 ghost use Rattle.rga_lines.specs.Members.{BeginsWithEscape, BeginsWithHexDigit};
 
 use crate::parts;
@@ -34,7 +34,8 @@ fn is_blank(byte: u8) -> bool
 /// What stands behind a bracket, a comma or a colon.
 pub(crate) fn after_operator(bytes: &[u8], operator: u8) -> Option<&[u8]>
     requires { is_operator operator ≡ true }
-    ensures { IfSome result (λ rest. BeginsWith bytes.now (operator_lexemes operator) rest.now) }
+    ensures { IfSome result
+        (λ rest. BeginsWithLexemes bytes.now (operator_lexemes operator) rest.now) }
 {
     let (first, rest) = after_blanks(bytes).split_first()?;
     if *first == operator { Some(rest) } else { None }
@@ -43,7 +44,7 @@ pub(crate) fn after_operator(bytes: &[u8], operator: u8) -> Option<&[u8]>
 /// What stands behind a text, where it is spelled without escapes.
 pub(crate) fn after_text<'a>(bytes: &'a [u8], text: &str) -> Option<&'a [u8]>
     requires { escape text.now ≡ text.now }
-    ensures { IfSome result (λ rest. BeginsWith bytes.now (text_lexemes text.now) rest.now) }
+    ensures { IfSome result (λ rest. BeginsWithLexemes bytes.now (text_lexemes text.now) rest.now) }
 {
     let rest = after(after_blanks(bytes), b"\"")?;
     let rest = after(rest, text.as_bytes())?;
@@ -53,7 +54,7 @@ pub(crate) fn after_text<'a>(bytes: &'a [u8], text: &str) -> Option<&'a [u8]>
 /// What stands behind the name of a member and its colon.
 pub(crate) fn after_name<'a>(bytes: &'a [u8], name: &str) -> Option<&'a [u8]>
     requires { escape name.now ≡ name.now }
-    ensures { IfSome result (λ rest. BeginsWith bytes.now (name_lexemes name.now) rest.now) }
+    ensures { IfSome result (λ rest. BeginsWithLexemes bytes.now (name_lexemes name.now) rest.now) }
 {
     after_operator(after_text(bytes, name)?, b':')
 }
@@ -97,7 +98,7 @@ fn hex_digit(bytes: &[u8]) -> Option<(u32, &[u8])>
 
 /// A whole number that is spelled in digits alone, and what stands behind it.
 pub(crate) fn number(bytes: &[u8]) -> Option<(u64, &[u8])>
-    ensures { IfSome result (λ p. BeginsWith bytes.now (number_lexemes p.0) p.1.now) }
+    ensures { IfSome result (λ p. BeginsWithLexemes bytes.now (number_lexemes p.0) p.1.now) }
 {
     let (value, rest) = parts::number(after_blanks(bytes))?;
     if ends_word(rest) {

@@ -5,8 +5,8 @@ ghost use Rattle.serde_json.specs.Data.{Members, object, no_members};
 ghost use Rattle.rga_ops.specs.Identifier.{identifier};
 ghost use Rattle.rga_ops.specs.Operation.{checked};
 ghost use Rattle.rga_lines.specs.Members.{name_of_kind, text_lexemes, pair_lexemes, with_member};
-ghost use Rattle.rga_lines.specs.Members.{BeginsWith, BeginsWithMember, ListsMembers};
-ghost use Rattle.rga_lines.specs.Members.{IsSound, Holds};
+ghost use Rattle.rga_lines.specs.Members.{BeginsWithLexemes, BeginsWithMember, ListsMembers};
+ghost use Rattle.rga_lines.specs.Members.{IsSoundMember, HasExactly};
 ghost use Rattle.rga_lines.specs.Spelling.{IsElement, IsElementOrRoot};
 ghost use Rattle.rga_lines.specs.Table.{value_line, any_line_at};
 ghost use Rattle.rga_lines.specs.declared.reading.Line.TheVariants.{One};
@@ -105,7 +105,7 @@ fn first_member(bytes: &[u8]) -> Option<(Member, &[u8])>
 
 /// The identifier of an element between brackets, and what stands behind it.
 fn element_in(bytes: &[u8]) -> Option<(Id, &[u8])>
-    ensures { IfSome result (λ p. BeginsWith bytes.now (pair_lexemes p.0) p.1.now
+    ensures { IfSome result (λ p. BeginsWithLexemes bytes.now (pair_lexemes p.0) p.1.now
         × IsElement p.0) }
 {
     let (counter, replica, rest) = pair(bytes)?;
@@ -115,7 +115,7 @@ fn element_in(bytes: &[u8]) -> Option<(Id, &[u8])>
 
 /// The same of the identifier of an element, or the root.
 fn element_or_root_in(bytes: &[u8]) -> Option<(Id, &[u8])>
-    ensures { IfSome result (λ p. BeginsWith bytes.now (pair_lexemes p.0) p.1.now
+    ensures { IfSome result (λ p. BeginsWithLexemes bytes.now (pair_lexemes p.0) p.1.now
         × IsElementOrRoot p.0) }
 {
     let (counter, replica, rest) = pair(bytes)?;
@@ -126,7 +126,8 @@ fn element_or_root_in(bytes: &[u8]) -> Option<(Id, &[u8])>
 /// What an operation does, by its name, and what stands behind the name.
 #[tactic(auto, unfolding(json::specs::Print::escape_byte))]
 fn kind_of(bytes: &[u8]) -> Option<(Kind, &[u8])>
-    ensures { IfSome result (λ p. BeginsWith bytes.now (text_lexemes (name_of_kind p.0)) p.1.now) }
+    ensures { IfSome result
+        (λ p. BeginsWithLexemes bytes.now (text_lexemes (name_of_kind p.0)) p.1.now) }
 {
     if let Some(rest) = after_text(bytes, "ins") {
         Some((Kind::Insertion, rest))
@@ -139,7 +140,7 @@ fn kind_of(bytes: &[u8]) -> Option<(Kind, &[u8])>
 /// Two numbers between brackets, and what stands behind them.
 fn pair(bytes: &[u8]) -> Option<(u64, u16, &[u8])>
     ensures { IfSome result (λ p.
-        BeginsWith bytes.now (pair_lexemes (identifier p.0 p.1)) p.2.now) }
+        BeginsWithLexemes bytes.now (pair_lexemes (identifier p.0 p.1)) p.2.now) }
 {
     let (counter, rest) = number(after_operator(bytes, b'[')?)?;
     let (replica, rest) = number(after_operator(rest, b',')?)?;
@@ -150,7 +151,7 @@ fn pair(bytes: &[u8]) -> Option<(u64, u16, &[u8])>
 
 impl Found {
     fn new() -> Found
-        ensures { Holds result no_members }
+        ensures { HasExactly result no_members }
     {
         Found {
             ch: None,
@@ -162,8 +163,8 @@ impl Found {
 
     /// With one member more. `None` where it was there already.
     fn with(self, member: Member) -> Option<Found>
-        ensures { (ms : Members) → IsSound member → Holds self ms
-            → IfSome result (λ all. Holds all (with_member member ms)) }
+        ensures { (ms : Members) → IsSoundMember member → HasExactly self ms
+            → IfSome result (λ all. HasExactly all (with_member member ms)) }
     {
         match member {
             Member::Char(ch) if self.ch.is_none() => Some(Found {
@@ -188,7 +189,7 @@ impl Found {
 
     /// The operation that has exactly these members.
     fn operation(self) -> Option<Op>
-        ensures { (ms : Members) → Holds self ms
+        ensures { (ms : Members) → HasExactly self ms
             → IfSome result (λ op. checked op ≡ Ok tt → value_line (object ms) ≡ Ok (One op)) }
     {
         let (Some(kind), Some(id)) = (self.kind, self.id) else {

@@ -3,7 +3,7 @@ ghost use Rattle.std.specs.Prelude.{◌≡◌, ◌≢◌, ◌<◌, length, IfOk,
 ghost use Rattle.std.specs.Str.{chars};
 ghost use Rattle.serde_json.specs.View.{view, items_view};
 ghost use Rattle.rga_lines.specs.Table.{count_of, two_numbers, element_of, parent_of};
-ghost use Rattle.rga_lines.specs.Table.{insertion, deletion, run, deletions, heading, ending};
+ghost use Rattle.rga_lines.specs.Table.{insertion, deletion, run, deletions_reading, heading, ending};
 ghost use Rattle.rga_lines.specs.Table.{with_run_end, last, of_kind, operation_alone};
 ghost use Rattle.rga_lines.specs.Table.{value_line, any_line_at, line_at};
 ghost use Rattle.rga_lines.specs.declared.fault.LineFault.TheVariants.{Memory, Long};
@@ -256,7 +256,7 @@ fn characters(alloc: Global, text: &str) -> Result<Vec<char>, LineFault>
 
 /// A run of deletions, by an object of so many members.
 fn deletions(members: usize, value: &Value) -> Result<DeletionRun, LineFault>
-    ensures { result ≡ deletions members (view value.now) }
+    ensures { result ≡ deletions_reading members (view value.now) }
 {
     if members != 3 {
         return Err(LineFault::Member);

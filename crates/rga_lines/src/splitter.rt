@@ -3,7 +3,7 @@ ghost use Rattle.std.specs.Prelude.{◌≡◌, ◌≢◌, ◌==◌, ◌≤◌, �
 ghost use Rattle.std.specs.Prelude.{IsOk, IfOk, IfErr, OnOk, OnErr, MatchOption, option_map};
 ghost use Rattle.std.specs.Prelude.{vec_items, vec_len, length, take, drop, position};
 ghost use Rattle.rga_lines.specs.Stream.{Splitting, splitting_code, IsKept, HasNoNewline};
-ghost use Rattle.rga_lines.specs.Stream.{EndsNextLine, holds, newline, fed, next_of};
+ghost use Rattle.rga_lines.specs.Stream.{EndsNextLine, splitting_with, newline, fed, next_of};
 ghost use Rattle.rga_lines.specs.declared.fault.LineFault.TheVariants.{Long, Memory};
 
 use crate::fault::LineFault;
@@ -38,7 +38,7 @@ impl Model for Splitter {
 impl Splitter {
     /// A splitter that was fed nothing. Takes no memory.
     pub fn new(alloc: Global) -> Self
-        ensures { result ≡ holds [] }
+        ensures { result ≡ splitting_with [] }
     {
         Splitter {
             buffer: Vec::new(alloc),
@@ -149,7 +149,7 @@ impl Splitter {
     /// `find_line` gave its length.
     pub fn pass_line(&mut self, end: usize)
         requires { end < length self.old.waiting }
-        ensures { self.new ≡ holds (drop (end + 1) self.old.waiting) }
+        ensures { self.new ≡ splitting_with (drop (end + 1) self.old.waiting) }
     {
         self.searched = 0;
         self.start += end + 1;

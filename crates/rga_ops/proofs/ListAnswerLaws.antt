@@ -306,12 +306,6 @@ one_by_one_list limit c d ops within h =
 
 -- ---- a list in parts
 
-pub well_formed_append : (xs ys : List Op) → AreWellFormed (xs ++ ys) ↔ (AreWellFormed xs × AreWellFormed ys)
-well_formed_append xs ys = (
-  λ w. (λ op m. w op (Contains-append_left xs ys op m), λ op m. w op (Contains-append_right xs ys op m)),
-  λ (first, second) op m. elim (Contains-append xs ys op m) [ inl here ↦ first op here | inr there ↦ second op there ],
-)
-
 pub joinable_append : (c : Content) (xs ys : List Op) → IsJoinable c (xs ++ ys) ↔ (IsJoinable c xs × IsJoinable (join c (content_of xs)) ys)
 joinable_append c xs ys = (
   λ w. apart (first_conflict c xs) refl (sym (first_conflict-append c xs ys) ∙ (no_conflict-iff c (xs ++ ys)).1 w),

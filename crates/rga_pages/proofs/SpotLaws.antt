@@ -9,7 +9,7 @@ use Rattle.std.specs.Map.{remove_entry, set_value}
 use Rattle.rga_ops.specs.Identifier.{Identifier, id_cmp}
 use Rattle.rga_ops.proofs.IdentifierLaws.{is, ids_total}
 use Rattle.rga_pages.specs.declared.entry.Record.{Record}
-use Rattle.rga_pages.specs.Pages.{Entries, record_of, flat, before, behind, AreOrdered, AreBelow, StartsAbove, StartsAt, AreFilled, ArePages, IsSpot}
+use Rattle.rga_pages.specs.Pages.{Entries, record_of, entries_in, entries_before, entries_behind, AreOrdered, AreBelow, StartsAbove, StartsAt, AreFilledPages, ArePages, IsSpot}
 use Rattle.rga_pages.proofs.EntryLaws.{before_below, above_append, below_append, insert_between, insert_over, set_between, ordered_insert, remove_between, ordered_remove, record_between, record_absent}
 use Rattle.rga_pages.proofs.PlaceLaws.{starts_at, one_up, page_at, place_at, parted, before_is, behind_is, index_there, Stood, stood, put_there, set_there, removed_there, page_gone}
 
@@ -22,34 +22,34 @@ none_flat : (ps : List Entries) → length ps ≡ 0 → ps ≡ []
 none_flat [] h = refl
 none_flat (x ∷ xs) h = absurd (omega arith)
 
-pub empty : (ps : List Entries) → length ps ≡ 0 → flat ps ≡ []
-empty ps h = ap flat (none_flat ps h)
+pub empty : (ps : List Entries) → length ps ≡ 0 → entries_in ps ≡ []
+empty ps h = ap entries_in (none_flat ps h)
 
 module _ (ps : List Entries) (p i : ℕ) (id : Identifier) (d : Entries) (w : p < length ps) where
   abbrev the_page : slice_index_or ps p [] ≡ slice_index_or ps p d
   the_page = page_at ps p [] d w
 
   -- in the page in which it must be
-  pub spot_in : (found : Bool) → AreBelow id (flat (take p ps)) → StartsAbove id (flat (drop (p + 1) ps))
+  pub spot_in : (found : Bool) → AreBelow id (entries_in (take p ps)) → StartsAbove id (entries_in (drop (p + 1) ps))
       → i ≤ length (slice_index_or ps p d) → AreBelow id (take i (slice_index_or ps p d))
       → (found ≡ true → StartsAt id (drop i (slice_index_or ps p d))) → (found ≡ false → StartsAbove id (drop i (slice_index_or ps p d))) → IsSpot ps p i found id
   spot_in found below above within here there absent = record {
     place = place_at ps p i d w within;
-    below = subst (AreBelow id) (sym (before_is ps p i d w)) (below_append id (flat (take p ps)) (take i (slice_index_or ps p d)) below here);
+    below = subst (AreBelow id) (sym (before_is ps p i d w)) (below_append id (entries_in (take p ps)) (take i (slice_index_or ps p d)) below here);
     there = λ t. subst (λ y. StartsAt id (drop i y)) (sym the_page) (there t);
     absent = λ f. subst (StartsAbove id) (sym (behind_is ps p i d w))
-        (above_append id (drop i (slice_index_or ps p d)) (flat (drop (suc p) ps)) (absent f) (subst (λ n. StartsAbove id (flat (drop n ps))) (sym (one_up p)) above));
+        (above_append id (drop i (slice_index_or ps p d)) (entries_in (drop (suc p) ps)) (absent f) (subst (λ n. StartsAbove id (entries_in (drop n ps))) (sym (one_up p)) above));
   }
 
   -- where it is seen
-  pub spot_there : (e : Identifier × Record) → i < length (slice_index_or ps p d) → (slice_index_or (slice_index_or ps p d) i e).0 ≡ id → AreOrdered (flat ps) → IsSpot ps p i true id
+  pub spot_there : (e : Identifier × Record) → i < length (slice_index_or ps p d) → (slice_index_or (slice_index_or ps p d) i e).0 ≡ id → AreOrdered (entries_in ps) → IsSpot ps p i true id
   spot_there e h is ordered =
       let there : StartsAt id (drop i (slice_index_or ps p d)) = starts_at (slice_index_or ps p d) i e id h is in
       let stands : Stood ps p i id = stood ps p i id d w there in
-      let parts : AreOrdered (before ps p i ++ stands.entry ∷ behind ps p (suc i)) = subst AreOrdered (parted ps p i ∙ ap (λ r. before ps p i ++ r) stands.behind_it) ordered in
+      let parts : AreOrdered (entries_before ps p i ++ stands.entry ∷ entries_behind ps p (suc i)) = subst AreOrdered (parted ps p i ∙ ap (λ r. entries_before ps p i ++ r) stands.behind_it) ordered in
       record {
         place = place_at ps p i d w (omega arith);
-        below = before_below id (before ps p i) stands.entry (behind ps p (suc i)) parts (ap (λ k. is_lt (id_cmp id k)) stands.named ∙ ap is_lt (tied_itself ids_total id));
+        below = before_below id (entries_before ps p i) stands.entry (entries_behind ps p (suc i)) parts (ap (λ k. is_lt (id_cmp id k)) stands.named ∙ ap is_lt (tied_itself ids_total id));
         there = λ t. subst (λ y. StartsAt id (drop i y)) (sym the_page) there;
         absent = λ f. absurd (true≢false f);
       }
@@ -63,60 +63,60 @@ module _ (ps : List Entries) (p i : ℕ) (id : Identifier) (d : Entries) (w : p 
     pub index_found : i < length (slice_index_or ps p d)
     index_found = index_there (slice_index_or ps p d) i id (subst (λ y. StartsAt id (drop i y)) the_page (spot.there refl))
 
-    whole : flat ps ≡ before ps p i ++ stands.entry ∷ behind ps p (suc i)
-    whole = parted ps p i ∙ ap (λ r. before ps p i ++ r) stands.behind_it
+    whole : entries_in ps ≡ entries_before ps p i ++ stands.entry ∷ entries_behind ps p (suc i)
+    whole = parted ps p i ∙ ap (λ r. entries_before ps p i ++ r) stands.behind_it
 
-    pub record_there : (e : Identifier × Record) → record_of id (flat ps) ≡ Some (slice_index_or (slice_index_or ps p d) i e).1
-    record_there e = ap (record_of id) whole ∙ record_between id (before ps p i) stands.entry (behind ps p (suc i)) spot.below stands.named ∙ ap (λ (x : Identifier × Record). Some x.1) (sym (stands.is d e w))
+    pub record_there : (e : Identifier × Record) → record_of id (entries_in ps) ≡ Some (slice_index_or (slice_index_or ps p d) i e).1
+    record_there e = ap (record_of id) whole ∙ record_between id (entries_before ps p i) stands.entry (entries_behind ps p (suc i)) spot.below stands.named ∙ ap (λ (x : Identifier × Record). Some x.1) (sym (stands.is d e w))
 
-    pub set_spot : (value : Record) → flat (slice_set ps p (slice_set (slice_index_or ps p d) i (id, value))) ≡ insert_entry id_cmp (flat ps) id value
+    pub set_spot : (value : Record) → entries_in (slice_set ps p (slice_set (slice_index_or ps p d) i (id, value))) ≡ insert_entry id_cmp (entries_in ps) id value
     set_spot value =
         set_there ps p i (id, value) d w index_found
-        ∙ sym (insert_over id value (before ps p i) stands.entry (behind ps p (suc i)) spot.below stands.named)
+        ∙ sym (insert_over id value (entries_before ps p i) stands.entry (entries_behind ps p (suc i)) spot.below stands.named)
         ∙ ap (λ es. insert_entry id_cmp es id value) (sym whole)
 
-    pub set_is : (value : Record) → flat (slice_set ps p (slice_set (slice_index_or ps p d) i (id, value))) ≡ set_value (is id) (flat ps) value
+    pub set_is : (value : Record) → entries_in (slice_set ps p (slice_set (slice_index_or ps p d) i (id, value))) ≡ set_value (is id) (entries_in ps) value
     set_is value =
         set_there ps p i (id, value) d w index_found
-        ∙ sym (set_between id value (before ps p i) stands.entry (behind ps p (suc i)) spot.below stands.named)
+        ∙ sym (set_between id value (entries_before ps p i) stands.entry (entries_behind ps p (suc i)) spot.below stands.named)
         ∙ ap (λ es. set_value (is id) es value) (sym whole)
 
-    removed_is : before ps p i ++ behind ps p (suc i) ≡ remove_entry (is id) (flat ps)
-    removed_is = sym (remove_between id (before ps p i) stands.entry (behind ps p (suc i)) spot.below stands.named) ∙ ap (remove_entry (is id)) (sym whole)
+    removed_is : entries_before ps p i ++ entries_behind ps p (suc i) ≡ remove_entry (is id) (entries_in ps)
+    removed_is = sym (remove_between id (entries_before ps p i) stands.entry (entries_behind ps p (suc i)) spot.below stands.named) ∙ ap (remove_entry (is id)) (sym whole)
 
-    pub remove_spot : flat (slice_set ps p (remove (slice_index_or ps p d) i)) ≡ remove_entry (is id) (flat ps)
+    pub remove_spot : entries_in (slice_set ps p (remove (slice_index_or ps p d) i)) ≡ remove_entry (is id) (entries_in ps)
     remove_spot = removed_there ps p i d w ∙ removed_is
 
-    pub remove_page : length (slice_index_or ps p d) ≡ 1 → flat (remove ps p) ≡ remove_entry (is id) (flat ps)
+    pub remove_page : length (slice_index_or ps p d) ≡ 1 → entries_in (remove ps p) ≡ remove_entry (is id) (entries_in ps)
     remove_page one = page_gone ps p i d w one (let n : i < length (slice_index_or ps p d) = index_found in omega arith) ∙ removed_is
 
   -- ---- where it would come in
 
   module _ (spot : IsSpot ps p i false id) where
-    pub record_none : AreOrdered (flat ps) → record_of id (flat ps) ≡ None
+    pub record_none : AreOrdered (entries_in ps) → record_of id (entries_in ps) ≡ None
     record_none ordered =
         ap (record_of id) (parted ps p i)
-        ∙ record_absent id (before ps p i) (behind ps p i) (subst AreOrdered (parted ps p i) ordered) spot.below (spot.absent refl)
+        ∙ record_absent id (entries_before ps p i) (entries_behind ps p i) (subst AreOrdered (parted ps p i) ordered) spot.below (spot.absent refl)
 
-    put_is : (value : Record) → before ps p i ++ (id, value) ∷ behind ps p i ≡ insert_entry id_cmp (flat ps) id value
-    put_is value = sym (insert_between id value (before ps p i) (behind ps p i) spot.below (spot.absent refl)) ∙ ap (λ es. insert_entry id_cmp es id value) (sym (parted ps p i))
+    put_is : (value : Record) → entries_before ps p i ++ (id, value) ∷ entries_behind ps p i ≡ insert_entry id_cmp (entries_in ps) id value
+    put_is value = sym (insert_between id value (entries_before ps p i) (entries_behind ps p i) spot.below (spot.absent refl)) ∙ ap (λ es. insert_entry id_cmp es id value) (sym (parted ps p i))
 
-    pub put_spot : (value : Record) → flat (slice_set ps p (insert (slice_index_or ps p d) i (id, value))) ≡ insert_entry id_cmp (flat ps) id value
+    pub put_spot : (value : Record) → entries_in (slice_set ps p (insert (slice_index_or ps p d) i (id, value))) ≡ insert_entry id_cmp (entries_in ps) id value
     put_spot value = put_there ps p i (id, value) d w ∙ put_is value
 
-    pub own_spot : (value : Record) (qs : List Entries) → flat qs ≡ before ps p i ++ (id, value) ∷ behind ps p i → flat qs ≡ insert_entry id_cmp (flat ps) id value
+    pub own_spot : (value : Record) (qs : List Entries) → entries_in qs ≡ entries_before ps p i ++ (id, value) ∷ entries_behind ps p i → entries_in qs ≡ insert_entry id_cmp (entries_in ps) id value
     own_spot value qs h = h ∙ put_is value
 
 -- ---- what is kept
 
-pub inserted_pages : (ps qs : List Entries) (id : Identifier) (value : Record) → ArePages ps → flat qs ≡ insert_entry id_cmp (flat ps) id value → AreFilled qs → ArePages qs
+pub inserted_pages : (ps qs : List Entries) (id : Identifier) (value : Record) → ArePages ps → entries_in qs ≡ insert_entry id_cmp (entries_in ps) id value → AreFilledPages qs → ArePages qs
 inserted_pages ps qs id value kept h filled = record {
-  ordered = subst AreOrdered (sym h) (ordered_insert id value (flat ps) kept.ordered);
+  ordered = subst AreOrdered (sym h) (ordered_insert id value (entries_in ps) kept.ordered);
   filled = filled;
 }
 
-pub removed_pages : (ps qs : List Entries) (id : Identifier) → ArePages ps → flat qs ≡ remove_entry (is id) (flat ps) → AreFilled qs → ArePages qs
+pub removed_pages : (ps qs : List Entries) (id : Identifier) → ArePages ps → entries_in qs ≡ remove_entry (is id) (entries_in ps) → AreFilledPages qs → ArePages qs
 removed_pages ps qs id kept h filled = record {
-  ordered = subst AreOrdered (sym h) (ordered_remove id (flat ps) kept.ordered);
+  ordered = subst AreOrdered (sym h) (ordered_remove id (entries_in ps) kept.ordered);
   filled = filled;
 }

@@ -29,9 +29,9 @@ noted block index None = None
 noted block index (Some r) = Some (record r { block = block; index = index })
 
 -- the pages one after another
-abbrev pub flat : List Entries → Entries
-flat [] = []
-flat (p ∷ ps) = p ++ flat ps
+abbrev pub entries_in : List Entries → Entries
+entries_in [] = []
+entries_in (p ∷ ps) = p ++ entries_in ps
 
 -- the identifier is that of the first entry, if there is one
 abbrev pub BeginsWith : Identifier → Entries → Type 0
@@ -39,33 +39,33 @@ BeginsWith id [] = Unit {0}
 BeginsWith id (e ∷ es) = id ≡ e.0
 
 -- no page is empty
-abbrev pub AreFilled : List Entries → Type 0
-AreFilled ps = AllByRecursion (λ p. 0 < length p) ps
+abbrev pub AreFilledPages : List Entries → Type 0
+AreFilledPages ps = AllByRecursion (λ p. 0 < length p) ps
 
 -- what pages keep
 pub record ArePages (ps : List Entries) : Type 0 where
-  pub ordered : AreOrdered (flat ps)
-  pub filled : AreFilled ps
+  pub ordered : AreOrdered (entries_in ps)
+  pub filled : AreFilledPages ps
 
 -- ---- places
 
 -- what stands before an index in a page
-abbrev pub before : List Entries → ℕ → ℕ → Entries
-before [] page index = []
-before (p ∷ ps) zero index = take index p
-before (p ∷ ps) (suc page) index = p ++ before ps page index
+abbrev pub entries_before : List Entries → ℕ → ℕ → Entries
+entries_before [] page index = []
+entries_before (p ∷ ps) zero index = take index p
+entries_before (p ∷ ps) (suc page) index = p ++ entries_before ps page index
 
 -- what stands from an index in a page on
-abbrev pub behind : List Entries → ℕ → ℕ → Entries
-behind [] page index = []
-behind (p ∷ ps) zero index = drop index p ++ flat ps
-behind (p ∷ ps) (suc page) index = behind ps page index
+abbrev pub entries_behind : List Entries → ℕ → ℕ → Entries
+entries_behind [] page index = []
+entries_behind (p ∷ ps) zero index = drop index p ++ entries_in ps
+entries_behind (p ∷ ps) (suc page) index = entries_behind ps page index
 
 -- there is such a page, and the index is within it
-abbrev pub IsPlace : List Entries → ℕ → ℕ → Type 0
-IsPlace [] page index = ⊥
-IsPlace (p ∷ ps) zero index = index ≤ length p
-IsPlace (p ∷ ps) (suc page) index = IsPlace ps page index
+abbrev pub IsPlaceInPages : List Entries → ℕ → ℕ → Type 0
+IsPlaceInPages [] page index = ⊥
+IsPlaceInPages (p ∷ ps) zero index = index ≤ length p
+IsPlaceInPages (p ∷ ps) (suc page) index = IsPlaceInPages ps page index
 
 -- ---- where an identifier is
 
@@ -90,7 +90,7 @@ StartsAt id (e ∷ es) = e.0 ≡ id
 
 -- an identifier is at a place, or would come in there
 pub record IsSpot (ps : List Entries) (page index : ℕ) (found : Bool) (id : Identifier) : Type 0 where
-  pub place : IsPlace ps page index
-  pub below : AreBelow id (before ps page index)
+  pub place : IsPlaceInPages ps page index
+  pub below : AreBelow id (entries_before ps page index)
   pub there : found ≡ true → StartsAt id (drop index (slice_index_or ps page []))
-  pub absent : found ≡ false → StartsAbove id (behind ps page index)
+  pub absent : found ≡ false → StartsAbove id (entries_behind ps page index)

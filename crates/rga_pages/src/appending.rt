@@ -1,6 +1,6 @@
 //! Entries come in behind all others.
 ghost use Rattle.std.specs.Prelude.{◌≡◌, ◌≤◌, ◌<◌, ◌++◌, length, vec_len, vec_capacity, true, IfErr, OnOk, OnErr};
-ghost use Rattle.rga_pages.specs.Pages.{flat, AreBelow, AreFilled, ArePages, AreOrdered};
+ghost use Rattle.rga_pages.specs.Pages.{entries_in, AreBelow, AreFilledPages, ArePages, AreOrdered};
 
 use crate::entry::Record;
 use crate::page::{MOST, Page};
@@ -16,10 +16,11 @@ pub(crate) fn append(
     pages: &mut Vec<Page>,
     entries: &[(Id, Record)],
 ) -> Result<(), Refusal>
-    requires { AreFilled pages.old.items }
-    ensures ok { OnOk result (flat pages.new.items ≡ flat pages.old.items ++ entries.now) }
-    ensures err { OnErr result (flat pages.new.items ≡ flat pages.old.items) }
-    ensures filled { AreFilled pages.new.items }
+    requires { AreFilledPages pages.old.items }
+    ensures ok { OnOk result
+        (entries_in pages.new.items ≡ entries_in pages.old.items ++ entries.now) }
+    ensures err { OnErr result (entries_in pages.new.items ≡ entries_in pages.old.items) }
+    ensures filled { AreFilledPages pages.new.items }
     ensures memory { IfErr result (λ e. e ≡ Refusal.Memory) }
 {
     let room = room_in_last(pages);
@@ -46,11 +47,12 @@ fn room_in_last(pages: &Vec<Page>) -> usize
 
 /// Entries come in at the end of the last page, if they are some. `Memory` alone.
 fn extend_last(pages: &mut Vec<Page>, entries: &[(Id, Record)]) -> Result<(), Refusal>
-    requires filled { AreFilled pages.old.items }
+    requires filled { AreFilledPages pages.old.items }
     requires some { 0 < length entries.now → 0 < vec_len pages.old }
-    ensures ok { OnOk result (flat pages.new.items ≡ flat pages.old.items ++ entries.now) }
-    ensures err { OnErr result (flat pages.new.items ≡ flat pages.old.items) }
-    ensures filled { AreFilled pages.new.items }
+    ensures ok { OnOk result
+        (entries_in pages.new.items ≡ entries_in pages.old.items ++ entries.now) }
+    ensures err { OnErr result (entries_in pages.new.items ≡ entries_in pages.old.items) }
+    ensures filled { AreFilledPages pages.new.items }
     ensures len { vec_len pages.new ≡ vec_len pages.old }
     ensures capacity { vec_capacity pages.new ≡ vec_capacity pages.old }
     ensures memory { IfErr result (λ e. e ≡ Refusal.Memory) }
@@ -66,7 +68,7 @@ fn extend_last(pages: &mut Vec<Page>, entries: &[(Id, Record)]) -> Result<(), Re
 pub(crate) fn can_follow(pages: &Vec<Page>, entries: &[(Id, Record)]) -> bool
     requires kept { ArePages pages.now.items }
     requires ordered { AreOrdered entries.now }
-    ensures { result ≡ true → AreOrdered (flat pages.now.items ++ entries.now) }
+    ensures { result ≡ true → AreOrdered (entries_in pages.now.items ++ entries.now) }
 {
     if entries.len() == 0 {
         return true;
@@ -76,9 +78,9 @@ pub(crate) fn can_follow(pages: &Vec<Page>, entries: &[(Id, Record)]) -> bool
 
 /// Whether an identifier is above all that have records.
 fn is_above_all(pages: &Vec<Page>, id: Id) -> bool
-    requires ordered { AreOrdered (flat pages.now.items) }
-    requires filled { AreFilled pages.now.items }
-    ensures { result ≡ true → AreBelow id (flat pages.now.items) }
+    requires ordered { AreOrdered (entries_in pages.now.items) }
+    requires filled { AreFilledPages pages.now.items }
+    ensures { result ≡ true → AreBelow id (entries_in pages.now.items) }
 {
     let count = pages.len();
     if count == 0 {

@@ -4,7 +4,7 @@ ghost use Rattle.std.specs.BTreeMap.{insert_entry};
 ghost use Rattle.std.specs.Map.{remove_entry, set_value};
 ghost use Rattle.std.specs.Ordering.{eq_by_cmp};
 ghost use Rattle.rga_ops.specs.Identifier.{id_cmp};
-ghost use Rattle.rga_pages.specs.Pages.{flat, record_of, noted, AreOrdered, Updates};
+ghost use Rattle.rga_pages.specs.Pages.{entries_in, record_of, noted, AreOrdered, Updates};
 
 use crate::appending::{append, can_follow, end_of};
 use crate::entry::Record;
@@ -28,11 +28,11 @@ pub struct Pages {
 }
 
 impl Model for Pages {
-    ghost use Rattle.rga_pages.specs.Pages.{Entries, flat, ArePages};
+    ghost use Rattle.rga_pages.specs.Pages.{Entries, entries_in, ArePages};
 
     ghost Value = { Entries };
 
-    ghost view = { λ s. flat s.pages.items };
+    ghost view = { λ s. entries_in s.pages.items };
 
     ghost invariant = { λ s. ArePages s.pages.items };
 }
@@ -175,7 +175,7 @@ impl Pages {
 
     /// The entries, page by page.
     pub fn pages(&self) -> &Vec<Page>
-        ensures pages { flat result.now.items ≡ self.now }
+        ensures pages { entries_in result.now.items ≡ self.now }
         ensures ordered { AreOrdered self.now }
     {
         &self.pages

@@ -4,7 +4,7 @@ ghost use Rattle.std.specs.BTreeMap.{insert_entry};
 ghost use Rattle.std.specs.Map.{set_value};
 ghost use Rattle.std.specs.Ordering.{eq_by_cmp};
 ghost use Rattle.rga_ops.specs.Identifier.{id_cmp};
-ghost use Rattle.rga_pages.specs.Pages.{flat, record_of, before, behind, AreFilled, ArePages, IsSpot};
+ghost use Rattle.rga_pages.specs.Pages.{entries_in, record_of, entries_before, entries_behind, AreFilledPages, ArePages, IsSpot};
 
 use crate::entry::Record;
 use crate::page::{MOST, Page};
@@ -28,9 +28,9 @@ pub(crate) fn insert(
 ) -> Result<Spot, Refusal>
     requires { ArePages pages.old.items }
     ensures ok { OnOk result
-        (flat pages.new.items ≡ insert_entry id_cmp (flat pages.old.items) id value) }
-    ensures err { OnErr result (flat pages.new.items ≡ flat pages.old.items) }
-    ensures absent { OnErr result (record_of id (flat pages.old.items) ≡ None) }
+        (entries_in pages.new.items ≡ insert_entry id_cmp (entries_in pages.old.items) id value) }
+    ensures err { OnErr result (entries_in pages.new.items ≡ entries_in pages.old.items) }
+    ensures absent { OnErr result (record_of id (entries_in pages.old.items) ≡ None) }
     ensures kept { ArePages pages.new.items }
     ensures memory { IfErr result (λ e. e ≡ Refusal.Memory) }
 {
@@ -53,9 +53,9 @@ pub(crate) fn insert(
 /// The first entry comes in.
 fn put_first(alloc: Global, pages: &mut Vec<Page>, id: Id, value: Record) -> Result<(), Refusal>
     requires { pages.old.items ≡ [] }
-    ensures ok { OnOk result (flat pages.new.items ≡ (id, value) ∷ []) }
+    ensures ok { OnOk result (entries_in pages.new.items ≡ (id, value) ∷ []) }
     ensures err { OnErr result (pages.new.items ≡ pages.old.items) }
-    ensures filled { AreFilled pages.new.items }
+    ensures filled { AreFilledPages pages.new.items }
     ensures memory { IfErr result (λ e. e ≡ Refusal.Memory) }
 {
     let page = Page::of_one(alloc, id, value)?;
@@ -81,9 +81,9 @@ pub(crate) fn write(pages: &mut Vec<Page>, at: Spot, id: Id, value: Record) -> R
     requires page { at.page < vec_len pages.old }
     requires spot { IsSpot pages.old.items at.page at.index at.found id }
     ensures ok { OnOk result
-        (flat pages.new.items ≡ insert_entry id_cmp (flat pages.old.items) id value) }
-    ensures err { OnErr result (flat pages.new.items ≡ flat pages.old.items) }
-    ensures absent { OnErr result (record_of id (flat pages.old.items) ≡ None) }
+        (entries_in pages.new.items ≡ insert_entry id_cmp (entries_in pages.old.items) id value) }
+    ensures err { OnErr result (entries_in pages.new.items ≡ entries_in pages.old.items) }
+    ensures absent { OnErr result (record_of id (entries_in pages.old.items) ≡ None) }
     ensures kept { ArePages pages.new.items }
     ensures memory { IfErr result (λ e. e ≡ Refusal.Memory) }
 {
@@ -99,10 +99,10 @@ pub(crate) fn overwrite(pages: &mut Vec<Page>, at: Spot, id: Id, value: Record)
     requires kept { ArePages pages.old.items }
     requires page { at.page < vec_len pages.old }
     requires spot { IsSpot pages.old.items at.page at.index true id }
-    ensures inserted { flat pages.new.items
-        ≡ insert_entry id_cmp (flat pages.old.items) id value }
-    ensures replaced { flat pages.new.items
-        ≡ set_value (eq_by_cmp id_cmp id) (flat pages.old.items) value }
+    ensures inserted { entries_in pages.new.items
+        ≡ insert_entry id_cmp (entries_in pages.old.items) id value }
+    ensures replaced { entries_in pages.new.items
+        ≡ set_value (eq_by_cmp id_cmp id) (entries_in pages.old.items) value }
     ensures kept { ArePages pages.new.items }
 {
     pages[at.page].set(at.index, id, value);
@@ -123,9 +123,9 @@ fn insert_in_full(
     requires full { MOST ≤ length (slice_index_or pages.old.items at.page []) }
     requires spot { IsSpot pages.old.items at.page at.index false id }
     ensures ok { OnOk result
-        (flat pages.new.items ≡ insert_entry id_cmp (flat pages.old.items) id value) }
-    ensures err { OnErr result (flat pages.new.items ≡ flat pages.old.items) }
-    ensures absent { OnErr result (record_of id (flat pages.old.items) ≡ None) }
+        (entries_in pages.new.items ≡ insert_entry id_cmp (entries_in pages.old.items) id value) }
+    ensures err { OnErr result (entries_in pages.new.items ≡ entries_in pages.old.items) }
+    ensures absent { OnErr result (record_of id (entries_in pages.old.items) ≡ None) }
     ensures kept { ArePages pages.new.items }
     ensures memory { IfErr result (λ e. e ≡ Refusal.Memory) }
 {
@@ -152,13 +152,13 @@ fn put_own(
     id: Id,
     value: Record,
 ) -> Result<(), Refusal>
-    requires filled { AreFilled pages.old.items }
+    requires filled { AreFilledPages pages.old.items }
     requires page { page < vec_len pages.old }
     requires end { length (slice_index_or pages.old.items page []) ≡ index }
-    ensures ok { OnOk result (flat pages.new.items ≡ before pages.old.items page index
-        ++ (id, value) ∷ behind pages.old.items page index) }
+    ensures ok { OnOk result (entries_in pages.new.items ≡ entries_before pages.old.items page index
+        ++ (id, value) ∷ entries_behind pages.old.items page index) }
     ensures err { OnErr result (pages.new.items ≡ pages.old.items) }
-    ensures filled { AreFilled pages.new.items }
+    ensures filled { AreFilledPages pages.new.items }
     ensures memory { IfErr result (λ e. e ≡ Refusal.Memory) }
 {
     let own = Page::of_one(alloc, id, value)?;
@@ -181,13 +181,13 @@ fn cut_for(index: usize) -> usize
 
 /// A full page becomes two.
 fn cut_page(alloc: Global, pages: &mut Vec<Page>, page: usize, cut: usize) -> Result<(), Refusal>
-    requires filled { AreFilled pages.old.items }
+    requires filled { AreFilledPages pages.old.items }
     requires page { page < vec_len pages.old }
     requires full { MOST ≤ length (slice_index_or pages.old.items page []) }
     requires first { 0 < cut }
     requires second { cut < MOST }
-    ensures flat { flat pages.new.items ≡ flat pages.old.items }
-    ensures filled { AreFilled pages.new.items }
+    ensures flat { entries_in pages.new.items ≡ entries_in pages.old.items }
+    ensures filled { AreFilledPages pages.new.items }
     ensures some { 0 < vec_len pages.new }
     ensures memory { IfErr result (λ e. e ≡ Refusal.Memory) }
 {

@@ -2,7 +2,7 @@
 ghost use Rattle.std.specs.Prelude.{◌≡◌, ◌≤◌, ◌<◌, ◌+◌, length, vec_len, true, false, take, drop, IfSome};
 ghost use Rattle.std.specs.Ordering.{is_gt, is_lt};
 ghost use Rattle.rga_ops.specs.Identifier.{id_cmp};
-ghost use Rattle.rga_pages.specs.Pages.{flat, record_of, AreOrdered, AreBelow, StartsFrom, StartsAbove, StartsAt, AreFilled, IsSpot};
+ghost use Rattle.rga_pages.specs.Pages.{entries_in, record_of, AreOrdered, AreBelow, StartsFrom, StartsAbove, StartsAt, AreFilledPages, IsSpot};
 
 use crate::entry::Record;
 use crate::page::{MOST, Page};
@@ -12,8 +12,8 @@ use rga_ops::Id;
 /// Where an identifier is, or where it would come in. It is looked for first behind the place that
 /// was used last.
 pub(crate) fn find(pages: &Vec<Page>, last: Spot, id: Id) -> Spot
-    requires ordered { AreOrdered (flat pages.now.items) }
-    requires filled { AreFilled pages.now.items }
+    requires ordered { AreOrdered (entries_in pages.now.items) }
+    requires filled { AreFilledPages pages.now.items }
     requires some { 0 < vec_len pages.now }
     ensures page { result.page < vec_len pages.now }
     ensures spot { IsSpot pages.now.items result.page result.index result.found id }
@@ -32,8 +32,8 @@ pub(crate) fn find(pages: &Vec<Page>, last: Spot, id: Id) -> Spot
 
 /// The same, looked for first at the place that was used last, and then in its page and beside it.
 pub(crate) fn find_again(pages: &Vec<Page>, last: Spot, id: Id) -> Spot
-    requires ordered { AreOrdered (flat pages.now.items) }
-    requires filled { AreFilled pages.now.items }
+    requires ordered { AreOrdered (entries_in pages.now.items) }
+    requires filled { AreFilledPages pages.now.items }
     requires some { 0 < vec_len pages.now }
     ensures page { result.page < vec_len pages.now }
     ensures spot { IsSpot pages.now.items result.page result.index result.found id }
@@ -62,7 +62,7 @@ fn is_same(entry: &(Id, Record), id: Id) -> bool
 /// Whether an identifier stands at an index in a page.
 #[inline(always)]
 fn stands_at(pages: &Vec<Page>, page: usize, index: usize, id: Id) -> bool
-    requires { AreOrdered (flat pages.now.items) }
+    requires { AreOrdered (entries_in pages.now.items) }
     ensures page { result ≡ true → page < vec_len pages.now }
     ensures spot { result ≡ true → IsSpot pages.now.items page index true id }
 {
@@ -79,8 +79,8 @@ fn stands_at(pages: &Vec<Page>, page: usize, index: usize, id: Id) -> bool
 /// Where an identifier would come in that is above all others, if there is room in the last page.
 #[inline(always)]
 pub(crate) fn end_for(pages: &Vec<Page>, id: Id) -> Option<Spot>
-    requires ordered { AreOrdered (flat pages.now.items) }
-    requires filled { AreFilled pages.now.items }
+    requires ordered { AreOrdered (entries_in pages.now.items) }
+    requires filled { AreFilledPages pages.now.items }
     ensures page { IfSome result (λ at. at.page < vec_len pages.now) }
     ensures spot { IfSome result (λ at. IsSpot pages.now.items at.page at.index at.found id) }
 {
@@ -181,21 +181,21 @@ fn is_at(entries: &[(Id, Record)], index: usize, id: Id) -> bool
 
 /// Whether a page starts above an identifier.
 fn starts_above(pages: &Vec<Page>, page: usize, id: Id) -> bool
-    requires ordered { AreOrdered (flat pages.now.items) }
-    requires filled { AreFilled pages.now.items }
+    requires ordered { AreOrdered (entries_in pages.now.items) }
+    requires filled { AreFilledPages pages.now.items }
     requires within { page < vec_len pages.now }
-    ensures above { result ≡ true → StartsAbove id (flat (drop page pages.now.items)) }
-    ensures below { result ≡ false → AreBelow id (flat (take page pages.now.items)) }
+    ensures above { result ≡ true → StartsAbove id (entries_in (drop page pages.now.items)) }
+    ensures below { result ≡ false → AreBelow id (entries_in (take page pages.now.items)) }
 {
     is_less(id, pages[page].first())
 }
 
 /// Whether all before a page is below an identifier.
 fn is_past(pages: &Vec<Page>, page: usize, id: Id) -> bool
-    requires ordered { AreOrdered (flat pages.now.items) }
-    requires filled { AreFilled pages.now.items }
+    requires ordered { AreOrdered (entries_in pages.now.items) }
+    requires filled { AreFilledPages pages.now.items }
     requires within { page < vec_len pages.now }
-    ensures { result ≡ true → AreBelow id (flat (take page pages.now.items)) }
+    ensures { result ≡ true → AreBelow id (entries_in (take page pages.now.items)) }
 {
     if page == 0 {
         return true;
@@ -205,10 +205,10 @@ fn is_past(pages: &Vec<Page>, page: usize, id: Id) -> bool
 
 /// Whether all behind a page is above an identifier.
 fn is_up_to(pages: &Vec<Page>, page: usize, id: Id) -> bool
-    requires ordered { AreOrdered (flat pages.now.items) }
-    requires filled { AreFilled pages.now.items }
+    requires ordered { AreOrdered (entries_in pages.now.items) }
+    requires filled { AreFilledPages pages.now.items }
     requires within { page < vec_len pages.now }
-    ensures { result ≡ true → StartsAbove id (flat (drop (page + 1) pages.now.items)) }
+    ensures { result ≡ true → StartsAbove id (entries_in (drop (page + 1) pages.now.items)) }
 {
     if page + 1 < pages.len() {
         return starts_above(pages, page + 1, id);
@@ -218,11 +218,11 @@ fn is_up_to(pages: &Vec<Page>, page: usize, id: Id) -> bool
 
 /// Whether a page is the one in which an identifier must be.
 fn is_in(pages: &Vec<Page>, page: usize, id: Id) -> bool
-    requires ordered { AreOrdered (flat pages.now.items) }
-    requires filled { AreFilled pages.now.items }
+    requires ordered { AreOrdered (entries_in pages.now.items) }
+    requires filled { AreFilledPages pages.now.items }
     ensures page { result ≡ true → page < vec_len pages.now }
-    ensures below { result ≡ true → AreBelow id (flat (take page pages.now.items)) }
-    ensures above { result ≡ true → StartsAbove id (flat (drop (page + 1) pages.now.items)) }
+    ensures below { result ≡ true → AreBelow id (entries_in (take page pages.now.items)) }
+    ensures above { result ≡ true → StartsAbove id (entries_in (drop (page + 1) pages.now.items)) }
 {
     if page >= pages.len() {
         return false;
@@ -235,12 +235,12 @@ fn is_in(pages: &Vec<Page>, page: usize, id: Id) -> bool
 
 /// The last page that does not start above an identifier; the first one where there is none.
 fn page_of(pages: &Vec<Page>, id: Id) -> usize
-    requires ordered { AreOrdered (flat pages.now.items) }
-    requires filled { AreFilled pages.now.items }
+    requires ordered { AreOrdered (entries_in pages.now.items) }
+    requires filled { AreFilledPages pages.now.items }
     requires some { 0 < vec_len pages.now }
     ensures page { result < vec_len pages.now }
-    ensures below { AreBelow id (flat (take result pages.now.items)) }
-    ensures above { StartsAbove id (flat (drop (result + 1) pages.now.items)) }
+    ensures below { AreBelow id (entries_in (take result pages.now.items)) }
+    ensures above { StartsAbove id (entries_in (drop (result + 1) pages.now.items)) }
 {
     let mut low = 0;
     let mut high = pages.as_slice().len();
@@ -298,10 +298,10 @@ fn index_in(entries: &[(Id, Record)], beside: usize, id: Id) -> usize
 
 /// Where an identifier is in the page in which it must be, looked for on both sides of an index.
 fn find_in(pages: &Vec<Page>, page: usize, beside: usize, id: Id) -> Spot
-    requires ordered { AreOrdered (flat pages.now.items) }
+    requires ordered { AreOrdered (entries_in pages.now.items) }
     requires within { page < vec_len pages.now }
-    requires below { AreBelow id (flat (take page pages.now.items)) }
-    requires above { StartsAbove id (flat (drop (page + 1) pages.now.items)) }
+    requires below { AreBelow id (entries_in (take page pages.now.items)) }
+    requires above { StartsAbove id (entries_in (drop (page + 1) pages.now.items)) }
     ensures page { result.page < vec_len pages.now }
     ensures spot { IsSpot pages.now.items result.page result.index result.found id }
 {
@@ -313,10 +313,10 @@ fn find_in(pages: &Vec<Page>, page: usize, beside: usize, id: Id) -> Spot
 
 /// The record at the spot of an identifier, if it is there.
 pub(crate) fn record_at(pages: &Vec<Page>, at: Spot, id: Id) -> Option<Record>
-    requires ordered { AreOrdered (flat pages.now.items) }
+    requires ordered { AreOrdered (entries_in pages.now.items) }
     requires page { at.page < vec_len pages.now }
     requires spot { IsSpot pages.now.items at.page at.index at.found id }
-    ensures { result ≡ record_of id (flat pages.now.items) }
+    ensures { result ≡ record_of id (entries_in pages.now.items) }
 {
     if at.found {
         return Some(pages[at.page].entries()[at.index].1);

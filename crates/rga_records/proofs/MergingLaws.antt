@@ -21,7 +21,7 @@ use Rattle.rga_ops.proofs.MergeLaws.{least_conflict_swap}
 use Rattle.rga_ops.proofs.SortedLaws.{each_found}
 use Rattle.rga_ops.specs.declared.op.Op.TheVariants.{Insert}
 use Rattle.rga_pages.specs.declared.entry.Record.{Record}
-use Rattle.rga_records.specs.Records.{Entries, insertion_in, ids_where, is_meaningful, first_conflicting, unknown_ids, content_of_records, AreOrdered}
+use Rattle.rga_records.specs.Records.{Entries, insertion_of_record, ids_of_records_where, is_meaningful, first_conflicting, unknown_ids, content_of_records, AreOrdered}
 use Rattle.rga_records.proofs.RecordLaws.{apart_of, any_where, known_at}
 use Rattle.rga_records.proofs.SortedRecordLaws.{Insertions, insertions_sorted, insertions_listed, ids_distinct}
 
@@ -63,10 +63,10 @@ found_first c p [] h = refl
 found_first c p (x ∷ xs) h = λ k. cond (h.0 k) (Some x.0) (found_first c p xs h.1 k)
 
 -- the insertions rise: so the first conflict is the least
-pub least_is_first : (c : Content) (es : Entries) → AreOrdered es → first_conflicting c (filter_map insertion_in es) ≡ least_conflict c (content_of_records es)
+pub least_is_first : (c : Content) (es : Entries) → AreOrdered es → first_conflicting c (filter_map insertion_of_record es) ≡ least_conflict c (content_of_records es)
 least_is_first c es h =
     let d : Content = content_of_records es in
-    let xs : Insertions = filter_map insertion_in es in
+    let xs : Insertions = filter_map insertion_of_record es in
     sym (least_conflict_swap c d ∙ ap (λ ys. find (is_conflict d c) (map (λ x. x.0) ys)) (insertions_listed es h)
     ∙ found_first c (is_conflict d c) xs (all_map (λ (x : Identifier × Element). find_key id_cmp x.0 xs ≡ Some x.1) (λ x. is_conflict d c x.0 ≡ has_another c (insertion_of x))
     (λ x found. ap (λ o. option_map_or (λ y. has_another c (Insert x.0 y.parent y.ch)) o false) (finite_map.get-from_entries ids_total xs x.0 ∙ found)) xs
@@ -74,27 +74,10 @@ least_is_first c es h =
 
 -- ---- what is not known yet
 
--- one record more
-pub unknown_more : (c : Content) (e : Identifier × Record) (es : Entries) (a b : Bool) → is_meaningful e.1 ≡ a → not (finite_set.contains (known_ids c) e.0) ≡ b
-    → length (unknown_ids c (e ∷ es)) ≡ cond (a && b) 1 0 + length (unknown_ids c es)
-unknown_more c e es a b known new =
-    ap (λ t. length (filter unknown (keys_of (cond t (e ∷ filter (λ d. is_meaningful d.1) es) (filter (λ d. is_meaningful d.1) es))))) known ∙ split a
-  where
-    unknown : Identifier → Bool
-    unknown q = not (finite_set.contains (known_ids c) q)
-
-    one : (b : Bool) (ks : List Identifier) → length (cond b (e.0 ∷ ks) ks) ≡ cond b 1 0 + length ks
-    one true ks = omega arith
-    one false ks = omega arith
-
-    split : (a : Bool) → length (filter unknown (keys_of (cond a (e ∷ filter (λ d. is_meaningful d.1) es) (filter (λ d. is_meaningful d.1) es)))) ≡ cond (a && b) 1 0 + length (unknown_ids c es)
-    split true = ap (λ t. length (cond t (e.0 ∷ unknown_ids c es) (unknown_ids c es))) new ∙ one b (unknown_ids c es)
-    split false = omega arith
-
 -- the join knows these too, and nothing else
 pub unknown_counted : (c : Content) (es : Entries) → AreOrdered es → finite_set.len (known_ids (join c (content_of_records es))) ≡ finite_set.len (known_ids c) + length (unknown_ids c es)
 unknown_counted c es h =
-    len-known_join c (content_of_records es) (ids_where is_meaningful es) (ids_distinct is_meaningful es h)
+    len-known_join c (content_of_records es) (ids_of_records_where is_meaningful es) (ids_distinct is_meaningful es h)
     (λ q. known_at es h q ∙ sym (any_where is_meaningful q es (apart_of es h)))
 
 -- they are no more than the records know
@@ -102,9 +85,9 @@ pub unknown_few : (c : Content) (es : Entries) → AreOrdered es → length (unk
 unknown_few c es h =
     let known : finite_set.len (known_ids (content_of_records es)) ≡ finite_set.len (known_ids nothing) + length (unknown_ids nothing es) =
     ap (λ d. finite_set.len (known_ids d)) (sym (nothing_join (content_of_records es))) ∙ unknown_counted nothing es h in
-    let all : length (unknown_ids nothing es) ≡ length (ids_where is_meaningful es) = all_left (ids_where is_meaningful es) in
+    let all : length (unknown_ids nothing es) ≡ length (ids_of_records_where is_meaningful es) = all_left (ids_of_records_where is_meaningful es) in
     let none : finite_set.len (known_ids nothing) ≡ 0 = known_nothing in
-    omega (arith, known, all, none, fewer (λ q. not (finite_set.contains (known_ids c) q)) (ids_where is_meaningful es))
+    omega (arith, known, all, none, fewer (λ q. not (finite_set.contains (known_ids c) q)) (ids_of_records_where is_meaningful es))
   where
     fewer : (p : Identifier → Bool) (xs : List Identifier) → length (filter p xs) ≤ length xs
     fewer p [] = omega arith

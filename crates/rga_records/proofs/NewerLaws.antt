@@ -29,8 +29,8 @@ use Rattle.rga_sequence.specs.declared.entry.Entry.{Entry}
 use Rattle.rga_pages.specs.declared.entry.Record.{Record}
 use Rattle.rga_pages.specs.Pages.{AreBelow, Updates}
 use Rattle.rga_pages.proofs.EntryLaws.{ordered_front, before_below, insert_between, updates_insert}
-use Rattle.rga_records.specs.Records.{Entries, element_in, content_of_records, AreOrdered}
-use Rattle.rga_records.specs.Chains.{grown, AreNewer, AreRows, last_of, latest_of}
+use Rattle.rga_records.specs.Records.{Entries, element_of_record, content_of_records, AreOrdered}
+use Rattle.rga_records.specs.Chains.{grown, AreNewer, AreRows, last_entry_of, latest_of}
 use Rattle.rga_records.proofs.RecordLaws.{deleted_at, content_inserted}
 
 -- ---- one alone
@@ -76,17 +76,17 @@ newer_clock c id parent ch newer rise =
 
 -- ---- one more in a chain
 
-pub grown-push : (c : Content) (id : Identifier) (es : List Entry) (e : Entry) → grown c id (es ++ e ∷ []) ≡ join (grown c id es) (single (Insert e.id (last_of id es) e.ch))
+pub grown-push : (c : Content) (id : Identifier) (es : List Entry) (e : Entry) → grown c id (es ++ e ∷ []) ≡ join (grown c id es) (single (Insert e.id (last_entry_of id es) e.ch))
 grown-push c id [] e = refl
 grown-push c id (x ∷ es) e = grown-push (join c (single (Insert x.id id x.ch))) x.id es e
 
-pub newer-push : (c : Content) (id : Identifier) (es : List Entry) (e : Entry) → AreNewer c id es → clock_of (grown c id es) < e.id.counter → (last_of id es).counter < e.id.counter → AreNewer c id (es ++ e ∷ [])
+pub newer-push : (c : Content) (id : Identifier) (es : List Entry) (e : Entry) → AreNewer c id es → clock_of (grown c id es) < e.id.counter → (last_entry_of id es).counter < e.id.counter → AreNewer c id (es ++ e ∷ [])
 newer-push c id [] e w newer rise = (newer, rise, tt)
 newer-push c id (x ∷ es) e w newer rise = (w.0, w.1, newer-push (join c (single (Insert x.id id x.ch))) x.id es e w.2 newer rise)
 
-pub last_of-push : (id : Identifier) (es : List Entry) (e : Entry) → last_of id (es ++ e ∷ []) ≡ e.id
-last_of-push id [] e = refl
-last_of-push id (x ∷ es) e = last_of-push x.id es e
+pub last_entry_of-push : (id : Identifier) (es : List Entry) (e : Entry) → last_entry_of id (es ++ e ∷ []) ≡ e.id
+last_entry_of-push id [] e = refl
+last_entry_of-push id (x ∷ es) e = last_entry_of-push x.id es e
 
 pub latest_at : (n : ℕ) (es : List Entry) (i : ℕ) (d : Entry) → length es ≡ suc i → latest_of n es ≡ (slice_index_or es i d).id.counter
 latest_at n [] i d h = absurd (omega (arith, h))
@@ -131,7 +131,7 @@ counted_chain c latest insertions identifiers limit parent (e ∷ es) w newer ro
 
 -- ---- the records of a chain
 
-pub rows-push : (parent : Identifier) (es : List Entry) (rs : Entries) (e : Entry) (v : Record) → AreRows parent es rs → element_in v ≡ Some (element (last_of parent es) e.ch) → v.deleted ≡ false → AreRows parent (es ++ e ∷ []) (rs ++ (e.id, v) ∷ [])
+pub rows-push : (parent : Identifier) (es : List Entry) (rs : Entries) (e : Entry) (v : Record) → AreRows parent es rs → element_of_record v ≡ Some (element (last_entry_of parent es) e.ch) → v.deleted ≡ false → AreRows parent (es ++ e ∷ []) (rs ++ (e.id, v) ∷ [])
 rows-push parent [] [] e v w shown unmarked = (refl, shown, unmarked, tt)
 rows-push parent [] (r ∷ rs) e v w shown unmarked = absurd w
 rows-push parent (x ∷ es) [] e v w shown unmarked = absurd w

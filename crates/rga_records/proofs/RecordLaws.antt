@@ -23,32 +23,32 @@ use Rattle.rga_store.proofs.StepLaws.{deleted_then, deleted_now}
 use Rattle.rga_store.proofs.CaseSteps.{true_where}
 use Rattle.rga_store.specs.Without.{without_insertion, without_deletion}
 use Rattle.rga_pages.specs.declared.entry.Record.{Record}
-use Rattle.rga_records.specs.Records.{Entries, element_in, insertion_in, ids_where, marked_ids, is_meaningful, content_of_records, AreOrdered}
+use Rattle.rga_records.specs.Records.{Entries, element_of_record, insertion_of_record, ids_of_records_where, marked_record_ids, is_meaningful, content_of_records, AreOrdered}
 
 -- ---- what is found at an identifier
 
 abbrev pub element_of : Option Record → Option Element
-element_of o = option_and_then element_in o
+element_of o = option_and_then element_of_record o
 
 abbrev pub mark_of : Option Record → Bool
 mark_of o = option_map_or (λ v. v.deleted) o false
 
 -- a record has an element where it has a character, and shows both as they are kept
-pub is_some-char : (v : Record) → is_some (element_in v) ≡ is_some v.ch
+pub is_some-char : (v : Record) → is_some (element_of_record v) ≡ is_some v.ch
 is_some-char v = shown v.ch
   where
     shown : (o : Option ℕ) → is_some (option_map (λ ch. element v.parent ch) o) ≡ is_some o
     shown None = refl
     shown (Some ch) = refl
 
-pub element_shown : (v : Record) → pair_of (element_in v) ≡ option_map (λ ch. (v.parent, ch)) v.ch
+pub element_shown : (v : Record) → pair_of (element_of_record v) ≡ option_map (λ ch. (v.parent, ch)) v.ch
 element_shown v = shown v.ch
   where
     shown : (o : Option ℕ) → pair_of (option_map (λ ch. element v.parent ch) o) ≡ option_map (λ ch. (v.parent, ch)) o
     shown None = refl
     shown (Some ch) = refl
 
-pub element_back : (v : Record) → option_map (λ x. element x.0 x.1) (option_map {U = Identifier × ℕ} (λ ch. (v.parent, ch)) v.ch) ≡ element_in v
+pub element_back : (v : Record) → option_map (λ x. element x.0 x.1) (option_map {U = Identifier × ℕ} (λ ch. (v.parent, ch)) v.ch) ≡ element_of_record v
 element_back v = shown v.ch
   where
     shown : (o : Option ℕ) → option_map (λ x. element x.0 x.1) (option_map {U = Identifier × ℕ} (λ ch. (v.parent, ch)) o) ≡ option_map (λ ch. element v.parent ch) o
@@ -82,48 +82,48 @@ apart_of es h = IsDistinct-from_sorted id_cmp (keys_of es) h
 none_later : (q : Identifier) (e : Identifier × Record) (es : Entries) → AreApart (e ∷ es) → is q e.0 ≡ true → lookup (is q) es ≡ None
 none_later q e es h t = lookup-none (is q) es (none_past_head (eq_by_cmp_equiv ids_total) q e es h t)
 
-find_insertions : (q : Identifier) (es : Entries) → AreApart es → find id_cmp q (filter_map insertion_in es) ≡ element_of (lookup (is q) es)
+find_insertions : (q : Identifier) (es : Entries) → AreApart es → find id_cmp q (filter_map insertion_of_record es) ≡ element_of (lookup (is q) es)
 find_insertions q [] h = refl
 find_insertions q (e ∷ es) h =
-    let rest : find id_cmp q (filter_map insertion_in es) ≡ element_of (lookup (is q) es) = find_insertions q es (IsDistinct-tail is e.0 (keys_of es) h) in
-    elim (is q e.0) as (λ b. is q e.0 ≡ b → find id_cmp q (cons_option (insertion_in e) (filter_map insertion_in es)) ≡ element_of (cond b (Some e.1) (lookup (is q) es))) [
-      | true ↦ λ t. here (element_in e.1) t (rest ∙ ap element_of (none_later q e es h t))
-      | false ↦ λ t. there (element_in e.1) t ∙ rest
+    let rest : find id_cmp q (filter_map insertion_of_record es) ≡ element_of (lookup (is q) es) = find_insertions q es (IsDistinct-tail is e.0 (keys_of es) h) in
+    elim (is q e.0) as (λ b. is q e.0 ≡ b → find id_cmp q (cons_option (insertion_of_record e) (filter_map insertion_of_record es)) ≡ element_of (cond b (Some e.1) (lookup (is q) es))) [
+      | true ↦ λ t. here (element_of_record e.1) t (rest ∙ ap element_of (none_later q e es h t))
+      | false ↦ λ t. there (element_of_record e.1) t ∙ rest
     ] refl
   where
-    here : (o : Option Element) → is q e.0 ≡ true → find id_cmp q (filter_map insertion_in es) ≡ None → find id_cmp q (cons_option (option_map (λ x. (e.0, x)) o) (filter_map insertion_in es)) ≡ o
+    here : (o : Option Element) → is q e.0 ≡ true → find id_cmp q (filter_map insertion_of_record es) ≡ None → find id_cmp q (cons_option (option_map (λ x. (e.0, x)) o) (filter_map insertion_of_record es)) ≡ o
     here None t none = none
-    here (Some x) t none = ap (λ b. cond b (Some x) (find id_cmp q (filter_map insertion_in es))) t
+    here (Some x) t none = ap (λ b. cond b (Some x) (find id_cmp q (filter_map insertion_of_record es))) t
 
-    there : (o : Option Element) → is q e.0 ≡ false → find id_cmp q (cons_option (option_map (λ x. (e.0, x)) o) (filter_map insertion_in es)) ≡ find id_cmp q (filter_map insertion_in es)
+    there : (o : Option Element) → is q e.0 ≡ false → find id_cmp q (cons_option (option_map (λ x. (e.0, x)) o) (filter_map insertion_of_record es)) ≡ find id_cmp q (filter_map insertion_of_record es)
     there None t = refl
-    there (Some x) t = ap (λ b. cond b (Some x) (find id_cmp q (filter_map insertion_in es))) t
+    there (Some x) t = ap (λ b. cond b (Some x) (find id_cmp q (filter_map insertion_of_record es))) t
 
 -- an identifier is inserted as its record says
 pub inserted_at : (es : Entries) → AreOrdered es → (q : Identifier) → finite_map.get (content_of_records es).inserted q ≡ element_of (lookup (is q) es)
-inserted_at es h q = finite_map.get-from_entries ids_total (filter_map insertion_in es) q ∙ find_insertions q es (apart_of es h)
+inserted_at es h q = finite_map.get-from_entries ids_total (filter_map insertion_of_record es) q ∙ find_insertions q es (apart_of es h)
 
 -- an identifier is among those of the records that pass a test as its record says
-pub any_where : (test : Record → Bool) (q : Identifier) (es : Entries) → AreApart es → list_any (is q) (ids_where test es) ≡ option_map_or test (lookup (is q) es) false
+pub any_where : (test : Record → Bool) (q : Identifier) (es : Entries) → AreApart es → list_any (is q) (ids_of_records_where test es) ≡ option_map_or test (lookup (is q) es) false
 any_where test q [] h = refl
 any_where test q (e ∷ es) h =
-    let rest : list_any (is q) (ids_where test es) ≡ option_map_or test (lookup (is q) es) false = any_where test q es (IsDistinct-tail is e.0 (keys_of es) h) in
-    elim (is q e.0) as (λ b. is q e.0 ≡ b → list_any (is q) (ids_where test (e ∷ es)) ≡ option_map_or test (cond b (Some e.1) (lookup (is q) es)) false) [
+    let rest : list_any (is q) (ids_of_records_where test es) ≡ option_map_or test (lookup (is q) es) false = any_where test q es (IsDistinct-tail is e.0 (keys_of es) h) in
+    elim (is q e.0) as (λ b. is q e.0 ≡ b → list_any (is q) (ids_of_records_where test (e ∷ es)) ≡ option_map_or test (cond b (Some e.1) (lookup (is q) es)) false) [
       | true ↦ λ t. here (test e.1) t (rest ∙ ap (λ o. option_map_or test o false) (none_later q e es h t))
       | false ↦ λ t. there (test e.1) t ∙ rest
     ] refl
   where
-    here : (b : Bool) → is q e.0 ≡ true → list_any (is q) (ids_where test es) ≡ false → list_any (is q) (keys_of (cond b (e ∷ filter (λ d. test d.1) es) (filter (λ d. test d.1) es))) ≡ b
-    here true t none = ap (λ b. b || list_any (is q) (ids_where test es)) t
+    here : (b : Bool) → is q e.0 ≡ true → list_any (is q) (ids_of_records_where test es) ≡ false → list_any (is q) (keys_of (cond b (e ∷ filter (λ d. test d.1) es) (filter (λ d. test d.1) es))) ≡ b
+    here true t none = ap (λ b. b || list_any (is q) (ids_of_records_where test es)) t
     here false t none = none
 
-    there : (b : Bool) → is q e.0 ≡ false → list_any (is q) (keys_of (cond b (e ∷ filter (λ d. test d.1) es) (filter (λ d. test d.1) es))) ≡ list_any (is q) (ids_where test es)
-    there true t = ap (λ b. b || list_any (is q) (ids_where test es)) t
+    there : (b : Bool) → is q e.0 ≡ false → list_any (is q) (keys_of (cond b (e ∷ filter (λ d. test d.1) es) (filter (λ d. test d.1) es))) ≡ list_any (is q) (ids_of_records_where test es)
+    there true t = ap (λ b. b || list_any (is q) (ids_of_records_where test es)) t
     there false t = refl
 
 -- and deleted as its record says
 pub deleted_at : (es : Entries) → AreOrdered es → (q : Identifier) → finite_set.contains (content_of_records es).deleted q ≡ mark_of (lookup (is q) es)
-deleted_at es h q = finite_set.contains-from_list ids_total (marked_ids es) q ∙ any_where (λ v. v.deleted) q es (apart_of es h)
+deleted_at es h q = finite_set.contains-from_list ids_total (marked_record_ids es) q ∙ any_where (λ v. v.deleted) q es (apart_of es h)
 
 -- and known as its record says
 pub known_at : (es : Entries) → AreOrdered es → (q : Identifier) → finite_set.contains (known_ids (content_of_records es)) q ≡ option_map_or is_meaningful (lookup (is q) es) false

@@ -10,15 +10,15 @@ use Rattle.rga_ops.specs.Operations.{insertion_of}
 use Rattle.rga_ops.specs.declared.op.Op.{Op}
 use Rattle.rga_ops.specs.declared.op.Op.TheVariants.{Delete}
 use Rattle.rga_pages.specs.declared.entry.Record.{Record}
-use Rattle.rga_pages.specs.Pages.{flat}
-use Rattle.rga_records.specs.Records.{Entries, insertion_in, marked_ids}
+use Rattle.rga_pages.specs.Pages.{entries_in}
+use Rattle.rga_records.specs.Records.{Entries, insertion_of_record, marked_record_ids}
 
 -- what entries and pages tell
 abbrev pub told_insertions : Entries → List Op
-told_insertions es = map insertion_of (filter_map insertion_in es)
+told_insertions es = map insertion_of (filter_map insertion_of_record es)
 
 abbrev pub told_deletions : Entries → List Op
-told_deletions es = map Delete (marked_ids es)
+told_deletions es = map Delete (marked_record_ids es)
 
 -- ---- a step of a loop, for what is listed item by item
 
@@ -36,23 +36,23 @@ heard_as hears s t u xs ys same is heard = subst (λ os. hears s os u) (sym same
 -- ---- what splits
 
 pub insertions_split : (xs ys : Entries) → told_insertions (xs ++ ys) ≡ told_insertions xs ++ told_insertions ys
-insertions_split xs ys = ap (map insertion_of) (filter_map-append insertion_in xs ys) ∙ map-append insertion_of (filter_map insertion_in xs) (filter_map insertion_in ys)
+insertions_split xs ys = ap (map insertion_of) (filter_map-append insertion_of_record xs ys) ∙ map-append insertion_of (filter_map insertion_of_record xs) (filter_map insertion_of_record ys)
 
 pub deletions_split : (xs ys : Entries) → told_deletions (xs ++ ys) ≡ told_deletions xs ++ told_deletions ys
 deletions_split xs ys =
     ap (λ (es : Entries). map Delete (keys_of es)) (filter-append (λ e. e.1.deleted) xs ys)
     ∙ ap (map Delete) (map-append (λ (e : Identifier × Record). e.0) (filter (λ e. e.1.deleted) xs) (filter (λ e. e.1.deleted) ys))
-    ∙ map-append Delete (marked_ids xs) (marked_ids ys)
+    ∙ map-append Delete (marked_record_ids xs) (marked_record_ids ys)
 
-flat_split : (ps qs : List Entries) → flat (ps ++ qs) ≡ flat ps ++ flat qs
+flat_split : (ps qs : List Entries) → entries_in (ps ++ qs) ≡ entries_in ps ++ entries_in qs
 flat_split [] qs = refl
-flat_split (p ∷ ps) qs = ap (λ r. p ++ r) (flat_split ps qs) ∙ sym (append_assoc p (flat ps) (flat qs))
+flat_split (p ∷ ps) qs = ap (λ r. p ++ r) (flat_split ps qs) ∙ sym (append_assoc p (entries_in ps) (entries_in qs))
 
-pub page_insertions_split : (ps qs : List Entries) → told_insertions (flat (ps ++ qs)) ≡ told_insertions (flat ps) ++ told_insertions (flat qs)
-page_insertions_split ps qs = ap told_insertions (flat_split ps qs) ∙ insertions_split (flat ps) (flat qs)
+pub page_insertions_split : (ps qs : List Entries) → told_insertions (entries_in (ps ++ qs)) ≡ told_insertions (entries_in ps) ++ told_insertions (entries_in qs)
+page_insertions_split ps qs = ap told_insertions (flat_split ps qs) ∙ insertions_split (entries_in ps) (entries_in qs)
 
-pub page_deletions_split : (ps qs : List Entries) → told_deletions (flat (ps ++ qs)) ≡ told_deletions (flat ps) ++ told_deletions (flat qs)
-page_deletions_split ps qs = ap told_deletions (flat_split ps qs) ∙ deletions_split (flat ps) (flat qs)
+pub page_deletions_split : (ps qs : List Entries) → told_deletions (entries_in (ps ++ qs)) ≡ told_deletions (entries_in ps) ++ told_deletions (entries_in qs)
+page_deletions_split ps qs = ap told_deletions (flat_split ps qs) ∙ deletions_split (entries_in ps) (entries_in qs)
 
-pub one_page : (p : Entries) → flat (p ∷ []) ≡ p
+pub one_page : (p : Entries) → entries_in (p ∷ []) ≡ p
 one_page p = append-nil p

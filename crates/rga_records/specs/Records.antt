@@ -14,18 +14,18 @@ use Rattle.rga_pages.specs.declared.entry.Record.{Record}
 pub use Rattle.rga_pages.specs.Pages.{Entries, AreOrdered}
 
 -- the element of a record, if it has one
-abbrev pub element_in : Record → Option Element
-element_in v = option_map (λ ch. element v.parent ch) v.ch
+abbrev pub element_of_record : Record → Option Element
+element_of_record v = option_map (λ ch. element v.parent ch) v.ch
 
-abbrev pub insertion_in : Identifier × Record → Option (Identifier × Element)
-insertion_in e = option_map (λ x. (e.0, x)) (element_in e.1)
+abbrev pub insertion_of_record : Identifier × Record → Option (Identifier × Element)
+insertion_of_record e = option_map (λ x. (e.0, x)) (element_of_record e.1)
 
 -- the identifiers of the records that pass the test
-abbrev pub ids_where : (Record → Bool) → Entries → List Identifier
-ids_where test es = keys_of (filter (λ e. test e.1) es)
+abbrev pub ids_of_records_where : (Record → Bool) → Entries → List Identifier
+ids_of_records_where test es = keys_of (filter (λ e. test e.1) es)
 
-abbrev pub marked_ids : Entries → List Identifier
-marked_ids = ids_where (λ v. v.deleted)
+abbrev pub marked_record_ids : Entries → List Identifier
+marked_record_ids = ids_of_records_where (λ v. v.deleted)
 
 -- a record that has an element, a mark or both
 abbrev pub is_meaningful : Record → Bool
@@ -34,8 +34,8 @@ is_meaningful v = is_some v.ch || v.deleted
 -- what the records stand for; the blocks are no part of it
 abbrev pub content_of_records : Entries → Content
 content_of_records es = record {
-  inserted = finite_map.from_entries (filter_map insertion_in es);
-  deleted = finite_set.from_list (marked_ids es);
+  inserted = finite_map.from_entries (filter_map insertion_of_record es);
+  deleted = finite_set.from_list (marked_record_ids es);
 }
 
 -- the identifier of the first insertion that conflicts with the content
@@ -45,7 +45,7 @@ first_conflicting c (x ∷ xs) = if has_another c (insertion_of x) then Some x.0
 
 -- what the records know and the content does not
 abbrev pub unknown_ids : Content → Entries → List Identifier
-unknown_ids c es = filter (λ q. not (finite_set.contains (known_ids c) q)) (ids_where is_meaningful es)
+unknown_ids c es = filter (λ q. not (finite_set.contains (known_ids c) q)) (ids_of_records_where is_meaningful es)
 
 -- the identifiers rise, and the content is counted
 pub record AreRecords (es : Entries) (latest insertions identifiers limit : ℕ) : Type 0 where

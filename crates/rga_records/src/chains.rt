@@ -2,7 +2,7 @@
 ghost use Rattle.std.specs.Prelude.{◌≡◌, ◌≤◌, [], Some, false, length, vec_capacity, OnOk, OnErr, IfErr};
 ghost use Rattle.rga_ops.specs.Content.{element};
 ghost use Rattle.rga_records.specs.Chains.{grown, latest_of, AreNewer, AreRows};
-ghost use Rattle.rga_records.specs.Records.{content_of_records, element_in, AreOrdered};
+ghost use Rattle.rga_records.specs.Records.{content_of_records, element_of_record, AreOrdered};
 
 use crate::entries::{short_index, short_name};
 use rga_ops::{Id, Refusal};
@@ -53,7 +53,7 @@ fn add_rows(parent: Id, near: Near, chain: &[Entry], rows: &mut Vec<(Id, Record)
 
 /// The record of an element that is not deleted.
 fn inserted(parent: Id, ch: char, block: u32, index: u8) -> Record
-    ensures element { element_in result ≡ Some (element parent ch) }
+    ensures element { element_of_record result ≡ Some (element parent ch) }
     ensures unmarked { result.deleted ≡ false }
 {
     Record {

@@ -6,7 +6,7 @@ ghost use Rattle.std.specs.FinSet as finite_set;
 ghost use Rattle.rga_ops.specs.Prelude.{element_at, join, known_ids, single};
 ghost use Rattle.rga_ops.specs.declared.op.Op.TheVariants.{Insert, Delete};
 ghost use Rattle.rga_store.specs.Without.{without_insertion, without_deletion};
-ghost use Rattle.rga_records.specs.Records.{content_of_records, element_in, is_meaningful, AreOrdered};
+ghost use Rattle.rga_records.specs.Records.{content_of_records, element_of_record, is_meaningful, AreOrdered};
 
 use rga_ops::{Id, Refusal};
 use rga_pages::{Pages, Record};
@@ -21,7 +21,7 @@ pub(crate) fn is_record_known(known: &Record) -> bool
 
 /// The record that was found, or else one that means nothing yet.
 pub(crate) fn found_or_new(found: Option<Record>) -> Record
-    ensures element { element_in result ≡ option_and_then element_in found }
+    ensures element { element_of_record result ≡ option_and_then element_of_record found }
     ensures mark { result.deleted ≡ option_map_or (λ v. v.deleted) found false }
 {
     match found {
@@ -142,7 +142,7 @@ fn near_in(known: Record) -> Near {
 
 /// Where the element of a record that has one may stand.
 fn near_if_inserted(known: Record) -> Option<Near>
-    ensures { is_some result ≡ is_some (element_in known) }
+    ensures { is_some result ≡ is_some (element_of_record known) }
 {
     match known.ch {
         Some(_) => Some(near_in(known)),

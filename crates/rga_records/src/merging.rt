@@ -4,8 +4,8 @@ ghost use Rattle.std.specs.List.{filter_map};
 ghost use Rattle.std.specs.Option.{option_map_or};
 ghost use Rattle.rga_ops.specs.Content.{join, known_count};
 ghost use Rattle.rga_ops.specs.ListAnswer.{has_another, least_conflict};
-ghost use Rattle.rga_pages.specs.Pages.{flat};
-ghost use Rattle.rga_records.specs.Records.{content_of_records, first_conflicting, insertion_in, unknown_ids};
+ghost use Rattle.rga_pages.specs.Pages.{entries_in};
+ghost use Rattle.rga_records.specs.Records.{content_of_records, first_conflicting, insertion_of_record, unknown_ids};
 ghost use Rattle.rga_store.specs.declared.text_store.TheConstants.{MAX_LIMIT};
 
 use crate::entries::{find_element, is_known, is_record_known};
@@ -23,7 +23,7 @@ pub(crate) fn least_conflict(own: &Pages, others: &Pages) -> Option<Id>
 
 /// The first identifier that names an insertion in pages and another in the records.
 fn first_conflict(own: &Pages, pages: &Vec<Page>) -> Option<Id>
-    ensures { let insertions = filter_map insertion_in (flat pages.now.items) in
+    ensures { let insertions = filter_map insertion_of_record (entries_in pages.now.items) in
         result ≡ first_conflicting (content_of_records own.now) insertions }
 {
     for page in pages {
@@ -36,7 +36,7 @@ fn first_conflict(own: &Pages, pages: &Vec<Page>) -> Option<Id>
 
 /// The first identifier that names an insertion of some entries and another in the records.
 fn first_conflict_in(own: &Pages, entries: &[(Id, Record)]) -> Option<Id>
-    ensures { let insertions = filter_map insertion_in entries.now in
+    ensures { let insertions = filter_map insertion_of_record entries.now in
         result ≡ first_conflicting (content_of_records own.now) insertions }
 {
     for (id, record) in entries {
@@ -59,8 +59,10 @@ pub(crate) fn count_unknown(own: &Pages, others: &Pages) -> usize
 
 /// How many identifiers of pages are unknown to the records.
 fn count_in_pages(own: &Pages, pages: &Vec<Page>) -> usize
-    requires { length (unknown_ids (content_of_records own.now) (flat pages.now.items)) ≤ MAX_LIMIT }
-    ensures { result ≡ length (unknown_ids (content_of_records own.now) (flat pages.now.items)) }
+    requires { length (unknown_ids (content_of_records own.now) (entries_in pages.now.items)) ≤
+        MAX_LIMIT }
+    ensures { result ≡
+        length (unknown_ids (content_of_records own.now) (entries_in pages.now.items)) }
 {
     let mut count = 0;
     for page in pages {

@@ -10,7 +10,7 @@ ghost use Rattle.rga_ops.specs.Operations.{insertions, deletions};
 ghost use Rattle.rga_ops.specs.ListAnswer.{early_conflict, least_conflict};
 ghost use Rattle.rga_ops.specs.declared.refusal.Taken.TheVariants.{New};
 ghost use Rattle.rga_store.specs.Limit.{is_limit};
-ghost use Rattle.rga_store.specs.Without.{without, without_insertion, without_deletion};
+ghost use Rattle.rga_store.specs.Without.{without_operation, without_insertion, without_deletion};
 ghost use Rattle.rga_records.specs.Chains.{grown, AreNewer};
 
 use crate::chains::{append_chain, latest};
@@ -276,8 +276,8 @@ impl Records {
     /// Removes an operation, to the clock from before it. Takes no memory.
     pub fn remove(&mut self, op: &Op, clock: u64)
         requires held { Holds self.old.content op.now }
-        requires clock { clock ≡ clock_of (without op.now self.old.content) }
-        ensures content { self.new.content ≡ without op.now self.old.content }
+        requires clock { clock ≡ clock_of (without_operation op.now self.old.content) }
+        ensures content { self.new.content ≡ without_operation op.now self.old.content }
         ensures limit { self.new.limit ≡ self.old.limit }
     {
         match op {

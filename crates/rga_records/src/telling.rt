@@ -2,8 +2,8 @@
 ghost use Rattle.std.specs.Prelude.{◌≡◌, ◌∷◌, [], map, IfErr, OnOk};
 ghost use Rattle.std.specs.List.{filter_map};
 ghost use Rattle.rga_ops.specs.Operations.{insertions, deletions, insertion_of};
-ghost use Rattle.rga_pages.specs.Pages.{flat};
-ghost use Rattle.rga_records.specs.Records.{content_of_records, insertion_in, marked_ids};
+ghost use Rattle.rga_pages.specs.Pages.{entries_in};
+ghost use Rattle.rga_records.specs.Records.{content_of_records, insertion_of_record, marked_record_ids};
 
 use rga_ops::{Id, Op, Refusal};
 use rga_pages::{Page, Pages, Record};
@@ -49,9 +49,10 @@ fn tell_pages<L: Listener, M: Listener>(
     of_insertions: &mut L,
     of_deletions: &mut M,
 ) -> Result<(), Refusal>
-    ensures insertions { let insertions = filter_map insertion_in (flat pages.now.items) in
+    ensures insertions { let insertions = filter_map insertion_of_record
+        (entries_in pages.now.items) in
         OnOk result (L.hears of_insertions.old (map insertion_of insertions) of_insertions.new) }
-    ensures deletions { let ids = marked_ids (flat pages.now.items) in
+    ensures deletions { let ids = marked_record_ids (entries_in pages.now.items) in
         OnOk result (M.hears of_deletions.old (map Op.Delete ids) of_deletions.new) }
     ensures memory { IfErr result (λ e. e ≡ Refusal.Memory) }
 {
@@ -67,9 +68,9 @@ fn tell_entries<L: Listener, M: Listener>(
     of_insertions: &mut L,
     of_deletions: &mut M,
 ) -> Result<(), Refusal>
-    ensures insertions { let insertions = filter_map insertion_in entries.now in
+    ensures insertions { let insertions = filter_map insertion_of_record entries.now in
         OnOk result (L.hears of_insertions.old (map insertion_of insertions) of_insertions.new) }
-    ensures deletions { let ids = marked_ids entries.now in
+    ensures deletions { let ids = marked_record_ids entries.now in
         OnOk result (M.hears of_deletions.old (map Op.Delete ids) of_deletions.new) }
     ensures memory { IfErr result (λ e. e ≡ Refusal.Memory) }
 {
@@ -82,7 +83,7 @@ fn tell_entries<L: Listener, M: Listener>(
 
 /// Tells the insertion of a record, if it has one.
 fn tell_insertion<L: Listener>(entry: &(Id, Record), listener: &mut L) -> Result<(), Refusal>
-    ensures ok { let insertions = filter_map insertion_in (entry.now ∷ []) in
+    ensures ok { let insertions = filter_map insertion_of_record (entry.now ∷ []) in
         OnOk result (L.hears listener.old (map insertion_of insertions) listener.new) }
     ensures memory { IfErr result (λ e. e ≡ Refusal.Memory) }
 {
@@ -95,7 +96,7 @@ fn tell_insertion<L: Listener>(entry: &(Id, Record), listener: &mut L) -> Result
 
 /// Tells the deletion of a record, if it has one.
 fn tell_deletion<L: Listener>(entry: &(Id, Record), listener: &mut L) -> Result<(), Refusal>
-    ensures ok { let ids = marked_ids (entry.now ∷ []) in
+    ensures ok { let ids = marked_record_ids (entry.now ∷ []) in
         OnOk result (L.hears listener.old (map Op.Delete ids) listener.new) }
     ensures memory { IfErr result (λ e. e ≡ Refusal.Memory) }
 {

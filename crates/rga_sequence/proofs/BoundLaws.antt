@@ -6,7 +6,7 @@ use Rattle.std.proofs.lemmas.List.{length-set, get_or-set_same, get_or-take}
 use Rattle.rga_ops.specs.Identifier.{Identifier, id_cmp}
 use Rattle.rga_sequence.specs.declared.entry.Entry.{Entry}
 use Rattle.rga_sequence.specs.declared.groups.TheConstants.{GROUP}
-use Rattle.rga_sequence.specs.Entries.{put_past_larger}
+use Rattle.rga_sequence.specs.Entries.{put_entry_past_larger}
 use Rattle.rga_sequence.specs.Blocks.{Blocks, flat, before, behind, larger_at_front, insert_all, mark_at_index, AreFrom, Passes, AreBlocksFrom, AreLarger, AreBounds, IsLow}
 use Rattle.rga_sequence.proofs.ListLaws.{take_all, drop_all, passed}
 use Rattle.rga_sequence.proofs.PlaceLaws.{lt_so, le_so}
@@ -102,16 +102,16 @@ pass_one : (bs : Blocks) (b : ℕ) (e : Entry) → larger_at_front e.id (slice_i
 pass_one [] b e h = refl
 pass_one (x ∷ bs) zero e h =
     passed e x (flat bs)
-    ∙ ap (λ n. take n x ++ put_past_larger e (drop n x ++ flat bs)) h
-    ∙ ap (λ y. y ++ put_past_larger e (drop (length x) x ++ flat bs)) (take_all x)
-    ∙ ap (λ y. x ++ put_past_larger e (y ++ flat bs)) (drop_all x)
-    ∙ ap (λ y. y ++ put_past_larger e (flat bs)) (sym (and_none x))
-    ∙ ap (λ y. (x ++ y) ++ put_past_larger e (flat bs)) (sym (front_before bs))
-    ∙ ap (λ y. (x ++ before bs 0 0) ++ put_past_larger e y) (sym (front_behind bs))
+    ∙ ap (λ n. take n x ++ put_entry_past_larger e (drop n x ++ flat bs)) h
+    ∙ ap (λ y. y ++ put_entry_past_larger e (drop (length x) x ++ flat bs)) (take_all x)
+    ∙ ap (λ y. x ++ put_entry_past_larger e (y ++ flat bs)) (drop_all x)
+    ∙ ap (λ y. y ++ put_entry_past_larger e (flat bs)) (sym (and_none x))
+    ∙ ap (λ y. (x ++ y) ++ put_entry_past_larger e (flat bs)) (sym (front_before bs))
+    ∙ ap (λ y. (x ++ before bs 0 0) ++ put_entry_past_larger e y) (sym (front_behind bs))
 pass_one (x ∷ bs) (suc b) e h =
-    append_assoc x (before bs b 0) (put_past_larger e (behind bs b 0))
+    append_assoc x (before bs b 0) (put_entry_past_larger e (behind bs b 0))
     ∙ ap (λ r. x ++ r) (pass_one bs b e h)
-    ∙ sym (append_assoc x (before bs (suc b) 0) (put_past_larger e (behind bs (suc b) 0)))
+    ∙ sym (append_assoc x (before bs (suc b) 0) (put_entry_past_larger e (behind bs (suc b) 0)))
 
 none_on : (b : ℕ) → b ≡ b + 0
 none_on b = omega arith
@@ -120,8 +120,8 @@ one_on : (b n : ℕ) → suc b + n ≡ b + suc n
 one_on b n = omega arith
 
 pub pass_blocks : (bs : Blocks) (b n : ℕ) (e : Entry) → AreLarger e.id b (b + n) bs → Passes bs b 0 (b + n) 0 e
-pass_blocks bs b zero e all = ap (λ m. before bs m 0 ++ put_past_larger e (behind bs m 0)) (none_on b)
+pass_blocks bs b zero e all = ap (λ m. before bs m 0 ++ put_entry_past_larger e (behind bs m 0)) (none_on b)
 pass_blocks bs b (suc n) e all =
     pass_one bs b e (all b (omega arith) (omega arith))
     ∙ pass_blocks bs (suc b) n e (λ i lo hi. all i (omega (arith, lo)) (omega (arith, hi)))
-    ∙ ap (λ m. before bs m 0 ++ put_past_larger e (behind bs m 0)) (one_on b n)
+    ∙ ap (λ m. before bs m 0 ++ put_entry_past_larger e (behind bs m 0)) (one_on b n)

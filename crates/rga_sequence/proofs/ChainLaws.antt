@@ -5,28 +5,28 @@ use Rattle.std.specs.List.{IsDistinct}
 use Rattle.rga_ops.specs.Identifier.{Identifier, id_cmp, is_root}
 use Rattle.rga_ops.proofs.IdentifierLaws.{is_id-itself}
 use Rattle.rga_sequence.specs.declared.entry.Entry.{Entry}
-use Rattle.rga_sequence.specs.Entries.{has, change_after, put_past_larger, put_entry, put_chain, CanFollow, IsChain, AreApart}
+use Rattle.rga_sequence.specs.Entries.{has, change_after_entry, put_entry_past_larger, put_entry, put_chain, CanFollow, IsChain, AreApart}
 use Rattle.rga_sequence.proofs.BlockLaws.{itself, not_larger, never_less}
 use Rattle.rga_sequence.proofs.StandLaws.{change_between, apart_front}
 use Rattle.rga_sequence.proofs.PutLaws.{apart_put}
 
 -- what stands directly behind an entry by the rule is not larger, and so not larger than what is larger than the entry
-pub stops_too : (e f : Entry) (ws : List Entry) → is_gt (id_cmp f.id e.id) ≡ true → put_past_larger e ws ≡ e ∷ ws → put_past_larger f ws ≡ f ∷ ws
+pub stops_too : (e f : Entry) (ws : List Entry) → is_gt (id_cmp f.id e.id) ≡ true → put_entry_past_larger e ws ≡ e ∷ ws → put_entry_past_larger f ws ≡ f ∷ ws
 stops_too e f [] up stops = refl
 stops_too e f (x ∷ ws) up stops =
-    elim (is_gt (id_cmp x.id e.id)) as (λ b. is_gt (id_cmp x.id e.id) ≡ b → cond b (x ∷ put_past_larger e ws) (e ∷ x ∷ ws) ≡ e ∷ x ∷ ws → put_past_larger f (x ∷ ws) ≡ f ∷ x ∷ ws) [
+    elim (is_gt (id_cmp x.id e.id)) as (λ b. is_gt (id_cmp x.id e.id) ≡ b → cond b (x ∷ put_entry_past_larger e ws) (e ∷ x ∷ ws) ≡ e ∷ x ∷ ws → put_entry_past_larger f (x ∷ ws) ≡ f ∷ x ∷ ws) [
       | true ↦ λ t s. absurd (true≢false (sym t ∙ ap (λ k. is_gt (id_cmp k e.id)) (same x e _ _ s) ∙ itself e.id))
-      | false ↦ λ t s. ap (λ b. cond b (x ∷ put_past_larger f ws) (f ∷ x ∷ ws)) (not_larger x.id e.id f.id t (never_less f.id e.id up))
+      | false ↦ λ t s. ap (λ b. cond b (x ∷ put_entry_past_larger f ws) (f ∷ x ∷ ws)) (not_larger x.id e.id f.id t (never_less f.id e.id up))
     ] refl stops
   where
     same : (a b : Entry) (xs ys : List Entry) → a ∷ xs ≡ b ∷ ys → a.id ≡ b.id
     same a b xs ys s = let first : a ≡ b = cc in ap (λ y. y.id) first
 
 -- the next one comes directly behind an entry
-next_there : (xs ws : List Entry) (e f : Entry) → is_root e.id ≡ false → is_gt (id_cmp f.id e.id) ≡ true → AreApart (xs ++ e ∷ ws) → put_past_larger e ws ≡ e ∷ ws → put_entry e.id f (xs ++ e ∷ ws) ≡ (xs ++ e ∷ []) ++ f ∷ ws
+next_there : (xs ws : List Entry) (e f : Entry) → is_root e.id ≡ false → is_gt (id_cmp f.id e.id) ≡ true → AreApart (xs ++ e ∷ ws) → put_entry_past_larger e ws ≡ e ∷ ws → put_entry e.id f (xs ++ e ∷ ws) ≡ (xs ++ e ∷ []) ++ f ∷ ws
 next_there xs ws e f root up apart stops =
-    ap (λ b. cond b (put_past_larger f (xs ++ e ∷ ws)) (change_after e.id (put_past_larger f) (xs ++ e ∷ ws))) root
-    ∙ change_between e.id (put_past_larger f) xs e ws (is_id-itself e.id) (apart_front xs e ws apart)
+    ap (λ b. cond b (put_entry_past_larger f (xs ++ e ∷ ws)) (change_after_entry e.id (put_entry_past_larger f) (xs ++ e ∷ ws))) root
+    ∙ change_between e.id (put_entry_past_larger f) xs e ws (is_id-itself e.id) (apart_front xs e ws apart)
     ∙ ap (λ r. xs ++ e ∷ r) (stops_too e f ws up stops)
     ∙ sym (append_assoc xs (e ∷ []) (f ∷ ws))
 
@@ -36,7 +36,7 @@ module _ (ws : List Entry) where
       let whole : xs ++ e ∷ ws ≡ (xs ++ e ∷ []) ++ ws = sym (append_assoc xs (e ∷ []) ws) in
       apart_put (xs ++ e ∷ []) f ws (subst (λ y. has f.id y ≡ false) whole none) (subst AreApart whole apart)
 
-  following : (es xs : List Entry) (e : Entry) → CanFollow e.id es (xs ++ e ∷ ws) → AreApart (xs ++ e ∷ ws) → put_past_larger e ws ≡ e ∷ ws → put_chain e.id es (xs ++ e ∷ ws) ≡ xs ++ e ∷ (es ++ ws)
+  following : (es xs : List Entry) (e : Entry) → CanFollow e.id es (xs ++ e ∷ ws) → AreApart (xs ++ e ∷ ws) → put_entry_past_larger e ws ≡ e ∷ ws → put_chain e.id es (xs ++ e ∷ ws) ≡ xs ++ e ∷ (es ++ ws)
   following [] xs e can apart stops = refl
   following (f ∷ es) xs e can apart stops =
       let next : put_entry e.id f (xs ++ e ∷ ws) ≡ (xs ++ e ∷ []) ++ f ∷ ws = next_there xs ws e f can.0 can.1 apart stops in
@@ -44,7 +44,7 @@ module _ (ws : List Entry) where
       ∙ following es (xs ++ e ∷ []) f (subst (CanFollow f.id es) next can.3) (next_apart xs e f can.2 apart) (stops_too e f ws can.1 stops)
       ∙ append_assoc xs (e ∷ []) (f ∷ (es ++ ws))
 
-  following_apart : (es xs : List Entry) (e : Entry) → CanFollow e.id es (xs ++ e ∷ ws) → AreApart (xs ++ e ∷ ws) → put_past_larger e ws ≡ e ∷ ws → AreApart (xs ++ e ∷ (es ++ ws))
+  following_apart : (es xs : List Entry) (e : Entry) → CanFollow e.id es (xs ++ e ∷ ws) → AreApart (xs ++ e ∷ ws) → put_entry_past_larger e ws ≡ e ∷ ws → AreApart (xs ++ e ∷ (es ++ ws))
   following_apart [] xs e can apart stops = apart
   following_apart (f ∷ es) xs e can apart stops =
       let next : put_entry e.id f (xs ++ e ∷ ws) ≡ (xs ++ e ∷ []) ++ f ∷ ws = next_there xs ws e f can.0 can.1 apart stops in
@@ -53,7 +53,7 @@ module _ (ws : List Entry) where
 
 -- ---- where the first stands, there stand all
 
-module _ (parent : Identifier) (d : Entry) (s xs ws : List Entry) (apart : has d.id s ≡ false → AreApart (xs ++ d ∷ ws)) (stops : put_past_larger d ws ≡ d ∷ ws) (first : put_entry parent d s ≡ xs ++ d ∷ ws) where
+module _ (parent : Identifier) (d : Entry) (s xs ws : List Entry) (apart : has d.id s ≡ false → AreApart (xs ++ d ∷ ws)) (stops : put_entry_past_larger d ws ≡ d ∷ ws) (first : put_entry parent d s ≡ xs ++ d ∷ ws) where
   pub chain_there : (es : List Entry) → 0 < length es → d ≡ slice_index_or es 0 d → IsChain parent es s → put_chain parent es s ≡ xs ++ (es ++ ws)
   chain_there [] some is chain = absurd (omega arith)
   chain_there (e ∷ es) some is chain =

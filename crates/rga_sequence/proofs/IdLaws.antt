@@ -5,27 +5,27 @@ use Rattle.rga_ops.specs.Identifier.{Identifier, id_cmp, is_id, is_root}
 use Rattle.rga_ops.specs.Placement.{put_by_skip_rule, without}
 use Rattle.rga_ops.specs.Placement as placement
 use Rattle.rga_sequence.specs.declared.entry.Entry.{Entry}
-use Rattle.rga_sequence.specs.Entries.{ids, put_past_larger, change_after, put_entry, without_entry, as_marked, mark_entry}
+use Rattle.rga_sequence.specs.Entries.{ids, put_entry_past_larger, change_after_entry, put_entry, without_entry, as_marked, mark_entry}
 
-past : (e : Entry) (es : List Entry) → ids (put_past_larger e es) ≡ placement.put_past_larger e.id (ids es)
+past : (e : Entry) (es : List Entry) → ids (put_entry_past_larger e es) ≡ placement.put_past_larger e.id (ids es)
 past e [] = refl
 past e (x ∷ es) =
-    elim (is_gt (id_cmp x.id e.id)) as (λ b. ids (cond b (x ∷ put_past_larger e es) (e ∷ x ∷ es)) ≡ cond b (x.id ∷ placement.put_past_larger e.id (ids es)) (e.id ∷ x.id ∷ ids es)) [
+    elim (is_gt (id_cmp x.id e.id)) as (λ b. ids (cond b (x ∷ put_entry_past_larger e es) (e ∷ x ∷ es)) ≡ cond b (x.id ∷ placement.put_past_larger e.id (ids es)) (e.id ∷ x.id ∷ ids es)) [
       | true ↦ ap (λ r. x.id ∷ r) (past e es)
       | false ↦ refl
     ]
 
-after : (parent : Identifier) (e : Entry) (es : List Entry) → ids (change_after parent (put_past_larger e) es) ≡ placement.change_after parent (placement.put_past_larger e.id) (ids es)
+after : (parent : Identifier) (e : Entry) (es : List Entry) → ids (change_after_entry parent (put_entry_past_larger e) es) ≡ placement.change_after parent (placement.put_past_larger e.id) (ids es)
 after parent e [] = refl
 after parent e (x ∷ es) =
-    elim (is_id x.id parent) as (λ b. ids (cond b (x ∷ put_past_larger e es) (x ∷ change_after parent (put_past_larger e) es)) ≡ cond b (x.id ∷ placement.put_past_larger e.id (ids es)) (x.id ∷ placement.change_after parent (placement.put_past_larger e.id) (ids es))) [
+    elim (is_id x.id parent) as (λ b. ids (cond b (x ∷ put_entry_past_larger e es) (x ∷ change_after_entry parent (put_entry_past_larger e) es)) ≡ cond b (x.id ∷ placement.put_past_larger e.id (ids es)) (x.id ∷ placement.change_after parent (placement.put_past_larger e.id) (ids es))) [
       | true ↦ ap (λ r. x.id ∷ r) (past e es)
       | false ↦ ap (λ r. x.id ∷ r) (after parent e es)
     ]
 
 pub ids_put : (parent : Identifier) (e : Entry) (es : List Entry) → ids (put_entry parent e es) ≡ put_by_skip_rule parent e.id (ids es)
 ids_put parent e es =
-    elim (is_root parent) as (λ b. ids (cond b (put_past_larger e es) (change_after parent (put_past_larger e) es)) ≡ cond b (placement.put_past_larger e.id (ids es)) (placement.change_after parent (placement.put_past_larger e.id) (ids es))) [
+    elim (is_root parent) as (λ b. ids (cond b (put_entry_past_larger e es) (change_after_entry parent (put_entry_past_larger e) es)) ≡ cond b (placement.put_past_larger e.id (ids es)) (placement.change_after parent (placement.put_past_larger e.id) (ids es))) [
       | true ↦ past e es
       | false ↦ after parent e es
     ]

@@ -4,7 +4,7 @@ use Rattle.std.specs.Ordering.{is_gt}
 use Rattle.std.specs.Prelude.{Result, Ok, Err, OnOk, OnErr}
 use Rattle.rga_ops.specs.Identifier.{id_cmp}
 use Rattle.rga_sequence.specs.declared.entry.Entry.{Entry}
-use Rattle.rga_sequence.specs.Entries.{put_past_larger}
+use Rattle.rga_sequence.specs.Entries.{put_entry_past_larger}
 use Rattle.rga_sequence.specs.Blocks.{larger_at_front}
 
 -- ---- two cuts
@@ -62,20 +62,20 @@ length_drop (suc i) (x ∷ xs) h = sym (one_more i (length (drop i xs))) ∙ ap 
 
 -- ---- the larger ones at the front
 
-pub passed : (entry : Entry) (xs rest : List Entry) → put_past_larger entry (xs ++ rest) ≡ take (larger_at_front entry.id xs) xs ++ put_past_larger entry (drop (larger_at_front entry.id xs) xs ++ rest)
+pub passed : (entry : Entry) (xs rest : List Entry) → put_entry_past_larger entry (xs ++ rest) ≡ take (larger_at_front entry.id xs) xs ++ put_entry_past_larger entry (drop (larger_at_front entry.id xs) xs ++ rest)
 passed entry [] rest = refl
 passed entry (x ∷ xs) rest =
-    elim (is_gt (id_cmp x.id entry.id)) as (λ b. is_gt (id_cmp x.id entry.id) ≡ b → cond b (x ∷ put_past_larger entry (xs ++ rest)) (entry ∷ x ∷ xs ++ rest) ≡ take (cond b (suc (larger_at_front entry.id xs)) 0) (x ∷ xs) ++ put_past_larger entry (drop (cond b (suc (larger_at_front entry.id xs)) 0) (x ∷ xs) ++ rest)) [
+    elim (is_gt (id_cmp x.id entry.id)) as (λ b. is_gt (id_cmp x.id entry.id) ≡ b → cond b (x ∷ put_entry_past_larger entry (xs ++ rest)) (entry ∷ x ∷ xs ++ rest) ≡ take (cond b (suc (larger_at_front entry.id xs)) 0) (x ∷ xs) ++ put_entry_past_larger entry (drop (cond b (suc (larger_at_front entry.id xs)) 0) (x ∷ xs) ++ rest)) [
       | true ↦ λ t. ap (λ r. x ∷ r) (passed entry xs rest)
-      | false ↦ λ f. sym (ap (λ b. cond b (x ∷ put_past_larger entry (xs ++ rest)) (entry ∷ x ∷ xs ++ rest)) f)
+      | false ↦ λ f. sym (ap (λ b. cond b (x ∷ put_entry_past_larger entry (xs ++ rest)) (entry ∷ x ∷ xs ++ rest)) f)
     ] refl
 
-pub stopped : (entry : Entry) (xs rest : List Entry) → larger_at_front entry.id xs < length xs → put_past_larger entry (drop (larger_at_front entry.id xs) xs ++ rest) ≡ entry ∷ drop (larger_at_front entry.id xs) xs ++ rest
+pub stopped : (entry : Entry) (xs rest : List Entry) → larger_at_front entry.id xs < length xs → put_entry_past_larger entry (drop (larger_at_front entry.id xs) xs ++ rest) ≡ entry ∷ drop (larger_at_front entry.id xs) xs ++ rest
 stopped entry [] rest h = absurd (omega arith)
 stopped entry (x ∷ xs) rest h =
-    elim (is_gt (id_cmp x.id entry.id)) as (λ b. is_gt (id_cmp x.id entry.id) ≡ b → cond b (suc (larger_at_front entry.id xs)) 0 < suc (length xs) → put_past_larger entry (drop (cond b (suc (larger_at_front entry.id xs)) 0) (x ∷ xs) ++ rest) ≡ entry ∷ drop (cond b (suc (larger_at_front entry.id xs)) 0) (x ∷ xs) ++ rest) [
+    elim (is_gt (id_cmp x.id entry.id)) as (λ b. is_gt (id_cmp x.id entry.id) ≡ b → cond b (suc (larger_at_front entry.id xs)) 0 < suc (length xs) → put_entry_past_larger entry (drop (cond b (suc (larger_at_front entry.id xs)) 0) (x ∷ xs) ++ rest) ≡ entry ∷ drop (cond b (suc (larger_at_front entry.id xs)) 0) (x ∷ xs) ++ rest) [
       | true ↦ λ t w. stopped entry xs rest (omega arith)
-      | false ↦ λ f w. ap (λ b. cond b (x ∷ put_past_larger entry (xs ++ rest)) (entry ∷ x ∷ xs ++ rest)) f
+      | false ↦ λ f w. ap (λ b. cond b (x ∷ put_entry_past_larger entry (xs ++ rest)) (entry ∷ x ∷ xs ++ rest)) f
     ] refl h
 
 -- ---- clauses on results

@@ -3,7 +3,7 @@ use Rattle.std.proofs.lemmas.Bool.Decides.{nat_tests}
 use Rattle.std.proofs.Common.{nat_lt, true, false, subst, ◌≡◌, ℕ, ◌+◌, ◌-◌, ◌<◌, ◌≤◌, suc, zero, List, [], ◌∷◌, ◌++◌, length, take, drop, slice_index_or, refl, sym, ap, ◌∙◌, append_assoc, arith}
 use Rattle.std.specs.Prelude.{insert, slice_set}
 use Rattle.rga_sequence.specs.declared.entry.Entry.{Entry}
-use Rattle.rga_sequence.specs.Entries.{put_past_larger}
+use Rattle.rga_sequence.specs.Entries.{put_entry_past_larger}
 use Rattle.rga_sequence.specs.Blocks.{Blocks, flat, before, behind, IsPlace, larger_at_front, insert_all, cut_in}
 use Rattle.rga_sequence.proofs.ListLaws.{take_early, drop_early, take_both, drop_both, drop_all, take_all, length_drop, passed, stopped}
 
@@ -82,26 +82,26 @@ late_behind (x ∷ xs) (suc b) i cut h p = late_behind xs b i cut h p
 
 -- ---- past the larger ones
 
-pub past : (bs : Blocks) (b i : ℕ) (entry : Entry) (d : List Entry) → IsPlace bs b i → (j : ℕ) → j ≡ i + larger_at_front entry.id (drop i (slice_index_or bs b d)) → before bs b i ++ put_past_larger entry (behind bs b i) ≡ before bs b j ++ put_past_larger entry (behind bs b j)
+pub past : (bs : Blocks) (b i : ℕ) (entry : Entry) (d : List Entry) → IsPlace bs b i → (j : ℕ) → j ≡ i + larger_at_front entry.id (drop i (slice_index_or bs b d)) → before bs b i ++ put_entry_past_larger entry (behind bs b i) ≡ before bs b j ++ put_entry_past_larger entry (behind bs b j)
 past [] b i entry d p j e = absurd p
 past (x ∷ xs) zero i entry d p j e =
     let n : ℕ = larger_at_front entry.id (drop i x) in
     ap (λ r. take i x ++ r) (passed entry (drop i x) (flat xs))
-    ∙ sym (append_assoc (take i x) (take n (drop i x)) (put_past_larger entry (drop n (drop i x) ++ flat xs)))
-    ∙ (λ k. take_both i n x k ++ put_past_larger entry (drop_both i n x k ++ flat xs))
-    ∙ ap (λ m. take m x ++ put_past_larger entry (drop m x ++ flat xs)) (sym e)
+    ∙ sym (append_assoc (take i x) (take n (drop i x)) (put_entry_past_larger entry (drop n (drop i x) ++ flat xs)))
+    ∙ (λ k. take_both i n x k ++ put_entry_past_larger entry (drop_both i n x k ++ flat xs))
+    ∙ ap (λ m. take m x ++ put_entry_past_larger entry (drop m x ++ flat xs)) (sym e)
 past (x ∷ xs) (suc b) i entry d p j e =
-    append_assoc x (before xs b i) (put_past_larger entry (behind xs b i))
+    append_assoc x (before xs b i) (put_entry_past_larger entry (behind xs b i))
     ∙ ap (λ r. x ++ r) (past xs b i entry d p j e)
-    ∙ sym (append_assoc x (before xs b j) (put_past_larger entry (behind xs b j)))
+    ∙ sym (append_assoc x (before xs b j) (put_entry_past_larger entry (behind xs b j)))
 
-pub stops : (bs : Blocks) (b i : ℕ) (entry : Entry) (d : List Entry) → IsPlace bs b i → (j : ℕ) → j ≡ i + larger_at_front entry.id (drop i (slice_index_or bs b d)) → j < length (slice_index_or bs b d) → put_past_larger entry (behind bs b j) ≡ entry ∷ behind bs b j
+pub stops : (bs : Blocks) (b i : ℕ) (entry : Entry) (d : List Entry) → IsPlace bs b i → (j : ℕ) → j ≡ i + larger_at_front entry.id (drop i (slice_index_or bs b d)) → j < length (slice_index_or bs b d) → put_entry_past_larger entry (behind bs b j) ≡ entry ∷ behind bs b j
 stops [] b i entry d p j e w = absurd p
 stops (x ∷ xs) zero i entry d p j e w =
     let n : ℕ = larger_at_front entry.id (drop i x) in
     let whole : i + length (drop i x) ≡ length x = length_drop i x p in
     let here : drop n (drop i x) ≡ drop j x = drop_both i n x ∙ ap (λ m. drop m x) (sym e) in
-    ap (λ y. put_past_larger entry (y ++ flat xs)) (sym here)
+    ap (λ y. put_entry_past_larger entry (y ++ flat xs)) (sym here)
     ∙ stopped entry (drop i x) (flat xs) (omega arith)
     ∙ ap (λ y. entry ∷ y ++ flat xs) here
 stops (x ∷ xs) (suc b) i entry d p j e w = stops xs b i entry d p j e w
@@ -170,10 +170,10 @@ on_before bs b i d p h w = ap (λ n. before bs b n) (full bs b i d p h) ∙ next
 pub on_behind : (bs : Blocks) (b i : ℕ) (d : List Entry) → IsPlace bs b i → length (slice_index_or bs b d) ≤ i → b + 1 < length bs → behind bs b i ≡ behind bs (b + 1) 0
 on_behind bs b i d p h w = ap (λ n. behind bs b n) (full bs b i d p h) ∙ next_behind bs b d (omega arith) ∙ ap (λ n. behind bs n 0) (one_up b)
 
-pub at_end : (bs : Blocks) (b i : ℕ) (d : List Entry) (entry : Entry) → IsPlace bs b i → length (slice_index_or bs b d) ≤ i → b < length bs → length bs ≤ b + 1 → put_past_larger entry (behind bs b i) ≡ entry ∷ behind bs b i
+pub at_end : (bs : Blocks) (b i : ℕ) (d : List Entry) (entry : Entry) → IsPlace bs b i → length (slice_index_or bs b d) ≤ i → b < length bs → length bs ≤ b + 1 → put_entry_past_larger entry (behind bs b i) ≡ entry ∷ behind bs b i
 at_end bs b i d entry p h w e =
     let none : behind bs b i ≡ [] = ap (λ n. behind bs b n) (full bs b i d p h) ∙ end_behind bs b d (omega arith) in
-    ap (put_past_larger entry) none ∙ ap (λ r. entry ∷ r) (sym none)
+    ap (put_entry_past_larger entry) none ∙ ap (λ r. entry ∷ r) (sym none)
 
 -- the front of a block is the end of the one before it
 pub back_before : (bs : Blocks) (b c i j : ℕ) (d : List Entry) → suc b ≡ c → j ≡ 0 → i ≡ length (slice_index_or bs b d) → c < length bs → before bs b i ≡ before bs c j

@@ -7,7 +7,7 @@ use Rattle.std.proofs.lemmas.List.Folds.{list_any-append}
 use Rattle.rga_ops.specs.Identifier.{Identifier, is_id, is_root}
 use Rattle.rga_ops.proofs.IdentifierLaws.{is_swap, is_id-same, is_id-itself}
 use Rattle.rga_sequence.specs.declared.entry.Entry.{Entry}
-use Rattle.rga_sequence.specs.Entries.{ids, has, entry_of, up_to, change_after, change_behind, without_entry, as_marked, mark_entry, AreApart}
+use Rattle.rga_sequence.specs.Entries.{ids, has, entry_of, entries_up_to, change_after_entry, change_behind_entry, without_entry, as_marked, mark_entry, AreApart}
 use Rattle.rga_sequence.specs.Blocks.{Blocks, flat, before, behind, mark_at_index, IsPlace, Stands}
 use Rattle.rga_sequence.proofs.PlaceLaws.{parted}
 
@@ -20,10 +20,10 @@ id_swap a b h = is_id-same b a ∙ is_swap a b ∙ sym (is_id-same a b) ∙ h
 -- ---- an entry between others
 
 -- the change comes behind the entry
-pub change_between : (id : Identifier) (f : List Entry → List Entry) (front : List Entry) (e : Entry) (back : List Entry) → is_id e.id id ≡ true → has id front ≡ false → change_after id f (front ++ e ∷ back) ≡ front ++ e ∷ f back
-change_between id f [] e back named h = ap (λ b. cond b (e ∷ f back) (e ∷ change_after id f back)) named
+pub change_between : (id : Identifier) (f : List Entry → List Entry) (front : List Entry) (e : Entry) (back : List Entry) → is_id e.id id ≡ true → has id front ≡ false → change_after_entry id f (front ++ e ∷ back) ≡ front ++ e ∷ f back
+change_between id f [] e back named h = ap (λ b. cond b (e ∷ f back) (e ∷ change_after_entry id f back)) named
 change_between id f (x ∷ front) e back named h =
-    elim (is_id x.id id) as (λ b. (b || has id front) ≡ false → cond b (x ∷ f (front ++ e ∷ back)) (x ∷ change_after id f (front ++ e ∷ back)) ≡ x ∷ front ++ e ∷ f back) [
+    elim (is_id x.id id) as (λ b. (b || has id front) ≡ false → cond b (x ∷ f (front ++ e ∷ back)) (x ∷ change_after_entry id f (front ++ e ∷ back)) ≡ x ∷ front ++ e ∷ f back) [
       | true ↦ λ h. absurd (true≢false h)
       | false ↦ λ h. ap (λ r. x ∷ r) (change_between id f front e back named h)
     ] h
@@ -60,10 +60,10 @@ mark_between mark id (x ∷ front) e back named h k =
       | false ↦ λ h. ap (λ r. x ∷ r) (mark_between mark id front e back named h k)
     ] h
 
-pub up_to_between : (id : Identifier) (front : List Entry) (e : Entry) (back : List Entry) → is_id e.id id ≡ true → has id front ≡ false → up_to id (front ++ e ∷ back) ≡ front ++ e ∷ []
-up_to_between id [] e back named h = ap (λ b. cond b (e ∷ []) (e ∷ up_to id back)) named
+pub up_to_between : (id : Identifier) (front : List Entry) (e : Entry) (back : List Entry) → is_id e.id id ≡ true → has id front ≡ false → entries_up_to id (front ++ e ∷ back) ≡ front ++ e ∷ []
+up_to_between id [] e back named h = ap (λ b. cond b (e ∷ []) (e ∷ entries_up_to id back)) named
 up_to_between id (x ∷ front) e back named h =
-    elim (is_id x.id id) as (λ b. (b || has id front) ≡ false → cond b (x ∷ []) (x ∷ up_to id (front ++ e ∷ back)) ≡ x ∷ front ++ e ∷ []) [
+    elim (is_id x.id id) as (λ b. (b || has id front) ≡ false → cond b (x ∷ []) (x ∷ entries_up_to id (front ++ e ∷ back)) ≡ x ∷ front ++ e ∷ []) [
       | true ↦ λ h. absurd (true≢false h)
       | false ↦ λ h. ap (λ r. x ∷ r) (up_to_between id front e back named h)
     ] h
@@ -205,19 +205,19 @@ standing bs b i id apart h =
       none_behind = subst (λ y. has y (behind bs b (suc i)) ≡ false) f.named (apart_back (before bs b i) f.entry (behind bs b (suc i)) apart_there);
     }
 
-pub change_there : (id : Identifier) (f : List Entry → List Entry) (bs : Blocks) (b i : ℕ) → is_root id ≡ false → AreApart (flat bs) → Stands bs b i id → change_behind id f (flat bs) ≡ before bs b (i + 1) ++ f (behind bs b (i + 1))
+pub change_there : (id : Identifier) (f : List Entry → List Entry) (bs : Blocks) (b i : ℕ) → is_root id ≡ false → AreApart (flat bs) → Stands bs b i id → change_behind_entry id f (flat bs) ≡ before bs b (i + 1) ++ f (behind bs b (i + 1))
 change_there id f bs b i other apart h =
     let s : Standing bs b i id = standing bs b i id apart h in
-    ap (λ t. cond t (f (flat bs)) (change_after id f (flat bs))) other
-    ∙ ap (change_after id f) s.whole
+    ap (λ t. cond t (f (flat bs)) (change_after_entry id f (flat bs))) other
+    ∙ ap (change_after_entry id f) s.whole
     ∙ change_between id f (before bs b i) s.entry (behind bs b (suc i)) s.named s.none_before
     ∙ sym (append_assoc (before bs b i) (s.entry ∷ []) (f (behind bs b (suc i))))
     ∙ ap (λ r. r ++ f (behind bs b (suc i))) (sym s.front)
     ∙ ap (λ n. before bs b n ++ f (behind bs b n)) (one_up i)
 
-pub change_at_front : (id : Identifier) (f : List Entry → List Entry) (bs : Blocks) → is_root id ≡ true → 0 < length bs → change_behind id f (flat bs) ≡ before bs 0 0 ++ f (behind bs 0 0)
+pub change_at_front : (id : Identifier) (f : List Entry → List Entry) (bs : Blocks) → is_root id ≡ true → 0 < length bs → change_behind_entry id f (flat bs) ≡ before bs 0 0 ++ f (behind bs 0 0)
 change_at_front id f [] root w = absurd (omega arith)
-change_at_front id f (x ∷ xs) root w = ap (λ t. cond t (f (x ++ flat xs)) (change_after id f (x ++ flat xs))) root
+change_at_front id f (x ∷ xs) root w = ap (λ t. cond t (f (x ++ flat xs)) (change_after_entry id f (x ++ flat xs))) root
 
 pub has_there : (id : Identifier) (bs : Blocks) (b i : ℕ) → Stands bs b i id → has id (flat bs) ≡ true
 has_there id bs b i h =
@@ -241,10 +241,10 @@ entry_there id bs b i d apart h =
     let s : Standing bs b i id = standing bs b i id apart h in
     s.got d ∙ sym (ap (entry_of id) s.whole ∙ entry_between id (before bs b i) s.entry (behind bs b (suc i)) s.named s.none_before)
 
-pub up_to_there : (id : Identifier) (bs : Blocks) (b i : ℕ) → AreApart (flat bs) → Stands bs b i id → up_to id (flat bs) ≡ before bs b (i + 1)
+pub up_to_there : (id : Identifier) (bs : Blocks) (b i : ℕ) → AreApart (flat bs) → Stands bs b i id → entries_up_to id (flat bs) ≡ before bs b (i + 1)
 up_to_there id bs b i apart h =
     let s : Standing bs b i id = standing bs b i id apart h in
-    ap (up_to id) s.whole
+    ap (entries_up_to id) s.whole
     ∙ up_to_between id (before bs b i) s.entry (behind bs b (suc i)) s.named s.none_before
     ∙ sym s.front
     ∙ ap (before bs b) (one_up i)

@@ -4,7 +4,7 @@ use Rattle.std.specs.Ordering.{is_gt}
 use Rattle.std.specs.List.{slice_get, AllByRecursion}
 use Rattle.rga_ops.specs.Identifier.{Identifier, id_cmp}
 use Rattle.rga_sequence.specs.declared.entry.Entry.{Entry}
-use Rattle.rga_sequence.specs.Entries.{ids, visible_count, put_past_larger, as_marked, AreApart}
+use Rattle.rga_sequence.specs.Entries.{ids, visible_count, put_entry_past_larger, as_marked, AreApart}
 use Rattle.rga_sequence.specs.declared.block.TheConstants.{MOST}
 use Rattle.rga_sequence.specs.declared.groups.TheConstants.{GROUP}
 use Rattle.rga_sequence.specs.declared.groups.Groups.{Groups}
@@ -67,13 +67,13 @@ IsPlace (b ∷ bs) (suc block) index = IsPlace bs block index
 -- from one place as from another an entry comes to the same, past the larger ones
 abbrev pub Passes : Blocks → ℕ → ℕ → ℕ → ℕ → Entry → Type 0
 Passes bs block index other end e =
-    before bs block index ++ put_past_larger e (behind bs block index)
-    ≡ before bs other end ++ put_past_larger e (behind bs other end)
+    before bs block index ++ put_entry_past_larger e (behind bs block index)
+    ≡ before bs other end ++ put_entry_past_larger e (behind bs other end)
 
 -- where the index is not the end of its block, an entry goes there
 abbrev pub Stops : Blocks → ℕ → ℕ → Entry → Type 0
 Stops bs block index e = index < length (slice_index_or bs block []) →
-    put_past_larger e (behind bs block index) ≡ e ∷ behind bs block index
+    put_entry_past_larger e (behind bs block index) ≡ e ∷ behind bs block index
 
 -- a block is two
 abbrev pub cut_in : Blocks → ℕ → ℕ → Blocks

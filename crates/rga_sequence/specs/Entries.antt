@@ -37,33 +37,33 @@ abbrev pub visible_text : List Entry → List ℕ
 visible_text es = map (λ e. e.ch) (visible_entries es)
 
 -- the entries from the front to that of the identifier, which is the last of them
-abbrev pub up_to : Identifier → List Entry → List Entry
-up_to id [] = []
-up_to id (e ∷ es) = if is_id e.id id then e ∷ [] else e ∷ up_to id es
+abbrev pub entries_up_to : Identifier → List Entry → List Entry
+entries_up_to id [] = []
+entries_up_to id (e ∷ es) = if is_id e.id id then e ∷ [] else e ∷ entries_up_to id es
 
 -- how many visible entries are that of the identifier or stand before it
 abbrev pub place_in : Identifier → List Entry → Option ℕ
-place_in id es = if has id es then Some (visible_count (up_to id es)) else None
+place_in id es = if has id es then Some (visible_count (entries_up_to id es)) else None
 
 -- ---- changes
 
 -- the entries with what stands behind that of the identifier changed
-abbrev pub change_after : Identifier → (List Entry → List Entry) → List Entry → List Entry
-change_after id change [] = []
-change_after id change (e ∷ es) = if is_id e.id id then e ∷ change es else e ∷ change_after id change es
+abbrev pub change_after_entry : Identifier → (List Entry → List Entry) → List Entry → List Entry
+change_after_entry id change [] = []
+change_after_entry id change (e ∷ es) = if is_id e.id id then e ∷ change es else e ∷ change_after_entry id change es
 
 -- the same; behind the root stand all
-abbrev pub change_behind : Identifier → (List Entry → List Entry) → List Entry → List Entry
-change_behind id change es = if is_root id then change es else change_after id change es
+abbrev pub change_behind_entry : Identifier → (List Entry → List Entry) → List Entry → List Entry
+change_behind_entry id change es = if is_root id then change es else change_after_entry id change es
 
 -- an entry past those of larger identifiers at the front
-abbrev pub put_past_larger : Entry → List Entry → List Entry
-put_past_larger e [] = e ∷ []
-put_past_larger e (x ∷ es) = if is_gt (id_cmp x.id e.id) then x ∷ put_past_larger e es else e ∷ x ∷ es
+abbrev pub put_entry_past_larger : Entry → List Entry → List Entry
+put_entry_past_larger e [] = e ∷ []
+put_entry_past_larger e (x ∷ es) = if is_gt (id_cmp x.id e.id) then x ∷ put_entry_past_larger e es else e ∷ x ∷ es
 
 -- an entry behind its parent, and there past those of larger identifiers (Roh and others 2011)
 abbrev pub put_entry : Identifier → Entry → List Entry → List Entry
-put_entry parent e es = change_behind parent (put_past_larger e) es
+put_entry parent e es = change_behind_entry parent (put_entry_past_larger e) es
 
 -- entries, each behind the one before it, and the first behind the parent
 abbrev pub put_chain : Identifier → List Entry → List Entry → List Entry

@@ -1,6 +1,6 @@
 //! What blocks have: how many entries, which are visible, and their text.
 ghost use Rattle.std.specs.Prelude.{◌≡◌, ◌≤◌, ◌<◌, ◌+◌, ◌^◌, ◌++◌, ◌∷◌, [], length, slice_get, slice_index_or, vec_len, take, drop, Some, IfOk, IfErr, OnOk};
-ghost use Rattle.rga_sequence.specs.Entries.{ids, up_to, visible_count, visible_ids, visible_text};
+ghost use Rattle.rga_sequence.specs.Entries.{ids, entries_up_to, visible_count, visible_ids, visible_text};
 ghost use Rattle.rga_sequence.specs.Blocks.{flat, before, IsPlace, Stands, IsSequence, AreCounts};
 
 use crate::block::{Block, MOST};
@@ -52,7 +52,7 @@ pub(crate) fn place_at(blocks: &Vec<Block>, counts: &Vec<usize>, at: Place, id: 
     requires stands { Stands blocks.now.items at.block at.index id }
     requires kept { IsSequence blocks.now.items }
     requires counts { AreCounts counts.now.items blocks.now.items }
-    ensures { result ≡ visible_count (up_to id (flat blocks.now.items)) }
+    ensures { result ≡ visible_count (entries_up_to id (flat blocks.now.items)) }
 {
     visible_before(
         blocks,

@@ -2,7 +2,7 @@
 ghost use Rattle.std.specs.Prelude.{◌≡◌, ◌≢◌, ◌<◌, ◌+◌, ◌++◌, ◌∷◌, ◌||◌, List, vec_len, true, false, None, IfSome};
 ghost use Rattle.rga_ops.specs.Identifier.{is_root};
 ghost use Rattle.rga_sequence.specs.declared.entry.Entry.{Entry};
-ghost use Rattle.rga_sequence.specs.Entries.{has, change_behind, put_past_larger};
+ghost use Rattle.rga_sequence.specs.Entries.{has, change_behind_entry, put_entry_past_larger};
 ghost use Rattle.rga_sequence.specs.Blocks.{flat, before, behind, IsPlace, Passes, Stops, IsSequence, AreBounds};
 
 use crate::block::{Block, MOST};
@@ -21,7 +21,7 @@ pub(crate) fn behind_parent(blocks: &Vec<Block>, hints: Hints, parent: Id) -> Op
     ensures block { IfSome result (λ p. p.block < vec_len blocks.now) }
     ensures place { IfSome result (λ p. IsPlace blocks.now.items p.block p.index) }
     ensures behind { IfSome result (λ p. (f : List Entry → List Entry) →
-        change_behind parent f (flat blocks.now.items)
+        change_behind_entry parent f (flat blocks.now.items)
         ≡ before blocks.now.items p.block p.index ++ f (behind blocks.now.items p.block p.index)) }
 {
     if parent == Id::ROOT {
@@ -56,7 +56,7 @@ fn goes_on(blocks: &Vec<Block>, block: usize, index: usize) -> bool
     ensures behind { result ≡ true →
         behind blocks.now.items block index ≡ behind blocks.now.items (block + 1) 0 }
     ensures end { (e : Entry) → result ≡ false → Stops blocks.now.items block index e →
-        put_past_larger e (behind blocks.now.items block index)
+        put_entry_past_larger e (behind blocks.now.items block index)
         ≡ e ∷ behind blocks.now.items block index }
 {
     if index < blocks[block].len() {
@@ -106,10 +106,11 @@ pub(crate) fn skip(
     ensures block { result.block < vec_len blocks.now }
     ensures place { IsPlace blocks.now.items result.block result.index }
     ensures skipped { let bs = blocks.now.items in
-        before bs from.block from.index ++ put_past_larger entry.now (behind bs from.block from.index)
+        before bs from.block from.index
+        ++ put_entry_past_larger entry.now (behind bs from.block from.index)
         ≡ before bs result.block result.index ++ entry.now ∷ behind bs result.block result.index }
     ensures stops { let bs = blocks.now.items in
-        put_past_larger entry.now (behind bs result.block result.index)
+        put_entry_past_larger entry.now (behind bs result.block result.index)
         ≡ entry.now ∷ behind bs result.block result.index }
 {
     let mut block = from.block;

@@ -14,7 +14,7 @@ use Rattle.rga_ops.proofs.TakenLaws.{taken_is}
 use Rattle.rga_ops.specs.declared.op.Op.{Op}
 use Rattle.rga_ops.specs.declared.op.Op.TheVariants.{Insert, Delete}
 use Rattle.rga_ops.specs.declared.refusal.Taken.TheVariants.{New}
-use Rattle.rga_store.specs.Without.{without_insertion, without_deletion, without}
+use Rattle.rga_store.specs.Without.{without_insertion, without_deletion, without_operation}
 use Rattle.rga_store.specs.Counted.{IsCounted}
 use Rattle.rga_ops.proofs.ListSteps.{get-insertion, get-deletion}
 use Rattle.rga_store.proofs.StepLaws.{deleted_then, deleted_now, more_known, more_inserted, sound_within}
@@ -54,7 +54,7 @@ deletion_again c id g = same_content _ _
 
 -- ---- a new operation, removed again
 
-pub without_new : (limit : ℕ) (c : Content) (op : Op) → answer limit c op ≡ Ok New → without op (join c (single op)) ≡ c
+pub without_new : (limit : ℕ) (c : Content) (op : Op) → answer limit c op ≡ Ok New → without_operation op (join c (single op)) ≡ c
 without_new limit c (Insert id parent ch) h =
     let none : finite_map.get c.inserted id ≡ None = (new_insertion limit c id parent ch h).absent in
     same_content _ _

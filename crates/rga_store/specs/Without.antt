@@ -13,6 +13,6 @@ abbrev pub without_deletion : Identifier → Content → Content
 without_deletion id c = record { inserted = c.inserted; deleted = finite_set.remove c.deleted id }
 
 -- the content without the operation
-abbrev pub without : Op → Content → Content
-without (Insert id parent ch) c = without_insertion id c
-without (Delete id) c = without_deletion id c
+abbrev pub without_operation : Op → Content → Content
+without_operation (Insert id parent ch) c = without_insertion id c
+without_operation (Delete id) c = without_deletion id c

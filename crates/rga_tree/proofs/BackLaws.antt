@@ -9,11 +9,11 @@ use Rattle.rga_ops.specs.Answer.{answer}
 use Rattle.rga_ops.specs.declared.op.Op.{Op}
 use Rattle.rga_ops.specs.declared.refusal.Taken.TheVariants.{New}
 use Rattle.rga_tree.specs.declared.tree_store.whole_list.Step.{Step}
-use Rattle.rga_store.specs.Without.{without_insertion, without_deletion, without}
+use Rattle.rga_store.specs.Without.{without_insertion, without_deletion, without_operation}
 use Rattle.rga_tree.specs.Back.{gone_back, CanGoBack, IsLastStep}
 use Rattle.rga_store.specs.Rising.{IsRising}
 use Rattle.rga_tree.specs.Children.{has_child}
-use Rattle.rga_tree.specs.Nodes.{Nodes, AreApart, content_of_nodes, children_of}
+use Rattle.rga_tree.specs.Nodes.{Nodes, AreDistinctNodes, content_of_nodes, children_of}
 use Rattle.rga_store.specs.Child.{is_child}
 use Rattle.rga_store.specs.Counted.{IsCounted}
 use Rattle.rga_tree.specs.Tree.{IsFamily, IsTree}
@@ -21,7 +21,7 @@ use Rattle.rga_store.proofs.StepLaws.{IsChild, child_found}
 use Rattle.rga_store.proofs.WithoutLaws.{without_new, new_held, counted_without_insertion, counted_without_deletion}
 use Rattle.rga_tree.proofs.FamilyLaws.{family_same, child_left}
 
-module _ (ns ms : Nodes) (latest insertions identifiers limit : ℕ) (w : IsTree ns latest insertions identifiers limit) (apart : AreApart ms) where
+module _ (ns ms : Nodes) (latest insertions identifiers limit : ℕ) (w : IsTree ns latest insertions identifiers limit) (apart : AreDistinctNodes ms) where
   pub tree_without_insertion : (id parent : Identifier) (sooner less : ℕ) → is_child (content_of_nodes ns) parent id ≡ true
       → content_of_nodes ms ≡ without_insertion id (content_of_nodes ns)
       → ((p k : Identifier) → has_child (children_of ms p) k ≡ (has_child (children_of ns p) k && not (is_id parent p && is_id id k))) → ((p : Identifier) → IsRising (children_of ms p))
@@ -60,9 +60,9 @@ module _ (ns ms : Nodes) (latest insertions identifiers limit : ℕ) (w : IsTree
 
 -- ---- steps
 
-pub gone_back-push : (ss : List Step) (s : Step) (c : Content) → gone_back (ss ++ s ∷ []) c ≡ gone_back ss (without s.op c)
+pub gone_back-push : (ss : List Step) (s : Step) (c : Content) → gone_back (ss ++ s ∷ []) c ≡ gone_back ss (without_operation s.op c)
 gone_back-push [] s c = refl
-gone_back-push (t ∷ ss) s c = ap (without t.op) (gone_back-push ss s c)
+gone_back-push (t ∷ ss) s c = ap (without_operation t.op) (gone_back-push ss s c)
 
 pub last_step : (ss : List Step) (s : Step) (c : Content) → CanGoBack (ss ++ s ∷ []) c → IsLastStep ss s.op s.clock c
 last_step [] s c h = record { held = h.1.0; clocked = h.1.1; rest = tt }
@@ -71,21 +71,21 @@ last_step (t ∷ ss) s c h =
     record {
       held = last.held;
       clocked = last.clocked;
-      rest = (last.rest, subst (λ d. Holds d t.op × (t.clock ≡ clock_of (without t.op d))) (gone_back-push ss s c) h.1);
+      rest = (last.rest, subst (λ d. Holds d t.op × (t.clock ≡ clock_of (without_operation t.op d))) (gone_back-push ss s c) h.1);
     }
 
 pub one_step_more : (ss : List Step) (s : Step) (c : Content) → IsLastStep ss s.op s.clock c → CanGoBack (ss ++ s ∷ []) c
 one_step_more [] s c last = (tt, (last.held, last.clocked))
 one_step_more (t ∷ ss) s c last = (
   one_step_more ss s c (record { held = last.held; clocked = last.clocked; rest = last.rest.0 }),
-  subst (λ d. Holds d t.op × (t.clock ≡ clock_of (without t.op d))) (sym (gone_back-push ss s c)) last.rest.1,
+  subst (λ d. Holds d t.op × (t.clock ≡ clock_of (without_operation t.op d))) (sym (gone_back-push ss s c)) last.rest.1,
 )
 
 -- ---- an operation that was just taken
 
 module _ (limit : ℕ) (n m : Content) (op : Op) (answered : answer limit n op ≡ Ok New) (joined : m ≡ join n (single op)) where
-  pub without_taken : without op m ≡ n
-  without_taken = ap (without op) joined ∙ without_new limit n op answered
+  pub without_taken : without_operation op m ≡ n
+  without_taken = ap (without_operation op) joined ∙ without_new limit n op answered
 
   pub last_taken : (ss : List Step) (before : ℕ) → before ≡ clock_of n → CanGoBack ss n → IsLastStep ss op before m
   last_taken ss before same back = record {

@@ -20,14 +20,14 @@ use Rattle.rga_ops.proofs.CountLaws.{len-known_join}
 use Rattle.rga_ops.proofs.MergeLaws.{is_conflict-iff, agree-iff, no_least_conflict-iff, least_conflict-iff, least_conflict_swap}
 use Rattle.rga_ops.specs.declared.op.Op.TheVariants.{Insert}
 use Rattle.rga_tree.specs.declared.nodes.Node.{Node}
-use Rattle.rga_tree.specs.Nodes.{Nodes, content_of_nodes, ids_where, AreApart, StandsAt}
+use Rattle.rga_tree.specs.Nodes.{Nodes, content_of_nodes, ids_where, AreDistinctNodes, StandsAt}
 use Rattle.rga_tree.proofs.NodeLaws.{element_of, mark_of, inserted_at, deleted_at, is_some-mapped, any_where, place_found}
 use Rattle.rga_tree.proofs.PickedLaws.{picked_step, picked_distinct}
 
 -- ---- the least conflict
 
 -- an identifier conflicts as its node says
-pub conflict_at : (c : Content) (ns : Nodes) → AreApart ns → (q : Identifier) (v : Node) → lookup (is_id q) ns ≡ Some v → is_conflict (content_of_nodes ns) c q ≡ option_map_or (λ x. has_another c (Insert q x.0 x.1)) v.element false
+pub conflict_at : (c : Content) (ns : Nodes) → AreDistinctNodes ns → (q : Identifier) (v : Node) → lookup (is_id q) ns ≡ Some v → is_conflict (content_of_nodes ns) c q ≡ option_map_or (λ x. has_another c (Insert q x.0 x.1)) v.element false
 conflict_at c ns apart q v found =
     ap (λ o. option_map_or (λ x. has_another c (Insert q x.parent x.ch)) o false) (inserted_at ns apart q ∙ ap element_of found)
     ∙ shown v.element
@@ -96,7 +96,7 @@ module _ (p : Identifier → Bool) (ns : Nodes) (i : ℕ) (k : Identifier) (v : 
       lower (Some s) below q h = not_smaller q s r h (below s refl)
 
 -- the least of all nodes' conflicts is that of the contents
-pub least_found : (c : Content) (ns : Nodes) → AreApart ns → (o : Option Identifier) → IsLeastSoFar (is_conflict (content_of_nodes ns) c) ns (length ns) o → o ≡ least_conflict c (content_of_nodes ns)
+pub least_found : (c : Content) (ns : Nodes) → AreDistinctNodes ns → (o : Option Identifier) → IsLeastSoFar (is_conflict (content_of_nodes ns) c) ns (length ns) o → o ≡ least_conflict c (content_of_nodes ns)
 least_found c ns apart o w = sym (least_conflict_swap c d ∙ by_least o w)
   where
     d : Content
@@ -130,7 +130,7 @@ abbrev pub means_something : Node → Bool
 means_something v = is_some v.element || v.deleted
 
 -- an identifier is known as its node says
-pub known_at : (ns : Nodes) → AreApart ns → (q : Identifier) → finite_set.contains (known_ids (content_of_nodes ns)) q ≡ option_map_or means_something (lookup (is_id q) ns) false
+pub known_at : (ns : Nodes) → AreDistinctNodes ns → (q : Identifier) → finite_set.contains (known_ids (content_of_nodes ns)) q ≡ option_map_or means_something (lookup (is_id q) ns) false
 known_at ns apart q =
     contains-known (content_of_nodes ns) q
     ∙ (λ k. is_some (inserted_at ns apart q k) || deleted_at ns apart q k)
@@ -164,7 +164,7 @@ unknown_step c ns i k v there =
         one false = refl
 
 -- the join knows these too, and nothing else
-pub unknown_counted : (c : Content) (ns : Nodes) → AreApart ns → finite_set.len (known_ids (join c (content_of_nodes ns))) ≡ finite_set.len (known_ids c) + length (unknown_ids c ns)
+pub unknown_counted : (c : Content) (ns : Nodes) → AreDistinctNodes ns → finite_set.len (known_ids (join c (content_of_nodes ns))) ≡ finite_set.len (known_ids c) + length (unknown_ids c ns)
 unknown_counted c ns apart =
     len-known_join c (content_of_nodes ns) (ids_where means_something ns) (picked_distinct means_something ns apart)
     (λ q. known_at ns apart q ∙ sym (any_where means_something q ns apart))

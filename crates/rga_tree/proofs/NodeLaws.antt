@@ -22,7 +22,7 @@ use Rattle.rga_ops.proofs.ListSteps.{get-insertion, get-deletion}
 use Rattle.rga_store.proofs.StepLaws.{deleted_then, deleted_now}
 use Rattle.rga_store.proofs.CaseSteps.{true_where}
 use Rattle.rga_tree.specs.declared.nodes.Node.{Node}
-use Rattle.rga_tree.specs.Nodes.{Nodes, element_in, insertion_in, ids_where, marked_ids, content_of_nodes, children_at, children_of, char_at, AreApart, StandsAt}
+use Rattle.rga_tree.specs.Nodes.{Nodes, element_in, insertion_in, ids_where, marked_ids, content_of_nodes, children_at, children_of, char_at, AreDistinctNodes, StandsAt}
 use Rattle.rga_tree.specs.Children.{children_in}
 use Rattle.rga_store.specs.Without.{without_insertion, without_deletion}
 
@@ -53,7 +53,7 @@ element_shown (Some x) = refl
 pub element_in_new : (v : Node) → v.element ≡ None → element_in v ≡ None
 element_in_new v h = ap (option_map (λ x. element x.0 x.1)) h
 
-none_later : (q : Identifier) (n : Identifier × Node) (ns : Nodes) → AreApart (n ∷ ns) → is_id q n.0 ≡ true → lookup (is_id q) ns ≡ None
+none_later : (q : Identifier) (n : Identifier × Node) (ns : Nodes) → AreDistinctNodes (n ∷ ns) → is_id q n.0 ≡ true → lookup (is_id q) ns ≡ None
 unfolding IsDistinct
 none_later q n ns h t = subst (λ i. lookup (is_id i) ns ≡ None) (sym (is_id-is q n.0 t)) (absent n.0 ns h.0)
   where
@@ -65,7 +65,7 @@ none_later q n ns h t = subst (λ i. lookup (is_id i) ns ≡ None) (sym (is_id-i
 first_is : (q : Identifier) (n : Identifier × Node) (b : Bool) → is_id q n.0 ≡ b → is q n.0 ≡ b
 first_is q n b t = (λ k. sym same_tests k q n.0) ∙ t
 
-find_insertions : (q : Identifier) (ns : Nodes) → AreApart ns → find id_cmp q (filter_map insertion_in ns) ≡ element_of (lookup (is_id q) ns)
+find_insertions : (q : Identifier) (ns : Nodes) → AreDistinctNodes ns → find id_cmp q (filter_map insertion_in ns) ≡ element_of (lookup (is_id q) ns)
 unfolding IsDistinct
 find_insertions q [] h = refl
 find_insertions q (n ∷ ns) h =
@@ -84,11 +84,11 @@ find_insertions q (n ∷ ns) h =
     there (Some x) t = ap (λ b. cond b (Some x) (find id_cmp q (filter_map insertion_in ns))) (first_is q n false t)
 
 -- an identifier is inserted as its node says
-pub inserted_at : (ns : Nodes) → AreApart ns → (q : Identifier) → finite_map.get (content_of_nodes ns).inserted q ≡ element_of (lookup (is_id q) ns)
+pub inserted_at : (ns : Nodes) → AreDistinctNodes ns → (q : Identifier) → finite_map.get (content_of_nodes ns).inserted q ≡ element_of (lookup (is_id q) ns)
 inserted_at ns h q = finite_map.get-from_entries ids_total (filter_map insertion_in ns) q ∙ find_insertions q ns h
 
 -- an identifier is among those of the nodes that pass a test as its node says
-pub any_where : (test : Node → Bool) (q : Identifier) (ns : Nodes) → AreApart ns → list_any (is q) (ids_where test ns) ≡ option_map_or test (lookup (is_id q) ns) false
+pub any_where : (test : Node → Bool) (q : Identifier) (ns : Nodes) → AreDistinctNodes ns → list_any (is q) (ids_where test ns) ≡ option_map_or test (lookup (is_id q) ns) false
 unfolding IsDistinct
 any_where test q [] h = refl
 any_where test q (n ∷ ns) h =
@@ -107,11 +107,11 @@ any_where test q (n ∷ ns) h =
     there false t = refl
 
 -- and deleted as its node says
-pub deleted_at : (ns : Nodes) → AreApart ns → (q : Identifier) → finite_set.contains (content_of_nodes ns).deleted q ≡ mark_of (lookup (is_id q) ns)
+pub deleted_at : (ns : Nodes) → AreDistinctNodes ns → (q : Identifier) → finite_set.contains (content_of_nodes ns).deleted q ≡ mark_of (lookup (is_id q) ns)
 deleted_at ns h q = finite_set.contains-from_list ids_total (marked_ids ns) q ∙ any_where (λ v. v.deleted) q ns h
 
 -- and shown as its node says
-pub shown_at : (ns : Nodes) → AreApart ns → (q : Identifier) → shown (content_of_nodes ns) q ≡ char_at (lookup (is_id q) ns)
+pub shown_at : (ns : Nodes) → AreDistinctNodes ns → (q : Identifier) → shown (content_of_nodes ns) q ≡ char_at (lookup (is_id q) ns)
 shown_at ns h q = (λ k. cond (deleted_at ns h q k) None (option_map (λ x. x.ch) (inserted_at ns h q k))) ∙ found (lookup (is_id q) ns)
   where
     kept : (o : Option (Identifier × ℕ)) → option_map {T = Element} {U = ℕ} (λ x. x.ch) (option_map (λ x. element x.0 x.1) o) ≡ option_map (λ x. x.1) o
@@ -153,7 +153,7 @@ node_there [] i k v h g = absurd (none-some _ h)
 node_there (n ∷ ns) zero k v h g = λ j. Some (same_Some _ _ h j, same_Some _ _ g j)
 node_there (n ∷ ns) (suc i) k v h g = node_there ns i k v h g
 
-module _ {S : Type 0} (m : IndexMap Identifier Node S) (place : ℕ) (id : Identifier) (v w : Node) (apart : AreApart m.entries) (stands : StandsAt m.entries place id) (there : slice_get (values_of m.entries) place ≡ Some v) where
+module _ {S : Type 0} (m : IndexMap Identifier Node S) (place : ℕ) (id : Identifier) (v w : Node) (apart : AreDistinctNodes m.entries) (stands : StandsAt m.entries place id) (there : slice_get (values_of m.entries) place ≡ Some v) where
   -- the node at an identifier's place is the one that is found
   pub found_there : lookup (is_id id) m.entries ≡ Some v
   found_there = lookup_from_place ids_equivalence m.entries place id v apart (node_there m.entries place id v stands there)
@@ -164,7 +164,7 @@ module _ {S : Type 0} (m : IndexMap Identifier Node S) (place : ℕ) (id : Ident
     now = (updates-with_value_at m place w ids_equivalence apart id v (node_there m.entries place id v stands there)).0;
   }
 
-  pub apart_still : AreApart (set_value_at m.entries place w)
+  pub apart_still : AreDistinctNodes (set_value_at m.entries place w)
   apart_still = subst (λ ks. IsDistinct is_id ks) (sym (keys-with_value_at m place w)) apart
 
   pub places_still : (i : ℕ) (q : Identifier) → StandsAt m.entries i q → StandsAt (set_value_at m.entries place w) i q
@@ -209,7 +209,7 @@ put_back (n ∷ ns) id v w h =
 
 -- ---- what writes do to the content and to the children
 
-module _ (ns ms : Nodes) (id : Identifier) (old : Option Node) (new : Node) (apart : AreApart ns) (apart_now : AreApart ms) (put : IsPut ns ms id old new) where
+module _ (ns ms : Nodes) (id : Identifier) (old : Option Node) (new : Node) (apart : AreDistinctNodes ns) (apart_now : AreDistinctNodes ms) (put : IsPut ns ms id old new) where
   -- neither the element nor the mark changes
   pub content_kept : element_of (Some new) ≡ element_of old → mark_of (Some new) ≡ mark_of old → content_of_nodes ms ≡ content_of_nodes ns
   content_kept element mark = same_content _ _
@@ -266,7 +266,7 @@ module _ (ns ms : Nodes) (id : Identifier) (old : Option Node) (new : Node) (apa
       apart_then false there = refl
 
 -- where there is no node, neither is there
-module _ (ns : Nodes) (id : Identifier) (apart : AreApart ns) (none : lookup (is_id id) ns ≡ None) where
+module _ (ns : Nodes) (id : Identifier) (apart : AreDistinctNodes ns) (none : lookup (is_id id) ns ≡ None) where
   pub nothing_uninserted : without_insertion id (content_of_nodes ns) ≡ content_of_nodes ns
   nothing_uninserted = same_content _ _
       (λ q. finite_map.get-remove ids_total (content_of_nodes ns).inserted id q

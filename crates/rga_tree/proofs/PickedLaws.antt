@@ -9,7 +9,7 @@ use Rattle.std.proofs.lemmas.Option.{same_Some, none-some}
 use Rattle.rga_ops.specs.Identifier.{Identifier, is_id}
 use Rattle.rga_ops.proofs.IdentifierLaws.{is}
 use Rattle.rga_tree.specs.declared.nodes.Node.{Node}
-use Rattle.rga_tree.specs.Nodes.{Nodes, ids_where, inserted_ids, content_of_nodes, AreApart}
+use Rattle.rga_tree.specs.Nodes.{Nodes, ids_where, inserted_ids, content_of_nodes, AreDistinctNodes}
 use Rattle.rga_tree.proofs.NodeLaws.{same_tests, element_of, is_some-mapped, any_where, inserted_at}
 
 module _ (test : Node → Bool) where
@@ -38,17 +38,17 @@ module _ (test : Node → Bool) where
   picked_all P [] h = tt
   picked_all P (n ∷ ns) h = elim (test n.1) as (λ b. AllByRecursion P (keys_of (cond b (n ∷ filter (λ m. test m.1) ns) (filter (λ m. test m.1) ns)))) [ true ↦ (h.0, picked_all P ns h.1) | false ↦ picked_all P ns h.1 ]
 
-  picked_apart : (ns : Nodes) → AreApart ns → IsDistinct is_id (ids_where test ns)
+  picked_apart : (ns : Nodes) → AreDistinctNodes ns → IsDistinct is_id (ids_where test ns)
   unfolding IsDistinct
   picked_apart [] h = tt
   picked_apart (n ∷ ns) h = elim (test n.1) as (λ b. IsDistinct is_id (keys_of (cond b (n ∷ filter (λ m. test m.1) ns) (filter (λ m. test m.1) ns)))) [ true ↦ (picked_all (λ y. is_id n.0 y ≡ false) ns h.0, picked_apart ns h.1) | false ↦ picked_apart ns h.1 ]
 
   -- and none is there twice
-  pub picked_distinct : (ns : Nodes) → AreApart ns → IsDistinct is (ids_where test ns)
+  pub picked_distinct : (ns : Nodes) → AreDistinctNodes ns → IsDistinct is (ids_where test ns)
   picked_distinct ns h = subst (λ (t : Identifier → Identifier → Bool). IsDistinct t (ids_where test ns)) same_tests (picked_apart ns h)
 
 -- those with an element are the inserted ones
-pub any_inserted : (ns : Nodes) (q : Identifier) → AreApart ns → list_any (is q) (inserted_ids ns) ≡ finite_map.contains_key (content_of_nodes ns).inserted q
+pub any_inserted : (ns : Nodes) (q : Identifier) → AreDistinctNodes ns → list_any (is q) (inserted_ids ns) ≡ finite_map.contains_key (content_of_nodes ns).inserted q
 any_inserted ns q h = any_where (λ v. is_some v.element) q ns h ∙ found (lookup (is_id q) ns) ∙ sym (ap is_some (inserted_at ns h q))
   where
     found : (o : Option Node) → option_map_or (λ v. is_some v.element) o false ≡ is_some (element_of o)

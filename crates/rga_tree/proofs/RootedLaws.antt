@@ -22,7 +22,7 @@ use Rattle.rga_ops.proofs.WaitingLaws.{distinct_inserted}
 use Rattle.rga_ops.specs.declared.op.Op.TheVariants.{Insert}
 use Rattle.rga_tree.specs.declared.nodes.Node.{Node}
 use Rattle.rga_tree.specs.Children.{has_child}
-use Rattle.rga_tree.specs.Nodes.{Nodes, AreApart, content_of_nodes, children_at}
+use Rattle.rga_tree.specs.Nodes.{Nodes, AreDistinctNodes, content_of_nodes, children_at}
 use Rattle.rga_tree.specs.Tree.{HasFamilies}
 use Rattle.rga_tree.proofs.NodeLaws.{same_tests, element_of, inserted_at}
 use Rattle.rga_store.proofs.StepLaws.{len-keys}
@@ -40,7 +40,7 @@ seen_there see none q (n ∷ ns) h =
 apart_from : (k : Identifier) (ks : List Identifier) → list_any (is k) ks ≡ false → AllByRecursion (λ y. is k y ≡ false) ks
 apart_from k ks h = all_members (λ y. is k y ≡ false) ks (λ q m. false_from_ne_true (is k q) (λ t. true≢false (sym m ∙ ap (λ i. list_any (is i) ks) (sym (same_id k q t)) ∙ h)))
 
-module _ (ns : Nodes) (c : Content) (means : c ≡ content_of_nodes ns) (apart : AreApart ns) (family : HasFamilies ns) (sound : IsSound c) (counted : length ns ≡ finite_map.len c.inserted + 1) (rooted : list_any (is root) (keys_of ns) ≡ true) where
+module _ (ns : Nodes) (c : Content) (means : c ≡ content_of_nodes ns) (apart : AreDistinctNodes ns) (family : HasFamilies ns) (sound : IsSound c) (counted : length ns ≡ finite_map.len c.inserted + 1) (rooted : list_any (is root) (keys_of ns) ≡ true) where
   proper : (k : Identifier) (x : Element) → finite_map.get c.inserted k ≡ Some x → (is_root k ≡ false) × (x.parent.counter < k.counter)
   proper k x g =
       let w = well_formed_insertion k x.parent x.ch (sound (Insert k x.parent x.ch) g) in

@@ -15,7 +15,7 @@ use Rattle.rga_ops.specs.Places.{visible}
 use Rattle.rga_ops.proofs.PathLaws.{inserted_if_complete}
 use Rattle.rga_ops.proofs.VisibleLaws.{is_kept, visible_is, order_complete}
 use Rattle.rga_tree.specs.declared.nodes.Node.{Node}
-use Rattle.rga_tree.specs.Nodes.{Nodes, content_of_nodes, char_at, AreApart}
+use Rattle.rga_tree.specs.Nodes.{Nodes, content_of_nodes, char_at, AreDistinctNodes}
 use Rattle.rga_tree.proofs.NodeLaws.{shown_at}
 
 -- whether an identifier's character is shown
@@ -23,7 +23,7 @@ abbrev pub is_shown : Content → Identifier → Bool
 is_shown c id = is_some (shown c id)
 
 -- one more element, with the character that its node shows
-pub shows_more : (ns : Nodes) (done : List Identifier) (id : Identifier) (found : Option Node) (chars : List ℕ) (ch : Option ℕ) → AreApart ns → found ≡ lookup (is_id id) ns → ch ≡ char_at found
+pub shows_more : (ns : Nodes) (done : List Identifier) (id : Identifier) (found : Option Node) (chars : List ℕ) (ch : Option ℕ) → AreDistinctNodes ns → found ≡ lookup (is_id id) ns → ch ≡ char_at found
     → chars ≡ filter_map (shown (content_of_nodes ns)) done → chars ++ cons_option ch [] ≡ filter_map (shown (content_of_nodes ns)) (done ++ id ∷ [])
 shows_more ns done id found chars ch apart at is shows =
     let sees : Identifier → Option ℕ = shown (content_of_nodes ns) in
@@ -32,7 +32,7 @@ shows_more ns done id found chars ch apart at is shows =
     ∙ sym (filter_map-append sees done (id ∷ []))
 
 -- one more element, where its node shows a character
-pub element_more : (ns : Nodes) (done : List Identifier) (id : Identifier) (found : Option Node) (ids : List Identifier) → AreApart ns → found ≡ lookup (is_id id) ns
+pub element_more : (ns : Nodes) (done : List Identifier) (id : Identifier) (found : Option Node) (ids : List Identifier) → AreDistinctNodes ns → found ≡ lookup (is_id id) ns
     → ids ≡ filter (is_shown (content_of_nodes ns)) done → ids ++ cond (is_some (char_at found)) (id ∷ []) [] ≡ filter (is_shown (content_of_nodes ns)) (done ++ id ∷ [])
 element_more ns done id found ids apart at are =
     let sees : Identifier → Bool = is_shown (content_of_nodes ns) in

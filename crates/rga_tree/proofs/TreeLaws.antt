@@ -15,14 +15,14 @@ use Rattle.rga_ops.specs.declared.refusal.Taken.TheVariants.{New}
 use Rattle.rga_store.specs.Limit.{is_limit}
 use Rattle.rga_store.specs.Rising.{IsRising}
 use Rattle.rga_tree.specs.Children.{has_child}
-use Rattle.rga_tree.specs.Nodes.{Nodes, AreApart, content_of_nodes, children_of}
+use Rattle.rga_tree.specs.Nodes.{Nodes, AreDistinctNodes, content_of_nodes, children_of}
 use Rattle.rga_store.specs.Counted.{IsCounted}
 use Rattle.rga_tree.specs.Tree.{IsFamily, IsTree}
 use Rattle.rga_store.proofs.StepLaws.{counted_insertion, counted_deletion}
 use Rattle.rga_tree.proofs.FamilyLaws.{family_insertion, family_deletion, family_same}
 use Rattle.rga_store.proofs.CountedLaws.{counted_nothing}
 
-module _ (ns ms : Nodes) (latest insertions identifiers limit : ℕ) (w : IsTree ns latest insertions identifiers limit) (apart : AreApart ms) where
+module _ (ns ms : Nodes) (latest insertions identifiers limit : ℕ) (w : IsTree ns latest insertions identifiers limit) (apart : AreDistinctNodes ms) where
   -- it is a tree as before with the same content and the same children
   pub tree_same : content_of_nodes ms ≡ content_of_nodes ns → ((p : Identifier) → children_of ms p ≡ children_of ns p) → IsTree ms latest insertions identifiers limit
   tree_same same lists = record {

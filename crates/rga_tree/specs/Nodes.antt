@@ -70,8 +70,8 @@ char_at None = None
 char_at (Some v) = if v.deleted then None else option_map (λ x. x.1) v.element
 
 -- no identifier has two nodes
-abbrev pub AreApart : Nodes → Type 0
-AreApart ns = IsDistinct is_id (keys_of ns)
+abbrev pub AreDistinctNodes : Nodes → Type 0
+AreDistinctNodes ns = IsDistinct is_id (keys_of ns)
 
 -- the node at that index is the identifier's
 abbrev pub StandsAt : Nodes → ℕ → Identifier → Type 0

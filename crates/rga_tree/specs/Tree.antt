@@ -6,7 +6,7 @@ use Rattle.rga_store.specs.Rising.{IsRising}
 use Rattle.rga_store.specs.Child.{is_child}
 use Rattle.rga_store.specs.Counted.{IsCounted}
 use Rattle.rga_tree.specs.Children.{has_child}
-use Rattle.rga_tree.specs.Nodes.{Nodes, AreApart, content_of_nodes, children_of}
+use Rattle.rga_tree.specs.Nodes.{Nodes, AreDistinctNodes, content_of_nodes, children_of}
 
 -- under each parent, inserted or not, stand exactly the insertions that name it, and they rise
 pub record IsFamily (c : Content) (family : Identifier → List Identifier) : Type 0 where
@@ -19,6 +19,6 @@ HasFamilies ns = IsFamily (content_of_nodes ns) (children_of ns)
 
 -- no identifier has two nodes, the children are those of the content, and it is counted
 pub record IsTree (nodes : Nodes) (latest insertions identifiers limit : ℕ) : Type 0 where
-  pub apart : AreApart nodes
+  pub apart : AreDistinctNodes nodes
   pub family : HasFamilies nodes
   pub counted : IsCounted (content_of_nodes nodes) latest insertions identifiers limit

@@ -7,7 +7,7 @@ ghost use Rattle.rga_ops.specs.Prelude.{is_root, order, place, visible, IsSound}
 ghost use Rattle.rga_ops.specs.RootPath.{is_complete, root_path};
 ghost use Rattle.rga_ops.specs.Places.{is_visible};
 ghost use Rattle.rga_store.specs.declared.text_store.TheConstants.{MAX_LIMIT};
-ghost use Rattle.rga_tree.specs.Nodes.{content_of_nodes, AreApart};
+ghost use Rattle.rga_tree.specs.Nodes.{content_of_nodes, AreDistinctNodes};
 ghost use Rattle.rga_tree.specs.Preceding.{beginning, visible_up_to};
 ghost use Rattle.rga_tree.specs.Tree.{HasFamilies};
 
@@ -18,7 +18,7 @@ use rga_ops::Id;
 
 /// How many elements are visible.
 pub(crate) fn visible_len(nodes: &IndexMap<Id, Node>) -> usize
-    requires apart { AreApart nodes.now.entries }
+    requires apart { AreDistinctNodes nodes.now.entries }
     requires family { HasFamilies nodes.now.entries }
     requires sound { IsSound (content_of_nodes nodes.now.entries) }
     requires few { finite_map.len (content_of_nodes nodes.now.entries).inserted ≤ MAX_LIMIT }
@@ -29,7 +29,7 @@ pub(crate) fn visible_len(nodes: &IndexMap<Id, Node>) -> usize
 
 /// The visible element at an index; none past the end.
 pub(crate) fn element_at(nodes: &IndexMap<Id, Node>, k: usize) -> Option<Id>
-    requires apart { AreApart nodes.now.entries }
+    requires apart { AreDistinctNodes nodes.now.entries }
     requires family { HasFamilies nodes.now.entries }
     requires sound { IsSound (content_of_nodes nodes.now.entries) }
     requires few { finite_map.len (content_of_nodes nodes.now.entries).inserted ≤ MAX_LIMIT }
@@ -55,7 +55,7 @@ pub(crate) fn element_at(nodes: &IndexMap<Id, Node>, k: usize) -> Option<Id>
 /// How many visible elements are the element or stand before it; 0 for the root, and none for what
 /// is neither the root nor complete.
 pub(crate) fn place_of(nodes: &IndexMap<Id, Node>, id: Id) -> Option<usize>
-    requires apart { AreApart nodes.now.entries }
+    requires apart { AreDistinctNodes nodes.now.entries }
     requires family { HasFamilies nodes.now.entries }
     requires sound { IsSound (content_of_nodes nodes.now.entries) }
     requires few { finite_map.len (content_of_nodes nodes.now.entries).inserted ≤ MAX_LIMIT }
@@ -69,7 +69,7 @@ pub(crate) fn place_of(nodes: &IndexMap<Id, Node>, id: Id) -> Option<usize>
 
 /// How many visible elements there are up to the root or a complete element.
 fn count_up_to(nodes: &IndexMap<Id, Node>, id: Id) -> usize
-    requires apart { AreApart nodes.now.entries }
+    requires apart { AreDistinctNodes nodes.now.entries }
     requires family { HasFamilies nodes.now.entries }
     requires sound { IsSound (content_of_nodes nodes.now.entries) }
     requires few { finite_map.len (content_of_nodes nodes.now.entries).inserted ≤ MAX_LIMIT }
@@ -90,7 +90,7 @@ fn count_up_to(nodes: &IndexMap<Id, Node>, id: Id) -> usize
 
 /// What stands directly before an element, and whether the element is visible; none for the root.
 fn step_back(nodes: &IndexMap<Id, Node>, near: &mut usize, id: Id) -> Option<(Id, bool)>
-    requires apart { AreApart nodes.now.entries }
+    requires apart { AreDistinctNodes nodes.now.entries }
     requires family { HasFamilies nodes.now.entries }
     requires sound { IsSound (content_of_nodes nodes.now.entries) }
     requires complete { is_root id ≡ false →
@@ -121,7 +121,7 @@ fn last_element(nodes: &IndexMap<Id, Node>) -> Id
 
 /// Whether an identifier is the root or complete: up the parents from it.
 fn reaches_root(nodes: &IndexMap<Id, Node>, id: Id) -> bool
-    requires apart { AreApart nodes.now.entries }
+    requires apart { AreDistinctNodes nodes.now.entries }
     requires sound { IsSound (content_of_nodes nodes.now.entries) }
     ensures { result ≡ is_some (root_path (content_of_nodes nodes.now.entries) id) }
 {
@@ -136,7 +136,7 @@ fn reaches_root(nodes: &IndexMap<Id, Node>, id: Id) -> bool
 /// The parent of an inserted element, and whether the element is deleted. It leaves the index
 /// before the element's own at `near`: the parent's node mostly stands there.
 fn parent_and_mark(nodes: &IndexMap<Id, Node>, near: &mut usize, id: Id) -> Option<(Id, bool)>
-    requires { AreApart nodes.now.entries }
+    requires { AreDistinctNodes nodes.now.entries }
     ensures { let content = content_of_nodes nodes.now.entries in result ≡ option_map
         (λ x. (x.parent, finite_set.contains content.deleted id))
         (finite_map.get content.inserted id) }

@@ -1,7 +1,7 @@
 //! The visible elements between two indexes, by a walk over all of them.
 ghost use Rattle.std.specs.Prelude.{◌≡◌, ◌≤◌, length, take, drop, IfOk, IfErr};
 ghost use Rattle.rga_ops.specs.Prelude.{visible, IsSound};
-ghost use Rattle.rga_tree.specs.Nodes.{content_of_nodes, AreApart};
+ghost use Rattle.rga_tree.specs.Nodes.{content_of_nodes, AreDistinctNodes};
 ghost use Rattle.rga_tree.specs.Tree.{HasFamilies};
 
 use crate::nodes::Node;
@@ -17,7 +17,7 @@ pub(crate) fn elements(
     lo: usize,
     hi: usize,
 ) -> Result<Vec<Id>, Refusal>
-    requires apart { AreApart nodes.now.entries }
+    requires apart { AreDistinctNodes nodes.now.entries }
     requires family { HasFamilies nodes.now.entries }
     requires sound { IsSound (content_of_nodes nodes.now.entries) }
     ensures ok { IfOk result

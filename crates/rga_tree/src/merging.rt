@@ -5,7 +5,7 @@ ghost use Rattle.std.specs.FinSet as finite_set;
 ghost use Rattle.rga_ops.specs.Identifier.{Identifier, IsLarger};
 ghost use Rattle.rga_ops.specs.Content.{join, known_count, known_ids};
 ghost use Rattle.rga_ops.specs.ListAnswer.{has_another, least_conflict};
-ghost use Rattle.rga_tree.specs.Nodes.{content_of_nodes, AreApart};
+ghost use Rattle.rga_tree.specs.Nodes.{content_of_nodes, AreDistinctNodes};
 
 use crate::nodes::Node;
 use indexmap::IndexMap;
@@ -13,8 +13,8 @@ use rga_ops::{Id, Op};
 
 /// The least identifier that names two insertions, one in each.
 pub(crate) fn least_conflict(own: &IndexMap<Id, Node>, others: &IndexMap<Id, Node>) -> Option<Id>
-    requires own { AreApart own.now.entries }
-    requires others { AreApart others.now.entries }
+    requires own { AreDistinctNodes own.now.entries }
+    requires others { AreDistinctNodes others.now.entries }
     ensures { result
         ≡ least_conflict (content_of_nodes own.now.entries) (content_of_nodes others.now.entries) }
 {
@@ -31,8 +31,8 @@ pub(crate) fn least_conflict(own: &IndexMap<Id, Node>, others: &IndexMap<Id, Nod
 
 /// How many identifiers the others make known.
 pub(crate) fn count_unknown(own: &IndexMap<Id, Node>, others: &IndexMap<Id, Node>) -> usize
-    requires own { AreApart own.now.entries }
-    requires others { AreApart others.now.entries }
+    requires own { AreDistinctNodes own.now.entries }
+    requires others { AreDistinctNodes others.now.entries }
     ensures { let here = content_of_nodes own.now.entries in
         let there = content_of_nodes others.now.entries in
         known_count here + result ≡ known_count (join here there) }
@@ -50,7 +50,7 @@ pub(crate) fn count_unknown(own: &IndexMap<Id, Node>, others: &IndexMap<Id, Node
 
 /// Whether the nodes insert another element than this node's under its identifier.
 fn conflicts(nodes: &IndexMap<Id, Node>, id: Id, node: &Node) -> bool
-    requires { AreApart nodes.now.entries }
+    requires { AreDistinctNodes nodes.now.entries }
     ensures { let content = content_of_nodes nodes.now.entries in result
         ≡ option_map_or (λ x. has_another content (Op.Insert id x.0 x.1)) node.now.element false }
 {
@@ -62,7 +62,7 @@ fn conflicts(nodes: &IndexMap<Id, Node>, id: Id, node: &Node) -> bool
 
 /// Whether the nodes insert another element under this identifier.
 fn have_another(nodes: &IndexMap<Id, Node>, id: Id, element: (Id, char)) -> bool
-    requires { AreApart nodes.now.entries }
+    requires { AreDistinctNodes nodes.now.entries }
     ensures { result
         ≡ has_another (content_of_nodes nodes.now.entries) (Op.Insert id element.0 element.1) }
 {
@@ -89,7 +89,7 @@ fn lesser(first: Option<Id>, second: Id) -> Id
 
 /// Whether the nodes know an identifier: it is inserted, deleted or both.
 fn knows(nodes: &IndexMap<Id, Node>, id: Id) -> bool
-    requires { AreApart nodes.now.entries }
+    requires { AreDistinctNodes nodes.now.entries }
     ensures { result ≡ finite_set.contains (known_ids (content_of_nodes nodes.now.entries)) id }
 {
     match nodes.get(&id) {

@@ -7,7 +7,7 @@ ghost use Rattle.std.specs.Option.{option_copied};
 ghost use Rattle.rga_ops.specs.Prelude.{is_id, join, single};
 ghost use Rattle.rga_ops.specs.Found.{facts_of};
 ghost use Rattle.rga_tree.specs.Children.{children_in, has_child};
-ghost use Rattle.rga_tree.specs.Nodes.{content_of_nodes, children_of, KeepsChildren, AddsChildUnder, RemovesChildUnder, AreRising, AreApart, StandsAt, KeepsIndexes};
+ghost use Rattle.rga_tree.specs.Nodes.{content_of_nodes, children_of, KeepsChildren, AddsChildUnder, RemovesChildUnder, AreRising, AreDistinctNodes, StandsAt, KeepsIndexes};
 ghost use Rattle.rga_store.specs.Without.{without_insertion, without_deletion};
 
 use crate::child_list::ChildList;
@@ -48,12 +48,12 @@ pub(crate) fn ensure_node(
     nodes: &mut IndexMap<Id, Node>,
     id: Id,
 ) -> Result<usize, Refusal>
-    requires { AreApart nodes.old.entries }
+    requires { AreDistinctNodes nodes.old.entries }
     ensures index { IfOk result (λ index. StandsAt nodes.new.entries index id) }
     ensures others { KeepsIndexes nodes.old.entries nodes.new.entries }
     ensures content { content_of_nodes nodes.new.entries ≡ content_of_nodes nodes.old.entries }
     ensures children { KeepsChildren nodes.old.entries nodes.new.entries }
-    ensures apart { AreApart nodes.new.entries }
+    ensures apart { AreDistinctNodes nodes.new.entries }
     ensures absent { OnErr result (lookup (is_id id) nodes.old.entries ≡ None) }
     ensures memory { IfErr result (λ e. e ≡ Refusal.Memory) }
 {
@@ -89,7 +89,7 @@ pub(crate) fn add_child(
     parent: Id,
     id: Id,
 ) -> Result<(), Refusal>
-    requires apart { AreApart nodes.old.entries }
+    requires apart { AreDistinctNodes nodes.old.entries }
     requires index { StandsAt nodes.old.entries index parent }
     requires rising { AreRising nodes.old.entries }
     requires absent { has_child (children_of nodes.old.entries parent) id ≡ false }
@@ -97,7 +97,7 @@ pub(crate) fn add_child(
     ensures rising { AreRising nodes.new.entries }
     ensures others { KeepsIndexes nodes.old.entries nodes.new.entries }
     ensures content { content_of_nodes nodes.new.entries ≡ content_of_nodes nodes.old.entries }
-    ensures apart { AreApart nodes.new.entries }
+    ensures apart { AreDistinctNodes nodes.new.entries }
     ensures same { OnErr result (KeepsChildren nodes.old.entries nodes.new.entries) }
     ensures memory { IfErr result (λ e. e ≡ Refusal.Memory) }
 {
@@ -112,7 +112,7 @@ pub(crate) fn found_at(
     known: usize,
     limit: usize,
 ) -> Found
-    requires apart { AreApart nodes.now.entries }
+    requires apart { AreDistinctNodes nodes.now.entries }
     requires index { StandsAt nodes.now.entries index id }
     ensures found { (facts_of result).found
         ≡ finite_map.get (content_of_nodes nodes.now.entries).inserted id }
@@ -138,7 +138,7 @@ pub(crate) fn set_element(
     parent: Id,
     ch: char,
 ) -> bool
-    requires apart { AreApart nodes.old.entries }
+    requires apart { AreDistinctNodes nodes.old.entries }
     requires index { StandsAt nodes.old.entries index id }
     requires absent { finite_map.get (content_of_nodes nodes.old.entries).inserted id ≡ None }
     ensures deleted { let content = content_of_nodes nodes.old.entries in
@@ -146,7 +146,7 @@ pub(crate) fn set_element(
     ensures content { content_of_nodes nodes.new.entries
         ≡ join (content_of_nodes nodes.old.entries) (single (Op.Insert id parent ch)) }
     ensures children { KeepsChildren nodes.old.entries nodes.new.entries }
-    ensures apart { AreApart nodes.new.entries }
+    ensures apart { AreDistinctNodes nodes.new.entries }
 {
     let node = &mut nodes[index];
     node.element = Some((parent, ch));
@@ -155,14 +155,14 @@ pub(crate) fn set_element(
 
 /// A node gets its mark. Says whether its identifier is inserted already.
 pub(crate) fn mark(nodes: &mut IndexMap<Id, Node>, index: usize, id: Id) -> bool
-    requires apart { AreApart nodes.old.entries }
+    requires apart { AreDistinctNodes nodes.old.entries }
     requires index { StandsAt nodes.old.entries index id }
     ensures inserted { let content = content_of_nodes nodes.old.entries in
         result ≡ finite_map.contains_key content.inserted id }
     ensures content { content_of_nodes nodes.new.entries
         ≡ join (content_of_nodes nodes.old.entries) (single (Op.Delete id)) }
     ensures children { KeepsChildren nodes.old.entries nodes.new.entries }
-    ensures apart { AreApart nodes.new.entries }
+    ensures apart { AreDistinctNodes nodes.new.entries }
 {
     let node = &mut nodes[index];
     node.deleted = true;
@@ -176,7 +176,7 @@ pub(crate) fn clear_element(nodes: &mut IndexMap<Id, Node>, id: Id) -> bool
     ensures content { content_of_nodes nodes.new.entries
         ≡ without_insertion id (content_of_nodes nodes.old.entries) }
     ensures children { KeepsChildren nodes.old.entries nodes.new.entries }
-    ensures apart { AreApart nodes.new.entries }
+    ensures apart { AreDistinctNodes nodes.new.entries }
 {
     match nodes.get_mut(&id) {
         Some(node) => {
@@ -194,7 +194,7 @@ pub(crate) fn clear_mark(nodes: &mut IndexMap<Id, Node>, id: Id) -> bool
     ensures content { content_of_nodes nodes.new.entries
         ≡ without_deletion id (content_of_nodes nodes.old.entries) }
     ensures children { KeepsChildren nodes.old.entries nodes.new.entries }
-    ensures apart { AreApart nodes.new.entries }
+    ensures apart { AreDistinctNodes nodes.new.entries }
 {
     match nodes.get_mut(&id) {
         Some(node) => {
@@ -211,7 +211,7 @@ pub(crate) fn remove_child(nodes: &mut IndexMap<Id, Node>, parent: Id, id: Id)
     ensures removed { RemovesChildUnder nodes.old.entries nodes.new.entries parent id }
     ensures rising { AreRising nodes.new.entries }
     ensures content { content_of_nodes nodes.new.entries ≡ content_of_nodes nodes.old.entries }
-    ensures apart { AreApart nodes.new.entries }
+    ensures apart { AreDistinctNodes nodes.new.entries }
 {
     match nodes.get_mut(&parent) {
         Some(node) => node.children.remove(id),

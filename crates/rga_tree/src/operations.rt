@@ -4,7 +4,7 @@ ghost use Rattle.std.specs.List.{filter_map};
 ghost use Rattle.std.specs.FinMap as finite_map;
 ghost use Rattle.std.specs.FinSet as finite_set;
 ghost use Rattle.rga_ops.specs.Operations.{operations, insertion_at, rising};
-ghost use Rattle.rga_tree.specs.Nodes.{content_of_nodes, inserted_ids, marked_ids, AreApart};
+ghost use Rattle.rga_tree.specs.Nodes.{content_of_nodes, inserted_ids, marked_ids, AreDistinctNodes};
 
 use crate::nodes::Node;
 use indexmap::IndexMap;
@@ -13,7 +13,7 @@ use std::alloc::Global;
 
 /// The insertions by rising identifier, and then the deletions by rising identifier.
 pub(crate) fn operations_of(alloc: Global, nodes: &IndexMap<Id, Node>) -> Result<Vec<Op>, Refusal>
-    requires { AreApart nodes.now.entries }
+    requires { AreDistinctNodes nodes.now.entries }
     ensures ok { IfOk result
         (λ ops. ops.items ≡ operations (content_of_nodes nodes.now.entries)) }
     ensures memory { IfErr result (λ e. e ≡ Refusal.Memory) }
@@ -30,7 +30,7 @@ pub(crate) fn list_insertions(
     ops: &mut Vec<Op>,
     nodes: &IndexMap<Id, Node>,
 ) -> Result<(), Refusal>
-    requires { AreApart nodes.now.entries }
+    requires { AreDistinctNodes nodes.now.entries }
     ensures ok { let content = content_of_nodes nodes.now.entries in
         OnOk result (ops.new.items ≡ ops.old.items
         ++ filter_map (insertion_at content) (finite_map.keys content.inserted)) }
@@ -48,7 +48,7 @@ pub(crate) fn list_deletions(
     ops: &mut Vec<Op>,
     nodes: &IndexMap<Id, Node>,
 ) -> Result<(), Refusal>
-    requires { AreApart nodes.now.entries }
+    requires { AreDistinctNodes nodes.now.entries }
     ensures ok { let content = content_of_nodes nodes.now.entries in
         OnOk result (ops.new.items ≡ ops.old.items
         ++ map Op.Delete (rising (finite_set.items content.deleted))) }
@@ -93,7 +93,7 @@ fn push_marked(ids: &mut Vec<Id>, nodes: &IndexMap<Id, Node>) -> Result<(), Refu
 }
 
 fn push_insertions(ops: &mut Vec<Op>, nodes: &IndexMap<Id, Node>, ids: &[Id]) -> Result<(), Refusal>
-    requires { AreApart nodes.now.entries }
+    requires { AreDistinctNodes nodes.now.entries }
     ensures ok { let content = content_of_nodes nodes.now.entries in OnOk result
         (ops.new.items ≡ ops.old.items ++ filter_map (insertion_at content) ids.now) }
     ensures memory { IfErr result (λ e. e ≡ Refusal.Memory) }
@@ -107,7 +107,7 @@ fn push_insertions(ops: &mut Vec<Op>, nodes: &IndexMap<Id, Node>, ids: &[Id]) ->
 }
 
 fn insertion_of(nodes: &IndexMap<Id, Node>, id: Id) -> Option<Op>
-    requires { AreApart nodes.now.entries }
+    requires { AreDistinctNodes nodes.now.entries }
     ensures { result ≡ insertion_at (content_of_nodes nodes.now.entries) id }
 {
     let (parent, ch) = nodes.get(&id)?.element?;

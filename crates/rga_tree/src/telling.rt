@@ -1,7 +1,7 @@
 //! A content, told as operations one by one.
 ghost use Rattle.std.specs.Prelude.{◌≡◌, IfErr, OnOk};
 ghost use Rattle.rga_ops.specs.Operations.{insertions, deletions};
-ghost use Rattle.rga_tree.specs.Nodes.{content_of_nodes, AreApart};
+ghost use Rattle.rga_tree.specs.Nodes.{content_of_nodes, AreDistinctNodes};
 
 use crate::nodes::Node;
 use crate::operations::{list_deletions, list_insertions};
@@ -16,7 +16,7 @@ pub(crate) fn tell_insertions<L: Listener>(
     nodes: &IndexMap<Id, Node>,
     listener: &mut L,
 ) -> Result<(), Refusal>
-    requires { AreApart nodes.now.entries }
+    requires { AreDistinctNodes nodes.now.entries }
     ensures ok { let content = content_of_nodes nodes.now.entries in
         OnOk result (L.hears listener.old (insertions content) listener.new) }
     ensures memory { IfErr result (λ e. e ≡ Refusal.Memory) }
@@ -32,7 +32,7 @@ pub(crate) fn tell_deletions<L: Listener>(
     nodes: &IndexMap<Id, Node>,
     listener: &mut L,
 ) -> Result<(), Refusal>
-    requires { AreApart nodes.now.entries }
+    requires { AreDistinctNodes nodes.now.entries }
     ensures ok { let content = content_of_nodes nodes.now.entries in
         OnOk result (L.hears listener.old (deletions content) listener.new) }
     ensures memory { IfErr result (λ e. e ≡ Refusal.Memory) }

@@ -7,7 +7,7 @@ ghost use Rattle.std.specs.Option.{option_copied};
 ghost use Rattle.rga_ops.specs.Content.{IsSound};
 ghost use Rattle.rga_ops.specs.Order.{order, text};
 ghost use Rattle.rga_ops.specs.Places.{visible};
-ghost use Rattle.rga_tree.specs.Nodes.{content_of_nodes, char_at, AreApart};
+ghost use Rattle.rga_tree.specs.Nodes.{content_of_nodes, char_at, AreDistinctNodes};
 ghost use Rattle.rga_tree.specs.Tree.{HasFamilies};
 
 use crate::nodes::{Node, push_children};
@@ -74,7 +74,7 @@ pub(crate) fn walked_text<T: Sink>(
     nodes: &IndexMap<Id, Node>,
 ) -> Result<T, Refusal>
     requires empty { T.Holds sink [] }
-    requires apart { AreApart nodes.now.entries }
+    requires apart { AreDistinctNodes nodes.now.entries }
     requires family { HasFamilies nodes.now.entries }
     requires sound { IsSound (content_of_nodes nodes.now.entries) }
     ensures ok { IfOk result (λ full. T.Holds full (text (content_of_nodes nodes.now.entries))) }
@@ -95,7 +95,7 @@ pub(crate) fn walked_visible(
     alloc: Global,
     nodes: &IndexMap<Id, Node>,
 ) -> Result<(Vec<Id>, Vec<char>), Refusal>
-    requires apart { AreApart nodes.now.entries }
+    requires apart { AreDistinctNodes nodes.now.entries }
     requires family { HasFamilies nodes.now.entries }
     requires sound { IsSound (content_of_nodes nodes.now.entries) }
     ensures elements { IfOk result
@@ -119,7 +119,7 @@ fn list_visible(
 ) -> Result<(), Refusal>
     requires no_elements { ids.old.items ≡ [] }
     requires no_characters { chars.old.items ≡ [] }
-    requires apart { AreApart nodes.now.entries }
+    requires apart { AreDistinctNodes nodes.now.entries }
     requires family { HasFamilies nodes.now.entries }
     requires sound { IsSound (content_of_nodes nodes.now.entries) }
     ensures elements { OnOk result (ids.new.items ≡ visible (content_of_nodes nodes.now.entries)) }

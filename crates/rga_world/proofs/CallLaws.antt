@@ -6,7 +6,7 @@ use Rattle.rga_ops.specs.declared.refusal.Refusal.{Refusal}
 use Rattle.rga_ops.specs.declared.refusal.Refusal.TheVariants.{Memory, Conflict, Range}
 use Rattle.rga_store.specs.Limit.{is_limit}
 use Rattle.rga_world.specs.Sites.{World}
-use Rattle.rga_world.specs.Steps.{and_then, stepped, ran, kept}
+use Rattle.rga_world.specs.Steps.{outcome_then, stepped, ran, kept}
 use Rattle.rga_world.specs.Outcomes.{Happens}
 use Rattle.rga_world.specs.Together.{IsReached}
 use Rattle.rga_world.specs.declared.event.Event.{Event}
@@ -49,14 +49,14 @@ step_conflict (Err e) w v event id reached h is = elim h.1 [
     same q = cc
 
 -- one event more
-ran-push : (w v : World) (events : List Event) (event : Event) → ran w events ≡ Ok v → ran w (events ++ event ∷ []) ≡ and_then (stepped v event) (λ x. Ok x)
-ran-push w v [] event h = let same : w ≡ v = inside h in ap (λ x. and_then (stepped x event) (λ y. Ok y)) same
+ran-push : (w v : World) (events : List Event) (event : Event) → ran w events ≡ Ok v → ran w (events ++ event ∷ []) ≡ outcome_then (stepped v event) (λ x. Ok x)
+ran-push w v [] event h = let same : w ≡ v = inside h in ap (λ x. outcome_then (stepped x event) (λ y. Ok y)) same
   where
     inside : ◌≡◌ {A = Result World WorldRefusal} (Ok w) (Ok v) → w ≡ v
     inside e = cc
 ran-push w v (e ∷ events) event h = by (stepped w e) h (λ x k. ran-push x v events event k)
   where
-    by : (r : Result World WorldRefusal) → and_then r (λ x. ran x events) ≡ Ok v → ((x : World) → ran x events ≡ Ok v → ran x (events ++ event ∷ []) ≡ and_then (stepped v event) (λ y. Ok y)) → and_then r (λ x. ran x (events ++ event ∷ [])) ≡ and_then (stepped v event) (λ y. Ok y)
+    by : (r : Result World WorldRefusal) → outcome_then r (λ x. ran x events) ≡ Ok v → ((x : World) → ran x events ≡ Ok v → ran x (events ++ event ∷ []) ≡ outcome_then (stepped v event) (λ y. Ok y)) → outcome_then r (λ x. ran x (events ++ event ∷ [])) ≡ outcome_then (stepped v event) (λ y. Ok y)
     by (Ok x) h rest = rest x h
     by (Err f) h rest = absurd (clash h)
       where
@@ -70,7 +70,7 @@ take-next (x ∷ events) (suc i) e inside is = ap (λ ys. x ∷ ys) (take-next e
 
 pub ran_on : (w v u : World) (events : List Event) (i : ℕ) (e : Event) → i < length events → e ≡ get_or events i e → ran w (take i events) ≡ Ok v → stepped v e ≡ Ok u → ran w (take (i + 1) events) ≡ Ok u
 ran_on w v u events i e inside is h step =
-    ap (λ n. ran w (take n events)) (next i) ∙ ap (ran w) (take-next events i e inside is) ∙ ran-push w v (take i events) e h ∙ ap (λ r. and_then r (λ y. Ok y)) step
+    ap (λ n. ran w (take n events)) (next i) ∙ ap (ran w) (take-next events i e inside is) ∙ ran-push w v (take i events) e h ∙ ap (λ r. outcome_then r (λ y. Ok y)) step
   where
     next : (i : ℕ) → i + 1 ≡ suc i
     next i = omega arith

@@ -21,7 +21,7 @@ use Rattle.rga_exchange.specs.declared.log.LogRead.{LogRead}
 use Rattle.rga_exchange.proofs.AppendedLaws.{stands_appended}
 use Rattle.rga_exchange.proofs.LogLaws.{log_that_stands}
 use Rattle.rga_world.specs.Sites.{Site, site, World}
-use Rattle.rga_world.specs.Steps.{stepped, ran, and_then, found, of_store, site_at, saved_operation, delivered, with_content}
+use Rattle.rga_world.specs.Steps.{stepped, ran, outcome_then, found, of_store, site_at, saved_operation, delivered, with_content}
 use Rattle.rga_world.specs.Program.{deliveries}
 use Rattle.rga_world.specs.Together.{IsReached}
 use Rattle.rga_world.specs.Words.{with_site}
@@ -87,10 +87,10 @@ one_delivered : (w : World) (taker giver place : ℕ) (s g : Site) (op : Op) (c 
     → slice_get w.sites taker ≡ Some s → slice_get w.sites giver ≡ Some g → slice_get (operations g.saved) place ≡ Some op → taken w.limit s.content op ≡ Ok c
     → stepped w (Deliver taker giver place) ≡ Ok (with_site w taker (with_content s c))
 one_delivered w taker giver place s g op c at there saved took =
-    changed_to w taker (λ x. and_then (site_at w giver) (λ h. and_then (saved_operation h place) (λ o. delivered w.limit o x))) s (with_content s c) at
-    (ap (λ o. and_then (found NoSite o) (λ h. and_then (saved_operation h place) (λ p. delivered w.limit p s))) there
-    ∙ ap (λ o. and_then (found NoOperation o) (λ p. delivered w.limit p s)) saved
-    ∙ ap (λ r. and_then (of_store r) (λ d. Ok (with_content s d))) took)
+    changed_to w taker (λ x. outcome_then (site_at w giver) (λ h. outcome_then (saved_operation h place) (λ o. delivered w.limit o x))) s (with_content s c) at
+    (ap (λ o. outcome_then (found NoSite o) (λ h. outcome_then (saved_operation h place) (λ p. delivered w.limit p s))) there
+    ∙ ap (λ o. outcome_then (found NoOperation o) (λ p. delivered w.limit p s)) saved
+    ∙ ap (λ r. outcome_then (of_store r) (λ d. Ok (with_content s d))) took)
 
 -- the same of all from a place on
 pub all_delivered : (ops : List Op) (place taker giver : ℕ) (w : World) (s g : Site) (d : Content)
@@ -115,7 +115,7 @@ all_delivered (op ∷ ops) place taker giver w s g d at there each took =
       | inl (number, is, put) ↦ later t put (sym (ap (λ (x : Site). x.saved) is))
       | inr stays ↦ later g stays refl
     ] in
-    ap (λ r. and_then r (λ u. ran u (deliveries taker giver (place + 1) (length ops)))) step
+    ap (λ r. outcome_then r (λ u. ran u (deliveries taker giver (place + 1) (length ops)))) step
     ∙ all ∙ ap (λ xs. Ok (record w { sites = xs })) (set_twice w.sites taker t (with_content t d))
   where
     here : (place : ℕ) → place ≡ place + 0

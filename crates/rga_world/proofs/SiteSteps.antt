@@ -9,7 +9,7 @@ use Rattle.rga_store.specs.Limit.{is_limit}
 use Rattle.rga_ops.specs.Content.{nothing}
 use Rattle.rga_world.specs.Sites.{Site, site, World, world}
 use Rattle.rga_world.specs.SiteStates.{SiteState, new_site, AreSites}
-use Rattle.rga_world.specs.Steps.{Outcome, and_then, found, changed, replica_of}
+use Rattle.rga_world.specs.Steps.{Outcome, outcome_then, found, changed, replica_of}
 use Rattle.rga_doc.specs.LocalEdit.{room_answer}
 use Rattle.rga_world.specs.Outcomes.{Happens, HasRoomAt}
 use Rattle.rga_world.specs.declared.refusal.WorldRefusal.{WorldRefusal}
@@ -36,20 +36,20 @@ happens_at xs limit number x y change r inside is happens rest = by r happens
     put : Site → World
     put t = world (slice_set (sites_of xs) number t) limit
 
-    changes : changed (world (sites_of xs) limit) number change ≡ and_then (change x.site) (λ t. Ok (put t))
-    changes = ap (λ o. and_then (found NoSite o) (λ s. and_then (change s) (λ t. Ok (put t)))) (place_mapped (λ (s : SiteState). s.site) xs number x there)
+    changes : changed (world (sites_of xs) limit) number change ≡ outcome_then (change x.site) (λ t. Ok (put t))
+    changes = ap (λ o. outcome_then (found NoSite o) (λ s. outcome_then (change s) (λ t. Ok (put t)))) (place_mapped (λ (s : SiteState). s.site) xs number x there)
 
     set : put y.site ≡ world (sites_of (slice_set xs number y)) limit
     set = ap (λ ss. world ss limit) (sym (map-set (λ (s : SiteState). s.site) xs number y))
 
     by : (r : Result (Unit {0}) WorldRefusal) → Happens r x.site y.site (change x.site) → Happens r (world (sites_of xs) limit) (world (sites_of (slice_set xs number y)) limit) (changed (world (sites_of xs) limit) number change)
-    by (Ok u) h = changes ∙ ap (λ o. and_then o (λ t. Ok (put t))) h ∙ ap (λ w. Ok w) set
+    by (Ok u) h = changes ∙ ap (λ o. outcome_then o (λ t. Ok (put t))) h ∙ ap (λ w. Ok w) set
     by (Err e) h =
         let same : y ≡ x = rest ∙ ap (λ s. record x { site = s }) h.0 in (
           ap (λ z. world (sites_of (slice_set xs number z)) limit) same ∙ ap (λ zs. world (sites_of zs) limit) (set_same xs number x there),
           elim h.1 [
             | inl memory ↦ inl memory
-            | inr refused ↦ inr (changes ∙ ap (λ o. and_then o (λ t. Ok (put t))) refused)
+            | inr refused ↦ inr (changes ∙ ap (λ o. outcome_then o (λ t. Ok (put t))) refused)
           ],
         )
 

@@ -12,8 +12,8 @@ use Rattle.rga_ops.specs.declared.refusal.Taken.TheVariants.{New, Known}
 use Rattle.rga_ops.specs.declared.refusal.Refusal.{Refusal}
 use Rattle.rga_doc.specs.LocalEdit.{splice_answer, splice_operations}
 use Rattle.rga_world.specs.Sites.{Site, World}
-use Rattle.rga_world.specs.Steps.{Outcome, and_then, found, of_store, replica_of, site_at, saved_operation, with_content, edited, delivered, saved, restarted, changed, stepped}
-use Rattle.rga_world.specs.Words.{with_site, IsSaved, IsRestarted, IsEdited, IsDelivered, LacksSite, LacksOperation, IsRefusedByStore}
+use Rattle.rga_world.specs.Steps.{Outcome, outcome_then, found, of_store, replica_of, site_at, saved_operation, with_content, edited, delivered, saved_site, restarted, changed, stepped}
+use Rattle.rga_world.specs.Words.{with_site, IsSavedSite, IsRestarted, IsEdited, IsDelivered, LacksSite, LacksOperation, IsRefusedByStore}
 use Rattle.rga_world.specs.declared.event.Event.{Event}
 use Rattle.rga_world.specs.declared.event.Event.TheVariants.{Edit, Save, Deliver, Restart}
 use Rattle.rga_world.specs.declared.refusal.WorldRefusal.{WorldRefusal}
@@ -30,17 +30,17 @@ no_site_is : (w : World) (number : ℕ) → slice_get w.sites number ≡ None �
 no_site_is w number none = ap (found NoSite) none
 
 -- the outcome of a change at a site that is there
-changed_is : (w : World) (number : ℕ) (change : Site → Outcome Site) (s : Site) → slice_get w.sites number ≡ Some s → changed w number change ≡ and_then (change s) (λ t. Ok (with_site w number t))
-changed_is w number change s at = ap (λ r. and_then r (λ x. and_then (change x) (λ t. Ok (with_site w number t)))) (site_is w number s at)
+changed_is : (w : World) (number : ℕ) (change : Site → Outcome Site) (s : Site) → slice_get w.sites number ≡ Some s → changed w number change ≡ outcome_then (change s) (λ t. Ok (with_site w number t))
+changed_is w number change s at = ap (λ r. outcome_then r (λ x. outcome_then (change x) (λ t. Ok (with_site w number t)))) (site_is w number s at)
 
 pub changed_to : (w : World) (number : ℕ) (change : Site → Outcome Site) (s t : Site) → slice_get w.sites number ≡ Some s → change s ≡ Ok t → changed w number change ≡ Ok (with_site w number t)
-changed_to w number change s t at is = changed_is w number change s at ∙ ap (λ r. and_then r (λ x. Ok (with_site w number x))) is
+changed_to w number change s t at is = changed_is w number change s at ∙ ap (λ r. outcome_then r (λ x. Ok (with_site w number x))) is
 
 changed_err : (w : World) (number : ℕ) (change : Site → Outcome Site) (s : Site) (e : WorldRefusal) → slice_get w.sites number ≡ Some s → change s ≡ Err e → changed w number change ≡ Err e
-changed_err w number change s e at is = changed_is w number change s at ∙ ap (λ r. and_then r (λ x. Ok (with_site w number x))) is
+changed_err w number change s e at is = changed_is w number change s at ∙ ap (λ r. outcome_then r (λ x. Ok (with_site w number x))) is
 
 changed_none : (w : World) (number : ℕ) (change : Site → Outcome Site) → slice_get w.sites number ≡ None → changed w number change ≡ Err NoSite
-changed_none w number change none = ap (λ r. and_then r (λ x. and_then (change x) (λ t. Ok (with_site w number t)))) (no_site_is w number none)
+changed_none w number change none = ap (λ r. outcome_then r (λ x. outcome_then (change x) (λ t. Ok (with_site w number t)))) (no_site_is w number none)
 
 found_none : {A : Type 0} (d e : WorldRefusal) (o : Option A) → found d o ≡ Err e → (o ≡ None) × (d ≡ e)
 found_none d e None h = (refl, same_Err d e h)
@@ -53,7 +53,7 @@ pub data IsRefusal (w : World) (number : ℕ) (change : Site → Outcome Site) (
 
 refusal : (w : World) (number : ℕ) (change : Site → Outcome Site) (e : WorldRefusal) → changed w number change ≡ Err e → IsRefusal w number change e
 refusal w number change e h =
-    elim (then_err (site_at w number) (λ s. and_then (change s) (λ t. Ok (with_site w number t))) e h) [
+    elim (then_err (site_at w number) (λ s. outcome_then (change s) (λ t. Ok (with_site w number t))) e h) [
       | inl none ↦ let (lacks, is) = found_none NoSite e (slice_get w.sites number) none in nowhere lacks is
       | inr (s, at, later) ↦ elim (then_err (change s) (λ t. Ok (with_site w number t)) e later) [
         | inl refused ↦ within s (found_ok NoSite (slice_get w.sites number) s at) refused
@@ -79,12 +79,12 @@ operation-store e h = cc
 
 -- ---- saves and restarts
 
-pub saved-iff : (w v : World) (number : ℕ) → (stepped w (Save number) ≡ Ok v) ↔ IsSaved w v number
+pub saved-iff : (w v : World) (number : ℕ) → (stepped w (Save number) ≡ Ok v) ↔ IsSavedSite w v number
 saved-iff w v number = (
   λ h.
-      let c = is_changed w number (λ s. Ok (saved s)) v h in
-      record { before = c.before; at = c.was; is = c.is ∙ ap (with_site w number) (sym (same_Ok (saved c.before) c.now c.change_is)) },
-  λ i. changed_to w number (λ s. Ok (saved s)) i.before (saved i.before) i.at refl ∙ ap (λ x. Ok x) (sym i.is),
+      let c = is_changed w number (λ s. Ok (saved_site s)) v h in
+      record { before = c.before; at = c.was; is = c.is ∙ ap (with_site w number) (sym (same_Ok (saved_site c.before) c.now c.change_is)) },
+  λ i. changed_to w number (λ s. Ok (saved_site s)) i.before (saved_site i.before) i.at refl ∙ ap (λ x. Ok x) (sym i.is),
 )
 
 pub restarted-iff : (w v : World) (number : ℕ) → (stepped w (Restart number) ≡ Ok v) ↔ IsRestarted w v number
@@ -117,7 +117,7 @@ module _ (w : World) (number lo hi : ℕ) (put : List ℕ) where
 
   edit_done : (v : World) → IsEdited w v number lo hi put → changed w number edit ≡ Ok v
   edit_done v i =
-      changed_to w number edit i.before (after_edit i.before) i.at (ap (λ r. and_then (of_store r) (λ _. Ok (after_edit i.before))) i.allowed) ∙ ap (λ x. Ok x) (sym i.is)
+      changed_to w number edit i.before (after_edit i.before) i.at (ap (λ r. outcome_then (of_store r) (λ _. Ok (after_edit i.before))) i.allowed) ∙ ap (λ x. Ok x) (sym i.is)
 
   edit_err : (s : Site) (e : WorldRefusal) → edit s ≡ Err e → (f : Refusal) × (splice_answer w.limit s.content lo hi put ≡ Err f) × (Store f ≡ e)
   edit_err s e h = elim (then_err (of_store (splice_answer w.limit s.content lo hi put)) (λ _. Ok (after_edit s)) e h) [
@@ -126,7 +126,7 @@ module _ (w : World) (number lo hi : ℕ) (put : List ℕ) where
   ]
 
   edit_refused : (s : Site) (f : Refusal) → splice_answer w.limit s.content lo hi put ≡ Err f → edit s ≡ Err (Store f)
-  edit_refused s f h = ap (λ r. and_then (of_store r) (λ _. Ok (after_edit s))) h
+  edit_refused s f h = ap (λ r. outcome_then (of_store r) (λ _. Ok (after_edit s))) h
 
 pub edited-iff : (w v : World) (number lo hi : ℕ) (put : Vec ℕ Global) → (stepped w (Edit number lo hi put) ≡ Ok v) ↔ IsEdited w v number lo hi put.items
 edited-iff w v number lo hi put = (edit_ok w number lo hi put.items v, edit_done w number lo hi put.items v)
@@ -155,7 +155,7 @@ taken_ok limit c op t h =
 
 module _ (w : World) (giver place : ℕ) where
   abbrev give : Site → Outcome Site
-  give s = and_then (site_at w giver) (λ g. and_then (saved_operation g place) (λ op. delivered w.limit op s))
+  give s = outcome_then (site_at w giver) (λ g. outcome_then (saved_operation g place) (λ op. delivered w.limit op s))
 
   abbrev after_taking : Site → Op → Site
   after_taking s op = with_content s (join s.content (single op))
@@ -163,24 +163,24 @@ module _ (w : World) (giver place : ℕ) where
   -- where an operation is given, all goes by the store
   give_is : (s g : Site) (op : Op) → slice_get w.sites giver ≡ Some g → slice_get (operations g.saved) place ≡ Some op → give s ≡ delivered w.limit op s
   give_is s g op there there_too =
-      ap (λ r. and_then r (λ g. and_then (saved_operation g place) (λ op. delivered w.limit op s))) (site_is w giver g there)
-      ∙ ap (λ r. and_then r (λ op. delivered w.limit op s)) (ap (found NoOperation) there_too)
+      ap (λ r. outcome_then r (λ g. outcome_then (saved_operation g place) (λ op. delivered w.limit op s))) (site_is w giver g there)
+      ∙ ap (λ r. outcome_then r (λ op. delivered w.limit op s)) (ap (found NoOperation) there_too)
 
   give_done : (s g : Site) (op : Op) (t : Taken) → slice_get w.sites giver ≡ Some g → slice_get (operations g.saved) place ≡ Some op → answer w.limit s.content op ≡ Ok t → give s ≡ Ok (after_taking s op)
   give_done s g op t there there_too took =
-      give_is s g op there there_too ∙ ap (λ r. and_then (of_store r) (λ c. Ok (with_content s c))) (taken_ok w.limit s.content op t took)
+      give_is s g op there there_too ∙ ap (λ r. outcome_then (of_store r) (λ c. Ok (with_content s c))) (taken_ok w.limit s.content op t took)
 
   give_refused : (s g : Site) (op : Op) (e : Refusal) → slice_get w.sites giver ≡ Some g → slice_get (operations g.saved) place ≡ Some op → answer w.limit s.content op ≡ Err e → give s ≡ Err (Store e)
   give_refused s g op e there there_too refused =
-      give_is s g op there there_too ∙ ap (λ r. and_then (of_store (after_answer s.content op r)) (λ c. Ok (with_content s c))) refused
+      give_is s g op there there_too ∙ ap (λ r. outcome_then (of_store (after_answer s.content op r)) (λ c. Ok (with_content s c))) refused
 
   give_nothing : (s g : Site) → slice_get w.sites giver ≡ Some g → slice_get (operations g.saved) place ≡ None → give s ≡ Err NoOperation
   give_nothing s g there none =
-      ap (λ r. and_then r (λ g. and_then (saved_operation g place) (λ op. delivered w.limit op s))) (site_is w giver g there)
-      ∙ ap (λ r. and_then r (λ op. delivered w.limit op s)) (ap (found NoOperation) none)
+      ap (λ r. outcome_then r (λ g. outcome_then (saved_operation g place) (λ op. delivered w.limit op s))) (site_is w giver g there)
+      ∙ ap (λ r. outcome_then r (λ op. delivered w.limit op s)) (ap (found NoOperation) none)
 
   give_nowhere : (s : Site) → slice_get w.sites giver ≡ None → give s ≡ Err NoSite
-  give_nowhere s none = ap (λ r. and_then r (λ g. and_then (saved_operation g place) (λ op. delivered w.limit op s))) (no_site_is w giver none)
+  give_nowhere s none = ap (λ r. outcome_then r (λ g. outcome_then (saved_operation g place) (λ op. delivered w.limit op s))) (no_site_is w giver none)
 
   record IsTaken (s t : Site) : Type 0 where
     origin : Site
@@ -193,7 +193,7 @@ module _ (w : World) (giver place : ℕ) where
 
   give_ok : (s t : Site) → give s ≡ Ok t → IsTaken s t
   give_ok s t h =
-      let (g, there, later) = then_ok (site_at w giver) (λ g. and_then (saved_operation g place) (λ op. delivered w.limit op s)) t h in
+      let (g, there, later) = then_ok (site_at w giver) (λ g. outcome_then (saved_operation g place) (λ op. delivered w.limit op s)) t h in
       let (op, op_there, last) = then_ok (saved_operation g place) (λ op. delivered w.limit op s) t later in
       let (d, took, done) = then_ok (of_store (taken w.limit s.content op)) (λ c. Ok (with_content s c)) t last in
       let stored = store_ok (taken w.limit s.content op) d took in
@@ -215,7 +215,7 @@ module _ (w : World) (giver place : ℕ) where
 
   give_err : (s : Site) (e : WorldRefusal) → give s ≡ Err e → IsUngiven s e
   give_err s e h =
-      elim (then_err (site_at w giver) (λ g. and_then (saved_operation g place) (λ op. delivered w.limit op s)) e h) [
+      elim (then_err (site_at w giver) (λ g. outcome_then (saved_operation g place) (λ op. delivered w.limit op s)) e h) [
         | inl none ↦ let (lacks, is) = found_none NoSite e (slice_get w.sites giver) none in from_nowhere lacks is
         | inr (g, g_there, later) ↦
             let there = found_ok NoSite (slice_get w.sites giver) g g_there in
@@ -264,7 +264,7 @@ no_site-iff w (Edit number lo hi put) = (
   ],
   changed_none w number (edit w number lo hi put.items),
 )
-no_site-iff w (Save number) = (λ h. (never_refused w number saved NoSite h).0, changed_none w number (λ s. Ok (saved s)))
+no_site-iff w (Save number) = (λ h. (never_refused w number saved_site NoSite h).0, changed_none w number (λ s. Ok (saved_site s)))
 no_site-iff w (Restart number) = (λ h. (never_refused w number restarted NoSite h).0, changed_none w number (λ s. Ok (restarted s)))
 no_site-iff w (Deliver taker giver place) = (
   λ h. elim (refusal w taker (give w giver place) NoSite h) [
@@ -293,7 +293,7 @@ no_operation-iff w (Edit number lo hi put) = (
   ],
   λ never. absurd never,
 )
-no_operation-iff w (Save number) = (λ h. site-operation (never_refused w number saved NoOperation h).1, λ never. absurd never)
+no_operation-iff w (Save number) = (λ h. site-operation (never_refused w number saved_site NoOperation h).1, λ never. absurd never)
 no_operation-iff w (Restart number) = (λ h. site-operation (never_refused w number restarted NoOperation h).1, λ never. absurd never)
 no_operation-iff w (Deliver taker giver place) = (
   λ h. elim (refusal w taker (give w giver place) NoOperation h) [
@@ -317,7 +317,7 @@ store-iff w (Edit number lo hi put) e = (
   ],
   λ (s, at, refused). changed_err w number (edit w number lo hi put.items) s (Store e) at (edit_refused w number lo hi put.items s e refused),
 )
-store-iff w (Save number) e = (λ h. site-store e (never_refused w number saved (Store e) h).1, λ never. absurd never)
+store-iff w (Save number) e = (λ h. site-store e (never_refused w number saved_site (Store e) h).1, λ never. absurd never)
 store-iff w (Restart number) e = (λ h. site-store e (never_refused w number restarted (Store e) h).1, λ never. absurd never)
 store-iff w (Deliver taker giver place) e = (
   λ h. elim (refusal w taker (give w giver place) (Store e) h) [

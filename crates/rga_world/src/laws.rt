@@ -22,24 +22,25 @@ ghost use Rattle.rga_ops.specs.RootPath.{is_complete};
 ghost use Rattle.rga_ops.specs.Splice.{spliced};
 ghost use Rattle.rga_ops.specs.declared.refusal.Refusal.TheVariants.{Conflict};
 ghost use Rattle.rga_world.specs.Sites.{Site, World, new_world};
-ghost use Rattle.rga_world.specs.Steps.{stepped, ran, after};
+ghost use Rattle.rga_world.specs.Steps.{stepped, ran, world_after};
 ghost use Rattle.rga_world.specs.Together.{IsReached, IsVouched, AllAgree, contents, saved_contents, all_of, all_saved, HaveSameIdentifiers};
 ghost use Rattle.rga_world.specs.declared.event.Event.{Event};
 ghost use Rattle.rga_world.specs.declared.event.Event.TheVariants.{Edit, Save, Deliver, Restart};
 ghost use Rattle.rga_world.specs.declared.refusal.WorldRefusal.TheVariants.{NoSite, NoOperation, Store};
 ghost use Rattle.rga_world.specs.Program.{deliveries};
 ghost use Rattle.rga_world.specs.Steps.{with_content};
-ghost use Rattle.rga_world.specs.Words.{with_site, IsEdited, IsSaved, IsDelivered, IsRestarted, LacksSite, LacksOperation, IsRefusedByStore};
+ghost use Rattle.rga_world.specs.Words.{with_site, IsEdited, IsSavedSite, IsDelivered, IsRestarted, LacksSite, LacksOperation, IsRefusedByStore};
 ghost use Rattle.rga_ops.specs.declared.refusal.Refusal.{Refusal};
 
 /// Events lead from one reached world to another.
 pub fn events_lead_on()
     ensures begin { (count limit : ℕ) → IsReached (new_world count limit) }
-    ensures on { (w : World) (events : List Event) → IsReached w → IsReached (after w events) }
+    ensures on { (w : World) (events : List Event) → IsReached w →
+        IsReached (world_after w events) }
     ensures in_parts { (w : World) (xs ys : List Event) →
-        after w (xs ++ ys) ≡ after (after w xs) ys }
+        world_after w (xs ++ ys) ≡ world_after (world_after w xs) ys }
     ensures none_refused { (w v : World) (events : List Event) →
-        ran w events ≡ Ok v → after w events ≡ v }
+        ran w events ≡ Ok v → world_after w events ≡ v }
 {}
 
 /// What an event leads to, and each refusal exactly where it comes, want of memory aside: a site is
@@ -48,7 +49,7 @@ pub fn events_in_words()
     ensures edited { (w v : World) (number lo hi : ℕ) (put : Vec ℕ Global) →
         (stepped w (Edit number lo hi put) ≡ Ok v) ↔ IsEdited w v number lo hi put.items }
     ensures saved { (w v : World) (number : ℕ) →
-        (stepped w (Save number) ≡ Ok v) ↔ IsSaved w v number }
+        (stepped w (Save number) ≡ Ok v) ↔ IsSavedSite w v number }
     ensures delivered { (w v : World) (taker giver place : ℕ) →
         (stepped w (Deliver taker giver place) ≡ Ok v) ↔ IsDelivered w v taker giver place }
     ensures restarted { (w v : World) (number : ℕ) →
@@ -109,15 +110,16 @@ pub fn all_texts_follow_one_order()
 /// what is complete in it stays complete and in the same order, whatever happens.
 pub fn saved_order_is_for_good()
     ensures within { (w : World) (events : List Event) → IsReached w →
-        IsWithin (all_saved w) (all_saved (after w events)) }
+        IsWithin (all_saved w) (all_saved (world_after w events)) }
     ensures complete { (w : World) (events : List Event) (id : Identifier) → IsReached w →
-        is_complete (all_saved w) id ≡ true → is_complete (all_saved (after w events)) id ≡ true }
+        is_complete (all_saved w) id ≡ true →
+        is_complete (all_saved (world_after w events)) id ≡ true }
     ensures order { (w : World) (events : List Event) → IsReached w →
         order (all_saved w)
-        ≡ filter (is_complete (all_saved w)) (order (all_saved (after w events))) }
+        ≡ filter (is_complete (all_saved w)) (order (all_saved (world_after w events))) }
     ensures precedes { (w : World) (events : List Event) (a b : Identifier) → IsReached w →
         is_complete (all_saved w) a ≡ true → is_complete (all_saved w) b ≡ true →
-        Precedes (all_saved w) a b → Precedes (all_saved (after w events)) a b }
+        Precedes (all_saved w) a b → Precedes (all_saved (world_after w events)) a b }
 {}
 
 /// An edit makes the site's text the splice of its text before.

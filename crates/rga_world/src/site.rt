@@ -5,7 +5,7 @@ ghost use Rattle.rga_doc.specs.LocalEdit.{room_answer};
 ghost use Rattle.rga_store.specs.Limit.{is_limit};
 ghost use Rattle.rga_world.specs.Outcomes.{Happens};
 ghost use Rattle.rga_world.specs.SiteStates.{new_site};
-ghost use Rattle.rga_world.specs.Steps.{edited, delivered, saved, restarted};
+ghost use Rattle.rga_world.specs.Steps.{edited, delivered, saved_site, restarted};
 ghost use Rattle.std.specs.Prelude.{Ok, Err};
 
 use crate::refusal::WorldRefusal;
@@ -66,7 +66,8 @@ impl<S: TextStore> Site<S> {
 
     /// What is held is saved.
     pub(crate) fn save(&mut self) -> Result<(), WorldRefusal>
-        ensures happens { Happens result self.old.site self.new.site (Ok (saved self.old.site)) }
+        ensures happens { Happens result self.old.site self.new.site
+            (Ok (saved_site self.old.site)) }
         ensures rest { self.new ≡ record self.old { site = self.new.site } }
     {
         self.saved = self.document.store().copy()?;

@@ -4,7 +4,7 @@ ghost use Rattle.rga_ops.specs.Prelude.{operations, text};
 ghost use Rattle.rga_store.specs.Limit.{is_limit};
 ghost use Rattle.rga_world.specs.Outcomes.{Happens, HasRoomAt, MayWantMemory};
 ghost use Rattle.rga_world.specs.Sites.{new_world};
-ghost use Rattle.rga_world.specs.Steps.{edited, delivered, saved, restarted, replica_of, changed, stepped, and_then, site_at, saved_operation};
+ghost use Rattle.rga_world.specs.Steps.{edited, delivered, saved_site, restarted, replica_of, changed, stepped, outcome_then, site_at, saved_operation};
 ghost use Rattle.rga_ops.specs.declared.refusal.Refusal.TheVariants.{Memory};
 ghost use Rattle.rga_world.specs.declared.refusal.WorldRefusal.TheVariants.{Store};
 
@@ -86,7 +86,8 @@ impl<S: TextStore> Sites<S> {
     }
 
     fn save(&mut self, number: usize) -> Result<(), WorldRefusal>
-        ensures happens { Happens result self.old self.new (changed self.old number (λ s. Ok (saved s))) }
+        ensures happens { Happens result self.old self.new
+            (changed self.old number (λ s. Ok (saved_site s))) }
         ensures memory { result ≡ Err (Store Memory) → number < length self.old.sites }
     {
         if number >= self.all.as_slice().len() {
@@ -119,8 +120,8 @@ impl<S: TextStore> Sites<S> {
 
     fn deliver(&mut self, taker: usize, giver: usize, place: usize) -> Result<(), WorldRefusal>
         ensures happens { Happens result self.old self.new (changed self.old taker (λ s.
-            and_then (site_at self.old giver) (λ g.
-            and_then (saved_operation g place) (λ op. delivered self.old.limit op s)))) }
+            outcome_then (site_at self.old giver) (λ g.
+            outcome_then (saved_operation g place) (λ op. delivered self.old.limit op s)))) }
         ensures memory { result ≡ Err (Store Memory) →
             (taker < length self.old.sites) × (giver < length self.old.sites) }
     {

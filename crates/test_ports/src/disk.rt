@@ -24,12 +24,12 @@ pub(crate) enum StepKind {
 }
 
 impl Model for MadeStep {
-    ghost use Rattle.mgr_port.specs.Disk.{Step};
-    ghost use Rattle.test_ports.specs.Steps.{step_of};
+    ghost use Rattle.mgr_port.specs.Disk.{DiskStep};
+    ghost use Rattle.test_ports.specs.Steps.{disk_step_of};
 
-    ghost Value = { Step };
+    ghost Value = { DiskStep };
 
-    ghost view = { λ made. step_of made.kind made.bytes.items };
+    ghost view = { λ made. disk_step_of made.kind made.bytes.items };
 }
 
 impl StepKind {
@@ -57,7 +57,7 @@ pub struct MemoryDisk {
 
 impl MemoryDisk {
     ghost use Rattle.std.specs.Prelude.{◌≡◌, ◌++◌, ◌∷◌, [], OnOk, OnErr};
-    ghost use Rattle.test_ports.specs.Steps.{step_of};
+    ghost use Rattle.test_ports.specs.Steps.{disk_step_of};
 
     /// A disk of which no step was made, and that makes so many.
     pub fn new(alloc: Global, left: usize) -> MemoryDisk {
@@ -79,7 +79,7 @@ impl MemoryDisk {
     /// Makes a step, or fails it.
     fn make(&mut self, kind: StepKind, bytes: &[u8]) -> io::Result<()>
         ensures made { OnOk result (self.new.steps.items
-            ≡ self.old.steps.items ++ step_of kind bytes.now ∷ []) }
+            ≡ self.old.steps.items ++ disk_step_of kind bytes.now ∷ []) }
         ensures same { OnErr result (self.new.steps.items ≡ self.old.steps.items) }
     {
         if self.left == 0 {
@@ -95,7 +95,7 @@ impl MemoryDisk {
     /// Notes a step. `AllocError` alone.
     fn note(&mut self, kind: StepKind, bytes: &[u8]) -> Result<(), AllocError>
         ensures made { OnOk result (self.new.steps.items
-            ≡ self.old.steps.items ++ step_of kind bytes.now ∷ []) }
+            ≡ self.old.steps.items ++ disk_step_of kind bytes.now ∷ []) }
         ensures same { OnErr result (self.new.steps.items ≡ self.old.steps.items) }
     {
         let bytes = Vec::from_slice(self.alloc, bytes)?;

@@ -6,7 +6,7 @@ ghost use Rattle.mg_plain.specs.declared.command.Command.{Command};
 ghost use Rattle.mg_plain.specs.declared.view.Kind.TheVariants.{Killing};
 ghost use Rattle.mg_plain.specs.Cases.{recasing};
 ghost use Rattle.mg_plain.specs.Commands.{effect};
-ghost use Rattle.mg_plain.specs.Effect.{Effect, IsWithin, removed_characters};
+ghost use Rattle.mg_plain.specs.Effect.{Effect, IsWithinText, removed_characters};
 ghost use Rattle.mg_plain.specs.Kills.{kill_after, kill_line, kill_region, kill_so_far, kill_word};
 ghost use Rattle.mg_plain.specs.Situation.{Situation, IsView};
 
@@ -14,7 +14,7 @@ ghost use Rattle.mg_plain.specs.Situation.{Situation, IsView};
 /// takes them, and point and mark are places of the text that they leave.
 pub fn effects_stay_within_the_text()
     ensures { (command : Command) (n column : ℕ) (s : Situation) (e : Effect) →
-        IsView s → effect command n s column ≡ Ok e → IsWithin s e }
+        IsView s → effect command n s column ≡ Ok e → IsWithinText s e }
 {}
 
 /// A kill keeps what it takes out of the text, behind the kill buffer where the command before

@@ -3,7 +3,7 @@ ghost use Rattle.std.specs.Prelude.{◌≡◌, ℕ, List, [], ◌∷◌, ◌++�
 ghost use Rattle.mg_plain.specs.declared.command.Command.TheVariants.{ForwardWord, BackwardWord, ForwardChar, NextLine, TransposeChars, CapitalizeWord, NewlineAndIndent, KillRegion, CopyRegionAsKill, KillLine, Yank, ScrollUp};
 ghost use Rattle.mg_plain.specs.declared.outcome.Notice.TheVariants.{BeginningOfBuffer, EndOfBuffer, SearchFailed};
 ghost use Rattle.mg_plain.specs.declared.view.Kind.TheVariants.{Vertical};
-ghost use Rattle.mg_text.specs.Characters.{newline};
+ghost use Rattle.mg_text.specs.Characters.{newline_character};
 ghost use Rattle.mg_plain.specs.Commands.{effect};
 ghost use Rattle.mg_text.specs.Splices.{splice};
 ghost use Rattle.mg_plain.specs.Effect.{edit_effect, motion};
@@ -54,10 +54,10 @@ pub fn edits_of_a_line()
         outcome s (effect CapitalizeWord 1 s 70) ≡ Ok (text_and_point (codes "Hello wORLD") 5) }
     ensures indented { let s = plain_view (codes "  ab") 4 in
         outcome s (effect NewlineAndIndent 1 s 70)
-        ≡ Ok (text_and_point (codes "  ab" ++ newline ∷ codes "  ") 7) }
+        ≡ Ok (text_and_point (codes "  ab" ++ newline_character ∷ codes "  ") 7) }
     ensures indented_at_point { let s = plain_view (codes "  ab") 1 in
         outcome s (effect NewlineAndIndent 1 s 70)
-        ≡ Ok (text_and_point (codes " " ++ newline ∷ codes "  ab") 3) }
+        ≡ Ok (text_and_point (codes " " ++ newline_character ∷ codes "  ab") 3) }
 {}
 
 /// Kills, one behind the other, a copy that takes their place, and a yank of both.
@@ -92,8 +92,8 @@ pub fn searches_replacements_and_filling()
         outcome s (replace_all (codes "a") (codes "bb") s)
         ≡ Ok (text_and_point (codes "bb-bb-bb") 8) }
     ensures filled { let s = plain_view (codes "aa bb cc dd") 11 in
-        fill_paragraph 10 s ≡ edit_effect s (splice 8 9 (newline ∷ []) ∷ []) }
-    ensures filled_up { let s = plain_view (codes "  aa  bb" ++ newline ∷ codes "cc") 0 in
+        fill_paragraph 10 s ≡ edit_effect s (splice 8 9 (newline_character ∷ []) ∷ []) }
+    ensures filled_up { let s = plain_view (codes "  aa  bb" ++ newline_character ∷ codes "cc") 0 in
         fill_paragraph 10 s ≡ edit_effect s
         (splice 8 9 (codes " ") ∷ splice 4 6 (codes " ") ∷ splice 0 2 [] ∷ []) }
 {}

@@ -3,7 +3,7 @@ ghost use Rattle.std.specs.Prelude.{◌≡◌, ◌≤◌, ◌-◌, if◌then◌e
 ghost use Rattle.std.specs.FinSet as finite_set;
 ghost use Rattle.rga_ops.specs.Content.{clock_of, Holds};
 ghost use Rattle.rga_store.specs.Child.{is_child};
-ghost use Rattle.rga_store.specs.Without.{without_insertion, without_deletion, without};
+ghost use Rattle.rga_store.specs.Without.{without_insertion, without_deletion, without_operation};
 
 use super::TreeStore;
 use crate::nodes::{clear_element, clear_mark, remove_child};
@@ -13,8 +13,8 @@ impl TreeStore {
     /// Removes an operation, to the clock from before it.
     pub(super) fn remove(&mut self, op: &Op, clock: u64)
         requires held { Holds self.old.content op.now }
-        requires clock { clock ≡ clock_of (without op.now self.old.content) }
-        ensures content { self.new.content ≡ without op.now self.old.content }
+        requires clock { clock ≡ clock_of (without_operation op.now self.old.content) }
+        ensures content { self.new.content ≡ without_operation op.now self.old.content }
         ensures limit { self.new.limit ≡ self.old.limit }
     {
         match op {

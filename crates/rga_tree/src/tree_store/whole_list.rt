@@ -3,7 +3,7 @@
 ghost use Rattle.std.specs.Prelude.{◌≡◌, ◌≢◌, Ok, Err, IsOk, OnOk, OnErr, IfErr};
 ghost use Rattle.rga_ops.specs.Content.{join, single};
 ghost use Rattle.rga_ops.specs.Answer.{answer, taken, taken_one_by_one};
-ghost use Rattle.rga_store.specs.Without.{without};
+ghost use Rattle.rga_store.specs.Without.{without_operation};
 ghost use Rattle.rga_tree.specs.Back.{gone_back, CanGoBack, IsLastStep};
 
 use super::TreeStore;
@@ -94,7 +94,7 @@ impl TreeStore {
         ensures ok { OnOk result (self.new.content ≡ self.old.content) }
         ensures steps { CanGoBack steps.new.items self.new.content }
         ensures start { gone_back steps.new.items self.new.content
-            ≡ gone_back steps.old.items (without op.now self.old.content) }
+            ≡ gone_back steps.old.items (without_operation op.now self.old.content) }
         ensures memory { IfErr result (λ e. e ≡ Refusal.Memory) }
         ensures limit { self.new.limit ≡ self.old.limit }
     {

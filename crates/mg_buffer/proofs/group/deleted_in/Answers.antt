@@ -1,6 +1,6 @@
 use Rattle.std.proofs.Common.{◌≡◌, ◌<◌, ℕ, List, ◌∷◌, [], ◌++◌, length, get_or, ◌∙◌, sym}
 use Rattle.rga_ops.specs.Identifier.{Identifier}
-use Rattle.mg_buffer.specs.Slots.{deleted_by}
+use Rattle.mg_buffer.specs.Slots.{deleted_at_slot}
 use Rattle.mg_buffer.proofs.SlotLaws.{all_at, element_is, mapped_more, read_again}
 use Rattle.mg_buffer.proofs.group.deleted_in.Goals as goal
 
@@ -15,7 +15,7 @@ loop-slot-preserved c =
     let within : b.0 < length elements = all_at (λ (x : ℕ × ℕ). x.0 < length elements) slots i b c.requires c.loop-slot-test.true read in
     c.in_ok-push.ensures.items
     ∙ (λ k. c.loop-slot.invariant k ++ (sym (element_is elements b.0 id within c.index-elements-slot.is) k, b.1) ∷ [])
-    ∙ sym (mapped_more (deleted_by elements) slots i b c.loop-slot-test.true read)
+    ∙ sym (mapped_more (deleted_at_slot elements) slots i b c.loop-slot-test.true read)
 
 pub bounds-elements-slot : goal.bounds-elements-slot
 bounds-elements-slot c =

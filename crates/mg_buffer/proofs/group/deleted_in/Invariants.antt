@@ -1,6 +1,6 @@
 use Rattle.std.proofs.Common.{◌≡◌, map, take}
-use Rattle.mg_buffer.specs.Slots.{deleted_by}
+use Rattle.mg_buffer.specs.Slots.{deleted_at_slot}
 use Rattle.mg_buffer.proofs.group.deleted_in.Given as goal
 
 abbrev pub invariant-loop-slot : goal.invariant-loop-slot
-invariant-loop-slot l = l.deleted.items ≡ map (deleted_by l.elements) (take l.slot-index l.slots)
+invariant-loop-slot l = l.deleted.items ≡ map (deleted_at_slot l.elements) (take l.slot-index l.slots)

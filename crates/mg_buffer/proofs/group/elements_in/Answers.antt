@@ -1,6 +1,6 @@
 use Rattle.std.proofs.Common.{◌≡◌, ◌<◌, ℕ, List, ◌∷◌, [], ◌++◌, length, get_or, ◌∙◌, sym}
 use Rattle.rga_ops.specs.Identifier.{Identifier}
-use Rattle.mg_buffer.specs.Slots.{element_in}
+use Rattle.mg_buffer.specs.Slots.{element_at_slot}
 use Rattle.mg_buffer.proofs.SlotLaws.{all_at, element_is, mapped_more, read_again}
 use Rattle.mg_buffer.proofs.group.elements_in.Goals as goal
 
@@ -15,4 +15,4 @@ loop-slot-preserved c =
     let within : slot < length elements = all_at (λ s. s < length elements) slots i slot c.requires c.loop-slot-test.true read in
     c.in_ok-push.ensures.items
     ∙ (λ k. c.loop-slot.invariant k ++ sym (element_is elements slot id within c.index-elements-slot.is) k ∷ [])
-    ∙ sym (mapped_more (element_in elements) slots i slot c.loop-slot-test.true read)
+    ∙ sym (mapped_more (element_at_slot elements) slots i slot c.loop-slot-test.true read)

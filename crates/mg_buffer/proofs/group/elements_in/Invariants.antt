@@ -1,6 +1,6 @@
 use Rattle.std.proofs.Common.{◌≡◌, map, take}
-use Rattle.mg_buffer.specs.Slots.{element_in}
+use Rattle.mg_buffer.specs.Slots.{element_at_slot}
 use Rattle.mg_buffer.proofs.group.elements_in.Given as goal
 
 abbrev pub invariant-loop-slot : goal.invariant-loop-slot
-invariant-loop-slot l = l.ids.items ≡ map (element_in l.elements) (take l.slot-index l.slots)
+invariant-loop-slot l = l.ids.items ≡ map (element_at_slot l.elements) (take l.slot-index l.slots)

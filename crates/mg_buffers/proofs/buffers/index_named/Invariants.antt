@@ -4,4 +4,4 @@ use Rattle.mg_buffers.specs.Names as names
 use Rattle.mg_buffers.proofs.buffers.index_named.Given as goal
 
 abbrev pub invariant-loop-index : goal.invariant-loop-index
-invariant-loop-index g l = names.named l.name l.all ≡ position_from (names.is_named l.name) l.index (drop l.index l.all)
+invariant-loop-index g l = names.buffer_named l.name l.all ≡ position_from (names.is_named l.name) l.index (drop l.index l.all)

@@ -9,7 +9,7 @@ use Rattle.rga_ops.proofs.ContentLaws.{nothing_join}
 use Rattle.rga_doc.specs.Document.{document}
 use Rattle.rga_doc.specs.LocalEdit.{splice_operations}
 use Rattle.mg_files.specs.Faults.{store_fault}
-use Rattle.mg_files.specs.Loading.{insertions}
+use Rattle.mg_files.specs.Loading.{text_insertions}
 use Rattle.mg_files.proofs.LoadedLaws.{limit_of, text_refused, text_taken, text_inserted}
 use Rattle.mg_files.proofs.loading.load_text.Goals as goal
 
@@ -36,7 +36,7 @@ pub returns-clause-exact : goal.returns-clause-exact
 returns-clause-exact g c =
     let made : c.in_ok-doc.doc ≡ document nothing c.args.limit c.args.replica false = c.in_ok-doc.ensures in
     let put : c.deref.result.now ≡ chars c.args.bytes.now = c.deref.ensures.value ∙ c.in_ok-put.ensures.0 in
-    let all : List Op = insertions c.args.replica (chars c.args.bytes.now) in
+    let all : List Op = text_insertions c.args.replica (chars c.args.bytes.now) in
     let ops : c.in_ok-ops.ops.items ≡ all = c.in_ok-ops.ensures.operations ∙ (λ k. splice_operations (made k).replica (made k).content 0 0 (put k)) in
     let left : c.splice.new.self ≡ document (content_of all) c.args.limit c.args.replica c.splice.new.self.listed =
     c.in_ok-ops.ensures.content

@@ -3,7 +3,7 @@ use Rattle.std.proofs.lemmas.Iterator.{YieldsList-from_chars}
 use Rattle.std.proofs.lemmas.List.{length_push, at_drop_all}
 use Rattle.std.proofs.lemmas.Iterator.Consumers.{YieldsList-turn, YieldsList-end}
 use Rattle.std.specs.Str.{chars}
-use Rattle.mg_screen.specs.Cells.{cells_from, beginning, width_of}
+use Rattle.mg_screen.specs.Cells.{cells_from, cells_within, width_of}
 use Rattle.mg_screen.proofs.CellLaws.{beginning_width_on, beginning_ends}
 use Rattle.mg_screen.proofs.cells.text_width.Goals as goal
 
@@ -28,5 +28,5 @@ loop-c-preserved c =
 pub returns : goal.returns
 returns c =
     let end = YieldsList-end (YieldsList-from_chars c.args.text.now c.utf8.text cc) c.loop-c.yielded _ c.loop-c.yielded_by _ _ c.in-None.is c.next.ensures.steps in
-    let none = at_drop_all (λ cs. width_of (beginning (c.args.most - c.loop-c.column) (cells_from c.loop-c.column cs))) (chars c.args.text.now) (length c.loop-c.yielded) (omega (arith, end.1)) in
+    let none = at_drop_all (λ cs. width_of (cells_within (c.args.most - c.loop-c.column) (cells_from c.loop-c.column cs))) (chars c.args.text.now) (length c.loop-c.yielded) (omega (arith, end.1)) in
     omega (arith, none, c.loop-c.invariant.measured)

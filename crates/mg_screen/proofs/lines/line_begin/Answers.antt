@@ -1,5 +1,5 @@
 use Rattle.std.proofs.Common.{◌-◌, ap, ◌∙◌, arith}
-use Rattle.mg_screen.specs.Lines.{column_of, line_of}
+use Rattle.mg_screen.specs.Lines.{column_of, line_index}
 use Rattle.mg_screen.proofs.PlaceLaws.{column_within, line_begin}
 use Rattle.mg_screen.proofs.lines.line_begin.Goals as goal
 
@@ -12,4 +12,4 @@ returns-clause-begins c =
 
 pub returns-clause-line : goal.returns-clause-line
 returns-clause-line c =
-    ap (λ k. line_of c.args.text.now (c.args.place - k)) c.column_of.ensures.exact ∙ (line_begin c.args.text.now c.args.place c.requires).same
+    ap (λ k. line_index c.args.text.now (c.args.place - k)) c.column_of.ensures.exact ∙ (line_begin c.args.text.now c.args.place c.requires).same

@@ -2,7 +2,7 @@ use Rattle.std.proofs.Common.{◌≡◌, ◌≤◌, length, map, arith, ap, ◌�
 use Rattle.std.proofs.lemmas.List.{length-map, take_all}
 use Rattle.mg_screen.specs.Layout.{Window}
 use Rattle.mg_workspace.specs.declared.viewport.Viewport.{Viewport}
-use Rattle.mg_workspace.specs.Showing.{placed, placed_window, pane_of, panes_of}
+use Rattle.mg_workspace.specs.Showing.{placed_windows, placed_window, pane_of, panes_of}
 use Rattle.mg_workspace.proofs.ShownWindows.{taken_on}
 use Rattle.mg_workspace.proofs.showing.placed_panes.Goals as goal
 
@@ -23,7 +23,7 @@ pub returns : goal.returns
 returns g c =
     let bs = c.args.buffers.now.all in
     let ws = c.args.windows.now.windows in
-    let panes = panes_of bs (placed bs c.args.windows.now) in
+    let panes = panes_of bs (placed_windows bs c.args.windows.now) in
     let tall = length-map ws (λ (w : Window Viewport). w.height) in
     let count : length panes ≡ length ws = length-map (map (placed_window bs) ws) (pane_of bs) ∙ length-map ws (placed_window bs) in
     let past : length panes ≤ c.loop-index.index = omega (arith, c.loop-index-test.false, ap length c.heights-index-end.ensures, tall, count) in

@@ -1,6 +1,6 @@
 use Rattle.std.proofs.Common.{◌≡◌, ◌∙◌, ◌++◌, ap, take, arith, refl}
 use Rattle.std.proofs.lemmas.List.{length-take}
-use Rattle.rga_lines.specs.Stream.{Splitting, holds}
+use Rattle.rga_lines.specs.Stream.{Splitting, splitting_with}
 use Rattle.rga_lines.proofs.SplitterLemmas.{fed_holds}
 use Rattle.rga_brief.proofs.HearingLaws.{heard_nothing, heard_lines, heard_piece, heard_to_end}
 use Rattle.rga_brief.proofs.hearing.hear_summary.Goals as goal
@@ -27,7 +27,7 @@ reads-preserved g c =
     let tracks = heard_lines g.R.Read.remaining c.args.reader.now c.reads.reader c.reads.claims.items c.take_claims.new.claims.items c.reads.splitter.waiting c.take_claims.new.splitter.waiting c.reads.invariant.heard (c.in_ok-number.ensures.all cc) in
     let none = c.in_ok-number.ensures.none_left cc in
     let piece = take c.in-Ok.count c.read.new.buf in
-    let now : c.feed.new.self ≡ holds (c.take_claims.new.splitter.waiting ++ piece) = fed_holds c.take_claims.new.splitter c.feed.new.self piece (c.in_ok-number.ensures.whole cc) c.in-Ok-feed.ensures.ok in
+    let now : c.feed.new.self ≡ splitting_with (c.take_claims.new.splitter.waiting ++ piece) = fed_holds c.take_claims.new.splitter c.feed.new.self piece (c.in_ok-number.ensures.whole cc) c.in-Ok-feed.ensures.ok in
     let waits = ap (λ (s : Splitting). s.waiting) now in
     let m = length-take c.in-Ok.count c.read.new.buf in
     record {

@@ -1,6 +1,6 @@
 use Rattle.std.proofs.Common.{◌≡◌, ◌∙◌, ◌+◌, ◌++◌, ℕ, List, Option, Some, None, Result, Ok, Err, drop, refl, sym, ap}
 use Rattle.std.proofs.lemmas.Result.{err_from_is_err_and}
-use Rattle.rga_lines.specs.Stream.{Splitting, lines_of, rest_of, holds}
+use Rattle.rga_lines.specs.Stream.{Splitting, lines_of, rest_of, splitting_with}
 use Rattle.rga_lines.specs.declared.fault.LineFault.TheVariants as line_fault
 use Rattle.rga_lines.proofs.SplitterLemmas.{GivesLine, passes_line, gives_up}
 use Rattle.rga_exchange.specs.declared.fault.ReceiveFault.{ReceiveFault}
@@ -27,7 +27,7 @@ pub returns-in_err-number-clause-fault : goal.returns-in_err-number-clause-fault
 returns-in_err-number-clause-fault c =
     let p = err_from_is_err_and c.from_residual.result c.from_residual.ensures.1 in
     let found = rw c.in-Ok-Some.field-0-is at c.in-Ok-Some.ensures.found in
-    let behind : Splitting = holds (drop (c.in-Ok-Some.end + 1) c.find_line.new.self.waiting) in
+    let behind : Splitting = splitting_with (drop (c.in-Ok-Some.end + 1) c.find_line.new.self.waiting) in
     let given : GivesLine c.lines.splitter behind c.line.result.now = passes_line c.lines.splitter c.find_line.new.self behind c.line.result.now c.in-Ok-Some.end c.lines.invariant.whole found.0 found.1 c.line.ensures refl in
     rw (p.1, p.2) (λ not_memory more.
     let f = c.in_err-number.ensures.fault not_memory in
@@ -47,7 +47,7 @@ not_ended number is = let clash : at_end number ≡ gone_on = is in cc
 pub returns-in-Some-clause-end : goal.returns-in-Some-clause-end
 returns-in-Some-clause-end c =
     let found = rw c.in-Ok-Some.field-0-is at c.in-Ok-Some.ensures.found in
-    let behind : Splitting = holds (drop (c.in-Ok-Some.end + 1) c.find_line.new.self.waiting) in
+    let behind : Splitting = splitting_with (drop (c.in-Ok-Some.end + 1) c.find_line.new.self.waiting) in
     let given : GivesLine c.lines.splitter behind c.line.result.now = passes_line c.lines.splitter c.find_line.new.self behind c.line.result.now c.in-Ok-Some.end c.lines.invariant.whole found.0 found.1 c.line.ensures refl in
     λ number is more.
     c.lines.invariant.same more

@@ -2,7 +2,7 @@ use Rattle.std.proofs.Common.{◌≡◌, ◌∙◌, ◌+◌, ◌++◌, ℕ, Opti
 use Rattle.std.proofs.lemmas.Result.{err_from_is_err_and}
 use Rattle.rga_ops.specs.Content.{Content}
 use Rattle.rga_lines.specs.Table.{any_line_at}
-use Rattle.rga_lines.specs.Stream.{Splitting, lines_of, rest_of, holds}
+use Rattle.rga_lines.specs.Stream.{Splitting, lines_of, rest_of, splitting_with}
 use Rattle.rga_lines.specs.declared.fault.LineFault.TheVariants as line_fault
 use Rattle.rga_lines.proofs.SplitterLemmas.{GivesLine, passes_line, gives_up}
 use Rattle.rga_exchange.specs.declared.fault.LogFault.{LogFault}
@@ -23,7 +23,7 @@ returns-in_err-number-clause-fault g c =
     let held : Content = g.T.Taker.content c.lines.taker in
     let e = c.in_err-number.field-0.0 in
     let found = rw c.in-Ok-Some.field-0-is at c.in-Ok-Some.ensures.found in
-    let behind : Splitting = holds (drop (c.in-Ok-Some.end + 1) c.find_line.new.self.waiting) in
+    let behind : Splitting = splitting_with (drop (c.in-Ok-Some.end + 1) c.find_line.new.self.waiting) in
     let given : GivesLine c.lines.splitter behind c.line.result.now = passes_line c.lines.splitter c.find_line.new.self behind c.line.result.now c.in-Ok-Some.end c.lines.invariant.whole found.0 found.1 c.line.ensures refl in
     rw (p.1, p.2) (λ not_memory more.
     takes_after _ _ _ _ _ _ _ _ c.lines.invariant.up_to.takes more
@@ -35,7 +35,7 @@ pub returns-in-Some-clause-end : goal.returns-in-Some-clause-end
 returns-in-Some-clause-end g c =
     let held : Content = g.T.Taker.content c.lines.taker in
     let found = rw c.in-Ok-Some.field-0-is at c.in-Ok-Some.ensures.found in
-    let behind : Splitting = holds (drop (c.in-Ok-Some.end + 1) c.find_line.new.self.waiting) in
+    let behind : Splitting = splitting_with (drop (c.in-Ok-Some.end + 1) c.find_line.new.self.waiting) in
     let given : GivesLine c.lines.splitter behind c.line.result.now = passes_line c.lines.splitter c.find_line.new.self behind c.line.result.now c.in-Ok-Some.end c.lines.invariant.whole found.0 found.1 c.line.ensures refl in
     λ number is more.
     let ended = c.in_ok-number.ensures.end number (ap Ok c.in-Some.is ∙ is) in

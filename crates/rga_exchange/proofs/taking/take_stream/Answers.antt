@@ -3,7 +3,7 @@ use Rattle.std.proofs.lemmas.Bool.{lt-ltb}
 use Rattle.std.proofs.lemmas.Result.{err_from_is_err_and}
 use Rattle.std.proofs.lemmas.List.{length-take}
 use Rattle.rga_lines.specs.Counting.{IsReadToEnd}
-use Rattle.rga_lines.specs.Stream.{Splitting, holds}
+use Rattle.rga_lines.specs.Stream.{Splitting, splitting_with}
 use Rattle.rga_lines.proofs.SplitterLemmas.{fed_holds}
 use Rattle.rga_exchange.proofs.ReadLaws.{read_nothing, read_lines, read_piece, read_all, read_end, read_fault, whole_lines, all_but_rest, first_lines, first_of_whole}
 use Rattle.rga_exchange.proofs.taking.take_stream.Goals as goal
@@ -60,7 +60,7 @@ reads-preserved g c =
     let none = c.in_ok-number.ensures.none_left cc in
     let room = c.in_ok-number.ensures.room cc in
     let piece = take c.in-Ok.count c.read.new.buf in
-    let now : c.feed.new.self ≡ holds (c.take_lines.new.splitter.waiting ++ piece) = fed_holds c.take_lines.new.splitter c.feed.new.self piece (c.in_ok-number.ensures.whole cc) c.in-Ok-feed.ensures.ok in
+    let now : c.feed.new.self ≡ splitting_with (c.take_lines.new.splitter.waiting ++ piece) = fed_holds c.take_lines.new.splitter c.feed.new.self piece (c.in_ok-number.ensures.whole cc) c.in-Ok-feed.ensures.ok in
     let waits = ap (λ (s : Splitting). s.waiting) now in
     let k = length-append c.take_lines.new.splitter.waiting piece in
     let m = length-take c.in-Ok.count c.read.new.buf in

@@ -7,8 +7,8 @@ use Rattle.rga_ops.specs.declared.refusal.Taken.TheVariants.{New}
 use Rattle.rga_ops.proofs.AnswerLaws.{ok}
 use Rattle.rga_store.specs.Kept.{Kept}
 use Rattle.rga_sequence.specs.declared.entry.Entry.{Entry}
-use Rattle.rga_records.specs.Chains.{last_of}
-use Rattle.rga_records.proofs.NewerLaws.{last_of-push}
+use Rattle.rga_records.specs.Chains.{last_entry_of}
+use Rattle.rga_records.proofs.NewerLaws.{last_entry_of-push}
 use Rattle.rga_flat.specs.Chains.{IsGathered, ChainShows}
 use Rattle.rga_flat.proofs.ChainLaws.{gathered_next, shows_more, own_proper, own_above}
 use Rattle.rga_flat.proofs.chains.gather_each.Goals as goal
@@ -57,7 +57,7 @@ loop-op-preserved c =
       shows = subst (λ xs. ChainShows c.args.records.now.content now c.args.parent xs c.args.waiting.now) (sym c.in_ok-add.ensures.entries)
           (shows_more c.loop-op.records.limit was now c.loop-op.last e sound c.known-now.ensures.sound answered joined c.loop-op.invariant.above
           c.args.waiting.now c.in-Some.ensures.deleted c.in-Some.ensures.unlisted c.args.records.now.content c.args.parent es c.loop-op.invariant.last c.loop-op.invariant.proper c.loop-op.invariant.shows);
-      last = sym (ap (last_of c.args.parent) c.in_ok-add.ensures.entries ∙ last_of-push c.args.parent es e);
+      last = sym (ap (last_entry_of c.args.parent) c.in_ok-add.ensures.entries ∙ last_entry_of-push c.args.parent es e);
       proper = λ some. own_proper c.loop-op.records.limit was now c.loop-op.last e sound c.known-now.ensures.sound answered joined c.loop-op.invariant.above;
       above = own_above c.loop-op.records.limit was now c.loop-op.last e sound c.known-now.ensures.sound answered joined c.loop-op.invariant.above;
       room = c.add.ensures.capacity ∙ c.loop-op.invariant.room;

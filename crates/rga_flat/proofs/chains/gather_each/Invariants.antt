@@ -3,7 +3,7 @@ use Rattle.rga_ops.specs.Identifier.{is_root}
 use Rattle.rga_sequence.specs.declared.putting.TheConstants.{MOST_AT_ONCE}
 use Rattle.rga_flat.specs.Chains.{IsGathered, ChainShows}
 use Rattle.rga_flat.specs.Flat.{is_above}
-use Rattle.rga_records.specs.Chains.{last_of}
+use Rattle.rga_records.specs.Chains.{last_entry_of}
 use Rattle.rga_flat.proofs.chains.gather_each.Given as goal
 
 -- the first operations lead to the content, and the last one's identifier is above what follows
@@ -13,7 +13,7 @@ invariant-loop-op l = record {
   few : length l.entries.items ≤ MOST_AT_ONCE;
   gathered : IsGathered l.initial.records.limit l.initial.records.content l.records.content (take (length l.entries.items) l.ops) l.initial.steps.items l.steps.items;
   shows : ChainShows l.initial.records.content l.records.content l.fn.parent l.entries.items l.waiting;
-  last : l.last ≡ last_of l.fn.parent l.entries.items;
+  last : l.last ≡ last_entry_of l.fn.parent l.entries.items;
   proper : 0 < length l.entries.items → is_root l.last ≡ false;
   above : is_above l.records.content l.last ≡ true;
   room : vec_capacity l.entries ≡ vec_capacity l.initial.entries;

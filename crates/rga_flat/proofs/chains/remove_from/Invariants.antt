@@ -1,12 +1,12 @@
 use Rattle.std.proofs.Common.{◌≡◌, length, take, drop}
-use Rattle.rga_flat.specs.Back.{gone_back, CanGoBack}
+use Rattle.rga_flat.specs.Back.{without_noted, CanTakeBack}
 use Rattle.rga_flat.proofs.chains.remove_from.Given as goal
 
 -- the steps from one on lead where all of them do
 abbrev pub invariant-loop-steps : goal.invariant-loop-steps
 invariant-loop-steps l = record {
-  back : CanGoBack l.steps.items l.records.content;
-  gone : gone_back (drop l.from l.steps.items) l.records.content ≡ gone_back (drop l.from l.initial.steps.items) l.initial.records.content;
+  back : CanTakeBack l.steps.items l.records.content;
+  gone : without_noted (drop l.from l.steps.items) l.records.content ≡ without_noted (drop l.from l.initial.steps.items) l.initial.records.content;
   kept : take l.from l.steps.items ≡ take l.from l.initial.steps.items;
   limit : l.records.limit ≡ l.initial.records.limit;
 }

@@ -8,8 +8,8 @@ use Rattle.rga_ops.specs.declared.refusal.Taken.TheVariants.{New}
 use Rattle.rga_ops.proofs.AnswerLaws.{ok}
 use Rattle.rga_store.specs.Counted.{IsCounted}
 use Rattle.rga_sequence.specs.declared.entry.Entry.{Entry}
-use Rattle.rga_records.specs.Chains.{grown, last_of, AreNewer}
-use Rattle.rga_records.proofs.NewerLaws.{newer_is_new, newer_unmarked, grown-push, newer-push, last_of-push, counted_newer, counted_as}
+use Rattle.rga_records.specs.Chains.{grown, last_entry_of, AreNewer}
+use Rattle.rga_records.proofs.NewerLaws.{newer_is_new, newer_unmarked, grown-push, newer-push, last_entry_of-push, counted_newer, counted_as}
 use Rattle.rga_flat.specs.Chains.{IsGathered, ChainShows}
 use Rattle.rga_flat.specs.Flat.{is_above}
 use Rattle.rga_flat.proofs.ChainLaws.{gathered_next, shows_more, own_proper, own_above}
@@ -56,7 +56,7 @@ loop-op-preserved c =
           subst (λ xs. IsGathered limit base (grown base c.args.parent xs) (take (length xs) c.args.ops.now) c.args.steps.now.items c.note.new.steps.items) (sym pushed)
           (subst (λ n. IsGathered limit base now (take n c.args.ops.now) c.args.steps.now.items c.note.new.steps.items) (sym many) gathered);
       shows = subst (λ xs. ChainShows base (grown base c.args.parent xs) c.args.parent xs c.args.waiting.now) (sym pushed) shows;
-      last = sym (ap (last_of c.args.parent) pushed ∙ last_of-push c.args.parent es e);
+      last = sym (ap (last_entry_of c.args.parent) pushed ∙ last_entry_of-push c.args.parent es e);
       proper = λ some. own_proper limit was now c.loop-op.last e counted.sound later.sound answered joined c.loop-op.invariant.above;
       above = subst (λ xs. is_above (grown base c.args.parent xs) e.id ≡ true) (sym pushed) (own_above limit was now c.loop-op.last e counted.sound later.sound answered joined c.loop-op.invariant.above);
       room = c.push_reserved.ensures.capacity ∙ c.loop-op.invariant.room;

@@ -3,7 +3,7 @@ use Rattle.std.specs.FinMap as finite_map
 use Rattle.rga_ops.specs.Identifier.{is_root}
 use Rattle.rga_ops.specs.Content.{known_count}
 use Rattle.rga_store.specs.Counted.{IsCounted}
-use Rattle.rga_records.specs.Chains.{grown, last_of, AreNewer}
+use Rattle.rga_records.specs.Chains.{grown, last_entry_of, AreNewer}
 use Rattle.rga_flat.specs.Chains.{IsGathered, ChainShows}
 use Rattle.rga_flat.specs.Flat.{is_above}
 use Rattle.rga_flat.proofs.newer.scan.Given as goal
@@ -17,7 +17,7 @@ invariant-loop-op l = record {
   counted : IsCounted (grown l.records.content l.fn.parent l.entries.items) l.clock (finite_map.len (grown l.records.content l.fn.parent l.entries.items).inserted) (known_count l.records.content + length l.entries.items) l.records.limit;
   gathered : IsGathered l.records.limit l.records.content (grown l.records.content l.fn.parent l.entries.items) (take (length l.entries.items) l.ops) l.initial.steps.items l.steps.items;
   shows : ChainShows l.records.content (grown l.records.content l.fn.parent l.entries.items) l.fn.parent l.entries.items l.waiting;
-  last : l.last ≡ last_of l.fn.parent l.entries.items;
+  last : l.last ≡ last_entry_of l.fn.parent l.entries.items;
   proper : 0 < length l.entries.items → is_root l.last ≡ false;
   above : is_above (grown l.records.content l.fn.parent l.entries.items) l.last ≡ true;
   room : vec_capacity l.entries ≡ vec_capacity l.initial.entries;

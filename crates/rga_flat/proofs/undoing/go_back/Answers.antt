@@ -2,12 +2,12 @@ use Rattle.std.proofs.Common.{◌≡◌, [], ◌++◌, ◌-◌, take, refl, sym,
 use Rattle.std.specs.BTreeSet.{contains}
 use Rattle.rga_ops.specs.Identifier.{id_cmp}
 use Rattle.rga_ops.specs.Content.{Content, IsWithin}
-use Rattle.rga_store.specs.Without.{without}
-use Rattle.rga_flat.specs.Back.{gone_back, CanGoBack, IsLastStep}
+use Rattle.rga_store.specs.Without.{without_operation}
+use Rattle.rga_flat.specs.Back.{without_noted, CanTakeBack, IsLastNoted}
 use Rattle.rga_flat.specs.Flat.{IsFlat}
 use Rattle.rga_flat.specs.Undo.{IsGoingBack}
 use Rattle.rga_flat.specs.Waiting.{under, has_list, is_listed}
-use Rattle.rga_flat.proofs.BackLaws.{last_step, gone_back-push, gone_within, going_undone, gone_there}
+use Rattle.rga_flat.proofs.BackLaws.{last_step, without_noted-push, gone_within, going_undone, gone_there}
 use Rattle.rga_flat.proofs.UndoLaws.{going_start}
 use Rattle.rga_flat.proofs.undoing.go_back.Goals as goal
 
@@ -16,37 +16,37 @@ loop-step-init c = record {
   limit = refl;
   left = c.requires.back;
   start = refl;
-  going = subst (λ es. IsGoingBack c.args.records.now.content (gone_back c.args.steps.items c.args.records.now.content) c.args.records.now.content es (under c.args.waiting.now) (has_list c.args.waiting.now) (contains id_cmp c.args.done.now))
+  going = subst (λ es. IsGoingBack c.args.records.now.content (without_noted c.args.steps.items c.args.records.now.content) c.args.records.now.content es (under c.args.waiting.now) (has_list c.args.waiting.now) (contains id_cmp c.args.done.now))
       (sym c.take_out_all.ensures)
-      (going_start c.args.records.now.content (gone_back c.args.steps.items c.args.records.now.content) c.args.sequence.now (under c.args.waiting.now) (is_listed c.args.waiting.now c.requires.returnable.settled) (has_list c.args.waiting.now) (contains id_cmp c.args.done.now)
+      (going_start c.args.records.now.content (without_noted c.args.steps.items c.args.records.now.content) c.args.sequence.now (under c.args.waiting.now) (is_listed c.args.waiting.now c.requires.returnable.settled) (has_list c.args.waiting.now) (contains id_cmp c.args.done.now)
       c.requires.returnable.flat c.requires.returnable.based);
 }
 
 pub undo-requires-clause-held : goal.undo-requires-clause-held
 undo-requires-clause-held c =
-    (last_step c.pop.new.self.items c.in-Some.step c.loop-step.records.content (subst (λ ss. CanGoBack ss c.loop-step.records.content) c.in-Some.ensures.items c.loop-step.invariant.left)).held
+    (last_step c.pop.new.self.items c.in-Some.step c.loop-step.records.content (subst (λ ss. CanTakeBack ss c.loop-step.records.content) c.in-Some.ensures.items c.loop-step.invariant.left)).held
 
 pub undo-requires-clause-clock : goal.undo-requires-clause-clock
 undo-requires-clause-clock c =
-    (last_step c.pop.new.self.items c.in-Some.step c.loop-step.records.content (subst (λ ss. CanGoBack ss c.loop-step.records.content) c.in-Some.ensures.items c.loop-step.invariant.left)).clocked
+    (last_step c.pop.new.self.items c.in-Some.step c.loop-step.records.content (subst (λ ss. CanTakeBack ss c.loop-step.records.content) c.in-Some.ensures.items c.loop-step.invariant.left)).clocked
 
 pub loop-step-preserved : goal.loop-step-preserved
 loop-step-preserved c =
-    let was_last : IsLastStep c.pop.new.self.items c.in-Some.step.op.now c.in-Some.step.clock c.loop-step.records.content =
-    last_step c.pop.new.self.items c.in-Some.step c.loop-step.records.content (subst (λ ss. CanGoBack ss c.loop-step.records.content) c.in-Some.ensures.items c.loop-step.invariant.left) in
-    let base : Content = gone_back c.args.steps.items c.args.records.now.content in
-    let then : gone_back c.pop.new.self.items (without c.in-Some.step.op.now c.loop-step.records.content) ≡ base =
-    sym (gone_back-push c.pop.new.self.items c.in-Some.step c.loop-step.records.content)
-    ∙ ap (λ ss. gone_back ss c.loop-step.records.content) (sym c.in-Some.ensures.items) ∙ c.loop-step.invariant.start in
+    let was_last : IsLastNoted c.pop.new.self.items c.in-Some.step.op.now c.in-Some.step.clock c.loop-step.records.content =
+    last_step c.pop.new.self.items c.in-Some.step c.loop-step.records.content (subst (λ ss. CanTakeBack ss c.loop-step.records.content) c.in-Some.ensures.items c.loop-step.invariant.left) in
+    let base : Content = without_noted c.args.steps.items c.args.records.now.content in
+    let then : without_noted c.pop.new.self.items (without_operation c.in-Some.step.op.now c.loop-step.records.content) ≡ base =
+    sym (without_noted-push c.pop.new.self.items c.in-Some.step c.loop-step.records.content)
+    ∙ ap (λ ss. without_noted ss c.loop-step.records.content) (sym c.in-Some.ensures.items) ∙ c.loop-step.invariant.start in
     record {
       limit = c.undo.ensures.limit ∙ c.loop-step.invariant.limit;
-      left = subst (λ d. CanGoBack c.pop.new.self.items d) (sym c.undo.ensures.content) was_last.rest;
-      start = ap (gone_back c.pop.new.self.items) c.undo.ensures.content ∙ then;
+      left = subst (λ d. CanTakeBack c.pop.new.self.items d) (sym c.undo.ensures.content) was_last.rest;
+      start = ap (without_noted c.pop.new.self.items) c.undo.ensures.content ∙ then;
       going = subst (λ d. IsGoingBack c.args.records.now.content base d c.undo.new.sequence (under c.undo.new.waiting) (has_list c.undo.new.waiting) (contains id_cmp c.args.done.now)) (sym c.undo.ensures.content)
-          (subst (λ es. IsGoingBack c.args.records.now.content base (without c.in-Some.step.op.now c.loop-step.records.content) es (under c.undo.new.waiting) (has_list c.undo.new.waiting) (contains id_cmp c.args.done.now)) (sym c.undo.ensures.entries)
+          (subst (λ es. IsGoingBack c.args.records.now.content base (without_operation c.in-Some.step.op.now c.loop-step.records.content) es (under c.undo.new.waiting) (has_list c.undo.new.waiting) (contains id_cmp c.args.done.now)) (sym c.undo.ensures.entries)
           (going_undone c.in-Some.step.op.now c.args.records.now.content base c.loop-step.records.content c.loop-step.sequence (under c.loop-step.waiting) (under c.undo.new.waiting) (has_list c.loop-step.waiting) (has_list c.undo.new.waiting) (contains id_cmp c.args.done.now)
           c.loop-step.invariant.going was_last.held
-          (subst (λ d. IsWithin d (without c.in-Some.step.op.now c.loop-step.records.content)) then (gone_within c.pop.new.self.items (without c.in-Some.step.op.now c.loop-step.records.content)))
+          (subst (λ d. IsWithin d (without_operation c.in-Some.step.op.now c.loop-step.records.content)) then (gone_within c.pop.new.self.items (without_operation c.in-Some.step.op.now c.loop-step.records.content)))
           c.undo.ensures.under c.undo.ensures.lists));
     }
 
@@ -54,14 +54,14 @@ pub returns-clause-content : goal.returns-clause-content
 returns-clause-content c =
     let none : c.loop-step.steps.items ≡ [] =
     c.in_default.ensures.items ∙ ap (λ xs. xs ++ []) (c.in_default.ensures.rest ∙ ap (λ n. take (n - 1) c.loop-step.steps.items) c.in_default.ensures.cases.0) in
-    sym (ap (λ ss. gone_back ss c.loop-step.records.content) none) ∙ c.loop-step.invariant.start
+    sym (ap (λ ss. without_noted ss c.loop-step.records.content) none) ∙ c.loop-step.invariant.start
 
 pub returns-clause-flat : goal.returns-clause-flat
 returns-clause-flat c =
     let none : c.loop-step.steps.items ≡ [] =
     c.in_default.ensures.items ∙ ap (λ xs. xs ++ []) (c.in_default.ensures.rest ∙ ap (λ n. take (n - 1) c.loop-step.steps.items) c.in_default.ensures.cases.0) in
-    let base : Content = gone_back c.args.steps.items c.args.records.now.content in
-    let there : c.loop-step.records.content ≡ base = sym (ap (λ ss. gone_back ss c.loop-step.records.content) none) ∙ c.loop-step.invariant.start in
+    let base : Content = without_noted c.args.steps.items c.args.records.now.content in
+    let there : c.loop-step.records.content ≡ base = sym (ap (λ ss. without_noted ss c.loop-step.records.content) none) ∙ c.loop-step.invariant.start in
     subst (λ d. IsFlat d c.loop-step.sequence (under c.loop-step.waiting) (has_list c.loop-step.waiting)) (sym there)
     (gone_there c.args.records.now.content base c.args.sequence.now c.args.waiting.now c.args.done.now c.requires.returnable c.loop-step.sequence (under c.loop-step.waiting) (has_list c.loop-step.waiting)
     (subst (λ d. IsGoingBack c.args.records.now.content base d c.loop-step.sequence (under c.loop-step.waiting) (has_list c.loop-step.waiting) (contains id_cmp c.args.done.now)) there c.loop-step.invariant.going))

@@ -1,7 +1,7 @@
 use Rattle.std.proofs.Common.{◌≡◌}
 use Rattle.std.specs.BTreeSet.{contains}
 use Rattle.rga_ops.specs.Identifier.{id_cmp}
-use Rattle.rga_flat.specs.Back.{gone_back, CanGoBack}
+use Rattle.rga_flat.specs.Back.{without_noted, CanTakeBack}
 use Rattle.rga_flat.specs.Undo.{IsGoingBack}
 use Rattle.rga_flat.specs.Waiting.{under, has_list}
 use Rattle.rga_flat.proofs.undoing.go_back.Given as goal
@@ -10,9 +10,9 @@ use Rattle.rga_flat.proofs.undoing.go_back.Given as goal
 abbrev pub invariant-loop-step : goal.invariant-loop-step
 invariant-loop-step l = record {
   limit : l.records.limit ≡ l.initial.records.limit;
-  left : CanGoBack l.steps.items l.records.content;
-  start : gone_back l.steps.items l.records.content ≡ gone_back l.initial.steps.items l.initial.records.content;
-  going : IsGoingBack l.initial.records.content (gone_back l.initial.steps.items l.initial.records.content) l.records.content l.sequence (under l.waiting) (has_list l.waiting) (contains id_cmp l.done);
+  left : CanTakeBack l.steps.items l.records.content;
+  start : without_noted l.steps.items l.records.content ≡ without_noted l.initial.steps.items l.initial.records.content;
+  going : IsGoingBack l.initial.records.content (without_noted l.initial.steps.items l.initial.records.content) l.records.content l.sequence (under l.waiting) (has_list l.waiting) (contains id_cmp l.done);
 }
 
 abbrev pub decreases-loop-step : goal.decreases-loop-step

@@ -6,8 +6,8 @@ use Rattle.rga_ops.proofs.ContentLaws.{within_join}
 use Rattle.rga_ops.specs.declared.op.Op.{Op}
 use Rattle.rga_ops.specs.declared.refusal.Taken.TheVariants.{New}
 use Rattle.rga_ops.specs.declared.refusal.Refusal.TheVariants.{Memory}
-use Rattle.rga_flat.specs.Back.{gone_back, CanGoBack}
-use Rattle.rga_flat.proofs.BackLaws.{gone_back-push, one_step_more, without_taken, last_taken, inserted_later}
+use Rattle.rga_flat.specs.Back.{without_noted, CanTakeBack}
+use Rattle.rga_flat.proofs.BackLaws.{without_noted-push, one_step_more, without_taken, last_taken, inserted_later}
 use Rattle.rga_flat.proofs.whole_list.take_noted.Goals as goal
 
 -- what is answered, unless memory is wanting, was that it is new
@@ -18,19 +18,19 @@ pub returns-in-New-clause-steps : goal.returns-in-New-clause-steps
 returns-in-New-clause-steps c =
     let is_new : c.take.result ≡ ok New = c.in_ok-take.was ∙ ap ok c.in-New.is in
     let answered = was_new c.args.records.now.limit c.args.records.now.content c.args.op.now c.take.result is_new c.take.ensures.exact in
-    subst (λ ss. CanGoBack ss c.take.new.records.content) (sym c.note.ensures.noted)
+    subst (λ ss. CanTakeBack ss c.take.new.records.content) (sym c.note.ensures.noted)
     (one_step_more c.reserve.new.self.items (record { op = c.args.op; clock = c.clock-clock.result }) c.take.new.records.content
     (last_taken c.args.records.now.limit c.args.records.now.content c.take.new.records.content c.args.op.now answered (c.take.ensures.new is_new) c.reserve.new.self.items c.clock-clock.result c.clock-clock.ensures
-    (subst (λ ss. CanGoBack ss c.args.records.now.content) (sym c.in_ok-reserve.ensures.items) c.requires.back)))
+    (subst (λ ss. CanTakeBack ss c.args.records.now.content) (sym c.in_ok-reserve.ensures.items) c.requires.back)))
 
 pub returns-in-New-clause-start : goal.returns-in-New-clause-start
 returns-in-New-clause-start c =
     let is_new : c.take.result ≡ ok New = c.in_ok-take.was ∙ ap ok c.in-New.is in
     let answered = was_new c.args.records.now.limit c.args.records.now.content c.args.op.now c.take.result is_new c.take.ensures.exact in
-    ap (λ ss. gone_back ss c.take.new.records.content) c.note.ensures.noted
-    ∙ gone_back-push c.reserve.new.self.items (record { op = c.args.op; clock = c.clock-clock.result }) c.take.new.records.content
-    ∙ ap (gone_back c.reserve.new.self.items) (without_taken c.args.records.now.limit c.args.records.now.content c.take.new.records.content c.args.op.now answered (c.take.ensures.new is_new))
-    ∙ ap (λ ss. gone_back ss c.args.records.now.content) c.in_ok-reserve.ensures.items
+    ap (λ ss. without_noted ss c.take.new.records.content) c.note.ensures.noted
+    ∙ without_noted-push c.reserve.new.self.items (record { op = c.args.op; clock = c.clock-clock.result }) c.take.new.records.content
+    ∙ ap (without_noted c.reserve.new.self.items) (without_taken c.args.records.now.limit c.args.records.now.content c.take.new.records.content c.args.op.now answered (c.take.ensures.new is_new))
+    ∙ ap (λ ss. without_noted ss c.args.records.now.content) c.in_ok-reserve.ensures.items
 
 pub returns-in-New-clause-inserted : goal.returns-in-New-clause-inserted
 returns-in-New-clause-inserted c = λ p t.

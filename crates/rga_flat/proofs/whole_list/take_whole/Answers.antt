@@ -4,7 +4,7 @@ use Rattle.std.specs.BTreeSet.{contains}
 use Rattle.rga_ops.specs.Identifier.{id_cmp}
 use Rattle.rga_ops.specs.Content.{Content}
 use Rattle.rga_ops.specs.Answer.{taken_one_by_one}
-use Rattle.rga_flat.specs.Back.{gone_back, CanGoBack}
+use Rattle.rga_flat.specs.Back.{without_noted, CanTakeBack}
 use Rattle.rga_flat.specs.Undo.{IsReturnable}
 use Rattle.rga_flat.specs.Waiting.{under, has_list, is_listed}
 use Rattle.rga_flat.proofs.WaitingLaws.{none_done, listed_none, unlisted_done}
@@ -17,8 +17,8 @@ loop-index-init c = record {
   within = omega arith;
   limit = refl;
   rest = refl;
-  back = subst (λ ss. CanGoBack ss c.args.records.now.content) (sym c.in_ok-steps.ensures.items) tt;
-  start = ap (λ ss. gone_back ss c.args.records.now.content) c.in_ok-steps.ensures.items;
+  back = subst (λ ss. CanTakeBack ss c.args.records.now.content) (sym c.in_ok-steps.ensures.items) tt;
+  start = ap (λ ss. without_noted ss c.args.records.now.content) c.in_ok-steps.ensures.items;
   flat = flat_marked c.args.records.now.content c.args.sequence.now (under c.args.waiting.now) (has_list c.args.waiting.now) (is_listed c.args.waiting.now c.new-done.result)
       (λ p. sym (listed_none c.args.waiting.now c.new-done.result c.new-done.ensures.empty p)) c.requires;
   based = based_self c.args.records.now.content c.args.sequence.now (under c.args.waiting.now) (has_list c.args.waiting.now) c.requires;

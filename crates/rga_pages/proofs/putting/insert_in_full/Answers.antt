@@ -1,7 +1,7 @@
 use Rattle.std.proofs.Common.{◌≡◌, ◌≤◌, ◌<◌, [], List, length, slice_index_or, ap, ◌∙◌, subst, arith}
 use Rattle.std.specs.BTreeMap.{insert_entry}
 use Rattle.rga_ops.specs.Identifier.{id_cmp}
-use Rattle.rga_pages.specs.Pages.{Entries, flat}
+use Rattle.rga_pages.specs.Pages.{Entries, entries_in}
 use Rattle.rga_pages.proofs.PlaceLaws.{page_at, index_within, on_err_always}
 use Rattle.rga_pages.proofs.SpotLaws.{own_spot, record_none, inserted_pages}
 use Rattle.rga_pages.proofs.putting.insert_in_full.Goals as goal
@@ -18,7 +18,7 @@ returns-in_err-put_own-clause-absent c =
     on_err_always c.from_residual.result
     (record_none c.args.pages.now.items c.args.at.page c.args.at.index c.args.id [] (subst (λ n. c.args.at.page < n) c.args.pages.now.ok.0 c.requires.page) c.requires.spot c.requires.kept.ordered)
 
-own_is : (c : goal.After-struct_known-then-at-entries-1) → flat c.put_own.new.pages.items ≡ insert_entry id_cmp (flat c.args.pages.now.items) c.args.id c.args.value
+own_is : (c : goal.After-struct_known-then-at-entries-1) → entries_in c.put_own.new.pages.items ≡ insert_entry id_cmp (entries_in c.args.pages.now.items) c.args.id c.args.value
 own_is c =
     own_spot c.args.pages.now.items c.args.at.page c.args.at.index c.args.id [] (subst (λ n. c.args.at.page < n) c.args.pages.now.ok.0 c.requires.page) c.requires.spot
     c.args.value c.put_own.new.pages.items c.in_ok-put_own.ensures.ok

@@ -1,15 +1,15 @@
 use Rattle.std.proofs.Common.{◌≡◌, ◌<◌, List, length, slice_set, sym, ap, ◌∙◌, subst}
 use Rattle.std.specs.BTreeMap.{insert_entry}
 use Rattle.rga_ops.specs.Identifier.{id_cmp}
-use Rattle.rga_pages.specs.Pages.{Entries, flat}
+use Rattle.rga_pages.specs.Pages.{Entries, entries_in}
 use Rattle.rga_pages.proofs.PlaceLaws.{filled_at, filled_set, length_set}
 use Rattle.rga_pages.proofs.SpotLaws.{set_spot, set_is, inserted_pages}
 use Rattle.rga_pages.proofs.putting.overwrite.Goals as goal
 
-inserted : (c : goal.After-pages-1) → flat (slice_set c.args.pages.now.items c.args.at.page c.set.new.self) ≡ insert_entry id_cmp (flat c.args.pages.now.items) c.args.id c.args.value
+inserted : (c : goal.After-pages-1) → entries_in (slice_set c.args.pages.now.items c.args.at.page c.set.new.self) ≡ insert_entry id_cmp (entries_in c.args.pages.now.items) c.args.id c.args.value
 inserted c =
     let ps : List Entries = c.args.pages.now.items in
-    ap (λ y. flat (slice_set ps c.args.at.page y)) (c.set.ensures ∙ ap (λ y. slice_set y c.args.at.index (c.args.id, c.args.value)) c.index_mut.ensures.value)
+    ap (λ y. entries_in (slice_set ps c.args.at.page y)) (c.set.ensures ∙ ap (λ y. slice_set y c.args.at.index (c.args.id, c.args.value)) c.index_mut.ensures.value)
     ∙ set_spot ps c.args.at.page c.args.at.index c.args.id c.index_mut.result.now (subst (λ n. c.args.at.page < n) c.args.pages.now.ok.0 c.requires.page) c.requires.spot c.args.value
 
 pub returns-clause-inserted : goal.returns-clause-inserted
@@ -18,7 +18,7 @@ returns-clause-inserted c = inserted c
 pub returns-clause-replaced : goal.returns-clause-replaced
 returns-clause-replaced c =
     let ps : List Entries = c.args.pages.now.items in
-    ap (λ y. flat (slice_set ps c.args.at.page y)) (c.set.ensures ∙ ap (λ y. slice_set y c.args.at.index (c.args.id, c.args.value)) c.index_mut.ensures.value)
+    ap (λ y. entries_in (slice_set ps c.args.at.page y)) (c.set.ensures ∙ ap (λ y. slice_set y c.args.at.index (c.args.id, c.args.value)) c.index_mut.ensures.value)
     ∙ set_is ps c.args.at.page c.args.at.index c.args.id c.index_mut.result.now (subst (λ n. c.args.at.page < n) c.args.pages.now.ok.0 c.requires.page) c.requires.spot c.args.value
 
 pub returns-clause-kept : goal.returns-clause-kept

@@ -2,7 +2,7 @@ use Rattle.std.proofs.Common.{◌≡◌, ℕ, ◌≤◌, ◌<◌, [], List, leng
 use Rattle.std.specs.Prelude.{insert}
 use Rattle.std.specs.BTreeMap.{insert_entry}
 use Rattle.rga_ops.specs.Identifier.{id_cmp}
-use Rattle.rga_pages.specs.Pages.{Entries, flat, ArePages, IsSpot}
+use Rattle.rga_pages.specs.Pages.{Entries, entries_in, ArePages, IsSpot}
 use Rattle.rga_pages.proofs.PlaceLaws.{index_within, filled_set, insert_some, set_same, on_ok_map, on_err_always, either_way}
 use Rattle.rga_pages.proofs.SpotLaws.{put_spot, record_none, inserted_pages}
 use Rattle.rga_pages.proofs.putting.write.Goals as goal
@@ -12,16 +12,16 @@ put-requires c =
     subst (λ y. c.args.at.index ≤ length y) (sym c.index_mut.ensures.value)
     (index_within c.args.pages.now.items c.args.at.page c.args.at.index c.index_mut.result.now c.requires.spot.place)
 
-put_is : (c : goal.After-pages-1) → flat (slice_set c.args.pages.now.items c.args.at.page (insert c.index_mut.result.now c.args.at.index (c.args.id, c.args.value))) ≡ insert_entry id_cmp (flat c.args.pages.now.items) c.args.id c.args.value
+put_is : (c : goal.After-pages-1) → entries_in (slice_set c.args.pages.now.items c.args.at.page (insert c.index_mut.result.now c.args.at.index (c.args.id, c.args.value))) ≡ insert_entry id_cmp (entries_in c.args.pages.now.items) c.args.id c.args.value
 put_is c =
     let ps : List Entries = c.args.pages.now.items in
-    ap (λ y. flat (slice_set ps c.args.at.page (insert y c.args.at.index (c.args.id, c.args.value)))) c.index_mut.ensures.value
+    ap (λ y. entries_in (slice_set ps c.args.at.page (insert y c.args.at.index (c.args.id, c.args.value)))) c.index_mut.ensures.value
     ∙ put_spot ps c.args.at.page c.args.at.index c.args.id c.index_mut.result.now (subst (λ n. c.args.at.page < n) c.args.pages.now.ok.0 c.requires.page)
     (subst (λ b. IsSpot ps c.args.at.page c.args.at.index b c.args.id) c.if-at.false c.requires.spot) c.args.value
 
 pub returns-clause-ok : goal.returns-clause-ok
 returns-clause-ok c =
-    on_ok_map c.put.result (λ e. ap (λ y. flat (slice_set c.args.pages.now.items c.args.at.page y)) e ∙ put_is c) c.put.ensures.ok
+    on_ok_map c.put.result (λ e. ap (λ y. entries_in (slice_set c.args.pages.now.items c.args.at.page y)) e ∙ put_is c) c.put.ensures.ok
 
 pub returns-clause-absent : goal.returns-clause-absent
 returns-clause-absent c =

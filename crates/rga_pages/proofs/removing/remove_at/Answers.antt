@@ -2,14 +2,14 @@ use Rattle.std.proofs.Common.{◌≡◌, ◌<◌, ◌+◌, List, length, slice_s
 use Rattle.std.specs.Prelude.{remove}
 use Rattle.std.specs.Map.{remove_entry}
 use Rattle.rga_ops.proofs.IdentifierLaws.{is}
-use Rattle.rga_pages.specs.Pages.{Entries, flat, AreFilled}
+use Rattle.rga_pages.specs.Pages.{Entries, entries_in, AreFilledPages}
 use Rattle.rga_pages.proofs.PlaceLaws.{page_at, filled_set, filled_remove, length_remove}
 use Rattle.rga_pages.proofs.SpotLaws.{index_found, remove_spot, remove_page, removed_pages}
 use Rattle.rga_pages.proofs.removing.remove_at.Goals as goal
 
-page_gone_is : (c : goal.After-drop-remove) → flat c.remove.new.self.items ≡ remove_entry (is c.args.id) (flat c.args.pages.now.items)
+page_gone_is : (c : goal.After-drop-remove) → entries_in c.remove.new.self.items ≡ remove_entry (is c.args.id) (entries_in c.args.pages.now.items)
 page_gone_is c =
-    ap flat c.remove.ensures.items
+    ap entries_in c.remove.ensures.items
     ∙ remove_page c.args.pages.now.items c.args.at.page c.args.at.index c.args.id c.index.result.now (subst (λ n. c.args.at.page < n) c.args.pages.now.ok.0 c.requires.page) c.requires.spot
     (ap length (sym (c.entries.ensures ∙ c.index.ensures)) ∙ c.if-entries-eq1.true)
 
@@ -19,11 +19,11 @@ returns-then-entries-eq1-clause-gone c = page_gone_is c
 pub returns-then-entries-eq1-clause-kept : goal.returns-then-entries-eq1-clause-kept
 returns-then-entries-eq1-clause-kept c =
     removed_pages c.args.pages.now.items c.remove.new.self.items c.args.id c.requires.kept (page_gone_is c)
-    (subst AreFilled (sym c.remove.ensures.items) (filled_remove c.args.pages.now.items c.args.at.page c.requires.kept.filled))
+    (subst AreFilledPages (sym c.remove.ensures.items) (filled_remove c.args.pages.now.items c.args.at.page c.requires.kept.filled))
 
-gone_is : (c : goal.After-pages-1) → flat (slice_set c.args.pages.now.items c.args.at.page c.remove-2.new.self) ≡ remove_entry (is c.args.id) (flat c.args.pages.now.items)
+gone_is : (c : goal.After-pages-1) → entries_in (slice_set c.args.pages.now.items c.args.at.page c.remove-2.new.self) ≡ remove_entry (is c.args.id) (entries_in c.args.pages.now.items)
 gone_is c =
-    ap (λ y. flat (slice_set c.args.pages.now.items c.args.at.page y)) (c.remove-2.ensures ∙ ap (λ y. remove y c.args.at.index) c.index_mut.ensures.value)
+    ap (λ y. entries_in (slice_set c.args.pages.now.items c.args.at.page y)) (c.remove-2.ensures ∙ ap (λ y. remove y c.args.at.index) c.index_mut.ensures.value)
     ∙ remove_spot c.args.pages.now.items c.args.at.page c.args.at.index c.args.id c.index_mut.result.now (subst (λ n. c.args.at.page < n) c.args.pages.now.ok.0 c.requires.page) c.requires.spot
 
 pub returns-clause-gone : goal.returns-clause-gone

@@ -1,5 +1,5 @@
 use Rattle.std.proofs.Common.{◌≡◌, Bool, true, false, not, take, refl, sym, subst, true≢false}
-use Rattle.rga_pages.specs.Pages.{flat, AreBelow}
+use Rattle.rga_pages.specs.Pages.{entries_in, AreBelow}
 use Rattle.rga_pages.proofs.search.is_past.Goals as goal
 
 not_true : (b : Bool) → not b ≡ true → b ≡ false
@@ -7,7 +7,7 @@ not_true true h = absurd (true≢false (sym h))
 not_true false h = refl
 
 pub returns-then-page-eq0 : goal.returns-then-page-eq0
-returns-then-page-eq0 c = λ t. subst (λ p. AreBelow c.args.id (flat (take p c.args.pages.now.items))) (sym c.if-page-eq0.true) tt
+returns-then-page-eq0 c = λ t. subst (λ p. AreBelow c.args.id (entries_in (take p c.args.pages.now.items))) (sym c.if-page-eq0.true) tt
 
 pub returns : goal.returns
 returns c = λ t. c.starts_above.ensures.below (not_true c.starts_above.result t)

@@ -1,5 +1,5 @@
 use Rattle.std.proofs.Common.{◌≤◌, ◌<◌, ◌-◌, take, drop, length}
-use Rattle.rga_pages.specs.Pages.{flat, AreBelow, StartsAbove}
+use Rattle.rga_pages.specs.Pages.{entries_in, AreBelow, StartsAbove}
 use Rattle.rga_pages.proofs.search.page_of.Given as goal
 
 -- the page is not before the first of those that are left, and not behind the last
@@ -7,8 +7,8 @@ abbrev pub invariant-loop-high : goal.invariant-loop-high
 invariant-loop-high l = record {
   some : l.low < l.high;
   within : l.high ≤ length l.pages.items;
-  below : AreBelow l.id (flat (take l.low l.pages.items));
-  above : StartsAbove l.id (flat (drop l.high l.pages.items));
+  below : AreBelow l.id (entries_in (take l.low l.pages.items));
+  above : StartsAbove l.id (entries_in (drop l.high l.pages.items));
 }
 
 abbrev pub decreases-loop-high : goal.decreases-loop-high

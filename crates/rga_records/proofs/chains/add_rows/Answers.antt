@@ -3,8 +3,8 @@ use Rattle.std.specs.Prelude.{Some}
 use Rattle.std.proofs.lemmas.List.{take_more}
 use Rattle.rga_ops.specs.Content.{element}
 use Rattle.rga_sequence.specs.declared.entry.Entry.{Entry}
-use Rattle.rga_records.specs.Chains.{last_of, AreRows}
-use Rattle.rga_records.proofs.NewerLaws.{rows-push, last_of-push}
+use Rattle.rga_records.specs.Chains.{last_entry_of, AreRows}
+use Rattle.rga_records.proofs.NewerLaws.{rows-push, last_entry_of-push}
 use Rattle.rga_records.proofs.chains.add_rows.Goals as goal
 
 pub loop-entry-preserved : goal.loop-entry-preserved
@@ -19,7 +19,7 @@ loop-entry-preserved c =
           (subst (AreRows c.args.parent (before ++ item ∷ [])) (sym c.push_reserved.ensures.items)
           (rows-push c.args.parent before c.loop-entry.rows.items item c.inserted-record.result c.loop-entry.invariant.rows
           (c.inserted-record.ensures.element ∙ ap (λ k. Some (element k item.ch)) c.loop-entry.invariant.last) c.inserted-record.ensures.unmarked));
-      last = sym (ap (last_of c.args.parent) more ∙ last_of-push c.args.parent before item);
+      last = sym (ap (last_entry_of c.args.parent) more ∙ last_entry_of-push c.args.parent before item);
       noted = c.push_reserved.ensures.len ∙ ap (λ n. n + 1) c.loop-entry.invariant.noted;
       room = c.push_reserved.ensures.capacity ∙ c.loop-entry.invariant.room;
     }

@@ -3,7 +3,7 @@ use Rattle.std.specs.Prelude.{Some, None, Option}
 use Rattle.rga_ops.specs.Content.{Element}
 use Rattle.rga_pages.specs.declared.entry.Record.{Record}
 use Rattle.rga_pages.specs.Pages.{record_of, Updates}
-use Rattle.rga_records.specs.Records.{element_in}
+use Rattle.rga_records.specs.Records.{element_of_record}
 use Rattle.rga_records.proofs.RecordLaws.{element_of, is_some-char, some_inserted, inserted_at, content_undeleted}
 use Rattle.rga_records.proofs.entries.clear_mark.Goals as goal
 
@@ -14,7 +14,7 @@ none_there (Some x) h = absurd (true≢false h)
 
 absent : (c : goal.After-remove) → None ≡ element_of (record_of c.args.id c.args.entries.now)
 absent c =
-    none_there (element_in c.found_or_new-record.result) (is_some-char c.found_or_new-record.result ∙ c.if-is_none.ensures)
+    none_there (element_of_record c.found_or_new-record.result) (is_some-char c.found_or_new-record.result ∙ c.if-is_none.ensures)
     ∙ c.found_or_new-record.ensures.element ∙ ap element_of c.look_up.ensures.value
 
 pub returns-then-is_none-clause-inserted : goal.returns-then-is_none-clause-inserted

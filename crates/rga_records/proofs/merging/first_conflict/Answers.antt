@@ -2,20 +2,20 @@ use Rattle.std.proofs.Common.{◌≡◌, ℕ, ◌+◌, ◌<◌, ◌++◌, List, 
 use Rattle.std.specs.List.{filter_map}
 use Rattle.std.proofs.lemmas.List.Elements.{filter_map-append}
 use Rattle.rga_ops.specs.Content.{Content}
-use Rattle.rga_pages.specs.Pages.{flat}
+use Rattle.rga_pages.specs.Pages.{entries_in}
 use Rattle.rga_pages.proofs.PlaceLaws.{one_up, rest_of}
-use Rattle.rga_records.specs.Records.{Entries, content_of_records, first_conflicting, insertion_in}
+use Rattle.rga_records.specs.Records.{Entries, content_of_records, first_conflicting, insertion_of_record}
 use Rattle.rga_records.proofs.MergingLaws.{none_first, some_first}
 use Rattle.rga_records.proofs.SortedRecordLaws.{Insertions}
 use Rattle.rga_records.proofs.merging.first_conflict.Goals as goal
 
 -- the insertions from a page on: those of the page, and then the later ones
 abbrev later : List Entries → ℕ → Insertions
-later ps i = filter_map insertion_in (flat (drop (i + 1) ps))
+later ps i = filter_map insertion_of_record (entries_in (drop (i + 1) ps))
 
-insertions_from : (ps : List Entries) (i : ℕ) (page : Entries) → i < length ps → page ≡ slice_index_or ps i page → filter_map insertion_in (flat (drop i ps)) ≡ filter_map insertion_in page ++ later ps i
+insertions_from : (ps : List Entries) (i : ℕ) (page : Entries) → i < length ps → page ≡ slice_index_or ps i page → filter_map insertion_of_record (entries_in (drop i ps)) ≡ filter_map insertion_of_record page ++ later ps i
 insertions_from ps i page w is =
-    ap (filter_map insertion_in) (rest_of ps i page w ∙ (λ k. sym is k ++ flat (drop (one_up i k) ps))) ∙ filter_map-append insertion_in page (flat (drop (i + 1) ps))
+    ap (filter_map insertion_of_record) (rest_of ps i page w ∙ (λ k. sym is k ++ entries_in (drop (one_up i k) ps))) ∙ filter_map-append insertion_of_record page (entries_in (drop (i + 1) ps))
 
 pub returns-in-Some : goal.returns-in-Some
 returns-in-Some c =
@@ -24,7 +24,7 @@ returns-in-Some c =
     let page : Entries = c.page-item.result in
     let within : c.loop-page.page-index < length ps = subst (λ xs. c.loop-page.page-index < length xs) c.deref-page-items.ensures.value c.loop-page-test.true in
     let is : page ≡ slice_index_or ps c.loop-page.page-index page = c.page-item.is ∙ ap (λ xs. slice_index_or xs c.loop-page.page-index page) c.deref-page-items.ensures.value in
-    sym (some_first own (filter_map insertion_in page) (later ps c.loop-page.page-index) c.in-Some.id (ap (λ es. first_conflicting own (filter_map insertion_in es)) (sym c.entries.ensures) ∙ sym c.first_conflict_in.ensures ∙ c.in-Some.is))
+    sym (some_first own (filter_map insertion_of_record page) (later ps c.loop-page.page-index) c.in-Some.id (ap (λ es. first_conflicting own (filter_map insertion_of_record es)) (sym c.entries.ensures) ∙ sym c.first_conflict_in.ensures ∙ c.in-Some.is))
     ∙ ap (first_conflicting own) (sym (insertions_from ps c.loop-page.page-index page within is))
     ∙ c.loop-page.invariant
 
@@ -35,6 +35,6 @@ loop-page-preserved c =
     let page : Entries = c.page-item.result in
     let within : c.loop-page.page-index < length ps = subst (λ xs. c.loop-page.page-index < length xs) c.deref-page-items.ensures.value c.loop-page-test.true in
     let is : page ≡ slice_index_or ps c.loop-page.page-index page = c.page-item.is ∙ ap (λ xs. slice_index_or xs c.loop-page.page-index page) c.deref-page-items.ensures.value in
-    sym (none_first own (filter_map insertion_in page) (later ps c.loop-page.page-index) (ap (λ es. first_conflicting own (filter_map insertion_in es)) (sym c.entries.ensures) ∙ sym c.first_conflict_in.ensures ∙ c.in_default.is))
+    sym (none_first own (filter_map insertion_of_record page) (later ps c.loop-page.page-index) (ap (λ es. first_conflicting own (filter_map insertion_of_record es)) (sym c.entries.ensures) ∙ sym c.first_conflict_in.ensures ∙ c.in_default.is))
     ∙ ap (first_conflicting own) (sym (insertions_from ps c.loop-page.page-index page within is))
     ∙ c.loop-page.invariant

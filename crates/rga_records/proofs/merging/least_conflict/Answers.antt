@@ -1,11 +1,11 @@
 use Rattle.std.proofs.Common.{ap, ◌∙◌}
 use Rattle.std.specs.List.{filter_map}
-use Rattle.rga_records.specs.Records.{content_of_records, first_conflicting, insertion_in}
+use Rattle.rga_records.specs.Records.{content_of_records, first_conflicting, insertion_of_record}
 use Rattle.rga_records.proofs.MergingLaws.{least_is_first}
 use Rattle.rga_records.proofs.merging.least_conflict.Goals as goal
 
 pub returns : goal.returns
 returns c =
     c.first_conflict.ensures
-    ∙ ap (λ es. first_conflicting (content_of_records c.args.own.now) (filter_map insertion_in es)) c.pages.ensures.pages
+    ∙ ap (λ es. first_conflicting (content_of_records c.args.own.now) (filter_map insertion_of_record es)) c.pages.ensures.pages
     ∙ least_is_first (content_of_records c.args.own.now) c.args.others.now c.pages.ensures.ordered

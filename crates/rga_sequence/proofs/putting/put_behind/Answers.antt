@@ -1,7 +1,7 @@
 use Rattle.std.proofs.Common.{◌≡◌, ◌++◌, ◌∷◌, List, [], length, refl, sym, ap, ◌∙◌, subst, arith}
 use Rattle.std.specs.Prelude.{insert}
 use Rattle.rga_sequence.specs.declared.entry.Entry.{Entry}
-use Rattle.rga_sequence.specs.Entries.{put_past_larger, put_entry, put_chain, IsChain, AreApart}
+use Rattle.rga_sequence.specs.Entries.{put_entry_past_larger, put_entry, put_chain, IsChain, AreApart}
 use Rattle.rga_sequence.specs.Blocks.{Blocks, flat, before, behind}
 use Rattle.rga_sequence.proofs.ListLaws.{on_ok_map}
 use Rattle.rga_sequence.proofs.PutLaws.{apart_there, either_way}
@@ -47,7 +47,7 @@ module _ (c : goal.After-put_at) where
   back = behind c.args.blocks.now.items c.skip-at.result.block c.skip-at.result.index
 
   placed : put_entry c.args.parent first (flat c.args.blocks.now.items) ≡ front ++ first ∷ back
-  placed = c.in-Some.ensures.behind (put_past_larger first) ∙ c.skip-at.ensures.skipped
+  placed = c.in-Some.ensures.behind (put_entry_past_larger first) ∙ c.skip-at.ensures.skipped
 
   there : put_chain c.args.parent c.args.entries.now (flat c.args.blocks.now.items) ≡ front ++ (c.args.entries.now ++ back)
   there =

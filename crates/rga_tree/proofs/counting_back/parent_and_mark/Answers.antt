@@ -5,13 +5,13 @@ use Rattle.std.specs.Map.{lookup}
 use Rattle.rga_ops.specs.Identifier.{Identifier, is_id}
 use Rattle.rga_ops.specs.Content.{element}
 use Rattle.rga_tree.specs.declared.nodes.Node.{Node}
-use Rattle.rga_tree.specs.Nodes.{Nodes, AreApart, content_of_nodes}
+use Rattle.rga_tree.specs.Nodes.{Nodes, AreDistinctNodes, content_of_nodes}
 use Rattle.rga_tree.proofs.NodeLaws.{element_of, mark_of, inserted_at, deleted_at}
 use Rattle.rga_tree.proofs.CountingLaws.{parent_and_mark, element_parent_and_mark}
 use Rattle.rga_tree.proofs.counting_back.parent_and_mark.Goals as goal
 
 -- what the nodes say of an identifier is what is found at it
-found_at : (ns : Nodes) (id : Identifier) (found : Option Node) → AreApart ns → lookup (is_id id) ns ≡ found
+found_at : (ns : Nodes) (id : Identifier) (found : Option Node) → AreDistinctNodes ns → lookup (is_id id) ns ≡ found
     → option_map (element_parent_and_mark (mark_of found)) (element_of found) ≡ parent_and_mark (content_of_nodes ns) id
 found_at ns id found apart is = λ k. option_map (element_parent_and_mark (sym (deleted_at ns apart id ∙ ap mark_of is) k)) (sym (inserted_at ns apart id ∙ ap element_of is) k)
 

@@ -5,7 +5,7 @@ use Rattle.rga_ops.specs.Identifier.{Identifier, is_id}
 use Rattle.rga_tree.specs.declared.nodes.Node.{Node}
 use Rattle.rga_store.specs.Rising.{IsRising}
 use Rattle.rga_tree.specs.Children.{children_in, has_child}
-use Rattle.rga_tree.specs.Nodes.{Nodes, AreApart, children_at, children_of}
+use Rattle.rga_tree.specs.Nodes.{Nodes, AreDistinctNodes, children_at, children_of}
 use Rattle.rga_store.proofs.CaseSteps.{on_ok_map, on_err_map}
 use Rattle.rga_tree.proofs.ChildLaws.{added, rising_now}
 use Rattle.rga_tree.proofs.NodeLaws.{IsPut, found_there, put_there, apart_still, places_still, content_kept, children_kept, children_put, children_else}
@@ -30,7 +30,7 @@ after c = set_value_at c.args.nodes.now.entries c.args.index (written c)
 put : (c : goal.After-nodes-1) → IsPut c.args.nodes.now.entries (after c) c.args.parent (Some c.index_mut.result.now) (written c)
 put c = put_there c.args.nodes.now c.args.index c.args.parent c.index_mut.result.now (written c) c.requires.apart c.requires.index c.index_mut.ensures.value
 
-apart : (c : goal.After-nodes-1) → AreApart (after c)
+apart : (c : goal.After-nodes-1) → AreDistinctNodes (after c)
 apart c = apart_still c.args.nodes.now c.args.index c.args.parent c.index_mut.result.now (written c) c.requires.apart c.requires.index c.index_mut.ensures.value
 
 before : (c : goal.After-nodes-1) → children_of c.args.nodes.now.entries c.args.parent ≡ children_in c.index_mut.result.now.children

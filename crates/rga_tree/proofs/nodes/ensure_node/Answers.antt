@@ -2,7 +2,7 @@ use Rattle.std.proofs.Common.{◌≡◌, sym, ap, ◌∙◌, subst}
 use Rattle.std.specs.Prelude.{None}
 use Rattle.indexmap.specs.IndexMap.{insert_entry, set_value_at}
 use Rattle.rga_ops.specs.Identifier.{is_id}
-use Rattle.rga_tree.specs.Nodes.{Nodes, AreApart, StandsAt, content_of_nodes, children_of}
+use Rattle.rga_tree.specs.Nodes.{Nodes, AreDistinctNodes, StandsAt, content_of_nodes, children_of}
 use Rattle.rga_tree.proofs.NodeLaws.{IsPut, put_back, place_made, places_made, place_found, content_kept, children_kept, element_in_new}
 use Rattle.rga_tree.proofs.nodes.ensure_node.Goals as goal
 
@@ -56,4 +56,4 @@ pub returns-in-Ok-default-Some-clause-children : goal.returns-in-Ok-default-Some
 returns-in-Ok-default-Some-clause-children c = λ p. ap (λ ns. children_of ns p) (same c)
 
 pub returns-in-Ok-default-Some-clause-apart : goal.returns-in-Ok-default-Some-clause-apart
-returns-in-Ok-default-Some-clause-apart c = subst (λ (ns : Nodes). AreApart ns) (sym (same c)) c.requires
+returns-in-Ok-default-Some-clause-apart c = subst (λ (ns : Nodes). AreDistinctNodes ns) (sym (same c)) c.requires

@@ -2,7 +2,7 @@ use Rattle.std.proofs.Common.{true, is_some, refl, sym, ap, ◌∙◌}
 use Rattle.std.specs.Prelude.{Some}
 use Rattle.indexmap.specs.IndexMap.{set_value_at}
 use Rattle.rga_tree.specs.declared.nodes.Node.{Node}
-use Rattle.rga_tree.specs.Nodes.{Nodes, AreApart}
+use Rattle.rga_tree.specs.Nodes.{Nodes, AreDistinctNodes}
 use Rattle.rga_tree.proofs.NodeLaws.{IsPut, element_of, inserted_at, is_some-mapped, put_there, apart_still, content_deleted, children_kept}
 use Rattle.rga_tree.proofs.nodes.mark.Goals as goal
 
@@ -15,7 +15,7 @@ after c = set_value_at c.args.nodes.now.entries c.args.index (written c)
 put : (c : goal.After-nodes-1) → IsPut c.args.nodes.now.entries (after c) c.args.id (Some c.index_mut-node.result.now) (written c)
 put c = put_there c.args.nodes.now c.args.index c.args.id c.index_mut-node.result.now (written c) c.requires.apart c.requires.index c.index_mut-node.ensures.value
 
-apart : (c : goal.After-nodes-1) → AreApart (after c)
+apart : (c : goal.After-nodes-1) → AreDistinctNodes (after c)
 apart c = apart_still c.args.nodes.now c.args.index c.args.id c.index_mut-node.result.now (written c) c.requires.apart c.requires.index c.index_mut-node.ensures.value
 
 pub returns-clause-inserted : goal.returns-clause-inserted

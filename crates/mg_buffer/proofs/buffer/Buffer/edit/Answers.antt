@@ -8,7 +8,7 @@ use Rattle.rga_ops.specs.Splice.{text_after}
 use Rattle.rga_doc.specs.Document.{Document}
 use Rattle.rga_doc.specs.LocalEdit.{splices_operations}
 use Rattle.mg_buffer.specs.Groups.{past_of, with_group, are_revertible}
-use Rattle.mg_buffer.specs.Kept.{IsLine}
+use Rattle.mg_buffer.specs.Kept.{IsLineOfPlace}
 use Rattle.mg_buffer.specs.LineNumbers.{least_begin}
 use Rattle.mg_buffer.specs.Slots.{Slotted, AreOld, pasts_by, with_past}
 use Rattle.mg_buffer.specs.State.{State}
@@ -38,7 +38,7 @@ invariant_of-self-2 g c =
     record {
       point_stands = search (rules, stands_if_placed);
       mark_stands = mark_stands_if c.take.new.self.content c.mark_at-self-inside.result c.mark_at-self-inside.ensures.placed;
-      line_known = subst (λ xs. IsLine xs c.moved-self-inside.result) c.characters-2.ensures c.moved-self-inside.ensures.line;
+      line_known = subst (λ xs. IsLineOfPlace xs c.moved-self-inside.result) c.characters-2.ensures c.moved-self-inside.ensures.line;
       filled = c.add.ensures.filled;
       old =
           subst (λ d. AreOld d c.add.new.self.elements.elements) (sym content)
@@ -87,7 +87,7 @@ mark_at-self-inside-requires g c =
 pub moved-line-requires-clause-line : goal.moved-line-requires-clause-line
 moved-line-requires-clause-line g c =
     let chars : c.characters.result.now ≡ text c.self.inside.doc.content = c.characters.ensures ∙ ap (λ (d : Document). text d.content) c.in_ok-ops.ensures.listed in
-    subst (λ xs. IsLine xs c.self.inside.line) (sym chars) c.self.invariant.line_known
+    subst (λ xs. IsLineOfPlace xs c.self.inside.line) (sym chars) c.self.invariant.line_known
 
 pub moved-line-requires-clause-place : goal.moved-line-requires-clause-place
 moved-line-requires-clause-place g c =

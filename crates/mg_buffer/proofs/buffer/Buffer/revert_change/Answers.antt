@@ -16,7 +16,7 @@ use Rattle.rga_doc.proofs.PutBackLaws.{revert_behind}
 use Rattle.mg_buffer.specs.declared.marker.Marker.{Marker}
 use Rattle.mg_buffer.specs.Faults.{growth_answer}
 use Rattle.mg_buffer.specs.Groups.{Past, past_of, with_group, are_revertible, stand_in, all_substituted, point_after}
-use Rattle.mg_buffer.specs.Kept.{IsLine, stands}
+use Rattle.mg_buffer.specs.Kept.{IsLineOfPlace, stands}
 use Rattle.mg_slots.specs.Slots.{with_elements}
 use Rattle.mg_buffer.specs.Slots.{Slotted, AreOld, AreStandIns, deleted_ones, past_by, pasts_by}
 use Rattle.mg_buffer.specs.State.{State, state}
@@ -110,7 +110,7 @@ invariant_of-self-2 g c =
       point_stands = (λ k. is_some (place (whole k) (point k))) ∙ point_stands doc.limit doc.replica doc.content undone.inserted undone.deleted allowed c.self.inside.point.element c.self.invariant.point_stands;
       mark_stands = ap (λ d. option_map_or (stands d) c.self.inside.mark true) whole ∙ mark_stands_still doc.content (content_of ops) c.self.inside.mark c.self.invariant.mark_stands;
       line_known = c.kept_in-self-inside.ensures (text doc.content) (text c.take_revert.new.self.content) c.in_ok-front.ensures.front
-          (subst (λ d. IsLine (text d) c.args.line) (sym (ap (λ (b : State). b.content) c.self.view_is)) c.requires.line);
+          (subst (λ d. IsLineOfPlace (text d) c.args.line) (sym (ap (λ (b : State). b.content) c.self.view_is)) c.requires.line);
       filled = c.add_undo.ensures.filled;
       old =
           subst (λ d. AreOld d c.add_undo.new.self.elements.elements) (sym whole)

@@ -7,7 +7,7 @@ use Rattle.mg_plain.specs.Commands.{effect}
 use Rattle.rga_ops.specs.declared.refusal.Refusal.{Refusal}
 use Rattle.rga_ops.specs.declared.refusal.Refusal.TheVariants.{Memory}
 use Rattle.rga_doc.specs.LocalEdit.{splices_answer}
-use Rattle.mg_plain.specs.Effect.{Effect, IsWithin}
+use Rattle.mg_plain.specs.Effect.{Effect, IsWithinText}
 use Rattle.mg_buffer.specs.declared.fault.BufferFault.TheVariants.{Store}
 use Rattle.mg_buffer.specs.Faults.{run_answer}
 use Rattle.mg_buffer.specs.State.{State}
@@ -19,13 +19,13 @@ use Rattle.mg_buffer.proofs.buffer.Buffer.run.Goals as goal
 pub edit-requires-clause-point : goal.edit-requires-clause-point
 edit-requires-clause-point g c =
     let due : effect c.args.command.now c.args.arg (situation_of c.list.new.self c.args.memo.now) c.args.fill ≡ Ok c.in_ok-plan.plan = search rules in
-    let w = subst (IsWithin (situation_of c.list.new.self c.args.memo.now)) (sym c.plan-2.view_is) (plan_within c.args.command.now c.args.arg c.args.fill c.list.new.self c.args.memo.now c.in_ok-plan.plan due) in
+    let w = subst (IsWithinText (situation_of c.list.new.self c.args.memo.now)) (sym c.plan-2.view_is) (plan_within c.args.command.now c.args.arg c.args.fill c.list.new.self c.args.memo.now c.in_ok-plan.plan due) in
     subst (λ xs. c.plan-2.inside.point ≤ length (text_after (text c.list.new.self.content) xs)) (sym c.deref.ensures.value) w.point
 
 pub edit-requires-clause-mark : goal.edit-requires-clause-mark
 edit-requires-clause-mark g c =
     let due : effect c.args.command.now c.args.arg (situation_of c.list.new.self c.args.memo.now) c.args.fill ≡ Ok c.in_ok-plan.plan = search rules in
-    let w = subst (IsWithin (situation_of c.list.new.self c.args.memo.now)) (sym c.plan-2.view_is) (plan_within c.args.command.now c.args.arg c.args.fill c.list.new.self c.args.memo.now c.in_ok-plan.plan due) in
+    let w = subst (IsWithinText (situation_of c.list.new.self c.args.memo.now)) (sym c.plan-2.view_is) (plan_within c.args.command.now c.args.arg c.args.fill c.list.new.self c.args.memo.now c.in_ok-plan.plan due) in
     if_some c.plan-2.inside.mark (length (text_after (text c.list.new.self.content) c.deref.result.now))
     (λ x is. subst (λ xs. x ≤ length (text_after (text c.list.new.self.content) xs)) (sym c.deref.ensures.value) (w.mark x is))
 

@@ -3,7 +3,7 @@ use Rattle.rga_ops.specs.Identifier.{Identifier}
 use Rattle.rga_ops.specs.declared.op.Op.{Op}
 use Rattle.mg_buffer.specs.Groups.{Past, with_group}
 use Rattle.mg_slots.specs.Slots.{with_elements}
-use Rattle.mg_buffer.specs.Slots.{AreDeletedIn, AreFilled, AreIn, past_by, pasts_by, deleted_ones}
+use Rattle.mg_buffer.specs.Slots.{AreDeletedIn, AreFilledSlots, AreIn, past_by, pasts_by, deleted_ones}
 use Rattle.mg_buffer.proofs.SlotLaws.{Grows, grows_all, grows_on, longer, slots_kept}
 use Rattle.mg_buffer.proofs.HistoryLaws.{IsGroupOf, filled_with, group_filled, map-with_group, past_is, same_pasts, still_filled}
 use Rattle.mg_buffer.proofs.history.History.add.Goals as goal
@@ -43,7 +43,7 @@ returns-clause-filled c =
       slots = slots_kept between last grown.1 c.push_inserted.new.slots.items change.inserted (subst (AreIn between c.push_inserted.new.slots.items) inserted c.push_inserted.ensures.slots);
       slots_of_deleted = subst (AreDeletedIn last c.push_deleted.new.slots.items) deleted c.push_deleted.ensures.slots;
     } in
-    subst (AreFilled last) (sym c.add_group.ensures)
+    subst (AreFilledSlots last) (sym c.add_group.ensures)
     (filled_with last c.args.self.now.groups.items _ c.args.ops.now
     (still_filled first last (longer first last (grows_on first between last grown.0 grown.1)) c.args.self.now.groups.items c.requires.filled)
     (group_filled last c.push_inserted.new.slots.items c.push_deleted.new.slots.items change group))

@@ -5,7 +5,7 @@ use Rattle.std.proofs.lemmas.Option.{slice_get-get_or}
 use Rattle.rga_ops.specs.Identifier.{Identifier}
 use Rattle.rga_ops.specs.declared.op.Op.{Op}
 use Rattle.mg_buffer.specs.Groups.{Past, stand_in, with_group}
-use Rattle.mg_buffer.specs.Slots.{Slotted, AreDeletedIn, AreFilled, pasts_by, deleted_ones}
+use Rattle.mg_buffer.specs.Slots.{Slotted, AreDeletedIn, AreFilledSlots, pasts_by, deleted_ones}
 use Rattle.mg_buffer.proofs.GroupLaws.{group_is}
 use Rattle.mg_buffer.proofs.SlotLaws.{Grows, grows_all}
 use Rattle.mg_buffer.proofs.HistoryLaws.{filled_at, undo_filled, undo_pasts}
@@ -40,6 +40,6 @@ returns-clause-filled c =
     let undone : c.deref.result.now ≡ g.deleted = c.deref.ensures.value ∙ ap (λ (x : Slotted). x.deleted) c.behind-self.view_is in
     let added : c.add_group.new.groups.items ≡ with_group groups (record { inserted = map (λ (b : ℕ × ℕ). b.0) g.deleted; deleted = c.push_deleted.new.slots.items }) ops =
     c.add_group.ensures ∙ (λ k. with_group groups (record { inserted = (c.push_same.ensures ∙ ap (map (λ (b : ℕ × ℕ). b.0)) undone) k; deleted = c.push_deleted.new.slots.items }) ops) in
-    subst (λ xs. AreFilled xs c.add_group.new.groups.items) (sym c.replace_all.ensures)
-    (subst (AreFilled (map (stand_in ops) between)) (sym added)
+    subst (λ xs. AreFilledSlots xs c.add_group.new.groups.items) (sym c.replace_all.ensures)
+    (subst (AreFilledSlots (map (stand_in ops) between)) (sym added)
     (undo_filled first between grows groups c.requires.filled g (filled_at first groups c.args.index g c.requires.filled at) c.push_deleted.new.slots.items c.deref-2.result.now c.push_deleted.ensures.slots (stand_in ops) ops))

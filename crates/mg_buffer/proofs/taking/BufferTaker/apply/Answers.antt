@@ -16,7 +16,7 @@ use Rattle.mg_buffer.specs.Groups.{Past, are_revertible}
 use Rattle.mg_buffer.specs.Slots.{AreOld, pasts_by}
 use Rattle.mg_buffer.specs.Kept.{stands}
 use Rattle.mg_buffer.specs.State.{State, state}
-use Rattle.mg_buffer.specs.Following.{follows_nothing}
+use Rattle.mg_buffer.specs.Following.{takes_no_operations}
 use Rattle.mg_buffer.proofs.GroupLaws.{still_revertible, mark_stands_still}
 use Rattle.mg_buffer.proofs.LineLaws.{first_line}
 use Rattle.mg_buffer.proofs.OldLaws.{still_old}
@@ -24,7 +24,7 @@ use Rattle.mg_buffer.proofs.TakingLaws.{match_err, follows_same, follows_known}
 use Rattle.mg_buffer.proofs.taking.BufferTaker.apply.Goals as goal
 
 pub returns-in_err-answer_at-clause-follows : goal.returns-in_err-answer_at-clause-follows
-returns-in_err-answer_at-clause-follows g c = match_err _ _ c.from_residual.result c.from_residual.ensures.0 (follows_nothing c.args.self.now)
+returns-in_err-answer_at-clause-follows g c = match_err _ _ c.from_residual.result c.from_residual.ensures.0 (takes_no_operations c.args.self.now)
 
 pub returns-then-eq-clause-follows : goal.returns-then-eq-clause-follows
 returns-then-eq-clause-follows g c =

@@ -15,7 +15,7 @@ use Rattle.mg_buffer.specs.Groups.{Past, are_revertible}
 use Rattle.mg_buffer.specs.Slots.{AreOld, pasts_by}
 use Rattle.mg_buffer.specs.Kept.{stands, IsAtHand}
 use Rattle.mg_buffer.specs.State.{State, state}
-use Rattle.mg_buffer.specs.Following.{follows_nothing}
+use Rattle.mg_buffer.specs.Following.{takes_no_operations}
 use Rattle.mg_buffer.proofs.GroupLaws.{still_revertible, mark_stands_still}
 use Rattle.mg_buffer.proofs.OldLaws.{still_old}
 use Rattle.mg_buffer.proofs.TakingLaws.{match_err, follows_same, same_document, list_without_memory}
@@ -32,10 +32,10 @@ returns-in_err-early_answer_at-clause-early g c = λ h.
     absurd (list_without_memory 0 (g.S.Taker.content c.store.result.now) c.args.ops.now (c.in_err-early_answer_at.ensures.refused 0 ∙ ap bad (sym p.2) ∙ sym p.1 ∙ h))
 
 pub returns-in_err-early_answer_at-clause-follows : goal.returns-in_err-early_answer_at-clause-follows
-returns-in_err-early_answer_at-clause-follows g c = match_err _ _ c.from_residual.result c.from_residual.ensures.0 (follows_nothing c.args.self.now)
+returns-in_err-early_answer_at-clause-follows g c = match_err _ _ c.from_residual.result c.from_residual.ensures.0 (takes_no_operations c.args.self.now)
 
 pub returns-in_err-new-clause-follows : goal.returns-in_err-new-clause-follows
-returns-in_err-new-clause-follows g c = match_err _ _ c.from_residual-in_err-new.result c.from_residual-in_err-new.ensures.0 (follows_nothing c.args.self.now)
+returns-in_err-new-clause-follows g c = match_err _ _ c.from_residual-in_err-new.result c.from_residual-in_err-new.ensures.0 (takes_no_operations c.args.self.now)
 
 pub returns-in_err-reserve-clause-follows : goal.returns-in_err-reserve-clause-follows
 returns-in_err-reserve-clause-follows g c =

@@ -5,8 +5,8 @@ use Rattle.mg_buffers.proofs.buffers.Buffers.named.Goals as goal
 
 pub returns-clause-exact : goal.returns-clause-exact
 returns-clause-exact g c =
-    c.index_named.ensures.exact ∙ ap (names.named c.args.name.now) c.as_slice.ensures.value
-    ∙ ap (λ (bs : Buffers). names.named c.args.name.now bs.all) c.self.view_is
+    c.index_named.ensures.exact ∙ ap (names.buffer_named c.args.name.now) c.as_slice.ensures.value
+    ∙ ap (λ (bs : Buffers). names.buffer_named c.args.name.now bs.all) c.self.view_is
 
 pub returns-clause-within : goal.returns-clause-within
 returns-clause-within g c =

@@ -1,5 +1,5 @@
 use Rattle.std.proofs.Common.{rules, ◌≡◌, sym, subst}
-use Rattle.mg_editor.specs.Presses.{Follows, Replaced}
+use Rattle.mg_editor.specs.Presses.{FollowsReaction, Replaced}
 use Rattle.mg_editor.proofs.editor.Editor.follow.Goals as goal
 
 pub returns-in-Replaces-clause-follows : goal.returns-in-Replaces-clause-follows
@@ -11,4 +11,4 @@ returns-in-Replaces-clause-follows g c =
     let q : c.as_slice-in-Replaces.result.now ≡ r.put = search rules in
     let h : Replaced r.pattern r.put r.count old new c.replace.result =
     subst (λ x. Replaced x r.put r.count old new c.replace.result) p (subst (λ x. Replaced c.as_slice.result.now x r.count old new c.replace.result) q c.replace.ensures.replaced) in
-    subst (λ x. Follows x old new c.replace.result) (sym r.is) h
+    subst (λ x. FollowsReaction x old new c.replace.result) (sym r.is) h

@@ -1,7 +1,7 @@
 use Rattle.std.proofs.Common.{rules, ◌≡◌, refl, sym, subst}
 use Rattle.mg_files.proofs.SaveLaws.{saves_to}
 use Rattle.mg_files.specs.Saving.{SavesTo}
-use Rattle.mg_workspace.specs.Workspaces.{Workspace, with_current}
+use Rattle.mg_workspace.specs.Workspaces.{Workspace, with_workspace_buffer}
 use Rattle.mg_editor.specs.Current.{Saves}
 use Rattle.mg_editor.proofs.editor.Editor.save.Goals as goal
 
@@ -15,14 +15,14 @@ returns-clause-saved g c =
     let s = c.save-answer.ensures in
     let calls = g.P.Port.calls c.args.port.now in
     let more = g.P.Port.calls c.save-answer.new.port in
-    let saves : Saves r calls more work (with_current work d) = record {
+    let saves : Saves r calls more work (with_workspace_buffer work d) = record {
       after = d;
       became = subst (λ x. SavesTo r calls more x d) c.current_mut.ensures.value (saves_to r calls more b d s.changed s.calls s.saved s.failed);
       is = refl;
     } in
     record {
       answer = r;
-      work = subst (λ (w : Workspace). Saves r calls more w (with_current work d)) (sym is) saves;
+      work = subst (λ (w : Workspace). Saves r calls more w (with_workspace_buffer work d)) (sym is) saves;
       rest = search rules;
       done = c.save_done.ensures;
     }

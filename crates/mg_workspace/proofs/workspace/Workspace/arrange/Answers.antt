@@ -47,9 +47,9 @@ returns-clause-arranged g c =
     let l = c.change_windows-answer.new.windows in
     let changes = c.change_windows-answer.ensures in
     let now : Workspace = record was { buffers = c.go_to.new.self; notes = c.idle.new.memo; windows = l } in
-    let left : now ≡ spec.with_windows l (spec.idled was) =
+    let left : now ≡ spec.with_windows l (spec.idled_work was) =
     (λ k. record was { buffers = c.go_to.ensures k; notes = c.idle.ensures.memo k; windows = l })
-    ∙ (λ k. record (spec.idled was) { buffers = record (c.idle.ensures.buffers k) { current = (c.current_viewport-shown.ensures.exact k).buffer }; windows = l }) in
+    ∙ (λ k. record (spec.idled_work was) { buffers = record (c.idle.ensures.buffers k) { current = (c.current_viewport-shown.ensures.exact k).buffer }; windows = l }) in
     let done = on_ok_map answer _ _ (λ is. is ∙ ap (λ b. spec.arranged a b s.windows) c.current-opened.ensures) changes.windows in
     let here : spec.Arranged a was now c.of_windows.result = record {
       answer = answer;

@@ -1,10 +1,10 @@
 use Rattle.std.proofs.Common.{◌≡◌, OnOk, refl, ap, sym, subst, ◌∙◌}
-use Rattle.mg_buffer.specs.Faults.{IsAnswer, run_answer}
+use Rattle.mg_buffer.specs.Faults.{IsFaultAnswer, run_answer}
 use Rattle.mg_buffer.specs.Ran as buffer
 use Rattle.mg_files.specs.OpenState.{OpenState}
 use Rattle.mg_buffers.specs.Buffers.{current_buffer, with_current}
 use Rattle.mg_buffers.proofs.Results.{on_err_map}
-use Rattle.mg_workspace.specs.Actions.{Ran, current_state, with_state}
+use Rattle.mg_workspace.specs.Actions.{RanInCurrent, current_state, with_state_and_notes}
 use Rattle.mg_workspace.specs.Workspaces.{Workspace}
 use Rattle.mg_workspace.proofs.Keeping.{refused_run_keeps, done_or_same}
 use Rattle.mg_workspace.proofs.workspace.Workspace.run.Goals as goal
@@ -23,10 +23,10 @@ returns g c =
     let was : Workspace = record { buffers = s.buffers; notes = s.memo; windows = s.windows; fill = s.fill; columns = s.columns; replica = s.replica; limit = s.limit; runs = s.runs; brief = s.brief } in
     let now : Workspace = record was { buffers = with_current s.buffers (record x { buffer = after }); notes = notes } in
     let here : x.buffer ≡ current_state was = ap (λ o. o.buffer) is in
-    let exact = subst (λ d. IsAnswer r (run_answer c.args.command.now c.args.argument s.fill d s.memo)) here answer.ensures.exact in
+    let exact = subst (λ d. IsFaultAnswer r (run_answer c.args.command.now c.args.argument s.fill d s.memo)) here answer.ensures.exact in
     let done = subst (λ d. OnOk r (buffer.Ran c.args.command.now c.args.argument s.fill d s.memo after notes)) here answer.ensures.ran in
     let same = on_err_map r _ _ (λ kept. kept ∙ here) answer.ensures.same in
-    let became : Ran c.args.command.now c.args.argument was (with_state after notes was) told = record {
+    let became : RanInCurrent c.args.command.now c.args.argument was (with_state_and_notes after notes was) told = record {
       answer = r;
       after = after;
       exact = exact;
@@ -34,6 +34,6 @@ returns g c =
       is = refl;
       told = c.of_buffer.ensures;
     } in
-    let left : with_state after notes was ≡ now = λ k. record was { buffers = with_current s.buffers (record (sym is k) { buffer = after }); notes = notes } in
-    let ran : Ran c.args.command.now c.args.argument c.args.self.now now told = subst (λ w. Ran c.args.command.now c.args.argument w now told) c.self.view_is (subst (λ v. Ran c.args.command.now c.args.argument was v told) left became) in
+    let left : with_state_and_notes after notes was ≡ now = λ k. record was { buffers = with_current s.buffers (record (sym is k) { buffer = after }); notes = notes } in
+    let ran : RanInCurrent c.args.command.now c.args.argument c.args.self.now now told = subst (λ w. RanInCurrent c.args.command.now c.args.argument w now told) c.self.view_is (subst (λ v. RanInCurrent c.args.command.now c.args.argument was v told) left became) in
     record { ran = ran; kept = refused_run_keeps c.args.command.now c.args.argument c.args.self.now now told ran }

@@ -1,12 +1,12 @@
 use Rattle.std.proofs.Common.{◌≡◌, true, sym, ap, ◌∙◌, subst}
 use Rattle.std.proofs.lemmas.List.Sorted.{All-permutation, list_any-IsPermutation}
 use Rattle.std.proofs.lemmas.Result.{IfOk-weaker}
-use Rattle.rga_digest.specs.Ranges.{AreFilled, is_filled, is_in, is_known}
+use Rattle.rga_digest.specs.Ranges.{AreFilledRanges, is_filled, is_in, is_known}
 use Rattle.rga_digest.proofs.told_ranges.ToldRanges.joined.Goals as goal
 
 pub join_parts-requires-clause-filled : goal.join_parts-requires-clause-filled
 join_parts-requires-clause-filled c =
-    subst AreFilled (sym c.deref.ensures.value) (All-permutation (λ r. is_filled r ≡ true) _ _ c.sort_unstable.ensures.permutation c.self.invariant)
+    subst AreFilledRanges (sym c.deref.ensures.value) (All-permutation (λ r. is_filled r ≡ true) _ _ c.sort_unstable.ensures.permutation c.self.invariant)
 
 pub returns-clause-known : goal.returns-clause-known
 returns-clause-known c =
