@@ -1,45 +1,30 @@
 -- What a request that is carried leads to.
-use Rattle.std.specs.Prelude.{◌≡◌, Bool, true, false, List, Option, Result, Ok, Err}
+use Rattle.std.specs.Prelude.{Bool, true, false, List, Option, Result, Ok, Err}
 use Rattle.mg_files.specs.Calls.{Call}
+use Rattle.mg_files.specs.Saving.{SavesTo}
 use Rattle.mg_files.specs.declared.port.PortFault.{PortFault}
 use Rattle.mg_sync.specs.Asking.{Connects, Waits}
+use Rattle.mg_sync.specs.Meeting.{Exchanges}
 use Rattle.mg_minibuffer.specs.declared.ending.Request.{Request}
 use Rattle.mg_minibuffer.specs.declared.ending.Request.TheVariants.{Idle, Save, Find, Exchange, Serve, Quit}
-use Rattle.mg_minibuffer.specs.declared.message.Message.{Message}
 use Rattle.mg_minibuffer.specs.declared.message.Message.TheVariants.{Wrote, NoChanges}
-use Rattle.mg_editor.specs.Current.{Saves}
 use Rattle.mg_editor.specs.Editors.{Editor}
 use Rattle.mg_editor.specs.Finding.{FoundBuffer}
-use Rattle.mg_editor.specs.Meeting.{Exchanged}
-use Rattle.mg_editor.specs.Telling.{CarryAnswer, IsNothing, message_of_port, editor_saying}
+use Rattle.mg_editor.specs.Meeting.{meeting_outcome}
+use Rattle.mg_editor.specs.Telling.{CarryAnswer, CarryOutcome, ChangesCurrent, AsksNothing}
 use Rattle.mg_editor.specs.declared.fault.CarryFault.TheVariants.{Port}
 
--- ---- a save
-
--- what is said of it
-abbrev pub message_of_save : Result Bool PortFault → Message
-message_of_save (Ok true) = Wrote
-message_of_save (Ok false) = NoChanges
-message_of_save (Err fault) = message_of_port fault
-
-abbrev pub save_done : Result Bool PortFault → CarryAnswer
-save_done (Ok changed) = Ok tt
-save_done (Err fault) = Err (Port fault)
-
--- The current buffer was saved, or not, and that is said. Nothing else changed.
-pub record Saved (calls more : Option (List Call)) (old new : Editor) (r : CarryAnswer) : Type 0 where
-  pub answer : Result Bool PortFault
-  pub work : Saves answer calls more old.work new.work
-  pub rest : new ≡ editor_saying new.work (message_of_save answer) old
-  pub done : r ≡ save_done answer
-
--- ---- any request
+-- what came of a save, be there something to save or not
+abbrev pub save_outcome : Result Bool PortFault → CarryOutcome
+save_outcome (Ok true) = Ok Wrote
+save_outcome (Ok false) = Ok NoChanges
+save_outcome (Err fault) = Err (Port fault)
 
 -- what the request leads to
 abbrev pub Carried : Request → Option (List Call) → Option (List Call) → Editor → Editor → CarryAnswer → Type 0
-Carried Idle calls more old new r = IsNothing calls more old new r
-Carried Save calls more old new r = Saved calls more old new r
+Carried Idle calls more old new r = AsksNothing old calls more new r
+Carried Save calls more old new r = ChangesCurrent (λ answer. SavesTo answer calls more) save_outcome old new r
 Carried (Find name) calls more old new r = FoundBuffer name calls more old new r
-Carried Exchange calls more old new r = Exchanged Connects calls more old new r
-Carried Serve calls more old new r = Exchanged Waits calls more old new r
-Carried Quit calls more old new r = IsNothing calls more old new r
+Carried Exchange calls more old new r = ChangesCurrent (λ answer b d. Exchanges Connects calls more b d answer) meeting_outcome old new r
+Carried Serve calls more old new r = ChangesCurrent (λ answer b d. Exchanges Waits calls more b d answer) meeting_outcome old new r
+Carried Quit calls more old new r = AsksNothing old calls more new r

@@ -1,5 +1,4 @@
 pub mod Editors
-pub mod Current
 pub mod Presses
 pub mod Opening
 pub mod Telling

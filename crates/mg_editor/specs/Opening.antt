@@ -21,19 +21,14 @@ message_of_end Whole = Nothing
 message_of_end Bare = Nothing
 message_of_end (Torn bytes) = TornLog bytes
 
--- the editor with that buffer, whose log ended so
-pub record IsEditorOf (v : Values) (b : OpenState) (end : LogEnd) (e : Editor) : Type 0 where
-  pub work : e.work ≡ workspace v b
-  pub talk : Begins (message_of_end end) e.talk
-
--- as what was found is loaded, or its fault
+-- as what was found is loaded, or its fault: the editor with that buffer, whose log ended so
 abbrev pub OpensEditorBy : Values → Result (OpenState × LogEnd) LoadFault → Result Editor LoadFault → Type 0
-OpensEditorBy v (Ok l) r = (e : Editor) × (r ≡ Ok e) × IsEditorOf v l.0 l.1 e
+OpensEditorBy v (Ok l) r = (e : Editor) × (r ≡ Ok e) × ((e.work ≡ workspace v l.0) × Begins (message_of_end l.1) e.talk)
 OpensEditorBy v (Err fault) r = r ≡ Err fault
 
 abbrev pub OpensEditor : Values → Files → Result Editor LoadFault → Type 0
 OpensEditor v found r = OpensEditorBy v (load_outcome v.name v.replica v.limit found) r
 
 -- the text of the buffer that is current
-abbrev pub IsText : Editor → List ℕ → Type 0
-IsText e chars = chars ≡ text (workspace_buffer e.work).buffer.content
+abbrev pub current_text : Editor → List ℕ
+current_text e = text (workspace_buffer e.work).buffer.content

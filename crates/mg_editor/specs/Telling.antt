@@ -6,6 +6,7 @@ use Rattle.rga_exchange.specs.declared.fault.SendFault.{SendFault}
 use Rattle.rga_exchange.specs.declared.fault.SendFault.TheVariants as send
 use Rattle.mg_plain.specs.declared.outcome.Notice.TheVariants as notice
 use Rattle.mg_files.specs.Calls.{Call, failures_after}
+use Rattle.mg_files.specs.OpenState.{OpenState}
 use Rattle.mg_files.specs.declared.fault.LoadFault.{LoadFault}
 use Rattle.mg_files.specs.declared.fault.LoadFault.TheVariants as load
 use Rattle.mg_files.specs.declared.port.LinkFault.{LinkFault}
@@ -17,7 +18,7 @@ use Rattle.mg_sync.specs.declared.fault.ExchangeFault.{ExchangeFault}
 use Rattle.mg_sync.specs.declared.fault.ExchangeFault.TheVariants as exchange
 use Rattle.mg_minibuffer.specs.declared.message.Message.{Message}
 use Rattle.mg_minibuffer.specs.declared.message.Message.TheVariants as message
-use Rattle.mg_workspace.specs.Workspaces.{Workspace}
+use Rattle.mg_workspace.specs.Workspaces.{Workspace, workspace_buffer, with_workspace_buffer}
 use Rattle.mg_editor.specs.Editors.{Editor}
 use Rattle.mg_editor.specs.declared.fault.CarryFault.{CarryFault}
 use Rattle.mg_editor.specs.declared.fault.CarryFault.TheVariants.{Port, Load, Exchange}
@@ -85,12 +86,33 @@ message_of_fault (Exchange fault) = message_of_exchange fault
 
 -- ---- what is told
 
+-- what came of a request: what is said of it, or its fault
+abbrev pub CarryOutcome : Type 0
+CarryOutcome = Result Message CarryFault
+
+abbrev pub outcome_message : CarryOutcome → Message
+outcome_message (Ok said) = said
+outcome_message (Err fault) = message_of_fault fault
+
+abbrev pub outcome_answer : CarryOutcome → CarryAnswer
+outcome_answer (Ok said) = Ok tt
+outcome_answer (Err fault) = Err fault
+
 -- the editor that says something, and has this workspace
 abbrev pub editor_saying : Workspace → Message → Editor → Editor
 editor_saying work said e = record { work = work; talk = record e.talk { message = said } }
 
--- no call of the port was made, and nothing changed
-pub record IsNothing (calls more : Option (List Call)) (old new : Editor) (r : CarryAnswer) : Type 0 where
+-- The current buffer, with what is to be written of it, became another in a way that is said of what came of a request, and
+-- that is told and answered. Nothing else changed.
+pub record ChangesCurrent {A : Type 0} (R : A → OpenState → OpenState → Type 0) (outcome : A → CarryOutcome) (old new : Editor) (r : CarryAnswer) : Type 0 where
+  pub came : A
+  pub after : OpenState
+  pub became : R came (workspace_buffer old.work) after
+  pub is : new ≡ editor_saying (with_workspace_buffer old.work after) (outcome_message (outcome came)) old
+  pub done : r ≡ outcome_answer (outcome came)
+
+-- nothing was asked of the port, and the editor became this one
+pub record AsksNothing (now : Editor) (calls more : Option (List Call)) (new : Editor) (r : CarryAnswer) : Type 0 where
   pub no_call : more ≡ calls
-  pub same : new ≡ old
+  pub is : new ≡ now
   pub done : r ≡ Ok tt

@@ -1,7 +1,7 @@
 //! Requests, carried to the files.
-ghost use Rattle.std.specs.Prelude.{◌≡◌, ◌<◌, length, encode_utf8_all};
+ghost use Rattle.std.specs.Prelude.{◌≡◌, ◌<◌, length, IfSome, encode_utf8_all};
 ghost use Rattle.mg_workspace.specs.declared.workspace.TheConstants.{MAX_BUFFERS};
-ghost use Rattle.mg_sync.specs.Linking.{account};
+ghost use Rattle.mg_sync.specs.Linking.{account, ExchangesOver};
 ghost use Rattle.mg_editor.specs.Carrying as spec;
 ghost use Rattle.mg_editor.specs.Finding as finding;
 ghost use Rattle.mg_editor.specs.Meeting as meeting;
@@ -10,49 +10,29 @@ ghost use Rattle.mg_editor.specs.Telling as telling;
 use crate::editor::Editor;
 use crate::fault::CarryFault;
 use crate::opening::message_of_end;
-use crate::telling::{message_of_fault, message_of_port};
 use mg_buffer::string_of;
 use mg_files::{Port, PortFault};
 use mg_minibuffer::{Message, Request};
 use rga_exchange::LogEnd;
 use rga_telling::Teller;
 
-/// What is said of a save.
-fn message_of_save(answer: Result<bool, PortFault>) -> Message
-    ensures { result ≡ spec.message_of_save answer }
+/// What came of a save, be there something to save or not.
+fn save_outcome(answer: Result<bool, PortFault>) -> Result<Message, CarryFault>
+    ensures { result ≡ spec.save_outcome answer }
 {
     match answer {
-        Ok(true) => Message::Wrote,
-        Ok(false) => Message::NoChanges,
-        Err(fault) => message_of_port(fault),
-    }
-}
-
-/// What is said of a buffer that was to be opened.
-fn message_of_opening(answer: &Result<LogEnd, CarryFault>) -> Message
-    ensures { result ≡ finding.message_of_opening answer.now }
-{
-    match answer {
-        Ok(end) => message_of_end(*end),
-        Err(fault) => message_of_fault(*fault),
-    }
-}
-
-/// Whether a save was done, be there something to save or not.
-fn save_done(answer: Result<bool, PortFault>) -> Result<(), CarryFault>
-    ensures { result ≡ spec.save_done answer }
-{
-    match answer {
-        Ok(_) => Ok(()),
+        Ok(true) => Ok(Message::Wrote),
+        Ok(false) => Ok(Message::NoChanges),
         Err(fault) => Err(CarryFault::Port(fault)),
     }
 }
 
-fn opening_done(answer: Result<LogEnd, CarryFault>) -> Result<(), CarryFault>
-    ensures { result ≡ finding.opening_done answer }
+/// What came of a buffer that was to be opened.
+fn opening_outcome(answer: Result<LogEnd, CarryFault>) -> Result<Message, CarryFault>
+    ensures { result ≡ finding.opening_outcome answer }
 {
     match answer {
-        Ok(_) => Ok(()),
+        Ok(end) => Ok(message_of_end(end)),
         Err(fault) => Err(fault),
     }
 }
@@ -74,9 +54,11 @@ impl<S: Teller> Editor<S> {
     pub fn carry<P: Port>(&mut self, request: Request, port: &mut P) -> Result<(), CarryFault>
         ensures carried { spec.Carried request
             (P.calls port.old) (P.calls port.new) self.old self.new result }
-        ensures met { meeting.MetOver request
-            (account P.Link.remaining P.Link.contents P.links P.calls port.old port.new)
-            self.old self.new result }
+        ensures met { let a =
+            account P.Link.remaining P.Link.contents P.links P.calls port.old port.new in
+            IfSome (meeting.role_of request) (λ role. telling.ChangesCurrent
+            (λ answer b d. ExchangesOver a b d role answer) meeting.meeting_outcome
+            self.old self.new result) }
         ensures device { telling.CountsBehind result (P.failures port.old) (P.failures port.new) }
     {
         match request {
@@ -90,13 +72,12 @@ impl<S: Teller> Editor<S> {
 
     /// The current buffer is saved, which is said.
     fn save<P: Port>(&mut self, port: &mut P) -> Result<(), CarryFault>
-        ensures saved { spec.Saved
+        ensures saved { spec.Carried Request.Save
             (P.calls port.old) (P.calls port.new) self.old self.new result }
         ensures device { telling.CountsBehind result (P.failures port.old) (P.failures port.new) }
     {
         let answer = self.work.current_mut().save(port);
-        self.talk.tell(message_of_save(answer));
-        save_done(answer)
+        self.conclude(save_outcome(answer))
     }
 
     /// The buffer of a name is current, opened if need be.
@@ -123,8 +104,7 @@ impl<S: Teller> Editor<S> {
         ensures device { telling.CountsBehind result (P.failures port.old) (P.failures port.new) }
     {
         let answer = self.load(name, port);
-        self.talk.tell(message_of_opening(&answer));
-        opening_done(answer)
+        self.conclude(opening_outcome(answer))
     }
 
     /// Opens the buffer of a name by what the port finds under it, and answers how its log ends.

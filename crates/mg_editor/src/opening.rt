@@ -58,7 +58,7 @@ impl<S: TextStore> Editor<S> {
 
     /// The text of the current buffer. `Memory` alone.
     pub fn text(&self) -> Result<Vec<char>, Refusal>
-        ensures text { IfOk result (λ chars. spec.IsText self.now chars.items) }
+        ensures text { IfOk result (λ chars. chars.items ≡ spec.current_text self.now) }
         ensures memory { IfErr result (λ e. e ≡ Refusal.Memory) }
     {
         rga_walk::text(self.alloc, self.work.current().buffer.store())

@@ -1,6 +1,10 @@
 //! The editor, pressed byte by byte.
-ghost use Rattle.std.specs.Prelude.{◌≡◌, Some, Ok, Err, IfOk, OnOk, OnErr};
+ghost use Rattle.std.specs.Prelude.{◌≡◌, ◌≢◌, None, Some, Ok, Err, IfOk, OnOk, OnErr};
+ghost use Rattle.mg_dialogue.specs.Dialogues.{Forgot, Reopened, Shown};
+ghost use Rattle.mg_minibuffer.specs.ReplacementStep as queries;
 ghost use Rattle.mg_minibuffer.specs.declared.prompt.Prompt.{Prompt};
+ghost use Rattle.mg_workspace.specs.Actions.{RanInCurrent};
+ghost use Rattle.mg_workspace.specs.Workspaces.{scene_of};
 ghost use Rattle.mg_editor.specs.Presses as spec;
 ghost use Rattle.mg_editor.specs.declared.fault.Fault.TheVariants.{Memory};
 
@@ -16,8 +20,8 @@ use std::alloc::{AllocError, Global};
 impl<S: TextStore> Editor<S> {
     /// A step where no prompt is open.
     fn take_plain(&mut self, step: Step) -> Result<Request, Fault>
-        ensures plainly { spec.Plainly step self.old self.new result }
-        ensures refused { OnErr result (spec.IsRefused self.old self.new) }
+        ensures plainly { spec.Stepped None step self.old self.new result }
+        ensures refused { OnErr result (spec.KeepsWork Forgot self.old self.new) }
     {
         let Ok(()) = self.work.list() else {
             return self.run_out();
@@ -41,7 +45,7 @@ impl<S: TextStore> Editor<S> {
     /// Does the action of an ending, and tells what came of it.
     fn end(&mut self, ending: Ending) -> Result<Request, Fault>
         ensures ended { spec.Ended ending self.old self.new result }
-        ensures refused { OnErr result (spec.IsRefused self.old self.new) }
+        ensures refused { OnErr result (spec.KeepsWork Forgot self.old self.new) }
     {
         let Ending {
             action,
@@ -58,7 +62,8 @@ impl<S: TextStore> Editor<S> {
 
     /// Tells what was done.
     fn show(&mut self, next: Next, message: Message, request: Request) -> Result<Request, Fault>
-        ensures told { spec.Shows next message request self.old.talk self.new.talk result }
+        ensures told { Shown next message self.old.talk self.new.talk }
+        ensures answer { result ≡ Ok request }
         ensures work { self.new.work ≡ self.old.work }
     {
         self.talk.show(next, message);
@@ -67,7 +72,8 @@ impl<S: TextStore> Editor<S> {
 
     /// Tells why an action was refused. Want of memory leaves prompt and message as they are.
     fn refuse(&mut self, fault: ActionFault, refused: Next) -> Result<Request, Fault>
-        ensures told { spec.Refuses fault refused self.old.talk self.new.talk result }
+        ensures told { let reply = spec.refusal fault refused self.old.talk.message in
+            spec.Replies reply self.old.talk self.new.talk result }
         ensures work { self.new.work ≡ self.old.work }
     {
         match fault {
@@ -79,8 +85,8 @@ impl<S: TextStore> Editor<S> {
     /// A step at an open prompt.
     fn take_prompted(&mut self, step: &Step) -> Result<Request, Fault>
         ensures prompted { (p : Prompt) → self.old.talk.prompt ≡ Some p →
-            spec.Prompted p step.now self.old self.new result }
-        ensures refused { OnErr result (spec.IsRefused self.old self.new) }
+            spec.Stepped (Some p) step.now self.old self.new result }
+        ensures refused { OnErr result (spec.KeepsWork Forgot self.old self.new) }
     {
         let Ok(()) = self.work.list() else {
             return self.run_out();
@@ -97,7 +103,7 @@ impl<S: TextStore> Editor<S> {
     /// What a reaction asks for.
     fn follow(&mut self, reaction: Reaction) -> Result<Request, Fault>
         ensures follows { spec.FollowsReaction reaction self.old self.new result }
-        ensures refused { OnErr result (spec.IsRefused self.old self.new) }
+        ensures refused { OnErr result (spec.KeepsWork Forgot self.old self.new) }
     {
         match reaction {
             Reaction::Ends(ending) => self.end(ending),
@@ -112,7 +118,7 @@ impl<S: TextStore> Editor<S> {
 
     /// An open search is accepted.
     fn accept(&mut self) -> Request
-        ensures { spec.Accepted self.old self.new (Ok result) }
+        ensures { spec.FollowsReaction Reaction.Accepts self.old self.new (Ok result) }
     {
         self.talk.accept_search();
         Request::Idle
@@ -120,8 +126,9 @@ impl<S: TextStore> Editor<S> {
 
     /// Replaces the match at point, and looks for the next one.
     fn replace(&mut self, pattern: &[char], put: &[char], count: usize) -> Result<Request, Fault>
-        ensures replaced { spec.Replaced pattern.now put.now count self.old self.new result }
-        ensures refused { OnErr result (spec.IsRefused self.old self.new) }
+        ensures replaced { let reaction = Reaction.Replaces pattern.now put.now count in
+            spec.FollowsReaction reaction self.old self.new result }
+        ensures refused { OnErr result (spec.KeepsWork Forgot self.old self.new) }
     {
         match self.replace_one(pattern, put) {
             Ok(()) => Ok(self.go_on(pattern, put, count.saturating_add(1))),
@@ -130,7 +137,10 @@ impl<S: TextStore> Editor<S> {
     }
 
     fn replace_one(&mut self, pattern: &[char], put: &[char]) -> Result<(), ActionFault>
-        ensures one { spec.ReplacesOne pattern.now put.now self.old.work self.new.work result }
+        ensures one { result ≢ Err ActionFault.Memory →
+            RanInCurrent (Command.ReplaceOne pattern.now put.now) 1 self.old.work self.new.work
+            result }
+        ensures memory { result ≡ Err ActionFault.Memory → self.new.work ≡ self.old.work }
         ensures talk { self.new.talk ≡ self.old.talk }
     {
         match replacement(self.alloc, pattern, put) {
@@ -154,9 +164,10 @@ impl<S: TextStore> Editor<S> {
     }
 
     fn find_next(&mut self, pattern: &[char], put: &[char], count: usize) -> Result<Request, Fault>
-        ensures found { OnOk result
-            (spec.FoundMatch pattern.now put.now count self.old self.new result) }
-        ensures refused { OnErr result (spec.IsRefused self.old self.new) }
+        ensures found { let scene = scene_of self.old.work in OnOk result
+            (spec.Ended (queries.asks_at_next_match pattern.now put.now count scene)
+            self.old self.new result) }
+        ensures refused { OnErr result (spec.KeepsWork Forgot self.old self.new) }
     {
         let Ok(()) = self.work.list() else {
             return self.run_out();
@@ -172,8 +183,8 @@ impl<S: TextStore> Editor<S> {
 
     /// A step that neither waits for more bytes nor leaves a search.
     fn take_step(&mut self, step: Step) -> Result<Request, Fault>
-        ensures stepped { spec.Stepped step self.old self.new result }
-        ensures refused { OnErr result (spec.IsRefused self.old self.new) }
+        ensures stepped { spec.Stepped self.old.talk.prompt step self.old self.new result }
+        ensures refused { OnErr result (spec.KeepsWork Forgot self.old self.new) }
     {
         if self.talk.has_prompt() {
             self.take_prompted(&step)
@@ -185,7 +196,7 @@ impl<S: TextStore> Editor<S> {
     /// A byte that leaves the search that is open.
     fn leave(&mut self, byte: u8) -> Result<Request, Fault>
         ensures leaves { spec.LeavesOpenSearch byte self.old self.new result }
-        ensures refused { OnErr result (spec.IsAsBefore self.old self.new) }
+        ensures refused { OnErr result (spec.KeepsWork Forgot self.old self.new) }
     {
         match self.talk.take_search() {
             Some(search) => {
@@ -199,7 +210,7 @@ impl<S: TextStore> Editor<S> {
     /// The step of a byte that left a search.
     fn leave_by(&mut self, search: Search, step: Step) -> Result<Request, Fault>
         ensures left { spec.LeftBy search step self.old self.new result }
-        ensures refused { OnErr result (spec.LeavesOpen search self.old self.new) }
+        ensures refused { OnErr result (spec.KeepsWork (Reopened search) self.old self.new) }
     {
         match step {
             Step::Pending => {
@@ -213,7 +224,7 @@ impl<S: TextStore> Editor<S> {
 
     fn leave_plainly(&mut self, search: Search, step: Step) -> Result<Request, Fault>
         ensures left { spec.LeftPlainly search step self.old self.new result }
-        ensures refused { OnErr result (spec.LeavesOpen search self.old self.new) }
+        ensures refused { OnErr result (spec.KeepsWork (Reopened search) self.old self.new) }
     {
         match self.take_plain(step) {
             Ok(request) => {
@@ -235,7 +246,7 @@ impl<S: TextStore> Editor<S> {
     /// forgotten.
     pub fn press(&mut self, byte: u8) -> Result<Request, Fault>
         ensures pressed { spec.Pressed byte self.old self.new result }
-        ensures refused { OnErr result (spec.IsAsBefore self.old self.new) }
+        ensures refused { OnErr result (spec.KeepsWork Forgot self.old self.new) }
     {
         let step = self.talk.feed(byte);
         match step {

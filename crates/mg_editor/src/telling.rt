@@ -1,16 +1,18 @@
-//! What is said of faults.
+//! What is said of requests, and of their faults.
 ghost use Rattle.std.specs.Prelude.{◌≡◌};
 ghost use Rattle.mg_editor.specs.Telling as spec;
 
+use crate::editor::Editor;
 use crate::fault::CarryFault;
 use mg_files::{LinkFault, LoadFault, PortFault};
 use mg_minibuffer::Message;
 use mg_plain::Notice;
 use mg_sync::ExchangeFault;
 use rga_exchange::{ReceiveFault, SendFault};
+use rga_store::TextStore;
 
 /// What is said of a port that is asked for files.
-pub(crate) fn message_of_port(fault: PortFault) -> Message
+fn message_of_port(fault: PortFault) -> Message
     ensures { result ≡ spec.message_of_port fault }
 {
     match fault {
@@ -81,7 +83,7 @@ fn message_of_peer(fault: ReceiveFault) -> Message
 }
 
 /// What is said of a meeting with a peer.
-pub(crate) fn message_of_exchange(fault: ExchangeFault) -> Message
+fn message_of_exchange(fault: ExchangeFault) -> Message
     ensures { result ≡ spec.message_of_exchange fault }
 {
     match fault {
@@ -93,12 +95,46 @@ pub(crate) fn message_of_exchange(fault: ExchangeFault) -> Message
 }
 
 /// What is said of a request that was not carried out.
-pub(crate) fn message_of_fault(fault: CarryFault) -> Message
+fn message_of_fault(fault: CarryFault) -> Message
     ensures { result ≡ spec.message_of_fault fault }
 {
     match fault {
         CarryFault::Port(fault) => message_of_port(fault),
         CarryFault::Load(fault) => message_of_load(fault),
         CarryFault::Exchange(fault) => message_of_exchange(fault),
+    }
+}
+
+/// What is said of a request.
+fn outcome_message(outcome: &Result<Message, CarryFault>) -> Message
+    ensures { result ≡ spec.outcome_message outcome.now }
+{
+    match outcome {
+        Ok(message) => *message,
+        Err(fault) => message_of_fault(*fault),
+    }
+}
+
+fn outcome_answer(outcome: Result<Message, CarryFault>) -> Result<(), CarryFault>
+    ensures { result ≡ spec.outcome_answer outcome }
+{
+    match outcome {
+        Ok(_) => Ok(()),
+        Err(fault) => Err(fault),
+    }
+}
+
+impl<S: TextStore> Editor<S> {
+    /// Says what came of a request, and answers it.
+    pub(crate) fn conclude(
+        &mut self,
+        outcome: Result<Message, CarryFault>,
+    ) -> Result<(), CarryFault>
+        ensures told { let said = spec.outcome_message outcome in
+            self.new ≡ spec.editor_saying self.old.work said self.old }
+        ensures answer { result ≡ spec.outcome_answer outcome }
+    {
+        self.talk.tell(outcome_message(&outcome));
+        outcome_answer(outcome)
     }
 }

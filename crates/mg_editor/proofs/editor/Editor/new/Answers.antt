@@ -15,4 +15,4 @@ returns g c no_memory =
     subst (λ w. load_outcome w.name w.replica w.limit c.args.found ≡ Ok (o.opened, o.end)) c.values.ensures.exact found in
     let work : c.in_ok-new.field-0 ≡ workspace v o.opened = search rules in
     let e : Editor = record { work = c.in_ok-new.field-0; talk = c.new-2.result } in
-    subst (λ l. OpensEditorBy v l (Ok e)) (sym loaded) (e, refl, record { work = work; talk = search rules })
+    subst (λ l. OpensEditorBy v l (Ok e)) (sym loaded) (e, refl, (work, search rules))

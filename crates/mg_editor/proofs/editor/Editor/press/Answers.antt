@@ -1,10 +1,10 @@
 use Rattle.std.proofs.Common.{rules, ◌≡◌, Ok, refl, sym, subst}
 use Rattle.mg_keys.specs.declared.step.Step.TheVariants.{Pending}
 use Rattle.mg_minibuffer.specs.declared.ending.Request.TheVariants.{Idle}
-use Rattle.mg_dialogue.specs.Dialogues.{Fed}
+use Rattle.mg_dialogue.specs.Dialogues.{Fed, Forgot}
 use Rattle.mg_buffers.proofs.Results.{on_err_map}
 use Rattle.mg_editor.specs.Editors.{Editor}
-use Rattle.mg_editor.specs.Presses.{IsAsBefore, Pressed}
+use Rattle.mg_editor.specs.Presses.{KeepsWork, Pressed}
 use Rattle.mg_editor.proofs.Steps.{as_before, taken_default}
 use Rattle.mg_editor.proofs.editor.Editor.press.Goals as goal
 
@@ -31,5 +31,5 @@ returns-in_default g c =
     let before = on_err_map r _ _ (as_before c.args.byte step was now fed c.feed-step.ensures) c.take_step.ensures.refused in
     record {
       pressed = subst (λ e. Pressed c.args.byte e now r) (sym is) (record { step = step; fed = fed; feeds = c.feed-step.ensures; taken = taken });
-      refused = on_err_map r _ _ (subst (λ e. IsAsBefore e now) (sym is)) before;
+      refused = on_err_map r _ _ (subst (λ e. KeepsWork Forgot e now) (sym is)) before;
     }
