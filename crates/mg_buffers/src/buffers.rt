@@ -89,7 +89,7 @@ impl<S: TextStore> Buffers<S> {
 
     /// The index of the buffer of a name. Takes no memory.
     pub fn named(&self, name: &[char]) -> Option<usize>
-        ensures exact { result ≡ names.named name.now self.now.all }
+        ensures exact { result ≡ names.buffer_named name.now self.now.all }
         ensures within { IfSome result (λ i. i < length self.now.all) }
     {
         index_named(self.all.as_slice(), name)

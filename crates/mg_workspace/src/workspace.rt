@@ -112,7 +112,7 @@ impl<S: TextStore> Workspace<S> {
 
     /// The current buffer. Takes no memory.
     pub fn current(&self) -> &VisitedBuffer<S>
-        ensures { result.now ≡ spec.current_buffer self.now }
+        ensures { result.now ≡ spec.workspace_buffer self.now }
     {
         self.buffers.current()
     }
@@ -120,8 +120,8 @@ impl<S: TextStore> Workspace<S> {
     /// The current buffer, to be changed: the windows go on showing it. Takes no memory.
     pub fn current_mut(&mut self) -> &mut VisitedBuffer<S>
         ensures* writes_back { sem 𝓛 (Lends (the_row S.row S.Taker) (of_buffer S.row S.Taker)
-            self.entry result (spec.with_current self.old)) }
-        ensures value { result.now ≡ spec.current_buffer self.old }
+            self.entry result (spec.with_workspace_buffer self.old)) }
+        ensures value { result.now ≡ spec.workspace_buffer self.old }
     {
         self.buffers.current_mut()
     }
