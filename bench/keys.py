@@ -3,11 +3,12 @@
 
 Prints a row a figure, with what is wanted of it: the microseconds of user time of a key, where text
 is typed with motions, kills, yanks and undos in a text of 100,000 characters, without frames and
-with one a key; the seconds of 260,000 keys that write a text of 100,000 characters; the loading of
-a log of a million operations, over `mgr show` of it; of a text of a million characters without a
-log; a save of that, over the writing and syncing of the same bytes; and the peak memory of it. The
-time of the same run without keys is taken off where a key is told, and the least of the
-measurements counts. A call by hand may name another mgr, and fewer characters and keys.
+with one a key; the milliseconds of user and system time of a yank of a tenth of such a text; the
+seconds of 260,000 keys that write a text of 100,000 characters; the loading of a log of a million
+operations, over `mgr show` of it; of a text of a million characters without a log; a save of that,
+over the writing and syncing of the same bytes; and the peak memory of it. The time of the same run
+without keys is taken off where a key is told, and the least of the measurements counts. A call by
+hand may name another mgr, and fewer characters and keys.
 """
 
 import argparse
@@ -26,6 +27,7 @@ FOLDER = BUILD / "bench" / "keys"
 MEASUREMENTS = 3
 LINE = 60
 TRACED = 20  # of so many keys one is measured with frames
+YANKS = 20
 SAVE = b"\x18\x13"
 
 # The program is the shell's only child, so the peak is its own; the times are of one run.
@@ -145,6 +147,15 @@ def measure_keys(editor, size, count):
     print_row(f"the same with a frame each, of {len(keys):,}", traced * 1e3, "ms", 1.2)
 
 
+def measure_yanks(editor, size):
+    """A tenth of the characters is copied, and then put at their begin many times."""
+    # No argument is above 9999.
+    files, tenth = {"text": text_of(size).encode()}, size // 10 - 1
+    copy = b"\x00\x15%d\x06\x1bw\x1b<" % tenth
+    none, yanked = (editor.edit(copy + b"\x19" * count, files).processor for count in (0, YANKS))
+    print_row(f"{tenth:,} characters yanked in {size:,}, of {YANKS}", (yanked - none) / YANKS * 1e3, "ms", 1.5)
+
+
 def measure_writing(editor, size, count):
     keys = writing(size, count)
     user = editor.edit(keys, {}).user
@@ -193,6 +204,7 @@ def main():
     editor, part = Editor(os.path.abspath(given.mgr), FOLDER), given.part
     print(f"{'':<62} {'figure':>9} {'':<6} {'wanted':>7}")
     measure_keys(editor, 100_000 // part, 100_000 // part)
+    measure_yanks(editor, 100_000 // part)
     measure_writing(editor, 100_000 // part, 260_000 // part)
     measure_loading(editor, 1_000_000 // part)
     measure_text(editor, 1_000_000 // part)
