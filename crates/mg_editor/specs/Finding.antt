@@ -8,7 +8,7 @@ use Rattle.mg_files.specs.declared.fault.LoadFault.{LoadFault}
 use Rattle.mg_files.specs.declared.fault.LoadFault.TheVariants.{Memory}
 use Rattle.mg_files.specs.declared.port.PortFault.{PortFault}
 use Rattle.mg_minibuffer.specs.declared.message.Message.TheVariants as message
-use Rattle.mg_buffers.specs.Names.{buffer_named}
+use Rattle.mg_workspace.specs.Names.{buffer_named}
 use Rattle.mg_workspace.specs.Actions.{gone_to}
 use Rattle.mg_workspace.specs.Opening.{is_full, OpensBy}
 use Rattle.mg_workspace.specs.Workspaces.{Workspace}

@@ -14,7 +14,7 @@ use mg_buffer::string_of;
 use mg_files::{Port, PortFault};
 use mg_minibuffer::{Message, Request};
 use rga_exchange::LogEnd;
-use rga_telling::Teller;
+use rga_store::Teller;
 
 /// What came of a save, be there something to save or not.
 fn save_outcome(answer: Result<bool, PortFault>) -> Result<Message, CarryFault>

@@ -11,7 +11,7 @@ use crate::fault::CarryFault;
 use mg_files::Port;
 use mg_minibuffer::{Message, Request};
 use mg_sync::{ExchangeFault, Exchanged};
-use rga_telling::Teller;
+use rga_store::Teller;
 
 /// What came of a meeting.
 fn meeting_outcome(answer: Result<Exchanged, ExchangeFault>) -> Result<Message, CarryFault>

@@ -61,6 +61,6 @@ impl<S: TextStore> Editor<S> {
         ensures text { IfOk result (λ chars. chars.items ≡ spec.current_text self.now) }
         ensures memory { IfErr result (λ e. e ≡ Refusal.Memory) }
     {
-        rga_walk::text(self.alloc, self.work.current().buffer.store())
+        self.work.current().buffer.store().text(self.alloc)
     }
 }

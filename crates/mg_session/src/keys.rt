@@ -10,8 +10,7 @@ use mg_editor::{Editor, Fault};
 use mg_files::Port;
 use mg_minibuffer::{Message, Request};
 use mg_plain::Notice;
-use rga_store::TextStore;
-use rga_telling::Teller;
+use rga_store::{Teller, TextStore};
 
 /// Presses a byte. Want of memory is said.
 fn press<S: TextStore>(editor: &mut Editor<S>, byte: u8) -> Request

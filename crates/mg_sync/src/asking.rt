@@ -11,7 +11,7 @@ use rga_digest::Summary;
 use rga_exchange::{ReceiveFault, SendFault};
 use rga_lines::Counted;
 use rga_ops::Refusal;
-use rga_telling::Teller;
+use rga_store::Teller;
 use std::alloc::Global;
 use std::io::{Read, Write};
 

@@ -8,7 +8,7 @@ use crate::fault::ExchangeFault;
 use crate::talking::{Exchanged, hear_and_save, tell};
 use mg_files::{Port, VisitedBuffer};
 use rga_lines::Counted;
-use rga_telling::Teller;
+use rga_store::Teller;
 use std::alloc::Global;
 
 /// Exchanges a buffer with the peer that a port connects to: saves it, opens a link, sends all that

@@ -9,8 +9,7 @@ use rga_brief::send_missing;
 use rga_digest::Summary;
 use rga_exchange::{ReceiveFault, SendFault, receive, send};
 use rga_lines::Counted;
-use rga_store::TextStore;
-use rga_telling::Teller;
+use rga_store::{Teller, TextStore};
 use std::alloc::Global;
 use std::io::{Read, Write};
 

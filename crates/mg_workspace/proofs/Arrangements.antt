@@ -4,8 +4,8 @@ use Rattle.std.proofs.lemmas.List.{length-set}
 use Rattle.mg_screen.specs.declared.windows.WindowFault.TheVariants.{TooSmall, OnlyOne, Memory}
 use Rattle.mg_screen.specs.Layout.{Layout}
 use Rattle.mg_minibuffer.specs.declared.ending.Arrangement.{Arrangement}
-use Rattle.mg_buffers.specs.Buffers as buffers
-use Rattle.mg_buffers.specs.Buffers.{Buffers}
+use Rattle.mg_workspace.specs.Buffers as buffers
+use Rattle.mg_workspace.specs.Buffers.{Buffers}
 use Rattle.mg_workspace.specs.declared.fault.ActionFault.TheVariants as action_fault
 use Rattle.mg_workspace.specs.declared.viewport.Viewport.{Viewport}
 use Rattle.mg_workspace.specs.declared.workspace.TheConstants.{MAX_BUFFERS}

@@ -4,7 +4,7 @@ use Rattle.mg_plain.specs.declared.command.Command.{Command}
 use Rattle.mg_buffer.specs.Faults.{FaultVerdict}
 use Rattle.mg_buffer.specs.Sight.{Notes}
 use Rattle.mg_buffer.specs.State.{State}
-use Rattle.mg_buffers.specs.Buffers.{no_buffer}
+use Rattle.mg_workspace.specs.Buffers.{no_buffer}
 use Rattle.mg_workspace.specs.Actions.{ActionVerdict, of_buffer, current_state, with_state_and_notes, RanInCurrent, UndidInCurrent}
 use Rattle.mg_workspace.specs.Workspaces.{Workspace}
 use Rattle.mg_workspace.specs.declared.fault.ActionFault.TheVariants.{Memory}

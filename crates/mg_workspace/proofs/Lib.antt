@@ -1,3 +1,7 @@
+pub mod Results
+pub mod NameLaws
+pub mod Moves
+pub mod Current
 pub mod MappedLaws
 pub mod ViewportLaws
 pub mod Removals

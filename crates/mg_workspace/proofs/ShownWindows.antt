@@ -11,7 +11,7 @@ use Rattle.mg_screen.specs.Screen.{Pane, Screen}
 use Rattle.mg_screen.proofs.CursorLaws.{placed_shows}
 use Rattle.rga_ops.specs.Order.{text}
 use Rattle.mg_buffer.specs.Sight.{place_of}
-use Rattle.mg_buffers.specs.Buffers.{Buffers}
+use Rattle.mg_workspace.specs.Buffers.{Buffers}
 use Rattle.mg_workspace.proofs.MappedLaws.{mapped_to, mapped_on}
 use Rattle.mg_workspace.specs.declared.viewport.Viewport.{Viewport}
 use Rattle.mg_workspace.specs.Viewports.{viewport, AreShown}

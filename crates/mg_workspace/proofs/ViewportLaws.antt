@@ -6,10 +6,10 @@ use Rattle.std.proofs.lemmas.Option.{same_Some}
 use Rattle.std.proofs.lemmas.List.Edits.{length-remove}
 use Rattle.mg_files.specs.OpenState.{OpenState}
 use Rattle.mg_screen.specs.Layout.{Window, window, Layout, heights, all_shown, shows_at, shown_layout, split_at, remove_at, only_at, windows_of, shared, staying, resized_layout, of_height, rows_of}
-use Rattle.mg_buffers.specs.Buffers.{Buffers, with_buffer, without_buffer}
+use Rattle.mg_workspace.specs.Buffers.{Buffers, with_buffer, without_buffer}
 use Rattle.mg_workspace.specs.Mapped.{mapped_at}
-use Rattle.mg_buffers.specs.Names.{moved}
-use Rattle.mg_buffers.proofs.Moves.{moved_first, moved_within}
+use Rattle.mg_workspace.specs.Names.{moved}
+use Rattle.mg_workspace.proofs.Moves.{moved_first, moved_within}
 use Rattle.mg_workspace.specs.declared.viewport.Viewport.{Viewport}
 use Rattle.mg_workspace.specs.declared.workspace.TheConstants.{MAX_BUFFERS}
 use Rattle.mg_workspace.specs.Viewports.{viewport, current_viewport, turned_to_buffer, window_without, layout_without, ShowThese, AreShown}

@@ -23,8 +23,8 @@ use Rattle.mg_screen.specs.declared.windows.WindowFault.{WindowFault}
 use Rattle.mg_screen.specs.declared.windows.WindowFault.TheVariants as window
 use Rattle.mg_screen.specs.Layout.{Layout, current_height, split_layout, removed_layout, resized_layout, only_layout, other_layout}
 use Rattle.mg_screen.specs.Lines.{line_index, centred}
-use Rattle.mg_buffers.specs.Buffers as buffers
-use Rattle.mg_buffers.specs.Names.{buffer_named, asked, next_round}
+use Rattle.mg_workspace.specs.Buffers as buffers
+use Rattle.mg_workspace.specs.Names.{buffer_named, asked, next_round}
 use Rattle.mg_workspace.specs.declared.fault.ActionFault.{ActionFault}
 use Rattle.mg_workspace.specs.declared.fault.ActionFault.TheVariants.{Refused, Memory}
 use Rattle.mg_workspace.specs.declared.viewport.Viewport.{Viewport}

@@ -6,7 +6,7 @@ use Rattle.mg_files.specs.OpenState.{OpenState, with_brief, with_runs}
 use Rattle.mg_files.specs.declared.fault.LoadFault.{LoadFault}
 use Rattle.mg_screen.specs.Layout.{layout, window}
 use Rattle.mg_settings.specs.Settings.{Values}
-use Rattle.mg_buffers.specs.Buffers.{with_buffer}
+use Rattle.mg_workspace.specs.Buffers.{with_buffer}
 use Rattle.mg_workspace.specs.declared.workspace.TheConstants.{MAX_BUFFERS}
 use Rattle.mg_workspace.specs.Viewports.{viewport, turned_to_buffer}
 use Rattle.mg_workspace.specs.Workspaces.{Workspace}

@@ -3,8 +3,8 @@ use Rattle.std.specs.Prelude.{◌≡◌, ℕ, ◌<◌, ◌≤◌, List, length, 
 use Rattle.std.specs.Coded.{Coded, code_by, coded×, coded_ℕ}
 use Rattle.std.specs.List.{AllByRecursion}
 use Rattle.mg_screen.specs.Layout.{Window, window, Layout, layout, all_shown, shown_layout}
-use Rattle.mg_buffers.specs.Buffers.{Buffers}
-use Rattle.mg_buffers.specs.Names.{moved}
+use Rattle.mg_workspace.specs.Buffers.{Buffers}
+use Rattle.mg_workspace.specs.Names.{moved}
 use Rattle.mg_workspace.specs.declared.viewport.Viewport.{Viewport}
 use Rattle.mg_workspace.specs.declared.workspace.TheConstants.{MAX_BUFFERS}
 

@@ -4,8 +4,8 @@ use Rattle.rga_ops.specs.Order.{text}
 use Rattle.mg_buffer.specs.Sight.{Notes, place_of}
 use Rattle.mg_files.specs.OpenState.{OpenState}
 use Rattle.mg_screen.specs.Layout.{Layout, current_height}
-use Rattle.mg_buffers.specs.Buffers as buffers
-use Rattle.mg_buffers.specs.Buffers.{are_changed}
+use Rattle.mg_workspace.specs.Buffers as buffers
+use Rattle.mg_workspace.specs.Buffers.{are_changed}
 use Rattle.mg_workspace.specs.declared.viewport.Viewport.{Viewport}
 use Rattle.mg_minibuffer.specs.Scenes as scenes
 

@@ -10,10 +10,10 @@ ghost use Rattle.mg_workspace.specs.Viewports as viewports;
 ghost use Rattle.mg_workspace.specs.Opening as opening;
 
 use crate::arranging::{current_viewport, viewport_at};
+use crate::buffers::moved;
 use crate::fault::ActionFault;
 use crate::viewport::Viewport;
 use crate::workspace::{MAX_BUFFERS, Workspace};
-use mg_buffers::moved;
 use mg_files::{Found, LoadFault, VisitedBuffer};
 use mg_minibuffer::Message;
 use mg_screen::Windows;

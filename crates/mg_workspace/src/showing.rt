@@ -8,10 +8,10 @@ ghost use Rattle.mg_workspace.specs.Showing as spec;
 ghost use Rattle.mg_workspace.specs.Workspaces.{workspace_buffer};
 
 use crate::arranging::{height_at, viewport_at};
+use crate::buffers::Buffers;
 use crate::viewport::Viewport;
 use crate::workspace::Workspace;
 use mg_buffer::Memo;
-use mg_buffers::Buffers;
 use mg_files::VisitedBuffer;
 use mg_screen::{FrameFault, Pane, Windows, first_line};
 use rga_store::TextStore;

@@ -5,9 +5,9 @@ ghost use Rattle.mg_screen.specs.declared.size.TheConstants.{MIN_COLUMNS, MAX_CO
 ghost use Rattle.mg_workspace.specs.Opening.{workspace};
 ghost use Rattle.mg_workspace.specs.Workspaces as spec;
 
+use crate::buffers::Buffers;
 use crate::viewport::Viewport;
 use mg_buffer::Memo;
-use mg_buffers::Buffers;
 use mg_files::{LoadFault, VisitedBuffer};
 use mg_minibuffer::Scene;
 use mg_screen::Windows;

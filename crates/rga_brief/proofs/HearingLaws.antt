@@ -14,7 +14,7 @@ use Rattle.rga_exchange.specs.declared.fault.ReceiveFault.{ReceiveFault}
 use Rattle.rga_exchange.specs.declared.fault.ReceiveFault.TheVariants as fault
 use Rattle.rga_exchange.proofs.ReadLaws.{on_all}
 use Rattle.rga_digest.specs.Summary.{Summary}
-use Rattle.rga_digest_lines.specs.declared.claim.Claim.{Claim}
+use Rattle.rga_brief.specs.declared.claim.Claim.{Claim}
 use Rattle.rga_brief.specs.Heard.{HasHeard}
 use Rattle.rga_brief.specs.Lines.{claim_line_at}
 use Rattle.rga_brief.proofs.LineLaws.{too_long}

@@ -1,3 +1,6 @@
+pub mod ClaimLaws
+pub mod ClaimLineLaws
+pub mod SummaryLaws
 pub mod LineLaws
 pub mod TellingLaws
 pub mod HearingLaws

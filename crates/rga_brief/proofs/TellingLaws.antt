@@ -33,13 +33,13 @@ use Rattle.rga_exchange.specs.declared.fault.ReceiveFault.{ReceiveFault}
 use Rattle.rga_exchange.specs.declared.fault.ReceiveFault.TheVariants.{Count}
 use Rattle.rga_digest.specs.Summary.{Summary, IsSummary}
 use Rattle.rga_digest.proofs.OneSummary.{one_summary}
-use Rattle.rga_digest_lines.specs.declared.claim.Claim.{Claim}
-use Rattle.rga_digest_lines.specs.declared.claim.Claim.TheVariants.{Known, Deleted}
-use Rattle.rga_digest_lines.specs.Claims.{claim_of, claim_in, claim_data, claim_line, IsInRange}
-use Rattle.rga_digest_lines.specs.Summaries.{claims_of, summary_from}
-use Rattle.rga_digest_lines.proofs.ClaimLaws.{claim_back}
-use Rattle.rga_digest_lines.proofs.LineLaws.{line_of, one_line}
-use Rattle.rga_digest_lines.proofs.SummaryLaws.{comes_back}
+use Rattle.rga_brief.specs.declared.claim.Claim.{Claim}
+use Rattle.rga_brief.specs.declared.claim.Claim.TheVariants.{Known, Deleted}
+use Rattle.rga_brief.specs.Claims.{claim_of, claim_in, claim_data, claim_line, IsInRange}
+use Rattle.rga_brief.specs.Summaries.{claims_of, summary_from}
+use Rattle.rga_brief.proofs.ClaimLaws.{claim_back}
+use Rattle.rga_brief.proofs.ClaimLineLaws.{line_of, one_line}
+use Rattle.rga_brief.proofs.SummaryLaws.{comes_back}
 use Rattle.rga_brief.specs.Lines.{claim_line_at, end_said}
 use Rattle.rga_brief.proofs.LineLaws.{said}
 use Rattle.rga_brief.specs.Told.{IsTold, TellsSummary, claim_lines, summary_text, summary_or, after_claim_line, lines_heard, summary_heard}

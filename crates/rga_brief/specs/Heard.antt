@@ -3,7 +3,7 @@ use Rattle.std.specs.Prelude.{◌≡◌, ℕ, ◌≤◌, List, ◌++◌, length,
 use Rattle.std.specs.Io.KnownBytes.{Consumes}
 use Rattle.rga_lines.specs.Counting.{Calls}
 use Rattle.rga_exchange.specs.declared.fault.ReceiveFault.TheVariants.{Cut}
-use Rattle.rga_digest_lines.specs.declared.claim.Claim.{Claim}
+use Rattle.rga_brief.specs.declared.claim.Claim.{Claim}
 use Rattle.rga_brief.specs.declared.hearing.TheConstants.{BLOCK}
 use Rattle.rga_brief.specs.Told.{bytes_heard, summary_heard}
 

@@ -1,3 +1,5 @@
+pub mod Claims
+pub mod Summaries
 pub mod Lines
 pub mod Told
 pub mod Heard

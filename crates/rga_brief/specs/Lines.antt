@@ -6,8 +6,8 @@ use Rattle.rga_lines.specs.declared.reading.TheConstants.{MAX_LINE}
 use Rattle.rga_lines.specs.declared.reading.Line.TheVariants as line
 use Rattle.rga_lines.specs.declared.fault.LineFault.{LineFault}
 use Rattle.rga_lines.specs.declared.fault.LineFault.TheVariants as fault
-use Rattle.rga_digest_lines.specs.declared.claim.Claim.{Claim}
-use Rattle.rga_digest_lines.specs.Claims.{claim_in}
+use Rattle.rga_brief.specs.declared.claim.Claim.{Claim}
+use Rattle.rga_brief.specs.Claims.{claim_in}
 use Rattle.rga_brief.specs.declared.claim_line.ClaimLine.{ClaimLine}
 use Rattle.rga_brief.specs.declared.claim_line.ClaimLine.TheVariants.{One, Last}
 

@@ -10,9 +10,9 @@ use Rattle.rga_lines.specs.declared.fault.LineFault.TheVariants as line_fault
 use Rattle.rga_exchange.specs.declared.fault.ReceiveFault.{ReceiveFault}
 use Rattle.rga_exchange.specs.declared.fault.ReceiveFault.TheVariants as fault
 use Rattle.rga_digest.specs.Summary.{Summary, IsSummary}
-use Rattle.rga_digest_lines.specs.Claims.{claim_line}
-use Rattle.rga_digest_lines.specs.Summaries.{claims_of, summary_from}
-use Rattle.rga_digest_lines.specs.declared.claim.Claim.{Claim}
+use Rattle.rga_brief.specs.Claims.{claim_line}
+use Rattle.rga_brief.specs.Summaries.{claims_of, summary_from}
+use Rattle.rga_brief.specs.declared.claim.Claim.{Claim}
 use Rattle.rga_brief.specs.Lines.{claim_line_at}
 use Rattle.rga_brief.specs.declared.claim_line.ClaimLine.{ClaimLine}
 use Rattle.rga_brief.specs.declared.claim_line.ClaimLine.TheVariants.{One, Last}

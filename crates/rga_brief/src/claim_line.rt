@@ -4,7 +4,8 @@ ghost use Rattle.rga_lines.specs.Table.{any_line_at};
 ghost use Rattle.rga_lines.specs.declared.fault.LineFault.TheVariants.{Memory};
 ghost use Rattle.rga_brief.specs.Lines.{claim_line_at, claim_said, end_said};
 
-use rga_digest_lines::{Claim, read_claim};
+use crate::claim::Claim;
+use crate::reading::read_claim;
 use rga_lines::{Line, LineFault, MAX_LINE, read_any};
 use std::alloc::Global;
 use std::str;

@@ -5,15 +5,16 @@ ghost use Rattle.rga_lines.specs.Stream.{lines_of};
 ghost use Rattle.rga_lines.specs.declared.fault.LineFault.{LineFault as FaultOfLine};
 ghost use Rattle.rga_lines.specs.declared.reading.TheConstants.{MAX_LINE};
 ghost use Rattle.rga_exchange.specs.declared.fault.ReceiveFault.TheVariants.{Memory, Read as ReadFailed, Line as FaultyLine};
-ghost use Rattle.rga_digest_lines.specs.declared.claim.Claim.{Claim as ClaimName};
+ghost use Rattle.rga_brief.specs.declared.claim.Claim.{Claim as ClaimName};
 ghost use Rattle.rga_brief.specs.Heard.{ReadsToBlock};
 ghost use Rattle.rga_brief.specs.Lines.{claim_line_at};
 ghost use Rattle.rga_brief.specs.Told.{bytes_heard, ended, summary_heard};
 ghost use Rattle.rga_brief.specs.declared.claim_line.ClaimLine.TheVariants.{One, Last};
 
+use crate::claim::Claim;
 use crate::claim_line::{ClaimLine, read_claim_line};
+use crate::claims::summary_from;
 use rga_digest::Summary;
-use rga_digest_lines::{Claim, summary_from};
 use rga_exchange::ReceiveFault;
 use rga_lines::{Counted, LineFault, Splitter};
 use std::alloc::Global;

@@ -7,16 +7,18 @@ ghost use Rattle.rga_lines.specs.Stream.{bytes_of_lines, newline};
 ghost use Rattle.rga_exchange.specs.Sending.{exchange_text};
 ghost use Rattle.rga_exchange.specs.Receiving.{exchange_outcome};
 ghost use Rattle.rga_digest.specs.Summary.{Summary as SummaryValue, IsSummary, missing};
-ghost use Rattle.rga_digest_lines.specs.Claims.{IsInRange, claim_line};
-ghost use Rattle.rga_digest_lines.specs.Summaries.{claims_of};
+ghost use Rattle.rga_brief.specs.Claims.{IsInRange, claim_line};
+ghost use Rattle.rga_brief.specs.Summaries.{claims_of};
 ghost use Rattle.rga_brief.specs.Told.{IsTold, summary_text};
 
+use crate::claim::Claim;
+use crate::claims::claims_of;
+use crate::writing::write_claim;
 use rga_digest::{Summary, missing, summary_of};
-use rga_digest_lines::{Claim, claims_of, write_claim};
 use rga_exchange::{SendFault, send_list};
 use rga_lines::{Counted, write_end};
 use rga_ops::Refusal;
-use rga_telling::Teller;
+use rga_store::Teller;
 use std::alloc::Global;
 use std::io::Write;
 

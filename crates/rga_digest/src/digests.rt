@@ -8,7 +8,7 @@ ghost use Rattle.rga_digest.specs.declared.block.Block.{Block as BlockName};
 
 use crate::block::Block;
 use rga_ops::{Id, Op, Refusal};
-use rga_telling::Listener;
+use rga_store::Listener;
 use std::alloc::Global;
 use std::collections::BTreeMap;
 use std::marker::Model;

@@ -8,7 +8,7 @@ use crate::block::Block;
 use crate::digests::ToldDigests;
 use crate::summary::Summary;
 use rga_ops::{Op, Refusal};
-use rga_telling::{Listener, Teller};
+use rga_store::{Listener, Teller};
 use std::alloc::Global;
 use std::collections::BTreeMap;
 use std::marker::Model;

@@ -9,7 +9,7 @@ use crate::digests::ToldDigests;
 use crate::ranges::{KnownRange, are_apart, have};
 use crate::told_ranges::ToldRanges;
 use rga_ops::{Id, Refusal};
-use rga_telling::Teller;
+use rga_store::Teller;
 use std::alloc::Global;
 use std::collections::BTreeMap;
 use std::marker::Model;

@@ -5,7 +5,7 @@ ghost use Rattle.rga_digest.specs.Ranges.{is_known, are_rising};
 
 use crate::ranges::{KnownRange, add_counter, join_parts};
 use rga_ops::{Op, Refusal};
-use rga_telling::Listener;
+use rga_store::Listener;
 use std::alloc::Global;
 use std::marker::Model;
 

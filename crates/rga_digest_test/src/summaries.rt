@@ -1,6 +1,6 @@
 //! What one store has and another lacks, by a summary that goes over in lines.
+use rga_brief::{Claim, claims_of, read_claim, summary_from, write_claim};
 use rga_digest::{Block, missing, summary_of};
-use rga_digest_lines::{Claim, claims_of, read_claim, summary_from, write_claim};
 use rga_ops::{Op, Refusal};
 use rga_store::{Taker, TextStore};
 use rga_tree::TreeStore;

@@ -6,7 +6,7 @@ ghost use Rattle.rga_records.specs.Records.{content_of_records};
 use crate::telling::{tell_deletions, tell_insertions};
 use rga_ops::{Id, Op, Refusal};
 use rga_pages::{Page, Pages, Record};
-use rga_telling::Listener;
+use rga_store::Listener;
 use std::alloc::Global;
 use std::marker::Model;
 

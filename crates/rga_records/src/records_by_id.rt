@@ -26,8 +26,7 @@ use crate::telling::{tell_both, tell_deletions, tell_insertions};
 use rga_ops::{Found, Id, Op, Refusal};
 use rga_pages::Pages;
 use rga_sequence::{Entry, Near};
-use rga_store::MAX_LIMIT;
-use rga_telling::Listener;
+use rga_store::{Listener, MAX_LIMIT};
 use std::alloc::Global;
 use std::marker::Model;
 

@@ -7,7 +7,7 @@ ghost use Rattle.rga_records.specs.Records.{content_of_records, insertion_of_rec
 
 use rga_ops::{Id, Op, Refusal};
 use rga_pages::{Page, Pages, Record};
-use rga_telling::Listener;
+use rga_store::Listener;
 
 /// Tells the insertions by rising identifier. `Memory` where the listener answers it.
 pub(crate) fn tell_insertions<L: Listener>(entries: &Pages, listener: &mut L) -> Result<(), Refusal>

@@ -1,8 +1,8 @@
 //! Both stores on worked examples.
 use crate::words::{holds, shows, spell, store_of};
+use rga_doc::walk::{text, visible_len};
 use rga_ops::{Id, Op, Refusal};
 use rga_store::{MAX_LIMIT, TextStore, answer_at};
-use rga_walk::{text, visible_len};
 use std::alloc::Global;
 use std::process::Abort;
 use test_fixtures::{insertion, op_of, prints};

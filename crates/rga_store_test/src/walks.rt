@@ -1,8 +1,8 @@
 //! Elements by index and by place: two people write at once, and then one element is deleted.
 use crate::words::store_of;
+use rga_doc::walk::{element_at, place_of, position_of, visible_elements};
 use rga_ops::Refusal;
 use rga_store::TextStore;
-use rga_walk::{element_at, place_of, position_of, visible_elements};
 use std::alloc::Global;
 use std::process::Abort;
 use test_fixtures::{id, prints};

@@ -7,7 +7,7 @@ use crate::nodes::Node;
 use crate::operations::{list_deletions, list_insertions};
 use indexmap::IndexMap;
 use rga_ops::{Id, Op, Refusal};
-use rga_telling::Listener;
+use rga_store::Listener;
 use std::alloc::Global;
 
 /// Tells the insertions by rising identifier, of which a list is made. `Memory` alone.

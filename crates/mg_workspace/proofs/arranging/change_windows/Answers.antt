@@ -1,6 +1,6 @@
 use Rattle.std.proofs.Common.{sym, subst}
 use Rattle.mg_screen.specs.Layout.{Layout}
-use Rattle.mg_buffers.proofs.Results.{by_result, on_ok_map, on_err_map}
+use Rattle.mg_workspace.proofs.Results.{by_result, on_ok_map, on_err_map}
 use Rattle.mg_workspace.specs.declared.viewport.Viewport.{Viewport}
 use Rattle.mg_workspace.specs.Viewports.{ShowThese}
 use Rattle.mg_workspace.proofs.ViewportLaws.{show_split, show_remove, show_only}

@@ -1,6 +1,6 @@
 use Rattle.std.proofs.Common.{◌≡◌, ap, ◌∙◌}
 use Rattle.mg_screen.specs.Layout.{layout}
-use Rattle.mg_buffers.specs.Names.{moved}
+use Rattle.mg_workspace.specs.Names.{moved}
 use Rattle.mg_workspace.specs.Viewports.{viewport}
 use Rattle.mg_workspace.proofs.ViewportLaws.{left_at}
 use Rattle.mg_workspace.proofs.choosing.leave_at.Goals as goal

@@ -1,6 +1,6 @@
 use Rattle.std.proofs.Common.{◌≡◌, ◌<◌, ◌≤◌, length, Some, slice_get, arith, sym, ap, subst, ◌∙◌}
 use Rattle.mg_screen.specs.Layout.{Window, window}
-use Rattle.mg_buffers.proofs.Results.{if_ok_map}
+use Rattle.mg_workspace.proofs.Results.{if_ok_map}
 use Rattle.mg_workspace.specs.declared.viewport.Viewport.{Viewport}
 use Rattle.mg_workspace.specs.Showing.{pane_over, placed_window}
 use Rattle.mg_workspace.proofs.ViewportLaws.{each_there}

@@ -2,7 +2,7 @@ use Rattle.std.proofs.Common.{rules, ◌≡◌, Ok, refl, sym, subst}
 use Rattle.mg_keys.specs.declared.step.Step.TheVariants.{Pending}
 use Rattle.mg_minibuffer.specs.declared.ending.Request.TheVariants.{Idle}
 use Rattle.mg_dialogue.specs.Dialogues.{Fed, Forgot}
-use Rattle.mg_buffers.proofs.Results.{on_err_map}
+use Rattle.mg_workspace.proofs.Results.{on_err_map}
 use Rattle.mg_editor.specs.Editors.{Editor}
 use Rattle.mg_editor.specs.Presses.{KeepsWork, Pressed}
 use Rattle.mg_editor.proofs.Steps.{as_before, taken_default}

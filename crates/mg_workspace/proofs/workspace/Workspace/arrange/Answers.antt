@@ -1,7 +1,7 @@
 use Rattle.std.proofs.Common.{inl, ◌≡◌, ◌<◌, length, Err, refl, sym, ap, subst, ◌∙◌}
 use Rattle.mg_screen.specs.declared.windows.WindowFault.TheVariants as window
-use Rattle.mg_buffers.specs.Buffers.{Buffers}
-use Rattle.mg_buffers.proofs.Results.{on_ok_map, on_err_map}
+use Rattle.mg_workspace.specs.Buffers.{Buffers}
+use Rattle.mg_workspace.proofs.Results.{on_ok_map, on_err_map}
 use Rattle.mg_workspace.specs.declared.fault.ActionFault.TheVariants.{Memory}
 use Rattle.mg_workspace.specs.Actions as spec
 use Rattle.mg_workspace.specs.Workspaces.{Workspace}

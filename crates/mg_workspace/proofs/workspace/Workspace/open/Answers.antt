@@ -1,5 +1,5 @@
 use Rattle.std.proofs.Common.{rules, ◌≡◌, ◌<◌, length, sym, ap, subst, ◌∙◌}
-use Rattle.mg_buffers.specs.Buffers.{Buffers, with_buffer}
+use Rattle.mg_workspace.specs.Buffers.{Buffers, with_buffer}
 use Rattle.mg_workspace.specs.declared.workspace.TheConstants.{MAX_BUFFERS}
 use Rattle.mg_workspace.specs.Viewports.{turned_to_buffer, AreShown}
 use Rattle.mg_workspace.proofs.ViewportLaws.{opened_shown}

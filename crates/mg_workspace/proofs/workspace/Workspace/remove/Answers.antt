@@ -1,7 +1,7 @@
 use Rattle.std.proofs.Common.{rules, ◌≡◌, ◌<◌, ◌≤◌, true, false, Some, length, slice_get, arith, refl, sym, ap, subst}
 use Rattle.mg_files.specs.OpenState.{OpenState}
 use Rattle.mg_files.specs.Saving.{is_changed}
-use Rattle.mg_buffers.specs.Buffers.{Buffers}
+use Rattle.mg_workspace.specs.Buffers.{Buffers}
 use Rattle.mg_workspace.specs.Viewports.{layout_without, AreShown}
 use Rattle.mg_workspace.proofs.ViewportLaws.{removed_shown}
 use Rattle.mg_workspace.proofs.Removals.{changed_answer, only_answer, several_answer}

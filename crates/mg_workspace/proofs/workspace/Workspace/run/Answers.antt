@@ -2,8 +2,8 @@ use Rattle.std.proofs.Common.{◌≡◌, OnOk, refl, ap, sym, subst, ◌∙◌}
 use Rattle.mg_buffer.specs.Faults.{IsFaultAnswer, run_answer}
 use Rattle.mg_buffer.specs.Ran as buffer
 use Rattle.mg_files.specs.OpenState.{OpenState}
-use Rattle.mg_buffers.specs.Buffers.{current_buffer, with_current}
-use Rattle.mg_buffers.proofs.Results.{on_err_map}
+use Rattle.mg_workspace.specs.Buffers.{current_buffer, with_current}
+use Rattle.mg_workspace.proofs.Results.{on_err_map}
 use Rattle.mg_workspace.specs.Actions.{RanInCurrent, current_state, with_state_and_notes}
 use Rattle.mg_workspace.specs.Workspaces.{Workspace}
 use Rattle.mg_workspace.proofs.Keeping.{refused_run_keeps, done_or_same}

@@ -1,4 +1,0 @@
-pub mod Results
-pub mod NameLaws
-pub mod Moves
-pub mod Current

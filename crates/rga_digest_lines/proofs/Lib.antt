@@ -1,3 +1,0 @@
-pub mod ClaimLaws
-pub mod LineLaws
-pub mod SummaryLaws

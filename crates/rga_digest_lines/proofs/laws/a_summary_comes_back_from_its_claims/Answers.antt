@@ -1,5 +1,0 @@
-use Rattle.rga_digest_lines.proofs.SummaryLaws.{comes_back}
-use Rattle.rga_digest_lines.proofs.laws.a_summary_comes_back_from_its_claims.Goals as goal
-
-pub returns : goal.returns
-returns c = comes_back
