@@ -7,9 +7,9 @@
 //! many times to standard output, as a log; `send` sends the store so many times.
 use crate::fault::Fault;
 use crate::text::number_at;
+use rga_devices::{Counted, MAX_CALLS};
 use rga_exchange::{append_log, read_log, receive, send};
 use rga_flat::FlatStore;
-use rga_lines::{Counted, MAX_CALLS};
 use rga_store::{MAX_LIMIT, TextStore};
 use std::alloc::Global;
 use std::io::{Read, Write, writer};

@@ -1,6 +1,6 @@
 -- What a session is answered by, and what that tells of its devices.
 use Rattle.std.proofs.Common.{Bool, ◌≡◌, ◌≢◌, true, false, Result, Ok, Err, refl, sym, ap, true≢false}
-use Rattle.rga_lines.specs.Counting.{Calls, CountsAs, StaysFlushed}
+use Rattle.rga_devices.specs.Counting.{Calls, CountsAs, StaysFlushed}
 use Rattle.mg_session.specs.Courses.{course_answer}
 use Rattle.mg_session.specs.Moments.{Known, seen}
 use Rattle.mg_session.specs.declared.course.Course.{Course}

@@ -3,7 +3,7 @@ use Rattle.std.proofs.Common.{◌≡◌, ◌≢◌, inl, inr, arith, ℕ, ◌+�
 use Rattle.std.proofs.KnownBytes.{Consumes-nil, Consumes-trans}
 use Rattle.std.specs.Io.KnownBytes.{Consumes}
 use Rattle.std.specs.List.{concat}
-use Rattle.rga_lines.specs.Counting.{Calls}
+use Rattle.rga_devices.specs.Counting.{Calls}
 use Rattle.mg_reports.specs.Reports.{Reports, fresh, after, block_events, read_events, after_reads, held_events}
 use Rattle.mg_reports.proofs.ReportLaws.{read_more, after_more_reads, length_more, concat_more}
 use Rattle.mg_session.specs.Courses.{is_on}

@@ -1,6 +1,6 @@
 -- How a session stands behind what it took, and what that tells of its devices.
 use Rattle.std.proofs.Common.{◌≡◌, ◌≢◌, inl, inr, ◌&&◌, not, Bool, true, false, List, [], ◌∷◌, refl, sym, ap, subst, ◌∙◌, true≢false}
-use Rattle.rga_lines.specs.Counting.{Calls, one_more}
+use Rattle.rga_devices.specs.Counting.{Calls, one_more}
 use Rattle.mg_minibuffer.specs.declared.ending.Request.{Request}
 use Rattle.mg_minibuffer.specs.declared.ending.Request.TheVariants as request
 use Rattle.mg_reports.specs.Reports.{Event, key, size, block_end, fresh, read_events, all_events}

@@ -1,6 +1,6 @@
 -- How a session stands, and what it is answered by.
 use Rattle.std.specs.Prelude.{◌≡◌, Bool, true, false, Result, Ok, Err}
-use Rattle.rga_lines.specs.Counting.{Calls, one_more}
+use Rattle.rga_devices.specs.Counting.{Calls, one_more}
 use Rattle.mg_session.specs.declared.course.Course.{Course}
 use Rattle.mg_session.specs.declared.course.Course.TheVariants.{On, Quit, NoKeys, NoScreen, NoMemory}
 use Rattle.mg_session.specs.declared.fault.SessionFault.{SessionFault}

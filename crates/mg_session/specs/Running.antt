@@ -2,7 +2,7 @@
 use Rattle.std.specs.Prelude.{◌≡◌, ◌≢◌, ◌⊎◌, ◌↔◌, ⊤, ℕ, ◌+◌, ◌≤◌, Bool, false, not, ◌&&◌, List, [], ◌∷◌, length, take, min, max, Result, Ok, Err}
 use Rattle.std.specs.Io.KnownBytes.{Consumes}
 use Rattle.std.specs.List.{concat}
-use Rattle.rga_lines.specs.Counting.{Calls, IsReadToEnd}
+use Rattle.rga_devices.specs.Counting.{Calls, IsReadToEnd}
 use Rattle.mg_files.specs.Calls.{Adds, load_call, found_call, refused}
 use Rattle.mg_files.specs.Files.{Files}
 use Rattle.mg_files.specs.Loading.{load_outcome}

@@ -7,7 +7,7 @@ ghost use Rattle.mg_session.specs.Moments.{ToldCalls, seen, moment};
 use crate::course::Course;
 use mg_editor::Editor;
 use mg_screen::Position;
-use rga_lines::Counted;
+use rga_devices::Counted;
 use rga_store::TextStore;
 use std::alloc::{AllocError, Global};
 use std::io;

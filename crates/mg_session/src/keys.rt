@@ -3,7 +3,7 @@ ghost use Rattle.std.specs.Prelude.{◌≡◌};
 ghost use Rattle.mg_session.specs.Keys as spec;
 ghost use Rattle.mg_session.specs.Moments.{Known, moment};
 ghost use Rattle.mg_session.specs.declared.course.Course.TheVariants.{On};
-ghost use Rattle.rga_lines.specs.Counting.{Calls};
+ghost use Rattle.rga_devices.specs.Counting.{Calls};
 
 use crate::course::Course;
 use mg_editor::{Editor, Fault};

@@ -1,7 +1,7 @@
 //! Sessions.
 ghost use Rattle.std.specs.Prelude.{◌≡◌, ◌≢◌, ◌<◌, [], ◌∷◌, length, Err, IfOk, OnErr};
 ghost use Rattle.std.specs.Io.KnownBytes.{Keeps};
-ghost use Rattle.rga_lines.specs.Counting.{CountsAs, StaysFlushed, one_more};
+ghost use Rattle.rga_devices.specs.Counting.{CountsAs, StaysFlushed, one_more};
 ghost use Rattle.mg_reports.specs.Reports as report;
 ghost use Rattle.mg_session.specs.Courses.{IsFailed};
 ghost use Rattle.mg_session.specs.Display as frames;
@@ -20,7 +20,7 @@ use mg_files::{Found, Port};
 use mg_reports::{Meaning, Reports};
 use mg_screen::{MAX_COLUMNS, MAX_ROWS, MIN_COLUMNS, MIN_ROWS};
 use mg_settings::Settings;
-use rga_lines::Counted;
+use rga_devices::Counted;
 use rga_store::{Teller, TextStore};
 use std::alloc::Global;
 use std::io;

@@ -8,7 +8,7 @@ use Rattle.rga_ops.specs.declared.op.Op.TheVariants.{Insert, Delete}
 use Rattle.rga_ops.proofs.AgreeLaws.{agree_swap, agree_joined}
 use Rattle.rga_ops.proofs.ContentLaws.{join_assoc, join_same, join_swap, within_itself}
 use Rattle.rga_ops.proofs.SoundLaws.{join_holds}
-use Rattle.rga_lines.specs.Counting.{Calls, OnBytes, Writes}
+use Rattle.rga_devices.specs.Counting.{Calls, OnBytes, Writes}
 use Rattle.rga_lines.specs.Log.{stream_operations}
 use Rattle.rga_exchange.specs.Receiving.{number_received, receive_fault, exchange_outcome}
 use Rattle.rga_exchange.specs.Sending.{exchange_text}

@@ -1,6 +1,6 @@
 -- What is known of the steps of an exchange over a link, put together.
 use Rattle.std.proofs.Common.{◌≡◌, ℕ, true, List, [], ◌∷◌, Option, Result, Ok, Err, MatchResult, refl, sym, ap, subst, ◌∙◌}
-use Rattle.rga_lines.specs.Counting.{Calls}
+use Rattle.rga_devices.specs.Counting.{Calls}
 use Rattle.rga_lines.specs.Log.{operations_of, behind_head}
 use Rattle.rga_exchange.specs.declared.fault.SendFault.{SendFault}
 use Rattle.rga_digest.specs.Summary.{Summary}

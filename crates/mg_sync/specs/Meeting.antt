@@ -1,6 +1,6 @@
 -- What an exchange asks of a port, and what it leaves of a buffer.
 use Rattle.std.specs.Prelude.{◌≡◌, ◌⊎◌, ℕ, Bool, true, false, List, [], ◌∷◌, ◌++◌, Option, Result, Ok, Err}
-use Rattle.rga_lines.specs.Counting.{one_more}
+use Rattle.rga_devices.specs.Counting.{one_more}
 use Rattle.rga_exchange.specs.declared.fault.ReceiveFault.{ReceiveFault}
 use Rattle.rga_exchange.specs.declared.fault.SendFault.{SendFault}
 use Rattle.mg_files.specs.declared.port.CallKind.TheVariants.{Connect, Accept, Finish}

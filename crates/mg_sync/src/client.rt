@@ -7,7 +7,7 @@ use crate::asking::ask;
 use crate::fault::ExchangeFault;
 use crate::talking::{Exchanged, hear_and_save, tell};
 use mg_files::{Port, VisitedBuffer};
-use rga_lines::Counted;
+use rga_devices::Counted;
 use rga_store::Teller;
 use std::alloc::Global;
 

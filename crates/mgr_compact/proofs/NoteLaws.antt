@@ -3,7 +3,7 @@ use Rattle.std.proofs.Common.{◌≡◌, ℕ, Bool, List, [], true, Option, Some
 use Rattle.std.specs.Prelude.{IfSome}
 use Rattle.std.specs.Io.KnownBytes.{Appends}
 use Rattle.mgr_port.specs.Disk.{DiskStep, StopsBefore, whole_steps}
-use Rattle.rga_lines.specs.Counting.{Calls}
+use Rattle.rga_devices.specs.Counting.{Calls}
 use Rattle.mgr_show.specs.Compacted.{compacted, Compacts}
 
 -- of a log that is told, where the file beside began empty and got the compacted lines

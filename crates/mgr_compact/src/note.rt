@@ -9,7 +9,7 @@ ghost use Rattle.mgr_port.specs.Disk.{TellsSteps, StopsBefore, whole_steps};
 
 use mgr_port::{Logs, Named};
 use mgr_show::{ShowFault, compact_log_with};
-use rga_lines::Counted;
+use rga_devices::Counted;
 use std::alloc::Global;
 use std::io;
 use std::io::ErrorKind;

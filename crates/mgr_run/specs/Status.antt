@@ -2,7 +2,7 @@
 use Rattle.std.specs.Prelude.{◌≡◌, ◌≢◌, ◌⊎◌, ℕ, true, List, [], ◌∷◌, Option, Result, Err, IfSome, codes, OnOk, OnErr, IfErr, string_bytes}
 use Rattle.rga_ops.specs.Content.{Content, nothing as no_content}
 use Rattle.rga_store.specs.declared.text_store.TheConstants.{MAX_LIMIT}
-use Rattle.rga_lines.specs.Counting.{Calls, CountsAs, StaysFlushed, OnBytes, WritesNothing, one_more}
+use Rattle.rga_devices.specs.Counting.{Calls, CountsAs, StaysFlushed, OnBytes, WritesNothing, one_more}
 use Rattle.rga_exchange.specs.Taking.{HasTakenWholeLines}
 use Rattle.rga_exchange.specs.declared.taking.Form.TheVariants.{Log}
 use Rattle.mgr_args.specs.declared.job.JobFault.{JobFault}

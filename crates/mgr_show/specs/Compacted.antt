@@ -1,6 +1,6 @@
 -- What `compact_log` writes.
 use Rattle.std.specs.Prelude.{◌≡◌, ℕ, Bool, List, [], Option}
-use Rattle.rga_lines.specs.Counting.{Calls, Writes, WritesFront}
+use Rattle.rga_devices.specs.Counting.{Calls, Writes, WritesFront}
 use Rattle.rga_lines.specs.Stream.{rest_of}
 use Rattle.rga_exchange.specs.Compacting.{compact_text}
 use Rattle.rga_exchange.specs.Sending.{StandsFor}

@@ -2,7 +2,7 @@
 ghost use Rattle.std.specs.Prelude.{◌≡◌, ◌≢◌, ◌⊎◌, true, false, Ok, Err, OnOk, OnErr, IfErr};
 ghost use Rattle.rga_ops.specs.Prelude.{Content, nothing};
 ghost use Rattle.rga_store.specs.declared.text_store.TheConstants.{MAX_LIMIT};
-ghost use Rattle.rga_lines.specs.Counting.{CountsAs, OnBytes, WritesNothing};
+ghost use Rattle.rga_devices.specs.Counting.{CountsAs, OnBytes, WritesNothing};
 ghost use Rattle.rga_exchange.specs.Taking.{HasTakenWholeLines};
 ghost use Rattle.rga_exchange.specs.declared.taking.Form.TheVariants.{Log};
 ghost use Rattle.mgr_show.specs.Log.{log_of};
@@ -11,9 +11,9 @@ ghost use Rattle.mgr_show.specs.Compacted.{Compacts, BeginsToCompact};
 
 use crate::fault::ShowFault;
 use crate::show::take_whole_log;
+use rga_devices::Counted;
 use rga_exchange::compact_with;
 use rga_flat::FlatStore;
-use rga_lines::Counted;
 use rga_store::{MAX_LIMIT, TextStore};
 use std::alloc::Global;
 use std::io::{Read, Write};

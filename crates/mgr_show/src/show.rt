@@ -2,7 +2,7 @@
 ghost use Rattle.std.specs.Prelude.{◌≡◌, ◌≢◌, ◌⊎◌, true, Ok, Err, OnOk, OnErr, IfOk, IfErr, string_bytes};
 ghost use Rattle.rga_ops.specs.Prelude.{Content, nothing};
 ghost use Rattle.rga_store.specs.declared.text_store.TheConstants.{MAX_LIMIT};
-ghost use Rattle.rga_lines.specs.Counting.{CountsAs, OnBytes, Writes, WritesFront, WritesNothing};
+ghost use Rattle.rga_devices.specs.Counting.{CountsAs, OnBytes, Writes, WritesFront, WritesNothing};
 ghost use Rattle.rga_exchange.specs.Taking.{HasTakenWholeLines};
 ghost use Rattle.rga_exchange.specs.declared.taking.Form.TheVariants.{Log};
 ghost use Rattle.mgr_show.specs.Log.{log_of, shown_from};
@@ -10,9 +10,9 @@ ghost use Rattle.mgr_show.specs.Shown.{IsOfInput, IsTextOf, ShowsLog, BeginsToSh
 
 use crate::fault::ShowFault;
 use crate::text::text_string;
+use rga_devices::Counted;
 use rga_exchange::{LogEnd, take_log};
 use rga_flat::FlatStore;
-use rga_lines::Counted;
 use rga_store::{MAX_LIMIT, Taker, TextStore};
 use std::alloc::Global;
 use std::io::{Read, Write};

@@ -1,5 +1,5 @@
 //! Devices whose calls are counted.
-use rga_lines::Counted;
+use rga_devices::Counted;
 use std::alloc::Global;
 use std::io;
 use std::io::{ErrorKind, Read, Write};

@@ -1,7 +1,7 @@
 //! Runs of insertions, which a store that is nearly full takes whole or not at all.
 use crate::cuts::shows;
+use rga_devices::Counted;
 use rga_exchange::read_log;
-use rga_lines::Counted;
 use rga_ops::Refusal;
 use rga_store::{Taker, TextStore};
 use rga_tree::TreeStore;

@@ -2,7 +2,7 @@
 use crate::sending::device;
 use mg_session::{SessionFault, run_keys};
 use mg_settings::{Settings, Values};
-use rga_lines::Counted;
+use rga_devices::Counted;
 use rga_tree::TreeStore;
 use std::alloc::{AllocError, Global};
 use test_fixtures::Narrow;

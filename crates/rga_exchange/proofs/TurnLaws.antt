@@ -24,7 +24,7 @@ use Rattle.rga_ops.proofs.SortedLaws.{both_so}
 use Rattle.rga_lines.specs.declared.deletion_run.DeletionRun.{DeletionRun}
 use Rattle.rga_lines.specs.Runs.{Stretch, deletion_run}
 use Rattle.rga_lines.specs.Spelling.{line}
-use Rattle.rga_lines.specs.Counting.{Calls, WritesAllBut}
+use Rattle.rga_devices.specs.Counting.{Calls, WritesAllBut}
 use Rattle.rga_lines.specs.Stream.{newline, bytes_of_lines}
 use Rattle.rga_exchange.proofs.BegunLemmas.{begun_next}
 use Rattle.rga_exchange.specs.Compacting.{run_of, is_in_some, runs_behind, stretch_line, goes_on_with, one_longer, deletion_runs_behind, deletion_line, deletion_lines, compact_lines}

@@ -2,7 +2,7 @@
 use Rattle.std.specs.Prelude.{◌≡◌, ℕ, ◌+◌, List, ◌++◌, length, Option, Result}
 use Rattle.rga_ops.specs.Content.{Content}
 use Rattle.rga_ops.specs.declared.op.Op.{Op}
-use Rattle.rga_lines.specs.Counting.{Calls, IsReadToEnd}
+use Rattle.rga_devices.specs.Counting.{Calls, IsReadToEnd}
 use Rattle.rga_lines.specs.Log.{operations_of}
 use Rattle.rga_lines.specs.Stream.{lines_of, rest_of}
 use Rattle.rga_lines.specs.Table.{any_line_at}

@@ -5,7 +5,7 @@ ghost use Rattle.rga_ops.specs.Prelude.{checked, operations, IsSound};
 ghost use Rattle.rga_ops.specs.Content.{element};
 ghost use Rattle.rga_ops.specs.Identifier.{is_in_range};
 ghost use Rattle.rga_ops.specs.declared.op.Op.TheVariants.{Insert, Delete};
-ghost use Rattle.rga_lines.specs.Counting.{CountsAs, Writes, WritesFront, WritesAllBut};
+ghost use Rattle.rga_devices.specs.Counting.{CountsAs, Writes, WritesFront, WritesAllBut};
 ghost use Rattle.rga_lines.specs.Runs.{IsRun, next, deletion_run};
 ghost use Rattle.rga_lines.specs.Spelling.{IsWritable, IsElementOrRoot};
 ghost use Rattle.rga_lines.specs.Stream.{newline, bytes_of_lines, rest_of};

@@ -1,13 +1,14 @@
 //! Logs, read into whatever takes operations.
 ghost use Rattle.std.specs.Prelude.{◌≡◌, ◌≢◌, ◌<◌, ◌^◌, [], ◌∷◌, Err, OnErr, IfOk, IfErr, MatchResult};
-ghost use Rattle.rga_lines.specs.Counting.{CountsAs};
+ghost use Rattle.rga_devices.specs.Counting.{CountsAs};
 ghost use Rattle.rga_lines.specs.Log.{operations_of};
 ghost use Rattle.rga_exchange.specs.Log.{TakesLog, log_end, rest_outcome, end_outcome};
 ghost use Rattle.rga_exchange.specs.declared.fault.LogFault.TheVariants.{Memory as NoMemory, Read as ReadFailed};
 
 use crate::fault::{LogFault, ReceiveFault};
 use crate::taking::{Form, Stream, StreamEnd, take, take_deletions, take_run, take_stream};
-use rga_lines::{Counted, Line, LineFault, read_any};
+use rga_devices::Counted;
+use rga_lines::{Line, LineFault, read_any};
 use rga_store::Taker;
 use std::alloc::Global;
 use std::io::Read;

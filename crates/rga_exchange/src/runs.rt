@@ -3,7 +3,7 @@ ghost use Rattle.std.specs.Prelude.{◌≡◌, ℕ, ◌≤◌, ◌++◌, ◌∷�
 ghost use Rattle.rga_ops.specs.Prelude.{checked, is_id, join, content_of, Content};
 ghost use Rattle.rga_ops.specs.ListAnswer.{AreWellFormed, IsJoinable};
 ghost use Rattle.rga_ops.specs.declared.op.Op.TheVariants.{Insert, Delete};
-ghost use Rattle.rga_lines.specs.Counting.{CountsAs, Writes, WritesFront, WritesAllBut};
+ghost use Rattle.rga_devices.specs.Counting.{CountsAs, Writes, WritesFront, WritesAllBut};
 ghost use Rattle.rga_lines.specs.Runs.{next};
 ghost use Rattle.rga_lines.specs.Spelling.{IsWritable};
 ghost use Rattle.rga_lines.specs.Stream.{newline, rest_of};
@@ -15,7 +15,8 @@ use crate::block::Block;
 use crate::compacting::shortest_line;
 use crate::fault::SendFault;
 use crate::sending::finish;
-use rga_lines::{Counted, MAX_RUN, Run, write_line};
+use rga_devices::Counted;
+use rga_lines::{MAX_RUN, Run, write_line};
 use rga_ops::{Id, Op};
 use std::alloc::{AllocError, Global};
 use std::io::Write;

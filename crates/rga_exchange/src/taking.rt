@@ -1,7 +1,7 @@
 //! The lines of a stream, taken in turn into whatever takes operations.
 ghost use Rattle.std.specs.Prelude.{◌≡◌, ◌≢◌, ◌+◌, ◌*◌, ◌^◌, ◌<◌, ◌≤◌, ℕ, List, length, [], ◌∷◌, true, false, Ok, Err, Some, None, OnOk, IfOk, OnErr, IfErr, MatchResult};
 ghost use Rattle.rga_ops.specs.Prelude.{taken};
-ghost use Rattle.rga_lines.specs.Counting.{CountsAs, OnBytes};
+ghost use Rattle.rga_devices.specs.Counting.{CountsAs, OnBytes};
 ghost use Rattle.rga_lines.specs.Log.{operations_of};
 ghost use Rattle.rga_lines.specs.Runs.{stretch_operations, run_deletions, IsRun, IsDeletionRun};
 ghost use Rattle.rga_lines.specs.declared.run.TheConstants.{MAX_RUN};
@@ -15,7 +15,8 @@ ghost use Rattle.rga_exchange.specs.declared.fault.LogFault.TheVariants.{Memory,
 
 use crate::block::BLOCK;
 use crate::fault::LogFault;
-use rga_lines::{Counted, DeletionRun, Line, LineFault, Run, Splitter, read_any};
+use rga_devices::Counted;
+use rga_lines::{DeletionRun, Line, LineFault, Run, Splitter, read_any};
 use rga_ops::{Op, Refusal};
 use rga_store::Taker;
 use std::alloc::Global;

@@ -1,27 +1,23 @@
-//! Operations as lines of JSON, streams as lines, and devices whose calls are counted.
+//! Operations as lines of JSON, and streams as lines.
 //!
 //! A log or an exchange is a stream of bytes with an operation, or a run of them, a line, each a
 //! JSON object (RFC 8259) of a few members; an exchange has a line more in front, its head, which
 //! may be absent, and one that ends it. This crate says what a line means (`read_any`,
 //! `read_line`), writes lines (`Speller`, `write_line`, `write_run`, `write_deletion_run`,
-//! `write_head`, `write_end`), puts bytes among others (`bytes`), cuts a stream into its lines in
-//! whatever pieces it comes (`Splitter`), bounds what a device is asked (`Counted`), and has a
-//! device fail on purpose (`Fuse`). It stands on `rga_ops` for the operations, on `serde_json` and
-//! `json` for the JSON, on `itoa` for the digits and on `memchr` for the ends of lines.
+//! `write_head`, `write_end`), puts bytes among others (`bytes`), and cuts a stream into its lines in
+//! whatever pieces it comes (`Splitter`). It stands on `rga_ops` for the operations, on `serde_json`
+//! and `json` for the JSON, on `itoa` for the digits and on `memchr` for the ends of lines.
 //!
 //! The layer above may rest on the table of `specs/Table.antt`, which each line meets or is at
 //! fault by; on the one spelling of what is written, in `specs/Spelling.antt`; on the lines and the
-//! rest of a stream in `specs/Stream.antt`, which are the same however it was cut; on the number of
-//! failures of a device, in `specs/Counting.antt`; and on the theorems of `laws`, each the contract
-//! of a function with no body, so that the check proves it.
+//! rest of a stream in `specs/Stream.antt`, which are the same however it was cut; and on the
+//! theorems of `laws`, each the contract of a function with no body, so that the check proves it.
 #![tactic(auto)]
 
 pub mod bytes;
-mod counted;
 mod deletion_run;
 mod escapes;
 mod fault;
-mod fuse;
 mod hundred;
 pub mod laws;
 mod lexed;
@@ -36,10 +32,8 @@ mod speller;
 mod splitter;
 mod writing;
 
-pub use counted::{Counted, MAX_CALLS};
 pub use deletion_run::DeletionRun;
 pub use fault::LineFault;
-pub use fuse::Fuse;
 pub use reading::{Line, MAX_LINE, read_any, read_line};
 pub use run::{MAX_RUN, Run};
 pub use speller::{LINE_ROOM, Speller};

@@ -3,7 +3,7 @@ use Rattle.std.specs.Prelude.{IfSome}
 use Rattle.std.specs.Io.KnownBytes.{Appends}
 use Rattle.std.proofs.lemmas.Result.{on_err_weaker}
 use Rattle.std.proofs.lemmas.Option.{IfSome_then}
-use Rattle.rga_lines.specs.Counting.{Calls}
+use Rattle.rga_devices.specs.Counting.{Calls}
 use Rattle.mgr_show.specs.Compacted.{compacted, Compacts}
 use Rattle.mgr_compact.proofs.NoteLaws.{stops_written, appended}
 use Rattle.mgr_compact.proofs.note.compact_note.Goals as goal

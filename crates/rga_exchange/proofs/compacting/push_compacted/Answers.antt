@@ -2,10 +2,10 @@ use Rattle.std.proofs.Common.{◌≡◌, List, ℕ, ◌++◌, ◌∙◌, length,
 use Rattle.std.specs.Result.{is_ok}
 use Rattle.rga_ops.specs.declared.op.Op.{Op}
 use Rattle.rga_exchange.specs.Turns.{lines_from}
-use Rattle.rga_lines.specs.Counting.{WritesAllBut}
+use Rattle.rga_devices.specs.Counting.{WritesAllBut}
 use Rattle.rga_lines.specs.Stream.{bytes_of_lines}
 use Rattle.rga_exchange.specs.Compacting.{compact_lines, compact_text}
-use Rattle.rga_lines.proofs.WrittenLemmas.{begun_start}
+use Rattle.rga_devices.proofs.WrittenLemmas.{begun_start}
 use Rattle.rga_exchange.proofs.BegunLemmas.{begun_part}
 use Rattle.rga_exchange.proofs.TurnLaws.{all_in_turn, one_at_most, Leaves, begun_turn, begun_last, fewer_left, none_left, operation_well_formed, operations_well_formed}
 use Rattle.rga_exchange.proofs.WritableLaws.{writable_next, writable_all}

@@ -1,5 +1,5 @@
 use Rattle.std.proofs.Common.{◌≡◌, ◌+◌, ◌≤◌, ◌++◌, length, drop, slice_index}
-use Rattle.rga_lines.specs.Counting.{WritesAllBut}
+use Rattle.rga_devices.specs.Counting.{WritesAllBut}
 use Rattle.rga_lines.specs.Stream.{bytes_of_lines}
 use Rattle.rga_exchange.specs.Compacting.{compact_lines, compact_text}
 use Rattle.rga_exchange.specs.Turns.{lines_from}

@@ -2,7 +2,7 @@ use Rattle.std.proofs.Common.{◌≡◌, ◌∙◌, ◌++◌, Ok, take, length, 
 use Rattle.std.proofs.lemmas.Bool.{lt-ltb}
 use Rattle.std.proofs.lemmas.Result.{err_from_is_err_and}
 use Rattle.std.proofs.lemmas.List.{length-take}
-use Rattle.rga_lines.specs.Counting.{IsReadToEnd}
+use Rattle.rga_devices.specs.Counting.{IsReadToEnd}
 use Rattle.rga_lines.specs.Stream.{Splitting, splitting_with}
 use Rattle.rga_lines.proofs.SplitterLemmas.{fed_holds}
 use Rattle.rga_exchange.proofs.ReadLaws.{read_nothing, read_lines, read_piece, read_all, read_end, read_fault, whole_lines, all_but_rest, first_lines, first_of_whole}

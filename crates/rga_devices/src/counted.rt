@@ -25,8 +25,8 @@ pub struct Counted<T> {
 
 impl<T> Model for Counted<T> {
     ghost use Rattle.std.specs.Prelude.{◌≤◌};
-    ghost use Rattle.rga_lines.specs.Counting.{Calls, calls_code};
-    ghost use Rattle.rga_lines.specs.declared.counted.TheConstants.{MAX_CALLS};
+    ghost use Rattle.rga_devices.specs.Counting.{Calls, calls_code};
+    ghost use Rattle.rga_devices.specs.declared.counted.TheConstants.{MAX_CALLS};
 
     ghost Value = { Calls T };
 
@@ -46,8 +46,8 @@ impl<T> Model for Counted<T> {
 impl<T> Counted<T> {
     ghost use Rattle.std.specs.Prelude.{◌≡◌, ◌+◌, ◌≤◌, true, false};
     ghost use Rattle.std.specs.Bool.{MatchBool};
-    ghost use Rattle.rga_lines.specs.Counting.{one_more, IsSpent};
-    ghost use Rattle.rga_lines.specs.declared.counted.TheConstants.{MAX_CALLS};
+    ghost use Rattle.rga_devices.specs.Counting.{one_more, IsSpent};
+    ghost use Rattle.rga_devices.specs.declared.counted.TheConstants.{MAX_CALLS};
 
     /// The device, with no failure yet, no end found, nothing to flush and all calls left.
     pub fn new(inner: T) -> Self
@@ -116,7 +116,7 @@ impl<R: Read> Read for Counted<R> {
     ghost use Rattle.std.specs.Prelude.{◌≡◌, IsErr};
     ghost use Rattle.std.specs.Io.{ReadsAtMost};
     ghost use Rattle.std.specs.Io.KnownBytes.{ReadConsumes};
-    ghost use Rattle.rga_lines.specs.Counting.{Counts, TellsEnd, UsesCall, IsSpent};
+    ghost use Rattle.rga_devices.specs.Counting.{Counts, TellsEnd, UsesCall, IsSpent};
 
     ghost remaining = { λ c. R.remaining c.inner };
 
@@ -150,7 +150,7 @@ impl<W: Write> Write for Counted<W> {
     ghost use Rattle.std.specs.Prelude.{◌≡◌, ◌≤◌, IsErr, OnOk};
     ghost use Rattle.std.specs.Io.{WritesAtMost};
     ghost use Rattle.std.specs.Io.KnownBytes.{WriteAppends};
-    ghost use Rattle.rga_lines.specs.Counting.{Counts, WriteCounts, UsesCall, IsSpent, Unsettles, Settles, Writes, WritesFront, WritesNothing};
+    ghost use Rattle.rga_devices.specs.Counting.{Counts, WriteCounts, UsesCall, IsSpent, Unsettles, Settles, Writes, WritesFront, WritesNothing};
 
     ghost contents = { λ c. W.contents c.inner };
 

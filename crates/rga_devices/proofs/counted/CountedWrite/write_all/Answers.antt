@@ -1,6 +1,6 @@
 use Rattle.std.proofs.Common.{◌∙◌, ne_eqb, arith}
-use Rattle.rga_lines.proofs.WrittenLemmas.{begun_more}
-use Rattle.rga_lines.proofs.counted.CountedWrite.write_all.Goals as goal
+use Rattle.rga_devices.proofs.WrittenLemmas.{begun_more}
+use Rattle.rga_devices.proofs.counted.CountedWrite.write_all.Goals as goal
 
 pub rest-preserved : goal.rest-preserved
 rest-preserved g c = record {

@@ -1,6 +1,6 @@
 use Rattle.std.proofs.Common.{◌≡◌, ◌≤◌, length}
-use Rattle.rga_lines.specs.Counting.{WritesAllBut}
-use Rattle.rga_lines.proofs.counted.CountedWrite.write_all.Given as goal
+use Rattle.rga_devices.specs.Counting.{WritesAllBut}
+use Rattle.rga_devices.proofs.counted.CountedWrite.write_all.Given as goal
 
 abbrev pub invariant-rest : goal.invariant-rest
 invariant-rest g l = record {

@@ -2,7 +2,7 @@
 use Rattle.std.specs.Prelude.{◌≡◌, ◌≢◌, ℕ, ◌+◌, ◌-◌, ◌^◌, ◌≤◌, ◌⊎◌, ◌&&◌, ◌==◌, Bool, true, false, min, List, ◌++◌, length, nat_lt, if◌then◌else◌, Option, IfSome, Result, Err, MatchResult, ⊤, refl}
 use Rattle.std.specs.Coded.{Coded, code_by, coded×, coded_bool, coded_ℕ}
 use Rattle.std.specs.Io.KnownBytes.{Keeps, Appends, IsAtEnd}
-use Rattle.rga_lines.specs.declared.counted.TheConstants.{MAX_CALLS}
+use Rattle.rga_devices.specs.declared.counted.TheConstants.{MAX_CALLS}
 
 -- what a contract sees of a `Counted`: the device, how many calls failed, how many more are passed on to it, whether the
 -- last read that it answered gave no bytes though there was room, and whether all that was written was flushed behind it
