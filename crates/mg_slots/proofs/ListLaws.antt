@@ -113,9 +113,9 @@ module _ (old new : Identifier) where
 
 pub inserted_row : (ids xs : List Identifier) (n : ℕ) → ((i : ℕ) (x : Identifier) → slice_get xs i ≡ Some x → x.counter < n)
     → ((k : ℕ) (id : Identifier) → slice_get ids k ≡ Some id → id.counter ≡ n + k) → xs ++ ids ≡ with_elements xs ids
-inserted_row [] xs n below row = append-nil xs
-inserted_row (id ∷ ids) xs n below row =
-    let own : id.counter ≡ n = omega (arith, row 0 id refl) in
+inserted_row [] xs n below goes_on = append-nil xs
+inserted_row (id ∷ ids) xs n below goes_on =
+    let own : id.counter ≡ n = omega (arith, goes_on 0 id refl) in
     let absent : list_any (is_id id) xs ≡ false = elim (list_any (is_id id) xs) as (λ b. list_any (is_id id) xs ≡ b → b ≡ false) [
       | true ↦ λ there. let p = place_of id xs there in absurd (omega (arith, own, below p.index id p.at))
       | false ↦ λ _. refl
@@ -126,7 +126,7 @@ inserted_row (id ∷ ids) xs n below row =
       | inr b ↦ omega (arith, own, ap (λ (y : Identifier). y.counter) (only_one id x b.k b.at))
     ] in
     sym (append_assoc xs (id ∷ []) ids)
-    ∙ inserted_row ids (xs ++ id ∷ []) (n + 1) more (λ k x h. omega (arith, row (suc k) x h))
+    ∙ inserted_row ids (xs ++ id ∷ []) (n + 1) more (λ k x h. omega (arith, goes_on (suc k) x h))
     ∙ ap (λ ys. with_elements ys ids) (sym one)
 
 -- ---- numbers and counters

@@ -9,8 +9,8 @@ use Rattle.mg_slots.proofs.FoundLaws.{none_newer, row_added}
 use Rattle.mg_slots.proofs.slots.Slots.push_row.Goals as goal
 
 -- the first counter is the one that is read, and the last one is as many further on
-is_row : (ids : List Identifier) → IsRow ids → (k : ℕ) → k < length ids → (id : Identifier) → id ≡ get_or ids k id → id.counter ≡ first_counter ids + k
-is_row ids row k within id read = row k id (slice_get-get_or ids k id within ∙ ap Some (sym read))
+counter_at : (ids : List Identifier) (k : ℕ) → IsRow ids → k < length ids → (id : Identifier) → id ≡ get_or ids k id → id.counter ≡ first_counter ids + k
+counter_at ids k goes_on within id read = goes_on k id (slice_get-get_or ids k id within ∙ ap Some (sym read))
 
 pub invariant_of-self : goal.invariant_of-self
 invariant_of-self c =
@@ -18,8 +18,8 @@ invariant_of-self c =
     let greatest = ap (λ (l : SlotList). l.greatest) c.self.view_is in
     let some : 0 < length ids = some_first ids (omega (arith, c.requires.above)) in
     let a : Row = record { counter = c.counter.result; count = length ids; slot = c.len-slot.result } in
-    let first : c.counter.result ≡ first_counter ids = omega (arith, c.counter.ensures.value, is_row ids c.requires.row 0 some c.index-ids-0.result c.index-ids-0.is) in
-    let last = is_row ids c.requires.row (length ids - 1) (omega (arith, some)) c.index-ids-ids.result c.index-ids-ids.is in
+    let first : c.counter.result ≡ first_counter ids = omega (arith, c.counter.ensures.value, counter_at ids 0 c.requires.row some c.index-ids-0.result c.index-ids-0.is) in
+    let last = counter_at ids (length ids - 1) c.requires.row (omega (arith, some)) c.index-ids-ids.result c.index-ids-ids.is in
     subst (λ rows. AreFound c.self.inside.entries rows c.add_all.new.elements.items c.counter-self-inside.result) (sym c.push_reserved.ensures.items)
     (subst (λ xs. AreFound c.self.inside.entries (c.self.inside.rows.items ++ a ∷ []) xs c.counter-self-inside.result) (sym c.add_all.ensures.items)
     (row_added c.self.inside.entries c.self.inside.rows.items c.self.inside.elements.items c.self.inside.greatest c.self.invariant ids c.requires.row (omega (arith, greatest, c.requires.above)) a first refl
