@@ -7,11 +7,12 @@
 //! they name is the last thing that can fail. There is no buffer, no window and no file in sight,
 //! and nothing is changed: an ending is a value. The crate stands on mg_plain for commands and
 //! matches, and on mg_keys for steps. The layer above may rest on three equations, one for each
-//! function.
+//! function, and on the theorems of `laws`.
 #![tactic(auto)]
 
 mod answers;
 mod ending;
+pub mod laws;
 mod lines;
 mod message;
 mod plain;
