@@ -3,9 +3,10 @@
 
 `rt ci` does the work, in copies that have these crates alone, without wrong bodies: it proves side
 by side what does not wait for one another, and what it proves the gate need not prove again. But it
-shares the processors evenly among the crates that it may begin, and most crates wait for those of
-the text type or of lines. So these come first, in runs of their own; once the text type is proved
-all others follow, and what is still proved beside them is not proved twice.
+shares the processors evenly among the crates that it may begin, and most crates wait for two chains,
+that of buffers and that of logs. So these come first, in runs of their own, and beside them, with
+what they leave of the processors, some of those that none of them waits for; once both chains are
+proved all others follow, and what is still proved beside them is not proved twice.
 
 The prover's own words go to build/prove-NAME.log, whose end is shown where a crate fails.
 """
@@ -23,9 +24,9 @@ TOP = pathlib.Path(__file__).resolve().parent.parent
 BUILD = TOP / "build"
 PROGRAM = "mgr"
 
-# The first run, and those beside it: each is of a crate and all below it.
-FIRST = "rga_doc"
-BESIDE = ("mg_minibuffer", "mg_screen")
+# The first runs, and those beside them: each is of a crate and all below it.
+FIRST = ("mg_buffer", "rga_exchange")
+BESIDE = ("mg_minibuffer", "mg_screen", "rga_flat")
 
 LEFT_OUT = shutil.ignore_patterns("out", "must-fail", "wrong")
 TOLD = re.compile(r"rt: (\w+) (?:is kept|proved|NOT PROVED)")
@@ -69,19 +70,22 @@ class Proving:
     def prove_all(self):
         """Proves the program and all below it, and returns the folder in which it was built."""
         with concurrent.futures.ThreadPoolExecutor() as pool:
-            beside = [pool.submit(self.prove, name) for name in BESIDE]
-            self.prove(FIRST)
+            first = [pool.submit(self.prove, name) for name in FIRST]
+            beside = [pool.submit(self.prove, name, ("nice",)) for name in BESIDE]
+            for run in first:
+                run.result()
             tree = self.prove(PROGRAM)
             for run in beside:
                 run.result()
         return tree
 
-    def prove(self, name):
-        """Proves a crate and those below it, and says of each when it is done; ends the program where one fails."""
+    def prove(self, name, before=()):
+        """Proves a crate and those below it, by rt behind these words, and says of each when it is done; ends the
+        program where one fails."""
         tree, log = self.folder / name, BUILD / f"prove-{name}.log"
         copy(lines_below(name), tree)
-        how = {"stdin": subprocess.DEVNULL, "stdout": subprocess.PIPE, "stderr": subprocess.STDOUT}
-        with log.open("w") as kept, subprocess.Popen(["rt", "ci"], cwd=tree, text=True, errors="replace", **how) as gate:
+        how = {"stdin": subprocess.DEVNULL, "stdout": subprocess.PIPE, "stderr": subprocess.STDOUT, "errors": "replace"}
+        with log.open("w") as kept, subprocess.Popen([*before, "rt", "ci"], cwd=tree, text=True, **how) as gate:
             for line in gate.stdout:
                 kept.write(line)
                 if told := TOLD.match(line):
