@@ -3,8 +3,8 @@ ghost use Rattle.std.specs.Prelude.{◌≡◌, ℕ, ◌≤◌, ◌+◌, length, 
 
 use crate::fault::SendFault;
 use rga_devices::Counted;
-use rga_lines::bytes::put;
 use rga_lines::Speller;
+use rga_lines::bytes::put;
 use rga_ops::Op;
 use std::alloc::{AllocError, Global};
 use std::io::Write;

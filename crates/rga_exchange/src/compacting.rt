@@ -18,9 +18,8 @@ ghost use Rattle.rga_exchange.specs.Turns.{run_with, last_behind, last_line, end
 use crate::block::Block;
 use crate::fault::SendFault;
 use crate::sending::finish;
-use rga_lines::{
-    Counted, DeletionRun, LineFault, MAX_RUN, Run, write_deletion_run, write_line, write_run,
-};
+use rga_devices::Counted;
+use rga_lines::{DeletionRun, LineFault, MAX_RUN, Run, write_deletion_run, write_line, write_run};
 use rga_ops::{Id, Op};
 use rga_store::TextStore;
 use std::alloc::{AllocError, Global};
