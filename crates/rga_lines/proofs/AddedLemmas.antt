@@ -1,5 +1,5 @@
 -- A text to which parts were added, one behind another.
-use Rattle.std.proofs.Common.{◌≡◌, ℕ, List, ◌∷◌, ◌++◌, codes, decimal, ap, ◌∙◌, append_assoc}
+use Rattle.std.proofs.Common.{◌≡◌, ℕ, List, ◌∷◌, ◌++◌, codes, decimal, ap, ◌∙◌, append_assoc, Result, Ok, Err, OnOk, is_ok, if◌then◌else◌}
 use Rattle.rga_ops.specs.Identifier.{Identifier}
 use Rattle.rga_ops.specs.declared.op.Op.TheVariants.{Insert, Delete}
 use Rattle.rga_lines.specs.Spelling.{escaped, pair_text, line}
@@ -49,3 +49,11 @@ deletion_put t₀ t₁ t₂ t₃ named id n h₁ h₂ h₃ =
     let whole : t₃ ≡ opened (codes "[" ++ (decimal id.counter ++ (codes "," ++ (decimal id.replica ++ (codes "]" ++ over))))) =
     three_parts t₀ (codes "{\"id\":[") (decimal id.counter) (codes ",") (decimal id.replica) (codes "],\"op\":\"del\"}") t₁ t₂ t₃ (h₁ ∙ ap (λ l. t₀ ++ (l ++ decimal id.counter)) n) h₂ h₃ in
     whole ∙ ap opened (paired id over)
+
+-- the last part, where what it answers is answered
+pub last_part : {A E : Type 0} (r : Result A E) (old piece : List ℕ) {new whole : List ℕ} → new ≡ (if is_ok r then old ++ piece else old) → old ++ piece ≡ whole → OnOk r (new ≡ whole)
+last_part (Ok x) old piece added is = added ∙ is
+last_part (Err e) old piece added is = tt
+
+pub insertion_parts : (t₀ a e b p c q d : List ℕ) {t₁ t₂ t₃ t₄ : List ℕ} → t₁ ≡ t₀ ++ a → t₂ ≡ t₁ ++ e → t₃ ≡ t₂ ++ (b ++ p) → t₄ ≡ t₃ ++ (c ++ q) → t₄ ++ d ≡ t₀ ++ (a ++ (e ++ (b ++ (p ++ (c ++ (q ++ d))))))
+insertion_parts t₀ a e b p c q d h₁ h₂ h₃ h₄ = rw (h₄, h₃, h₂, h₁) (simp append_assoc)

@@ -1,6 +1,6 @@
 -- What the parts of a line say.
 use Rattle.std.proofs.Common.{◌≡◌, ◌≢◌, ℕ, ◌<◌, ◌≤◌, ◌+◌, zero, suc, ◌&&◌, ◌||◌, ◌==◌, Bool, true, false, cond, nat_le, nat_lt, List, [], ◌∷◌, ◌++◌, length, Option, Some, None, Result, Ok, Err, option_and_then, refl, sym, ap, ◌∙◌, arith, lt-ltb, le-ltb, ne_eqb}
-use Rattle.std.proofs.lemmas.Bool.{and_parts, and_left, leb-true, leb-false, ltb-false}
+use Rattle.std.proofs.lemmas.Bool.{and_left, leb-false, ltb-false}
 use Rattle.std.specs.Prelude.{⊤, codes}
 use Rattle.std.specs.Str.{IsUtf8, is_utf8, chars, bytes_eq}
 use Rattle.std.specs.Char.{encode_utf8}
@@ -24,6 +24,7 @@ use Rattle.rga_lines.specs.declared.fault.LineFault.{LineFault}
 use Rattle.rga_lines.specs.declared.reading.TheConstants.{MAX_LINE}
 use Rattle.rga_lines.specs.Table.{Reading, AnyReading, only_char, two_numbers, if_in_range, element_of, parent_of, with_order, with_char, with_identifiers, with_types, insertion, with_identifier, with_type, deletion, with_run_order, with_run_chars, with_run_end, with_run_identifiers, with_run_types, run, with_deletion_count, with_deletion_end, with_deletion_identifier, with_deletion_types, deletions_reading, with_version, heading, number_at, ending, single_reading, run_of_deletions, last, of_kind, with_name, with_op, with_count, count_of, text_at, array_at, has_member, value_line, text_line, any_line_at, operation_alone, line_at}
 use Rattle.rga_lines.specs.declared.fault.LineFault.TheVariants as fault
+use Rattle.rga_lines.proofs.DeletionLemmas.{above_root}
 
 -- ---- one character
 
@@ -84,25 +85,24 @@ abbrev IsSound : Reading → Type 0
 IsSound (Ok op) = checked op ≡ Ok tt
 IsSound (Err e) = ⊤
 
--- no identifier of an element is the root
-abbrev IsElement : Option Identifier → Type 0
-IsElement (Some id) = is_root id ≡ false
-IsElement None = ⊤
+-- the identifier of an element is in the ranges
+abbrev IsInRange : Option Identifier → Type 0
+IsInRange (Some id) = is_in_range id.counter id.replica ≡ true
+IsInRange None = ⊤
 
+range_if : (within : Bool) (id : Identifier) → (within ≡ true → is_in_range id.counter id.replica ≡ true) → IsInRange (cond within (Some id) None)
+range_if true id e = e refl
+range_if false id e = tt
+
+element_is_in_range : (p : Option (ℕ × ℕ)) → IsInRange (option_and_then if_in_range p)
+element_is_in_range None = tt
+element_is_in_range (Some p) = range_if (is_in_range p.0 p.1) (identifier p.0 p.1) (λ e. e)
+
+-- so it is not the root
 root_is_out : (counter replica : ℕ) → is_in_range counter replica ≡ true → is_root (identifier counter replica) ≡ false
 root_is_out counter replica e =
-    let counters = and_parts (nat_le 1 counter && nat_le counter MAX_COUNTER) (nat_le 1 replica && nat_le replica 65535) e in
-    let least = and_parts (nat_le 1 counter) (nat_le counter MAX_COUNTER) counters.0 in
-    let above : 1 ≤ counter = leb-true 1 counter least.0 in
+    let above : 0 < counter = above_root (identifier counter replica) e in
     and_left (counter == 0) (replica == 0) (ne_eqb counter 0 (λ zero. omega arith))
-
-element_if : (within : Bool) (id : Identifier) → (within ≡ true → is_root id ≡ false) → IsElement (cond within (Some id) None)
-element_if true id e = e refl
-element_if false id e = tt
-
-element_in_range : (p : Option (ℕ × ℕ)) → IsElement (option_and_then if_in_range p)
-element_in_range None = tt
-element_in_range (Some p) = element_if (is_in_range p.0 p.1) (identifier p.0 p.1) (root_is_out p.0 p.1)
 
 sound_order : (id parent : Identifier) (ch : ℕ) → is_root id ≡ false → IsSound (with_order id parent ch)
 sound_order id parent ch e = by_order (nat_le id.counter parent.counter) refl
@@ -115,23 +115,23 @@ sound_char : (id parent : Identifier) (ch : Option ℕ) → is_root id ≡ false
 sound_char id parent (Some ch) e = sound_order id parent ch e
 sound_char id parent None e = tt
 
-sound_identifiers : (id parent : Option Identifier) (text : List ℕ) → IsElement id → IsSound (with_identifiers id parent text)
-sound_identifiers (Some id) (Some parent) text e = sound_char id parent (only_char (chars text)) e
+sound_identifiers : (id parent : Option Identifier) (text : List ℕ) → IsInRange id → IsSound (with_identifiers id parent text)
+sound_identifiers (Some id) (Some parent) text e = sound_char id parent (only_char (chars text)) (root_is_out id.counter id.replica e)
 sound_identifiers (Some id) None text e = tt
 sound_identifiers None parent text e = tt
 
 sound_types : (text : Option (List ℕ)) (id parent : Option Items) → IsSound (with_types text id parent)
-sound_types (Some text) (Some id) (Some parent) = sound_identifiers (element_of id) (parent_of parent) text (element_in_range (two_numbers id))
+sound_types (Some text) (Some id) (Some parent) = sound_identifiers (element_of id) (parent_of parent) text (element_is_in_range (two_numbers id))
 sound_types (Some text) (Some id) None = tt
 sound_types (Some text) None parent = tt
 sound_types None id parent = tt
 
-sound_identifier : (id : Option Identifier) → IsElement id → IsSound (with_identifier id)
-sound_identifier (Some id) e = rw e
+sound_identifier : (id : Option Identifier) → IsInRange id → IsSound (with_identifier id)
+sound_identifier (Some id) e = rw (root_is_out id.counter id.replica e)
 sound_identifier None e = tt
 
 sound_type : (id : Option Items) → IsSound (with_type id)
-sound_type (Some id) = sound_identifier (element_of id) (element_in_range (two_numbers id))
+sound_type (Some id) = sound_identifier (element_of id) (element_is_in_range (two_numbers id))
 sound_type None = tt
 
 sound_if : (b : Bool) (r q : Reading) → IsSound r → IsSound q → IsSound (cond b r q)
@@ -205,19 +205,6 @@ sound_run_types None id parent = tt
 
 sound_run : (count : ℕ) (d : Data) → IsSoundLine (run count d)
 sound_run count d = sound_line_if _ (with_run_types (text_at (codes "text") d) (array_at (codes "id") d) (array_at (codes "parent") d)) (Err fault.Member) (sound_run_types (text_at (codes "text") d) (array_at (codes "id") d) (array_at (codes "parent") d)) tt
-
--- the identifier of an element is in the ranges
-abbrev IsInRange : Option Identifier → Type 0
-IsInRange (Some id) = is_in_range id.counter id.replica ≡ true
-IsInRange None = ⊤
-
-range_if : (within : Bool) (id : Identifier) → (within ≡ true → is_in_range id.counter id.replica ≡ true) → IsInRange (cond within (Some id) None)
-range_if true id e = e refl
-range_if false id e = tt
-
-element_is_in_range : (p : Option (ℕ × ℕ)) → IsInRange (option_and_then if_in_range p)
-element_is_in_range None = tt
-element_is_in_range (Some p) = range_if (is_in_range p.0 p.1) (identifier p.0 p.1) (λ e. e)
 
 sound_deletion_end : (id : Identifier) (count : ℕ) → is_in_range id.counter id.replica ≡ true → IsSoundLine (run_of_deletions (with_deletion_end id count))
 sound_deletion_end id count element = by_end (nat_lt (MAX_COUNTER + 1) (id.counter + count)) refl

@@ -1,26 +1,23 @@
 -- The line of a run is read back.
-use Rattle.std.proofs.Common.{◌≡◌, ℕ, ◌+◌, ◌*◌, ◌<◌, ◌≤◌, Bool, true, false, List, [], ◌∷◌, ◌++◌, length, codes, Some, Ok, refl, sym, ap, ap₂, subst, ◌∙◌, arith, append_assoc, append-nil, length-append, lit≤, lt-ltb, le-ltb, ne_eqb, leb, eqb, ltb, ◌&&◌, ◌||◌}
+use Rattle.std.proofs.Common.{◌≡◌, ℕ, ◌*◌, ◌≤◌, true, List, [], ◌∷◌, ◌++◌, length, codes, Some, Ok, refl, sym, ap, ap₂, subst, ◌∙◌, arith, append_assoc, length-append, lit≤, le-ltb, ne_eqb}
 use Rattle.std.specs.Char.{encode_utf8, IsScalar}
 use Rattle.std.specs.List.{flat_map, AllByRecursion}
 use Rattle.std.specs.Str.{IsUtf8, chars}
 use Rattle.std.proofs.Math.Utf8.{encodes}
-use lib.Utf8.{scalar, scalars}
+use lib.Utf8.{scalars}
 use Rattle.std.proofs.lemmas.Bool.{lt-leb}
 use Rattle.std.proofs.lemmas.Str.{chars-encodes, IsUtf8-append}
 use Rattle.json.specs.Print.{escape, escape_byte}
-use Rattle.json.specs.Tree as tree
 use Rattle.json.proofs.Printed.Utf8.{IsUtf8-are_ascii, IsUtf8-quoted}
 use Rattle.serde_json.specs.Data.{Data, string, object, member, no_members}
 use Rattle.serde_json.specs.Read.{of_json}
 use Rattle.serde_json.specs.Written.{compact_text, outline}
 use Rattle.serde_json.proofs.OnLiterals.{serde_json_on_literals}
-use Rattle.rga_ops.specs.Identifier.{Identifier, is_root, is_in_range}
+use Rattle.rga_ops.specs.Identifier.{Identifier}
 use Rattle.rga_lines.specs.declared.reading.Line.TheVariants.{Run}
 use Rattle.rga_lines.specs.Members.{pair_data}
-use Rattle.rga_ops.specs.declared.id.TheConstants.Id.{MAX_COUNTER}
-use Rattle.rga_lines.specs.declared.run.TheConstants.{MAX_RUN}
 use Rattle.rga_lines.specs.declared.reading.TheConstants.{MAX_LINE}
-use Rattle.rga_lines.specs.Runs.{Stretch, stretch}
+use Rattle.rga_lines.specs.Runs.{Stretch}
 use Rattle.rga_lines.specs.Spelling.{escaped, pair_text, run_line, IsWritableRun}
 use Rattle.rga_lines.specs.Table.{value_line, any_line_at}
 use Rattle.rga_lines.proofs.SpellingLemmas.{escape-encode}

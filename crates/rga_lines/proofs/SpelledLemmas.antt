@@ -2,7 +2,6 @@
 use Rattle.std.proofs.Common.{◌≡◌, ℕ, List, [], ◌++◌, codes, decimal, ap, ◌∙◌}
 use Rattle.rga_ops.specs.Identifier.{Identifier}
 use Rattle.rga_ops.specs.declared.op.Op.TheVariants.{Insert}
-use Rattle.rga_lines.specs.declared.deletion_run.DeletionRun.{DeletionRun}
 use Rattle.rga_lines.specs.Runs.{deletion_run}
 use Rattle.rga_lines.specs.Spelling.{escaped, pair_text, line, run_from, deletion_run_line, BeginsWithCharacter, IsElement, IsElementOrRoot, IsLineOf}
 

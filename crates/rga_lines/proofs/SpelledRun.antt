@@ -1,11 +1,11 @@
 -- Bytes that are spelled as the line of a run say that run.
-use Rattle.std.proofs.Common.{◌≡◌, ℕ, ◌+◌, ◌<◌, ◌≤◌, List, ◌++◌, length, codes, Ok, true, ◌||◌, sym, ap, ◌∙◌}
+use Rattle.std.proofs.Common.{◌≡◌, ℕ, ◌+◌, ◌<◌, ◌≤◌, List, length, codes, Ok, true, ◌||◌, ap, ◌∙◌}
 use Rattle.rga_ops.specs.Identifier.{Identifier, is_root, is_in_range}
 use Rattle.rga_lines.specs.declared.reading.Line.TheVariants.{Run}
 use Rattle.rga_ops.specs.declared.id.TheConstants.Id.{MAX_COUNTER}
 use Rattle.rga_lines.specs.declared.run.TheConstants.{MAX_RUN}
-use Rattle.rga_lines.specs.Runs.{Stretch, stretch}
-use Rattle.rga_lines.specs.Spelling.{run_from, run_line, IsWritableRun, BeginsWithCharacters}
+use Rattle.rga_lines.specs.Runs.{stretch}
+use Rattle.rga_lines.specs.Spelling.{run_from, run_line, BeginsWithCharacters}
 use Rattle.rga_lines.specs.Table.{any_line_at}
 use Rattle.rga_lines.proofs.RunBack.{run_back}
 

@@ -37,7 +37,9 @@ pub(crate) fn after_operator(bytes: &[u8], operator: u8) -> Option<&[u8]>
     ensures { IfSome result
         (λ rest. BeginsWithLexemes bytes.now (operator_lexemes operator) rest.now) }
 {
-    let (first, rest) = after_blanks(bytes).split_first()?;
+    let Some((first, rest)) = after_blanks(bytes).split_first() else {
+        return None;
+    };
     if *first == operator { Some(rest) } else { None }
 }
 
@@ -46,8 +48,12 @@ pub(crate) fn after_text<'a>(bytes: &'a [u8], text: &str) -> Option<&'a [u8]>
     requires { escape text.now ≡ text.now }
     ensures { IfSome result (λ rest. BeginsWithLexemes bytes.now (text_lexemes text.now) rest.now) }
 {
-    let rest = after(after_blanks(bytes), b"\"")?;
-    let rest = after(rest, text.as_bytes())?;
+    let Some(rest) = after(after_blanks(bytes), b"\"") else {
+        return None;
+    };
+    let Some(rest) = after(rest, text.as_bytes()) else {
+        return None;
+    };
     after(rest, b"\"")
 }
 
@@ -56,22 +62,32 @@ pub(crate) fn after_name<'a>(bytes: &'a [u8], name: &str) -> Option<&'a [u8]>
     requires { escape name.now ≡ name.now }
     ensures { IfSome result (λ rest. BeginsWithLexemes bytes.now (name_lexemes name.now) rest.now) }
 {
-    after_operator(after_text(bytes, name)?, b':')
+    let Some(rest) = after_text(bytes, name) else {
+        return None;
+    };
+    after_operator(rest, b':')
 }
 
 /// The only character of a text, and what stands behind the text.
 pub(crate) fn only_character(bytes: &[u8]) -> Option<(char, &[u8])>
     ensures { IfSome result (λ p. BeginsWithCharText bytes.now p.0 p.1.now) }
 {
-    let inside = after(after_blanks(bytes), b"\"")?;
+    let Some(inside) = after(after_blanks(bytes), b"\"") else {
+        return None;
+    };
     if let Some((ch, rest)) = character(inside) {
-        let rest = after(rest, b"\"")?;
-        Some((ch, rest))
-    } else {
-        let (ch, rest) = escaped_unit(inside)?;
-        let rest = after(rest, b"\"")?;
-        Some((ch, rest))
+        let Some(rest) = after(rest, b"\"") else {
+            return None;
+        };
+        return Some((ch, rest));
     }
+    let Some((ch, rest)) = escaped_unit(inside) else {
+        return None;
+    };
+    let Some(rest) = after(rest, b"\"") else {
+        return None;
+    };
+    Some((ch, rest))
 }
 
 /// The character that `\u` and four hexadecimal digits stand for, and what stands behind them.
@@ -79,11 +95,24 @@ pub(crate) fn only_character(bytes: &[u8]) -> Option<(char, &[u8])>
 fn escaped_unit(bytes: &[u8]) -> Option<(char, &[u8])>
     ensures { IfSome result (λ p. BeginsWithEscape bytes.now p.0 p.1.now) }
 {
-    let (a, rest) = hex_digit(after(bytes, b"\\u")?)?;
-    let (b, rest) = hex_digit(rest)?;
-    let (c, rest) = hex_digit(rest)?;
-    let (d, rest) = hex_digit(rest)?;
-    let ch = char::from_u32(((a * 16 + b) * 16 + c) * 16 + d)?;
+    let Some(rest) = after(bytes, b"\\u") else {
+        return None;
+    };
+    let Some((a, rest)) = hex_digit(rest) else {
+        return None;
+    };
+    let Some((b, rest)) = hex_digit(rest) else {
+        return None;
+    };
+    let Some((c, rest)) = hex_digit(rest) else {
+        return None;
+    };
+    let Some((d, rest)) = hex_digit(rest) else {
+        return None;
+    };
+    let Some(ch) = char::from_u32(((a * 16 + b) * 16 + c) * 16 + d) else {
+        return None;
+    };
     Some((ch, rest))
 }
 
@@ -91,8 +120,12 @@ fn escaped_unit(bytes: &[u8]) -> Option<(char, &[u8])>
 fn hex_digit(bytes: &[u8]) -> Option<(u32, &[u8])>
     ensures { IfSome result (λ p. BeginsWithHexDigit bytes.now p.0 p.1.now) }
 {
-    let (digit, rest) = bytes.split_first()?;
-    let value = char::from(*digit).to_digit(16)?;
+    let Some((digit, rest)) = bytes.split_first() else {
+        return None;
+    };
+    let Some(value) = char::from(*digit).to_digit(16) else {
+        return None;
+    };
     Some((value, rest))
 }
 
@@ -100,7 +133,9 @@ fn hex_digit(bytes: &[u8]) -> Option<(u32, &[u8])>
 pub(crate) fn number(bytes: &[u8]) -> Option<(u64, &[u8])>
     ensures { IfSome result (λ p. BeginsWithLexemes bytes.now (number_lexemes p.0) p.1.now) }
 {
-    let (value, rest) = parts::number(after_blanks(bytes))?;
+    let Some((value, rest)) = parts::number(after_blanks(bytes)) else {
+        return None;
+    };
     if ends_word(rest) {
         Some((value, rest))
     } else {

@@ -1,10 +1,12 @@
 //! Operations whose members stand in any order, with blanks between them or none, read with no
 //! value of JSON in between.
-ghost use Rattle.std.specs.Prelude.{◌≡◌, ◌≤◌, length, Ok, IfSome};
+ghost use Rattle.std.specs.Prelude.{◌≡◌, ◌≤◌, ◌∷◌, true, length, Ok, IfSome};
+ghost use Rattle.json.specs.Word.{is_operator};
+ghost use Rattle.json.specs.Lex.{operator_lexeme};
 ghost use Rattle.serde_json.specs.Data.{Members, object, no_members};
 ghost use Rattle.rga_ops.specs.Identifier.{identifier};
 ghost use Rattle.rga_ops.specs.Operation.{checked};
-ghost use Rattle.rga_lines.specs.Members.{name_of_kind, text_lexemes, pair_lexemes, with_member};
+ghost use Rattle.rga_lines.specs.Members.{name_of_kind, text_lexemes, number_lexemes, pair_lexemes, with_member};
 ghost use Rattle.rga_lines.specs.Members.{BeginsWithLexemes, BeginsWithMember, ListsMembers};
 ghost use Rattle.rga_lines.specs.Members.{IsSoundMember, HasExactly};
 ghost use Rattle.rga_lines.specs.Spelling.{IsElement, IsElementOrRoot};
@@ -50,8 +52,15 @@ pub(crate) fn by_members(bytes: &[u8]) -> Option<Op>
     if str::from_utf8(bytes).is_err() {
         return None;
     }
-    let rest = after_operator(bytes, b'{')?;
-    let op = found_in(rest, Found::new())?.operation()?;
+    let Some(rest) = after_operator(bytes, b'{') else {
+        return None;
+    };
+    let Some(found) = found_in(rest, Found::new()) else {
+        return None;
+    };
+    let Some(op) = found.operation() else {
+        return None;
+    };
     match op.check() {
         Ok(()) => Some(op),
         Err(_) => None,
@@ -65,11 +74,15 @@ fn found_in(bytes: &[u8], found: Found) -> Option<Found>
     let Some((member, rest)) = first_member(bytes) else {
         return None;
     };
-    let found = found.with(member)?;
+    let Some(found) = found.with(member) else {
+        return None;
+    };
     if let Some(rest) = after_operator(rest, b',') {
         return found_in(rest, found);
     }
-    let rest = after_operator(rest, b'}')?;
+    let Some(rest) = after_operator(rest, b'}') else {
+        return None;
+    };
     if after_blanks(rest).is_empty() {
         Some(found)
     } else {
@@ -83,24 +96,30 @@ fn first_member(bytes: &[u8]) -> Option<(Member, &[u8])>
     ensures { IfSome result (λ p. BeginsWithMember bytes.now p.0 p.1.now) }
 {
     if let Some(rest) = after_name(bytes, "char") {
-        let (ch, rest) = only_character(rest)?;
-        Some((Member::Char(ch), rest))
-    } else if let Some(rest) = after_name(bytes, "id") {
+        let Some((ch, rest)) = only_character(rest) else {
+            return None;
+        };
+        return Some((Member::Char(ch), rest));
+    }
+    if let Some(rest) = after_name(bytes, "id") {
         let Some((id, rest)) = element_in(rest) else {
             return None;
         };
-        Some((Member::Id(id), rest))
-    } else if let Some(rest) = after_name(bytes, "parent") {
+        return Some((Member::Id(id), rest));
+    }
+    if let Some(rest) = after_name(bytes, "parent") {
         let Some((parent, rest)) = element_or_root_in(rest) else {
             return None;
         };
-        Some((Member::Parent(parent), rest))
-    } else {
-        let Some((kind, rest)) = kind_of(after_name(bytes, "op")?) else {
-            return None;
-        };
-        Some((Member::Op(kind), rest))
+        return Some((Member::Parent(parent), rest));
     }
+    let Some(rest) = after_name(bytes, "op") else {
+        return None;
+    };
+    let Some((kind, rest)) = kind_of(rest) else {
+        return None;
+    };
+    Some((Member::Op(kind), rest))
 }
 
 /// The identifier of an element between brackets, and what stands behind it.
@@ -108,8 +127,12 @@ fn element_in(bytes: &[u8]) -> Option<(Id, &[u8])>
     ensures { IfSome result (λ p. BeginsWithLexemes bytes.now (pair_lexemes p.0) p.1.now
         × IsElement p.0) }
 {
-    let (counter, replica, rest) = pair(bytes)?;
-    let id = element(counter, replica)?;
+    let Some((counter, replica, rest)) = pair(bytes) else {
+        return None;
+    };
+    let Some(id) = element(counter, replica) else {
+        return None;
+    };
     Some((id, rest))
 }
 
@@ -118,8 +141,12 @@ fn element_or_root_in(bytes: &[u8]) -> Option<(Id, &[u8])>
     ensures { IfSome result (λ p. BeginsWithLexemes bytes.now (pair_lexemes p.0) p.1.now
         × IsElementOrRoot p.0) }
 {
-    let (counter, replica, rest) = pair(bytes)?;
-    let id = element_or_root(counter, replica)?;
+    let Some((counter, replica, rest)) = pair(bytes) else {
+        return None;
+    };
+    let Some(id) = element_or_root(counter, replica) else {
+        return None;
+    };
     Some((id, rest))
 }
 
@@ -132,7 +159,9 @@ fn kind_of(bytes: &[u8]) -> Option<(Kind, &[u8])>
     if let Some(rest) = after_text(bytes, "ins") {
         Some((Kind::Insertion, rest))
     } else {
-        let rest = after_text(bytes, "del")?;
+        let Some(rest) = after_text(bytes, "del") else {
+            return None;
+        };
         Some((Kind::Deletion, rest))
     }
 }
@@ -142,11 +171,31 @@ fn pair(bytes: &[u8]) -> Option<(u64, u16, &[u8])>
     ensures { IfSome result (λ p.
         BeginsWithLexemes bytes.now (pair_lexemes (identifier p.0 p.1)) p.2.now) }
 {
-    let (counter, rest) = number(after_operator(bytes, b'[')?)?;
-    let (replica, rest) = number(after_operator(rest, b',')?)?;
-    let rest = after_operator(rest, b']')?;
-    let replica = u16::try_from(replica).ok()?;
+    let Some((counter, rest)) = number_behind(bytes, b'[') else {
+        return None;
+    };
+    let Some((replica, rest)) = number_behind(rest, b',') else {
+        return None;
+    };
+    let Some(rest) = after_operator(rest, b']') else {
+        return None;
+    };
+    let Ok(replica) = u16::try_from(replica) else {
+        return None;
+    };
     Some((counter, replica, rest))
+}
+
+/// A number behind an operator, and what stands behind it.
+fn number_behind(bytes: &[u8], operator: u8) -> Option<(u64, &[u8])>
+    requires { is_operator operator ≡ true }
+    ensures { IfSome result (λ p.
+        BeginsWithLexemes bytes.now (operator_lexeme operator ∷ number_lexemes p.0) p.1.now) }
+{
+    let Some(rest) = after_operator(bytes, operator) else {
+        return None;
+    };
+    number(rest)
 }
 
 impl Found {

@@ -1,16 +1,16 @@
 //! The parts of a line that more than one of its readers knows: literals, characters, numbers and
 //! identifiers.
-ghost use Rattle.std.specs.Prelude.{◌≡◌, ◌≢◌, ◌+◌, ◌<◌, ◌≤◌, ◌++◌, decimal, IfSome};
+ghost use Rattle.std.specs.Prelude.{◌≡◌, ◌≢◌, ◌+◌, ◌<◌, ◌≤◌, ◌++◌, ◌∷◌, [], decimal, IfSome};
 ghost use Rattle.std.specs.Bool.{OnTrue};
 ghost use Rattle.std.specs.Str.{chars};
 ghost use Rattle.rga_ops.specs.Identifier.{identifier};
-ghost use Rattle.rga_lines.specs.Spelling.{BeginsWithCharacter, IsElement, IsElementOrRoot};
+ghost use Rattle.std.specs.Char.{IsScalar};
+ghost use Rattle.rga_lines.specs.Spelling.{escaped, BeginsWithCharacter, IsElement, IsElementOrRoot};
 ghost use Rattle.rga_lines.specs.Table.{only_char, if_in_range, if_root_or_in_range};
 
 use rga_ops::Id;
 
 /// What stands behind the literal, with which the bytes begin.
-#[tactic(auto, using(crate::proofs::PartsLemmas::stripped))]
 pub(crate) fn after<'a>(bytes: &'a [u8], literal: &[u8]) -> Option<&'a [u8]>
     ensures { IfSome result (λ rest. bytes.now ≡ literal.now ++ rest.now) }
 {
@@ -36,7 +36,9 @@ pub(crate) fn character(bytes: &[u8]) -> Option<(char, &[u8])>
 fn plain_character(bytes: &[u8]) -> Option<(char, &[u8])>
     ensures { IfSome result (λ p. BeginsWithCharacter bytes.now p.0 p.1.now) }
 {
-    let (first, rest) = bytes.split_first()?;
+    let Some((first, rest)) = bytes.split_first() else {
+        return None;
+    };
     if is_plain(*first) {
         Some((char::from(*first), rest))
     } else {
@@ -52,22 +54,36 @@ fn is_plain(byte: u8) -> bool
 }
 
 /// A character by its escape of one letter, and what stands behind it.
-#[tactic(auto, unfolding(crate::specs::Spelling::escaped))]
 fn short_escape(bytes: &[u8]) -> Option<(char, &[u8])>
     ensures { IfSome result (λ p. BeginsWithCharacter bytes.now p.0 p.1.now) }
 {
-    let (letter, behind) = after(bytes, b"\\")?.split_first()?;
-    let ch = match *letter {
-        b'"' => '"',
-        b'\\' => '\\',
-        b'b' => '\u{8}',
-        b'f' => '\u{c}',
-        b'n' => '\n',
-        b'r' => '\r',
-        b't' => '\t',
-        _ => return None,
+    let Some(rest) = after(bytes, b"\\") else {
+        return None;
+    };
+    let Some((letter, behind)) = rest.split_first() else {
+        return None;
+    };
+    let Some(ch) = of_letter(*letter) else {
+        return None;
     };
     Some((ch, behind))
+}
+
+/// The character whose escape has this letter.
+#[tactic(auto, unfolding(crate::specs::Spelling::escaped))]
+fn of_letter(letter: u8) -> Option<char>
+    ensures { IfSome result (λ ch. (escaped ch ≡ 92 ∷ letter ∷ []) × IsScalar ch) }
+{
+    match letter {
+        b'"' => Some('"'),
+        b'\\' => Some('\\'),
+        b'b' => Some('\u{8}'),
+        b'f' => Some('\u{c}'),
+        b'n' => Some('\n'),
+        b'r' => Some('\r'),
+        b't' => Some('\t'),
+        _ => None,
+    }
 }
 
 /// A character above ASCII, and what stands behind it.
@@ -79,11 +95,15 @@ fn wide_character(bytes: &[u8]) -> Option<(char, &[u8])>
         224..=239 => 3,
         _ => 4,
     };
-    let (front, rest) = bytes.split_at_checked(width)?;
+    let Some((front, rest)) = bytes.split_at_checked(width) else {
+        return None;
+    };
     let Ok(text) = str::from_utf8(front) else {
         return None;
     };
-    let ch = only_char(text)?;
+    let Some(ch) = only_char(text) else {
+        return None;
+    };
     if u32::from(ch) < 128 {
         None
     } else {
@@ -107,7 +127,12 @@ pub(crate) fn only_char(text: &str) -> Option<char>
 pub(crate) fn number(bytes: &[u8]) -> Option<(u64, &[u8])>
     ensures { IfSome result (λ p. bytes.now ≡ decimal p.0 ++ p.1.now) }
 {
-    let mut value = digit(*bytes.first()?)?;
+    let Some(first) = bytes.first() else {
+        return None;
+    };
+    let Some(mut value) = digit(*first) else {
+        return None;
+    };
     let mut len = 1usize;
     'digits: while len < bytes.len() {
         let Some(next) = digit(bytes[len]) else {
@@ -126,7 +151,10 @@ pub(crate) fn number(bytes: &[u8]) -> Option<(u64, &[u8])>
 pub(crate) fn number_after<'a>(bytes: &'a [u8], literal: &[u8]) -> Option<(u64, &'a [u8])>
     ensures { IfSome result (λ p. bytes.now ≡ literal.now ++ (decimal p.0 ++ p.1.now)) }
 {
-    number(after(bytes, literal)?)
+    let Some(rest) = after(bytes, literal) else {
+        return None;
+    };
+    number(rest)
 }
 
 fn digit(byte: u8) -> Option<u64>

@@ -3,7 +3,7 @@ ghost use Rattle.std.specs.Prelude.{◌≡◌, ◌≢◌, ◌<◌, length, IfOk,
 ghost use Rattle.std.specs.Str.{chars};
 ghost use Rattle.serde_json.specs.View.{view, items_view};
 ghost use Rattle.rga_lines.specs.Table.{count_of, two_numbers, element_of, parent_of};
-ghost use Rattle.rga_lines.specs.Table.{insertion, deletion, run, deletions_reading, heading, ending};
+ghost use Rattle.rga_lines.specs.Table.{single_reading, insertion, deletion, run, run_of_deletions, deletions_reading, heading, ending};
 ghost use Rattle.rga_lines.specs.Table.{with_run_end, last, of_kind, operation_alone};
 ghost use Rattle.rga_lines.specs.Table.{value_line, any_line_at, line_at};
 ghost use Rattle.rga_lines.specs.declared.fault.LineFault.TheVariants.{Memory, Long};
@@ -130,13 +130,13 @@ fn named(alloc: Global, name: &str, members: usize, value: &Value) -> Result<Lin
     ensures { result ≢ Err Memory → result ≡ of_kind members (view value.now) name.now }
 {
     if name == "ins" {
-        Ok(Line::One(insertion(members, value)?))
+        insertion(members, value)
     } else if name == "del" {
-        Ok(Line::One(deletion(members, value)?))
+        deletion(members, value)
     } else if name == "run" {
         run(alloc, members, value)
     } else if name == "dels" {
-        Ok(Line::Deletions(deletions(members, value)?))
+        deletions(members, value)
     } else if name == "head" {
         heading(members, value)
     } else if name == "end" {
@@ -153,8 +153,8 @@ fn count(value: &Value) -> Option<usize>
     Some(value.as_object()?.len())
 }
 
-fn insertion(count: usize, value: &Value) -> Result<Op, LineFault>
-    ensures { result ≡ insertion count (view value.now) }
+fn insertion(count: usize, value: &Value) -> Result<Line, LineFault>
+    ensures { result ≡ single_reading (insertion count (view value.now)) }
 {
     if count != 4 {
         return Err(LineFault::Member);
@@ -179,12 +179,12 @@ fn insertion(count: usize, value: &Value) -> Result<Op, LineFault>
     if id.counter() <= parent.counter() {
         Err(LineFault::Order)
     } else {
-        Ok(Op::Insert { id, parent, ch })
+        Ok(Line::One(Op::Insert { id, parent, ch }))
     }
 }
 
-fn deletion(count: usize, value: &Value) -> Result<Op, LineFault>
-    ensures { result ≡ deletion count (view value.now) }
+fn deletion(count: usize, value: &Value) -> Result<Line, LineFault>
+    ensures { result ≡ single_reading (deletion count (view value.now)) }
 {
     if count != 2 {
         return Err(LineFault::Member);
@@ -196,7 +196,7 @@ fn deletion(count: usize, value: &Value) -> Result<Op, LineFault>
         return Err(LineFault::Kind);
     };
     match element_of(id) {
-        Some(id) => Ok(Op::Delete { id }),
+        Some(id) => Ok(Line::One(Op::Delete { id })),
         None => Err(LineFault::Id),
     }
 }
@@ -255,8 +255,8 @@ fn characters(alloc: Global, text: &str) -> Result<Vec<char>, LineFault>
 }
 
 /// A run of deletions, by an object of so many members.
-fn deletions(members: usize, value: &Value) -> Result<DeletionRun, LineFault>
-    ensures { result ≡ deletions_reading members (view value.now) }
+fn deletions(members: usize, value: &Value) -> Result<Line, LineFault>
+    ensures { result ≡ run_of_deletions (deletions_reading members (view value.now)) }
 {
     if members != 3 {
         return Err(LineFault::Member);
@@ -276,7 +276,7 @@ fn deletions(members: usize, value: &Value) -> Result<DeletionRun, LineFault>
     if count == 0 || count > MAX_RUN as u64 {
         return Err(LineFault::Char);
     }
-    Ok(DeletionRun { id, count })
+    Ok(Line::Deletions(DeletionRun { id, count }))
 }
 
 /// The head of an exchange, by an object of so many members.
@@ -314,18 +314,28 @@ fn ending(members: usize, value: &Value) -> Result<Line, LineFault>
 fn two_numbers(items: &Vec<Value>) -> Option<(u64, u64)>
     ensures { result ≡ two_numbers (items_view items.now.items) }
 {
-    match items.as_slice() {
-        [counter, replica] => Some((counter.as_u64()?, replica.as_u64()?)),
-        _ => None,
-    }
+    let [counter, replica] = items.as_slice() else {
+        return None;
+    };
+    let Some(counter) = counter.as_u64() else {
+        return None;
+    };
+    let Some(replica) = replica.as_u64() else {
+        return None;
+    };
+    Some((counter, replica))
 }
 
 /// The identifier of an element.
 fn element_of(items: &Vec<Value>) -> Option<Id>
     ensures { result ≡ element_of (items_view items.now.items) }
 {
-    let (counter, replica) = two_numbers(items)?;
-    let replica = u16::try_from(replica).ok()?;
+    let Some((counter, replica)) = two_numbers(items) else {
+        return None;
+    };
+    let Ok(replica) = u16::try_from(replica) else {
+        return None;
+    };
     element(counter, replica)
 }
 
@@ -333,7 +343,11 @@ fn element_of(items: &Vec<Value>) -> Option<Id>
 fn parent_of(items: &Vec<Value>) -> Option<Id>
     ensures { result ≡ parent_of (items_view items.now.items) }
 {
-    let (counter, replica) = two_numbers(items)?;
-    let replica = u16::try_from(replica).ok()?;
+    let Some((counter, replica)) = two_numbers(items) else {
+        return None;
+    };
+    let Ok(replica) = u16::try_from(replica) else {
+        return None;
+    };
     element_or_root(counter, replica)
 }

@@ -36,12 +36,27 @@ fn written(bytes: &[u8]) -> Option<Op>
 fn insertion(bytes: &[u8]) -> Option<Op>
     ensures { IfSome result (λ op. IsLineOf bytes.now op) }
 {
-    let (ch, rest) = character(after(bytes, b"{\"char\":\"")?)?;
-    let (counter, replica, rest) = pair_after(rest, b"\",\"id\":")?;
-    let id = element(counter, replica)?;
-    let (counter, replica, rest) = pair_after(rest, b",\"op\":\"ins\",\"parent\":")?;
-    let parent = element_or_root(counter, replica)?;
-    let rest = after(rest, b"}")?;
+    let Some(rest) = after(bytes, b"{\"char\":\"") else {
+        return None;
+    };
+    let Some((ch, rest)) = character(rest) else {
+        return None;
+    };
+    let Some((counter, replica, rest)) = pair_after(rest, b"\",\"id\":") else {
+        return None;
+    };
+    let Some(id) = element(counter, replica) else {
+        return None;
+    };
+    let Some((counter, replica, rest)) = pair_after(rest, b",\"op\":\"ins\",\"parent\":") else {
+        return None;
+    };
+    let Some(parent) = element_or_root(counter, replica) else {
+        return None;
+    };
+    let Some(rest) = after(rest, b"}") else {
+        return None;
+    };
     if rest.is_empty() {
         Some(Op::Insert { id, parent, ch })
     } else {
@@ -53,9 +68,15 @@ fn insertion(bytes: &[u8]) -> Option<Op>
 fn deletion(bytes: &[u8]) -> Option<Op>
     ensures { IfSome result (λ op. IsLineOf bytes.now op) }
 {
-    let (counter, replica, rest) = pair_after(bytes, b"{\"id\":")?;
-    let id = element(counter, replica)?;
-    let rest = after(rest, b",\"op\":\"del\"}")?;
+    let Some((counter, replica, rest)) = pair_after(bytes, b"{\"id\":") else {
+        return None;
+    };
+    let Some(id) = element(counter, replica) else {
+        return None;
+    };
+    let Some(rest) = after(rest, b",\"op\":\"del\"}") else {
+        return None;
+    };
     if rest.is_empty() {
         Some(Op::Delete { id })
     } else {
@@ -83,10 +104,18 @@ fn written_deletions(bytes: &[u8]) -> Option<DeletionRun>
     ensures { IfSome result
         (λ run. (bytes.now ≡ deletion_run_line run) × IsElement run.id) }
 {
-    let (count, rest) = number_after(bytes, b"{\"count\":")?;
-    let (counter, replica, rest) = pair_after(rest, b",\"id\":")?;
-    let id = element(counter, replica)?;
-    let rest = after(rest, b",\"op\":\"dels\"}")?;
+    let Some((count, rest)) = number_after(bytes, b"{\"count\":") else {
+        return None;
+    };
+    let Some((counter, replica, rest)) = pair_after(rest, b",\"id\":") else {
+        return None;
+    };
+    let Some(id) = element(counter, replica) else {
+        return None;
+    };
+    let Some(rest) = after(rest, b",\"op\":\"dels\"}") else {
+        return None;
+    };
     if rest.is_empty() {
         Some(DeletionRun { id, count })
     } else {
@@ -100,16 +129,20 @@ pub(crate) fn pair_after<'a>(bytes: &'a [u8], literal: &[u8]) -> Option<(u64, u1
     ensures { IfSome result (λ p.
         bytes.now ≡ literal.now ++ (pair_text (identifier p.0 p.1) ++ p.2.now)) }
 {
-    pair(after(bytes, literal)?)
-}
-
-/// Two numbers between brackets, and what stands behind them.
-fn pair(bytes: &[u8]) -> Option<(u64, u16, &[u8])>
-    ensures { IfSome result (λ p. bytes.now ≡ pair_text (identifier p.0 p.1) ++ p.2.now) }
-{
-    let (counter, rest) = number_after(bytes, b"[")?;
-    let (replica, rest) = number_after(rest, b",")?;
-    let rest = after(rest, b"]")?;
-    let replica = u16::try_from(replica).ok()?;
+    let Some(rest) = after(bytes, literal) else {
+        return None;
+    };
+    let Some((counter, rest)) = number_after(rest, b"[") else {
+        return None;
+    };
+    let Some((replica, rest)) = number_after(rest, b",") else {
+        return None;
+    };
+    let Some(rest) = after(rest, b"]") else {
+        return None;
+    };
+    let Ok(replica) = u16::try_from(replica) else {
+        return None;
+    };
     Some((counter, replica, rest))
 }

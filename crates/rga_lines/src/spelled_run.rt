@@ -52,17 +52,26 @@ fn run_front(bytes: &[u8]) -> Option<(Id, Id, &[u8])>
     ensures { IfSome result (λ p. (bytes.now ≡ run_from p.0 p.1 p.2.now)
         × IsElement p.0 × IsElementOrRoot p.1) }
 {
-    let (counter, replica, rest) = pair_after(bytes, b"{\"id\":")?;
-    let id = element(counter, replica)?;
-    let (counter, replica, rest) = pair_after(rest, b",\"op\":\"run\",\"parent\":")?;
-    let parent = element_or_root(counter, replica)?;
-    let rest = after(rest, b",\"text\":\"")?;
+    let Some((counter, replica, rest)) = pair_after(bytes, b"{\"id\":") else {
+        return None;
+    };
+    let Some(id) = element(counter, replica) else {
+        return None;
+    };
+    let Some((counter, replica, rest)) = pair_after(rest, b",\"op\":\"run\",\"parent\":") else {
+        return None;
+    };
+    let Some(parent) = element_or_root(counter, replica) else {
+        return None;
+    };
+    let Some(rest) = after(rest, b",\"text\":\"") else {
+        return None;
+    };
     Some((id, parent, rest))
 }
 
 /// The characters up to the quote that closes the text, behind which the object ends. `None` where
 /// there are more than a run may have.
-#[tactic(auto, using(crate::proofs::RunLemmas::read_one, crate::proofs::RunLemmas::shorter))]
 fn characters(alloc: Global, bytes: &[u8]) -> Result<Option<Vec<char>>, LineFault>
     ensures read { IfOk result (λ o. IfSome o
         (λ v. BeginsWithCharacters bytes.now v.items (codes "\"}"))) }

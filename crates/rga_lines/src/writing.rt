@@ -174,22 +174,14 @@ fn push_count(text: &mut String, count: u64) -> Result<(), AllocError>
     text.push_str(digits.format(count))
 }
 
-/// Adds what names an identifier, and the identifier.
+/// Adds what names an identifier, and the identifier as two numbers between brackets.
 fn push_id(text: &mut String, name: &str, id: &Id) -> Result<(), AllocError>
     ensures ok { OnOk result
         (string_bytes text.new ≡ string_bytes text.old ++ (name.now ++ pair_text id.now)) }
     ensures identifier { OnOk result (IsElementOrRoot id.now) }
 {
-    text.push_str(name)?;
-    push_pair(text, id)
-}
-
-/// An identifier as two numbers between brackets.
-fn push_pair(text: &mut String, id: &Id) -> Result<(), AllocError>
-    ensures ok { OnOk result (string_bytes text.new ≡ string_bytes text.old ++ pair_text id.now) }
-    ensures identifier { OnOk result (IsElementOrRoot id.now) }
-{
     let mut digits = Buffer::new();
+    text.push_str(name)?;
     text.push_str("[")?;
     text.push_str(digits.format(id.counter()))?;
     text.push_str(",")?;

@@ -4,5 +4,5 @@ use Rattle.rga_lines.proofs.lexed.escaped_unit.Goals as goal
 
 pub returns : goal.returns
 returns c =
-    unit_within c.args.bytes.now c.in_ok-after.field-0.now c.in_ok-a.rest.now c.in_ok-b.rest.now c.in_ok-c.rest.now c.in_ok-d.rest.now c.in_ok-a.a c.in_ok-b.b c.in_ok-c.c c.in_ok-d.d c.in_ok-ch.ch
-    c.in_ok-after.ensures c.in_ok-a.ensures c.in_ok-b.ensures c.in_ok-c.ensures c.in_ok-d.ensures (search rules) (search rules) (search rules)
+    unit_within c.args.bytes.now c.in-Some.rest.now c.in-Some-hex_digit.rest.now c.in-Some-hex_digit-2.rest.now c.in-Some-hex_digit-3.rest.now c.in-Some-hex_digit-4.rest.now c.in-Some-hex_digit.a c.in-Some-hex_digit-2.b c.in-Some-hex_digit-3.c c.in-Some-hex_digit-4.d c.in-Some-from_u32.ch
+    c.in-Some.ensures c.in-Some-hex_digit.ensures c.in-Some-hex_digit-2.ensures c.in-Some-hex_digit-3.ensures c.in-Some-hex_digit-4.ensures (search rules) (search rules) (search rules)

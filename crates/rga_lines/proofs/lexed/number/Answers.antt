@@ -6,5 +6,5 @@ use Rattle.rga_lines.proofs.lexed.number.Goals as goal
 
 pub returns-then-ends_word : goal.returns-then-ends_word
 returns-then-ends_word c =
-    sym c.after_blanks.ensures ∙ ap (lex between) c.in_ok-value.ensures
-    ∙ lex-number _ c.in_ok-value.rest.now (IsNumber-decimal c.in_ok-value.value (search rules)) c.if-ends_word.ensures
+    sym c.after_blanks.ensures ∙ ap (lex between) c.in-Some.ensures
+    ∙ lex-number _ c.in-Some.rest.now (IsNumber-decimal c.in-Some.value (search rules)) c.if-ends_word.ensures

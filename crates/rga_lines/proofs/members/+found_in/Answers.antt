@@ -12,10 +12,10 @@ found_in-requires t c =
 
 pub returns-in-Some-after_operator : goal.returns-in-Some-after_operator
 returns-in-Some-after_operator t c =
-    more_listed c.args.bytes.now c.in-Some.rest.now c.in-Some.member c.args.found c.in_ok-found.found c.in-Some.ensures (λ ms h. c.in_ok-found.ensures ms c.in-Some.ensures.1 h)
+    more_listed c.args.bytes.now c.in-Some.rest.now c.in-Some.member c.args.found c.in-Some-with.found c.in-Some.ensures (λ ms h. c.in-Some-with.ensures ms c.in-Some.ensures.1 h)
     c.in-Some-after_operator.rest.now c.found_in.result c.in-Some-after_operator.ensures c.found_in.ensures
 
 pub returns-then-is_empty : goal.returns-then-is_empty
 returns-then-is_empty t c =
-    last_listed c.args.bytes.now c.in-Some.rest.now c.in-Some.member c.args.found c.in_ok-found.found c.in-Some.ensures (λ ms h. c.in_ok-found.ensures ms c.in-Some.ensures.1 h)
-    c.in_ok-rest.rest.now c.after_blanks.result.now c.in_ok-rest.ensures c.after_blanks.ensures (nil_from_length _ (search rules))
+    last_listed c.args.bytes.now c.in-Some.rest.now c.in-Some.member c.args.found c.in-Some-with.found c.in-Some.ensures (λ ms h. c.in-Some-with.ensures ms c.in-Some.ensures.1 h)
+    c.in-Some-after_operator-2.rest.now c.after_blanks.result.now c.in-Some-after_operator-2.ensures c.after_blanks.ensures (nil_from_length _ (search rules))

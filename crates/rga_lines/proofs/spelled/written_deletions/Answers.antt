@@ -6,6 +6,6 @@ use Rattle.rga_lines.proofs.spelled.written_deletions.Goals as goal
 
 pub returns-then-is_empty : goal.returns-then-is_empty
 returns-then-is_empty c =
-    deletions_read c.args.bytes.now c.in_ok-count.rest.now c.in_ok-counter.rest.now c.in_ok-rest.rest.now c.in_ok-id.id c.in_ok-count.count c.in_ok-count.ensures
-    (c.in_ok-counter.ensures ∙ ap (λ p. codes ",\"id\":" ++ (pair_text p ++ c.in_ok-counter.rest.now)) (sym c.in_ok-id.ensures.ok.0), c.in_ok-id.ensures.ok.1)
-    c.in_ok-rest.ensures (nil_from_length _ (search rules))
+    deletions_read c.args.bytes.now c.in-Some.rest.now c.in-Some-pair_after.rest.now c.in-Some-after.rest.now c.in-Some-element.id c.in-Some.count c.in-Some.ensures
+    (c.in-Some-pair_after.ensures ∙ ap (λ p. codes ",\"id\":" ++ (pair_text p ++ c.in-Some-pair_after.rest.now)) (sym c.in-Some-element.ensures.ok.0), c.in-Some-element.ensures.ok.1)
+    c.in-Some-after.ensures (nil_from_length _ (search rules))
