@@ -1,16 +1,17 @@
 -- A revert leaves the text outside the margins round what it deletes and what it inserts.
 use Rattle.std.proofs.Common.{◌≡◌, ℕ, zero, suc, ◌+◌, ◌-◌, ◌<◌, ◌≤◌, Bool, true, false, cond, not, ◌&&◌, ◌||◌, nat_le, List, [], ◌∷◌, ◌++◌, map, filter, take, drop, length, get_or, refl, sym, ap, ◌∙◌, subst, true≢false, arith, append_assoc, append-nil, length-append, length-drop, take-append-drop, take_at, drop_at}
 use Rattle.std.specs.Prelude.{Option, Some, None, Ok, IfSome}
+use Rattle.std.specs.Option.{option_map}
 use Rattle.std.specs.List.{list_any, slice_get, AllByRecursion}
 use Rattle.std.specs.FinMap as finite_map
 use Rattle.std.specs.FinSet as finite_set
 use Rattle.std.proofs.Math.Bool.{and-true, and-false}
 use Rattle.std.proofs.lemmas.Bool.{and_parts, not-true}
 use Rattle.std.proofs.lemmas.Bool.Decides.{nat_tests}
-use Rattle.std.proofs.lemmas.List.{take-map, drop-map, take_more}
+use Rattle.std.proofs.lemmas.List.{map-append, take-map, drop-map, take_more}
 use Rattle.std.proofs.lemmas.Option.{same_Some}
 use Rattle.rga_ops.specs.Identifier.{Identifier, identifier, is_id, is_root}
-use Rattle.rga_ops.specs.Content.{Element, Content, clock_of, join, content_of}
+use Rattle.rga_ops.specs.Content.{Element, element_at, Content, clock_of, join, content_of}
 use Rattle.rga_ops.specs.Operation.{id_of}
 use Rattle.rga_ops.specs.RootPath.{is_complete}
 use Rattle.rga_ops.specs.Order.{order, text}
@@ -108,6 +109,17 @@ part_of_text c lo hi =
     sym (drop-map Some lo (take hi (text c)))
     ∙ ap (drop lo) (sym (take-map Some hi (text c)) ∙ ap (take hi) (text_is c) ∙ take-map (character c) hi (visible c))
     ∙ drop-map (character c) lo (take hi (visible c))
+
+-- the character of an element more
+pub read_more : (c : Content) (ids : List Identifier) (i : ℕ) (id : Identifier) (e : Identifier × ℕ) (characters : List ℕ) → i < length ids → id ≡ get_or ids i id → element_at c id ≡ Some e → map Some characters ≡ map (character c) (take i ids) → map Some (characters ++ e.1 ∷ []) ≡ map (character c) (take (i + 1) ids)
+read_more c ids i id e characters within is found before =
+    map-append Some characters (e.1 ∷ []) ∙ (λ k. before k ++ sym (by (finite_map.get c.inserted id) found) k ∷ [])
+    ∙ sym (map-append (character c) (take i ids) (id ∷ []))
+    ∙ ap (map (character c)) (sym (take_more ids i id within ∙ ap (λ x. take i ids ++ x ∷ []) (sym is)))
+  where
+    by : (o : Option Element) → option_map (λ x. (x.parent, x.ch)) o ≡ Some e → option_map (λ x. x.ch) o ≡ Some e.1
+    by None h = ap (option_map (λ (p : Identifier × ℕ). p.1)) h
+    by (Some x) h = ap (option_map (λ (p : Identifier × ℕ). p.1)) h
 
 -- elements that agree outside margins, and keep their characters, have texts that do
 texts_agree : (c d : Content) (front back : ℕ) → map (character c) (visible c) ≡ map (character d) (visible c) → take front (visible c) ≡ take front (visible d) → drop (length (visible c) - back) (visible c) ≡ drop (length (visible d) - back) (visible d) → AgreeOutside front back (text c) (text d)

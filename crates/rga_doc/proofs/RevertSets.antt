@@ -14,7 +14,7 @@ use Rattle.rga_doc.specs.Revert.{distinct_elements, are_restorable}
 pub from : {A : Type 0} (xs : List A) (i : ℕ) (x : A) → i < length xs → x ≡ get_or xs i x → drop i xs ≡ x ∷ drop (i + 1) xs
 from xs i x within is = drop_more xs i x within ∙ ap (λ y. y ∷ drop (i + 1) xs) (sym is)
 
-id_swap : (a b : Identifier) → is_id a b ≡ is_id b a
+pub id_swap : (a b : Identifier) → is_id a b ≡ is_id b a
 id_swap a b = is_id-same a b ∙ is_swap b a ∙ sym (is_id-same b a)
 
 abbrev pub none_seen : (Identifier → Bool) → List (Identifier × ℕ) → Bool
@@ -99,11 +99,25 @@ without_new seen now x (y ∷ ids) h = elim (is_id y x) as (λ b. is_id y x ≡ 
       ∙ sym (ap (λ s. cond (not s) (y ∷ new_only now ids) (new_only now ids)) (h y ∙ ap (λ a. a || seen y) (id_swap x y ∙ f)))
 ] refl
 
-pub once_met : (seen now : Identifier → Bool) (x : Identifier) (ids : List Identifier) → seen x ≡ true → ((q : Identifier) → now q ≡ (is_id x q || seen q)) → new_only seen (distinct_elements (x ∷ ids)) ≡ new_only now (distinct_elements ids)
+once_met : (seen now : Identifier → Bool) (x : Identifier) (ids : List Identifier) → seen x ≡ true → ((q : Identifier) → now q ≡ (is_id x q || seen q)) → new_only seen (distinct_elements (x ∷ ids)) ≡ new_only now (distinct_elements ids)
 once_met seen now x ids h more = ap (λ s. cond (not s) (x ∷ new_only seen (without x (distinct_elements ids))) (new_only seen (without x (distinct_elements ids)))) h ∙ without_new seen now x (distinct_elements ids) more
 
-pub once_new : (seen now : Identifier → Bool) (x : Identifier) (ids : List Identifier) → seen x ≡ false → ((q : Identifier) → now q ≡ (is_id x q || seen q)) → new_only seen (distinct_elements (x ∷ ids)) ≡ x ∷ new_only now (distinct_elements ids)
+once_new : (seen now : Identifier → Bool) (x : Identifier) (ids : List Identifier) → seen x ≡ false → ((q : Identifier) → now q ≡ (is_id x q || seen q)) → new_only seen (distinct_elements (x ∷ ids)) ≡ x ∷ new_only now (distinct_elements ids)
 once_new seen now x ids h more = ap (λ s. cond (not s) (x ∷ new_only seen (without x (distinct_elements ids))) (new_only seen (without x (distinct_elements ids)))) h ∙ ap (λ r. x ∷ r) (without_new seen now x (distinct_elements ids) more)
+
+-- the same of those that are to be kept, at one that is not, one that was met and a new one
+module _ (keeps seen : Identifier → Bool) (x : Identifier) (ids : List Identifier) where
+  at_first : (b : Bool) → keeps x ≡ b → new_only seen (distinct_elements (filter keeps (x ∷ ids))) ≡ new_only seen (distinct_elements (cond b (x ∷ filter keeps ids) (filter keeps ids)))
+  at_first b h = ap (λ t. new_only seen (distinct_elements (cond t (x ∷ filter keeps ids) (filter keeps ids)))) h
+
+  pub not_kept : keeps x ≡ false → new_only seen (distinct_elements (filter keeps (x ∷ ids))) ≡ new_only seen (distinct_elements (filter keeps ids))
+  not_kept h = at_first false h
+
+  pub kept_met : (now : Identifier → Bool) → keeps x ≡ true → seen x ≡ true → ((q : Identifier) → now q ≡ (is_id x q || seen q)) → new_only seen (distinct_elements (filter keeps (x ∷ ids))) ≡ new_only now (distinct_elements (filter keeps ids))
+  kept_met now h met more = at_first true h ∙ once_met seen now x (filter keeps ids) met more
+
+  pub kept_new : (now : Identifier → Bool) → keeps x ≡ true → seen x ≡ false → ((q : Identifier) → now q ≡ (is_id x q || seen q)) → new_only seen (distinct_elements (filter keeps (x ∷ ids))) ≡ x ∷ new_only now (distinct_elements (filter keeps ids))
+  kept_new now h new more = at_first true h ∙ once_new seen now x (filter keeps ids) new more
 
 pub any_id : (q : Identifier) (xs : List Identifier) → list_any (is_id q) xs ≡ list_any (is q) xs
 any_id q [] = refl

@@ -13,8 +13,8 @@ pub follows_nothing : (d : Document) → Follows d [] d
 follows_nothing d = record { replica = refl; listed = λ none. refl }
 
 -- operations may be taken in parts
-pub follows_on : (d e f : Document) (xs ys : List Op) → Follows d xs e → Follows e ys f → Follows d (xs ++ ys) f
-follows_on d e f xs ys a b = record { replica = b.replica ∙ a.replica; listed = by xs ys a.listed b.listed }
+pub follows_on : {d e f : Document} {xs ys : List Op} → Follows d xs e → Follows e ys f → Follows d (xs ++ ys) f
+follows_on {d} {e} {f} {xs} {ys} a b = record { replica = b.replica ∙ a.replica; listed = by xs ys a.listed b.listed }
   where
     by : (xs ys : List Op) → (xs ≡ [] → e.listed ≡ d.listed) → (ys ≡ [] → f.listed ≡ e.listed) → xs ++ ys ≡ [] → f.listed ≡ d.listed
     by [] ys p q h = q h ∙ p refl

@@ -1,10 +1,9 @@
 //! Sets of elements.
-ghost use Rattle.std.specs.Prelude.{◌≡◌, ◌||◌, not, false, IfOk, IfErr, OnOk};
+ghost use Rattle.std.specs.Prelude.{◌≡◌, ◌||◌, not, IfOk, IfErr, OnOk};
 ghost use Rattle.std.specs.List.{list_any};
 ghost use Rattle.indexmap.specs.IndexSet.{contains};
 ghost use Rattle.rga_ops.specs.Prelude.{Identifier, is_id};
 ghost use Rattle.rga_doc.specs.Complete.{is_one_of, AreTheComplete};
-ghost use Rattle.rga_doc.specs.Revert.{distinct_elements};
 
 use indexmap::IndexSet;
 use rga_ops::{Id, Refusal};
@@ -68,29 +67,4 @@ pub(crate) fn put_in(set: &mut IndexSet<Id>, id: Id) -> Result<bool, Refusal>
         Ok(new) => Ok(new),
         Err(_) => Err(Refusal::Memory),
     }
-}
-
-/// Each element once, where it stands first. `Memory` alone.
-pub(crate) fn drop_repeats(alloc: Global, ids: &[Id]) -> Result<Vec<Id>, Refusal>
-    ensures ok { IfOk result (λ kept. kept.items ≡ distinct_elements ids.now) }
-    ensures memory { IfErr result (λ e. e ≡ Refusal.Memory) }
-{
-    let mut seen = IndexSet::new(alloc);
-    collect_unseen(alloc, &mut seen, ids)
-}
-
-/// The same where none was seen yet; the elements are seen then.
-fn collect_unseen(alloc: Global, seen: &mut IndexSet<Id>, ids: &[Id]) -> Result<Vec<Id>, Refusal>
-    requires { (q : Identifier) → contains is_id seen.old q ≡ false }
-    ensures ok { IfOk result (λ kept. kept.items ≡ distinct_elements ids.now) }
-    ensures memory { IfErr result (λ e. e ≡ Refusal.Memory) }
-{
-    let mut kept = Vec::new(alloc);
-    for id in ids {
-        let new = put_in(seen, *id)?;
-        if new {
-            kept.push(*id)?;
-        }
-    }
-    Ok(kept)
 }

@@ -149,9 +149,9 @@ fn characters_between<S: TextStore>(
         let Some((_, ch)) = store.get(*id) else {
             return None;
         };
-        if characters.push(ch).is_err() {
+        let Ok(()) = characters.push(ch) else {
             return None;
-        }
+        };
     }
     Some(characters)
 }

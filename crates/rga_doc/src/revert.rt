@@ -12,10 +12,11 @@ ghost use Rattle.rga_doc.specs.Revert.{distinct_elements, restorations, revert_o
 use crate::doc::Doc;
 use crate::draft::Draft;
 use crate::edit::{check_counters, check_room};
-use crate::element_sets::{Complete, drop_repeats, put_in};
+use crate::element_sets::{Complete, put_in};
 use indexmap::IndexSet;
 use rga_ops::{Id, Op, Refusal};
 use rga_store::{Taker, TextStore};
+use std::alloc::Global;
 
 impl<S: TextStore> Doc<S> {
     /// Reverts an edit that inserted the elements `gone` and deleted those of `back`: deletes those
@@ -93,40 +94,8 @@ impl<S: TextStore> Doc<S> {
             room_answer self.now.limit self.now.content (length back.now) ≡ Ok tt }
     {
         check_room(&self.store, back.len())?;
-        let visible = self.check_revert(gone, back)?;
+        let visible = check_revert(self.alloc, &self.store, gone, back)?;
         self.write_revert(&visible, back)
-    }
-
-    /// What a revert deletes, where it is not refused: those of the elements that are visible, each
-    /// once. `Range` and `Clock` as `revert` has them; `Memory`.
-    fn check_revert(&self, gone: &[Id], back: &[(Id, char)]) -> Result<Vec<Id>, Refusal>
-        ensures exact { IsAnswer result (and_check
-            (place_answer (are_restorable self.now.content back.now))
-            (counter_answer self.now.content (length back.now))) }
-        ensures visible { IfOk result (λ kept. kept.items
-            ≡ distinct_elements (filter (is_visible self.now.content) gone.now)) }
-    {
-        let complete = Complete::of(self.alloc, &self.store)?;
-        self.check_among(&complete, gone, back)
-    }
-
-    /// The same by what is complete.
-    fn check_among(
-        &self,
-        complete: &Complete,
-        gone: &[Id],
-        back: &[(Id, char)],
-    ) -> Result<Vec<Id>, Refusal>
-        requires complete { AreTheComplete complete.now self.now.content }
-        ensures exact { IsAnswer result (and_check
-            (place_answer (are_restorable self.now.content back.now))
-            (counter_answer self.now.content (length back.now))) }
-        ensures visible { IfOk result (λ kept. kept.items
-            ≡ distinct_elements (filter (is_visible self.now.content) gone.now)) }
-    {
-        self.check_restorable(complete, back)?;
-        check_counters(&self.store, back.len())?;
-        self.collect_visible(complete, gone)
     }
 
     /// The deletions and then the insertions of a revert. `Memory` alone.
@@ -141,50 +110,127 @@ impl<S: TextStore> Doc<S> {
         draft.restore(back)?;
         Ok(draft.ops)
     }
+}
 
-    /// `Range` where an element is not complete or stands twice; `Memory`.
-    fn check_restorable(&self, complete: &Complete, back: &[(Id, char)]) -> Result<(), Refusal>
-        requires complete { AreTheComplete complete.now self.now.content }
-        ensures { IsAnswer result (place_answer (are_restorable self.now.content back.now)) }
-    {
-        let mut seen = IndexSet::new(self.alloc);
-        self.check_unseen(complete, &mut seen, back)
-    }
+/// What a revert deletes, where it is not refused: those of the elements that are visible, each
+/// once. `Range` and `Clock` as `revert` has them; `Memory`.
+fn check_revert<S: TextStore>(
+    alloc: Global,
+    store: &S,
+    gone: &[Id],
+    back: &[(Id, char)],
+) -> Result<Vec<Id>, Refusal>
+    ensures exact { IsAnswer result (and_check
+        (place_answer (are_restorable (S.content store.now) back.now))
+        (counter_answer (S.content store.now) (length back.now))) }
+    ensures visible { IfOk result (λ kept. kept.items
+        ≡ distinct_elements (filter (is_visible (S.content store.now)) gone.now)) }
+{
+    let complete = Complete::of(alloc, store)?;
+    check_among(alloc, store, &complete, gone, back)
+}
 
-    /// The same where none was seen yet; the elements are seen then.
-    fn check_unseen(
-        &self,
-        complete: &Complete,
-        seen: &mut IndexSet<Id>,
-        back: &[(Id, char)],
-    ) -> Result<(), Refusal>
-        requires complete { AreTheComplete complete.now self.now.content }
-        requires none { (q : Identifier) → contains is_id seen.old q ≡ false }
-        ensures { IsAnswer result (place_answer (are_restorable self.now.content back.now)) }
-    {
-        for (element, _) in back {
-            if !complete.has(&self.store, *element) {
-                return Err(Refusal::Range);
-            }
-            let new = put_in(seen, *element)?;
-            if !new {
-                return Err(Refusal::Range);
-            }
+/// The same by what is complete.
+fn check_among<S: TextStore>(
+    alloc: Global,
+    store: &S,
+    complete: &Complete,
+    gone: &[Id],
+    back: &[(Id, char)],
+) -> Result<Vec<Id>, Refusal>
+    requires complete { AreTheComplete complete.now (S.content store.now) }
+    ensures exact { IsAnswer result (and_check
+        (place_answer (are_restorable (S.content store.now) back.now))
+        (counter_answer (S.content store.now) (length back.now))) }
+    ensures visible { IfOk result (λ kept. kept.items
+        ≡ distinct_elements (filter (is_visible (S.content store.now)) gone.now)) }
+{
+    check_restorable(alloc, store, complete, back)?;
+    check_counters(store, back.len())?;
+    collect_visible(alloc, store, complete, gone)
+}
+
+/// `Range` where an element is not complete or stands twice; `Memory`.
+fn check_restorable<S: TextStore>(
+    alloc: Global,
+    store: &S,
+    complete: &Complete,
+    back: &[(Id, char)],
+) -> Result<(), Refusal>
+    requires complete { AreTheComplete complete.now (S.content store.now) }
+    ensures { IsAnswer result (place_answer (are_restorable (S.content store.now) back.now)) }
+{
+    let mut seen = IndexSet::new(alloc);
+    check_unseen(store, complete, &mut seen, back)
+}
+
+/// The same where none was seen yet; the elements are seen then.
+fn check_unseen<S: TextStore>(
+    store: &S,
+    complete: &Complete,
+    seen: &mut IndexSet<Id>,
+    back: &[(Id, char)],
+) -> Result<(), Refusal>
+    requires complete { AreTheComplete complete.now (S.content store.now) }
+    requires none { (q : Identifier) → contains is_id seen.old q ≡ false }
+    ensures { IsAnswer result (place_answer (are_restorable (S.content store.now) back.now)) }
+{
+    for (element, _) in back {
+        if !complete.has(store, *element) {
+            return Err(Refusal::Range);
         }
-        Ok(())
+        let new = put_in(seen, *element)?;
+        if !new {
+            return Err(Refusal::Range);
+        }
     }
+    Ok(())
+}
 
-    /// Those of the elements that are visible, each once. `Memory` alone.
-    fn collect_visible(&self, complete: &Complete, ids: &[Id]) -> Result<Vec<Id>, Refusal>
-        requires complete { AreTheComplete complete.now self.now.content }
-        ensures ok { IfOk result (λ kept. kept.items
-            ≡ distinct_elements (filter (is_visible self.now.content) ids.now)) }
-        ensures memory { IfErr result (λ e. e ≡ Refusal.Memory) }
-    {
-        let mut visible = Vec::from_slice(self.alloc, ids)?;
-        visible.retain(|id| complete.has(&self.store, *id) && !self.store.is_deleted(*id));
-        drop_repeats(self.alloc, &visible)
+/// Those of the elements that are visible, each once. `Memory` alone.
+fn collect_visible<S: TextStore>(
+    alloc: Global,
+    store: &S,
+    complete: &Complete,
+    ids: &[Id],
+) -> Result<Vec<Id>, Refusal>
+    requires complete { AreTheComplete complete.now (S.content store.now) }
+    ensures ok { IfOk result (λ kept. kept.items
+        ≡ distinct_elements (filter (is_visible (S.content store.now)) ids.now)) }
+    ensures memory { IfErr result (λ e. e ≡ Refusal.Memory) }
+{
+    let mut seen = IndexSet::new(alloc);
+    collect_unseen(alloc, store, complete, &mut seen, ids)
+}
+
+/// The same where none was seen yet; the elements are seen then.
+fn collect_unseen<S: TextStore>(
+    alloc: Global,
+    store: &S,
+    complete: &Complete,
+    seen: &mut IndexSet<Id>,
+    ids: &[Id],
+) -> Result<Vec<Id>, Refusal>
+    requires complete { AreTheComplete complete.now (S.content store.now) }
+    requires none { (q : Identifier) → contains is_id seen.old q ≡ false }
+    ensures ok { IfOk result (λ kept. kept.items
+        ≡ distinct_elements (filter (is_visible (S.content store.now)) ids.now)) }
+    ensures memory { IfErr result (λ e. e ≡ Refusal.Memory) }
+{
+    let mut kept = Vec::new(alloc);
+    for id in ids {
+        if !complete.has(store, *id) {
+            continue;
+        }
+        if store.is_deleted(*id) {
+            continue;
+        }
+        if !put_in(seen, *id)? {
+            continue;
+        }
+        kept.push(*id)?;
     }
+    Ok(kept)
 }
 
 impl Draft {

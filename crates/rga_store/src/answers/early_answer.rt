@@ -39,12 +39,14 @@ fn early_conflict_at<S: TextStore>(store: &S, ops: &[Op]) -> Option<Id>
     ensures { result ≡ early_conflict (S.content store.now) ops.now }
 {
     for op in ops {
-        if let Op::Insert { id, parent, ch } = op {
-            match store.get(*id) {
-                Some(element) if element == (*parent, *ch) => {}
-                Some(_) => return Some(*id),
-                None => return None,
-            }
+        let Op::Insert { id, parent, ch } = op else {
+            continue;
+        };
+        let Some(element) = store.get(*id) else {
+            return None;
+        };
+        if element != (*parent, *ch) {
+            return Some(*id);
         }
     }
     None

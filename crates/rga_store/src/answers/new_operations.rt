@@ -42,9 +42,10 @@ fn pick_new<S: TextStore>(
     ensures memory { IfErr result (λ e. e ≡ Refusal.Memory) }
 {
     for op in ops {
-        if is_new(store, inserted, deleted, op)? {
-            picked.push(*op)?;
+        if !is_new(store, inserted, deleted, op)? {
+            continue;
         }
+        picked.push(*op)?;
     }
     Ok(())
 }
@@ -105,7 +106,10 @@ pub fn stored_or_added(
 ) -> Option<(Id, char)>
     ensures { result ≡ option_or stored (get_added is_id added.now id) }
 {
-    stored.or_else(|| added.get(&id).copied())
+    match stored {
+        Some(element) => Some(element),
+        None => added.get(&id).copied(),
+    }
 }
 
 /// Whether neither the store has this deletion nor what was added. Then it is added. `Memory`

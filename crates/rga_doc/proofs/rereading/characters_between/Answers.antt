@@ -1,10 +1,10 @@
-use Rattle.std.proofs.Common.{◌≡◌, List, map, take, drop, sym, ap, ◌∙◌, arith, take_all}
-use Rattle.rga_ops.specs.Content.{Content}
+use Rattle.std.proofs.Common.{◌≡◌, Some, List, map, take, drop, sym, ap, ◌∙◌, arith, take_all}
+use Rattle.rga_ops.specs.Content.{Content, element_at}
 use Rattle.rga_ops.specs.Order.{text}
 use Rattle.rga_ops.specs.Places.{visible, character}
 use Rattle.rga_ops.specs.Identifier.{Identifier}
 use Rattle.rga_ops.proofs.SpliceLaws.{same_characters}
-use Rattle.rga_doc.proofs.RereadingLaws.{part_of_text}
+use Rattle.rga_doc.proofs.RereadingLaws.{part_of_text, read_more}
 use Rattle.rga_doc.proofs.rereading.characters_between.Goals as goal
 
 -- the characters of all of them
@@ -16,3 +16,10 @@ returns g c =
     take_all c.loop-id.id-index ids (omega (arith, c.loop-id-test.false)) ∙ c.deref-id-items.ensures.value ∙ c.in-Ok.ensures.ok in
     same_characters c.loop-id.characters.items (drop c.args.lo (take c.args.hi (text content)))
     (c.loop-id.invariant ∙ ap (map (character content)) all ∙ sym (part_of_text content c.args.lo c.args.hi))
+
+pub loop-id-preserved : goal.loop-id-preserved
+loop-id-preserved g c =
+    let content : Content = g.S.Taker.content c.args.store.now in
+    let found : element_at content c.id-item.result ≡ Some (c.in-Some.field-0-0, c.in-Some.ch) = sym c.get.ensures ∙ c.in-Some.is in
+    ap (map Some) c.in-Ok-push.ensures.items
+    ∙ read_more content c.deref-id-items.result.now c.loop-id.id-index c.id-item.result (c.in-Some.field-0-0, c.in-Some.ch) c.loop-id.characters.items (omega (arith, c.loop-id-test.true)) c.id-item.is found c.loop-id.invariant

@@ -3,8 +3,9 @@ use Rattle.std.specs.Prelude.{Some}
 use Rattle.std.specs.Option.{option_map_or}
 use Rattle.std.specs.List.{take_while}
 use Rattle.std.specs.FinMap as finite_map
+use Rattle.std.proofs.lemmas.Bool.{not-false}
 use Rattle.rga_ops.specs.Operation.{id_of}
-use Rattle.rga_ops.specs.Content.{element, Content, join, single, content_of}
+use Rattle.rga_ops.specs.Content.{Element, element, Content, join, single, content_of}
 use Rattle.rga_ops.specs.Answer.{is_element}
 use Rattle.rga_ops.specs.ListAnswer.{has_another, first_conflict, inserts_anew}
 use Rattle.rga_ops.proofs.AnswerLaws.{is_element-is}
@@ -14,7 +15,6 @@ use Rattle.rga_ops.proofs.TakenLaws.{held_adds_nothing}
 use Rattle.rga_ops.specs.declared.op.Op.TheVariants.{Insert}
 use Rattle.rga_store.proofs.ElementSteps.{found_element}
 use Rattle.rga_store.proofs.EarlySteps.{joined, conflicting, passed}
-use Rattle.rga_store.proofs.answers.early_answer.early_conflict_at.Goals.{in-Insert+in-Some, in_default}
 use Rattle.rga_store.proofs.answers.early_answer.early_conflict_at.Goals as goal
 
 pub loop-op-init : goal.loop-op-init
@@ -25,8 +25,8 @@ loop-op-init g c =
       elements = λ q. ap (λ (d : Content). finite_map.get d.inserted q) (join_nothing s);
     }
 
-pub returns-in-Some-2 : goal.returns-in-Some-2
-returns-in-Some-2 g c =
+pub returns-then-ne : goal.returns-then-ne
+returns-then-ne g c =
     let s : Content = g.S.Taker.content c.args.store.now in
     let d : Content = join s (content_of (take c.loop-op.op-index c.args.ops.now)) in
     let there : finite_map.get s.inserted c.in-Insert.id ≡ Some (element c.in-Some.element.0 c.in-Some.element.1) =
@@ -35,7 +35,7 @@ returns-in-Some-2 g c =
     let other : has_another d c.op-item.result ≡ true =
     ap (has_another d) c.in-Insert.is
     ∙ ap (λ o. option_map_or (λ x. not (is_element x c.in-Insert.parent c.in-Insert.ch)) o false) (c.loop-op.invariant.elements c.in-Insert.id ∙ there)
-    ∙ ap not (sym c.eq.ensures ∙ c.if-eq.false) in
+    ∙ sym c.ne.ensures ∙ c.if-ne.true in
     sym (sym c.loop-op.invariant.rest
     ∙ conflicting s c.args.ops.now c.loop-op.op-index c.op-item.result c.loop-op-test.true c.op-item.is d old other
     ∙ ap (λ o. Some (id_of o)) c.in-Insert.is)
@@ -44,28 +44,29 @@ pub loop-op-preserved : goal.loop-op-preserved
 loop-op-preserved g c =
     let s : Content = g.S.Taker.content c.args.store.now in
     let d : Content = join s (content_of (take c.loop-op.op-index c.args.ops.now)) in
-    let next : Content = join s (content_of (take (c.loop-op.op-index + 1) c.args.ops.now)) in
-    let more : next ≡ join d (single c.op-item.result) = joined s c.args.ops.now c.loop-op.op-index c.op-item.result c.loop-op-test.true c.op-item.is in
-    elim c.match-op.branch [
-      | in-Insert+in-Some w ↦
-          let there : finite_map.get s.inserted w.in-Insert.id ≡ Some (element w.in-Some.element.0 w.in-Some.element.1) =
-          found_element (finite_map.get s.inserted w.in-Insert.id) w.in-Some.element (sym w.get.ensures ∙ w.in-Some.is) in
-          let there_too : finite_map.get d.inserted w.in-Insert.id ≡ Some (element w.in-Some.element.0 w.in-Some.element.1) = c.loop-op.invariant.elements w.in-Insert.id ∙ there in
-          let same : is_element (element w.in-Some.element.0 w.in-Some.element.1) w.in-Insert.parent w.in-Insert.ch ≡ true = sym w.eq.ensures ∙ w.if-eq.true in
-          let stays : next ≡ d =
-          more ∙ ap (λ o. join d (single o)) w.in-Insert.is
-          ∙ held_adds_nothing d (Insert w.in-Insert.id w.in-Insert.parent w.in-Insert.ch) (there_too ∙ ap Some (is_element-is _ w.in-Insert.parent w.in-Insert.ch same)) in
-          record {
-            rest = sym (passed s c.args.ops.now c.loop-op.op-index c.op-item.result c.loop-op-test.true c.op-item.is
-                (ap (inserts_anew s) w.in-Insert.is ∙ ap (λ o. not (is_some o)) there)
-                (ap (has_another d) w.in-Insert.is ∙ ap (λ o. option_map_or (λ x. not (is_element x w.in-Insert.parent w.in-Insert.ch)) o false) there_too ∙ ap not same))
-                ∙ c.loop-op.invariant.rest;
-            elements = λ q. ap (λ (e : Content). finite_map.get e.inserted q) stays ∙ c.loop-op.invariant.elements q;
-          }
-      | in_default w ↦ record {
-        rest = sym (passed s c.args.ops.now c.loop-op.op-index c.op-item.result c.loop-op-test.true c.op-item.is
-            (ap (inserts_anew s) w.in_default.is) (ap (has_another d) w.in_default.is))
-            ∙ c.loop-op.invariant.rest;
-        elements = λ q. ap (λ (e : Content). finite_map.get e.inserted q) (more ∙ ap (λ o. join d (single o)) w.in_default.is) ∙ get-deletion d w.in_default.field-0 q ∙ c.loop-op.invariant.elements q;
-      }
-    ]
+    let x : Element = element c.in-Some.element.0 c.in-Some.element.1 in
+    let there : finite_map.get s.inserted c.in-Insert.id ≡ Some x = found_element (finite_map.get s.inserted c.in-Insert.id) c.in-Some.element (sym c.get.ensures ∙ c.in-Some.is) in
+    let there_too : finite_map.get d.inserted c.in-Insert.id ≡ Some x = c.loop-op.invariant.elements c.in-Insert.id ∙ there in
+    let differs : not (is_element x c.in-Insert.parent c.in-Insert.ch) ≡ false = sym c.ne.ensures ∙ c.if-ne.false in
+    let stays : join s (content_of (take (c.loop-op.op-index + 1) c.args.ops.now)) ≡ d =
+    joined s c.args.ops.now c.loop-op.op-index c.op-item.result c.loop-op-test.true c.op-item.is ∙ ap (λ o. join d (single o)) c.in-Insert.is
+    ∙ held_adds_nothing d (Insert c.in-Insert.id c.in-Insert.parent c.in-Insert.ch) (there_too ∙ ap Some (is_element-is x c.in-Insert.parent c.in-Insert.ch (not-false _ differs))) in
+    record {
+      rest = sym (passed s c.args.ops.now c.loop-op.op-index c.op-item.result c.loop-op-test.true c.op-item.is
+          (ap (inserts_anew s) c.in-Insert.is ∙ ap (λ o. not (is_some o)) there)
+          (ap (has_another d) c.in-Insert.is ∙ ap (λ o. option_map_or (λ y. not (is_element y c.in-Insert.parent c.in-Insert.ch)) o false) there_too ∙ differs))
+          ∙ c.loop-op.invariant.rest;
+      elements = λ q. ap (λ (e : Content). finite_map.get e.inserted q) stays ∙ c.loop-op.invariant.elements q;
+    }
+
+pub loop-op-preserved-in_default : goal.loop-op-preserved-in_default
+loop-op-preserved-in_default g c =
+    let s : Content = g.S.Taker.content c.args.store.now in
+    let d : Content = join s (content_of (take c.loop-op.op-index c.args.ops.now)) in
+    record {
+      rest = sym (passed s c.args.ops.now c.loop-op.op-index c.op-item.result c.loop-op-test.true c.op-item.is
+          (ap (inserts_anew s) c.in_default.is) (ap (has_another d) c.in_default.is))
+          ∙ c.loop-op.invariant.rest;
+      elements = λ q. ap (λ (e : Content). finite_map.get e.inserted q) (joined s c.args.ops.now c.loop-op.op-index c.op-item.result c.loop-op-test.true c.op-item.is ∙ ap (λ o. join d (single o)) c.in_default.is)
+          ∙ get-deletion d c.in_default.field-0 q ∙ c.loop-op.invariant.elements q;
+    }

@@ -3,8 +3,8 @@ use Rattle.indexmap.specs.IndexSet.{contains}
 use Rattle.rga_ops.specs.Identifier.{is_id}
 use Rattle.rga_doc.specs.Revert.{are_restorable}
 use Rattle.rga_doc.proofs.RevertSets.{left_able}
-use Rattle.rga_doc.proofs.doc.Doc.check_unseen.Given as goal
+use Rattle.rga_doc.proofs.revert.check_unseen.Given as goal
 
 -- what is left decides
 abbrev pub invariant-loop-element : goal.invariant-loop-element
-invariant-loop-element g l = left_able (l.self.content) (contains is_id l.seen) (drop l.element-index l.back) ≡ are_restorable (l.self.content) l.back
+invariant-loop-element g l = left_able (g.S.Taker.content l.store) (contains is_id l.seen) (drop l.element-index l.back) ≡ are_restorable (g.S.Taker.content l.store) l.back

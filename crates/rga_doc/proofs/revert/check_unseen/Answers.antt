@@ -5,33 +5,31 @@ use Rattle.indexmap.specs.IndexSet.{contains}
 use Rattle.rga_ops.specs.Identifier.{Identifier, is_id}
 use Rattle.rga_ops.specs.Content.{Content}
 use Rattle.rga_ops.specs.RootPath.{is_complete}
-use Rattle.rga_doc.specs.Complete.{is_one_of}
-use Rattle.rga_doc.specs.Document.{Document}
 use Rattle.rga_doc.specs.LocalEdit.{place_answer}
 use Rattle.rga_doc.specs.Revert.{are_restorable}
 use Rattle.rga_doc.proofs.RevertSets.{from, left_able, none_at_first, able_on, not_complete}
-use Rattle.rga_doc.proofs.doc.Doc.check_unseen.Goals as goal
+use Rattle.rga_doc.proofs.revert.check_unseen.Goals as goal
 
 pub loop-element-init : goal.loop-element-init
 loop-element-init g c =
-    let content : Content = c.args.self.now.content in
+    let content : Content = g.S.Taker.content c.args.store.now in
     ap (λ t. are_restorable content c.args.back.now && t) (none_at_first (contains is_id c.args.seen.now) c.args.back.now c.requires.none)
     ∙ and-true (are_restorable content c.args.back.now)
 
 pub returns-then-not-has : goal.returns-then-not-has
 returns-then-not-has g c =
-    let content : Content = c.args.self.now.content in
+    let content : Content = g.S.Taker.content c.args.store.now in
     let b : Identifier × ℕ = c.loop-element-item.result in
-    let absent : is_complete content b.0 ≡ false = sym (c.requires.complete b.0) ∙ sym (ap (λ (d : Document). is_one_of c.args.complete.now d.content b.0) c.self.view_is) ∙ sym c.has.ensures ∙ c.if-not-has.true in
+    let absent : is_complete content b.0 ≡ false = sym (c.requires.complete b.0) ∙ sym c.has.ensures ∙ c.if-not-has.true in
     inr (ap place_answer (
     sym c.loop-element.invariant ∙ ap (left_able content (contains is_id c.loop-element.seen)) (from c.args.back.now c.loop-element.element-index b c.loop-element-test.true c.loop-element-item.is)
     ∙ not_complete content (contains is_id c.loop-element.seen) b (drop (c.loop-element.element-index + 1) c.args.back.now) absent))
 
 pub loop-element-preserved : goal.loop-element-preserved
 loop-element-preserved g c =
-    let content : Content = c.args.self.now.content in
+    let content : Content = g.S.Taker.content c.args.store.now in
     let b : Identifier × ℕ = c.loop-element-item.result in
-    let present : is_complete content b.0 ≡ true = sym (c.requires.complete b.0) ∙ sym (ap (λ (d : Document). is_one_of c.args.complete.now d.content b.0) c.self.view_is) ∙ sym c.has.ensures ∙ c.if-not-has.false in
+    let present : is_complete content b.0 ≡ true = sym (c.requires.complete b.0) ∙ sym c.has.ensures ∙ c.if-not-has.false in
     let new : contains is_id c.loop-element.seen b.0 ≡ false = not-true (contains is_id c.loop-element.seen b.0) (sym c.in_ok-new.ensures.new ∙ c.if-not-new.false) in
     able_on content (contains is_id c.loop-element.seen) (contains is_id c.put_in.new.set) b (drop (c.loop-element.element-index + 1) c.args.back.now) present new c.in_ok-new.ensures.members
     ∙ sym (ap (left_able content (contains is_id c.loop-element.seen)) (from c.args.back.now c.loop-element.element-index b c.loop-element-test.true c.loop-element-item.is))

@@ -1,0 +1,26 @@
+use Rattle.std.proofs.Common.{◌≡◌, ℕ, ◌+◌, List, [], ◌∷◌, ◌++◌, drop, sym, ap, ◌∙◌, append_assoc, arith}
+use Rattle.rga_ops.specs.Identifier.{Identifier, identifier, is_in_range}
+use Rattle.rga_ops.specs.declared.op.Op.{Op}
+use Rattle.rga_ops.specs.declared.op.Op.TheVariants.{Insert}
+use Rattle.rga_doc.specs.Revert.{restorations}
+use Rattle.rga_doc.proofs.EditAnswers.{made_as_asked}
+use Rattle.rga_doc.proofs.RevertSets.{from}
+use Rattle.rga_doc.proofs.draft.Draft.restore.Goals as goal
+
+pub loop-element-preserved : goal.loop-element-preserved
+loop-element-preserved c =
+    let old : List Op = c.loop-element.self.ops.items in
+    let last : ℕ = c.loop-element.self.last in
+    let replica : ℕ = c.loop-element.self.replica in
+    let b : Identifier × ℕ = c.loop-element-item.result in
+    let rest : List Op = restorations replica (last + 1) (drop (c.loop-element.element-index + 1) c.args.back.now) in
+    let id : c.in_ok-id.id ≡ identifier (last + 1) replica = made_as_asked (is_in_range (last + 1) replica) c.in_ok-id.was c.new.ensures in
+    record {
+      ops =
+          ap (λ ops. ops ++ rest) c.in_ok-push.ensures.items ∙ append_assoc old (Insert c.in_ok-id.id b.0 b.1 ∷ []) rest
+          ∙ ap (λ k. old ++ Insert k b.0 b.1 ∷ rest) id
+          ∙ ap (λ xs. old ++ restorations replica last xs) (sym (from c.args.back.now c.loop-element.element-index b c.loop-element-test.true c.loop-element-item.is))
+          ∙ c.loop-element.invariant.ops;
+      last = omega (arith, c.loop-element.invariant.last);
+      replica = c.loop-element.invariant.replica;
+    }
