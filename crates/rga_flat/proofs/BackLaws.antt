@@ -21,7 +21,7 @@ use Rattle.rga_flat.specs.declared.steps.Step.{Step}
 use Rattle.rga_flat.specs.Back.{without_noted, CanTakeBack, IsLastNoted}
 use Rattle.rga_flat.specs.Flat.{IsFlat}
 use Rattle.rga_flat.specs.Undo.{undone_entries, undone_under, IsGoingBack, IsReturnable}
-use Rattle.rga_flat.specs.Waiting.{Waiting, has_list}
+use Rattle.rga_flat.specs.Waiting.{Waiting, under, has_list}
 use Rattle.rga_flat.proofs.EntryLaws.{either}
 use Rattle.rga_flat.proofs.UndoLaws.{going_insertion, going_deletion, going_end}
 
@@ -83,10 +83,10 @@ gone_within (s ∷ ss) c = within_chain (without_operation s.op.now (without_not
 
 -- ---- an operation goes
 
-pub going_undone : (op : Op) (top base c : Content) (es : List Entry) (K K' : Identifier → List Identifier) (E E' done : Identifier → Bool) → IsGoingBack top base c es K E done → Holds c op → IsWithin base (without_operation op c)
-    → ((p : Identifier) → K' p ≡ undone_under op p (K p)) → ((p : Identifier) → E' p ≡ E p) → IsGoingBack top base (without_operation op c) (undone_entries op es) K' E' done
-going_undone (Insert id parent ch) top base c es K K' E E' done going held within lists marks = going_insertion top base c es K E done going id parent ch held within K' E' lists marks
-going_undone (Delete id) top base c es K K' E E' done going held within lists marks = going_deletion top base c es K E done going id within K' E' lists marks
+pub going_undone : (op : Op) (top base c : Content) (es : List Entry) (w w' : Waiting) (done : Identifier → Bool) → IsGoingBack top base c es w done → Holds c op → IsWithin base (without_operation op c)
+    → ((p : Identifier) → under w' p ≡ undone_under op p (under w p)) → ((p : Identifier) → has_list w' p ≡ has_list w p) → IsGoingBack top base (without_operation op c) (undone_entries op es) w' done
+going_undone (Insert id parent ch) top base c es w w' done going held within lists marks = going_insertion top base c es w done going id parent ch held within w' lists marks
+going_undone (Delete id) top base c es w w' done going held within lists marks = going_deletion top base c es w done going id within w' lists marks
 
 -- ---- there
 
@@ -111,8 +111,8 @@ module _ (top base : Content) (es : List Entry) (w : Waiting) (done : BTreeSet I
       found None t = absurd (true≢false (sym t))
       found (Some x) t = (x, refl)
 
-  pub gone_there : (fs : List Entry) (K : Identifier → List Identifier) (E : Identifier → Bool) → IsGoingBack top base base fs K E (contains id_cmp done) → IsFlat base fs K E
-  gone_there fs K E going = going_end top base fs K E (contains id_cmp done) going back.based.within free settled
+  pub gone_there : (fs : List Entry) (v : Waiting) → IsGoingBack top base base fs v (contains id_cmp done) → IsFlat base fs (under v) (has_list v)
+  gone_there fs v going = going_end top base fs v (contains id_cmp done) going back.based.within free settled
 
 -- what is inserted stays so
 pub inserted_later : (c d : Content) → IsWithin c d → (k : Identifier) → finite_map.contains_key c.inserted k ≡ true → finite_map.contains_key d.inserted k ≡ true

@@ -26,7 +26,7 @@ use Rattle.rga_sequence.specs.declared.entry.Entry.{Entry}
 use Rattle.rga_sequence.specs.Entries.{has, put_entry, put_chain, CanFollow, IsChain}
 use Rattle.rga_records.specs.Chains.{last_entry_of}
 use Rattle.rga_flat.specs.declared.steps.Step.{Step}
-use Rattle.rga_flat.specs.Back.{without_noted, CanTakeBack}
+use Rattle.rga_flat.specs.Back.{without_noted}
 use Rattle.rga_flat.specs.Chains.{IsGathered, ChainShows}
 use Rattle.rga_flat.specs.Flat.{is_above, IsFlat}
 use Rattle.rga_flat.specs.Placing.{IsPlacing}

@@ -1,5 +1,5 @@
 -- What a flat store keeps, once an element waits or an element is deleted.
-use Rattle.std.proofs.Common.{◌≡◌, is_some, Bool, true, false, not, ◌&&◌, ◌||◌, ℕ, List, [], ◌∷◌, ◌++◌, refl, sym, ap, ◌∙◌, subst, true≢false, cond, inl, inr}
+use Rattle.std.proofs.Common.{◌≡◌, is_some, Bool, true, false, ◌&&◌, ◌||◌, ℕ, List, [], ◌∷◌, ◌++◌, refl, sym, ap, ◌∙◌, subst, true≢false, cond, inl, inr}
 use Rattle.std.specs.Prelude.{Option, Some, None}
 use Rattle.std.specs.Option.{option_map_or}
 use Rattle.std.specs.List.{list_any, AllByRecursion, IsDistinct}

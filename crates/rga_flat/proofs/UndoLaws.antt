@@ -26,6 +26,7 @@ use Rattle.rga_store.specs.Child.{is_child}
 use Rattle.rga_flat.specs.Flat.{is_above, IsEntryOf, IsFlat}
 use Rattle.rga_flat.specs.Based.{IsBased}
 use Rattle.rga_flat.specs.Undo.{IsGoingBack}
+use Rattle.rga_flat.specs.Waiting.{Waiting, under, has_list}
 use Rattle.rga_flat.proofs.EntryLaws.{either}
 use Rattle.rga_flat.proofs.FlatLaws.{marked_same}
 
@@ -101,11 +102,11 @@ out_more ks k (e ∷ es) =
 
 -- ---- the first step: what has a list that was done with goes
 
-module _ (top base : Content) (es : List Entry) (K : Identifier → List Identifier) (N E done : Identifier → Bool) (flat : IsFlat top es K N) (based : IsBased base top K E) where
+module _ (top base : Content) (es : List Entry) (w : Waiting) (N done : Identifier → Bool) (flat : IsFlat top es (under w) N) (based : IsBased base top (under w) (has_list w)) where
   inserted_there : (k : Identifier) → is_complete top k ≡ true → finite_map.contains_key top.inserted k ≡ true
   inserted_there k h = ap is_some (inserted_if_complete top k h).1
 
-  pub going_start : IsGoingBack top base top (filter (λ e. not (done e.id)) es) K E done
+  pub going_start : IsGoingBack top base top (filter (λ e. not (done e.id)) es) w done
   going_start = record {
     listed = ids_filter (λ k. not (done k)) es ∙ ap (filter (λ k. not (done k))) flat.listed
         ∙ filter_alike (λ k. not (done k)) (λ k. finite_map.contains_key top.inserted k && not (done k)) (order top)
@@ -116,9 +117,15 @@ module _ (top base : Content) (es : List Entry) (K : Identifier → List Identif
 
 -- ---- an operation goes
 
-module _ (top base c : Content) (es : List Entry) (K : Identifier → List Identifier) (E done : Identifier → Bool) (going : IsGoingBack top base c es K E done) where
-  module _ (id parent : Identifier) (ch : ℕ) (held : finite_map.get c.inserted id ≡ Some (element parent ch)) (within : IsWithin base (without_insertion id c)) (K' : Identifier → List Identifier) (E' : Identifier → Bool)
-      (lists : (p : Identifier) → K' p ≡ cond (is parent p) (placement.without id (K p)) (K p)) (marks : (p : Identifier) → E' p ≡ E p) where
+module _ (top base c : Content) (es : List Entry) (w : Waiting) (done : Identifier → Bool) (going : IsGoingBack top base c es w done) where
+  abbrev K : Identifier → List Identifier
+  K = under w
+
+  module _ (id parent : Identifier) (ch : ℕ) (held : finite_map.get c.inserted id ≡ Some (element parent ch)) (within : IsWithin base (without_insertion id c)) (w' : Waiting)
+      (lists : (p : Identifier) → under w' p ≡ cond (is parent p) (placement.without id (K p)) (K p)) (marks : (p : Identifier) → has_list w' p ≡ has_list w p) where
+    abbrev K' : Identifier → List Identifier
+    K' = under w'
+
     left_at : (k : Identifier) → finite_map.get (without_insertion id c).inserted k ≡ cond (is k id) None (finite_map.get c.inserted k)
     left_at k = finite_map.get-remove ids_total c.inserted id k
 
@@ -189,7 +196,7 @@ module _ (top base c : Content) (es : List Entry) (K : Identifier → List Ident
         (λ f. f) in
         other_child p k differs ∙ was
 
-    pub going_insertion : IsGoingBack top base (without_insertion id c) (without_entry id es) K' E' done
+    pub going_insertion : IsGoingBack top base (without_insertion id c) (without_entry id es) w' done
     going_insertion = record {
       listed = ids_without id es ∙ ap (placement.without id) going.listed
           ∙ filter_both (λ x. not (is_id x id)) (λ k. finite_map.contains_key c.inserted k && not (done k)) (λ k. finite_map.contains_key (without_insertion id c).inserted k && not (done k)) left_key (order top);
@@ -202,12 +209,12 @@ module _ (top base c : Content) (es : List Entry) (K : Identifier → List Ident
           | true ↦ distinct_filter (λ x. not (is_id x id)) (K p) (going.based.once p low)
           | false ↦ going.based.once p low
         ]);
-        marks = marked_same base E E' marks going.based.marks;
+        marks = marked_same base (has_list w) (has_list w') marks going.based.marks;
       };
     }
 
-  module _ (id : Identifier) (within : IsWithin base (without_deletion id c)) (K' : Identifier → List Identifier) (E' : Identifier → Bool)
-      (lists : (p : Identifier) → K' p ≡ K p) (marks : (p : Identifier) → E' p ≡ E p) where
+  module _ (id : Identifier) (within : IsWithin base (without_deletion id c)) (w' : Waiting)
+      (lists : (p : Identifier) → under w' p ≡ K p) (marks : (p : Identifier) → has_list w' p ≡ has_list w p) where
     abbrev mixed : Content
     mixed = record { inserted = top.inserted; deleted = c.deleted }
 
@@ -243,7 +250,7 @@ module _ (top base c : Content) (es : List Entry) (K : Identifier → List Ident
       shown_left xs h.1,
     )
 
-    pub going_deletion : IsGoingBack top base (without_deletion id c) (mark_entry false id es) K' E' done
+    pub going_deletion : IsGoingBack top base (without_deletion id c) (mark_entry false id es) w' done
     going_deletion = record {
       listed = ids_marked false id es ∙ going.listed;
       shown = shown_left es going.shown;
@@ -252,13 +259,13 @@ module _ (top base c : Content) (es : List Entry) (K : Identifier → List Ident
         old = λ p low k h. ap (list_any (is k)) (lists p) ∙ going.based.old p low k h;
         now = λ p low k h. going.based.now p low k (sym (ap (list_any (is k)) (lists p)) ∙ h);
         once = λ p low. subst (λ ks. IsDistinct is ks) (sym (lists p)) (going.based.once p low);
-        marks = marked_same base E E' marks going.based.marks;
+        marks = marked_same base (has_list w) (has_list w') marks going.based.marks;
       };
     }
 
 -- ---- there
 
-module _ (top base : Content) (es : List Entry) (K : Identifier → List Identifier) (E done : Identifier → Bool) (going : IsGoingBack top base base es K E done) (within : IsWithin base top)
+module _ (top base : Content) (es : List Entry) (w : Waiting) (done : Identifier → Bool) (going : IsGoingBack top base base es w done) (within : IsWithin base top)
     (free : (k : Identifier) → is_complete base k ≡ true → done k ≡ false) (settled : (k : Identifier) → is_complete top k ≡ true → finite_map.contains_key base.inserted k ≡ true → done k ≡ false → is_complete base k ≡ true) where
   kept : (k : Identifier) → is_complete top k ≡ true → (finite_map.contains_key base.inserted k && not (done k)) ≡ is_complete base k
   kept k h = same_truth (finite_map.contains_key base.inserted k && not (done k)) (is_complete base k)
@@ -283,13 +290,13 @@ module _ (top base : Content) (es : List Entry) (K : Identifier → List Identif
       let one : it.0 ≡ w.element = same_Some it.0 w.element (sym (within.inserted e.id it.0 it.1) ∙ w.found) in
       record { element = it.0; found = it.1; character = w.character ∙ ap (λ (x : Element). x.ch) (sym one); deleted = w.deleted }
 
-  pub going_end : IsFlat base es K E
+  pub going_end : IsFlat base es (under w) (has_list w)
   going_end = record {
     listed = listed_there;
     shown = all_both (IsEntryOf (record { inserted = top.inserted; deleted = base.deleted })) (λ e. is_complete base e.id ≡ true) (IsEntryOf base) shown_there es going.shown
         (all_ids (λ k. is_complete base k ≡ true) es (subst (λ xs. AllByRecursion (λ k. is_complete base k ≡ true) xs) (sym listed_there) (order_complete base)));
     children = record {
-      exact = λ p low k. same_truth (list_any (is k) (K p)) (is_child base p k) (going.based.now p low k) (going.based.old p low k);
+      exact = λ p low k. same_truth (list_any (is k) (under w p)) (is_child base p k) (going.based.now p low k) (going.based.old p low k);
       once = going.based.once;
     };
     marks = going.based.marks;

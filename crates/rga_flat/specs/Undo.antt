@@ -27,10 +27,10 @@ undone_under (Insert id parent ch) p ks = if eq_by_cmp id_cmp parent p then plac
 undone_under (Delete id) p ks = ks
 
 -- At a content between: the entries are those of what is inserted there and has no list that was done with.
-pub record IsGoingBack (top base c : Content) (es : List Entry) (under : Identifier → List Identifier) (has_list done : Identifier → Bool) : Type 0 where
+pub record IsGoingBack (top base c : Content) (es : List Entry) (w : Waiting) (done : Identifier → Bool) : Type 0 where
   pub listed : ids es ≡ filter (λ k. finite_map.contains_key c.inserted k && not (done k)) (order top)
   pub shown : AllByRecursion (IsEntryOf (record { inserted = top.inserted; deleted = c.deleted })) es
-  pub based : IsBased base c under has_list
+  pub based : IsBased base c (under w) (has_list w)
 
 -- A content at which some lists are done with, those that were done with there and perhaps more, and the base to which it goes
 -- back.

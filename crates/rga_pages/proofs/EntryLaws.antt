@@ -14,7 +14,7 @@ use Rattle.std.proofs.lemmas.Map.Keys.{IsDistinct-from_sorted}
 use Rattle.rga_ops.specs.Identifier.{Identifier, id_cmp}
 use Rattle.rga_ops.proofs.IdentifierLaws.{ids_total, ids_exact, is, is_itself, is_swap, same_id}
 use Rattle.rga_pages.specs.declared.entry.Record.{Record}
-use Rattle.rga_pages.specs.Pages.{Entries, AreOrdered, AreBelow, StartsFrom, StartsAbove, StartsAt, Updates, record_of}
+use Rattle.rga_pages.specs.Pages.{Entries, AreOrdered, AreBelow, StartsFrom, StartsAbove, Updates, record_of}
 
 -- ---- comparing
 
@@ -27,11 +27,6 @@ less : (o : Ordering) → is_lt o ≡ true → o ≡ Less
 less Less h = refl
 less Equal h = absurd (true≢false (sym h))
 less Greater h = absurd (true≢false (sym h))
-
-equal : (o : Ordering) → is_lt o ≡ false → is_gt o ≡ false → o ≡ Equal
-equal Less h k = absurd (true≢false h)
-equal Equal h k = refl
-equal Greater h k = absurd (true≢false k)
 
 pub not_less : (o : Ordering) → is_gt o ≡ true → is_lt o ≡ false
 not_less Less h = absurd (true≢false (sym h))
@@ -102,21 +97,11 @@ module _ (id : Identifier) where
 
   -- ---- what starts where it is
 
-  pub from_at : (es : Entries) (i : ℕ) (d : Identifier × Record) → i < length es → is_gt (id_cmp id (slice_index_or es i d).0) ≡ false → StartsFrom id (drop i es)
-  from_at [] i d w k = absurd (omega arith)
-  from_at (e ∷ es) zero d w k = k
-  from_at (e ∷ es) (suc i) d w k = from_at es i d (omega arith) k
-
   pub from_end : (es : Entries) (i : ℕ) → length es ≤ i → StartsFrom id (drop i es)
   from_end [] zero w = tt
   from_end [] (suc i) w = tt
   from_end (e ∷ es) zero w = absurd (omega arith)
   from_end (e ∷ es) (suc i) w = from_end es i (omega arith)
-
-  pub at_here : (es : Entries) (i : ℕ) (d : Identifier × Record) → i < length es → StartsFrom id (drop i es) → is_lt (id_cmp id (slice_index_or es i d).0) ≡ false → StartsAt id (drop i es)
-  at_here [] i d w f k = absurd (omega arith)
-  at_here (e ∷ es) zero d w f k = sym (ids_exact id e.0 (equal (id_cmp id e.0) k f))
-  at_here (e ∷ es) (suc i) d w f k = at_here es i d (omega arith) f k
 
   pub above_end : (es : Entries) (i : ℕ) → length es ≤ i → StartsAbove id (drop i es)
   above_end [] zero w = tt

@@ -6,7 +6,7 @@ use rga_ops::Id;
 
 /// What is known of an identifier. A record may come before its element, for a deletion that came
 /// early.
-#[derive(Clone, Copy, Debug)]
+#[derive(Clone, Copy)]
 pub struct Record {
     /// The parent, once the identifier is inserted.
     pub parent: Id,

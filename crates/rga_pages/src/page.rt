@@ -99,9 +99,7 @@ impl Page {
         ensures err { OnErr result (self.new ≡ self.old) }
         ensures memory { IfErr result (λ e. e ≡ Refusal.Memory) }
     {
-        if self.entries.insert(0, (id, value)).is_err() {
-            return Err(Refusal::Memory);
-        }
+        self.entries.insert(0, (id, value))?;
         self.first = id;
         Ok(())
     }
@@ -114,9 +112,7 @@ impl Page {
         ensures err { OnErr result (self.new ≡ self.old) }
         ensures memory { IfErr result (λ e. e ≡ Refusal.Memory) }
     {
-        if self.entries.insert(index, (id, value)).is_err() {
-            return Err(Refusal::Memory);
-        }
+        self.entries.insert(index, (id, value))?;
         Ok(())
     }
 

@@ -205,8 +205,6 @@ fn put_page(pages: &mut Vec<Page>, index: usize, page: Page) -> Result<(), Refus
     ensures err { OnErr result (pages.new.items ≡ pages.old.items) }
     ensures memory { IfErr result (λ e. e ≡ Refusal.Memory) }
 {
-    if pages.insert(index, page).is_err() {
-        return Err(Refusal::Memory);
-    }
+    pages.insert(index, page)?;
     Ok(())
 }

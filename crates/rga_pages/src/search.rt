@@ -134,13 +134,6 @@ fn is_less(id: Id, other: Id) -> bool
     id < other
 }
 
-/// Whether an identifier is less than that of an entry.
-fn is_above(entry: &(Id, Record), id: Id) -> bool
-    ensures { result ≡ is_lt (id_cmp id entry.now.0) }
-{
-    id < entry.0
-}
-
 /// Whether all before an index is below an identifier.
 pub(crate) fn is_behind(entries: &[(Id, Record)], index: usize, id: Id) -> bool
     requires ordered { AreOrdered entries.now }
@@ -176,7 +169,7 @@ fn is_at(entries: &[(Id, Record)], index: usize, id: Id) -> bool
     if index >= entries.len() {
         return false;
     }
-    !is_above(&entries[index], id)
+    !is_less(id, entries[index].0)
 }
 
 /// Whether a page starts above an identifier.

@@ -76,7 +76,3 @@ module _ (es fs : Entries) (latest insertions identifiers limit : ℕ) (w : AreR
     ordered = ordered;
     counted = recounted _ _ _ _ _ sooner less limit left is_sooner is_less (counted_without_deletion held latest insertions identifiers limit w.counted id found);
   }
-
-  -- what no caller sees changed
-  pub records_same : content_of_records fs ≡ held → AreRecords fs latest insertions identifiers limit
-  records_same same = record { ordered = ordered; counted = subst (λ d. IsCounted d latest insertions identifiers limit) (sym same) w.counted }

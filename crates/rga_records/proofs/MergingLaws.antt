@@ -1,14 +1,13 @@
 -- What two sets of records know together, and where they conflict, record by record.
-use Rattle.std.proofs.Common.{◌≡◌, ℕ, suc, ◌||◌, ◌+◌, ◌≤◌, Bool, true, false, cond, not, ◌&&◌, List, [], ◌∷◌, ◌++◌, map, filter, length, is_some, refl, sym, ap, ◌∙◌, arith, true≢false}
-use Rattle.std.specs.Prelude.{Option, Some, None, find}
-use Rattle.std.specs.Option.{option_map, option_map_or}
-use Rattle.std.specs.List.{filter_map, cons_option, AllByRecursion}
-use Rattle.std.specs.Map.{keys_of}
+use Rattle.std.proofs.Common.{◌≡◌, suc, ◌||◌, ◌+◌, ◌≤◌, Bool, true, false, cond, not, List, [], ◌∷◌, ◌++◌, map, filter, length, is_some, refl, sym, ap, ◌∙◌, arith, true≢false}
+use Rattle.std.specs.Prelude.{Some, None, find}
+use Rattle.std.specs.Option.{option_map_or}
+use Rattle.std.specs.List.{filter_map, AllByRecursion}
 use Rattle.std.specs.FinMap as finite_map
 use Rattle.std.specs.FinMap.{find as find_key}
 use Rattle.std.specs.FinSet as finite_set
 use Rattle.rga_ops.specs.Identifier.{Identifier, id_cmp}
-use Rattle.rga_ops.specs.Content.{Element, element, Content, nothing, known_ids, join}
+use Rattle.rga_ops.specs.Content.{Element, Content, nothing, known_ids, join}
 use Rattle.rga_ops.specs.Operations.{insertion_of}
 use Rattle.rga_ops.specs.ListAnswer.{has_another, is_conflict, least_conflict}
 use Rattle.rga_ops.proofs.IdentifierLaws.{ids_total}
@@ -20,25 +19,11 @@ use Rattle.rga_ops.proofs.MemberLaws.{all_map}
 use Rattle.rga_ops.proofs.MergeLaws.{least_conflict_swap}
 use Rattle.rga_ops.proofs.SortedLaws.{each_found}
 use Rattle.rga_ops.specs.declared.op.Op.TheVariants.{Insert}
-use Rattle.rga_pages.specs.declared.entry.Record.{Record}
 use Rattle.rga_records.specs.Records.{Entries, insertion_of_record, ids_of_records_where, is_meaningful, first_conflicting, unknown_ids, content_of_records, AreOrdered}
 use Rattle.rga_records.proofs.RecordLaws.{apart_of, any_where, known_at}
 use Rattle.rga_records.proofs.SortedRecordLaws.{Insertions, insertions_sorted, insertions_listed, ids_distinct}
 
 -- ---- the least conflict
-
--- a record that conflicts, or not, in front of others
-module _ (c : Content) (k parent : Identifier) (xs : Insertions) where
-  abbrev first : Option ℕ → Insertions
-  first o = cons_option (option_map (λ x. (k, x)) (option_map (λ ch. element parent ch) o)) xs
-
-  pub conflict_there : (o : Option ℕ) → option_map_or (λ ch. has_another c (Insert k parent ch)) o false ≡ true → first_conflicting c (first o) ≡ Some k
-  conflict_there None t = absurd (true≢false (sym t))
-  conflict_there (Some x) t = ap (λ b. cond b (Some k) (first_conflicting c xs)) t
-
-  pub no_conflict_there : (o : Option ℕ) → option_map_or (λ ch. has_another c (Insert k parent ch)) o false ≡ false → first_conflicting c (first o) ≡ first_conflicting c xs
-  no_conflict_there None t = refl
-  no_conflict_there (Some x) t = ap (λ b. cond b (Some k) (first_conflicting c xs)) t
 
 -- none in some insertions: so the first is behind them
 pub none_first : (c : Content) (xs ys : Insertions) → first_conflicting c xs ≡ None → first_conflicting c (xs ++ ys) ≡ first_conflicting c ys

@@ -8,5 +8,5 @@ pub lists_nothing : (s : List Op) → s ≡ s ++ []
 lists_nothing s = sym (append-nil s)
 
 -- operations may be told in parts
-pub lists_on : (s t u : List Op) (xs ys : List Op) → t ≡ s ++ xs → u ≡ t ++ ys → u ≡ s ++ (xs ++ ys)
-lists_on s t u xs ys first second = second ∙ ap (λ ops. ops ++ ys) first ∙ append_assoc s xs ys
+pub lists_on : {t u : List Op} (s xs ys : List Op) → t ≡ s ++ xs → u ≡ t ++ ys → u ≡ s ++ (xs ++ ys)
+lists_on s xs ys first second = second ∙ ap (λ ops. ops ++ ys) first ∙ append_assoc s xs ys

@@ -132,20 +132,15 @@ pub(crate) fn mark(entries: &mut Pages, id: Id) -> Result<bool, Refusal>
     Ok(record.ch.is_some())
 }
 
-/// Where an element may stand, as its record says.
-fn near_in(known: Record) -> Near {
-    Near {
-        block: known.block as usize,
-        index: known.index as usize,
-    }
-}
-
 /// Where the element of a record that has one may stand.
 fn near_if_inserted(known: Record) -> Option<Near>
     ensures { is_some result ≡ is_some (element_of_record known) }
 {
     match known.ch {
-        Some(_) => Some(near_in(known)),
+        Some(_) => Some(Near {
+            block: known.block as usize,
+            index: known.index as usize,
+        }),
         None => None,
     }
 }

@@ -52,7 +52,7 @@ impl Listener for Told {
 
     ghost hears_nothing = { λ s. lists_nothing s };
 
-    ghost hears_on = { λ s t u xs ys a b. lists_on s t u xs ys a b };
+    ghost hears_on = { λ s t u xs ys a b. lists_on s xs ys a b };
 
     fn hear(&mut self, op: &Op) -> Result<(), Refusal> {
         self.ops.push(*op)?;

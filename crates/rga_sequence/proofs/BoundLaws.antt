@@ -2,13 +2,13 @@
 use Rattle.std.proofs.Common.{nat_lt, ◌≡◌, ℕ, suc, zero, Bool, true, false, ◌+◌, ◌*◌, ◌≤◌, ◌<◌, List, [], ◌∷◌, ◌++◌, length, take, drop, slice_index_or, refl, sym, ap, ◌∙◌, subst, arith, append_assoc}
 use Rattle.std.specs.Prelude.{remove, slice_set}
 use Rattle.std.specs.Ordering.{is_gt}
-use Rattle.std.proofs.lemmas.List.{length-set, get_or-set_same, get_or-take}
+use Rattle.std.proofs.lemmas.List.{append-nil, take_all, drop_all, length-set, get_or-set_same, get_or-take}
 use Rattle.rga_ops.specs.Identifier.{Identifier, id_cmp}
 use Rattle.rga_sequence.specs.declared.entry.Entry.{Entry}
 use Rattle.rga_sequence.specs.declared.groups.TheConstants.{GROUP}
 use Rattle.rga_sequence.specs.Entries.{put_entry_past_larger}
 use Rattle.rga_sequence.specs.Blocks.{Blocks, flat, before, behind, larger_at_front, insert_all, mark_at_index, AreFrom, Passes, AreBlocksFrom, AreLarger, AreBounds, IsLow}
-use Rattle.rga_sequence.proofs.ListLaws.{take_all, drop_all, passed}
+use Rattle.rga_sequence.proofs.ListLaws.{passed}
 use Rattle.rga_sequence.proofs.PlaceLaws.{lt_so, le_so}
 use Rattle.rga_sequence.proofs.BlockLaws.{all_larger, itself, lesser_from, from_put, from_remove, from_marked}
 
@@ -94,18 +94,14 @@ front_behind : (bs : Blocks) → behind bs 0 0 ≡ flat bs
 front_behind [] = refl
 front_behind (x ∷ bs) = refl
 
-and_none : (xs : List Entry) → xs ++ [] ≡ xs
-and_none [] = refl
-and_none (x ∷ xs) = ap (λ r. x ∷ r) (and_none xs)
-
 pass_one : (bs : Blocks) (b : ℕ) (e : Entry) → larger_at_front e.id (slice_index_or bs b []) ≡ length (slice_index_or bs b []) → Passes bs b 0 (suc b) 0 e
 pass_one [] b e h = refl
 pass_one (x ∷ bs) zero e h =
     passed e x (flat bs)
     ∙ ap (λ n. take n x ++ put_entry_past_larger e (drop n x ++ flat bs)) h
-    ∙ ap (λ y. y ++ put_entry_past_larger e (drop (length x) x ++ flat bs)) (take_all x)
-    ∙ ap (λ y. x ++ put_entry_past_larger e (y ++ flat bs)) (drop_all x)
-    ∙ ap (λ y. y ++ put_entry_past_larger e (flat bs)) (sym (and_none x))
+    ∙ ap (λ y. y ++ put_entry_past_larger e (drop (length x) x ++ flat bs)) (take_all (length x) x (omega arith))
+    ∙ ap (λ y. x ++ put_entry_past_larger e (y ++ flat bs)) (drop_all (length x) x (omega arith))
+    ∙ ap (λ y. y ++ put_entry_past_larger e (flat bs)) (sym (append-nil x))
     ∙ ap (λ y. (x ++ y) ++ put_entry_past_larger e (flat bs)) (sym (front_before bs))
     ∙ ap (λ y. (x ++ before bs 0 0) ++ put_entry_past_larger e y) (sym (front_behind bs))
 pass_one (x ∷ bs) (suc b) e h =

@@ -1,6 +1,7 @@
 -- Entries that are put one behind the other stand in one piece.
 use Rattle.std.proofs.Common.{◌≡◌, ◌<◌, Bool, true, false, cond, ◌||◌, List, [], ◌∷◌, ◌++◌, length, slice_index_or, refl, sym, ap, ◌∙◌, subst, arith, true≢false, append_assoc}
 use Rattle.std.specs.Ordering.{is_gt}
+use Rattle.std.proofs.lemmas.List.{append-nil}
 use Rattle.std.specs.List.{IsDistinct}
 use Rattle.rga_ops.specs.Identifier.{Identifier, id_cmp, is_root}
 use Rattle.rga_ops.proofs.IdentifierLaws.{is_id-itself}
@@ -81,10 +82,6 @@ first_of_all parent e root = ap (λ b. cond b (e ∷ []) []) (sym (or_none (is_r
     or_none true = refl
     or_none false = refl
 
-pub end_of : (es : List Entry) → es ++ [] ≡ es
-end_of [] = refl
-end_of (e ∷ es) = ap (λ r. e ∷ r) (end_of es)
-
 one_apart : (e : Entry) → AreApart ([] ++ e ∷ [])
 unfolding IsDistinct
 one_apart e = (tt, tt)
@@ -92,9 +89,9 @@ one_apart e = (tt, tt)
 pub chain_alone : (parent : Identifier) (es : List Entry) → IsChain parent es [] → put_chain parent es [] ≡ es
 chain_alone parent [] chain = refl
 chain_alone parent (e ∷ es) chain =
-    chain_there parent e [] [] [] (λ none. one_apart e) refl (first_of_all parent e chain.0) (e ∷ es) (omega arith) refl chain ∙ end_of (e ∷ es)
+    chain_there parent e [] [] [] (λ none. one_apart e) refl (first_of_all parent e chain.0) (e ∷ es) (omega arith) refl chain ∙ append-nil (e ∷ es)
 
 pub alone_apart : (parent : Identifier) (es : List Entry) → 0 < length es → IsChain parent es [] → AreApart es
 alone_apart parent [] some chain = absurd (omega arith)
 alone_apart parent (e ∷ es) some chain =
-    subst AreApart (end_of (e ∷ es)) (chain_apart parent e [] [] [] (λ none. one_apart e) refl (first_of_all parent e chain.0) (e ∷ es) some refl chain)
+    subst AreApart (append-nil (e ∷ es)) (chain_apart parent e [] [] [] (λ none. one_apart e) refl (first_of_all parent e chain.0) (e ∷ es) some refl chain)

@@ -1,8 +1,8 @@
 -- How many entries are visible in a list that changes, and which these are.
-use Rattle.std.proofs.Common.{min, ◌≡◌, ℕ, ◌+◌, ◌-◌, ◌<◌, ◌≤◌, suc, zero, Bool, true, false, cond, not, List, [], ◌∷◌, ◌++◌, length, take, drop, slice_index_or, refl, sym, ap, ◌∙◌, arith, length-append}
+use Rattle.std.proofs.Common.{min, ◌≡◌, ℕ, ◌+◌, ◌-◌, ◌<◌, ◌≤◌, suc, zero, Bool, true, false, cond, not, List, [], ◌∷◌, ◌++◌, length, take, drop, slice_index_or, refl, sym, ap, ◌∙◌, arith, append_assoc, length-append}
 use Rattle.std.specs.Prelude.{remove}
 use Rattle.std.specs.List.{slice_get}
-use Rattle.std.proofs.lemmas.List.{take_more, drop_more, map-append, take-append-drop, drop-take, length-take-le, take_min}
+use Rattle.std.proofs.lemmas.List.{append-nil, take_more, drop_more, map-append, take-append-drop, drop-take, length-take-le, take_min}
 use Rattle.std.proofs.lemmas.List.Elements.{filter-append}
 use Rattle.rga_ops.specs.Identifier.{Identifier}
 use Rattle.rga_sequence.specs.declared.entry.Entry.{Entry}
@@ -147,10 +147,6 @@ none_left zero (suc hi) xs h = absurd (omega arith)
 none_left (suc lo) (suc hi) [] h = refl
 none_left (suc lo) (suc hi) (x ∷ xs) h = none_left lo hi xs (omega arith)
 
-pub end_of : (xs : List Identifier) → xs ≡ xs ++ []
-end_of [] = refl
-end_of (x ∷ xs) = ap (λ r. x ∷ r) (end_of xs)
-
 pub range_both : (xs ys : List Identifier) (lo hi lo_left hi_left : ℕ) → lo_left ≡ lo - length xs → hi_left ≡ hi - length xs → drop lo (take hi (xs ++ ys)) ≡ drop lo (take hi xs) ++ drop lo_left (take hi_left ys)
 range_both [] ys lo hi lo_left hi_left e f =
     let same : lo ≡ lo_left = omega arith in
@@ -158,7 +154,7 @@ range_both [] ys lo hi lo_left hi_left e f =
     (λ k. drop (same k) (take (too k) ys)) ∙ ap (λ r. r ++ drop lo_left (take hi_left ys)) (sym (ap (drop lo) (take_none hi) ∙ drop_none lo))
 range_both (x ∷ xs) ys lo zero lo_left hi_left e f =
     let over : hi_left ≡ 0 = omega arith in
-    end_of (drop {A = Identifier} lo []) ∙ ap (λ r. drop {A = Identifier} lo [] ++ r) (sym (none_left lo_left hi_left ys (omega (arith, over))))
+    sym (append-nil (drop {A = Identifier} lo [])) ∙ ap (λ r. drop {A = Identifier} lo [] ++ r) (sym (none_left lo_left hi_left ys (omega (arith, over))))
 range_both (x ∷ xs) ys zero (suc hi) lo_left hi_left e f =
     ap (λ r. x ∷ r) (range_both xs ys zero hi lo_left hi_left (omega arith) (omega arith))
 range_both (x ∷ xs) ys (suc lo) (suc hi) lo_left hi_left e f = range_both xs ys lo hi lo_left hi_left (omega arith) (omega arith)
@@ -192,19 +188,11 @@ range_none (x ∷ xs) (suc lo) (suc hi) h = range_none xs lo hi (omega arith)
 pub before_is : (bs : Blocks) (b i : ℕ) (d : List Entry) → b < length bs → before bs b i ≡ flat (take b bs) ++ take i (slice_index_or bs b d)
 before_is [] b i d w = absurd (omega arith)
 before_is (x ∷ xs) zero i d w = refl
-before_is (x ∷ xs) (suc b) i d w = ap (λ r. x ++ r) (before_is xs b i d (omega arith)) ∙ sym (assoc x (flat (take b xs)) (take i (slice_index_or xs b d)))
-  where
-    assoc : (p q r : List Entry) → (p ++ q) ++ r ≡ p ++ (q ++ r)
-    assoc [] q r = refl
-    assoc (y ∷ p) q r = ap (λ z. y ∷ z) (assoc p q r)
+before_is (x ∷ xs) (suc b) i d w = ap (λ r. x ++ r) (before_is xs b i d (omega arith)) ∙ sym (append_assoc x (flat (take b xs)) (take i (slice_index_or xs b d)))
 
 pub flat_both : (xs ys : Blocks) → flat (xs ++ ys) ≡ flat xs ++ flat ys
 flat_both [] ys = refl
-flat_both (x ∷ xs) ys = ap (λ r. x ++ r) (flat_both xs ys) ∙ sym (assoc x (flat xs) (flat ys))
-  where
-    assoc : (p q r : List Entry) → (p ++ q) ++ r ≡ p ++ (q ++ r)
-    assoc [] q r = refl
-    assoc (y ∷ p) q r = ap (λ z. y ∷ z) (assoc p q r)
+flat_both (x ∷ xs) ys = ap (λ r. x ++ r) (flat_both xs ys) ∙ sym (append_assoc x (flat xs) (flat ys))
 
 pub count_one_more : (bs : Blocks) (i : ℕ) (b : List Entry) → i < length bs → b ≡ slice_index_or bs i b → visible_count (flat (take (i + 1) bs)) ≡ visible_count (flat (take i bs)) + visible_count b
 count_one_more bs i b w is =

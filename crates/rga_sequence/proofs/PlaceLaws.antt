@@ -2,10 +2,11 @@
 use Rattle.std.proofs.lemmas.Bool.Decides.{nat_tests}
 use Rattle.std.proofs.Common.{nat_lt, true, false, subst, ◌≡◌, ℕ, ◌+◌, ◌-◌, ◌<◌, ◌≤◌, suc, zero, List, [], ◌∷◌, ◌++◌, length, take, drop, slice_index_or, refl, sym, ap, ◌∙◌, append_assoc, arith}
 use Rattle.std.specs.Prelude.{insert, slice_set}
+use Rattle.std.proofs.lemmas.List.{append-nil, take-take, drop-drop, drop_all, take_all, length-drop}
 use Rattle.rga_sequence.specs.declared.entry.Entry.{Entry}
 use Rattle.rga_sequence.specs.Entries.{put_entry_past_larger}
 use Rattle.rga_sequence.specs.Blocks.{Blocks, flat, before, behind, IsPlace, larger_at_front, insert_all, cut_in}
-use Rattle.rga_sequence.proofs.ListLaws.{take_early, drop_early, take_both, drop_both, drop_all, take_all, length_drop, passed, stopped}
+use Rattle.rga_sequence.proofs.ListLaws.{drop_early, take_both, passed, stopped}
 
 pub index_within : (bs : Blocks) (b i : ℕ) (d : List Entry) → IsPlace bs b i → i ≤ length (slice_index_or bs b d)
 index_within [] b i d h = absurd h
@@ -54,7 +55,7 @@ early_place (x ∷ xs) (suc b) i cut p q h = early_place xs b i cut p q h
 
 pub early_before : (bs : Blocks) (b i cut : ℕ) → i ≤ cut → before (cut_in bs b cut) b i ≡ before bs b i
 early_before [] b i cut h = refl
-early_before (x ∷ xs) zero i cut h = take_early i cut x h
+early_before (x ∷ xs) zero i cut h = take-take i cut x h
 early_before (x ∷ xs) (suc b) i cut h = ap (λ r. x ++ r) (early_before xs b i cut h)
 
 pub early_behind : (bs : Blocks) (b i cut : ℕ) → i ≤ cut → behind (cut_in bs b cut) b i ≡ behind bs b i
@@ -67,7 +68,7 @@ sum_back i cut h = omega arith
 
 pub late_place : (bs : Blocks) (b i cut : ℕ) → IsPlace bs b i → cut ≤ i → IsPlace (cut_in bs b cut) (suc b) (i - cut)
 late_place [] b i cut p h = absurd p
-late_place (x ∷ xs) zero i cut p h = let whole : cut + length (drop cut x) ≡ length x = length_drop cut x (omega arith) in omega arith
+late_place (x ∷ xs) zero i cut p h = omega (arith, length-drop cut x)
 late_place (x ∷ xs) (suc b) i cut p h = late_place xs b i cut p h
 
 pub late_before : (bs : Blocks) (b i cut : ℕ) → cut ≤ i → IsPlace bs b i → before (cut_in bs b cut) (suc b) (i - cut) ≡ before bs b i
@@ -77,7 +78,7 @@ late_before (x ∷ xs) (suc b) i cut h p = ap (λ r. x ++ r) (late_before xs b i
 
 pub late_behind : (bs : Blocks) (b i cut : ℕ) → cut ≤ i → IsPlace bs b i → behind (cut_in bs b cut) (suc b) (i - cut) ≡ behind bs b i
 late_behind [] b i cut h p = absurd p
-late_behind (x ∷ xs) zero i cut h p = ap (λ r. r ++ flat xs) (drop_both cut (i - cut) x ∙ ap (λ n. drop n x) (sum_back i cut h))
+late_behind (x ∷ xs) zero i cut h p = ap (λ r. r ++ flat xs) (drop-drop (i - cut) cut x ∙ ap (λ n. drop n x) (sum_back i cut h))
 late_behind (x ∷ xs) (suc b) i cut h p = late_behind xs b i cut h p
 
 -- ---- past the larger ones
@@ -88,7 +89,7 @@ past (x ∷ xs) zero i entry d p j e =
     let n : ℕ = larger_at_front entry.id (drop i x) in
     ap (λ r. take i x ++ r) (passed entry (drop i x) (flat xs))
     ∙ sym (append_assoc (take i x) (take n (drop i x)) (put_entry_past_larger entry (drop n (drop i x) ++ flat xs)))
-    ∙ (λ k. take_both i n x k ++ put_entry_past_larger entry (drop_both i n x k ++ flat xs))
+    ∙ (λ k. take_both i n x k ++ put_entry_past_larger entry (drop-drop n i x k ++ flat xs))
     ∙ ap (λ m. take m x ++ put_entry_past_larger entry (drop m x ++ flat xs)) (sym e)
 past (x ∷ xs) (suc b) i entry d p j e =
     append_assoc x (before xs b i) (put_entry_past_larger entry (behind xs b i))
@@ -99,8 +100,8 @@ pub stops : (bs : Blocks) (b i : ℕ) (entry : Entry) (d : List Entry) → IsPla
 stops [] b i entry d p j e w = absurd p
 stops (x ∷ xs) zero i entry d p j e w =
     let n : ℕ = larger_at_front entry.id (drop i x) in
-    let whole : i + length (drop i x) ≡ length x = length_drop i x p in
-    let here : drop n (drop i x) ≡ drop j x = drop_both i n x ∙ ap (λ m. drop m x) (sym e) in
+    let whole : i + length (drop i x) ≡ length x = omega (arith, length-drop i x, p) in
+    let here : drop n (drop i x) ≡ drop j x = drop-drop n i x ∙ ap (λ m. drop m x) (sym e) in
     ap (λ y. put_entry_past_larger entry (y ++ flat xs)) (sym here)
     ∙ stopped entry (drop i x) (flat xs) (omega arith)
     ∙ ap (λ y. entry ∷ y ++ flat xs) here
@@ -110,23 +111,19 @@ stops (x ∷ xs) (suc b) i entry d p j e w = stops xs b i entry d p j e w
 pub next_before : (bs : Blocks) (b : ℕ) (d : List Entry) → suc b < length bs → before bs b (length (slice_index_or bs b d)) ≡ before bs (suc b) 0
 next_before [] b d w = absurd (omega arith)
 next_before (x ∷ []) zero d w = absurd (omega arith)
-next_before (x ∷ y ∷ xs) zero d w = take_all x ∙ sym (drop_end x)
-  where
-    drop_end : (x : List Entry) → x ++ [] ≡ x
-    drop_end [] = refl
-    drop_end (z ∷ x) = ap (λ r. z ∷ r) (drop_end x)
+next_before (x ∷ y ∷ xs) zero d w = take_all (length x) x (omega arith) ∙ sym (append-nil x)
 next_before (x ∷ xs) (suc b) d w = ap (λ r. x ++ r) (next_before xs b d (omega arith))
 
 pub next_behind : (bs : Blocks) (b : ℕ) (d : List Entry) → suc b < length bs → behind bs b (length (slice_index_or bs b d)) ≡ behind bs (suc b) 0
 next_behind [] b d w = absurd (omega arith)
 next_behind (x ∷ []) zero d w = absurd (omega arith)
-next_behind (x ∷ y ∷ xs) zero d w = ap (λ r. r ++ (y ++ flat xs)) (drop_all x)
+next_behind (x ∷ y ∷ xs) zero d w = ap (λ r. r ++ (y ++ flat xs)) (drop_all (length x) x (omega arith))
 next_behind (x ∷ xs) (suc b) d w = next_behind xs b d (omega arith)
 
 -- the end of the last block is the end
 pub end_behind : (bs : Blocks) (b : ℕ) (d : List Entry) → suc b ≡ length bs → behind bs b (length (slice_index_or bs b d)) ≡ []
 end_behind [] b d w = refl
-end_behind (x ∷ []) zero d w = ap (λ r. r ++ []) (drop_all x)
+end_behind (x ∷ []) zero d w = ap (λ r. r ++ []) (drop_all (length x) x (omega arith))
 end_behind (x ∷ y ∷ xs) zero d w = absurd (omega arith)
 end_behind (x ∷ xs) (suc b) d w = end_behind xs b d (omega arith)
 

@@ -78,7 +78,7 @@ pub(crate) fn count_before(blocks: &Vec<Block>, counts: &Vec<usize>, block: usiz
 }
 
 /// A group, and how many visible entries from its front on come before one.
-#[derive(Clone, Copy, Debug)]
+#[derive(Clone, Copy)]
 pub(crate) struct InGroup {
     pub(crate) group: usize,
     pub(crate) rest: usize,

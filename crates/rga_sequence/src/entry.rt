@@ -2,7 +2,7 @@
 use rga_ops::Id;
 
 /// An element as it stands in a sequence.
-#[derive(Clone, Copy, Debug, PartialEq, Eq)]
+#[derive(Clone, Copy, PartialEq, Eq)]
 pub struct Entry {
     /// The element's identifier.
     pub id: Id,

@@ -10,7 +10,7 @@ use rga_ops::Id;
 
 /// Where an identifier is looked for first: at a place, and then from another on in its block,
 /// whichever these are.
-#[derive(Clone, Copy, Debug)]
+#[derive(Clone, Copy)]
 pub(crate) struct Hints {
     pub(crate) last: Place,
     pub(crate) near: Place,

@@ -23,15 +23,6 @@ pub(crate) fn len(blocks: &Vec<Block>) -> usize
     count
 }
 
-/// How many entries are visible.
-pub(crate) fn visible_len(blocks: &Vec<Block>, counts: &Vec<usize>) -> usize
-    requires fits { length (flat blocks.now.items) < 2 ^ 64 }
-    requires counts { AreCounts counts.now.items blocks.now.items }
-    ensures { result ≡ visible_count (flat blocks.now.items) }
-{
-    count_before(blocks, counts, blocks.as_slice().len())
-}
-
 /// How many entries before a place are visible.
 pub(crate) fn visible_before(blocks: &Vec<Block>, counts: &Vec<usize>, at: Place) -> usize
     requires fits { length (flat blocks.now.items) < 2 ^ 64 }
@@ -171,17 +162,7 @@ pub(crate) fn copy_of(alloc: Global, blocks: &Vec<Block>) -> Result<Vec<Block>, 
 {
     let mut copy = Vec::new(alloc);
     for block in blocks {
-        push_block(&mut copy, block.copy(alloc)?)?;
+        copy.push(block.copy(alloc)?)?;
     }
     Ok(copy)
-}
-
-fn push_block(blocks: &mut Vec<Block>, block: Block) -> Result<(), Refusal>
-    ensures ok { OnOk result (blocks.new.items ≡ blocks.old.items ++ block ∷ []) }
-    ensures memory { IfErr result (λ e. e ≡ Refusal.Memory) }
-{
-    if blocks.push(block).is_err() {
-        return Err(Refusal::Memory);
-    }
-    Ok(())
 }

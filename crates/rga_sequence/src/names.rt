@@ -1,12 +1,10 @@
 //! Names of blocks: by its name a block is found wherever it stands.
-ghost use Rattle.std.specs.Prelude.{◌≡◌, vec_len, IfErr};
+ghost use Rattle.std.specs.Prelude.{◌≡◌, vec_len};
 
 use crate::block::Block;
 use crate::finding::Hints;
 use crate::near::Near;
 use crate::place::Place;
-use rga_ops::Refusal;
-use std::alloc::Global;
 
 /// Where an entry is looked for first that may stand there.
 pub(crate) fn hints_of(names: &Vec<usize>, last: Place, near: Near) -> Hints {
@@ -47,16 +45,8 @@ pub(crate) fn add_name(names: &mut Vec<usize>) {
     let _room = names.push(0);
 }
 
-/// The same names.
-pub(crate) fn copy_names(alloc: Global, names: &Vec<usize>) -> Result<Vec<usize>, Refusal>
-    ensures { IfErr result (λ e. e ≡ Refusal.Memory) }
-{
-    let copy = Vec::from_slice(alloc, names.as_slice())?;
-    Ok(copy)
-}
-
 /// The names of the two parts of a block.
-#[derive(Clone, Copy, Debug)]
+#[derive(Clone, Copy)]
 pub(crate) struct PartNames {
     pub(crate) first: usize,
     pub(crate) second: usize,

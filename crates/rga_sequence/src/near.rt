@@ -2,7 +2,7 @@
 
 /// Where an entry may stand: the name of its block, and its index there. It is for speed alone:
 /// wherever an entry is looked for first, the answer is the same.
-#[derive(Clone, Copy, Debug)]
+#[derive(Clone, Copy)]
 pub struct Near {
     pub block: usize,
     pub index: usize,

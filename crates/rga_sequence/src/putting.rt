@@ -201,9 +201,7 @@ fn put_block(blocks: &mut Vec<Block>, index: usize, block: Block) -> Result<(), 
     ensures err { OnErr result (blocks.new.items ≡ blocks.old.items) }
     ensures memory { IfErr result (λ e. e ≡ Refusal.Memory) }
 {
-    if blocks.push(block).is_err() {
-        return Err(Refusal::Memory);
-    }
+    blocks.push(block)?;
     turn_last(blocks.as_mut_slice(), index);
     Ok(())
 }

@@ -4,12 +4,12 @@ ghost use Rattle.rga_ops.specs.Identifier.{is_root};
 ghost use Rattle.rga_sequence.specs.Entries.{ids, has, entry_of, place_in, put_chain, put_entry, without_entry, mark_entry, visible_count, visible_ids, visible_text, IsChain, IsPart};
 
 use crate::block::Block;
-use crate::counts::note_counts;
+use crate::counts::{count_before, note_counts};
 use crate::entry::Entry;
 use crate::finding::{entries_of, entry_at, find};
 use crate::groups::Groups;
 use crate::listing;
-use crate::names::{add_name, copy_names, hints_of, near_at, renumber};
+use crate::names::{add_name, hints_of, near_at, renumber};
 use crate::near::Near;
 use crate::place::Place;
 use crate::putting::{MOST_AT_ONCE, put_behind};
@@ -19,7 +19,7 @@ use std::alloc::Global;
 use std::marker::Model;
 
 /// Where entries were put, for whoever finds entries by the names of their blocks.
-#[derive(Clone, Copy, Debug)]
+#[derive(Clone, Copy)]
 pub struct Put {
     /// Where the first of them stands; the others stand behind it, in the same block.
     pub near: Near,
@@ -186,7 +186,8 @@ impl Sequence {
         requires { length self.now < 2 ^ 64 }
         ensures { result ≡ visible_count self.now }
     {
-        listing::visible_len(&self.blocks, &self.groups.counts)
+        let count = self.blocks.as_slice().len();
+        count_before(&self.blocks, &self.groups.counts, count)
     }
 
     /// The k-th visible entry, from 0. Takes no memory.
@@ -239,7 +240,7 @@ impl Sequence {
         ensures ok { IfOk result (λ s. s ≡ self.now) }
         ensures memory { IfErr result (λ e. e ≡ Refusal.Memory) }
     {
-        let names = copy_names(alloc, &self.names)?;
+        let names = Vec::from_slice(alloc, self.names.as_slice())?;
         let blocks = listing::copy_of(alloc, &self.blocks)?;
         let mut groups = Groups::new(alloc);
         note_counts(&blocks, &mut groups.counts);

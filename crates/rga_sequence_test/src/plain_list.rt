@@ -4,7 +4,7 @@ use rga_sequence::Entry;
 use std::alloc::Global;
 
 /// An entry, and what was told of its block.
-#[derive(Clone, Copy, Debug)]
+#[derive(Clone, Copy)]
 pub struct Named {
     pub entry: Entry,
     pub name: usize,

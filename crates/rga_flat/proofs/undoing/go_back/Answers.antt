@@ -16,9 +16,9 @@ loop-step-init c = record {
   limit = refl;
   left = c.requires.back;
   start = refl;
-  going = subst (λ es. IsGoingBack c.args.records.now.content (without_noted c.args.steps.items c.args.records.now.content) c.args.records.now.content es (under c.args.waiting.now) (has_list c.args.waiting.now) (contains id_cmp c.args.done.now))
+  going = subst (λ es. IsGoingBack c.args.records.now.content (without_noted c.args.steps.items c.args.records.now.content) c.args.records.now.content es c.args.waiting.now (contains id_cmp c.args.done.now))
       (sym c.take_out_all.ensures)
-      (going_start c.args.records.now.content (without_noted c.args.steps.items c.args.records.now.content) c.args.sequence.now (under c.args.waiting.now) (is_listed c.args.waiting.now c.requires.returnable.settled) (has_list c.args.waiting.now) (contains id_cmp c.args.done.now)
+      (going_start c.args.records.now.content (without_noted c.args.steps.items c.args.records.now.content) c.args.sequence.now c.args.waiting.now (is_listed c.args.waiting.now c.requires.returnable.settled) (contains id_cmp c.args.done.now)
       c.requires.returnable.flat c.requires.returnable.based);
 }
 
@@ -42,9 +42,9 @@ loop-step-preserved c =
       limit = c.undo.ensures.limit ∙ c.loop-step.invariant.limit;
       left = subst (λ d. CanTakeBack c.pop.new.self.items d) (sym c.undo.ensures.content) was_last.rest;
       start = ap (without_noted c.pop.new.self.items) c.undo.ensures.content ∙ then;
-      going = subst (λ d. IsGoingBack c.args.records.now.content base d c.undo.new.sequence (under c.undo.new.waiting) (has_list c.undo.new.waiting) (contains id_cmp c.args.done.now)) (sym c.undo.ensures.content)
-          (subst (λ es. IsGoingBack c.args.records.now.content base (without_operation c.in-Some.step.op.now c.loop-step.records.content) es (under c.undo.new.waiting) (has_list c.undo.new.waiting) (contains id_cmp c.args.done.now)) (sym c.undo.ensures.entries)
-          (going_undone c.in-Some.step.op.now c.args.records.now.content base c.loop-step.records.content c.loop-step.sequence (under c.loop-step.waiting) (under c.undo.new.waiting) (has_list c.loop-step.waiting) (has_list c.undo.new.waiting) (contains id_cmp c.args.done.now)
+      going = subst (λ d. IsGoingBack c.args.records.now.content base d c.undo.new.sequence c.undo.new.waiting (contains id_cmp c.args.done.now)) (sym c.undo.ensures.content)
+          (subst (λ es. IsGoingBack c.args.records.now.content base (without_operation c.in-Some.step.op.now c.loop-step.records.content) es c.undo.new.waiting (contains id_cmp c.args.done.now)) (sym c.undo.ensures.entries)
+          (going_undone c.in-Some.step.op.now c.args.records.now.content base c.loop-step.records.content c.loop-step.sequence c.loop-step.waiting c.undo.new.waiting (contains id_cmp c.args.done.now)
           c.loop-step.invariant.going was_last.held
           (subst (λ d. IsWithin d (without_operation c.in-Some.step.op.now c.loop-step.records.content)) then (gone_within c.pop.new.self.items (without_operation c.in-Some.step.op.now c.loop-step.records.content)))
           c.undo.ensures.under c.undo.ensures.lists));
@@ -63,5 +63,5 @@ returns-clause-flat c =
     let base : Content = without_noted c.args.steps.items c.args.records.now.content in
     let there : c.loop-step.records.content ≡ base = sym (ap (λ ss. without_noted ss c.loop-step.records.content) none) ∙ c.loop-step.invariant.start in
     subst (λ d. IsFlat d c.loop-step.sequence (under c.loop-step.waiting) (has_list c.loop-step.waiting)) (sym there)
-    (gone_there c.args.records.now.content base c.args.sequence.now c.args.waiting.now c.args.done.now c.requires.returnable c.loop-step.sequence (under c.loop-step.waiting) (has_list c.loop-step.waiting)
-    (subst (λ d. IsGoingBack c.args.records.now.content base d c.loop-step.sequence (under c.loop-step.waiting) (has_list c.loop-step.waiting) (contains id_cmp c.args.done.now)) there c.loop-step.invariant.going))
+    (gone_there c.args.records.now.content base c.args.sequence.now c.args.waiting.now c.args.done.now c.requires.returnable c.loop-step.sequence c.loop-step.waiting
+    (subst (λ d. IsGoingBack c.args.records.now.content base d c.loop-step.sequence c.loop-step.waiting (contains id_cmp c.args.done.now)) there c.loop-step.invariant.going))

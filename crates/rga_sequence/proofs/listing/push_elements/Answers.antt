@@ -1,14 +1,15 @@
 use Rattle.std.proofs.Common.{◌≡◌, ◌+◌, ◌-◌, ◌++◌, List, take, drop, sym, ap, ◌∙◌, append_assoc}
+use Rattle.std.proofs.lemmas.List.{append-nil}
 use Rattle.rga_ops.specs.Identifier.{Identifier}
 use Rattle.rga_sequence.specs.declared.entry.Entry.{Entry}
 use Rattle.rga_sequence.specs.Entries.{visible_ids}
 use Rattle.rga_sequence.specs.Blocks.{Blocks, flat}
-use Rattle.rga_sequence.proofs.CountLaws.{range_both, none_left, end_of, rest_of, ids_both, count_ids}
+use Rattle.rga_sequence.proofs.CountLaws.{range_both, none_left, rest_of, ids_both, count_ids}
 use Rattle.rga_sequence.proofs.listing.push_elements.Goals as goal
 
 pub returns-then-end-skip-clause-ok : goal.returns-then-end-skip-clause-ok
 returns-then-end-skip-clause-ok c =
-    end_of c.loop-block.list.items
+    sym (append-nil c.loop-block.list.items)
     ∙ ap (λ xs. c.loop-block.list.items ++ xs) (sym (none_left c.loop-block.skip c.loop-block.end (visible_ids (flat (drop c.loop-block.block-index c.args.blocks.now))) c.if-end-skip.true))
     ∙ c.loop-block.invariant
 

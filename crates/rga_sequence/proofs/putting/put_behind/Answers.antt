@@ -1,11 +1,12 @@
 use Rattle.std.proofs.Common.{◌≡◌, ◌++◌, ◌∷◌, List, [], length, refl, sym, ap, ◌∙◌, subst, arith}
 use Rattle.std.specs.Prelude.{insert}
+use Rattle.std.proofs.lemmas.List.{append-nil}
 use Rattle.rga_sequence.specs.declared.entry.Entry.{Entry}
 use Rattle.rga_sequence.specs.Entries.{put_entry_past_larger, put_entry, put_chain, IsChain, AreApart}
 use Rattle.rga_sequence.specs.Blocks.{Blocks, flat, before, behind}
 use Rattle.rga_sequence.proofs.ListLaws.{on_ok_map}
 use Rattle.rga_sequence.proofs.PutLaws.{apart_there, either_way}
-use Rattle.rga_sequence.proofs.ChainLaws.{chain_there, chain_apart, chain_alone, alone_apart, end_of}
+use Rattle.rga_sequence.proofs.ChainLaws.{chain_there, chain_apart, chain_alone, alone_apart}
 use Rattle.rga_sequence.proofs.putting.put_behind.Goals as goal
 
 none_of : (bs : Blocks) → length bs ≡ 0 → bs ≡ []
@@ -15,7 +16,7 @@ none_of (b ∷ bs) h = absurd (omega arith)
 -- the first entries of all
 
 alone : (bs : Blocks) (es : List Entry) → bs ≡ insert [] 0 es → flat bs ≡ es
-alone bs es put = ap flat put ∙ end_of es
+alone bs es put = ap flat put ∙ append-nil es
 
 pub returns-then-as_slice-eq0-clause-ok : goal.returns-then-as_slice-eq0-clause-ok
 returns-then-as_slice-eq0-clause-ok c =
