@@ -7,7 +7,7 @@ use Rattle.rga_devices.specs.Counting.{Calls, CountsAs, OnBytes, Writes, WritesF
 use Rattle.rga_lines.specs.Log.{stream_operations}
 use Rattle.rga_exchange.specs.Receiving.{exchange_outcome}
 use Rattle.rga_exchange.specs.Sending.{exchange_text}
-use Rattle.rga_exchange.specs.Taking.{HasTakenLines}
+use Rattle.rga_exchange.specs.Taking.{intake, HasTakenLines}
 use Rattle.rga_exchange.specs.declared.taking.Form.TheVariants.{Exchange}
 use Rattle.rga_exchange.specs.declared.fault.ReceiveFault.{ReceiveFault}
 use Rattle.rga_exchange.specs.declared.fault.ReceiveFault.TheVariants as receive
@@ -46,7 +46,7 @@ pub record SendsOver {L : Type 0} (peer : Option Summary) (contents : L → Opti
 -- cut the bytes, they lead to what all of them lead to; heard to its end, the content is joined with their operations.
 -- `Read` is answered exactly where a call of the link failed.
 pub record HearsOver {L : Type 0} (remaining : L → Option (List ℕ)) (old new : Calls L) (answer : Result ℕ ReceiveFault) (b d : OpenState) : Type 0 where
-  pub lines : HasTakenLines Exchange remaining (λ (s : State). s.limit) (λ (s : State). s.content) TakesOperations old new b.buffer d.buffer
+  pub lines : HasTakenLines Exchange remaining old new (intake (λ (s : State). s.limit) (λ (s : State). s.content) TakesOperations b.buffer d.buffer)
   pub outcome : answer ≢ Err receive.Read → answer ≢ Err receive.Memory → OnBytes remaining old (λ bytes. exchange_outcome b.buffer.limit b.buffer.content bytes ≡ (d.buffer.content, answer))
   pub joined : OnOk answer (OnBytes remaining old (λ bytes. d.buffer.content ≡ join b.buffer.content (content_of (stream_operations bytes))))
   pub device : CountsAs receive.Read answer old new

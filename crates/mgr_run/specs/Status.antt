@@ -3,7 +3,7 @@ use Rattle.std.specs.Prelude.{◌≡◌, ◌≢◌, ◌⊎◌, ℕ, true, List, 
 use Rattle.rga_ops.specs.Content.{Content, nothing as no_content}
 use Rattle.rga_store.specs.declared.text_store.TheConstants.{MAX_LIMIT}
 use Rattle.rga_devices.specs.Counting.{Calls, CountsAs, StaysFlushed, OnBytes, WritesNothing, one_more}
-use Rattle.rga_exchange.specs.Taking.{HasTakenWholeLines}
+use Rattle.rga_exchange.specs.Taking.{content_intake, HasTakenWholeLines}
 use Rattle.rga_exchange.specs.declared.taking.Form.TheVariants.{Log}
 use Rattle.mgr_args.specs.declared.job.JobFault.{JobFault}
 use Rattle.mgr_args.specs.declared.job.JobFault.TheVariants.{Help, Version, Usage, Memory}
@@ -80,7 +80,7 @@ pub record IsStatusOfShow {R W : Type 0} (remaining : R → Option (List ℕ)) (
   pub unwritten : IfErr answer (λ e. e ≢ fault.Write → after.output ≡ before.output)
   pub flushed : OnOk answer (after.output.flushed ≡ true)
   pub begun : OnErr answer (OnBytes remaining before.input (λ bytes. WritesNothing contents before.output after.output ⊎ BeginsToShow contents before.output after.output bytes))
-  pub whole_lines : answer ≡ Err fault.Read → (c : Content) × HasTakenWholeLines Log remaining (λ _. MAX_LIMIT) (λ held. held) (λ _ _ _. Unit {0}) before.input after.input no_content c
+  pub whole_lines : answer ≡ Err fault.Read → (c : Content) × HasTakenWholeLines Log remaining before.input after.input (content_intake MAX_LIMIT no_content c)
   pub reads : CountsAs fault.Read answer before.input after.input
   pub writes : CountsAs fault.Write answer before.output after.output
 

@@ -13,7 +13,7 @@ use Rattle.rga_exchange.specs.declared.fault.LogFault.{LogFault}
 use Rattle.rga_exchange.specs.declared.log.LogEnd.{LogEnd}
 use Rattle.rga_exchange.specs.declared.log.LogEnd.TheVariants.{Whole, Bare, Torn}
 use Rattle.rga_exchange.specs.declared.log.LogRead.{LogRead}
-use Rattle.rga_exchange.specs.Taking.{AreTaken, HasTakenWholeLines}
+use Rattle.rga_exchange.specs.Taking.{AreTaken, Intake, content_intake, HasTakenWholeLines}
 use Rattle.rga_exchange.specs.declared.taking.Form.TheVariants.{Log}
 use Rattle.rga_exchange.specs.Log.{LogOutcome, log_outcome}
 use Rattle.rga_exchange.proofs.OperationLaws.{log_taken}
@@ -98,13 +98,13 @@ module _ {W : Type 0} (contents : W → Option (List ℕ)) where
   begins_to_show (Some bytes) old new written h w = inr (record { accepted = h.accepted; begun = subst (λ l. WritesFront contents old new l) h.is w })
 
 -- all whole lines that were read were taken, by a store that was made empty
-pub whole_from : {R T : Type 0} (remaining : R → Option (List ℕ)) (limit : T → ℕ) (content : T → Content) (follows : T → List Op → T → Type 0) (r s : Calls R) (t u : T) → limit t ≡ MAX_LIMIT → content t ≡ nothing → HasTakenWholeLines Log remaining limit content follows r s t u → (c : Content) × HasTakenWholeLines Log remaining (λ _. MAX_LIMIT) (λ held. held) (λ _ _ _. Unit {0}) r s nothing c
-whole_from remaining limit content follows r s t u same empty h = (
-  content u,
+pub whole_from : {R : Type 0} {remaining : R → Option (List ℕ)} {r s : Calls R} {took : Intake} → took.limit ≡ MAX_LIMIT → took.old ≡ nothing → HasTakenWholeLines Log remaining r s took → (c : Content) × HasTakenWholeLines Log remaining r s (content_intake MAX_LIMIT nothing c)
+whole_from {R} {remaining} {r} {s} {took} same empty h = (
+  took.new,
   record {
     bytes = h.bytes;
     read = h.read;
-    taken = subst (λ l. AreTaken l (lines_of h.bytes) nothing (content u)) same (subst (λ e. AreTaken (limit t) (lines_of h.bytes) e (content u)) empty h.taken);
+    taken = subst (λ l. AreTaken l (lines_of h.bytes) nothing took.new) same (subst (λ e. AreTaken took.limit (lines_of h.bytes) e took.new) empty h.taken);
     beside = tt;
   },
 )

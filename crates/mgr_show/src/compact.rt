@@ -3,7 +3,7 @@ ghost use Rattle.std.specs.Prelude.{◌≡◌, ◌≢◌, ◌⊎◌, true, false
 ghost use Rattle.rga_ops.specs.Prelude.{Content, nothing};
 ghost use Rattle.rga_store.specs.declared.text_store.TheConstants.{MAX_LIMIT};
 ghost use Rattle.rga_devices.specs.Counting.{CountsAs, OnBytes, WritesNothing};
-ghost use Rattle.rga_exchange.specs.Taking.{HasTakenWholeLines};
+ghost use Rattle.rga_exchange.specs.Taking.{content_intake, HasTakenWholeLines};
 ghost use Rattle.rga_exchange.specs.declared.taking.Form.TheVariants.{Log};
 ghost use Rattle.mgr_show.specs.Log.{log_of};
 ghost use Rattle.mgr_show.specs.Shown.{IsOfInput};
@@ -44,8 +44,7 @@ pub fn compact_log<R: Read, W: Write>(
     ensures flushed { OnOk result (writer.new.flushed ≡ true) }
 
     ensures whole_lines { result ≡ Err ShowFault.Read → (c : Content) × HasTakenWholeLines Log
-        R.remaining (λ _. MAX_LIMIT) (λ held. held) (λ _ _ _. Unit {0})
-        reader.old reader.new nothing c }
+        R.remaining reader.old reader.new (content_intake MAX_LIMIT nothing c) }
     ensures reads { CountsAs ShowFault.Read result reader.old reader.new }
     ensures writes { CountsAs ShowFault.Write result writer.old writer.new }
 {
@@ -74,8 +73,7 @@ pub fn compact_log_with<R: Read, W: Write>(
     ensures flushed { OnOk result (writer.new.flushed ≡ true) }
 
     ensures whole_lines { result ≡ Err ShowFault.Read → (c : Content) × HasTakenWholeLines Log
-        R.remaining (λ _. MAX_LIMIT) (λ held. held) (λ _ _ _. Unit {0})
-        reader.old reader.new nothing c }
+        R.remaining reader.old reader.new (content_intake MAX_LIMIT nothing c) }
     ensures reads { CountsAs ShowFault.Read result reader.old reader.new }
     ensures writes { CountsAs ShowFault.Write result writer.old writer.new }
 {

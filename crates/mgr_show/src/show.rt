@@ -3,7 +3,7 @@ ghost use Rattle.std.specs.Prelude.{◌≡◌, ◌≢◌, ◌⊎◌, true, Ok, E
 ghost use Rattle.rga_ops.specs.Prelude.{Content, nothing};
 ghost use Rattle.rga_store.specs.declared.text_store.TheConstants.{MAX_LIMIT};
 ghost use Rattle.rga_devices.specs.Counting.{CountsAs, OnBytes, Writes, WritesFront, WritesNothing};
-ghost use Rattle.rga_exchange.specs.Taking.{HasTakenWholeLines};
+ghost use Rattle.rga_exchange.specs.Taking.{intake, content_intake, HasTakenWholeLines};
 ghost use Rattle.rga_exchange.specs.declared.taking.Form.TheVariants.{Log};
 ghost use Rattle.mgr_show.specs.Log.{log_of, shown_from};
 ghost use Rattle.mgr_show.specs.Shown.{IsOfInput, IsTextOf, ShowsLog, BeginsToShow};
@@ -44,8 +44,7 @@ pub fn show_ops<R: Read, W: Write>(
 
     // Of what was taken the content alone is told: the store is made and dropped here.
     ensures whole_lines { result ≡ Err ShowFault.Read → (c : Content) × HasTakenWholeLines Log
-        R.remaining (λ _. MAX_LIMIT) (λ held. held) (λ _ _ _. Unit {0})
-        reader.old reader.new nothing c }
+        R.remaining reader.old reader.new (content_intake MAX_LIMIT nothing c) }
     // A call that failed is told as such, and not as something else.
     ensures reads { CountsAs ShowFault.Read result reader.old reader.new }
     ensures writes { CountsAs ShowFault.Write result writer.old writer.new }
@@ -65,8 +64,8 @@ fn text_of_log<S: TextStore, R: Read>(
         (λ bytes. log_of MAX_LIMIT bytes ≡ Err e)) }
 
     ensures whole_lines { IfErr result (λ e. e ≡ ShowFault.Read → (c : Content)
-        × HasTakenWholeLines Log R.remaining (λ _. MAX_LIMIT) (λ held. held) (λ _ _ _. Unit {0})
-        reader.old reader.new nothing c) }
+        × HasTakenWholeLines Log R.remaining reader.old reader.new
+        (content_intake MAX_LIMIT nothing c)) }
     ensures device { CountsAs ShowFault.Read result reader.old reader.new }
     ensures no_write { result ≢ Err ShowFault.Write }
 {
@@ -88,8 +87,8 @@ pub(crate) fn take_whole_log<T: Taker, R: Read>(
     ensures refused { IfErr result (λ e. IsOfInput e → OnBytes R.remaining reader.old
         (λ bytes. shown_from (T.limit taker.old) (T.content taker.old) bytes ≡ Err e)) }
 
-    ensures whole_lines { IfErr result (λ e. e ≡ ShowFault.Read → HasTakenWholeLines Log
-        R.remaining T.limit T.content T.follows reader.old reader.new taker.old taker.new) }
+    ensures whole_lines { IfErr result (λ e. e ≡ ShowFault.Read → HasTakenWholeLines Log R.remaining
+        reader.old reader.new (intake T.limit T.content T.follows taker.old taker.new)) }
     ensures device { CountsAs ShowFault.Read result reader.old reader.new }
     ensures no_write { result ≢ Err ShowFault.Write }
 {

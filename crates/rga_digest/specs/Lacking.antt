@@ -24,8 +24,8 @@ pub lacks_nothing : (s : Lacking) → Lacks s [] s
 lacks_nothing s = record { own = refl; summary = refl; chosen = sym (append-nil s.ops) }
 
 -- operations may be told in parts
-pub lacks_on : (s t u : Lacking) (xs ys : List Op) → Lacks s xs t → Lacks t ys u → Lacks s (xs ++ ys) u
-lacks_on s t u xs ys first second = record {
+pub lacks_on : {s t u : Lacking} {xs ys : List Op} → Lacks s xs t → Lacks t ys u → Lacks s (xs ++ ys) u
+lacks_on {s} {t} {u} {xs} {ys} first second = record {
   own = second.own ∙ first.own;
   summary = second.summary ∙ first.summary;
   chosen =

@@ -77,7 +77,7 @@ impl<'a> Listener for Lacked<'a> {
 
     ghost hears_nothing = { λ s. lacks_nothing s };
 
-    ghost hears_on = { λ s t u xs ys a b. lacks_on s t u xs ys a b };
+    ghost hears_on = { λ s t u xs ys a b. lacks_on a b };
 
     fn hear(&mut self, op: &Op) -> Result<(), Refusal> {
         if self.is_lacked(op) {

@@ -1,5 +1,5 @@
 -- The compacted lines of a content stand for that content.
-use Rattle.std.proofs.Common.{◌≡◌, ◌≢◌, ℕ, zero, suc, ◌+◌, ◌-◌, ◌<◌, ◌≤◌, Bool, true, false, cond, ◌&&◌, ◌||◌, ◌==◌, nat_le, nat_lt, List, [], ◌∷◌, ◌++◌, map, length, get_or, Option, Some, None, Ok, refl, sym, ap, ap₂, ◌∙◌, subst, append_assoc, arith, inl, inr, ◌⊎◌, lit≤}
+use Rattle.std.proofs.Common.{◌≡◌, ℕ, zero, suc, ◌+◌, ◌-◌, ◌<◌, ◌≤◌, Bool, true, false, cond, ◌&&◌, ◌||◌, ◌==◌, nat_le, nat_lt, List, [], ◌∷◌, ◌++◌, map, length, get_or, Option, Some, None, Ok, refl, sym, ap, ap₂, ◌∙◌, subst, append_assoc, arith, inl, inr, ◌⊎◌, lit≤}
 use Rattle.std.specs.Prelude.{Contains, All}
 use Rattle.std.specs.Char.{IsScalar}
 use Rattle.std.specs.List.{flat_map, AllByRecursion}
@@ -22,7 +22,7 @@ use Rattle.rga_lines.specs.declared.reading.TheConstants.{MAX_LINE}
 use Rattle.rga_lines.specs.declared.run.TheConstants.{MAX_RUN}
 use Rattle.rga_lines.specs.declared.deletion_run.DeletionRun.{DeletionRun}
 use Rattle.rga_lines.specs.Runs.{Stretch, stretch, next, run_operations, stretch_operations, deletion_run, deletions_from, run_deletions, IsDeletionRun}
-use Rattle.rga_lines.specs.Spelling.{line, run_line, deletion_run_line, IsElement, IsWritableRun}
+use Rattle.rga_lines.specs.Spelling.{line, deletion_run_line, IsElement, IsWritableRun}
 use Rattle.rga_lines.specs.Stream.{lines_of, rest_of, HasNoNewline}
 use Rattle.rga_lines.specs.Log.{operations_of, operations_at, then_operations, IsOperation}
 use Rattle.rga_lines.proofs.NewlineLemmas.{line_has_none, run_has_none, deletions_have_none}

@@ -1,7 +1,7 @@
 -- What was taken of a stream or a log, as operations.
 use Rattle.std.proofs.Common.{◌≡◌, ◌≢◌, ℕ, ◌+◌, ◌≤◌, Bool, true, false, cond, List, [], ◌∷◌, ◌++◌, length, Option, Some, None, Result, Ok, Err, refl, sym, ap, subst, ◌∙◌, arith, nat_lt, append-nil}
 use Rattle.std.specs.Prelude.{IfSome}
-use Rattle.std.proofs.lemmas.Bool.{ltb-false}
+use Rattle.std.proofs.lemmas.Bool.{ltb-false, eq-eqb, ne_eqb}
 use Rattle.rga_ops.specs.Content.{Content, join, content_of}
 use Rattle.rga_ops.specs.Answer.{taken, and_take, taken_one_by_one}
 use Rattle.rga_ops.specs.declared.op.Op.{Op}
@@ -23,6 +23,9 @@ use Rattle.rga_exchange.specs.declared.taking.Form.{Form}
 use Rattle.rga_exchange.specs.declared.taking.Form.TheVariants.{Log, Exchange}
 use Rattle.rga_exchange.specs.Taking.{body_behind, Stop, AllTaken, AtEnd, AtFault, Progress, progress, after_line, taken_whole, refused_at, go_on, lines_taken, stop_at_rest, stream_taken}
 use Rattle.rga_exchange.specs.Log.{LogOutcome, end_outcome, after_bare_operation, after_bare_line, after_rest, after_stop, after_lines, log_outcome}
+use Rattle.rga_exchange.specs.Receiving.{number_received, exchange_outcome}
+use Rattle.rga_exchange.specs.declared.fault.ReceiveFault.{ReceiveFault}
+use Rattle.rga_exchange.specs.declared.fault.ReceiveFault.TheVariants as exchange_fault
 use Rattle.rga_exchange.proofs.HeadLaws.{on, halt, through_body}
 use Rattle.rga_exchange.proofs.TakingLaws.{goes_on, line_taken, one_by_one-append, taken_whole_one_by_one}
 
@@ -211,12 +214,37 @@ log_joined limit c d read bytes h = (taken_list_is limit c (log_operations bytes
 
 -- ---- of a device that tells its bytes
 
+abbrev pub was_received : ℕ → Result ℕ ReceiveFault
+was_received n = Ok n
+
+abbrev pub not_received : ReceiveFault → Result ℕ ReceiveFault
+not_received e = Err e
+
 abbrev pub EndsBehind : Option (List ℕ) → ℕ → ℕ → ℕ → ℕ → Content → Content → Type 0
 EndsBehind known limit n j number c d = IfSome known (λ bytes. (stream_taken Exchange limit c bytes ≡ progress n d (AtEnd number)) × (j ≡ length (stream_operations bytes)))
 
 pub received_joined : (known : Option (List ℕ)) (limit n j number : ℕ) (c d : Content) → EndsBehind known limit n j number c d → IfSome known (λ bytes. d ≡ join c (content_of (stream_operations bytes)))
 received_joined None limit n j number c d h = tt
 received_joined (Some bytes) limit n j number c d h = stream_joined limit n c d number bytes h.0
+
+-- the end line names the number of the operations, or another one
+pub received_number : (known : Option (List ℕ)) (limit n j number : ℕ) (c d : Content) → number ≡ j → EndsBehind known limit n j number c d → IfSome known (λ bytes. number ≡ length (stream_operations bytes))
+received_number None limit n j number c d same h = tt
+received_number (Some bytes) limit n j number c d same h = same ∙ h.1
+
+pub received_all : (known : Option (List ℕ)) (limit n j number : ℕ) (c d : Content) → number ≡ j → EndsBehind known limit n j number c d → IfSome known (λ bytes. exchange_outcome limit c bytes ≡ (d, Ok number))
+received_all None limit n j number c d same h = tt
+received_all (Some bytes) limit n j number c d same h =
+    ap (λ (t : Progress). (t.content, number_received (length (stream_operations bytes)) t.stop)) h.0
+    ∙ (λ k. (d, number_received (sym (same ∙ h.1) k) (AtEnd number)))
+    ∙ ap (λ b. (d, cond b (was_received number) (not_received exchange_fault.Count))) (eq-eqb number number refl)
+
+pub received_other : (known : Option (List ℕ)) (limit n j number : ℕ) (c d : Content) → (number ≡ j → ⊥) → EndsBehind known limit n j number c d → IfSome known (λ bytes. exchange_outcome limit c bytes ≡ (d, Err exchange_fault.Count))
+received_other None limit n j number c d other h = tt
+received_other (Some bytes) limit n j number c d other h =
+    let all : ℕ = length (stream_operations bytes) in
+    ap (λ (t : Progress). (t.content, number_received all t.stop)) h.0
+    ∙ ap (λ b. (d, cond b (was_received all) (not_received exchange_fault.Count))) (ne_eqb number all (λ e. other (e ∙ sym h.1)))
 
 -- a log of which all lines were taken, and then the rest; the taker's own limit may be another name of the same number
 pub log_ends : (limit own n : ℕ) (c e d : Content) (rest bytes : List ℕ) (told : Result LogRead LogFault) → own ≡ limit → (stream_taken Log limit c bytes ≡ progress n e AllTaken) × (rest_of bytes ≡ rest) → after_rest own n e rest ≡ ran told d → log_outcome limit c bytes ≡ ran told d

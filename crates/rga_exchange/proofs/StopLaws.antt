@@ -166,20 +166,20 @@ goes_on_so form limit n c lines (AtFault (fault.Refused k e)) (number, w) =
 goes_on_so form limit n c lines (AtFault fault.Read) w = absurd w
 goes_on_so form limit n c lines (AtFault fault.Memory) w = absurd w
 
-pub taken_up_to-iff : (form : Form) (limit : ℕ) (c : Content) (lines : List (List ℕ)) (n : ℕ) (d : Content) (stop : Stop) → finite_set.len (known_ids c) ≤ limit → (lines_taken form limit 0 c lines ≡ progress n d stop) ↔ IsTakenUpTo form limit c lines n d stop
-taken_up_to-iff form limit c lines n d stop within = (there, back)
+pub taken_up_to-iff : (form : Form) (limit : ℕ) (c : Content) (lines : List (List ℕ)) (t : Progress) → finite_set.len (known_ids c) ≤ limit → (lines_taken form limit 0 c lines ≡ t) ↔ IsTakenUpTo form limit c lines t
+taken_up_to-iff form limit c lines t within = (there, back)
   where
-    there : lines_taken form limit 0 c lines ≡ progress n d stop → IsTakenUpTo form limit c lines n d stop
+    there : lines_taken form limit 0 c lines ≡ t → IsTakenUpTo form limit c lines t
     there h =
-        let w = stopped form limit 0 n c d lines stop h in
-        record { front = w.front; later = w.later; split = w.split; count = omega (arith, w.count); taken = are_taken form limit 0 n c d w.front w.taken; reason = w.reason }
+        let w = stopped form limit 0 t.lines c t.content lines t.stop h in
+        record { front = w.front; later = w.later; split = w.split; count = omega (arith, w.count); taken = are_taken form limit 0 t.lines c t.content w.front w.taken; reason = w.reason }
 
-    back : IsTakenUpTo form limit c lines n d stop → lines_taken form limit 0 c lines ≡ progress n d stop
+    back : IsTakenUpTo form limit c lines t → lines_taken form limit 0 c lines ≡ t
     back w =
-        let count : 0 + length w.front ≡ n = omega (arith, w.count) in
+        let count : 0 + length w.front ≡ t.lines = omega (arith, w.count) in
         ap (lines_taken form limit 0 c) w.split
-        ∙ lines_taken-append form limit 0 n c d w.front w.later (operations_are_taken form limit 0 c d w.front within w.taken.operations w.taken.taken ∙ ap (λ k. progress k d AllTaken) count)
-        ∙ goes_on_so form limit n d w.later stop w.reason
+        ∙ lines_taken-append form limit 0 t.lines c t.content w.front w.later (operations_are_taken form limit 0 c t.content w.front within w.taken.operations w.taken.taken ∙ ap (λ k. progress k t.content AllTaken) count)
+        ∙ goes_on_so form limit t.lines t.content w.later t.stop w.reason
 
 -- ---- a rest that is too long counts as a line
 

@@ -11,7 +11,6 @@ use Rattle.rga_ops.specs.declared.refusal.Refusal.{Refusal}
 use Rattle.rga_ops.proofs.TakenLaws.{took, refused, taken_list_is}
 use Rattle.rga_ops.proofs.ListAnswerLaws.{list_one_by_one, one_by_one_list}
 use Rattle.rga_lines.specs.Runs.{Stretch, stretch_operations, run_deletions}
-use Rattle.rga_lines.proofs.RunLemmas.{run_operations-length}
 use Rattle.rga_lines.specs.declared.deletion_run.DeletionRun.{DeletionRun}
 use Rattle.rga_lines.specs.Table.{AnyReading, any_line_at}
 use Rattle.rga_lines.specs.declared.reading.TheConstants.{MAX_LINE}
@@ -27,8 +26,8 @@ use Rattle.rga_exchange.specs.declared.fault.LogFault.{LogFault}
 use Rattle.rga_exchange.specs.declared.fault.LogFault.TheVariants as fault
 use Rattle.rga_exchange.specs.declared.taking.Form.{Form}
 use Rattle.rga_exchange.specs.declared.taking.Form.TheVariants.{Log}
-use Rattle.rga_exchange.specs.Taking.{may_be_head, body_behind, Stop, AllTaken, AtEnd, AtFault, Progress, progress, refused_at, after_list, taken_whole, after_line, go_on, lines_taken, with_rest, bytes_taken, AreTaken}
-use Rattle.rga_exchange.specs.Parts.{Takes, TakesUpTo}
+use Rattle.rga_exchange.specs.Taking.{may_be_head, body_behind, Stop, AllTaken, AtEnd, AtFault, Progress, progress, refused_at, after_list, taken_whole, after_line, go_on, lines_taken, with_rest, bytes_taken, Intake, AreTaken}
+use Rattle.rga_exchange.specs.Parts.{Stage, stage, TakesUpTo}
 use Rattle.rga_exchange.proofs.HeadLaws.{on, halt, through_body, body-nil, body-append, body_alone}
 
 -- ---- what is not a stop behind all lines
@@ -83,54 +82,7 @@ lines_taken-append form limit n m c d (x ∷ xs) ys h =
     ap (λ r. go_on n c r (λ e. lines_taken form limit (n + 1) e (xs ++ ys))) w.first
     ∙ lines_taken-append form limit (n + 1) m w.next d xs ys w.later
 
--- ---- what was taken of a stream in parts
-
-abbrev pub takes_nothing : (form : Form) (limit n : ℕ) (c : Content) (bytes : List ℕ) → Takes form limit n c bytes n c bytes
-takes_nothing form limit n c bytes = record { lines = []; cut = λ more. refl; rest = λ more. refl; taken = refl }
-
-abbrev pub takes_line : (form : Form) (limit n : ℕ) (c d : Content) (s t : Splitting) (line : List ℕ) → GivesLine s t line → after_line form limit (n + 1) c (any_line_at line) ≡ Ok d → Takes form limit n c s.waiting (n + 1) d t.waiting
-takes_line form limit n c d s t line given h = record {
-  lines = line ∷ [];
-  cut = given.lines;
-  rest = given.rest;
-  taken = ap (λ r. go_on n c r (λ e. lines_taken form limit (n + 1) e [])) h;
-}
-
-abbrev pub takes_chain : (form : Form) (limit n m k : ℕ) (c d e : Content) (a b w : List ℕ) → Takes form limit n c a m d b → Takes form limit m d b k e w → Takes form limit n c a k e w
-takes_chain form limit n m k c d e a b w s t = record {
-  lines = s.lines ++ t.lines;
-  cut = λ more. s.cut more ∙ ap (λ ls. s.lines ++ ls) (t.cut more) ∙ sym (append_assoc s.lines t.lines (lines_of (w ++ more)));
-  rest = λ more. s.rest more ∙ t.rest more;
-  taken = lines_taken-append form limit n m c d s.lines t.lines s.taken ∙ t.taken;
-}
-
-abbrev pub takes_more_bytes : (form : Form) (limit n m : ℕ) (c d : Content) (bytes waiting piece : List ℕ) → Takes form limit n c bytes m d waiting → Takes form limit n c (bytes ++ piece) m d (waiting ++ piece)
-takes_more_bytes form limit n m c d bytes waiting piece s = record {
-  lines = s.lines;
-  cut = λ more. ap lines_of (append_assoc bytes piece more) ∙ s.cut (piece ++ more) ∙ ap (λ l. s.lines ++ lines_of l) (sym (append_assoc waiting piece more));
-  rest = λ more. ap rest_of (append_assoc bytes piece more) ∙ s.rest (piece ++ more) ∙ ap rest_of (sym (append_assoc waiting piece more));
-  taken = s.taken;
-}
-
--- whatever bytes follow, what waits leads to what all bytes lead to
-pub takes_after : (form : Form) (limit n m : ℕ) (c d : Content) (bytes waiting : List ℕ) → Takes form limit n c bytes m d waiting → (more : List ℕ) → bytes_taken form limit n c (bytes ++ more) ≡ bytes_taken form limit m d (waiting ++ more)
-takes_after form limit n m c d bytes waiting s more =
-    (λ k. with_rest (s.rest more k) (lines_taken form limit n c (s.cut more k)))
-    ∙ ap (with_rest (rest_of (waiting ++ more))) (lines_taken-append form limit n m c d s.lines (lines_of (waiting ++ more)) s.taken)
-
--- a line that is not taken ends the stream
-line_stops : (form : Form) (limit n : ℕ) (c : Content) (s t : Splitting) (line : List ℕ) (stop : Stop) → GivesLine s t line → after_line form limit (n + 1) c (any_line_at line) ≡ Err stop → (more : List ℕ) → bytes_taken form limit n c (s.waiting ++ more) ≡ with_rest (rest_of (s.waiting ++ more)) (progress n c stop)
-line_stops form limit n c s t line stop given h more =
-    ap (λ ls. with_rest (rest_of (s.waiting ++ more)) (lines_taken form limit n c ls)) (given.lines more)
-    ∙ ap (λ r. with_rest (rest_of (s.waiting ++ more)) (go_on n c r (λ d. lines_taken form limit (n + 1) d (lines_of (t.waiting ++ more))))) h
-
-pub line_ends : (form : Form) (limit n : ℕ) (c : Content) (s t : Splitting) (line : List ℕ) (number : ℕ) → GivesLine s t line → after_line form limit (n + 1) c (any_line_at line) ≡ Err (AtEnd number) → (more : List ℕ) → bytes_taken form limit n c (s.waiting ++ more) ≡ progress n c (AtEnd number)
-line_ends form limit n c s t line number given h more = line_stops form limit n c s t line (AtEnd number) given h more
-
-pub line_fails : (form : Form) (limit n : ℕ) (c : Content) (s t : Splitting) (line : List ℕ) (e : LogFault) → GivesLine s t line → after_line form limit (n + 1) c (any_line_at line) ≡ Err (AtFault e) → (more : List ℕ) → bytes_taken form limit n c (s.waiting ++ more) ≡ progress n c (AtFault e)
-line_fails form limit n c s t line e given h more = line_stops form limit n c s t line (AtFault e) given h more
-
--- and so does one that is too long
+-- and so does a line that is too long
 pub begins_long : (form : Form) (limit n : ℕ) (c : Content) (lines : List (List ℕ)) (rest : List ℕ) → BeginsLong lines rest → with_rest rest (lines_taken form limit n c lines) ≡ progress n c (AtFault (fault.Line (n + 1) line_fault.Long))
 begins_long form limit n c [] rest h = ap (λ b. progress n c (cond b (AtFault (fault.Line (n + 1) line_fault.Long)) AllTaken)) (lt-ltb MAX_LINE (length rest) h)
 begins_long form limit n c (line ∷ lines) rest h =
@@ -287,65 +239,79 @@ operations_of-append (x ∷ xs) ys all =
     ∙ sym (append_assoc (all.0).0 (operations_of xs) (operations_of ys))
     ∙ sym (ap (λ r. then_operations r (operations_of xs) ++ operations_of ys) (all.0).1)
 
--- ---- what was taken from one state of a taker to another
+-- ---- what was taken of a stream in parts
 
-abbrev pub FollowsOn : {T : Type 0} → (T → List Op → T → Type 0) → Type 0
-FollowsOn {T} follows = (s t u : T) (xs ys : List Op) → follows s xs t → follows t ys u → follows s (xs ++ ys) u
+abbrev pub between : ℕ → Content → Content → (List Op → Type 0) → Intake
+between limit c d follows = record { limit = limit; old = c; new = d; follows = follows }
 
-module _ {T : Type 0} (form : Form) (limit : T → ℕ) (content : T → Content) (follows : T → List Op → T → Type 0) where
-  abbrev pub up_to_nothing : (t : T) (n k : ℕ) (bytes : List ℕ) → follows t [] t → TakesUpTo form limit content follows t t n n k k bytes bytes
-  up_to_nothing t n k bytes none =
-      let nothing : [] ≡ operations_of (body_behind form n []) = ap operations_of (sym (body-nil form n)) in
-      record {
-        takes = takes_nothing form (limit t) n (content t) bytes;
-        beside = subst (λ ops. follows t ops t) nothing none;
-        count = omega (arith, ap (λ (ops : List Op). length ops) nothing);
-      }
+-- whatever bytes follow, what waits leads to what all bytes lead to
+pub takes_after : {form : Form} {took : Intake} {p q : Stage} → TakesUpTo form took p q → (more : List ℕ) → bytes_taken form took.limit p.lines took.old (p.waiting ++ more) ≡ bytes_taken form took.limit q.lines took.new (q.waiting ++ more)
+takes_after {form} {took} {p} {q} s more =
+    (λ k. with_rest (s.rest more k) (lines_taken form took.limit p.lines took.old (s.cut more k)))
+    ∙ ap (with_rest (rest_of (q.waiting ++ more))) (lines_taken-append form took.limit p.lines q.lines took.old took.new s.lines (lines_of (q.waiting ++ more)) s.taken)
 
-  abbrev pub up_to_line : (t u : T) (n k j : ℕ) (s x : Splitting) (line : List ℕ) → GivesLine s x line → after_line form (limit t) (n + 1) (content t) (any_line_at line) ≡ Ok (content u) → follows t (operations_of (line ∷ [])) u → j ≡ k + length (operations_of (line ∷ []))
-      → TakesUpTo form limit content follows t u n (n + 1) k j s.waiting x.waiting
-  up_to_line t u n k j s x line given h beside count = record {
-    takes = takes_line form (limit t) n (content t) (content u) s x line given h;
-    beside = subst (λ ops. follows t ops u) (sym (body_alone form n line)) beside;
-    count = count ∙ ap (λ (ops : List Op). k + length ops) (sym (body_alone form n line));
-  }
+-- no line, by a taker that holds the same
+abbrev pub up_to_nothing : {form : Form} {limit : ℕ} {c d : Content} {follows : List Op → Type 0} {n k j : ℕ} {bytes : List ℕ} → d ≡ c → follows [] → j ≡ k → TakesUpTo form (between limit c d follows) (stage n k bytes) (stage n j bytes)
+up_to_nothing {form} {limit} {c} {d} {follows} {n} {k} {j} {bytes} same none counted =
+    let nothing : [] ≡ operations_of (body_behind form n []) = ap operations_of (sym (body-nil form n)) in
+    record {
+      lines = [];
+      cut = λ more. refl;
+      rest = λ more. refl;
+      taken = ap (λ e. progress n e AllTaken) (sym same);
+      beside = subst follows nothing none;
+      count = omega (arith, counted, ap (λ (ops : List Op). length ops) nothing);
+    }
 
-module _ {T : Type 0} (form : Form) (limit : T → ℕ) (content : T → Content) (follows : T → List Op → T → Type 0) (follows_on : FollowsOn follows) where
-  -- to take nothing more
-  pub then_nothing : (t u v : T) (ops : List Op) → follows t ops u → follows u [] v → follows t ops v
-  then_nothing t u v ops first none = subst (λ os. follows t os v) (append-nil ops) (follows_on t u v ops [] first none)
+abbrev pub up_to_line : {form : Form} {limit : ℕ} {c d : Content} {follows : List Op → Type 0} {n k j : ℕ} {s x : Splitting} (line : List ℕ) → GivesLine s x line → after_line form limit (n + 1) c (any_line_at line) ≡ Ok d → follows (operations_of (line ∷ [])) → j ≡ k + length (operations_of (line ∷ []))
+    → TakesUpTo form (between limit c d follows) (stage n k s.waiting) (stage (n + 1) j x.waiting)
+up_to_line {form} {limit} {c} {d} {follows} {n} {k} line given h beside count = record {
+  lines = line ∷ [];
+  cut = given.lines;
+  rest = given.rest;
+  taken = ap (λ r. go_on n c r (λ e. lines_taken form limit (n + 1) e [])) h;
+  beside = subst follows (sym (body_alone form n line)) beside;
+  count = count ∙ ap (λ (ops : List Op). k + length ops) (sym (body_alone form n line));
+}
 
-  -- the taker's own limit may be another name of the same number
-  abbrev pub up_to_chain : (t u v : T) (n m k i j l : ℕ) (a b w : List ℕ) → limit u ≡ limit t → TakesUpTo form limit content follows t u n m i j a b → TakesUpTo form limit content follows u v m k j l b w → TakesUpTo form limit content follows t v n k i l a w
-  up_to_chain t u v n m k i j l a b w is s h =
-      let first = body_behind form n s.takes.lines in
-      let later = body_behind form m h.takes.lines in
-      let operations = (lines_are_operations form (limit t) n m (content t) (content u) s.takes.lines s.takes.taken).0 in
-      let count = lines_counted form (limit t) n m (content t) (content u) s.takes.lines s.takes.taken in
-      let both = ap operations_of (body-append form n s.takes.lines h.takes.lines ∙ ap (λ i. first ++ body_behind form i h.takes.lines) (sym count)) ∙ operations_of-append first later operations in
-      let longer = ap (λ (ops : List Op). length ops) both in
-      record {
-        takes = takes_chain form (limit t) n m k (content t) (content u) (content v) a b w s.takes (record {
-          lines = h.takes.lines;
-          cut = h.takes.cut;
-          rest = h.takes.rest;
-          taken = subst (λ l. lines_taken form l m (content u) h.takes.lines ≡ progress k (content v) AllTaken) is h.takes.taken;
-        });
-        beside = subst (λ ops. follows t ops v)
-            (sym both)
-            (follows_on t u v (operations_of first) (operations_of later) s.beside h.beside);
-        count = omega (arith, s.count, h.count, longer, length-append (operations_of first) (operations_of later));
-      }
+-- the second taker's own limit may be another name of the same number
+abbrev pub up_to_chain : {form : Form} {limit own : ℕ} {c d e : Content} {first later all : List Op → Type 0} {p q w : Stage} → own ≡ limit → ((xs ys : List Op) → first xs → later ys → all (xs ++ ys)) → TakesUpTo form (between limit c d first) p q → TakesUpTo form (between own d e later) q w
+    → TakesUpTo form (between limit c e all) p w
+up_to_chain {form} {limit} {own} {c} {d} {e} {first} {later} {all} {p} {q} {w} is then s h =
+    let xs = body_behind form p.lines s.lines in
+    let ys = body_behind form q.lines h.lines in
+    let operations = (lines_are_operations form limit p.lines q.lines c d s.lines s.taken).0 in
+    let count = lines_counted form limit p.lines q.lines c d s.lines s.taken in
+    let both = ap operations_of (body-append form p.lines s.lines h.lines ∙ ap (λ i. xs ++ body_behind form i h.lines) (sym count)) ∙ operations_of-append xs ys operations in
+    let longer = ap (λ (ops : List Op). length ops) both in
+    record {
+      lines = s.lines ++ h.lines;
+      cut = λ more. s.cut more ∙ ap (λ ls. s.lines ++ ls) (h.cut more) ∙ sym (append_assoc s.lines h.lines (lines_of (w.waiting ++ more)));
+      rest = λ more. s.rest more ∙ h.rest more;
+      taken = lines_taken-append form limit p.lines q.lines c d s.lines h.lines s.taken ∙ subst (λ l. lines_taken form l q.lines d h.lines ≡ progress w.lines e AllTaken) is h.taken;
+      beside = subst all (sym both) (then (operations_of xs) (operations_of ys) s.beside h.beside);
+      count = omega (arith, s.count, h.count, longer, length-append (operations_of xs) (operations_of ys));
+    }
 
-  -- a taker that holds the same
-  pub up_to_same : (t u v : T) (n m i j k : ℕ) (a w : List ℕ) → content v ≡ content u → follows u [] v → k ≡ j → TakesUpTo form limit content follows t u n m i j a w → TakesUpTo form limit content follows t v n m i k a w
-  up_to_same t u v n m i j k a w same none counted s = record {
-    takes = record {
-      lines = s.takes.lines;
-      cut = s.takes.cut;
-      rest = s.takes.rest;
-      taken = s.takes.taken ∙ ap (λ d. progress m d AllTaken) (sym same);
-    };
-    beside = then_nothing t u v (operations_of (body_behind form n s.takes.lines)) s.beside none;
-    count = counted ∙ s.count;
-  }
+abbrev pub up_to_more_bytes : {form : Form} {took : Intake} {n k m j : ℕ} {bytes waiting : List ℕ} (piece : List ℕ) → TakesUpTo form took (stage n k bytes) (stage m j waiting) → TakesUpTo form took (stage n k (bytes ++ piece)) (stage m j (waiting ++ piece))
+up_to_more_bytes {form} {took} {n} {k} {m} {j} {bytes} {waiting} piece s = record {
+  lines = s.lines;
+  cut = λ more. ap lines_of (append_assoc bytes piece more) ∙ s.cut (piece ++ more) ∙ ap (λ l. s.lines ++ lines_of l) (sym (append_assoc waiting piece more));
+  rest = λ more. ap rest_of (append_assoc bytes piece more) ∙ s.rest (piece ++ more) ∙ ap rest_of (sym (append_assoc waiting piece more));
+  taken = s.taken;
+  beside = s.beside;
+  count = s.count;
+}
+
+-- behind what was taken a line that is not ends the stream
+pub line_stops : {form : Form} {limit own : ℕ} {c d e : Content} {follows : List Op → Type 0} {p : Stage} {n j : ℕ} {s x : Splitting} (line : List ℕ) (stop : Stop) → own ≡ limit → TakesUpTo form (between limit c d follows) p (stage n j s.waiting) → GivesLine s x line → after_line form own (n + 1) d (any_line_at line) ≡ Err stop → e ≡ d
+    → (more : List ℕ) → bytes_taken form limit p.lines c (p.waiting ++ more) ≡ with_rest (rest_of (s.waiting ++ more)) (progress n e stop)
+line_stops {form} {limit} {own} {c} {d} {e} {follows} {p} {n} {j} {s} {x} line stop is taken given h same more =
+    takes_after taken more
+    ∙ ap (λ ls. with_rest (rest_of (s.waiting ++ more)) (lines_taken form limit n d ls)) (given.lines more)
+    ∙ ap (λ r. with_rest (rest_of (s.waiting ++ more)) (go_on n d r (λ d. lines_taken form limit (n + 1) d (lines_of (x.waiting ++ more))))) (subst (λ l. after_line form l (n + 1) d (any_line_at line) ≡ Err stop) is h)
+    ∙ ap (λ f. with_rest (rest_of (s.waiting ++ more)) (progress n f stop)) (sym same)
+
+-- to take nothing more
+pub then_nothing : (first later all : List Op → Type 0) → ((xs ys : List Op) → first xs → later ys → all (xs ++ ys)) → later [] → (ops : List Op) → first ops → all ops
+then_nothing first later all then none ops h = subst all (append-nil ops) (then ops [] h none)

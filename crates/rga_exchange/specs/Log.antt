@@ -3,7 +3,6 @@ use Rattle.std.specs.Prelude.{◌≡◌, ◌≢◌, ℕ, ◌+◌, List, [], ◌�
 use Rattle.std.specs.Io.KnownBytes.{Consumes}
 use Rattle.rga_ops.specs.Prelude.{Content, taken, join, content_of}
 use Rattle.rga_ops.specs.Answer.{taken_one_by_one}
-use Rattle.rga_ops.specs.declared.op.Op.{Op}
 use Rattle.rga_ops.specs.declared.refusal.Refusal.{Refusal}
 use Rattle.rga_devices.specs.Counting.{Calls, IsReadToEnd, OnBytes}
 use Rattle.rga_lines.specs.Log.{log_operations}
@@ -20,7 +19,7 @@ use Rattle.rga_exchange.specs.declared.log.LogEnd.TheVariants.{Whole, Bare, Torn
 use Rattle.rga_exchange.specs.declared.log.LogRead.{LogRead}
 use Rattle.rga_exchange.specs.declared.fault.ReceiveFault.{ReceiveFault}
 use Rattle.rga_exchange.specs.Receiving.{receive_fault}
-use Rattle.rga_exchange.specs.Taking.{Stop, AllTaken, AtEnd, AtFault, Progress, taken_whole, stream_taken, HasTakenLines, HasTakenWholeLines}
+use Rattle.rga_exchange.specs.Taking.{Stop, AllTaken, AtEnd, AtFault, Progress, taken_whole, stream_taken, Intake, HasTakenLines, HasTakenWholeLines}
 
 -- the content, and the number of lines with how the log ends, or a fault
 abbrev pub LogOutcome : Type 0
@@ -69,29 +68,29 @@ abbrev pub log_end : Result LogRead LogFault → Result LogEnd ReceiveFault
 log_end (Ok read) = Ok read.end
 log_end (Err e) = Err (receive_fault e)
 
--- What comes of a log that a taker takes from a reader, where its outcome is told so.
-module _ {R T A E : Type 0} (remaining : R → Option (List ℕ)) (limit : T → ℕ) (content : T → Content) (follows : T → List Op → T → Type 0) (told : Result LogRead LogFault → Result A E) (result : Result A E) where
-  -- these bytes, as a whole log, lead to what is held and to what is answered
-  abbrev pub LeadsToAnswer : T → T → List ℕ → Type 0
-  LeadsToAnswer t u bytes = let p = log_outcome (limit t) (content t) bytes in (p.0 ≡ content u) × (told p.1 ≡ result)
+-- these bytes, as a whole log, lead to what is held and to what is answered, where the outcome is told so
+abbrev pub LeadsToAnswer : {A E : Type 0} → Intake → (Result LogRead LogFault → Result A E) → Result A E → List ℕ → Type 0
+LeadsToAnswer took told result bytes = let p = log_outcome took.limit took.old bytes in (p.0 ≡ took.new) × (told p.1 ≡ result)
 
+-- What comes of a log that a taker takes from a reader.
+module _ {R A E : Type 0} (remaining : R → Option (List ℕ)) (r s : Calls R) (took : Intake) (told : Result LogRead LogFault → Result A E) (result : Result A E) where
   -- The reader was read to its end. What it gave, as a whole log, led to what is held and to what is answered: all its
   -- operations were taken, and nothing else.
-  pub record HasTakenLog (r s : Calls R) (t u : T) : Type 0 where
+  pub record HasTakenLog : Type 0 where
     pub end : IsReadToEnd remaining s
     pub bytes : List ℕ
     pub read : Consumes (remaining r.inner) (remaining s.inner) bytes
-    pub outcome : LeadsToAnswer t u bytes
-    pub taken : taken_one_by_one (limit t) (content t) (log_operations bytes) ≡ Ok (content u)
-    pub beside : follows t (log_operations bytes) u
+    pub outcome : LeadsToAnswer took told result bytes
+    pub taken : taken_one_by_one took.limit took.old (log_operations bytes) ≡ Ok took.new
+    pub beside : took.follows (log_operations bytes)
 
-  pub record TakesLog (r s : Calls R) (t u : T) : Type 0 where
+  pub record TakesLog : Type 0 where
     -- however the reads cut the bytes, they lead to what the whole log leads to
-    pub outcome : result ≢ told (Err fault.Read) → result ≢ told (Err fault.Memory) → OnBytes remaining r (LeadsToAnswer t u)
-    pub joined : OnOk result (OnBytes remaining r (λ bytes. content u ≡ join (content t) (content_of (log_operations bytes))))
-    pub whole_lines : result ≡ told (Err fault.Read) → HasTakenWholeLines form.Log remaining limit content follows r s t u
+    pub outcome : result ≢ told (Err fault.Read) → result ≢ told (Err fault.Memory) → OnBytes remaining r (LeadsToAnswer took told result)
+    pub joined : OnOk result (OnBytes remaining r (λ bytes. took.new ≡ join took.old (content_of (log_operations bytes))))
+    pub whole_lines : result ≡ told (Err fault.Read) → HasTakenWholeLines form.Log remaining r s took
     -- whatever the fault, all lines that were whole before the last block were taken, the first of those that end in it,
     -- and nothing else
-    pub lines : OnErr result (HasTakenLines form.Log remaining limit content follows r s t u)
+    pub lines : OnErr result (HasTakenLines form.Log remaining r s took)
     -- without one all operations were taken, to the end of the input, and nothing else
-    pub log : OnOk result (HasTakenLog r s t u)
+    pub log : OnOk result HasTakenLog

@@ -67,15 +67,15 @@ GoesOnWith form limit n c lines (AtFault (fault.Refused k e)) = (k ≡ n + 1) ×
 GoesOnWith form limit n c lines (AtFault fault.Read) = ⊥
 GoesOnWith form limit n c lines (AtFault fault.Memory) = ⊥
 
--- The first n of the lines are operations that were taken, behind the head of an exchange where it has one, and lead to
--- content d; what comes then is why no more are.
-pub record IsTakenUpTo (form : Form) (limit : ℕ) (c : Content) (lines : List (List ℕ)) (n : ℕ) (d : Content) (stop : Stop) : Type 0 where
+-- The first of the lines are operations that were taken, behind the head of an exchange where it has one, as many as were
+-- and to the content that they lead to; what comes then is why no more are.
+pub record IsTakenUpTo (form : Form) (limit : ℕ) (c : Content) (lines : List (List ℕ)) (t : Progress) : Type 0 where
   pub front : List (List ℕ)
   pub later : List (List ℕ)
   pub split : lines ≡ front ++ later
-  pub count : n ≡ length front
-  pub taken : AreTaken limit (body form front) c d
-  pub reason : GoesOnWith form limit n d later stop
+  pub count : t.lines ≡ length front
+  pub taken : AreTaken limit (body form front) c t.content
+  pub reason : GoesOnWith form limit t.lines t.content later t.stop
 
 -- the same behind one line more
 abbrev pub fault_further : LogFault → LogFault

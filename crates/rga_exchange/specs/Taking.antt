@@ -118,9 +118,24 @@ pub record AreTaken (limit : ℕ) (lines : List (List ℕ)) (c d : Content) : Ty
   pub taken : taken_one_by_one limit c (operations_of lines) ≡ Ok d
   pub joined : d ≡ join c (content_of (operations_of lines))
 
--- Between two states of a reader that gives a stream of that form, and of a taker, by their members: `follows` says what
--- the taker keeps beside its content and its limit, by the operations that it took.
-module _ {R T : Type 0} (form : Form) (remaining : R → Option (List ℕ)) (limit : T → ℕ) (content : T → Content) (follows : T → List Op → T → Type 0) (r s : Calls R) (t u : T) where
+-- A taker between two states: how many identifiers it may know, its content then and now, and what it keeps beside these,
+-- by the operations that it took.
+pub record Intake : Type 1 where
+  pub limit : ℕ
+  pub old : Content
+  pub new : Content
+  pub follows : List Op → Type 0
+
+-- the same by its members
+abbrev pub intake : {T : Type 0} → (T → ℕ) → (T → Content) → (T → List Op → T → Type 0) → T → T → Intake
+intake limit content follows t u = record { limit = limit t; old = content t; new = content u; follows = λ ops. follows t ops u }
+
+-- the same where the content alone is told
+abbrev pub content_intake : ℕ → Content → Content → Intake
+content_intake limit c d = record { limit = limit; old = c; new = d; follows = λ _. Unit {0} }
+
+-- Between two states of a reader that gives a stream of that form.
+module _ {R : Type 0} (form : Form) (remaining : R → Option (List ℕ)) (r s : Calls R) (took : Intake) where
   -- Of what the reader gave were taken all lines that were whole before the last block, the first ones of those that end
   -- in it, and nothing else.
   pub record HasTakenLines : Type 0 where
@@ -133,12 +148,12 @@ module _ {R T : Type 0} (form : Form) (remaining : R → Option (List ℕ)) (lim
     pub later : List (List ℕ)
     pub whole_before : lines ≡ lines_of before ++ begun
     pub begins : lines_of (before ++ block) ≡ lines ++ later
-    pub taken : AreTaken (limit t) (body form lines) (content t) (content u)
-    pub beside : follows t (operations_of (body form lines)) u
+    pub taken : AreTaken took.limit (body form lines) took.old took.new
+    pub beside : took.follows (operations_of (body form lines))
 
   -- all whole lines of what the reader gave were taken, and nothing else
   pub record HasTakenWholeLines : Type 0 where
     pub bytes : List ℕ
     pub read : Consumes (remaining r.inner) (remaining s.inner) bytes
-    pub taken : AreTaken (limit t) (body form (lines_of bytes)) (content t) (content u)
-    pub beside : follows t (operations_of (body form (lines_of bytes))) u
+    pub taken : AreTaken took.limit (body form (lines_of bytes)) took.old took.new
+    pub beside : took.follows (operations_of (body form (lines_of bytes)))

@@ -28,7 +28,7 @@ impl From<AllocError> for SendFault {
 
 /// Why a log is not read to its end. Lines count from 1. The operations of the lines before the
 /// fault are taken.
-#[derive(Clone, Copy, Debug, PartialEq, Eq)]
+#[derive(Clone, Copy)]
 pub enum LogFault {
     /// The line is no operation.
     Line(u64, LineFault),

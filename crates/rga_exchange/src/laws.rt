@@ -13,7 +13,7 @@ ghost use Rattle.rga_exchange.specs.Sending.{log_text, exchange_lines, stream_te
 ghost use Rattle.rga_exchange.specs.Sending.{AreWritable, StandsFor, GainsFirst};
 ghost use Rattle.rga_exchange.specs.Compacting.{compact_text};
 ghost use Rattle.rga_exchange.specs.RunLines.{runs_text};
-ghost use Rattle.rga_exchange.specs.Taking.{may_be_head, Stop, AtFault, progress, lines_taken, stream_taken, AreTaken};
+ghost use Rattle.rga_exchange.specs.Taking.{may_be_head, AtFault, Progress, progress, lines_taken, stream_taken, AreTaken};
 ghost use Rattle.rga_exchange.specs.Log.{log_outcome};
 ghost use Rattle.rga_exchange.specs.Receiving.{exchange_outcome};
 ghost use Rattle.rga_exchange.specs.Stops.{IsTakenUpTo, one_further, all_lines, HasNothingTorn};
@@ -99,10 +99,9 @@ pub fn what_is_sent_is_received()
 /// run that is refused; a fault has the number of that line. A rest of more than 65536 bytes counts
 /// as a line.
 pub fn streams_in_words()
-    ensures lines { (form : Form) (limit : ℕ) (c : Content) (lines : List (List ℕ))
-        (n : ℕ) (d : Content) (stop : Stop) → known_count c ≤ limit
-        → (lines_taken form limit 0 c lines ≡ progress n d stop)
-        ↔ IsTakenUpTo form limit c lines n d stop }
+    ensures lines { (form : Form) (limit : ℕ) (c : Content) (lines : List (List ℕ)) (t : Progress)
+        → known_count c ≤ limit
+        → (lines_taken form limit 0 c lines ≡ t) ↔ IsTakenUpTo form limit c lines t }
     ensures stream { (form : Form) (limit : ℕ) (c : Content) (bytes : List ℕ)
         → stream_taken form limit c bytes ≡ lines_taken form limit 0 c (all_lines bytes) }
 {}

@@ -2,6 +2,7 @@
 ghost use Rattle.std.specs.Prelude.{◌≡◌, ◌≢◌, ◌<◌, ◌^◌, [], ◌∷◌, Err, OnErr, IfOk, IfErr, MatchResult};
 ghost use Rattle.rga_devices.specs.Counting.{CountsAs};
 ghost use Rattle.rga_lines.specs.Log.{operations_of};
+ghost use Rattle.rga_exchange.specs.Taking.{intake};
 ghost use Rattle.rga_exchange.specs.Log.{TakesLog, log_end, rest_outcome, end_outcome};
 ghost use Rattle.rga_exchange.specs.declared.fault.LogFault.TheVariants.{Memory as NoMemory, Read as ReadFailed};
 
@@ -26,7 +27,7 @@ pub enum LogEnd {
 
 /// A log that was read to its end: the number of its whole lines, which all were taken, and what
 /// stands behind them.
-#[derive(Clone, Copy, Debug, PartialEq, Eq)]
+#[derive(Clone, Copy)]
 pub struct LogRead {
     pub lines: u64,
     pub end: LogEnd,
@@ -47,8 +48,8 @@ pub fn take_log<T: Taker, R: Read>(
     taker: &mut T,
     reader: &mut Counted<R>,
 ) -> Result<LogRead, LogFault>
-    ensures taken { TakesLog R.remaining T.limit T.content T.follows (λ outcome. outcome)
-        result reader.old reader.new taker.old taker.new }
+    ensures taken { TakesLog R.remaining reader.old reader.new
+        (intake T.limit T.content T.follows taker.old taker.new) (λ outcome. outcome) result }
     ensures device { CountsAs LogFault.Read result reader.old reader.new }
     ensures limit { T.limit taker.new ≡ T.limit taker.old }
     ensures bound { IfOk result (λ log. log.lines < 2 ^ 63) }
@@ -116,8 +117,8 @@ pub fn read_log<T: Taker, R: Read>(
     taker: &mut T,
     reader: &mut Counted<R>,
 ) -> Result<LogEnd, ReceiveFault>
-    ensures taken { TakesLog R.remaining T.limit T.content T.follows log_end
-        result reader.old reader.new taker.old taker.new }
+    ensures taken { TakesLog R.remaining reader.old reader.new
+        (intake T.limit T.content T.follows taker.old taker.new) log_end result }
     ensures never { (result ≢ Err ReceiveFault.Cut) × (result ≢ Err ReceiveFault.Count) }
     ensures device { CountsAs ReceiveFault.Read result reader.old reader.new }
     ensures limit { T.limit taker.new ≡ T.limit taker.old }

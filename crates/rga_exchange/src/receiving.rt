@@ -3,7 +3,7 @@ ghost use Rattle.std.specs.Prelude.{◌≡◌, ◌≢◌, length, Err, OnOk, IfO
 ghost use Rattle.rga_ops.specs.Prelude.{join, content_of};
 ghost use Rattle.rga_devices.specs.Counting.{CountsAs, OnBytes};
 ghost use Rattle.rga_lines.specs.Log.{stream_operations};
-ghost use Rattle.rga_exchange.specs.Taking.{HasTakenLines, HasTakenWholeLines};
+ghost use Rattle.rga_exchange.specs.Taking.{intake, HasTakenLines, HasTakenWholeLines};
 ghost use Rattle.rga_exchange.specs.Receiving.{exchange_outcome, EndsWithLastRead};
 ghost use Rattle.rga_exchange.specs.declared.taking.Form.TheVariants.{Exchange};
 
@@ -46,12 +46,12 @@ pub fn receive<T: Taker, R: Read>(
     ensures last_count { result ≡ Err ReceiveFault.Count
         → EndsWithLastRead Exchange R.remaining reader.old reader.new }
 
-    ensures whole_lines { result ≡ Err ReceiveFault.Read → HasTakenWholeLines Exchange
-        R.remaining T.limit T.content T.follows reader.old reader.new taker.old taker.new }
+    ensures whole_lines { result ≡ Err ReceiveFault.Read → HasTakenWholeLines Exchange R.remaining
+        reader.old reader.new (intake T.limit T.content T.follows taker.old taker.new) }
     // Whatever the answer, all lines that were whole before the last block were taken, the first
     // ones of those that end in it, and nothing else.
-    ensures lines { HasTakenLines Exchange R.remaining T.limit T.content T.follows
-        reader.old reader.new taker.old taker.new }
+    ensures lines { HasTakenLines Exchange R.remaining reader.old reader.new
+        (intake T.limit T.content T.follows taker.old taker.new) }
     ensures device { CountsAs ReceiveFault.Read result reader.old reader.new }
     ensures limit { T.limit taker.new ≡ T.limit taker.old }
 {

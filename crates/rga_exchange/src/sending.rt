@@ -1,9 +1,9 @@
 //! Operations sent: as lines, in blocks.
 ghost use Rattle.std.specs.Prelude.{◌≡◌, ℕ, ◌≤◌, ◌++◌, ◌∷◌, List, [], length, true, Ok, Err, IfOk, IfErr, OnOk};
-ghost use Rattle.rga_ops.specs.Prelude.{checked, operations, Content, Agree, IsSound, join, known_count, content_of};
+ghost use Rattle.rga_ops.specs.Prelude.{operations, Content, Agree, IsSound, join, known_count, content_of};
 ghost use Rattle.rga_ops.specs.ListAnswer.{AreWellFormed, IsJoinable};
 ghost use Rattle.rga_devices.specs.Counting.{CountsAs, Writes, WritesFront, WritesAllBut, WritesNothing};
-ghost use Rattle.rga_lines.specs.Spelling.{line as line_of, head_line, IsWritable};
+ghost use Rattle.rga_lines.specs.Spelling.{head_line};
 ghost use Rattle.rga_lines.specs.Stream.{newline, rest_of};
 ghost use Rattle.rga_exchange.specs.Sending.{log_text, exchange_text, stream_text, AreWritable, StandsFor};
 ghost use Rattle.rga_exchange.specs.Sending.{AppendsFirst, WritesFirst};
@@ -142,21 +142,9 @@ fn push_lines<W: Write>(
     ensures device { CountsAs SendFault.Write result writer.old writer.new }
 {
     for op in ops {
-        push_line(op, block, writer)?;
+        block.take_operation(op, writer)?;
     }
     Ok(())
-}
-
-/// Adds the line of an operation to the block, which is written before where it is full.
-fn push_line<W: Write>(op: &Op, block: &mut Block, writer: &mut Counted<W>) -> Result<(), SendFault>
-    ensures ok { OnOk result (WritesAllBut W.contents writer.old writer.new
-        (block.old ++ (line_of op.now ++ newline ∷ [])) block.new) }
-    ensures writable { OnOk result (checked op.now ≡ Ok tt → IsWritable op.now) }
-    ensures begun { WritesFront W.contents writer.old writer.new block.old }
-    ensures fault { IfErr result (λ e. e ≡ SendFault.Write) }
-    ensures device { CountsAs SendFault.Write result writer.old writer.new }
-{
-    block.take_operation(op, writer)
 }
 
 /// Writes the lines that are left, and flushes the device.

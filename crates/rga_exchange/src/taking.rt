@@ -1,5 +1,5 @@
 //! The lines of a stream, taken in turn into whatever takes operations.
-ghost use Rattle.std.specs.Prelude.{◌≡◌, ◌≢◌, ◌+◌, ◌*◌, ◌^◌, ◌<◌, ◌≤◌, ℕ, List, length, [], ◌∷◌, true, false, Ok, Err, Some, None, OnOk, IfOk, OnErr, IfErr, MatchResult};
+ghost use Rattle.std.specs.Prelude.{◌≡◌, ◌≢◌, ◌+◌, ◌*◌, ◌^◌, ◌<◌, ◌≤◌, ℕ, List, length, [], ◌∷◌, true, false, Ok, Err, Some, None, OnOk, IfOk, OnErr, IfErr, IfSome, MatchResult};
 ghost use Rattle.rga_ops.specs.Prelude.{taken};
 ghost use Rattle.rga_devices.specs.Counting.{CountsAs, OnBytes};
 ghost use Rattle.rga_lines.specs.Log.{operations_of};
@@ -9,8 +9,9 @@ ghost use Rattle.rga_lines.specs.Stream.{lines_of};
 ghost use Rattle.rga_lines.specs.declared.reading.TheConstants.{MAX_LINE};
 ghost use Rattle.rga_lines.specs.declared.fault.LineFault.TheVariants.{Kind};
 ghost use Rattle.rga_exchange.specs.Taking.{AtEnd, AtFault, may_be_head, refused_at, taken_whole};
-ghost use Rattle.rga_exchange.specs.Taking.{HasTakenLines, HasTakenWholeLines};
-ghost use Rattle.rga_exchange.specs.Parts.{line_outcome, TakesUpTo, StopsAs, LeadsTo, EndsAs, LeavesRest, StopsReading};
+ghost use Rattle.rga_exchange.specs.Taking.{intake, HasTakenLines, HasTakenWholeLines};
+ghost use Rattle.rga_exchange.specs.Parts.{stage, left_at, line_outcome, TakesUpTo, StopsAs};
+ghost use Rattle.rga_exchange.specs.Parts.{LeadsTo, EndsAs, HasTakenAllBut, StopsReading};
 ghost use Rattle.rga_exchange.specs.declared.fault.LogFault.TheVariants.{Memory, Read as ReadFailed, Line as FaultyLine};
 
 use crate::block::BLOCK;
@@ -56,21 +57,22 @@ pub(crate) fn take_stream<T: Taker, R: Read>(
     reader: &mut Counted<R>,
 ) -> Result<Stream, LogFault>
     // However the reads cut the bytes, they lead to what all of them lead to.
-    ensures end { IfOk result (λ s. OnBytes R.remaining reader.old
-        (λ bytes. EndsAs form T.limit T.content taker.old taker.new bytes s.lines s.operations
-        s.end)) }
-    ensures fault { IfErr result (λ e. e ≢ ReadFailed → e ≢ Memory → OnBytes R.remaining reader.old
-        (λ bytes. (n : ℕ) × LeadsTo form T.limit T.content taker.old taker.new bytes n
-        (AtFault e))) }
+    ensures end { let took = intake T.limit T.content T.follows taker.old taker.new in
+        IfOk result (λ s. OnBytes R.remaining reader.old
+        (λ bytes. EndsAs form took bytes s.lines s.operations s.end)) }
+    ensures fault { let took = intake T.limit T.content T.follows taker.old taker.new in
+        IfErr result (λ e. e ≢ ReadFailed → e ≢ Memory → OnBytes R.remaining reader.old
+        (λ bytes. (n : ℕ) × LeadsTo form took bytes n (AtFault e))) }
 
     // Whatever the answer, all lines that were whole before the last block were taken, the first
     // ones of those that end in it, and nothing else.
-    ensures lines { HasTakenLines form R.remaining T.limit T.content T.follows
-        reader.old reader.new taker.old taker.new }
-    ensures whole_lines { IfErr result (λ e. e ≡ ReadFailed → HasTakenWholeLines form
-        R.remaining T.limit T.content T.follows reader.old reader.new taker.old taker.new) }
-    ensures rest { IfOk result (λ s. LeavesRest form R.remaining T.limit T.content T.follows
-        reader.old reader.new taker.old taker.new s.lines s.end) }
+    ensures lines { HasTakenLines form R.remaining reader.old reader.new
+        (intake T.limit T.content T.follows taker.old taker.new) }
+    ensures whole_lines { IfErr result (λ e. e ≡ ReadFailed → HasTakenWholeLines form R.remaining
+        reader.old reader.new (intake T.limit T.content T.follows taker.old taker.new)) }
+    ensures rest { let took = intake T.limit T.content T.follows taker.old taker.new in
+        IfOk result (λ s. IfSome (left_at s.end) (λ rest. HasTakenAllBut form R.remaining
+        reader.old reader.new took (stage s.lines s.operations rest))) }
     ensures last { IfOk result (λ s. StopsReading form R.remaining reader.old reader.new s.end) }
     ensures device { CountsAs ReadFailed result reader.old reader.new }
     ensures limit { T.limit taker.new ≡ T.limit taker.old }
@@ -126,17 +128,21 @@ fn take_lines<T: Taker>(
     requires few { operations.old ≤ MAX_RUN * lines.old }
     requires whole { splitter.old.broken ≡ false }
     requires room { lines.old + length splitter.old.waiting < 2 ^ 63 }
-    ensures taken { (waiting : List ℕ) × TakesUpTo form T.limit T.content T.follows
-        taker.old taker.new lines.old lines.new operations.old operations.new
-        splitter.old.waiting waiting }
-    ensures all { result ≡ Ok None → TakesUpTo form T.limit T.content T.follows taker.old taker.new
-        lines.old lines.new operations.old operations.new
-        splitter.old.waiting splitter.new.waiting }
+    ensures taken { let took = intake T.limit T.content T.follows taker.old taker.new in
+        (waiting : List ℕ) × TakesUpTo form took
+        (stage lines.old operations.old splitter.old.waiting)
+        (stage lines.new operations.new waiting) }
+    ensures all { let took = intake T.limit T.content T.follows taker.old taker.new in
+        result ≡ Ok None → TakesUpTo form took
+        (stage lines.old operations.old splitter.old.waiting)
+        (stage lines.new operations.new splitter.new.waiting) }
     ensures few { operations.new ≤ MAX_RUN * lines.new }
-    ensures end { (number : ℕ) → result ≡ Ok (Some number) → StopsAs form T.limit T.content
-        taker.old taker.new lines.old lines.new splitter.old.waiting (AtEnd number) }
-    ensures fault { IfErr result (λ e. e ≢ Memory → StopsAs form T.limit T.content
-        taker.old taker.new lines.old lines.new splitter.old.waiting (AtFault e)) }
+    ensures end { let took = intake T.limit T.content T.follows taker.old taker.new in
+        (number : ℕ) → result ≡ Ok (Some number) → StopsAs form took
+        (stage lines.old operations.old splitter.old.waiting) lines.new (AtEnd number) }
+    ensures fault { let took = intake T.limit T.content T.follows taker.old taker.new in
+        IfErr result (λ e. e ≢ Memory → StopsAs form took
+        (stage lines.old operations.old splitter.old.waiting) lines.new (AtFault e)) }
     ensures device { IfErr result (λ e. e ≢ ReadFailed) }
 
     ensures none_left { result ≡ Ok None → (lines_of splitter.new.waiting ≡ [])

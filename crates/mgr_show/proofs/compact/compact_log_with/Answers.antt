@@ -28,4 +28,4 @@ returns-in_err-take_whole_log-clause-whole_lines g c =
     λ read.
     let answered : failed p.0 ≡ failed Read = sym p.1 ∙ read in
     let is : p.0 ≡ Read = cc in
-    whole_from _ _ _ _ _ _ _ _ made.1 made.0 (c.in_err-take_whole_log.ensures.whole_lines (sym p.2 ∙ is))
+    whole_from made.1 made.0 (c.in_err-take_whole_log.ensures.whole_lines (sym p.2 ∙ is))

@@ -12,4 +12,4 @@ pub returns-in_err-take_whole_log-clause-whole_lines : goal.returns-in_err-take_
 returns-in_err-take_whole_log-clause-whole_lines g c =
     let made = c.in-Ok.ensures.made refl in
     let p = err_from_is_err_and c.from_residual.result c.from_residual.ensures.1 in
-    at_err _ c.from_residual.result p.0 p.1 (λ is. whole_from _ _ _ _ _ _ _ _ made.1 made.0 (c.in_err-take_whole_log.ensures.whole_lines (sym p.2 ∙ is)))
+    at_err _ c.from_residual.result p.0 p.1 (λ is. whole_from made.1 made.0 (c.in_err-take_whole_log.ensures.whole_lines (sym p.2 ∙ is)))

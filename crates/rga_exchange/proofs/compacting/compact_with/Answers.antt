@@ -1,7 +1,7 @@
 use Rattle.std.proofs.Common.{◌∙◌, subst}
 use Rattle.rga_ops.specs.Operations.{operations}
 use Rattle.rga_exchange.specs.Sending.{AreWritable}
-use Rattle.rga_exchange.proofs.BegunLemmas.{begun_left}
+use Rattle.rga_exchange.proofs.BegunLemmas.{begun_left, begun_whole}
 use Rattle.rga_exchange.proofs.CompactLaws.{compact_stands}
 use Rattle.rga_exchange.proofs.LogTextLemmas.{log_begun}
 use Rattle.rga_exchange.proofs.compacting.compact_with.Goals as goal
@@ -23,3 +23,7 @@ returns-clause-ended g c = (compact_stands (g.S.Taker.content c.args.store.now) 
 pub returns-clause-begun : goal.returns-clause-begun
 returns-clause-begun g c =
     begun_left _ _ _ _ _ _ (log_begun _ _ _ _ _ _ c.in_ok-block.ensures c.in_ok-lines.ensures.ok) c.in_ok-finish.ensures.begun
+
+pub returns-clause-written : goal.returns-clause-written
+returns-clause-written g c =
+    begun_whole _ c.args.writer.now c.push_compacted.new.writer c.finish.new.writer _ _ (log_begun _ _ _ _ _ _ c.in_ok-block.ensures c.in_ok-lines.ensures.ok) c.in_ok-finish.ensures.ok

@@ -16,7 +16,7 @@ returns-in_ok-end-in-Input-clause-taken g c =
       joined = log_ends_joined _ _ _ _ _ _ _ _ _ c.in_ok-lines.ensures.limit all rest;
       whole_lines = λ e. absurd cc;
       lines = tt;
-      log = whole_log _ _ _ _ g.T.Taker.follows_on _ _ _ _ _ _ _ _ c.in_ok-lines.ensures.limit (rw c.in-Input.is at c.in_ok-lines.ensures.rest) rest (rw c.deref.ensures.value at c.in_ok-end-in-Input.ensures.follows);
+      log = whole_log c.in_ok-end-in-Input.end c.in_ok-lines.ensures.limit (g.T.Taker.follows_on c.args.taker.now c.take_stream.new.taker c.take_rest.new.taker) (rw c.in-Input.is at c.in_ok-lines.ensures.rest) rest (rw c.deref.ensures.value at c.in_ok-end-in-Input.ensures.follows);
     }
 
 abbrev failed : LogFault → Result LogRead LogFault
@@ -32,6 +32,6 @@ returns-in_err-end-in-Input-clause-taken g c =
       outcome = λ read memory. log_ends_outcome _ _ _ _ _ _ _ _ (failed e) c.in_ok-lines.ensures.limit all (rw c.deref.ensures.value at (rest.fault (λ is. memory (ap failed is))));
       joined = tt;
       whole_lines = λ told. let same : failed e ≡ failed Read = told in let is : e ≡ Read = cc in absurd (rest.device is);
-      lines = same_lines _ _ _ _ _ g.T.Taker.follows_on c.args.reader.now c.take_stream.new.reader c.args.taker.now c.take_stream.new.taker c.take_rest.new.taker rest.same rest.follows c.in_ok-lines.ensures.lines;
+      lines = same_lines rest.same (g.T.Taker.follows_on c.args.taker.now c.take_stream.new.taker c.take_rest.new.taker) rest.follows c.in_ok-lines.ensures.lines;
       log = tt;
     })

@@ -5,8 +5,11 @@ use Rattle.rga_lines.specs.Log.{then_operations, operations_of}
 use Rattle.rga_lines.proofs.StandLemmas.{nothing_stands}
 use Rattle.std.proofs.lemmas.Result.{err_from_is_err_and}
 use Rattle.rga_ops.specs.Answer.{taken}
-use Rattle.rga_lines.specs.declared.reading.Line.TheVariants.{One}
+use Rattle.rga_lines.specs.declared.reading.Line.TheVariants.{One, Run, Deletions}
 use Rattle.rga_lines.proofs.ReadingLemmas.{any_run, any_deletions}
+use Rattle.rga_lines.specs.Runs.{stretch_operations, run_deletions}
+use Rattle.rga_exchange.specs.Taking.{taken_whole}
+use Rattle.rga_exchange.specs.Log.{after_bare_operation}
 use Rattle.rga_exchange.proofs.TakingLaws.{one_alone, run_alone, deletions_alone, head_alone, last_alone, none_alone}
 use Rattle.rga_exchange.proofs.OperationLaws.{rest_says, bare_refused}
 use Rattle.rga_exchange.proofs.log.take_rest.Goals as goal
@@ -63,3 +66,56 @@ pub returns-in-Err-clause-follows : goal.returns-in-Err-clause-follows
 returns-in-Err-clause-follows g c =
     let says = sym (c.in-Err.ensures.exact (search rules)) in
     subst (λ ops. g.T.Taker.follows c.args.taker.now ops c.args.taker.now) (sym (none_alone c.args.rest.now c.in-Err.field-0 says)) (g.T.Taker.follows_nothing c.args.taker.now)
+
+pub returns-in_ok-take-in-Ok-One-clause-end : goal.returns-in_ok-take-in-Ok-One-clause-end
+returns-in_ok-take-in-Ok-One-clause-end g c =
+    let says = sym (c.in-Ok-One.ensures.exact (λ e. absurd cc)) ∙ ap Ok c.in-Ok-One.field-0-is in
+    rest_says (g.T.Taker.limit c.args.taker.now) c.args.lines (g.T.Taker.content c.args.taker.now) c.args.rest.now (Ok (One c.in-Ok-One.op)) (eqb-false (length c.args.rest.now) 0 (sym c.if-is_empty.ensures)) says
+    ∙ ap (after_bare_operation c.args.lines (g.T.Taker.content c.args.taker.now)) c.in_ok-take-in-Ok-One.ensures.ok
+
+pub returns-in_ok-take_run-in-Ok-Run-clause-end : goal.returns-in_ok-take_run-in-Ok-Run-clause-end
+returns-in_ok-take_run-in-Ok-Run-clause-end g c =
+    let says = sym (c.in-Ok-Run.ensures.exact (λ e. absurd cc)) ∙ ap Ok c.in-Ok-Run.field-0-is in
+    rest_says (g.T.Taker.limit c.args.taker.now) c.args.lines (g.T.Taker.content c.args.taker.now) c.args.rest.now (Ok (Run c.in-Ok-Run.run')) (eqb-false (length c.args.rest.now) 0 (sym c.if-is_empty.ensures)) says
+    ∙ ap (after_bare_operation c.args.lines (g.T.Taker.content c.args.taker.now)) c.in_ok-take_run-in-Ok-Run.ensures.ok
+
+pub returns-in_ok-take_deletions-in-Ok-Deletions-clause-end : goal.returns-in_ok-take_deletions-in-Ok-Deletions-clause-end
+returns-in_ok-take_deletions-in-Ok-Deletions-clause-end g c =
+    let says = sym (c.in-Ok-Deletions.ensures.exact (λ e. absurd cc)) ∙ ap Ok c.in-Ok-Deletions.field-0-is in
+    rest_says (g.T.Taker.limit c.args.taker.now) c.args.lines (g.T.Taker.content c.args.taker.now) c.args.rest.now (Ok (Deletions c.in-Ok-Deletions.run')) (eqb-false (length c.args.rest.now) 0 (sym c.if-is_empty.ensures)) says
+    ∙ ap (after_bare_operation c.args.lines (g.T.Taker.content c.args.taker.now)) c.in_ok-take_deletions-in-Ok-Deletions.ensures.ok
+
+pub returns-in_err-take_run-in-Ok-Run-clause-fault : goal.returns-in_err-take_run-in-Ok-Run-clause-fault
+returns-in_err-take_run-in-Ok-Run-clause-fault g c =
+    let p = err_from_is_err_and c.from_residual-in_err-take_run-in-Ok-Run.result c.from_residual-in_err-take_run-in-Ok-Run.ensures.1 in
+    let says = sym (c.in-Ok-Run.ensures.exact (λ e. absurd cc)) ∙ ap Ok c.in-Ok-Run.field-0-is in
+    let held = g.T.Taker.content c.args.taker.now in
+    let failed = c.in_err-take_run-in-Ok-Run.ensures in
+    rw (p.1, p.2) (λ not_memory.
+    rest_says (g.T.Taker.limit c.args.taker.now) c.args.lines held c.args.rest.now (Ok (Run c.in-Ok-Run.run')) (eqb-false (length c.args.rest.now) 0 (sym c.if-is_empty.ensures)) says
+    ∙ bare_refused c.args.lines held (g.T.Taker.content c.take_run.new.taker) (taken_whole (g.T.Taker.limit c.args.taker.now) held (stretch_operations c.in-Ok-Run.run')) c.in_err-take_run-in-Ok-Run.field-0.0 (failed.fault not_memory) failed.same)
+
+pub returns-in_err-take_deletions-in-Ok-Deletions-clause-fault : goal.returns-in_err-take_deletions-in-Ok-Deletions-clause-fault
+returns-in_err-take_deletions-in-Ok-Deletions-clause-fault g c =
+    let p = err_from_is_err_and c.from_residual-in_err-take_deletions-in-Ok-Deletions.result c.from_residual-in_err-take_deletions-in-Ok-Deletions.ensures.1 in
+    let says = sym (c.in-Ok-Deletions.ensures.exact (λ e. absurd cc)) ∙ ap Ok c.in-Ok-Deletions.field-0-is in
+    let held = g.T.Taker.content c.args.taker.now in
+    let failed = c.in_err-take_deletions-in-Ok-Deletions.ensures in
+    rw (p.1, p.2) (λ not_memory.
+    rest_says (g.T.Taker.limit c.args.taker.now) c.args.lines held c.args.rest.now (Ok (Deletions c.in-Ok-Deletions.run')) (eqb-false (length c.args.rest.now) 0 (sym c.if-is_empty.ensures)) says
+    ∙ bare_refused c.args.lines held (g.T.Taker.content c.take_deletions.new.taker) (taken_whole (g.T.Taker.limit c.args.taker.now) held (run_deletions c.in-Ok-Deletions.run')) c.in_err-take_deletions-in-Ok-Deletions.field-0.0 (failed.fault not_memory) failed.same)
+
+pub returns-in-Ok-Head-clause-end : goal.returns-in-Ok-Head-clause-end
+returns-in-Ok-Head-clause-end g c =
+    let says = sym (c.in-Ok-Head.ensures.exact (λ e. absurd cc)) ∙ ap Ok c.in-Ok-Head.field-0-is in
+    rest_says (g.T.Taker.limit c.args.taker.now) c.args.lines (g.T.Taker.content c.args.taker.now) c.args.rest.now _ (eqb-false (length c.args.rest.now) 0 (sym c.if-is_empty.ensures)) says
+
+pub returns-in-Ok-Last-clause-end : goal.returns-in-Ok-Last-clause-end
+returns-in-Ok-Last-clause-end g c =
+    let says = sym (c.in-Ok-Last.ensures.exact (λ e. absurd cc)) ∙ ap Ok c.in-Ok-Last.field-0-is in
+    rest_says (g.T.Taker.limit c.args.taker.now) c.args.lines (g.T.Taker.content c.args.taker.now) c.args.rest.now _ (eqb-false (length c.args.rest.now) 0 (sym c.if-is_empty.ensures)) says
+
+pub returns-in-Err-clause-end : goal.returns-in-Err-clause-end
+returns-in-Err-clause-end g c =
+    let says = sym (c.in-Err.ensures.exact (search rules)) in
+    rest_says (g.T.Taker.limit c.args.taker.now) c.args.lines (g.T.Taker.content c.args.taker.now) c.args.rest.now _ (eqb-false (length c.args.rest.now) 0 (sym c.if-is_empty.ensures)) says

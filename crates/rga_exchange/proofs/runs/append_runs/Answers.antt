@@ -1,5 +1,5 @@
 use Rattle.rga_devices.proofs.WrittenLemmas.{front_none}
-use Rattle.rga_exchange.proofs.BegunLemmas.{begun_left}
+use Rattle.rga_exchange.proofs.BegunLemmas.{begun_left, begun_whole}
 use Rattle.rga_exchange.proofs.LogTextLemmas.{log_begun}
 use Rattle.rga_exchange.proofs.RunLineLaws.{runs_appended, runs_gained, runs_front}
 use Rattle.rga_exchange.proofs.runs.append_runs.Goals as goal
@@ -31,3 +31,7 @@ pub returns-clause-gained : goal.returns-clause-gained
 returns-clause-gained g c =
     runs_gained _ _ _ c.args.ops.now c.may_be_written.ensures (
     begun_left _ _ _ _ _ _ (log_begun _ _ _ _ _ _ c.in_ok-block.ensures c.in_ok-push_runs.ensures.ok) c.in_ok-finish.ensures.begun)
+
+pub returns-clause-written : goal.returns-clause-written
+returns-clause-written g c =
+    begun_whole _ c.args.writer.now c.push_runs.new.writer c.finish.new.writer _ _ (log_begun _ _ _ _ _ _ c.in_ok-block.ensures c.in_ok-push_runs.ensures.ok) c.in_ok-finish.ensures.ok

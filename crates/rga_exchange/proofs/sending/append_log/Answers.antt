@@ -1,5 +1,5 @@
 use Rattle.std.proofs.Common.{[], refl}
-use Rattle.rga_exchange.proofs.BegunLemmas.{begun_left}
+use Rattle.rga_exchange.proofs.BegunLemmas.{begun_left, begun_whole}
 use Rattle.rga_exchange.proofs.FirstLinesLemmas.{first_none, first_all, appends_first}
 use Rattle.rga_exchange.proofs.LogTextLemmas.{log_begun}
 use Rattle.rga_exchange.proofs.AppendedLaws.{stands_appended}
@@ -30,3 +30,7 @@ returns-in_err-finish-clause-gained g c = appends_first _ _ _ _ _ c.in_ok-block.
 pub returns-clause-gained : goal.returns-clause-gained
 returns-clause-gained g c = appends_first _ _ _ _ _ c.in_ok-block.ensures (
     first_all _ _ _ _ _ _ c.args.ops.now c.in_ok-push_lines.ensures.writable c.in_ok-push_lines.ensures.ok c.in_ok-finish.ensures.begun)
+
+pub returns-clause-written : goal.returns-clause-written
+returns-clause-written g c =
+    begun_whole _ c.args.writer.now c.push_lines.new.writer c.finish.new.writer _ _ (log_begun _ _ _ _ _ _ c.in_ok-block.ensures c.in_ok-push_lines.ensures.ok) c.in_ok-finish.ensures.ok

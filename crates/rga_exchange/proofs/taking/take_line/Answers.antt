@@ -3,6 +3,7 @@ use Rattle.rga_ops.specs.declared.op.Op.{Op}
 use Rattle.rga_lines.proofs.ReadingLemmas.{any_run, any_deletions}
 use Rattle.rga_lines.proofs.RunLemmas.{run_operations-length}
 use Rattle.rga_lines.proofs.DeletionLemmas.{deletions_from-length}
+use Rattle.rga_exchange.specs.Taking.{refused_at, after_line}
 use Rattle.rga_exchange.proofs.TakingLaws.{one_alone, run_alone, deletions_alone, head_alone}
 use Rattle.rga_exchange.proofs.taking.take_line.Goals as goal
 
@@ -67,3 +68,18 @@ pub returns-in_ok-pass_head-in-Ok-Head-clause-count : goal.returns-in_ok-pass_he
 returns-in_ok-pass_head-in-Ok-Head-clause-count g c = λ _.
     let says = sym (c.in-Ok-Head.ensures.exact (λ e. absurd cc)) ∙ ap Ok c.in-Ok-Head.field-0-is in
     omega (arith, ap (λ (ops : List Op). length ops) (head_alone c.args.line.now says))
+
+pub returns-in_ok-take-in-Ok-One-clause-operation : goal.returns-in_ok-take-in-Ok-One-clause-operation
+returns-in_ok-take-in-Ok-One-clause-operation g c = λ _.
+    let says = sym (c.in-Ok-One.ensures.exact (λ e. absurd cc)) ∙ ap Ok c.in-Ok-One.field-0-is in
+    ap (after_line c.args.form (g.T.Taker.limit c.args.taker.now) c.args.number (g.T.Taker.content c.args.taker.now)) says ∙ ap (refused_at c.args.number) c.in_ok-take-in-Ok-One.ensures.ok
+
+pub returns-in_ok-count-in-Ok-Run-clause-operation : goal.returns-in_ok-count-in-Ok-Run-clause-operation
+returns-in_ok-count-in-Ok-Run-clause-operation g c = λ _.
+    let says = sym (c.in-Ok-Run.ensures.exact (λ e. absurd cc)) ∙ ap Ok c.in-Ok-Run.field-0-is in
+    ap (after_line c.args.form (g.T.Taker.limit c.args.taker.now) c.args.number (g.T.Taker.content c.args.taker.now)) says ∙ ap (refused_at c.args.number) c.in_ok-count-in-Ok-Run.ensures.ok
+
+pub returns-in_ok-deleted-in-Ok-Deletions-clause-operation : goal.returns-in_ok-deleted-in-Ok-Deletions-clause-operation
+returns-in_ok-deleted-in-Ok-Deletions-clause-operation g c = λ _.
+    let says = sym (c.in-Ok-Deletions.ensures.exact (λ e. absurd cc)) ∙ ap Ok c.in-Ok-Deletions.field-0-is in
+    ap (after_line c.args.form (g.T.Taker.limit c.args.taker.now) c.args.number (g.T.Taker.content c.args.taker.now)) says ∙ ap (refused_at c.args.number) c.in_ok-deleted-in-Ok-Deletions.ensures.ok

@@ -1,6 +1,7 @@
 use Rattle.std.proofs.Common.{◌≡◌, ◌+◌, ◌*◌, ◌≤◌, length, false}
 use Rattle.rga_lines.specs.declared.run.TheConstants.{MAX_RUN}
-use Rattle.rga_exchange.specs.Parts.{TakesUpTo}
+use Rattle.rga_exchange.specs.Taking.{intake}
+use Rattle.rga_exchange.specs.Parts.{stage, TakesUpTo}
 use Rattle.rga_exchange.proofs.taking.take_lines.Given as goal
 
 abbrev pub invariant-lines : goal.invariant-lines
@@ -9,7 +10,7 @@ invariant-lines g l = record {
   room : l.lines + length l.splitter.waiting ≤ l.fn.lines + length l.fn.splitter.waiting;
   limit : g.T.Taker.limit l.taker ≡ g.T.Taker.limit l.fn.taker;
   few : l.operations ≤ MAX_RUN * l.lines;
-  up_to : TakesUpTo l.fn.form g.T.Taker.limit g.T.Taker.content g.T.Taker.follows l.fn.taker l.taker l.fn.lines l.lines l.fn.operations l.operations l.fn.splitter.waiting l.splitter.waiting;
+  up_to : TakesUpTo l.fn.form (intake g.T.Taker.limit g.T.Taker.content g.T.Taker.follows l.fn.taker l.taker) (stage l.fn.lines l.fn.operations l.fn.splitter.waiting) (stage l.lines l.operations l.splitter.waiting);
 }
 
 abbrev pub decreases-lines : goal.decreases-lines

@@ -2,7 +2,8 @@ use Rattle.std.proofs.Common.{◌≡◌, ◌+◌, ◌*◌, ◌≤◌, min, lengt
 use Rattle.rga_lines.specs.declared.run.TheConstants.{MAX_RUN}
 use Rattle.rga_devices.specs.declared.counted.TheConstants.{MAX_CALLS}
 use Rattle.rga_exchange.specs.declared.block.TheConstants.{BLOCK}
-use Rattle.rga_exchange.specs.Parts.{HasTakenOfRead}
+use Rattle.rga_exchange.specs.Taking.{intake}
+use Rattle.rga_exchange.specs.Parts.{stage, HasTakenOfRead}
 use Rattle.rga_exchange.proofs.taking.take_stream.Given as goal
 
 abbrev pub invariant-reads : goal.invariant-reads
@@ -11,7 +12,7 @@ invariant-reads g l = record {
   room : l.lines + length l.splitter.waiting + BLOCK * min l.reader.left MAX_CALLS ≤ BLOCK * MAX_CALLS;
   limit : g.T.Taker.limit l.taker ≡ g.T.Taker.limit l.fn.taker;
   same_failures : l.reader.failures ≡ l.fn.reader.failures;
-  read : HasTakenOfRead l.fn.form g.R.Read.remaining g.T.Taker.limit g.T.Taker.content g.T.Taker.follows l.fn.reader l.reader l.fn.taker l.taker l.lines l.operations l.splitter.waiting;
+  read : HasTakenOfRead l.fn.form g.R.Read.remaining l.fn.reader l.reader (intake g.T.Taker.limit g.T.Taker.content g.T.Taker.follows l.fn.taker l.taker) (stage l.lines l.operations l.splitter.waiting);
   few : l.operations ≤ MAX_RUN * l.lines;
 }
 

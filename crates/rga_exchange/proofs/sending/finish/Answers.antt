@@ -1,0 +1,10 @@
+use Rattle.rga_devices.proofs.WrittenLemmas.{Appends-kept, front_whole}
+use Rattle.rga_exchange.proofs.sending.finish.Goals as goal
+
+pub returns-clause-ok : goal.returns-clause-ok
+returns-clause-ok g c =
+    Appends-kept (g.W.Write.contents c.args.writer.now.inner) (g.W.Write.contents c.write_to.new.writer.inner) (g.W.Write.contents c.flush.new.self.inner) c.args.rest c.in_ok-write_to.ensures.written c.in-Ok.ensures.bytes
+
+pub returns-clause-begun : goal.returns-clause-begun
+returns-clause-begun g c =
+    front_whole _ _ _ _ (Appends-kept (g.W.Write.contents c.args.writer.now.inner) (g.W.Write.contents c.write_to.new.writer.inner) (g.W.Write.contents c.flush.new.self.inner) c.args.rest c.in_ok-write_to.ensures.written c.in-Ok.ensures.bytes)
