@@ -1,70 +1,40 @@
 -- Groups: which one an undo takes, that each can be reverted, and that point keeps a place over an undo.
-use Rattle.std.proofs.Common.{◌≡◌, ℕ, zero, suc, ◌-◌, ◌<◌, ◌≤◌, true, false, cond, ◌&&◌, is_some, List, [], ◌∷◌, filter, get_or, length, refl, sym, ap, ◌∙◌, arith}
-use Rattle.std.specs.Prelude.{Option, Some, None, Ok}
-use Rattle.std.specs.Option.{option_map, option_map_or}
-use Rattle.std.specs.List.{slice_get, list_all}
+use Rattle.std.proofs.Common.{◌≡◌, ℕ, zero, suc, true, ◌&&◌, is_some, List, [], ◌∷◌, length, refl, sym, ap, ◌∙◌, true≢false, Option, Some, None, Ok, option_map, slice_get}
 use Rattle.std.proofs.lemmas.Bool.{and_parts}
-use Rattle.std.proofs.lemmas.Option.{slice_get_past, slice_get-get_or, same_Some}
+use Rattle.std.proofs.lemmas.Option.{get_or_from_slice_get, same_Some}
 use Rattle.std.proofs.lemmas.List.Folds.{list_all-append}
-use Rattle.rga_ops.specs.Identifier.{Identifier, is_root}
-use Rattle.rga_ops.specs.Content.{Content, join, content_of}
-use Rattle.rga_ops.specs.Order.{order}
-use Rattle.rga_ops.specs.Places.{is_visible, up_to, place}
-use Rattle.rga_ops.specs.RootPath.{is_complete}
-use Rattle.rga_ops.specs.Splice.{Splice}
-use Rattle.rga_ops.specs.declared.op.Op.{Op}
-use Rattle.rga_doc.specs.LocalEdit.{edit_answer, splices_operations, splices_answer}
-use Rattle.rga_doc.specs.Revert.{revert_operations, revert_answer, are_restorable}
-use Rattle.rga_doc.specs.UndoGroup.{inserted_elements, deleted_elements, element_characters}
+use Rattle.rga_ops.proofs.VisibleLaws.{no_place}
 use Rattle.rga_doc.proofs.PlaceLaws.{stands_still}
 use Rattle.rga_doc.proofs.RevertedLaws.{reverted_complete, reverted_restorable}
 use Rattle.rga_doc.proofs.UndoApart.{edit_restorable}
-use Rattle.mg_buffer.specs.declared.marker.Marker.{Marker}
-use Rattle.mg_buffer.specs.Groups.{Past, past_of, with_group, are_revertible, last_group, stand_in, all_substituted, first_of, last_of, point_after}
-use Rattle.mg_buffer.specs.Kept.{stands}
+use Rattle.mg_buffer.proofs.Prelude.{option_map_or, list_all, Identifier, Content, join, content_of, place, is_complete, Splice, Op, edit_answer, splices_operations, splices_answer, revert_operations, revert_answer, are_restorable, inserted_elements, deleted_elements, element_characters, Marker, Past, past_at, past_of, with_group, are_revertible, last_group, stand_in, all_substituted, first_of, last_of, point_after, stands}
 use Rattle.mg_buffer.proofs.RestorableLaws.{restorable_still, gone_restorable, substituted_restorable}
 
 -- ---- the group that an undo takes
 
--- a group that was found by its index
-pub record IsTaken (groups : List Past) (n i : ℕ) : Type 0 where
-  pub group : Past
-  pub taken : last_group groups n ≡ Some (i, group)
-  pub there : slice_get groups i ≡ Some group
-
-pub taken_at : (groups : List Past) (n i : ℕ) → option_map (λ (p : ℕ × Past). p.0) (last_group groups n) ≡ Some i → IsTaken groups n i
+pub taken_at : (groups : List Past) (n i : ℕ) → option_map (λ (p : ℕ × Past). p.0) (last_group groups n) ≡ Some i → last_group groups n ≡ Some (i, past_at groups i)
 taken_at groups zero i h = let clash : None ≡ Some i = h in cc
 taken_at groups (suc k) i h = by (slice_get groups k) refl h
   where
-    by : (o : Option Past) → slice_get groups k ≡ o → option_map (λ (p : ℕ × Past). p.0) (option_map (λ (g : Past). (k, g)) o) ≡ Some i → IsTaken groups (suc k) i
+    by : (o : Option Past) → slice_get groups k ≡ o → option_map (λ (p : ℕ × Past). p.0) (option_map (λ (g : Past). (k, g)) o) ≡ Some i → last_group groups (suc k) ≡ Some (i, past_at groups i)
     by None e h = let clash : None ≡ Some i = h in cc
     by (Some g) e h =
         let same : k ≡ i = same_Some k i h in
-        record {
-          group = g;
-          taken = ap (option_map (λ (g : Past). (k, g))) e ∙ ap (λ j. Some (j, g)) same;
-          there = ap (slice_get groups) (sym same) ∙ e;
-        }
-
-pub none_first : (groups : List Past) (n : ℕ) → n ≡ 0 → None ≡ option_map (λ (p : ℕ × Past). p.0) (last_group groups n)
-none_first groups n zero_is = ap (λ m. option_map (λ (p : ℕ × Past). p.0) (last_group groups m)) (sym zero_is)
-
--- the group at an index is the one that is read there
-pub group_is : {A : Type 0} (groups : List A) (i : ℕ) (x g : A) → x ≡ get_or groups i x → i < length groups → slice_get groups i ≡ Some g → g ≡ x
-group_is groups i x g is within at = same_Some g (get_or groups i x) (sym at ∙ slice_get-get_or groups i x within) ∙ sym is
+        ap (option_map (λ (g : Past). (k, g))) e ∙ (λ j. Some (same j, (sym (get_or_from_slice_get groups k g _ e) ∙ ap (past_at groups) same) j))
 
 -- ---- every group can be reverted
 
-pub revertible_at : (c : Content) (groups : List Past) (i : ℕ) (g : Past) → are_revertible c groups ≡ true → slice_get groups i ≡ Some g → are_restorable c g.deleted ≡ true
-revertible_at c [] i g h at = let clash : None ≡ Some g = at in cc
-revertible_at c (x ∷ groups) zero g h at =
-    ap (λ (y : Past). are_restorable c y.deleted) (sym (same_Some x g at)) ∙ (and_parts (are_restorable c x.deleted) (are_revertible c groups) h).0
-revertible_at c (x ∷ groups) (suc i) g h at = revertible_at c groups i g (and_parts (are_restorable c x.deleted) (are_revertible c groups) h).1 at
+pub past_restorable : (c : Content) (groups : List Past) (i : ℕ) → are_revertible c groups ≡ true → are_restorable c (past_at groups i).deleted ≡ true
+past_restorable c [] i h = refl
+past_restorable c (x ∷ groups) zero h = (and_parts (are_restorable c x.deleted) (are_revertible c groups) h).0
+past_restorable c (x ∷ groups) (suc i) h = past_restorable c groups i (and_parts (are_restorable c x.deleted) (are_revertible c groups) h).1
 
 -- a group that can be reverted is refused for its room and its counters alone
 pub revert_answer_is : (limit : ℕ) (c : Content) (groups : List Past) (i : ℕ) (g : Past) (back : List (Identifier × ℕ)) → are_revertible c groups ≡ true → slice_get groups i ≡ Some g → back ≡ g.deleted → revert_answer limit c back ≡ edit_answer limit c true (length g.deleted)
 revert_answer_is limit c groups i g back h at is =
-    ap (revert_answer limit c) is ∙ ap (λ t. edit_answer limit c t (length g.deleted)) (revertible_at c groups i g h at)
+    ap (revert_answer limit c) is
+    ∙ ap (λ t. edit_answer limit c t (length g.deleted))
+    (ap (λ (x : Past). are_restorable c x.deleted) (sym (get_or_from_slice_get groups i g _ at)) ∙ past_restorable c groups i h)
 
 pub still_revertible : (c x : Content) (groups : List Past) → are_revertible c groups ≡ true → are_revertible (join c x) groups ≡ true
 still_revertible c x [] h = refl
@@ -84,10 +54,10 @@ edited_revertible limit replica c splices groups allowed h =
     with_revertible (join c (content_of ops)) groups (past_of c ops) ops (still_revertible c (content_of ops) groups h) (edit_restorable limit replica c splices allowed)
 
 complete_stands : (c : Content) (id : Identifier) → is_complete c id ≡ true → is_some (place c id) ≡ true
-complete_stands c id h = elim (is_root id) as (λ b. is_some (cond b (Some 0) (cond (is_complete c id) (Some (length (filter (is_visible c) (up_to id (order c))))) None)) ≡ true) [
-  | true ↦ refl
-  | false ↦ ap (λ t. is_some (cond t (Some (length (filter (is_visible c) (up_to id (order c))))) None)) h
-]
+complete_stands c id h = elim (place c id) as (λ o. place c id ≡ o → is_some o ≡ true) [
+  | None ↦ λ e. absurd (true≢false (sym h ∙ ((no_place c id).0 e).1))
+  | Some n ↦ λ _. refl
+] refl
 
 module _ (limit replica : ℕ) (c : Content) (gone : List Identifier) (back : List (Identifier × ℕ)) (allowed : revert_answer limit c back ≡ Ok tt) where
   abbrev ops : List Op
@@ -101,13 +71,13 @@ module _ (limit replica : ℕ) (c : Content) (gone : List Identifier) (back : Li
   all_substituted_revertible (g ∷ groups) h there =
       let p = and_parts (are_restorable c g.deleted) (are_revertible c groups) h in
       let q = and_parts (are_restorable after g.deleted) (are_revertible after groups) there in
-      (λ k. substituted_restorable limit replica c gone back g allowed p.0 q.0 k && all_substituted_revertible groups p.1 q.1 k)
+      (λ k. substituted_restorable replica c gone back limit g allowed p.0 q.0 k && all_substituted_revertible groups p.1 q.1 k)
 
   -- an undo leaves them so, and its own group
   pub reverted_revertible : (groups : List Past) → are_revertible c groups ≡ true → are_revertible after (all_substituted (stand_in ops) (with_group groups (past_of c ops) ops)) ≡ true
   reverted_revertible groups h =
       let all : List Past = with_group groups (past_of c ops) ops in
-      let before : are_revertible c all ≡ true = with_revertible c groups (past_of c ops) ops h (gone_restorable limit replica c gone back) in
+      let before : are_revertible c all ≡ true = with_revertible c groups (past_of c ops) ops h (gone_restorable replica c gone back) in
       all_substituted_revertible all before (still_revertible c (content_of ops) all before)
 
   -- ---- point keeps a place

@@ -1,4 +1,4 @@
-pub mod CharacterLaws
+pub mod Prelude
 pub mod PlaceLaws
 pub mod LineLaws
 pub mod RestorableLaws
@@ -7,8 +7,5 @@ pub mod SlotLaws
 pub mod StandInLaws
 pub mod OldLaws
 pub mod HistoryLaws
-pub mod FaultLaws
 pub mod TakingLaws
-pub mod UndoneLaws
-pub mod UndoLaws
 pub mod KeptLaws

@@ -1,12 +1,10 @@
 -- The line of a place, by that of another place, and what splices leave alone.
-use Rattle.std.proofs.Common.{◌≡◌, ℕ, zero, suc, ◌+◌, ◌-◌, ◌≤◌, List, [], ◌∷◌, ◌++◌, length, take, drop, min, count_by, cond, arith, refl, sym, ap, ◌∙◌, drop-drop, take-take, append_assoc}
-use Rattle.std.proofs.lemmas.List.{length-take}
-use Rattle.std.proofs.lemmas.List.Sums.{sum_by-take-drop, sum_by-take-le, count_by-le-length}
+use Rattle.std.proofs.Common.{◌≡◌, ℕ, ◌+◌, ◌-◌, ◌≤◌, List, [], ◌∷◌, ◌++◌, length, take, drop, min, count_by, cond, arith, refl, sym, ap, ◌∙◌, drop-drop, take-take, append_assoc}
+use Rattle.std.proofs.lemmas.List.{length-take, take-append-le}
+use Rattle.std.proofs.lemmas.List.Sums.{sum_by-take-drop}
 use Rattle.std.proofs.Math.Nat.{min-le_left, min-le_right, min-eq_left}
-use Rattle.rga_ops.specs.Splice.{Splice, spliced, text_after}
 use Rattle.mg_text.specs.Characters.{is_newline}
-use Rattle.mg_buffer.specs.declared.line_numbers.KnownLine.{KnownLine}
-use Rattle.mg_buffer.specs.Kept.{IsLineOfPlace}
+use Rattle.mg_buffer.proofs.Prelude.{Splice, spliced, text_after, KnownLine, IsLineOfPlace}
 use Rattle.mg_buffer.specs.LineNumbers.{line_of, least_begin}
 
 -- of two places the one behind has the newlines between both more
@@ -40,10 +38,7 @@ line_stays old new line same known = record {
 -- and so where more of it does
 pub line_in_front : (old new : List ℕ) (front : ℕ) (line : KnownLine) → line.place ≤ front → take front new ≡ take front old → IsLineOfPlace old line → IsLineOfPlace new line
 line_in_front old new front line early same known =
-    line_stays old new line (sym (take_of_front new) ∙ ap (take line.place) same ∙ take_of_front old) known
-  where
-    take_of_front : (xs : List ℕ) → take line.place (take front xs) ≡ take line.place xs
-    take_of_front xs = take-take line.place front xs early
+    line_stays old new line (sym (take-take line.place front new early) ∙ ap (take line.place) same ∙ take-take line.place front old early) known
 
 -- ---- splices
 
@@ -52,10 +47,7 @@ least_within place [] = omega arith
 least_within place (s ∷ splices) = omega (arith, least_within (min place s.lo) splices, min-le_left place s.lo)
 
 take_front : (n lo : ℕ) (xs rest : List ℕ) → n ≤ lo → n ≤ length xs → take n (take lo xs ++ rest) ≡ take n xs
-take_front zero lo xs rest before within = refl
-take_front (suc n) lo [] rest before within = absurd (omega (arith, within))
-take_front (suc n) zero (x ∷ xs) rest before within = absurd (omega (arith, before))
-take_front (suc n) (suc lo) (x ∷ xs) rest before within = ap (λ t. x ∷ t) (take_front n lo xs rest (omega (arith, before)) (omega (arith, within)))
+take_front n lo xs rest before within = take-append-le n (take lo xs) rest (omega (arith, length-take lo xs)) ∙ take-take n lo xs before
 
 pub front_stays : (place : ℕ) (chars : List ℕ) (splices : List Splice) → place ≤ length chars
     → take (least_begin place splices) (text_after chars splices) ≡ take (least_begin place splices) chars

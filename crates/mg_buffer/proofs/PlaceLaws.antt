@@ -1,46 +1,27 @@
 -- A place is within the text, so that point and mark are where a command can look.
-use Rattle.std.proofs.Common.{◌≡◌, ℕ, ◌≤◌, Bool, true, false, cond, List, [], ◌∷◌, is_some, filter, length, refl, ap, subst, arith}
-use Rattle.std.specs.Prelude.{Option, Some, None}
-use Rattle.std.specs.Option.{option_map, option_map_or, unwrap_or, IfSome}
+use Rattle.std.proofs.Common.{◌≡◌, ℕ, ◌≤◌, Bool, true, false, cond, List, [], ◌∷◌, is_some, filter, length, refl, ap, subst, arith, Option, Some, None, option_map, unwrap_or, IfSome}
+use Rattle.std.proofs.lemmas.Bool.{cond_both}
 use Rattle.std.proofs.lemmas.Option.{same_Some}
-use Rattle.rga_ops.specs.Identifier.{Identifier, is_id, is_root}
-use Rattle.rga_ops.specs.Content.{Content}
-use Rattle.rga_ops.specs.Order.{order, text}
-use Rattle.rga_ops.specs.Places.{is_visible, visible, up_to}
-use Rattle.rga_ops.specs.RootPath.{is_complete}
 use Rattle.rga_ops.proofs.VisibleLaws.{text_long}
 use Rattle.mg_plain.specs.Situation.{IsView}
-use Rattle.mg_buffer.specs.declared.marker.Marker.{Marker}
-use Rattle.mg_buffer.specs.Kept.{stands, IsPlaced}
-use Rattle.mg_buffer.specs.State.{State}
-use Rattle.mg_buffer.specs.Sight.{Notes, place_of, situation_of}
+use Rattle.mg_buffer.proofs.Prelude.{option_map_or, Identifier, is_id, is_root, Content, order, text, is_visible, visible, up_to, is_complete, Marker, stands, IsPlaced, State, Notes, place_of, situation_of}
+
+kept_more : (p : Identifier → Bool) (x : Identifier) (ys xs : List Identifier) → length (filter p ys) ≤ length (filter p xs) → length (filter p (x ∷ ys)) ≤ length (filter p (x ∷ xs))
+kept_more p x ys xs h = elim (p x) as (λ t. length (cond t (x ∷ filter p ys) (filter p ys)) ≤ length (cond t (x ∷ filter p xs) (filter p xs))) [ true ↦ omega (arith, h) | false ↦ h ]
 
 up_to_shorter : (p : Identifier → Bool) (id : Identifier) (xs : List Identifier) → length (filter p (up_to id xs)) ≤ length (filter p xs)
 up_to_shorter p id [] = omega arith
 up_to_shorter p id (x ∷ xs) =
-    elim (is_id x id) as (λ b. length (filter p (cond b (x ∷ []) (x ∷ up_to id xs))) ≤ length (filter p (x ∷ xs))) [
-      | true ↦ elim (p x) as (λ t. length (cond t (x ∷ []) []) ≤ length (cond t (x ∷ filter p xs) (filter p xs))) [ true ↦ omega arith | false ↦ omega arith ]
-      | false ↦ elim (p x) as (λ t. length (cond t (x ∷ filter p (up_to id xs)) (filter p (up_to id xs))) ≤ length (cond t (x ∷ filter p xs) (filter p xs))) [
-        | true ↦ omega (arith, up_to_shorter p id xs)
-        | false ↦ up_to_shorter p id xs
-      ]
-    ]
-
-value_within : (o : Option ℕ) (n : ℕ) → ((k : ℕ) → o ≡ Some k → k ≤ n) → unwrap_or o 0 ≤ n
-value_within None n h = omega arith
-value_within (Some k) n h = h k refl
+    cond_both (is_id x id) (x ∷ []) (x ∷ up_to id xs) (λ ys. length (filter p ys) ≤ length (filter p (x ∷ xs)))
+    (λ _. kept_more p x [] xs (omega arith)) (λ _. kept_more p x (up_to id xs) xs (up_to_shorter p id xs))
 
 pub place_within : (c : Content) (id : Identifier) → place_of c id ≤ length (text c)
 place_within c id =
-    let shorter : length (filter (is_visible c) (up_to id (order c))) ≤ length (visible c) = up_to_shorter (is_visible c) id (order c) in
-    let long : length (text c) ≡ length (visible c) = text_long c in
-    elim (is_root id) as (λ b. unwrap_or (cond b (Some 0) (cond (is_complete c id) (Some (length (filter (is_visible c) (up_to id (order c))))) None)) 0 ≤ length (text c)) [
-      | true ↦ omega arith
-      | false ↦ elim (is_complete c id) as (λ t. unwrap_or (cond t (Some (length (filter (is_visible c) (up_to id (order c))))) None) 0 ≤ length (text c)) [
-        | true ↦ omega (arith, shorter, long)
-        | false ↦ omega arith
-      ]
-    ]
+    let n : ℕ = length (filter (is_visible c) (up_to id (order c))) in
+    let shorter : n ≤ length (visible c) = up_to_shorter (is_visible c) id (order c) in
+    cond_both (is_root id) (Some 0) (cond (is_complete c id) (Some n) None) (λ o. unwrap_or o 0 ≤ length (text c))
+    (λ _. omega arith)
+    (λ _. cond_both (is_complete c id) (Some n) None (λ o. unwrap_or o 0 ≤ length (text c)) (λ _. omega (arith, shorter, text_long c)) (λ _. omega arith))
 
 mark_within : (c : Content) (mark : Option Identifier) (m : ℕ) → option_map (place_of c) mark ≡ Some m → m ≤ length (text c)
 mark_within c None m h = let clash : None ≡ Some m = h in cc
@@ -65,9 +46,6 @@ mark_placed_within c None chars is at x h = let clash : None ≡ Some x = h in c
 mark_placed_within c (Some s) chars is at x h = subst (λ n. n ≤ length chars) (same_Some s.place x h) (placed_within c s chars is at)
 
 -- what has a place at hand has a place
-pub stands_if_placed : (c : Content) (s : Marker) → IsPlaced c s → stands c s ≡ true
-stands_if_placed c s at = ap is_some at
-
 pub mark_stands_if : (c : Content) (mark : Option Marker) → IfSome mark (IsPlaced c) → option_map_or (stands c) mark true ≡ true
 mark_stands_if c None at = refl
 mark_stands_if c (Some s) at = ap is_some at

@@ -4,16 +4,14 @@ use Rattle.rga_ops.specs.Splice.{new_characters}
 use Rattle.rga_ops.specs.ListAnswer.{Verdict}
 use Rattle.rga_ops.specs.declared.refusal.Refusal.TheVariants.{Memory}
 use Rattle.rga_doc.specs.LocalEdit.{edit_answer}
-use Rattle.mg_plain.specs.declared.command.Command.{Command}
 use Rattle.mg_plain.specs.declared.outcome.Notice.{Notice}
 use Rattle.mg_plain.specs.declared.outcome.Notice.TheVariants.{BeginningOfBuffer, EndOfBuffer, NoMark, SearchFailed, NothingToUndo, Memory as NoMemory}
-use Rattle.mg_plain.specs.Commands.{effect}
 use Rattle.mg_plain.specs.Effect.{Effect}
 use Rattle.mg_buffer.specs.declared.fault.BufferFault.{BufferFault}
 use Rattle.mg_buffer.specs.declared.fault.BufferFault.TheVariants.{Notice as Noticed, Store}
 use Rattle.mg_buffer.specs.Groups.{Past, group_to_undo}
 use Rattle.mg_buffer.specs.State.{State}
-use Rattle.mg_buffer.specs.Sight.{Notes, situation_of}
+use Rattle.mg_buffer.specs.Sight.{CommandCall, Notes, effect_of_call}
 
 -- the fault of a notice: want of memory is the store's
 abbrev pub fault_of : Notice → BufferFault
@@ -44,8 +42,8 @@ abbrev pub planned_answer : State → Result Effect Notice → FaultVerdict
 planned_answer b (Ok e) = stored (growth_answer b (new_characters e.splices))
 planned_answer b (Err n) = Err (fault_of n)
 
-abbrev pub run_answer : Command → ℕ → ℕ → State → Notes → FaultVerdict
-run_answer command n column b notes = planned_answer b (effect command n (situation_of b notes) column)
+abbrev pub run_answer : CommandCall → State → Notes → FaultVerdict
+run_answer call b notes = planned_answer b (effect_of_call call b notes)
 
 -- `NothingToUndo` where there is no group to take, else what the restored characters have
 abbrev pub taken_answer : State → Option (ℕ × Past) → FaultVerdict

@@ -19,8 +19,8 @@ pub takes_no_operations : (b : State) → TakesOperations b [] b
 takes_no_operations b = record { content = sym (join_nothing b.content); unsaved = sym (append-nil b.unsaved); rest = refl }
 
 -- operations may be taken in parts
-pub takes_more_operations : (b d e : State) (xs ys : List Op) → TakesOperations b xs d → TakesOperations d ys e → TakesOperations b (xs ++ ys) e
-takes_more_operations b d e xs ys f g = record {
+pub takes_more_operations : {b d e : State} {xs ys : List Op} → TakesOperations b xs d → TakesOperations d ys e → TakesOperations b (xs ++ ys) e
+takes_more_operations {b} {d} {e} {xs} {ys} f g = record {
   content = g.content ∙ ap (λ c. join c (content_of ys)) f.content ∙ join_assoc b.content (content_of xs) (content_of ys) ∙ ap (join b.content) (sym (content_of-append xs ys));
   unsaved = g.unsaved ∙ (λ k. f.unsaved k ++ new_operations (f.content k) ys)
       ∙ append_assoc b.unsaved (new_operations b.content xs) (new_operations (join b.content (content_of xs)) ys)

@@ -1,5 +1,5 @@
 -- Undo groups: what commands did, which of them an undo takes, and what it leaves of them.
-use Rattle.std.specs.Prelude.{ℕ, zero, suc, Bool, List, [], ◌∷◌, ◌++◌, map, length, Option, None, refl, if◌then◌else◌}
+use Rattle.std.specs.Prelude.{ℕ, zero, suc, Bool, List, [], ◌∷◌, ◌++◌, map, length, slice_index_or, Option, None, refl, if◌then◌else◌}
 use Rattle.std.specs.Option.{unwrap_or, option_map}
 use Rattle.std.specs.List.{slice_get, list_all}
 use Rattle.std.specs.Coded.{Coded, code_by, coded×, coded_ℕ, coded_list}
@@ -21,6 +21,10 @@ past_code = code_by (List Identifier × List (Identifier × ℕ)) (coded× (code
 -- what operations did to a content
 abbrev pub past_of : Content → List Op → Past
 past_of c ops = record { inserted = inserted_elements ops; deleted = element_characters c (deleted_elements ops) }
+
+-- the group at an index; past the end, one of nothing
+abbrev pub past_at : List Past → ℕ → Past
+past_at groups i = slice_index_or groups i (record { inserted = []; deleted = [] })
 
 -- one group more, unless there was no operation
 abbrev pub with_group : {A : Type 0} → List A → A → List Op → List A
@@ -44,12 +48,16 @@ group_to_undo groups undone = last_group groups (unwrap_or undone (length groups
 
 -- ---- what an undo leaves
 
--- What stands for an element after operations of which each insertion restores its parent: what restores the element, or
--- the element itself.
+-- what an operation that restores an element puts in its place
+abbrev pub instead : Op → Identifier → Identifier
+instead (Insert x parent ch) id = if is_id parent id then x else id
+instead (Delete x) id = id
+
+-- What stands for an element after operations of which each insertion restores its parent: by each of them in turn, what
+-- restores the element, or the element itself.
 abbrev pub stand_in : List Op → Identifier → Identifier
 stand_in [] id = id
-stand_in (Insert x parent ch ∷ ops) id = if is_id parent id then x else stand_in ops id
-stand_in (Delete x ∷ ops) id = stand_in ops id
+stand_in (op ∷ ops) id = stand_in ops (instead op id)
 
 -- the group with other elements in the place of its own
 abbrev pub substituted : (Identifier → Identifier) → Past → Past

@@ -2,7 +2,6 @@
 use Rattle.std.specs.Prelude.{◌≡◌, ◌≤◌, ℕ, Bool, true, List, Option, Some, is_some, length}
 use Rattle.std.specs.Option.{option_map_or, IfSome}
 use Rattle.rga_ops.specs.Content.{Content}
-use Rattle.rga_ops.specs.Identifier.{Identifier}
 use Rattle.rga_ops.specs.Order.{text}
 use Rattle.rga_ops.specs.Places.{place}
 use Rattle.rga_doc.specs.Document.{Document}
@@ -10,7 +9,7 @@ use Rattle.mg_buffer.specs.declared.line_numbers.KnownLine.{KnownLine}
 use Rattle.mg_buffer.specs.declared.marker.Marker.{Marker}
 use Rattle.mg_buffer.specs.Groups.{are_revertible}
 use Rattle.mg_buffer.specs.LineNumbers.{line_of}
-use Rattle.mg_buffer.specs.Slots.{Slotted, AreFilledSlots, AreOld, pasts_by}
+use Rattle.mg_buffer.specs.Slots.{PastList, AreOld}
 
 -- the element has a place
 abbrev pub stands : Content → Marker → Bool
@@ -32,13 +31,12 @@ pub record IsAtHand (d : Document) (point : Marker) (line : KnownLine) (mark : O
   pub line_of_point : line.place ≡ point.place
   pub place_of_mark : IfSome mark (IsPlaced d.content)
 
--- point and mark have places, and a line is known; there are elements in the slots of the groups, none newer than the clock, by which every
+-- point and mark have places, and a line is known; no element in the slots of the groups is newer than the clock, and every
 -- group can be reverted; and what is listed is at hand
-pub record IsKeptBuffer (d : Document) (point : Marker) (line : KnownLine) (mark : Option Marker) (elements : List Identifier) (groups : List Slotted) (listed : Bool) : Type 0 where
+pub record IsKeptBuffer (d : Document) (point : Marker) (line : KnownLine) (mark : Option Marker) (h : PastList) (listed : Bool) : Type 0 where
   pub point_stands : stands d.content point ≡ true
   pub mark_stands : option_map_or (stands d.content) mark true ≡ true
   pub line_known : IsLineOfPlace (text d.content) line
-  pub filled : AreFilledSlots elements groups
-  pub old : AreOld d.content elements
-  pub revertible : are_revertible d.content (pasts_by elements groups) ≡ true
+  pub old : AreOld d.content h.slots.elements
+  pub revertible : are_revertible d.content h.pasts ≡ true
   pub at_hand : listed ≡ true → IsAtHand d point line mark

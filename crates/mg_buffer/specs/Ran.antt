@@ -6,12 +6,10 @@ use Rattle.rga_ops.specs.Order.{text}
 use Rattle.rga_ops.specs.Splice.{Splice, text_after}
 use Rattle.rga_ops.specs.declared.op.Op.{Op}
 use Rattle.rga_doc.specs.LocalEdit.{splices_answer, splices_operations, element_behind}
-use Rattle.mg_plain.specs.declared.command.Command.{Command}
-use Rattle.mg_plain.specs.Commands.{effect}
 use Rattle.mg_plain.specs.Effect.{Effect}
 use Rattle.mg_buffer.specs.Groups.{past_of, with_group}
 use Rattle.mg_buffer.specs.State.{State}
-use Rattle.mg_buffer.specs.Sight.{Notes, notes_after, situation_of}
+use Rattle.mg_buffer.specs.Sight.{CommandCall, Notes, notes_after, effect_of_call}
 
 -- the operations that splices stand for at a buffer
 abbrev pub operations_of_splices : State → List Splice → List Op
@@ -33,8 +31,8 @@ pub record Edited (splices : List Splice) (at : ℕ) (mark_at : Option ℕ) (b d
   pub replica : d.replica ≡ b.replica
 
 -- The command ran with this plan, which is its effect at what it saw.
-pub record Ran (command : Command) (n column : ℕ) (b : State) (old : Notes) (d : State) (new : Notes) : Type 0 where
+pub record Ran (call : CommandCall) (b : State) (old : Notes) (d : State) (new : Notes) : Type 0 where
   pub plan : Effect
-  pub due : effect command n (situation_of b old) column ≡ Ok plan
+  pub due : effect_of_call call b old ≡ Ok plan
   pub edited : Edited plan.splices plan.point plan.mark b d
   pub notes : new ≡ notes_after old plan

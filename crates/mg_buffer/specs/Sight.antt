@@ -1,11 +1,14 @@
 -- What the editor keeps between commands, and what a command sees of a buffer.
-use Rattle.std.specs.Prelude.{ℕ, List}
+use Rattle.std.specs.Prelude.{ℕ, List, Result}
 use Rattle.std.specs.Option.{option_map, unwrap_or}
 use Rattle.rga_ops.specs.Identifier.{Identifier}
 use Rattle.rga_ops.specs.Content.{Content}
 use Rattle.rga_ops.specs.Order.{text}
 use Rattle.rga_ops.specs.Places.{place}
+use Rattle.mg_plain.specs.declared.command.Command.{Command}
+use Rattle.mg_plain.specs.declared.outcome.Notice.{Notice}
 use Rattle.mg_plain.specs.declared.view.Kind.{Kind}
+use Rattle.mg_plain.specs.Commands.{effect}
 use Rattle.mg_plain.specs.Effect.{Effect}
 use Rattle.mg_plain.specs.Kills.{kill_after}
 use Rattle.mg_plain.specs.Situation.{Situation}
@@ -35,3 +38,16 @@ situation_of b notes = record {
   goal = notes.goal;
   last = notes.kind;
 }
+
+-- a command with its argument and the fill column
+pub record CommandCall : Type 0 where
+  pub command : Command
+  pub argument : ℕ
+  pub fill : ℕ
+
+abbrev pub command_call : Command → ℕ → ℕ → CommandCall
+command_call command argument fill = record { command = command; argument = argument; fill = fill }
+
+-- its effect at what it sees
+abbrev pub effect_of_call : CommandCall → State → Notes → Result Effect Notice
+effect_of_call call b notes = effect call.command call.argument (situation_of b notes) call.fill

@@ -1,14 +1,13 @@
 -- Undo groups by slots. A slot stands for an element, and for another one once that restores it: so no group changes.
-use Rattle.std.specs.Prelude.{◌≡◌, ℕ, ◌<◌, ◌≤◌, ◌+◌, Bool, true, false, List, [], ◌∷◌, map, length, Option, Some, refl, if◌then◌else◌}
-use Rattle.std.specs.Option.{unwrap_or}
-use Rattle.std.specs.List.{slice_get, list_any, AllByRecursion}
+use Rattle.std.specs.Prelude.{◌≡◌, ℕ, ◌<◌, ◌≤◌, ◌+◌, Bool, true, false, List, [], ◌∷◌, map, length, slice_index_or, refl, if◌then◌else◌}
+use Rattle.std.specs.List.{list_any, AllByRecursion}
 use Rattle.std.specs.Coded.{Coded, code_by, coded×, coded_ℕ, coded_list}
 use Rattle.rga_ops.specs.Identifier.{Identifier, root, is_id}
 use Rattle.rga_ops.specs.Content.{Content, clock_of}
 use Rattle.rga_ops.specs.declared.op.Op.{Op}
 use Rattle.rga_ops.specs.declared.op.Op.TheVariants.{Insert, Delete}
 use Rattle.mg_slots.specs.Slots.{IsRow, SlotList, first_counter, with_elements}
-use Rattle.mg_buffer.specs.Groups.{Past, stand_in}
+use Rattle.mg_buffer.specs.Groups.{Past, instead}
 
 -- the slots of the elements that a command or an undo inserted, and of those that it deleted, with their characters
 pub record Slotted : Type 0 where
@@ -18,10 +17,16 @@ pub record Slotted : Type 0 where
 abbrev pub slotted_code : Coded Slotted
 slotted_code = code_by (List ℕ × List (ℕ × ℕ)) (coded× (coded_list coded_ℕ) (coded_list (coded× coded_ℕ coded_ℕ))) (λ g. (g.inserted, g.deleted)) (λ p. record { inserted = p.0; deleted = p.1 }) (λ _. refl)
 
+-- what commands and undos did, oldest first; the elements in the slots; and for how many more groups there is room
+pub record PastList : Type 0 where
+  pub pasts : List Past
+  pub slots : SlotList
+  pub room : ℕ
+
 -- ---- what groups are about, by the elements in the slots
 
 abbrev pub element_at_slot : List Identifier → ℕ → Identifier
-element_at_slot elements slot = unwrap_or (slice_get elements slot) root
+element_at_slot elements slot = slice_index_or elements slot root
 
 abbrev pub deleted_at_slot : List Identifier → ℕ × ℕ → Identifier × ℕ
 deleted_at_slot elements b = (element_at_slot elements b.0, b.1)
@@ -37,25 +42,9 @@ pub record IsFilled (elements : List Identifier) (g : Slotted) : Type 0 where
   pub inserted : AllByRecursion (λ s. s < length elements) g.inserted
   pub deleted : AllByRecursion (λ (b : ℕ × ℕ). b.0 < length elements) g.deleted
 
-abbrev pub AreFilledSlots : List Identifier → List Slotted → Type 0
-AreFilledSlots elements groups = AllByRecursion (IsFilled elements) groups
-
 -- no counter among the elements is above the clock
 abbrev pub AreOld : Content → List Identifier → Type 0
 AreOld c elements = AllByRecursion (λ (id : Identifier). id.counter ≤ clock_of c) elements
-
--- ---- slots that are found
-
--- the elements are in the slots
-abbrev pub AreIn : List Identifier → List ℕ → List Identifier → Type 0
-AreIn elements slots ids = map (slice_get elements) slots ≡ map Some ids
-
--- the same of elements with their characters
-abbrev pub AreDeletedIn : List Identifier → List (ℕ × ℕ) → List (Identifier × ℕ) → Type 0
-AreDeletedIn elements slots deleted =
-    ◌≡◌ {A = List (Option Identifier × ℕ)}
-    (map (λ (b : ℕ × ℕ). let found : Option Identifier × ℕ = (slice_get elements b.0, b.1) in found) slots)
-    (map (λ (d : Identifier × ℕ). let found : Option Identifier × ℕ = (Some d.0, d.1) in found) deleted)
 
 -- ---- more elements, and others
 
@@ -79,22 +68,12 @@ pub record HasSpaceFor (s : SlotList) (is_row : Bool) (ids : List Identifier) (m
   pub row : is_row ≡ true → IsRow ids
   pub above : is_row ≡ true → s.greatest < first_counter ids
 
--- what an operation that restores an element puts in its place
-abbrev pub instead : Op → Identifier → Identifier
-instead (Insert x parent ch) id = if is_id parent id then x else id
-instead (Delete x) id = id
-
 -- an insertion is of an element that is not there, and restores one that is
 abbrev pub IsStandIn : List Identifier → Op → Type 0
 IsStandIn elements (Insert id parent ch) = (list_any (is_id parent) elements ≡ true) × (list_any (is_id id) elements ≡ false)
 IsStandIn elements (Delete id) = Unit {0}
 
--- what it inserts is not restored by others
-abbrev pub IsLast : Op → List Op → Type 0
-IsLast (Insert id parent ch) ops = stand_in ops id ≡ id
-IsLast (Delete id) ops = Unit {0}
-
 -- so it is with each of them in turn
 abbrev pub AreStandIns : List Identifier → List Op → Type 0
 AreStandIns elements [] = Unit {0}
-AreStandIns elements (op ∷ ops) = IsStandIn elements op × IsLast op ops × AreStandIns (map (instead op) elements) ops
+AreStandIns elements (op ∷ ops) = IsStandIn elements op × AreStandIns (map (instead op) elements) ops

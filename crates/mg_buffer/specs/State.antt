@@ -1,8 +1,8 @@
 -- A buffer as its callers see it.
-use Rattle.std.specs.Prelude.{◌≡◌, ◌⊎◌, ℕ, List, Option, refl}
+use Rattle.std.specs.Prelude.{◌≡◌, ◌⊎◌, ℕ, List, [], Option, None, refl}
 use Rattle.std.proofs.Common.{inl, inr}
 use Rattle.std.specs.Coded.{Coded, code_by, coded×, coded⊎, coded_ℕ, coded_list, coded_option}
-use Rattle.rga_ops.specs.Identifier.{Identifier, identifier_code}
+use Rattle.rga_ops.specs.Identifier.{Identifier, identifier_code, root}
 use Rattle.rga_ops.specs.Content.{Content, content_code}
 use Rattle.rga_ops.specs.declared.op.Op.{Op}
 use Rattle.rga_ops.specs.declared.op.Op.TheVariants.{Insert, Delete}
@@ -23,16 +23,17 @@ pub record State : Type 0 where
   pub undone : Option ℕ
   pub unsaved : List Op
 
-abbrev pub state : Document → List ℕ → Identifier → Option Identifier → List Past → Option ℕ → List Op → State
-state d name point mark groups undone unsaved = record {
+-- that of a document with a name and operations that are not saved: point at the front, no mark and no group
+abbrev pub new_state : Document → List ℕ → List Op → State
+new_state d name unsaved = record {
   content = d.content;
   limit = d.limit;
   replica = d.replica;
   name = name;
-  point = point;
-  mark = mark;
-  groups = groups;
-  undone = undone;
+  point = root;
+  mark = None;
+  groups = [];
+  undone = None;
   unsaved = unsaved;
 }
 

@@ -7,7 +7,7 @@ ghost use Rattle.rga_ops.specs.Identifier.{root};
 ghost use Rattle.mg_plain.specs.declared.view.Kind.TheVariants.{Plain};
 ghost use Rattle.mg_buffer.specs.LineNumbers as lines;
 ghost use Rattle.mg_buffer.specs.Sight.{place_of, situation_of};
-ghost use Rattle.mg_buffer.specs.State.{state};
+ghost use Rattle.mg_buffer.specs.State.{new_state};
 
 use crate::characters::string_of;
 use crate::history::History;
@@ -45,28 +45,33 @@ pub struct Buffer<S: TextStore> {
 impl<S: TextStore> Model for Buffer<S> {
     ghost use Rattle.std.specs.Option.{option_map};
     ghost use Rattle.std.specs.String.{string_bytes};
-    ghost use Rattle.mg_buffer.specs.State.{State, state_code, state};
+    ghost use Rattle.mg_buffer.specs.State.{State, state_code};
     ghost use Rattle.mg_buffer.specs.Kept.{IsKeptBuffer};
-    ghost use Rattle.mg_buffer.specs.Slots.{pasts_by};
 
     ghost Value = { State };
 
     ghost coded = { state_code };
 
-    ghost view = { λ b. state b.doc (string_bytes b.name) b.point.element
-        (option_map (λ m. m.element) b.mark)
-        (pasts_by b.history.elements.elements b.history.groups.items)
-        b.undone b.unsaved.items };
+    ghost view = { λ b. record {
+      content = b.doc.content;
+      limit = b.doc.limit;
+      replica = b.doc.replica;
+      name = string_bytes b.name;
+      point = b.point.element;
+      mark = option_map (λ m. m.element) b.mark;
+      groups = b.history.pasts;
+      undone = b.undone;
+      unsaved = b.unsaved.items;
+    } };
 
-    ghost invariant = { λ b. IsKeptBuffer b.doc b.point b.line b.mark
-        b.history.elements.elements b.history.groups.items b.listed };
+    ghost invariant = { λ b. IsKeptBuffer b.doc b.point b.line b.mark b.history b.listed };
 }
 
 impl<S: TextStore> Buffer<S> {
     /// A buffer of a document, with operations that are in it but not saved. Point is at the front,
     /// there is no mark, and nothing to undo. Takes no memory.
     pub fn new(alloc: Global, doc: Doc<S>, name: String, own: Vec<Op>) -> Buffer<S>
-        ensures { result ≡ state doc (string_bytes name) root None [] None own.items }
+        ensures { result ≡ new_state doc (string_bytes name) own.items }
     {
         Buffer {
             alloc,

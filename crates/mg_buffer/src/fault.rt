@@ -6,7 +6,7 @@ use mg_plain::Notice;
 use rga_ops::Refusal;
 
 /// Why a command or an undo was refused. Nothing changed then.
-#[derive(Clone, Copy, Debug, PartialEq, Eq)]
+#[derive(Clone, Copy, PartialEq, Eq)]
 pub enum BufferFault {
     /// The text has nothing for it to work on. Never `Memory`.
     Notice(Notice),

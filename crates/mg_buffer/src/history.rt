@@ -1,12 +1,13 @@
 //! What commands and undos did, oldest first.
-ghost use Rattle.std.specs.Prelude.{◌≡◌, ◌<◌, ◌≤◌, ◌+◌, [], true, false, map, length, Some, IfOk, IfErr};
-ghost use Rattle.std.specs.List.{slice_get};
+ghost use Rattle.std.specs.Prelude.{◌≡◌, ◌<◌, ◌≤◌, ◌+◌, [], true, false, map, length, IfOk, IfErr};
+ghost use Rattle.std.specs.List.{AllByRecursion, list_any};
 ghost use Rattle.std.specs.Vec.{vec_len, vec_capacity};
+ghost use Rattle.rga_ops.specs.Identifier.{is_id};
 ghost use Rattle.rga_doc.specs.UndoGroup.{inserted_elements};
-ghost use Rattle.mg_buffer.specs.Groups.{all_substituted, stand_in, with_group};
+ghost use Rattle.mg_buffer.specs.Groups.{all_substituted, past_at, stand_in, with_group};
 ghost use Rattle.mg_buffer.specs.Room.{HasRoom};
 ghost use Rattle.mg_slots.specs.Slots.{with_elements};
-ghost use Rattle.mg_buffer.specs.Slots.{AreFilledSlots, AreStandIns, Slotted, deleted_ones, past_by, pasts_by, with_past};
+ghost use Rattle.mg_buffer.specs.Slots.{AreStandIns, deleted_ones, with_past};
 
 use crate::change::Change;
 use crate::group::Group;
@@ -14,6 +15,7 @@ use crate::slots::{push_deleted, push_inserted, push_same, replace_all};
 use mg_slots::Slots;
 use rga_ops::{Id, Op, Refusal};
 use std::alloc::Global;
+use std::marker::Model;
 
 /// The undo groups. A group names its elements by slots: what restores an element takes its slot,
 /// and so stands for it in every group.
@@ -22,6 +24,22 @@ pub(crate) struct History {
     pub(crate) groups: Vec<Group>,
     /// The elements in the slots.
     pub(crate) elements: Slots,
+}
+
+impl Model for History {
+    ghost use Rattle.std.specs.Prelude.{◌-◌, vec_len, vec_capacity};
+    ghost use Rattle.std.specs.List.{AllByRecursion};
+    ghost use Rattle.mg_buffer.specs.Slots.{IsFilled, PastList, pasts_by};
+
+    ghost Value = { PastList };
+
+    ghost view = { λ h. record {
+      pasts = pasts_by h.elements.elements h.groups.items;
+      slots = h.elements;
+      room = vec_capacity h.groups - vec_len h.groups;
+    } };
+
+    ghost invariant = { λ h. AllByRecursion (IsFilled h.elements.elements) h.groups.items };
 }
 
 /// The slots of a group that is still empty.
@@ -36,8 +54,8 @@ pub(crate) struct Room {
 impl History {
     /// No group.
     pub(crate) fn new(alloc: Global) -> History
-        ensures groups { result.groups.items ≡ [] }
-        ensures elements { result.elements.elements ≡ [] }
+        ensures pasts { result.pasts ≡ [] }
+        ensures elements { result.slots.elements ≡ [] }
     {
         History {
             groups: Vec::new(alloc),
@@ -45,12 +63,17 @@ impl History {
         }
     }
 
+    /// How many groups there are.
+    pub(crate) fn count(&self) -> usize
+        ensures { result ≡ length self.now.pasts }
+    {
+        self.groups.as_slice().len()
+    }
+
     /// What the group at an index did, by the elements that are in its slots now. `Memory` alone.
     pub(crate) fn change_at(&self, alloc: Global, index: usize) -> Result<Change, Refusal>
-        requires within { index < length self.now.groups.items }
-        requires filled { AreFilledSlots self.now.elements.elements self.now.groups.items }
-        ensures ok { IfOk result (λ change. slice_get
-            (pasts_by self.now.elements.elements self.now.groups.items) index ≡ Some change) }
+        requires { index < length self.now.pasts }
+        ensures ok { IfOk result (λ change. change ≡ past_at self.now.pasts index) }
         ensures memory { IfErr result (λ e. e ≡ Refusal.Memory) }
     {
         self.groups[index].change(alloc, self.elements.elements())
@@ -66,32 +89,30 @@ impl History {
     ) -> Result<Room, Refusal>
         ensures room { IfOk result (λ room. HasRoom self.new room change.now) }
         ensures single { restores ≡ true → IfOk result (λ room. room.is_row ≡ false) }
-        ensures groups { self.new.groups.items ≡ self.old.groups.items }
-        ensures elements { self.new.elements.elements ≡ self.old.elements.elements }
+        ensures pasts { self.new.pasts ≡ self.old.pasts }
+        ensures elements { self.new.slots.elements ≡ self.old.slots.elements }
         ensures memory { IfErr result (λ e. e ≡ Refusal.Memory) }
     {
         let inserted = change.inserted.as_slice().len();
         let deleted = change.deleted.as_slice().len();
         let is_row = !restores && self.elements.takes_row(&change.inserted);
-        let entries = if is_row { deleted } else { inserted + deleted };
-        self.groups.reserve(1)?;
-        self.elements.reserve(inserted + deleted, entries)?;
-        Ok(Room {
+        let room = Room {
             inserted: Vec::with_capacity(alloc, inserted)?,
             deleted: Vec::with_capacity(alloc, deleted)?,
             is_row,
-        })
+        };
+        let entries = if is_row { deleted } else { inserted + deleted };
+        self.groups.reserve(1)?;
+        self.elements.reserve(inserted + deleted, entries)?;
+        Ok(room)
     }
 
     /// Adds the group of what a command did, unless there was no operation. There is room.
     pub(crate) fn add(&mut self, room: Room, change: &Change, ops: &[Op])
-        requires room { HasRoom self.old room change.now }
-        requires filled { AreFilledSlots self.old.elements.elements self.old.groups.items }
-        ensures pasts { pasts_by self.new.elements.elements self.new.groups.items
-            ≡ with_group (pasts_by self.old.elements.elements self.old.groups.items) change.now ops.now }
-        ensures elements { self.new.elements.elements
-            ≡ with_past self.old.elements.elements change.now }
-        ensures filled { AreFilledSlots self.new.elements.elements self.new.groups.items }
+        requires { HasRoom self.old room change.now }
+        ensures pasts { self.new.pasts ≡ with_group self.old.pasts change.now ops.now }
+        ensures elements { self.new.slots.elements
+            ≡ with_past self.old.slots.elements change.now }
     {
         let Room {
             mut inserted,
@@ -106,24 +127,22 @@ impl History {
     /// Adds the group of an undo of the one at an index, unless there was no operation. What the
     /// operations restore takes the slots of what that one deleted. There is room.
     pub(crate) fn add_undo(&mut self, index: usize, room: Room, change: &Change, ops: &[Op])
-        requires within { index < length self.old.groups.items }
+        requires within { index < length self.old.pasts }
         requires room { HasRoom self.old room change.now }
         requires single { room.is_row ≡ false }
-        requires filled { AreFilledSlots self.old.elements.elements self.old.groups.items }
-        requires restored { (g : Slotted) → slice_get self.old.groups.items index ≡ Some g →
-            length g.deleted ≡ length change.now.inserted }
         requires inserted { inserted_elements ops.now ≡ change.now.inserted }
-        requires stand_ins { AreStandIns
-            (with_elements self.old.elements.elements (deleted_ones change.now.deleted)) ops.now }
-        ensures pasts { (g : Slotted) → slice_get self.old.groups.items index ≡ Some g →
-            let old = self.old.elements.elements in
-            let restored = deleted_ones (past_by old g).deleted in
-            pasts_by self.new.elements.elements self.new.groups.items
-            ≡ all_substituted (stand_in ops.now) (with_group (pasts_by old self.old.groups.items)
-            (record { inserted = restored; deleted = change.now.deleted }) ops.now) }
-        ensures elements { self.new.elements.elements ≡ map (stand_in ops.now)
-            (with_elements self.old.elements.elements (deleted_ones change.now.deleted)) }
-        ensures filled { AreFilledSlots self.new.elements.elements self.new.groups.items }
+        requires restored { length (past_at self.old.pasts index).deleted
+            ≡ length change.now.inserted }
+        requires stand_ins { let known = with_elements self.old.slots.elements (deleted_ones change.now.deleted) in
+            AllByRecursion (λ b. list_any (is_id b.0) known ≡ true)
+            (past_at self.old.pasts index).deleted → AreStandIns known ops.now }
+        ensures pasts { self.new.pasts ≡ all_substituted (stand_in ops.now)
+            (with_group self.old.pasts (record {
+              inserted = deleted_ones (past_at self.old.pasts index).deleted;
+              deleted = change.now.deleted;
+            }) ops.now) }
+        ensures elements { self.new.slots.elements ≡ map (stand_in ops.now)
+            (with_elements self.old.slots.elements (deleted_ones change.now.deleted)) }
     {
         let Room {
             mut inserted,

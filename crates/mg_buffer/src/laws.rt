@@ -1,14 +1,13 @@
 //! Theorems about buffers.
 //!
 //! Each function does nothing: its contract is a theorem that the check proves.
-ghost use Rattle.std.specs.Prelude.{◌≡◌, ◌≢◌, ℕ, List, []};
+ghost use Rattle.std.specs.Prelude.{◌≡◌, ◌≢◌, List, []};
 ghost use Rattle.rga_ops.specs.Content.{IsAgreed, HasSameOperations};
 ghost use Rattle.rga_ops.specs.Order.{order, text};
 ghost use Rattle.rga_ops.specs.Took.{Took};
 ghost use Rattle.rga_ops.specs.declared.op.Op.{Op as Operation};
-ghost use Rattle.mg_plain.specs.declared.command.Command.{Command as Action};
 ghost use Rattle.mg_buffer.specs.Ran.{Ran, operations_of_splices};
-ghost use Rattle.mg_buffer.specs.Sight.{Notes};
+ghost use Rattle.mg_buffer.specs.Sight.{CommandCall, Notes};
 ghost use Rattle.mg_buffer.specs.State.{State};
 ghost use Rattle.mg_buffer.specs.Undid.{Undid};
 
@@ -18,8 +17,8 @@ use rga_store::laws::replicas_that_took_the_same_show_the_same;
 
 /// An undo directly after a command that changed something gives the text from before the command.
 pub fn undoing_a_command_gives_the_text_before()
-    ensures { (command : Action) (n column : ℕ) (before between after : State)
-        (first second third : Notes) (ran : Ran command n column before first between second) →
+    ensures { (call : CommandCall) (before between after : State)
+        (first second third : Notes) (ran : Ran call before first between second) →
         operations_of_splices before ran.plan.splices ≢ [] → Undid between second after third →
         text after.content ≡ text before.content }
 {}

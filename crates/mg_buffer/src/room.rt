@@ -25,8 +25,8 @@ pub(crate) fn prepare<S: TextStore>(
     ensures single { restores ≡ true → IfOk result (λ made. made.1.is_row ≡ false) }
     ensures space { OnOk result
         (vec_len unsaved.new + length ops.now ≤ vec_capacity unsaved.new) }
-    ensures groups { history.new.groups.items ≡ history.old.groups.items }
-    ensures elements { history.new.elements.elements ≡ history.old.elements.elements }
+    ensures pasts { history.new.pasts ≡ history.old.pasts }
+    ensures elements { history.new.slots.elements ≡ history.old.slots.elements }
     ensures unsaved { unsaved.new.items ≡ unsaved.old.items }
     ensures memory { IfErr result (λ e. e ≡ Refusal.Memory) }
 {

@@ -7,7 +7,7 @@ ghost use Rattle.rga_doc.specs.LocalEdit.{splices_answer};
 ghost use Rattle.mg_plain.specs.Commands.{effect};
 ghost use Rattle.mg_buffer.specs.Faults.{IsFaultAnswer, run_answer};
 ghost use Rattle.mg_buffer.specs.Ran.{Edited, Ran};
-ghost use Rattle.mg_buffer.specs.Sight.{situation_of};
+ghost use Rattle.mg_buffer.specs.Sight.{command_call, situation_of};
 ghost use Rattle.rga_ops.specs.declared.refusal.Refusal.TheVariants.{Memory};
 ghost use Rattle.mg_buffer.specs.declared.fault.BufferFault.TheVariants.{Store};
 
@@ -37,8 +37,10 @@ impl<S: TextStore> Buffer<S> {
         memo: &mut Memo,
         fill: u16,
     ) -> Result<(), BufferFault>
-        ensures exact { IsFaultAnswer result (run_answer command.now arg fill self.old memo.old) }
-        ensures ran { OnOk result (Ran command.now arg fill self.old memo.old self.new memo.new) }
+        ensures exact { IsFaultAnswer result
+            (run_answer (command_call command.now arg fill) self.old memo.old) }
+        ensures ran { OnOk result
+            (Ran (command_call command.now arg fill) self.old memo.old self.new memo.new) }
         ensures same { OnErr result (self.new ≡ self.old) }
         ensures memo { OnErr result (memo.new ≡ memo.old) }
     {
@@ -75,23 +77,24 @@ impl<S: TextStore> Buffer<S> {
         ensures same { OnErr result (self.new ≡ self.old) }
     {
         self.listed = false;
-        let ops = self.doc.draft(splices)?;
+        let drafted = self.doc.draft(splices)?;
+        let ops = drafted.as_slice();
         let (change, room) = prepare(
             self.alloc,
             self.doc.store(),
             &mut self.history,
             &mut self.unsaved,
-            &ops,
+            ops,
             false,
         )?;
         let stays = least_begin(self.line.place, splices);
         let line = self.line.moved(self.doc.characters(), stays);
-        self.doc.take(splices, &ops)?;
+        self.doc.take(splices, ops)?;
         self.line = line.moved(self.doc.characters(), point);
         self.point = marker_at(&self.doc, point);
         self.mark = mark_at(&self.doc, mark);
-        self.history.add(room, &change, &ops);
-        add_all(&mut self.unsaved, &ops);
+        self.history.add(room, &change, ops);
+        add_all(&mut self.unsaved, ops);
         self.undone = None;
         self.listed = true;
         Ok(())

@@ -1,10 +1,11 @@
 //! Slots, each of which stands for an element, and later for the one that restores it.
 ghost use Rattle.std.specs.Prelude.{◌≡◌, ◌<◌, ◌≤◌, ◌+◌, ℕ, [], ◌∷◌, map, length};
+ghost use Rattle.std.specs.List.{AllByRecursion};
 ghost use Rattle.std.specs.Vec.{vec_capacity};
 ghost use Rattle.rga_doc.specs.UndoGroup.{inserted_elements};
 ghost use Rattle.mg_slots.specs.Slots.{IsRow, first_counter, with_elements};
-ghost use Rattle.mg_buffer.specs.Groups.{stand_in};
-ghost use Rattle.mg_buffer.specs.Slots.{AreDeletedIn, AreIn, AreStandIns, HasSpace, HasSpaceFor, IsStandIn, deleted_ones, instead};
+ghost use Rattle.mg_buffer.specs.Groups.{instead, stand_in};
+ghost use Rattle.mg_buffer.specs.Slots.{AreStandIns, HasSpace, HasSpaceFor, IsStandIn, deleted_at_slot, deleted_ones, element_at_slot};
 
 use mg_slots::Slots;
 use rga_ops::{Id, Op};
@@ -14,7 +15,8 @@ pub(crate) fn push_inserted(slots: &mut Vec<usize>, elements: &mut Slots, ids: &
     requires empty { slots.old.items ≡ [] }
     requires room { length ids.now ≤ vec_capacity slots.old }
     requires space { HasSpaceFor elements.old is_row ids.now 0 }
-    ensures slots { AreIn elements.new.elements slots.new.items ids.now }
+    ensures slots { map (element_at_slot elements.new.elements) slots.new.items ≡ ids.now }
+    ensures filled { AllByRecursion (λ s. s < length elements.new.elements) slots.new.items }
     ensures elements { elements.new.elements ≡ with_elements elements.old.elements ids.now }
     ensures space { (more : ℕ) → HasSpaceFor elements.old is_row ids.now more →
         HasSpace elements.new more }
@@ -34,7 +36,8 @@ fn push_row(slots: &mut Vec<usize>, elements: &mut Slots, ids: &[Id])
     requires above { elements.old.greatest < first_counter ids.now }
     requires places { length ids.now ≤ elements.old.room }
     requires rows { 0 < elements.old.rows }
-    ensures slots { AreIn elements.new.elements slots.new.items ids.now }
+    ensures slots { map (element_at_slot elements.new.elements) slots.new.items ≡ ids.now }
+    ensures filled { AllByRecursion (λ s. s < length elements.new.elements) slots.new.items }
     ensures elements { elements.new.elements ≡ with_elements elements.old.elements ids.now }
     ensures places { elements.old.room ≤ elements.new.room + length ids.now }
     ensures entries { elements.old.entries ≤ elements.new.entries }
@@ -52,7 +55,8 @@ fn push_slots(slots: &mut Vec<usize>, elements: &mut Slots, ids: &[Id])
     requires room { length ids.now ≤ vec_capacity slots.old }
     requires places { length ids.now ≤ elements.old.room }
     requires entries { length ids.now ≤ elements.old.entries }
-    ensures slots { AreIn elements.new.elements slots.new.items ids.now }
+    ensures slots { map (element_at_slot elements.new.elements) slots.new.items ≡ ids.now }
+    ensures filled { AllByRecursion (λ s. s < length elements.new.elements) slots.new.items }
     ensures elements { elements.new.elements ≡ with_elements elements.old.elements ids.now }
     ensures places { elements.old.room ≤ elements.new.room + length ids.now }
     ensures entries { elements.old.entries ≤ elements.new.entries + length ids.now }
@@ -71,7 +75,8 @@ pub(crate) fn push_deleted(
     requires empty { slots.old.items ≡ [] }
     requires room { length deleted.now ≤ vec_capacity slots.old }
     requires space { HasSpace elements.old (length deleted.now) }
-    ensures slots { AreDeletedIn elements.new.elements slots.new.items deleted.now }
+    ensures slots { map (deleted_at_slot elements.new.elements) slots.new.items ≡ deleted.now }
+    ensures filled { AllByRecursion (λ b. b.0 < length elements.new.elements) slots.new.items }
     ensures elements { elements.new.elements
         ≡ with_elements elements.old.elements (deleted_ones deleted.now) }
     ensures entries { elements.old.entries ≤ elements.new.entries + length deleted.now }

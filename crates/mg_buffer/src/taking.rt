@@ -1,7 +1,4 @@
 //! Operations that a buffer takes from elsewhere.
-ghost use Rattle.std.specs.Prelude.{◌≡◌, List, ℕ, [], true};
-ghost use Rattle.mg_buffer.specs.Kept.{IsLineOfPlace};
-
 use crate::buffer::Buffer;
 use crate::line_numbers::KnownLine;
 use crate::room::add_all;
@@ -21,7 +18,7 @@ impl<S: TextStore> Taker for Buffer<S> {
 
     ghost follows_nothing = { λ b. takes_no_operations b };
 
-    ghost follows_on = { λ b d e xs ys f g. takes_more_operations b d e xs ys f g };
+    ghost follows_on = { λ b d e xs ys f g. takes_more_operations f g };
 
     fn apply(&mut self, op: Op) -> Result<Taken, Refusal> {
         if answer_at(self.doc.store(), op)? == Taken::Known {
@@ -40,29 +37,12 @@ impl<S: TextStore> Taker for Buffer<S> {
         let new = new_operations_at(self.alloc, self.doc.store(), ops)?;
         self.unsaved.reserve(new.len())?;
         self.doc.apply_all(ops)?;
-        self.listed = stays_listed(self.listed, ops);
-        self.line = stays_known(self.line, ops);
+        if ops.is_empty() {
+            return Ok(());
+        }
+        self.listed = false;
+        self.line = KnownLine::FIRST;
         add_all(&mut self.unsaved, &new);
         Ok(())
     }
-}
-
-/// Whether a buffer is listed once it took operations: a listed one is where there was none.
-fn stays_listed(listed: bool, ops: &[Op]) -> bool
-    ensures listed { result ≡ true → listed ≡ true }
-    ensures none { result ≡ true → ops.now ≡ [] }
-{
-    listed && ops.is_empty()
-}
-
-/// The line that is known once operations were taken: where there was none, it is the same.
-fn stays_known(line: KnownLine, ops: &[Op]) -> KnownLine
-    ensures kept { ops.now ≡ [] → result ≡ line }
-    ensures known { (old new : List ℕ) → (ops.now ≡ [] → new ≡ old) → IsLineOfPlace old line →
-        IsLineOfPlace new result }
-{
-    if ops.is_empty() {
-        return line;
-    }
-    KnownLine::FIRST
 }

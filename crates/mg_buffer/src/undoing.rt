@@ -1,11 +1,10 @@
 //! Undo.
-ghost use Rattle.std.specs.Prelude.{◌≡◌, ◌<◌, Some, Err, IsSome, length, OnOk, OnErr};
+ghost use Rattle.std.specs.Prelude.{◌≡◌, ◌<◌, Err, IsSome, length, OnOk, OnErr};
 ghost use Rattle.std.specs.Option.{option_map};
-ghost use Rattle.std.specs.List.{slice_get};
 ghost use Rattle.rga_ops.specs.ListAnswer.{IsAnswer};
 ghost use Rattle.rga_ops.specs.Order.{text};
 ghost use Rattle.mg_buffer.specs.Faults.{IsFaultAnswer, growth_answer, undo_answer};
-ghost use Rattle.mg_buffer.specs.Groups.{Past, group_to_undo};
+ghost use Rattle.mg_buffer.specs.Groups.{group_to_undo, past_at};
 ghost use Rattle.mg_buffer.specs.Kept.{IsLineOfPlace};
 ghost use Rattle.mg_buffer.specs.Undid.{Reverted, Undid};
 ghost use Rattle.rga_ops.specs.declared.refusal.Refusal.TheVariants.{Memory};
@@ -53,8 +52,8 @@ impl<S: TextStore> Buffer<S> {
         ensures { result
             ≡ option_map (λ p. p.0) (group_to_undo self.now.groups self.now.undone) }
     {
-        let count = self.undone.unwrap_or(self.history.groups.as_slice().len());
-        if count == 0 || count > self.history.groups.as_slice().len() {
+        let count = self.undone.unwrap_or(self.history.count());
+        if count == 0 || count > self.history.count() {
             return None;
         }
         Some(count - 1)
@@ -63,10 +62,10 @@ impl<S: TextStore> Buffer<S> {
     /// Reverts a group. `Full`, `Clock` and `Memory`, as the document has them.
     fn revert(&mut self, index: usize) -> Result<(), Refusal>
         requires { index < length self.old.groups }
-        ensures exact { (g : Past) → slice_get self.old.groups index ≡ Some g →
-            IsAnswer result (growth_answer self.old (length g.deleted)) }
-        ensures reverted { OnOk result ((g : Past) → slice_get self.old.groups index ≡ Some g →
-            Reverted index g self.old self.new) }
+        ensures exact { IsAnswer result
+            (growth_answer self.old (length (past_at self.old.groups index).deleted)) }
+        ensures reverted { OnOk result
+            (Reverted index (past_at self.old.groups index) self.old self.new) }
         ensures same { OnErr result (self.new ≡ self.old) }
     {
         let undone = self.history.change_at(self.alloc, index)?;
@@ -82,31 +81,32 @@ impl<S: TextStore> Buffer<S> {
         line: KnownLine,
     ) -> Result<(), Refusal>
         requires within { index < length self.old.groups }
-        requires at { slice_get self.old.groups index ≡ Some undone.now }
+        requires at { undone.now ≡ past_at self.old.groups index }
         requires line { IsLineOfPlace (text self.old.content) line }
         ensures exact { IsAnswer result (growth_answer self.old (length undone.now.deleted)) }
         ensures reverted { OnOk result (Reverted index undone.now self.old self.new) }
         ensures same { OnErr result (self.new ≡ self.old) }
     {
-        let ops = self.doc.draft_revert(&undone.inserted, &undone.deleted)?;
+        let inserted = undone.inserted.as_slice();
+        let deleted = undone.deleted.as_slice();
+        let drafted = self.doc.draft_revert(inserted, deleted)?;
+        let ops = drafted.as_slice();
         let (done, room) = prepare(
             self.alloc,
             self.doc.store(),
             &mut self.history,
             &mut self.unsaved,
-            &ops,
+            ops,
             true,
         )?;
-        let front = self
-            .doc
-            .take_revert(&undone.inserted, &undone.deleted, &ops)?;
+        let front = self.doc.take_revert(inserted, deleted, ops)?;
         self.line = line.kept_in(front);
         self.point = Marker {
             element: done.point_after(self.point.element),
             place: 0,
         };
-        self.history.add_undo(index, room, &done, &ops);
-        add_all(&mut self.unsaved, &ops);
+        self.history.add_undo(index, room, &done, ops);
+        add_all(&mut self.unsaved, ops);
         self.undone = Some(index);
         self.listed = false;
         Ok(())

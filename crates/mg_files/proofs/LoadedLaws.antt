@@ -30,6 +30,7 @@ use Rattle.rga_exchange.specs.declared.fault.ReceiveFault.{ReceiveFault}
 use Rattle.rga_exchange.specs.declared.fault.ReceiveFault.TheVariants as receive
 use Rattle.rga_exchange.specs.declared.log.LogEnd.{LogEnd}
 use Rattle.rga_exchange.specs.declared.log.LogEnd.TheVariants.{Whole}
+use Rattle.rga_exchange.specs.Taking.{intake}
 use Rattle.rga_exchange.specs.Log.{log_outcome, log_end, TakesLog}
 use Rattle.mg_files.specs.declared.fault.LoadFault.{LoadFault}
 use Rattle.mg_files.specs.declared.fault.LoadFault.TheVariants.{Store}
@@ -48,7 +49,7 @@ abbrev unread : Bor (List ℕ) → Calls (Bor (List ℕ))
 unread bytes = record { inner = bytes; failures = 0; left = MAX_CALLS; at_end = false; flushed = true }
 
 abbrev Takes : LogEnd → Calls (Bor (List ℕ)) → Calls (Bor (List ℕ)) → Document → Document → Type 0
-Takes end r s doc d = TakesLog (λ (x : Bor (List ℕ)). Some x.now) (λ (x : Document). x.limit) (λ (x : Document). x.content) (λ x ops y. Follows x ops y) log_end (ended end) r s doc d
+Takes end r s doc d = TakesLog (λ (x : Bor (List ℕ)). Some x.now) r s (intake (λ (x : Document). x.limit) (λ (x : Document). x.content) (λ x ops y. Follows x ops y) doc d) log_end (ended end)
 
 -- a log that an empty document took is loaded so, and leaves that document
 pub record IsLoaded (limit replica : ℕ) (bytes : List ℕ) (end : LogEnd) (d : Document) : Type 0 where

@@ -1,7 +1,6 @@
 -- What is loaded from the files under a name, and why nothing is.
 use Rattle.std.specs.Prelude.{◌≡◌, ℕ, ◌==◌, nat_lt, Bool, true, false, List, [], length, Option, Some, None, Result, Ok, Err, ⊤, chars, if◌then◌else◌}
 use Rattle.std.specs.Str.{is_utf8}
-use Rattle.rga_ops.specs.Identifier.{root}
 use Rattle.rga_ops.specs.Content.{Content, nothing, content_of}
 use Rattle.rga_ops.specs.declared.op.Op.{Op}
 use Rattle.rga_ops.specs.declared.refusal.Refusal.TheVariants.{BadId, Full, Range}
@@ -13,7 +12,7 @@ use Rattle.rga_exchange.specs.declared.fault.ReceiveFault.{ReceiveFault}
 use Rattle.rga_exchange.specs.declared.log.LogEnd.{LogEnd}
 use Rattle.rga_exchange.specs.declared.log.LogEnd.TheVariants.{Whole, Bare, Torn}
 use Rattle.rga_exchange.specs.Log.{log_outcome, log_end}
-use Rattle.mg_buffer.specs.State.{state}
+use Rattle.mg_buffer.specs.State.{new_state}
 use Rattle.mg_files.specs.declared.fault.LoadFault.{LoadFault}
 use Rattle.mg_files.specs.declared.fault.LoadFault.TheVariants.{Log, NotText, Store}
 use Rattle.mg_files.specs.Files.{Files}
@@ -75,7 +74,7 @@ ends_open (Torn bytes) = true
 -- Point is at the front, there is no mark and no group. The next writing of a log that ends open is a whole one.
 abbrev pub opened : List ℕ → ℕ → ℕ → Loaded → OpenState
 opened name replica limit l = record {
-  buffer = state (document l.content limit replica false) name root None [] None l.unsaved;
+  buffer = new_state (document l.content limit replica false) name l.unsaved;
   whole = ends_open l.end;
   text_waits = false;
   runs = false;

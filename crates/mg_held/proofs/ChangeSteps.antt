@@ -20,11 +20,10 @@ use Rattle.rga_ops.proofs.SoundLaws.{join_holds}
 use Rattle.rga_doc.specs.Revert.{revert_answer}
 use Rattle.rga_doc.proofs.EditLaws.{splices_taken}
 use Rattle.rga_doc.proofs.RevertLaws.{revert_taken}
-use Rattle.mg_plain.specs.declared.command.Command.{Command}
 use Rattle.mg_buffer.specs.Faults.{FaultVerdict, stored, growth_answer, taken_answer}
 use Rattle.mg_buffer.specs.Groups.{Past, last_group}
 use Rattle.mg_buffer.specs.Ran.{Ran, operations_of_splices}
-use Rattle.mg_buffer.specs.Sight.{Notes}
+use Rattle.mg_buffer.specs.Sight.{CommandCall, Notes}
 use Rattle.mg_buffer.specs.State.{State}
 use Rattle.mg_buffer.specs.Undid.{undo_operations}
 use Rattle.mg_buffer.specs.declared.fault.BufferFault.{BufferFault}
@@ -75,8 +74,8 @@ joined b d ops name content unsaved limit allowed =
 
 -- ---- a command
 
-pub ran_joins : (command : Command) (n column : ℕ) (b : State) (old : Notes) (d : State) (new : Notes) (r : Ran command n column b old d new) → Joins b d (operations_of_splices b r.plan.splices)
-ran_joins command n column b old d new r =
+pub ran_joins : (call : CommandCall) (b : State) (old : Notes) (d : State) (new : Notes) (r : Ran call b old d new) → Joins b d (operations_of_splices b r.plan.splices)
+ran_joins call b old d new r =
     joined b d (operations_of_splices b r.plan.splices) r.edited.name r.edited.content r.edited.unsaved r.edited.limit (splices_taken b.limit b.replica b.content r.plan.splices r.edited.allowed)
 
 -- ---- an undo

@@ -63,8 +63,8 @@ changed held b d s t name h alone =
 
 pub after_step : (held : Content) (step : BufferStep) (b d : OpenState) (s t : Held) → IsLogged held b (s b.buffer.name).log → MayStep step b s d t → HoldsMore held d t
 after_step held (Saves answer) b d s t h m = after_save held answer b d s t h m
-after_step held (Runs command n column old new) b d s t h (alone, ran) =
-    let j = ran_joins command n column b.buffer old d.buffer new ran in
+after_step held (Runs call old new) b d s t h (alone, ran) =
+    let j = ran_joins call b.buffer old d.buffer new ran in
     changed held b d s t j.name (after_change held b d s t (s b.buffer.name).log (operations_of_splices b.buffer ran.plan.splices) h alone j) alone
 after_step held (Undoes old new) b d s t h (alone, u) =
     let j = undid_joins b.buffer old d.buffer new u in

@@ -1,14 +1,13 @@
 -- A buffer and what is held, through saves and changes.
-use Rattle.std.specs.Prelude.{◌≡◌, ℕ, Bool, true, List, [], ◌∷◌, ◌++◌, Some, Result, Ok}
+use Rattle.std.specs.Prelude.{◌≡◌, Bool, true, List, [], ◌∷◌, ◌++◌, Some, Result, Ok}
 use Rattle.rga_ops.specs.Content.{Content, IsWithin}
 use Rattle.rga_ops.specs.ListAnswer.{list_answer}
 use Rattle.rga_ops.specs.declared.op.Op.{Op}
-use Rattle.mg_plain.specs.declared.command.Command.{Command}
 use Rattle.mg_buffer.specs.Faults.{undo_answer}
 use Rattle.mg_buffer.specs.Following.{TakesOperations}
 use Rattle.mg_buffer.specs.Groups.{are_revertible}
 use Rattle.mg_buffer.specs.Ran.{Ran}
-use Rattle.mg_buffer.specs.Sight.{Notes}
+use Rattle.mg_buffer.specs.Sight.{CommandCall, Notes}
 use Rattle.mg_buffer.specs.State.{State}
 use Rattle.mg_buffer.specs.Undid.{Undid}
 use Rattle.mg_files.specs.Calls.{Call}
@@ -23,7 +22,7 @@ use Rattle.mg_held.specs.Kept.{IsWritableWhole, IsLogged}
 -- save of another buffer.
 pub data BufferStep : Type 0 where
   Saves : Result Bool PortFault → BufferStep
-  Runs : Command → ℕ → ℕ → Notes → Notes → BufferStep
+  Runs : CommandCall → Notes → Notes → BufferStep
   Undoes : Notes → Notes → BufferStep
   Takes : List Op → BufferStep
   Rests : BufferStep
@@ -61,7 +60,7 @@ pub record SavesOnce (answer : Result Bool PortFault) (b d : OpenState) (s t : H
 
 abbrev pub MayStep : BufferStep → OpenState → Held → OpenState → Held → Type 0
 MayStep (Saves answer) b s d t = SavesOnce answer b d s t
-MayStep (Runs command n column old new) b s d t = ChangesAlone b d s t × Ran command n column b.buffer old d.buffer new
+MayStep (Runs call old new) b s d t = ChangesAlone b d s t × Ran call b.buffer old d.buffer new
 MayStep (Undoes old new) b s d t = ChangesAlone b d s t × UndoesOne b.buffer old d.buffer new
 MayStep (Takes ops) b s d t = ChangesAlone b d s t × TakesAll b.buffer ops d.buffer
 MayStep Rests b s d t = ChangesAlone b d s t × KeepsOperations b.buffer d.buffer

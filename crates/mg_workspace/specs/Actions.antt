@@ -9,7 +9,7 @@ use Rattle.mg_buffer.specs.declared.fault.BufferFault.TheVariants.{Notice as Not
 use Rattle.mg_buffer.specs.Faults.{FaultVerdict, IsFaultAnswer, run_answer, undo_answer}
 use Rattle.mg_buffer.specs.Ran as buffer_run
 use Rattle.mg_buffer.specs.Undid as buffer_undo
-use Rattle.mg_buffer.specs.Sight.{Notes, place_of}
+use Rattle.mg_buffer.specs.Sight.{Notes, command_call, place_of}
 use Rattle.mg_buffer.specs.State.{State}
 use Rattle.mg_files.specs.OpenState.{OpenState}
 use Rattle.mg_files.specs.Saving.{is_changed}
@@ -72,8 +72,8 @@ with_state_and_notes b notes w = record w { buffers = buffers.with_state w.buffe
 pub record RanInCurrent (command : Command) (n : ℕ) (w v : Workspace) (r : ActionVerdict) : Type 0 where
   pub answer : FaultVerdict
   pub after : State
-  pub exact : IsFaultAnswer answer (run_answer command n w.fill (current_state w) w.notes)
-  pub ran : MatchResult answer (λ _. buffer_run.Ran command n w.fill (current_state w) w.notes after v.notes) (λ _. v ≡ w)
+  pub exact : IsFaultAnswer answer (run_answer (command_call command n w.fill) (current_state w) w.notes)
+  pub ran : MatchResult answer (λ _. buffer_run.Ran (command_call command n w.fill) (current_state w) w.notes after v.notes) (λ _. v ≡ w)
   pub is : v ≡ with_state_and_notes after v.notes w
   pub told : r ≡ of_buffer answer
 

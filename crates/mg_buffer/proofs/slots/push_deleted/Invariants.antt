@@ -1,12 +1,12 @@
-use Rattle.std.proofs.Common.{◌≡◌, ◌≤◌, ◌+◌, take, drop, vec_len, vec_capacity}
-use Rattle.mg_slots.specs.Slots.{with_elements}
-use Rattle.mg_buffer.specs.Slots.{AreDeletedIn, deleted_ones}
+use Rattle.std.proofs.Common.{◌≡◌, ◌<◌, ◌≤◌, ◌+◌, ℕ, map, take, drop, length, vec_len, vec_capacity}
+use Rattle.mg_buffer.proofs.Prelude.{AllByRecursion, with_elements, deleted_at_slot, deleted_ones}
 use Rattle.mg_buffer.proofs.slots.push_deleted.Given as goal
 
 -- the slots so far are those of the elements so far, and those that are left are still to go in
 abbrev pub invariant-loop-id : goal.invariant-loop-id
 invariant-loop-id l = record {
-  slots : AreDeletedIn l.elements.elements l.slots.items (take l.id-index l.deleted);
+  slots : map (deleted_at_slot l.elements.elements) l.slots.items ≡ take l.id-index l.deleted;
+  filled : AllByRecursion (λ (b : ℕ × ℕ). b.0 < length l.elements.elements) l.slots.items;
   elements : with_elements l.elements.elements (deleted_ones (drop l.id-index l.deleted)) ≡ with_elements l.fn.elements.elements (deleted_ones l.deleted);
   places : l.fn.elements.room ≤ l.elements.room + l.id-index;
   entries : l.fn.elements.entries ≤ l.elements.entries + l.id-index;

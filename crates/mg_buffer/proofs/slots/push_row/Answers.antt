@@ -1,11 +1,7 @@
-use Rattle.std.proofs.Common.{◌≡◌, ◌≤◌, ◌<◌, ◌+◌, ◌-◌, ◌++◌, ◌∷◌, [], ℕ, List, length, length-append, append-nil, take, take_all, get_or, refl, sym, ap, ◌∙◌, subst, arith}
-use Rattle.std.specs.Prelude.{Some}
-use Rattle.std.specs.List.{slice_get}
-use Rattle.std.proofs.lemmas.Option.{slice_get-get_or}
-use Rattle.rga_ops.specs.Identifier.{Identifier, root}
-use Rattle.mg_slots.proofs.ListLaws.{at_behind}
-use Rattle.mg_buffer.specs.Slots.{AreIn}
-use Rattle.mg_buffer.proofs.SlotLaws.{Grows, read_again, slots_more, taken_more}
+use Rattle.std.proofs.Common.{◌≡◌, ◌<◌, ◌+◌, ◌-◌, ◌++◌, ◌∷◌, [], ℕ, List, map, length, length-append, take, take_all, get_or, sym, ap, ◌∙◌, subst, arith}
+use Rattle.rga_ops.proofs.MemberLaws.{all_append}
+use Rattle.std.proofs.lemmas.List.{get_or-append_right, map_push, take_more}
+use Rattle.mg_buffer.proofs.Prelude.{AllByRecursion, Identifier, root, element_at_slot}
 use Rattle.mg_buffer.proofs.slots.push_row.Goals as goal
 
 -- how many elements there are with the row
@@ -17,8 +13,8 @@ loop-slot-init c =
     let elements : List Identifier = c.push_row-first.new.self.elements in
     let none : c.push_row-first.result - c.push_row-first.result ≡ 0 = omega arith in
     record {
-      slots = subst (λ xs. AreIn elements xs (take (c.push_row-first.result - c.push_row-first.result) c.args.ids.now)) (sym c.requires.empty)
-          (subst (λ n. AreIn elements [] (take n c.args.ids.now)) (sym none) refl);
+      slots = ap (map (element_at_slot elements)) c.requires.empty ∙ ap (λ n. take n c.args.ids.now) (sym none);
+      filled = subst (AllByRecursion (λ s. s < length elements)) (sym c.requires.empty) tt;
       len = omega (arith, c.args.slots.now.ok.0, ap length c.requires.empty);
       capacity = omega arith;
     }
@@ -34,21 +30,19 @@ loop-slot-preserved c =
     let ids : List Identifier = c.args.ids.now in
     let new : List Identifier = c.push_row-first.new.self.elements in
     let slot : ℕ = c.loop-slot.slot in
-    let k : ℕ = slot - c.push_row-first.result in
+    let first : ℕ = c.push_row-first.result in
     let long = whole old ids new c.push_row-first.ensures.elements in
-    let within : k < length ids = omega (arith, long, ap length c.elements-count.ensures, c.push_row-first.ensures.slot, c.loop-slot-test.true) in
-    let id : Identifier = get_or ids k root in
-    let there : slice_get new slot ≡ Some id =
-    ap (λ xs. slice_get xs slot) c.push_row-first.ensures.elements
-    ∙ at_behind old ids slot k (omega (arith, c.push_row-first.ensures.slot, c.loop-slot.auto.slot))
-    ∙ slice_get-get_or ids k root within in
-    let next : slot + 1 - c.push_row-first.result ≡ k + 1 = omega (arith, c.loop-slot.auto.slot) in
-    let same : Grows new new = record { more = []; parts = sym (append-nil new) } in
+    let within : slot - first < length ids = omega (arith, long, ap length c.elements-count.ensures, c.push_row-first.ensures.slot, c.loop-slot-test.true) in
+    let there : element_at_slot new slot ≡ get_or ids (slot - first) root =
+    ap (λ xs. get_or xs slot root) c.push_row-first.ensures.elements ∙ get_or-append_right old ids first slot root (sym c.push_row-first.ensures.slot) c.loop-slot.auto.slot in
+    let next : slot + 1 - first ≡ slot - first + 1 = omega (arith, c.loop-slot.auto.slot) in
     record {
       slots =
-          subst (λ xs. AreIn new xs (take (slot + 1 - c.push_row-first.result) ids)) (sym c.push_reserved.ensures.items)
-          (subst (AreIn new (c.loop-slot.slots.items ++ slot ∷ [])) (sym (ap (λ n. take n ids) next ∙ taken_more ids k id within (read_again ids k root within)))
-          (slots_more new new same c.loop-slot.slots.items (take k ids) slot id c.loop-slot.invariant.slots there));
+          ap (map (element_at_slot new)) c.push_reserved.ensures.items ∙ map_push (element_at_slot new) c.loop-slot.slots.items slot
+          ∙ (λ k. c.loop-slot.invariant.slots k ++ there k ∷ []) ∙ sym (ap (λ n. take n ids) next ∙ take_more ids (slot - first) root within);
+      filled =
+          subst (AllByRecursion (λ s. s < length new)) (sym c.push_reserved.ensures.items)
+          (all_append (λ s. s < length new) c.loop-slot.slots.items (slot ∷ []) c.loop-slot.invariant.filled (omega (arith, ap length c.elements-count.ensures, c.loop-slot-test.true), tt));
       len = omega (arith, c.push_reserved.ensures.len, c.loop-slot.invariant.len);
       capacity = omega (arith, c.push_reserved.ensures.capacity, c.loop-slot.invariant.capacity);
     }
@@ -57,6 +51,4 @@ pub returns-clause-slots : goal.returns-clause-slots
 returns-clause-slots c =
     let ids : List Identifier = c.args.ids.now in
     let long = whole c.args.elements.now.elements ids c.push_row-first.new.self.elements c.push_row-first.ensures.elements in
-    let all : length ids ≤ c.loop-slot.slot - c.push_row-first.result =
-    omega (arith, long, ap length c.elements-count.ensures, c.push_row-first.ensures.slot, c.loop-slot-test.false) in
-    subst (AreIn c.push_row-first.new.self.elements c.loop-slot.slots.items) (take_all _ ids all) c.loop-slot.invariant.slots
+    c.loop-slot.invariant.slots ∙ take_all (c.loop-slot.slot - c.push_row-first.result) ids (omega (arith, long, ap length c.elements-count.ensures, c.push_row-first.ensures.slot, c.loop-slot-test.false))

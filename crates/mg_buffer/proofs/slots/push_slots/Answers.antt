@@ -1,9 +1,7 @@
-use Rattle.std.proofs.Common.{◌≡◌, ◌+◌, ℕ, List, ◌∷◌, [], ◌++◌, take, drop, ap, ◌∙◌, sym, subst, arith}
-use Rattle.rga_ops.specs.Identifier.{Identifier}
+use Rattle.std.proofs.Common.{◌+◌, ◌<◌, ℕ, List, map, take, drop, length, ap, ◌∙◌, sym, subst, arith}
 use Rattle.rga_doc.proofs.RevertSets.{from}
-use Rattle.mg_slots.specs.Slots.{with_elements}
-use Rattle.mg_buffer.specs.Slots.{AreIn}
-use Rattle.mg_buffer.proofs.SlotLaws.{Grows, grows_one, slots_more, taken_more}
+use Rattle.mg_buffer.proofs.Prelude.{AllByRecursion, Identifier, with_elements, element_at_slot}
+use Rattle.mg_buffer.proofs.SlotLaws.{Grows, grows_one, reads_more, within_more, taken_more}
 use Rattle.mg_buffer.proofs.slots.push_slots.Goals as goal
 
 pub loop-id-preserved : goal.loop-id-preserved
@@ -14,12 +12,14 @@ loop-id-preserved c =
     let old : List Identifier = c.loop-id.elements.elements in
     let new : List Identifier = c.slot_of.new.self.elements in
     let grows : Grows old new = subst (Grows old) (sym c.slot_of.ensures.elements) (grows_one old id) in
-    let items : c.push_reserved.new.self.items ≡ c.loop-id.slots.items ++ c.slot_of.result ∷ [] = c.push_reserved.ensures.items in
     record {
       slots =
-          subst (λ xs. AreIn new xs (take (i + 1) ids)) (sym items)
-          (subst (AreIn new (c.loop-id.slots.items ++ c.slot_of.result ∷ [])) (sym (taken_more ids i id c.loop-id-test.true c.id-item.is))
-          (slots_more old new grows c.loop-id.slots.items (take i ids) c.slot_of.result id c.loop-id.invariant.slots c.slot_of.ensures.slot));
+          ap (map (element_at_slot new)) c.push_reserved.ensures.items
+          ∙ reads_more (λ (s : ℕ). s) (λ x s. x) old new grows c.loop-id.slots.items (take i ids) c.slot_of.result id c.loop-id.invariant.filled c.loop-id.invariant.slots c.slot_of.ensures.slot
+          ∙ sym (taken_more ids i id c.loop-id-test.true c.id-item.is);
+      filled =
+          subst (AllByRecursion (λ s. s < length new)) (sym c.push_reserved.ensures.items)
+          (within_more (λ (s : ℕ). s) old new grows c.loop-id.slots.items c.slot_of.result id c.loop-id.invariant.filled c.slot_of.ensures.slot);
       elements =
           ap (λ xs. with_elements xs (drop (i + 1) ids)) c.slot_of.ensures.elements
           ∙ ap (with_elements old) (sym (from ids i id c.loop-id-test.true c.id-item.is)) ∙ c.loop-id.invariant.elements;

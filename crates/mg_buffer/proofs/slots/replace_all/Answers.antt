@@ -1,13 +1,9 @@
 use Rattle.std.proofs.Common.{◌≡◌, ◌+◌, ℕ, List, ◌∷◌, [], map, drop, length, ap, ◌∙◌, sym, subst, arith}
-use Rattle.std.proofs.lemmas.List.{drop_all}
-use Rattle.rga_ops.specs.Identifier.{Identifier}
-use Rattle.rga_ops.specs.declared.op.Op.{Op}
-use Rattle.rga_doc.specs.UndoGroup.{inserted_elements}
+use Rattle.std.proofs.lemmas.List.{drop_all, map-id}
 use Rattle.rga_doc.proofs.UndoLists.{one_more}
 use Rattle.rga_doc.proofs.RevertSets.{from}
-use Rattle.mg_buffer.specs.Groups.{stand_in}
-use Rattle.mg_buffer.specs.Slots.{AreStandIns}
-use Rattle.mg_buffer.proofs.StandInLaws.{all_instead, themselves}
+use Rattle.mg_buffer.proofs.Prelude.{Identifier, Op, inserted_elements, instead, stand_in, AreStandIns}
+use Rattle.mg_buffer.proofs.SlotLaws.{map-map}
 use Rattle.mg_buffer.proofs.slots.replace_all.Goals as goal
 
 pub replace_by-requires-clause-able : goal.replace_by-requires-clause-able
@@ -33,8 +29,8 @@ loop-op-preserved c =
     let able : AreStandIns elements (op ∷ rest) = subst (AreStandIns elements) split c.loop-op.invariant.stand_ins in
     let count = ap (λ xs. length (inserted_elements xs)) split ∙ one_more op rest in
     record {
-      stand_ins = subst (λ xs. AreStandIns xs rest) (sym c.replace_by.ensures.elements) able.2;
-      all = ap (map (stand_in rest)) c.replace_by.ensures.elements ∙ sym (all_instead op rest able.1 elements)
+      stand_ins = subst (λ xs. AreStandIns xs rest) (sym c.replace_by.ensures.elements) able.1;
+      all = ap (map (stand_in rest)) c.replace_by.ensures.elements ∙ map-map (stand_in rest) (instead op) elements
           ∙ ap (λ xs. map (stand_in xs) elements) (sym split) ∙ c.loop-op.invariant.all;
       entries = omega (arith, count, c.loop-op.invariant.entries, c.replace_by.ensures.entries);
     }
@@ -42,4 +38,4 @@ loop-op-preserved c =
 pub returns : goal.returns
 returns c =
     let none : drop c.loop-op.op-index c.args.ops.now ≡ [] = drop_all c.loop-op.op-index c.args.ops.now c.loop-op-test.false in
-    sym (themselves c.loop-op.elements.elements) ∙ ap (λ xs. map (stand_in xs) c.loop-op.elements.elements) (sym none) ∙ c.loop-op.invariant.all
+    sym (map-id c.loop-op.elements.elements) ∙ ap (λ xs. map (stand_in xs) c.loop-op.elements.elements) (sym none) ∙ c.loop-op.invariant.all

@@ -1,7 +1,5 @@
 use Rattle.std.proofs.Common.{◌≡◌, ◌≤◌, map, drop, length}
-use Rattle.rga_doc.specs.UndoGroup.{inserted_elements}
-use Rattle.mg_buffer.specs.Groups.{stand_in}
-use Rattle.mg_buffer.specs.Slots.{AreStandIns}
+use Rattle.mg_buffer.proofs.Prelude.{inserted_elements, stand_in, AreStandIns}
 use Rattle.mg_buffer.proofs.slots.replace_all.Given as goal
 
 -- what the operations that are left put in is all that was wanted

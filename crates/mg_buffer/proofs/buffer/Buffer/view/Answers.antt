@@ -1,6 +1,5 @@
 use Rattle.std.proofs.Common.{rules, sym, ◌∙◌}
-use Rattle.rga_ops.specs.Content.{Content}
-use Rattle.mg_buffer.specs.Kept.{IsAtHand}
+use Rattle.mg_buffer.proofs.Prelude.{Content, IsAtHand}
 use Rattle.mg_buffer.proofs.PlaceLaws.{placed_within, mark_placed_within}
 use Rattle.mg_buffer.proofs.buffer.Buffer.view.Goals as goal
 

@@ -1,49 +1,49 @@
-use Rattle.std.proofs.Common.{◌≡◌, List, ap, ◌∙◌, sym, subst}
-use Rattle.rga_ops.specs.Identifier.{Identifier}
-use Rattle.rga_ops.specs.declared.op.Op.{Op}
-use Rattle.mg_buffer.specs.Groups.{Past, with_group}
-use Rattle.mg_slots.specs.Slots.{with_elements}
-use Rattle.mg_buffer.specs.Slots.{AreDeletedIn, AreFilledSlots, AreIn, past_by, pasts_by, deleted_ones}
-use Rattle.mg_buffer.proofs.SlotLaws.{Grows, grows_all, grows_on, longer, slots_kept}
-use Rattle.mg_buffer.proofs.HistoryLaws.{IsGroupOf, filled_with, group_filled, map-with_group, past_is, same_pasts, still_filled}
+use Rattle.std.proofs.Common.{◌≡◌, ◌<◌, ℕ, List, length, ap, ◌∙◌, sym, subst, arith}
+use Rattle.rga_ops.proofs.MemberLaws.{all_map}
+use Rattle.mg_buffer.proofs.Prelude.{AllByRecursion, Identifier, with_group, IsFilled, Slotted, deleted_ones, past_by, pasts_by}
+use Rattle.mg_buffer.proofs.SlotLaws.{Grows, grows_all, grows_on, longer, same_reads}
+use Rattle.mg_buffer.proofs.HistoryLaws.{grown_filled, grown_pasts}
+use Rattle.mg_buffer.proofs.history.History.add.Goals.{After-add_group}
 use Rattle.mg_buffer.proofs.history.History.add.Goals as goal
 
--- the elements grew by those of the change
-grows : (first between last ids more : List Identifier) → between ≡ with_elements first ids → last ≡ with_elements between more → Grows first between × Grows between last
-grows first between last ids more g h = (subst (Grows first) (sym g) (grows_all first ids), subst (Grows between) (sym h) (grows_all between more))
+module _ (c : After-add_group) where
+  abbrev first : List Identifier
+  first = c.self.inside.elements.elements
+
+  abbrev between : List Identifier
+  between = c.push_inserted.new.elements.elements
+
+  abbrev last : List Identifier
+  last = c.push_deleted.new.elements.elements
+
+  abbrev group : Slotted
+  group = record { inserted = c.push_inserted.new.slots.items; deleted = c.push_deleted.new.slots.items }
+
+  grown : Grows between last
+  grown = subst (Grows between) (sym c.push_deleted.ensures.elements) (grows_all between (deleted_ones c.deref-2.result.now))
+
+  grows : Grows first last
+  grows = grows_on first between last (subst (Grows first) (sym c.push_inserted.ensures.elements) (grows_all first c.deref.result.now)) grown
+
+  filled : IsFilled last group
+  filled = record {
+    inserted = all_map (λ s. s < length between) (λ s. s < length last) (λ s h. omega (arith, h, longer between last grown)) group.inserted c.push_inserted.ensures.filled;
+    deleted = c.push_deleted.ensures.filled;
+  }
+
+  is : past_by last group ≡ c.args.change.now
+  is = (λ k. record {
+    inserted = (same_reads (λ (s : ℕ). s) (λ id s. id) between last grown group.inserted c.push_inserted.ensures.filled ∙ c.push_inserted.ensures.slots ∙ c.deref.ensures.value) k;
+    deleted = (c.push_deleted.ensures.slots ∙ c.deref-2.ensures.value) k;
+  }) ∙ c.change.view_is
 
 pub returns-clause-pasts : goal.returns-clause-pasts
 returns-clause-pasts c =
-    let first : List Identifier = c.args.self.now.elements.elements in
-    let between : List Identifier = c.push_inserted.new.elements.elements in
-    let last : List Identifier = c.push_deleted.new.elements.elements in
-    let change : Past = c.args.change.now in
-    let ops : List Op = c.args.ops.now in
-    let grown = grows first between last c.deref.result.now (deleted_ones c.deref-2.result.now) c.push_inserted.ensures.elements c.push_deleted.ensures.elements in
-    let inserted : c.deref.result.now ≡ change.inserted = c.deref.ensures.value ∙ ap (λ (x : Past). x.inserted) c.change.view_is in
-    let deleted : c.deref-2.result.now ≡ change.deleted = c.deref-2.ensures.value ∙ ap (λ (x : Past). x.deleted) c.change.view_is in
-    let group : IsGroupOf last c.push_inserted.new.slots.items c.push_deleted.new.slots.items change = record {
-      slots = slots_kept between last grown.1 c.push_inserted.new.slots.items change.inserted (subst (AreIn between c.push_inserted.new.slots.items) inserted c.push_inserted.ensures.slots);
-      slots_of_deleted = subst (AreDeletedIn last c.push_deleted.new.slots.items) deleted c.push_deleted.ensures.slots;
-    } in
-    ap (pasts_by last) c.add_group.ensures
-    ∙ map-with_group (past_by last) c.args.self.now.groups.items _ ops
-    ∙ (λ k. with_group (same_pasts first last (grows_on first between last grown.0 grown.1) c.args.self.now.groups.items c.requires.filled k) (past_is last c.push_inserted.new.slots.items c.push_deleted.new.slots.items change group k) ops)
+    ap (pasts_by (last c)) c.add_group.ensures
+    ∙ grown_pasts (first c) (last c) (grows c) c.self.inside.groups.items c.self.invariant (group c) c.args.ops.now
+    ∙ (λ k. with_group (c.self.view_is k).pasts (is c k) c.args.ops.now)
 
-pub returns-clause-filled : goal.returns-clause-filled
-returns-clause-filled c =
-    let first : List Identifier = c.args.self.now.elements.elements in
-    let between : List Identifier = c.push_inserted.new.elements.elements in
-    let last : List Identifier = c.push_deleted.new.elements.elements in
-    let change : Past = c.args.change.now in
-    let grown = grows first between last c.deref.result.now (deleted_ones c.deref-2.result.now) c.push_inserted.ensures.elements c.push_deleted.ensures.elements in
-    let inserted : c.deref.result.now ≡ change.inserted = c.deref.ensures.value ∙ ap (λ (x : Past). x.inserted) c.change.view_is in
-    let deleted : c.deref-2.result.now ≡ change.deleted = c.deref-2.ensures.value ∙ ap (λ (x : Past). x.deleted) c.change.view_is in
-    let group : IsGroupOf last c.push_inserted.new.slots.items c.push_deleted.new.slots.items change = record {
-      slots = slots_kept between last grown.1 c.push_inserted.new.slots.items change.inserted (subst (AreIn between c.push_inserted.new.slots.items) inserted c.push_inserted.ensures.slots);
-      slots_of_deleted = subst (AreDeletedIn last c.push_deleted.new.slots.items) deleted c.push_deleted.ensures.slots;
-    } in
-    subst (AreFilledSlots last) (sym c.add_group.ensures)
-    (filled_with last c.args.self.now.groups.items _ c.args.ops.now
-    (still_filled first last (longer first last (grows_on first between last grown.0 grown.1)) c.args.self.now.groups.items c.requires.filled)
-    (group_filled last c.push_inserted.new.slots.items c.push_deleted.new.slots.items change group))
+pub invariant_of-self : goal.invariant_of-self
+invariant_of-self c =
+    subst (AllByRecursion (IsFilled (last c))) (sym c.add_group.ensures)
+    (grown_filled (first c) (last c) (grows c) c.self.inside.groups.items c.self.invariant (group c) c.args.ops.now (filled c))

@@ -1,6 +1,7 @@
 use Rattle.std.proofs.Common.{◌≡◌, OnOk, refl, ap, sym, subst, ◌∙◌}
 use Rattle.mg_buffer.specs.Faults.{IsFaultAnswer, run_answer}
 use Rattle.mg_buffer.specs.Ran as buffer
+use Rattle.mg_buffer.specs.Sight.{CommandCall, command_call}
 use Rattle.mg_files.specs.OpenState.{OpenState}
 use Rattle.mg_workspace.specs.Buffers.{current_buffer, with_current}
 use Rattle.mg_workspace.proofs.Results.{on_err_map}
@@ -13,6 +14,7 @@ pub returns : goal.returns
 returns g c =
     let s = c.self.inside in
     let b = c.current.inside in
+    let call : CommandCall = command_call c.args.command.now c.args.argument s.fill in
     let x : OpenState = record { buffer = b.buffer; whole = b.whole; text_waits = b.text_waits; runs = b.runs; brief = b.brief } in
     let is : x ≡ current_buffer s.buffers = c.current.view_is ∙ c.current_mut-current.ensures.value in
     let answer = c.run-answer in
@@ -23,8 +25,8 @@ returns g c =
     let was : Workspace = record { buffers = s.buffers; notes = s.memo; windows = s.windows; fill = s.fill; columns = s.columns; replica = s.replica; limit = s.limit; runs = s.runs; brief = s.brief } in
     let now : Workspace = record was { buffers = with_current s.buffers (record x { buffer = after }); notes = notes } in
     let here : x.buffer ≡ current_state was = ap (λ o. o.buffer) is in
-    let exact = subst (λ d. IsFaultAnswer r (run_answer c.args.command.now c.args.argument s.fill d s.memo)) here answer.ensures.exact in
-    let done = subst (λ d. OnOk r (buffer.Ran c.args.command.now c.args.argument s.fill d s.memo after notes)) here answer.ensures.ran in
+    let exact = subst (λ d. IsFaultAnswer r (run_answer call d s.memo)) here answer.ensures.exact in
+    let done = subst (λ d. OnOk r (buffer.Ran call d s.memo after notes)) here answer.ensures.ran in
     let same = on_err_map r _ _ (λ kept. kept ∙ here) answer.ensures.same in
     let became : RanInCurrent c.args.command.now c.args.argument was (with_state_and_notes after notes was) told = record {
       answer = r;
