@@ -38,12 +38,6 @@ pub(crate) fn asks_for(request: Request) -> Ending
     }
 }
 
-fn undefined() -> Ending
-    ensures { result ≡ spec.undefined }
-{
-    ending_of(Action::EndRun, Next::Same, Message::UndefinedKey)
-}
-
 fn line(alloc: Global, asked: Asked) -> Prompt
     ensures { result ≡ Prompt.Line asked [] }
 {
@@ -124,6 +118,6 @@ pub fn plain_step(alloc: Global, step: Step, scene: &Scene<'_>) -> Ending
         // A byte that left a search and waits for more.
         Step::Pending => does(Action::Nothing),
         Step::Cancel => ending_of(Action::EndRun, Next::Same, Message::Quit),
-        _ => undefined(),
+        _ => ending_of(Action::EndRun, Next::Same, Message::UndefinedKey),
     }
 }

@@ -33,15 +33,6 @@ fn from_match(search: &Search) -> Option<usize>
     }
 }
 
-fn past(direction: Direction, i: usize) -> Option<usize>
-    ensures { result ≡ spec.past direction i }
-{
-    match direction {
-        Direction::Forward => i.checked_add(1),
-        Direction::Backward => i.checked_sub(1),
-    }
-}
-
 /// Where the search for the next match begins, if there is a pattern.
 fn past_match(search: &Search) -> Option<usize>
     ensures { result ≡ spec.past_match search.now }
@@ -50,7 +41,10 @@ fn past_match(search: &Search) -> Option<usize>
         return None;
     }
     match search.found {
-        Some(i) => past(search.direction, i),
+        Some(i) => match search.direction {
+            Direction::Forward => i.checked_add(1),
+            Direction::Backward => i.checked_sub(1),
+        },
         None => from_origin(search),
     }
 }
@@ -65,24 +59,16 @@ fn command(alloc: Global, search: &Search, start: usize) -> Result<Command, Allo
     })
 }
 
-/// The search with a match there.
-fn with_match(search: Search, i: usize) -> Search
-    ensures { result ≡ spec.with_match search i }
-{
-    Search {
-        origin: search.origin,
-        direction: search.direction,
-        pattern: search.pattern,
-        found: Some(i),
-    }
-}
-
 /// Point goes to a match that is found from the start on.
 fn goes_to(alloc: Global, search: Search, start: usize, i: usize) -> Result<Reaction, AllocError>
     ensures { IfOk result (λ reaction. reaction ≡ spec.goes_to search start i) }
 {
     let command = command(alloc, &search, start)?;
-    let prompt = Prompt::Searching(with_match(search, i));
+    let found = Search {
+        found: Some(i),
+        ..search
+    };
+    let prompt = Prompt::Searching(found);
     Ok(runs(command, Next::Open(prompt), Message::Nothing))
 }
 
@@ -93,25 +79,6 @@ fn sought(text: &[char], search: &Search, start: Option<usize>) -> Option<(usize
     let start = start?;
     let i = find(search.direction, text, search.pattern.as_slice(), start)?;
     Some((start, i))
-}
-
-/// There is no match.
-fn failed(next: Next) -> Reaction
-    ensures { result ≡ spec.failed next }
-{
-    shows(next, Message::Refused(Notice::SearchFailed))
-}
-
-/// The search with another pattern and the same match.
-fn with_pattern(search: &Search, pattern: Chars) -> Search
-    ensures { result ≡ spec.with_pattern search.now pattern }
-{
-    Search {
-        origin: search.origin,
-        direction: search.direction,
-        pattern,
-        found: search.found,
-    }
 }
 
 fn lengthened(
@@ -127,10 +94,15 @@ fn lengthened(
     if pattern.len() >= MAX_ANSWER {
         return Ok(shows(Next::Same, Message::Nothing));
     }
-    let longer = with_pattern(search, typed(alloc, pattern, ch)?);
+    let longer = Search {
+        origin: search.origin,
+        direction: search.direction,
+        pattern: typed(alloc, pattern, ch)?,
+        found: search.found,
+    };
     match sought(text, &longer, from_match(search)) {
         Some((start, i)) => goes_to(alloc, longer, start, i),
-        None => Ok(failed(Next::Same)),
+        None => Ok(shows(Next::Same, Message::Refused(Notice::SearchFailed))),
     }
 }
 
@@ -168,7 +140,10 @@ fn goes_on(alloc: Global, search: Search, text: &[char]) -> Result<Reaction, All
 {
     match sought(text, &search, past_match(&search)) {
         Some((start, i)) => goes_to(alloc, search, start, i),
-        None => Ok(failed(Next::Open(Prompt::Searching(search)))),
+        None => Ok(shows(
+            Next::Open(Prompt::Searching(search)),
+            Message::Refused(Notice::SearchFailed),
+        )),
     }
 }
 

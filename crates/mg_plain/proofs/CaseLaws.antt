@@ -1,9 +1,13 @@
 -- Characters that splice case, from the last one to the first; blanks at the begin of a line.
-use Rattle.std.proofs.Common.{Bool, List, [], ap, append_assoc, arith, cond, drop, false, get_or, if◌then◌else◌, length, nat_eq, ne_eqb, suc, sym, take, true, ℕ, ◌++◌, ◌+◌, ◌-◌, ◌<◌, ◌∙◌, ◌∷◌, ◌≡◌}
+use Rattle.std.proofs.Common.{Bool, List, Ok, [], ap, append-nil, append_assoc, arith, cond, drop, false, get_or, if◌then◌else◌, length, nat_eq, ne_eqb, suc, sym, take, true, ℕ, ◌++◌, ◌+◌, ◌-◌, ◌<◌, ◌∙◌, ◌∷◌, ◌≡◌}
+use Rattle.std.specs.Prelude.{Result}
 use Rattle.std.specs.List.{prefix_len, slice_index, take_while}
 use Rattle.std.proofs.lemmas.Bool.{eq-eqb}
 use Rattle.rga_ops.specs.Splice.{Splice}
+use Rattle.mg_plain.specs.declared.outcome.Notice.{Notice}
+use Rattle.mg_plain.specs.Answer.{IsEffectAnswer}
 use Rattle.mg_plain.specs.Cases.{character_splices}
+use Rattle.mg_plain.specs.Effect.{Effect}
 use Rattle.mg_text.specs.Splices.{splice}
 use Rattle.mg_plain.proofs.MatchLaws.{front}
 
@@ -47,3 +51,13 @@ pub taken_on : (p : ℕ → Bool) (line put more all : List ℕ) (k c : ℕ) →
 taken_on p line put more all k c inside is passes pushed so_far =
     ap (λ ys. ys ++ take_while p (drop (k + 1) line)) pushed ∙ append_assoc put (c ∷ []) (take_while p (drop (k + 1) line))
     ∙ ap (λ ys. put ++ ys) (sym (take_while-more p c (drop (k + 1) line) passes) ∙ ap (take_while p) (sym (front line k c inside is))) ∙ so_far
+
+-- an effect is the one that is due
+pub is_due : (e due : Effect) → IsEffectAnswer (Ok e) (Ok due) → e ≡ due
+is_due e due answer = let same : ◌≡◌ {A = Result Effect Notice} (Ok e) (Ok due) = answer.exact (λ h. cc) in cc
+
+-- no more at the begin of a line
+pub taken_off : (p : ℕ → Bool) (line put all : List ℕ) (k c : ℕ) → k < length line → c ≡ get_or line k c → p c ≡ false → put ++ take_while p (drop k line) ≡ all → put ≡ all
+taken_off p line put all k c inside is fails so_far =
+    let none : take_while p (c ∷ drop (k + 1) line) ≡ [] = ap (λ b. take (cond b (1 + prefix_len p (drop (k + 1) line)) 0) (c ∷ drop (k + 1) line)) fails in
+    sym (append-nil put) ∙ ap (λ ys. put ++ ys) (sym none ∙ ap (take_while p) (sym (front line k c inside is))) ∙ so_far

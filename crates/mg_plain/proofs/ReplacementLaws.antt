@@ -1,5 +1,5 @@
 -- Replacements, one after the other.
-use Rattle.std.proofs.Common.{List, None, Option, Some, [], ap, append-nil, append_assoc, arith, false, if◌then◌else◌, length, map, nat_eq, ne_eqb, option_map, refl, reverse, suc, sym, true, true≢false, zero, ℕ, ◌++◌, ◌+◌, ◌-◌, ◌<◌, ◌∙◌, ◌∷◌, ◌≡◌, ◌≤◌}
+use Rattle.std.proofs.Common.{List, None, Some, [], ap, append-nil, append_assoc, arith, false, if◌then◌else◌, length, map, nat_eq, ne_eqb, option_map, refl, reverse, suc, sym, true, true≢false, ℕ, ◌++◌, ◌+◌, ◌-◌, ◌<◌, ◌∙◌, ◌∷◌, ◌≡◌, ◌≤◌}
 use Rattle.std.proofs.lemmas.List.{map_push}
 use Rattle.rga_ops.specs.Splice.{Splice}
 use Rattle.mg_text.specs.Splices.{splice}

@@ -1,11 +1,11 @@
 //! Characters that change places, and letters that change case.
-ghost use Rattle.std.specs.Prelude.{◌≡◌, ◌≤◌, ◌<◌, ◌-◌, length, IfOk};
+ghost use Rattle.std.specs.Prelude.{◌≡◌, ◌≤◌, ◌<◌, ◌-◌, length, Ok, IfOk};
 ghost use Rattle.std.specs.List.{slice_index};
 ghost use Rattle.mg_plain.specs.Answer.{IsEffectAnswer};
 ghost use Rattle.mg_plain.specs.Cases as spec;
 
 use crate::characters::{lower, upper};
-use crate::edit::edit;
+use crate::edit::{edit, edit_once};
 use crate::outcome::{Notice, Plan};
 use crate::view::View;
 use crate::words::{has_word_character, word_end};
@@ -14,15 +14,20 @@ use rga_ops::Splice;
 use std::alloc::{AllocError, Global};
 
 /// The characters on both sides of point change places.
-fn transpose(alloc: Global, view: &View<'_>) -> Result<Plan, AllocError>
+fn transpose(alloc: Global, view: &View<'_>) -> Result<Plan, Notice>
     requires some { 0 < view.now.point }
     requires more { view.now.point < length view.now.text }
-    ensures { IfOk result (λ p. p ≡ spec.transposition view.now) }
+    ensures { IsEffectAnswer result (Ok (spec.transposition view.now)) }
 {
     let before = view.text[view.point - 1];
     let behind = view.text[view.point];
-    let one = splice(alloc, view.point - 1, view.point + 1, &[behind, before])?;
-    edit(view, vec![in alloc; one]?)
+    edit_once(
+        alloc,
+        view,
+        view.point - 1,
+        view.point + 1,
+        &[behind, before],
+    )
 }
 
 pub(crate) fn transpose_chars(alloc: Global, view: &View<'_>) -> Result<Plan, Notice>
@@ -34,7 +39,7 @@ pub(crate) fn transpose_chars(alloc: Global, view: &View<'_>) -> Result<Plan, No
     if view.point == view.text.len() {
         return Err(Notice::EndOfBuffer);
     }
-    Ok(transpose(alloc, view)?)
+    transpose(alloc, view)
 }
 
 /// What becomes of the letters of a word.
@@ -107,15 +112,10 @@ fn character_splices(
 }
 
 /// The characters from point up to a place, where point goes.
-fn recase_up_to(
-    alloc: Global,
-    view: &View<'_>,
-    casing: Casing,
-    end: usize,
-) -> Result<Plan, AllocError>
+fn recase_up_to(alloc: Global, view: &View<'_>, casing: Casing, end: usize) -> Result<Plan, Notice>
     requires order { view.now.point ≤ end }
     requires within { end ≤ length view.now.text }
-    ensures { IfOk result (λ p. p ≡ spec.recasing_up_to casing view.now end) }
+    ensures { IsEffectAnswer result (Ok (spec.recasing_up_to casing view.now end)) }
 {
     let first = first_word_character(view.text, view.point);
     let splices = character_splices(alloc, view.text, view.point, end, casing, first)?;
@@ -130,5 +130,5 @@ pub(crate) fn recase_word(alloc: Global, view: &View<'_>, casing: Casing) -> Res
         return Err(Notice::EndOfBuffer);
     }
     let end = word_end(view.text, view.point);
-    Ok(recase_up_to(alloc, view, casing, end)?)
+    recase_up_to(alloc, view, casing, end)
 }

@@ -60,23 +60,3 @@ impl From<Vec<char>> for Chars {
         Chars { items }
     }
 }
-
-impl PartialEq for Chars {
-    ghost use Rattle.std.specs.Prelude.{nat_eq};
-    ghost use Rattle.std.specs.Cmp.{partial_equiv_from_equiv};
-    ghost use Rattle.std.specs.Cmp.Lexicographic.{nat_list_eq_equiv, pointwise};
-
-    ghost eq = { λ a b. pointwise nat_eq a b };
-
-    ghost laws = { partial_equiv_from_equiv nat_list_eq_equiv };
-
-    fn eq(&self, other: &Chars) -> bool {
-        self.as_slice() == other.as_slice()
-    }
-}
-
-impl Eq for Chars {
-    ghost use Rattle.std.specs.Cmp.Lexicographic.{nat_list_eq_equiv};
-
-    ghost laws = { nat_list_eq_equiv };
-}

@@ -1,18 +1,18 @@
 //! Splices, and what they do to places.
-ghost use Rattle.std.specs.Prelude.{◌≡◌, ◌≤◌, ◌+◌, ◌^◌, length, None, IfSome, IfOk, IfErr};
-ghost use Rattle.rga_ops.specs.Splice.{new_characters};
+ghost use Rattle.std.specs.Prelude.{◌≡◌, ◌∷◌, [], Ok, IfSome, IfOk};
 ghost use Rattle.mg_text.specs.Splices.{splice};
+ghost use Rattle.mg_plain.specs.Answer.{IsEffectAnswer};
 ghost use Rattle.mg_plain.specs.Effect.{one_splice, carried_place, place_after, edit_effect};
 
-use crate::outcome::Plan;
+use crate::outcome::{Notice, Plan};
 use crate::view::{Kind, View};
+use mg_text::splice;
 use rga_ops::Splice;
 use std::alloc::{AllocError, Global};
 
 /// Where a place goes as a splice is done; none past the greatest number.
 fn carry(splice: &Splice, q: usize) -> Option<usize>
-    ensures place { IfSome result (λ r. r ≡ carried_place splice.now q) }
-    ensures none { result ≡ None → 2 ^ 64 ≤ q + length splice.now.put }
+    ensures { IfSome result (λ r. r ≡ carried_place splice.now q) }
 {
     if q <= splice.lo {
         Some(q)
@@ -24,10 +24,9 @@ fn carry(splice: &Splice, q: usize) -> Option<usize>
     }
 }
 
-/// Where it goes as splices are done in turn.
+/// Where it goes as splices are done in turn; none past the greatest number.
 pub(crate) fn carry_over(splices: &[Splice], q: usize) -> Option<usize>
-    ensures place { IfSome result (λ r. r ≡ place_after splices.now q) }
-    ensures none { result ≡ None → 2 ^ 64 ≤ q + new_characters splices.now }
+    ensures { IfSome result (λ r. r ≡ place_after splices.now q) }
 {
     let mut place = q;
     for splice in splices {
@@ -36,20 +35,18 @@ pub(crate) fn carry_over(splices: &[Splice], q: usize) -> Option<usize>
     Some(place)
 }
 
-/// The plan of splices alone: point and mark are carried. It is refused only where the new text
-/// would have more characters than there are numbers.
-pub(crate) fn edit(view: &View<'_>, splices: Vec<Splice>) -> Result<Plan, AllocError>
-    ensures plan { IfOk result (λ p. p ≡ edit_effect view.now splices.items) }
-    ensures refused { IfErr result
-        (λ _. 2 ^ 64 ≤ length view.now.text + new_characters splices.items) }
+/// The plan of splices alone: point and mark are carried. `Memory` where the new text has more
+/// characters than there are numbers.
+pub(crate) fn edit(view: &View<'_>, splices: Vec<Splice>) -> Result<Plan, Notice>
+    ensures { IsEffectAnswer result (Ok (edit_effect view.now splices.items)) }
 {
     let Some(point) = carry_over(splices.as_slice(), view.point) else {
-        return Err(AllocError);
+        return Err(Notice::Memory);
     };
     let mark = match view.mark {
         None => None,
         Some(mark) => match carry_over(splices.as_slice(), mark) {
-            None => return Err(AllocError),
+            None => return Err(Notice::Memory),
             Some(place) => Some(place),
         },
     };
@@ -63,6 +60,23 @@ pub(crate) fn edit(view: &View<'_>, splices: Vec<Splice>) -> Result<Plan, AllocE
     })
 }
 
+/// The plan of the splice that puts a copy of those characters there.
+pub(crate) fn edit_once(
+    alloc: Global,
+    view: &View<'_>,
+    lo: usize,
+    hi: usize,
+    put: &[char],
+) -> Result<Plan, Notice>
+    ensures { IsEffectAnswer result (Ok (edit_effect view.now (splice lo hi put.now ∷ []))) }
+{
+    let one = splice(alloc, lo, hi, put)?;
+    match vec![in alloc; one] {
+        Ok(splices) => edit(view, splices),
+        Err(_) => Err(Notice::Memory),
+    }
+}
+
 /// The plan of the splice that replaces these characters, or of none where nothing goes and nothing
 /// comes.
 pub(crate) fn change(
@@ -71,8 +85,8 @@ pub(crate) fn change(
     lo: usize,
     hi: usize,
     put: Vec<char>,
-) -> Result<Plan, AllocError>
-    ensures { IfOk result (λ p. p ≡ edit_effect view.now (one_splice lo hi put.items)) }
+) -> Result<Plan, Notice>
+    ensures { IsEffectAnswer result (Ok (edit_effect view.now (one_splice lo hi put.items))) }
 {
     edit(view, one_splice(alloc, lo, hi, put)?)
 }

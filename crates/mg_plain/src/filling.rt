@@ -1,5 +1,5 @@
 //! Filling: the words of a paragraph into lines.
-ghost use Rattle.std.specs.Prelude.{◌≡◌, ◌<◌, ◌^◌, Ok, IfOk};
+ghost use Rattle.std.specs.Prelude.{Ok};
 ghost use Rattle.mg_plain.specs.Answer.{IsEffectAnswer};
 ghost use Rattle.mg_plain.specs.Filling as spec;
 
@@ -7,18 +7,11 @@ use crate::edit::edit;
 use crate::outcome::{Notice, Plan};
 use crate::view::View;
 use mg_text::paragraph_splices;
-use std::alloc::{AllocError, Global};
-
-fn fill(alloc: Global, view: &View<'_>, column: usize) -> Result<Plan, AllocError>
-    requires narrow { column < 2 ^ 16 }
-    ensures { IfOk result (λ p. p ≡ spec.fill_paragraph column view.now) }
-{
-    let splices = paragraph_splices(alloc, view.text, view.point, column)?;
-    edit(view, splices)
-}
+use std::alloc::Global;
 
 pub(crate) fn fill_paragraph(alloc: Global, view: &View<'_>, column: u16) -> Result<Plan, Notice>
     ensures { IsEffectAnswer result (Ok (spec.fill_paragraph column view.now)) }
 {
-    Ok(fill(alloc, view, usize::from(column))?)
+    let splices = paragraph_splices(alloc, view.text, view.point, usize::from(column))?;
+    edit(view, splices)
 }

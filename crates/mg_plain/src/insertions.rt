@@ -11,19 +11,12 @@ use crate::view::View;
 use mg_text::{copy, line_begin};
 use std::alloc::{AllocError, Global};
 
-/// Characters at point, which stays.
-fn put(alloc: Global, view: &View<'_>, chars: Vec<char>) -> Result<Plan, Notice>
-    ensures { IsEffectAnswer result (Ok (spec.insertion_effect view.now chars.items)) }
-{
-    Ok(change(alloc, view, view.point, view.point, chars)?)
-}
-
 /// Characters at point, which goes behind them.
 fn type_in(alloc: Global, view: &View<'_>, chars: Vec<char>) -> Result<Plan, Notice>
     ensures { IsEffectAnswer result (Ok (spec.typing view.now chars.items)) }
 {
     let count = chars.as_slice().len();
-    let plan = put(alloc, view, chars)?;
+    let plan = change(alloc, view, view.point, view.point, chars)?;
     match view.point.checked_add(count) {
         None => Err(Notice::Memory),
         Some(point) => Ok(Plan { point, ..plan }),
@@ -45,7 +38,8 @@ pub(crate) fn insert(alloc: Global, view: &View<'_>, ch: char, n: u16) -> Result
 pub(crate) fn open_line(alloc: Global, view: &View<'_>, n: u16) -> Result<Plan, Notice>
     ensures { IsEffectAnswer result (Ok (spec.open_line n view.now)) }
 {
-    put(alloc, view, repeated(alloc, '\n', n)?)
+    let newlines = repeated(alloc, '\n', n)?;
+    change(alloc, view, view.point, view.point, newlines)
 }
 
 /// A newline and the blanks that the line begins with.

@@ -1,6 +1,6 @@
 //! Deletions, and kills, which keep what they take. What is killed is copied once: it does not matter how
 //! much the kill buffer holds that it goes behind.
-ghost use Rattle.std.specs.Prelude.{◌≡◌, ◌≤◌, length, IfOk};
+ghost use Rattle.std.specs.Prelude.{◌≤◌, length, Ok};
 ghost use Rattle.mg_plain.specs.Answer.{IsEffectAnswer};
 ghost use Rattle.mg_plain.specs.Kills as spec;
 
@@ -9,10 +9,10 @@ use crate::outcome::{Notice, Plan};
 use crate::view::{Kind, View};
 use crate::words::word_end;
 use mg_text::{copy, line_end};
-use std::alloc::{AllocError, Global};
+use std::alloc::Global;
 
-fn delete(alloc: Global, view: &View<'_>, lo: usize, hi: usize) -> Result<Plan, AllocError>
-    ensures { IfOk result (λ p. p ≡ spec.deletion_effect view.now lo hi) }
+fn delete(alloc: Global, view: &View<'_>, lo: usize, hi: usize) -> Result<Plan, Notice>
+    ensures { IsEffectAnswer result (Ok (spec.deletion_effect view.now lo hi)) }
 {
     change(alloc, view, lo, hi, Vec::new(alloc))
 }
@@ -23,7 +23,7 @@ pub(crate) fn delete_char(alloc: Global, view: &View<'_>, n: u16) -> Result<Plan
     if usize::from(n) > view.text.len() - view.point {
         return Err(Notice::EndOfBuffer);
     }
-    Ok(delete(alloc, view, view.point, view.point + usize::from(n))?)
+    delete(alloc, view, view.point, view.point + usize::from(n))
 }
 
 pub(crate) fn delete_backward_char(alloc: Global, view: &View<'_>, n: u16) -> Result<Plan, Notice>
@@ -32,13 +32,13 @@ pub(crate) fn delete_backward_char(alloc: Global, view: &View<'_>, n: u16) -> Re
     if usize::from(n) > view.point {
         return Err(Notice::BeginningOfBuffer);
     }
-    Ok(delete(alloc, view, view.point - usize::from(n), view.point)?)
+    delete(alloc, view, view.point - usize::from(n), view.point)
 }
 
-fn kill(alloc: Global, view: &View<'_>, lo: usize, hi: usize) -> Result<Plan, AllocError>
+fn kill(alloc: Global, view: &View<'_>, lo: usize, hi: usize) -> Result<Plan, Notice>
     requires order { lo ≤ hi }
     requires within { hi ≤ length view.now.text }
-    ensures { IfOk result (λ p. p ≡ spec.kill_effect view.now lo hi) }
+    ensures { IsEffectAnswer result (Ok (spec.kill_effect view.now lo hi)) }
 {
     let chars = copy(alloc, &view.text[lo..hi])?;
     let plan = delete(alloc, view, lo, hi)?;
@@ -56,7 +56,7 @@ pub(crate) fn kill_line(alloc: Global, view: &View<'_>) -> Result<Plan, Notice>
         return Err(Notice::EndOfBuffer);
     }
     let end = line_end(view.text, view.point).max(view.point + 1);
-    Ok(kill(alloc, view, view.point, end)?)
+    kill(alloc, view, view.point, end)
 }
 
 pub(crate) fn kill_word(alloc: Global, view: &View<'_>) -> Result<Plan, Notice>
@@ -65,7 +65,7 @@ pub(crate) fn kill_word(alloc: Global, view: &View<'_>) -> Result<Plan, Notice>
     if view.point == view.text.len() {
         return Err(Notice::EndOfBuffer);
     }
-    Ok(kill(alloc, view, view.point, word_end(view.text, view.point))?)
+    kill(alloc, view, view.point, word_end(view.text, view.point))
 }
 
 pub(crate) fn kill_region(alloc: Global, view: &View<'_>) -> Result<Plan, Notice>
@@ -73,6 +73,6 @@ pub(crate) fn kill_region(alloc: Global, view: &View<'_>) -> Result<Plan, Notice
 {
     match view.mark {
         None => Err(Notice::NoMark),
-        Some(mark) => Ok(kill(alloc, view, view.point.min(mark), view.point.max(mark))?),
+        Some(mark) => kill(alloc, view, view.point.min(mark), view.point.max(mark)),
     }
 }

@@ -1,5 +1,5 @@
 //! The mark, and the region between it and point.
-ghost use Rattle.std.specs.Prelude.{◌≡◌, ◌≤◌, length, IfOk};
+ghost use Rattle.std.specs.Prelude.{◌≡◌, ◌≤◌, length, Ok};
 ghost use Rattle.mg_plain.specs.Answer.{IsEffectAnswer};
 ghost use Rattle.mg_plain.specs.Mark as spec;
 
@@ -7,7 +7,7 @@ use crate::motions::move_to;
 use crate::outcome::{Notice, Plan};
 use crate::view::View;
 use mg_text::copy;
-use std::alloc::{AllocError, Global};
+use std::alloc::Global;
 
 fn mark_at(alloc: Global, view: &View<'_>, point: usize, mark: usize) -> Plan
     ensures { result ≡ spec.point_and_mark view.now point mark }
@@ -40,10 +40,10 @@ pub(crate) fn exchange_point_and_mark(alloc: Global, view: &View<'_>) -> Result<
 }
 
 /// These characters become the kill buffer.
-fn copy_as_kill(alloc: Global, view: &View<'_>, lo: usize, hi: usize) -> Result<Plan, AllocError>
+fn copy_as_kill(alloc: Global, view: &View<'_>, lo: usize, hi: usize) -> Result<Plan, Notice>
     requires order { lo ≤ hi }
     requires within { hi ≤ length view.now.text }
-    ensures { IfOk result (λ p. p ≡ spec.copy_effect view.now lo hi) }
+    ensures { IsEffectAnswer result (Ok (spec.copy_effect view.now lo hi)) }
 {
     let chars = copy(alloc, &view.text[lo..hi])?;
     Ok(Plan {
@@ -57,6 +57,6 @@ pub(crate) fn copy_region_as_kill(alloc: Global, view: &View<'_>) -> Result<Plan
 {
     match view.mark {
         None => Err(Notice::NoMark),
-        Some(mark) => Ok(copy_as_kill(alloc, view, view.point.min(mark), view.point.max(mark))?),
+        Some(mark) => copy_as_kill(alloc, view, view.point.min(mark), view.point.max(mark)),
     }
 }

@@ -1,10 +1,9 @@
 //! Replacements of matches.
-ghost use Rattle.std.specs.Prelude.{◌≡◌, ◌≤◌, ◌<◌, ◌∷◌, length, [], true, IfOk};
+ghost use Rattle.std.specs.Prelude.{◌≡◌, ◌≤◌, ◌<◌, length, true, Ok, IfOk};
 ghost use Rattle.mg_plain.specs.Answer.{IsEffectAnswer};
-ghost use Rattle.mg_plain.specs.Effect.{edit_effect};
 ghost use Rattle.mg_plain.specs.Replacement as spec;
 
-use crate::edit::{carry_over, edit};
+use crate::edit::{carry_over, edit, edit_once};
 use crate::matching::{first_match, stands_at};
 use crate::outcome::{Notice, Plan};
 use crate::view::View;
@@ -55,14 +54,14 @@ fn replace_each(
     pattern: &[char],
     put: &[char],
     view: &View<'_>,
-) -> Result<Plan, AllocError>
+) -> Result<Plan, Notice>
     requires some { 0 < length pattern.now }
-    ensures { IfOk result (λ p. p ≡ spec.replacement_effect put.now
-        (spec.all_matches pattern.now view.now.text view.now.point) view.now) }
+    ensures { IsEffectAnswer result (Ok (spec.replacement_effect put.now
+        (spec.all_matches pattern.now view.now.text view.now.point) view.now)) }
 {
     let (splices, end) = replacements(alloc, pattern, put, view.text, view.point)?;
     match carry_over(splices.as_slice(), end) {
-        None => Err(AllocError),
+        None => Err(Notice::Memory),
         Some(point) => {
             let plan = edit(view, splices)?;
             Ok(Plan { point, ..plan })
@@ -81,22 +80,7 @@ pub(crate) fn replace_all(
     if !stands_before_point(pattern, view) {
         return Err(Notice::SearchFailed);
     }
-    Ok(replace_each(alloc, pattern, put, view)?)
-}
-
-/// The match that ends at point is replaced.
-fn replace_here(
-    alloc: Global,
-    pattern: &[char],
-    put: &[char],
-    view: &View<'_>,
-) -> Result<Plan, AllocError>
-    ensures { IfOk result (λ p. p ≡ edit_effect view.now
-        (spec.replacements put.now (spec.current_match pattern.now view.now.point ∷ []))) }
-{
-    let begin = view.point.saturating_sub(pattern.len());
-    let one = splice(alloc, begin, view.point, put)?;
-    edit(view, vec![in alloc; one]?)
+    replace_each(alloc, pattern, put, view)
 }
 
 pub(crate) fn replace_one(
@@ -110,5 +94,6 @@ pub(crate) fn replace_one(
     if !stands_before_point(pattern, view) {
         return Err(Notice::SearchFailed);
     }
-    Ok(replace_here(alloc, pattern, put, view)?)
+    let begin = view.point.saturating_sub(pattern.len());
+    edit_once(alloc, view, begin, view.point, put)
 }

@@ -2,7 +2,7 @@
 use std::marker::Model;
 
 /// Of which kind the command before was.
-#[derive(Clone, Copy, Debug, PartialEq, Eq)]
+#[derive(Clone, Copy, PartialEq, Eq)]
 pub enum Kind {
     /// Nothing that the next command minds.
     Plain,

@@ -1,9 +1,9 @@
 -- Rows of the screen, as they are written.
-use Rattle.std.proofs.Common.{◌≡◌, ℕ, ◌-◌, ◌≤◌, List, [], ◌∷◌, ◌++◌, refl, sym, ◌∙◌, ap, arith, append-nil, encode_utf8_all, encode_utf8, replicate, nat_le, true, false, Some, None, ap₂}
+use Rattle.std.proofs.Common.{◌≡◌, ℕ, ◌-◌, ◌≤◌, List, [], ◌∷◌, ◌++◌, refl, sym, ◌∙◌, ap, arith, append-nil, encode_utf8_all, encode_utf8, replicate, nat_le, true, false, Some, ap₂}
 use Rattle.std.proofs.lemmas.Bool.Decides.{nat_tests}
 use Rattle.mg_screen.specs.Cells.{cells, width_of, width_if, shown_cells, cells_within}
 use Rattle.mg_screen.specs.Rows.{text_row, filled_row, cut_row}
-use Rattle.mg_screen.proofs.CellLaws.{has_width, has_no_width, beginning_whole, encode_utf8_all-append}
+use Rattle.mg_screen.proofs.CellLaws.{has_width, beginning_whole, encode_utf8_all-append}
 
 one_char : (c : ℕ) → encode_utf8 c ≡ encode_utf8_all (c ∷ [])
 one_char c = sym (append-nil (encode_utf8 c))

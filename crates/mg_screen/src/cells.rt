@@ -38,16 +38,15 @@ fn push_cell(row: &mut String, column: usize, c: char) -> Result<(), AllocError>
     ensures { OnOk result (AddsCharacters (spec.cell_of column c).shown row.old row.new) }
 {
     match c {
-        '\t' => push_times(row, ' ', TAB_STOP - column % TAB_STOP)?,
+        '\t' => push_times(row, ' ', TAB_STOP - column % TAB_STOP),
         '\0'..='\x1f' => {
             row.push('^')?;
-            row.push(char::from(c as u8 + 64))?;
+            row.push(char::from(c as u8 + 64))
         }
-        '\x7f' => row.push_str("^?")?,
-        '\u{80}'..='\u{9f}' => row.push('?')?,
-        _ => row.push(c)?,
+        '\x7f' => row.push_str("^?"),
+        '\u{80}'..='\u{9f}' => row.push('?'),
+        _ => row.push(c),
     }
-    Ok(())
 }
 
 /// The width of a line where it is at most `most`.

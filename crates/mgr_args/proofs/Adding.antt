@@ -1,18 +1,60 @@
 -- Arguments and jobs that are added.
-use Rattle.std.proofs.Common.{◌≡◌, ◌∙◌, ap, ap₂, sym, subst, List, [], ◌∷◌, ◌++◌, false, map, ◌||◌}
+use Rattle.std.proofs.Common.{◌≡◌, ◌∙◌, ap, ap₂, sym, subst, ℕ, List, [], ◌∷◌, ◌++◌, Option, Some, true, false, map, ◌||◌}
 use Rattle.std.proofs.lemmas.List.{append_assoc, map-append}
+use Rattle.std.specs.Borrow.{Bor}
 use Rattle.clap.specs.Built.{AddsArg, AddsInTurn, AddsSubcommand}
-use Rattle.clap.specs.Simple.{App, app_of, with_rule, with_subcommand}
+use Rattle.clap.specs.Simple.{App, app_of, app_of_fields, with_rule, with_subcommand}
 use Rattle.clap.specs.Walk.{Rule, rule_of}
+use Rattle.clap.specs.declared.builder.action.ArgAction.{ArgAction}
 use Rattle.clap.specs.declared.builder.arg.Arg.{Arg}
-use Rattle.clap.specs.declared.builder.command.Command.{Command}
+use Rattle.clap.specs.declared.builder.command.Command.{Command, Command-F}
 use Rattle.clap.specs.declared.builder.command.Command.TheViews.{out-Command as fields_of}
-use Rattle.mgr_args.specs.Rules.{AddsArguments, AddsJob, AddsJobs, AreJobs, IsPlain, IsToldOf, local, sketched, told_rules, with_jobs, with_rules}
+use Rattle.clap.specs.declared.builder.texts.Texts.TheVariants.{One}
+use Rattle.clap.specs.declared.builder.value_parser.ValueParser.{ValueParser}
+use Rattle.mgr_args.specs.Rules.{AddsArguments, AddsJobs, AreJobs, IsLocal, IsPlain, IsToldOf, local, sketched, told_rules, with_jobs, with_rules}
+
+-- ---- an argument, call by call
+
+pub rule_helped : (a b : Arg) (h : Option (Bor (List ℕ))) (r : Rule) → b ≡ record a { help = h } → IsLocal r a → IsLocal r b
+rule_helped a b h r is of = subst (IsLocal r) (sym is) of
+
+pub rule_long : (a b : Arg) (n : Bor (List ℕ)) (r : Rule) → b ≡ record a { long = Some n } → IsLocal r a → IsLocal (record r { long = Some n.now }) b
+rule_long a b n r is of =
+    subst (IsLocal (record r { long = Some n.now })) (sym is) (ap (λ (r : Rule). record r { long = Some n.now }) of.0, of.1)
+
+pub rule_acted : (a b : Arg) (x : ArgAction) (r : Rule) → b ≡ record a { action = Some x } → IsLocal r a → IsLocal (record r { action = Some x }) b
+rule_acted a b x r is of =
+    subst (IsLocal (record r { action = Some x })) (sym is) (ap (λ (r : Rule). record r { action = Some x }) of.0, of.1)
+
+pub rule_valued : (a b : Arg) (n : Bor (List ℕ)) (r : Rule) → b ≡ record a { val_names = One n } → IsLocal r a → IsLocal (record r { value_names = 1 }) b
+rule_valued a b n r is of =
+    subst (IsLocal (record r { value_names = 1 })) (sym is) (ap (λ (r : Rule). record r { value_names = 1 }) of.0, of.1)
+
+pub rule_defaulted : (a b : Arg) (n : Bor (List ℕ)) (r : Rule) → b ≡ record a { default_vals = One n } → IsLocal r a → IsLocal (record r { defaults = n.now ∷ [] }) b
+rule_defaulted a b n r is of =
+    subst (IsLocal (record r { defaults = n.now ∷ [] })) (sym is) (ap (λ (r : Rule). record r { defaults = n.now ∷ [] }) of.0, of.1)
+
+pub rule_required : (a b : Arg) (r : Rule) → b ≡ record a { required = true } → IsLocal r a → IsLocal (record r { required = true }) b
+rule_required a b r is of = subst (IsLocal (record r { required = true })) (sym is) (ap (λ (r : Rule). record r { required = true }) of.0, of.1)
+
+pub rule_parsed : (a b : Arg) (q : ValueParser) (r : Rule) → b ≡ record a { value_parser = b.value_parser } → b.value_parser ≡ Some q → IsLocal r a → IsLocal (record r { parser = Some q }) b
+rule_parsed a b q r is by of =
+    let whole : b ≡ record a { value_parser = Some q } = is ∙ ap (λ o. record a { value_parser = o }) by in
+    subst (IsLocal (record r { parser = Some q })) (sym whole) (ap (λ (r : Rule). record r { parser = Some q }) of.0, of.1)
+
+-- ---- what is added to a command
+
+-- words of its help
+pub plain_about : (old new : Command) (t : Option (Bor (List ℕ))) (app : App) → fields_of new ≡ record (fields_of old) { about = t } → IsPlain app old → IsPlain app new
+plain_about old new t app is plain = (ap app_of_fields is ∙ plain.0, ap (λ (f : Command-F Command). f.has_globals) is ∙ plain.1)
+
+pub plain_after_help : (old new : Command) (t : Option (Bor (List ℕ))) (app : App) → fields_of new ≡ record (fields_of old) { after_help = t } → IsPlain app old → IsPlain app new
+plain_after_help old new t app is plain = (ap app_of_fields is ∙ plain.0, ap (λ (f : Command-F Command). f.has_globals) is ∙ plain.1)
 
 -- one argument more
-pub added : (old new : List Arg) (a : Arg) (r : Rule) → new ≡ old ++ a ∷ [] → rule_of a ≡ r → a.global ≡ false → AddsArguments old new (r ∷ [])
-added old new a r is rule alone = record {
-  told = ap told_rules is ∙ map-append (λ a. (rule_of a, a.global)) old (a ∷ []) ∙ ap₂ (λ x y. told_rules old ++ (x, y) ∷ []) rule alone;
+pub added : (old new : List Arg) (a : Arg) (r : Rule) → new ≡ old ++ a ∷ [] → IsLocal r a → AddsArguments old new (r ∷ [])
+added old new a r is of = record {
+  told = ap told_rules is ∙ map-append (λ a. (rule_of a, a.global)) old (a ∷ []) ∙ ap₂ (λ x y. told_rules old ++ (x, y) ∷ []) of.0 of.1;
 }
 
 -- some, and then more
@@ -42,19 +84,21 @@ with_all old new (a ∷ args) (r ∷ rules) is same alone =
     let app : app_of is.0 ≡ with_rule (app_of old) r = is.1.shape own ∙ ap (λ p. with_rule (app_of old) p.0) parts.0 in
     subst (λ app. IsPlain (with_rules app rules) new) app (with_all is.0 new args rules is.2 parts.1 globals)
 
--- one job more
-pub added_job : (old new : List Command) (c : Command) (job : App) → new ≡ old ++ c ∷ [] → IsPlain job c → AddsJob old new job
-added_job old new c job is plain = record {
-  sketched = ap sketched is ∙ map-append (λ c. (app_of c, (fields_of c).has_globals)) old (c ∷ []) ∙ ap₂ (λ x y. sketched old ++ (x, y) ∷ []) plain.0 plain.1;
-}
+-- the same, of a command that is known
+pub takes_all : (old new : Command) (args : List Arg) (app : App) (rules : List Rule) → AddsInTurn AddsArg old args new → IsPlain app old → IsToldOf args rules
+    → IsPlain (with_rules app rules) new
+takes_all old new args app rules is plain same = subst (λ a. IsPlain (with_rules a rules) new) plain.0 (with_all old new args rules is same plain.1)
 
 -- three jobs more
-pub three_jobs : (old one two new : List Command) (a b c : App) → AddsJob old one a → AddsJob one two b → AddsJob two new c → AddsJobs old new (a ∷ b ∷ c ∷ [])
-three_jobs old one two new a b c first second third = record {
-  sketched = third.sketched ∙ ap (λ l. l ++ (c, false) ∷ []) (second.sketched ∙ ap (λ l. l ++ (b, false) ∷ []) first.sketched)
-      ∙ append_assoc (sketched old ++ (a, false) ∷ []) ((b, false) ∷ []) ((c, false) ∷ [])
-      ∙ append_assoc (sketched old) ((a, false) ∷ []) ((b, false) ∷ (c, false) ∷ []);
-}
+pub three_jobs : (old one two new : List Command) (x y z : Command) (a b c : App) → one ≡ old ++ x ∷ [] → IsPlain a x → two ≡ one ++ y ∷ [] → IsPlain b y
+    → new ≡ two ++ z ∷ [] → IsPlain c z → AddsJobs old new (a ∷ b ∷ c ∷ [])
+three_jobs old one two new x y z a b c first is_a second is_b third is_c =
+    let before : new ≡ old ++ x ∷ y ∷ z ∷ [] =
+    third ∙ ap (λ l. l ++ z ∷ []) (second ∙ ap (λ l. l ++ y ∷ []) first) ∙ append_assoc (old ++ x ∷ []) (y ∷ []) (z ∷ []) ∙ append_assoc old (x ∷ []) (y ∷ z ∷ []) in
+    record {
+      sketched = ap sketched before ∙ map-append (λ c. (app_of c, (fields_of c).has_globals)) old (x ∷ y ∷ z ∷ [])
+          ∙ (λ i. sketched old ++ (is_a.0 i, is_a.1 i) ∷ (is_b.0 i, is_b.1 i) ∷ (is_c.0 i, is_c.1 i) ∷ []);
+    }
 
 -- a program that has them
 pub with_all_jobs : (old new : Command) (commands : List Command) (jobs : List App) → AddsInTurn AddsSubcommand old commands new → AreJobs commands jobs

@@ -20,6 +20,10 @@ abbrev pub with_rules : App → List Rule → App
 with_rules app [] = app
 with_rules app (rule ∷ rules) = with_rules (with_rule app rule) rules
 
+-- an argument of that rule, and it does not hold for subcommands
+abbrev pub IsLocal : Rule → Arg → Type 0
+IsLocal rule a = (rule_of a ≡ rule) × (a.global ≡ false)
+
 -- the rules of arguments, and whether they hold for subcommands too
 abbrev pub told_rules : List Arg → List (Rule × Bool)
 told_rules args = map (λ a. (rule_of a, a.global)) args
@@ -50,10 +54,6 @@ sketched commands = map (λ c. (app_of c, (fields_of c).has_globals)) commands
 
 abbrev pub AreJobs : List Command → List App → Type 0
 AreJobs commands jobs = sketched commands ≡ map (λ job. (job, false)) jobs
-
--- `new` is `old` with such a job behind
-pub record AddsJob (old new : List Command) (job : App) : Type 0 where
-  pub sketched : sketched new ≡ sketched old ++ (job, false) ∷ []
 
 -- `new` is `old` with such jobs behind
 pub record AddsJobs (old new : List Command) (jobs : List App) : Type 0 where

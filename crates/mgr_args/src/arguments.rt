@@ -14,7 +14,7 @@ pub fn words<R: Env + AllocGlobal>(rt: &R) -> Result<Vec<String>, JobFault>
     ensures { IfErr result (IsFaultOf mistake) }
 {
     match std::env::args(rt) {
-        Ok(args) => args.collect(rt.alloc()).map_err(|_| JobFault::Memory),
+        Ok(args) => Ok(args.collect(rt.alloc())?),
         Err(error) => Err(fault_of_reading(rt.alloc(), error.kind())),
     }
 }

@@ -1,10 +1,8 @@
 //! The command line as clap is told of it.
-ghost use Rattle.std.specs.Prelude.{◌≡◌, codes, IfOk, OnOk};
-ghost use Rattle.clap.specs.Simple.{app_of, new_app};
+ghost use Rattle.std.specs.Prelude.{◌≡◌, IfOk, OnOk};
+ghost use Rattle.clap.specs.Simple.{app_of};
 ghost use Rattle.mgr_args.specs.CommandLine.{command_line, job_apps, program_alone};
-ghost use Rattle.mgr_args.specs.Compact.{compact_app};
-ghost use Rattle.mgr_args.specs.Edit.{edit_app};
-ghost use Rattle.mgr_args.specs.Rules.{AddsJob, AddsJobs, AreJobs};
+ghost use Rattle.mgr_args.specs.Rules.{AddsJobs};
 
 use crate::compact::compact;
 use crate::edit::edit;
@@ -34,53 +32,21 @@ fn program<'a>(alloc: Global) -> Command<'a>
         .disable_help_subcommand(true)
 }
 
-/// `show`, with the words of its help.
-fn add_show<'a>(alloc: Global, jobs: &mut Vec<Command<'a>>) -> Result<(), AllocError>
-    ensures { OnOk result (AddsJob jobs.old.items jobs.new.items (new_app (codes "show"))) }
-{
-    let about = "Read operation lines and write the text that they make";
-    push(jobs, described(alloc, "show", about, SHOW_HELP))
-}
-
-fn add_edit<'a>(alloc: Global, jobs: &mut Vec<Command<'a>>) -> Result<(), AllocError>
-    ensures { OnOk result (AddsJob jobs.old.items jobs.new.items edit_app) }
-{
-    match edit(alloc) {
-        Ok(edit) => push(jobs, edit),
-        Err(error) => Err(error),
-    }
-}
-
-fn add_compact<'a>(alloc: Global, jobs: &mut Vec<Command<'a>>) -> Result<(), AllocError>
-    ensures { OnOk result (AddsJob jobs.old.items jobs.new.items compact_app) }
-{
-    match compact(alloc) {
-        Ok(compact) => push(jobs, compact),
-        Err(error) => Err(error),
-    }
-}
-
 /// The jobs of the program.
 fn add_jobs<'a>(alloc: Global, jobs: &mut Vec<Command<'a>>) -> Result<(), AllocError>
     ensures { OnOk result (AddsJobs jobs.old.items jobs.new.items job_apps) }
 {
-    add_show(alloc, jobs)?;
-    add_edit(alloc, jobs)?;
-    add_compact(alloc, jobs)
-}
-
-fn jobs<'a>(alloc: Global) -> Result<Vec<Command<'a>>, AllocError>
-    ensures { IfOk result (λ jobs. AreJobs jobs.items job_apps) }
-{
-    let mut jobs = Vec::new(alloc);
-    add_jobs(alloc, &mut jobs)?;
-    Ok(jobs)
+    let about = "Read operation lines and write the text that they make";
+    push(jobs, described(alloc, "show", about, SHOW_HELP))?;
+    push(jobs, edit(alloc)?)?;
+    push(jobs, compact(alloc)?)
 }
 
 /// The program, whose jobs are `show`, `edit` and `compact`.
 pub(crate) fn command<'a>(alloc: Global) -> Result<Command<'a>, AllocError>
     ensures { IfOk result (λ c. app_of c ≡ command_line) }
 {
-    let jobs = jobs(alloc)?;
+    let mut jobs = Vec::new(alloc);
+    add_jobs(alloc, &mut jobs)?;
     program(alloc).subcommands(jobs)
 }

@@ -1,10 +1,7 @@
 //! The subcommand `edit`: what it takes, as clap is told of it.
-ghost use Rattle.std.specs.Prelude.{◌≡◌, ◌∷◌, [], false, IfOk, OnOk};
-ghost use Rattle.clap.specs.Simple.{app_of};
-ghost use Rattle.clap.specs.Walk.{rule_of};
-ghost use Rattle.clap.specs.declared.builder.command.Command.TheViews.{out-Command as fields_of};
+ghost use Rattle.std.specs.Prelude.{◌∷◌, [], ◌++◌, IfOk, OnOk};
 ghost use Rattle.mgr_args.specs.Edit as spec;
-ghost use Rattle.mgr_args.specs.Rules.{AddsArguments, IsToldOf};
+ghost use Rattle.mgr_args.specs.Rules.{AddsArguments, IsLocal, IsPlain};
 
 use crate::part::{add_flag, add_name, described, push};
 use clap::builder::ValueParser;
@@ -21,8 +18,7 @@ The log is NAME.ops, and the text NAME. C-x C-s saves, C-x C-c ends:
 
 /// A number behind `--id`, within limits.
 fn number<'a>(alloc: Global, id: &'a str, least: u64, most: u64) -> Arg<'a>
-    ensures rule { rule_of result ≡ spec.number_rule id.entry.now least most }
-    ensures local { result.global ≡ false }
+    ensures { IsLocal (spec.number_rule id.entry.now least most) result }
 {
     Arg::new(alloc, id)
         .long(id)
@@ -48,81 +44,55 @@ fn add_number<'a>(
     push(args, number.default_value(value).help(help))
 }
 
-/// The number of the replica, which has to be given.
-fn add_replica<'a>(alloc: Global, args: &mut Vec<Arg<'a>>) -> Result<(), AllocError>
-    ensures { OnOk result (AddsArguments args.old.items args.new.items (spec.replica_rule ∷ [])) }
-{
-    let replica = number(alloc, "replica", 1, 65535);
-    let help = "The number of this copy, which no other copy of the text has";
-    push(args, replica.required(true).help(help))
-}
-
-/// The port, which may be left out.
-fn add_port<'a>(alloc: Global, args: &mut Vec<Arg<'a>>) -> Result<(), AllocError>
-    ensures { OnOk result (AddsArguments args.old.items args.new.items (spec.port_rule ∷ [])) }
-{
-    let port = number(alloc, "port", 1, 65535);
-    push(args, port.help("The port of exchanges"))
-}
-
-/// The sizes of the screen, the fill column and the port.
+/// The sizes of the screen, the fill column and the port, which may be left out.
 fn add_numbers<'a>(alloc: Global, args: &mut Vec<Arg<'a>>) -> Result<(), AllocError>
     ensures { OnOk result (AddsArguments args.old.items args.new.items spec.number_rules) }
 {
     add_number(alloc, args, "rows", 3, 200, "24", "The rows of the screen")?;
     add_number(alloc, args, "cols", 20, 500, "80", "Its columns")?;
     add_number(alloc, args, "fill", 1, 9999, "70", "The fill column")?;
-    add_port(alloc, args)
+    let port = number(alloc, "port", 1, 65535);
+    push(args, port.help("The port of exchanges"))
 }
 
-/// What frames there are.
-fn add_trace<'a>(alloc: Global, args: &mut Vec<Arg<'a>>) -> Result<(), AllocError>
-    ensures { OnOk result (AddsArguments args.old.items args.new.items spec.trace_rules) }
+/// What frames there are, and what stands in them, in the log and in exchanges.
+fn add_flags<'a>(alloc: Global, args: &mut Vec<Arg<'a>>) -> Result<(), AllocError>
+    ensures { OnOk result
+        (AddsArguments args.old.items args.new.items (spec.trace_rules ++ spec.content_rules)) }
 {
     let newest = "With --trace, write one behind all keys that are at hand";
-    add_flag(alloc, args, "trace", "Write a frame behind each step")?;
-    add_flag(alloc, args, "newest", newest)
-}
-
-/// What stands in them, in the log and in exchanges.
-fn add_contents<'a>(alloc: Global, args: &mut Vec<Arg<'a>>) -> Result<(), AllocError>
-    ensures { OnOk result (AddsArguments args.old.items args.new.items spec.content_rules) }
-{
     let cursor = "Write the cursor's row and column behind each frame";
     let resizable = "Take reports of the screen's size among the keys";
     let runs = "Append more than 32 operations to the log in runs";
     let brief = "Exchange with a peer that does so too only what either lacks";
+    add_flag(alloc, args, "trace", "Write a frame behind each step")?;
+    add_flag(alloc, args, "newest", newest)?;
     add_flag(alloc, args, "cursor", cursor)?;
     add_flag(alloc, args, "resizable", resizable)?;
     add_flag(alloc, args, "runs", runs)?;
     add_flag(alloc, args, "brief", brief)
 }
 
-/// The arguments of `edit`.
+/// The arguments of `edit`, of which the number of the replica has to be given.
 fn add_args<'a>(alloc: Global, args: &mut Vec<Arg<'a>>) -> Result<(), AllocError>
     ensures { OnOk result (AddsArguments args.old.items args.new.items spec.edit_rules) }
 {
+    let help = "The number of this copy, which no other copy of the text has";
     add_name(alloc, args)?;
-    add_replica(alloc, args)?;
+    push(
+        args,
+        number(alloc, "replica", 1, 65535).required(true).help(help),
+    )?;
     add_numbers(alloc, args)?;
-    add_trace(alloc, args)?;
-    add_contents(alloc, args)
-}
-
-fn edit_args<'a>(alloc: Global) -> Result<Vec<Arg<'a>>, AllocError>
-    ensures { IfOk result (λ args. IsToldOf args.items spec.edit_rules) }
-{
-    let mut args = Vec::new(alloc);
-    add_args(alloc, &mut args)?;
-    Ok(args)
+    add_flags(alloc, args)
 }
 
 /// `edit`, with the words of its help.
 pub(crate) fn edit<'a>(alloc: Global) -> Result<Command<'a>, AllocError>
-    ensures app { IfOk result (λ c. app_of c ≡ spec.edit_app) }
-    ensures plain { IfOk result (λ c. (fields_of c).has_globals ≡ false) }
+    ensures { IfOk result (IsPlain spec.edit_app) }
 {
-    let args = edit_args(alloc)?;
+    let mut args = Vec::new(alloc);
+    add_args(alloc, &mut args)?;
     let about = "Take keys and write frames: edit a text and its log";
     described(alloc, "edit", about, EDIT_HELP).args(args)
 }

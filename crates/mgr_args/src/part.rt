@@ -1,7 +1,6 @@
 //! Commands and arguments, as clap is told of them.
-ghost use Rattle.std.specs.Prelude.{◌≡◌, ◌∷◌, [], ◌++◌, false, OnOk};
-ghost use Rattle.clap.specs.Simple.{app_of, new_app};
-ghost use Rattle.clap.specs.declared.builder.command.Command.TheViews.{out-Command as fields_of};
+ghost use Rattle.std.specs.Prelude.{◌≡◌, ◌∷◌, [], ◌++◌, OnOk};
+ghost use Rattle.clap.specs.Simple.{new_app};
 ghost use Rattle.mgr_args.specs.Rules as spec;
 
 use clap::{Arg, ArgAction, Command};
@@ -14,8 +13,7 @@ pub(crate) fn described<'a>(
     about: &'a str,
     more: &'a str,
 ) -> Command<'a>
-    ensures app { app_of result ≡ new_app name.entry.now }
-    ensures plain { (fields_of result).has_globals ≡ false }
+    ensures { spec.IsPlain (new_app name.entry.now) result }
 {
     Command::new(alloc, name).about(about).after_help(more)
 }

@@ -100,7 +100,7 @@ fn collected(alloc: Global, text: &str) -> Result<Chars, AllocError> {
 /// Whether the characters of two texts are equal, of which one is copied and one collected.
 fn are_alike(alloc: Global, a: &str, b: &str) -> Option<bool> {
     match (copied(alloc, a), collected(alloc, b)) {
-        (Ok(a), Ok(b)) => Some(a == b),
+        (Ok(a), Ok(b)) => Some(a.as_slice() == b.as_slice()),
         _ => None,
     }
 }

@@ -1,15 +1,9 @@
-use Rattle.std.proofs.Common.{◌∙◌, ap}
 use Rattle.std.proofs.lemmas.Result.{IfOk-weaker}
-use Rattle.mgr_args.specs.Rules.{with_rules}
 use Rattle.mgr_args.specs.Compact.{compact_rules}
-use Rattle.mgr_args.proofs.Adding.{with_all}
+use Rattle.mgr_args.proofs.Adding.{both, of_none, takes_all}
 use Rattle.mgr_args.proofs.compact.compact.Goals as goal
 
-pub returns-clause-app : goal.returns-clause-app
-returns-clause-app c =
-    let same = ap (λ app. with_rules app compact_rules) c.described.ensures.app in
-    IfOk-weaker c.args-2.result _ _ (λ d is. (with_all _ d _ compact_rules is c.in_ok-args.ensures c.described.ensures.plain).0 ∙ same) c.args-2.ensures
-
-pub returns-clause-plain : goal.returns-clause-plain
-returns-clause-plain c =
-    IfOk-weaker c.args-2.result _ _ (λ d is. (with_all _ d _ compact_rules is c.in_ok-args.ensures c.described.ensures.plain).1) c.args-2.ensures
+pub returns : goal.returns
+returns c =
+    let rules = of_none _ _ compact_rules c.new-args.ensures.items (both _ _ _ _ _ c.in_ok-add_name.ensures c.in_ok-add_flag.ensures) in
+    IfOk-weaker c.args-2.result _ _ (λ d is. takes_all _ d _ _ compact_rules is c.described.ensures rules) c.args-2.ensures

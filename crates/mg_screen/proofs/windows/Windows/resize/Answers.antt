@@ -1,4 +1,4 @@
-use Rattle.std.proofs.Common.{◌∙◌, ◌-◌, ap, refl, min, length}
+use Rattle.std.proofs.Common.{◌∙◌, ◌-◌, ap, arith, refl, min, length}
 use Rattle.mg_screen.specs.Layout.{shared, resized_layout}
 use Rattle.mg_screen.proofs.HeightLaws.{fills}
 use Rattle.mg_screen.proofs.ResizeLaws.{resized_made, resized_kept}
@@ -21,3 +21,9 @@ returns-clause-exact g c =
 
 pub returns-clause-filled : goal.returns-clause-filled
 returns-clause-filled g c = fills c.share.new.heights.items c.truncate-2.new.self.items c.min-self-inside.result c.args.rows (invariant_of-self g c)
+
+pub overflow_sub-most : goal.overflow_sub-most
+overflow_sub-most g c = omega arith
+
+pub overflow_sub-rows : goal.overflow_sub-rows
+overflow_sub-rows g c = omega arith
