@@ -28,6 +28,8 @@ FUNCTION = re.compile(r"^ *(?:pub(?:\([\w ]+\))? )?(?:const )?fn (\w+)", re.M)
 # What is refused for itself, and not for a call of what is.
 REFUSED = re.compile(r"^fn \S*?(\w+): (not proved|no proof: expected answers)", re.M)
 REASON = re.compile(r"^\./proofs/(?:\S*/)?(\w+)/\w+\.antt:\d+:\d+: error: (.*)", re.M)
+# A goal that is left open, where it stands.
+OPEN = re.compile(r"^note: (src/\S+):(\d+):\d+: it is not proved", re.M)
 GONE = re.compile(r"has no field|is not in scope|has no `|was not admitted|was not checked")
 
 
@@ -117,9 +119,20 @@ def check(crate, texts):
     return ran.stdout
 
 
-def refused(said):
-    """Returns of each function that is refused for itself whether that is for more than a name that is gone."""
+def function_on(text, line):
+    """Returns the name of the function that a line of a text stands in; none above the first."""
+    heads = list(FUNCTION.finditer("".join(text.splitlines(keepends=True)[:line])))
+    return heads[-1][1] if heads else None
+
+
+def refused(said, texts, crate):
+    """Returns of each function that is refused for itself whether that is for more than a name that is gone: for a
+    reason of another kind, or a goal that is left open. The texts are what the prover read in place of the crate's."""
     found = {name: how != "not proved" for name, how in REFUSED.findall(said)}
+    for file, line in OPEN.findall(said):
+        name = function_on(texts.get(file) or (crate / file).read_text(), int(line))
+        if name in found:
+            found[name] = True
     for name, reason in REASON.findall(said):
         if name in found and not GONE.search(reason):
             found[name] = True
@@ -137,15 +150,16 @@ def verdict(edit, found):
 def tried(crate, edits):
     """Yields each edit of a crate with what became of it."""
     for taken, texts in rounds(edits, crate):
-        found = refused(check(crate, texts))
+        found = refused(check(crate, texts), texts, crate)
         for edit in taken:
             yield edit, verdict(edit, found) or alone(crate, edit)
 
 
 def alone(crate, edit):
     """Tries an edit by itself, where it may be refused at any function."""
-    said = check(crate, edit.applied({}, crate))
-    found = refused(said)
+    texts = edit.applied({}, crate)
+    said = check(crate, texts)
+    found = refused(said, texts, crate)
     if found:
         return f"refused, at {', '.join(sorted(found))}"
     print(said)
