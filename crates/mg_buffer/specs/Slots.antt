@@ -51,9 +51,13 @@ AreOld c elements = AllByRecursion (λ (id : Identifier). id.counter ≤ clock_o
 abbrev pub deleted_ones : List (Identifier × ℕ) → List Identifier
 deleted_ones deleted = map (λ (d : Identifier × ℕ). d.0) deleted
 
--- those of what a command or an undo did
+-- those that a command or an undo deleted
+abbrev pub with_deleted : List Identifier → Past → List Identifier
+with_deleted elements g = with_elements elements (deleted_ones g.deleted)
+
+-- those of all that it did
 abbrev pub with_past : List Identifier → Past → List Identifier
-with_past elements g = with_elements (with_elements elements g.inserted) (deleted_ones g.deleted)
+with_past elements g = with_deleted (with_elements elements g.inserted) g
 
 -- there is room for so many more
 pub record HasSpace (s : SlotList) (count : ℕ) : Type 0 where

@@ -6,8 +6,7 @@ ghost use Rattle.rga_ops.specs.Identifier.{is_id};
 ghost use Rattle.rga_doc.specs.UndoGroup.{inserted_elements};
 ghost use Rattle.mg_buffer.specs.Groups.{all_substituted, past_at, stand_in, with_group};
 ghost use Rattle.mg_buffer.specs.Room.{HasRoom};
-ghost use Rattle.mg_slots.specs.Slots.{with_elements};
-ghost use Rattle.mg_buffer.specs.Slots.{AreStandIns, deleted_ones, with_past};
+ghost use Rattle.mg_buffer.specs.Slots.{AreStandIns, deleted_ones, with_deleted, with_past};
 
 use crate::change::Change;
 use crate::group::Group;
@@ -133,7 +132,7 @@ impl History {
         requires inserted { inserted_elements ops.now ≡ change.now.inserted }
         requires restored { length (past_at self.old.pasts index).deleted
             ≡ length change.now.inserted }
-        requires stand_ins { let known = with_elements self.old.slots.elements (deleted_ones change.now.deleted) in
+        requires stand_ins { let known = with_deleted self.old.slots.elements change.now in
             AllByRecursion (λ b. list_any (is_id b.0) known ≡ true)
             (past_at self.old.pasts index).deleted → AreStandIns known ops.now }
         ensures pasts { self.new.pasts ≡ all_substituted (stand_in ops.now)
@@ -142,7 +141,7 @@ impl History {
               deleted = change.now.deleted;
             }) ops.now) }
         ensures elements { self.new.slots.elements ≡ map (stand_in ops.now)
-            (with_elements self.old.slots.elements (deleted_ones change.now.deleted)) }
+            (with_deleted self.old.slots.elements change.now) }
     {
         let Room {
             mut inserted,
