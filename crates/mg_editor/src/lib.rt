@@ -5,11 +5,11 @@
 //! file, no socket and no terminal in sight: what is asked of the files and of peers is answered as
 //! a `Request`, which `carry` takes to any port. The crate stands on mg_workspace for buffers and
 //! windows, on mg_dialogue for keys, prompts and messages, on mg_minibuffer for what steps lead to,
-//! on mg_files for ports, on mg_sync for peers, and is generic over any `TextStore`. The layer above
-//! may rest on `Pressed`: which step the keys gave, and what that left of the buffers, the windows,
-//! the prompt, the message and the keys, want of memory aside, which changes nothing but that a key
-//! sequence begun is forgotten; and on `Carried`: which calls a request makes of a port, and what
-//! that leaves. `frame` shows the editor's own windows.
+//! on mg_files for ports, on mg_sync for peers, and is generic over any `TextStore`. The layer
+//! above may rest on `Pressed`: which step the keys gave, and what that left of the buffers, the
+//! windows, the prompt, the message and the keys, want of memory aside, which changes nothing but
+//! that a key sequence begun is forgotten; and on `Carried`: which calls a request makes of a port,
+//! and what that leaves. `frame` shows the editor's own windows.
 #![tactic(auto)]
 
 mod carrying;

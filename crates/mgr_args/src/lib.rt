@@ -2,8 +2,8 @@
 //!
 //! clap reads them; no other crate knows it. The program above may rest on the contracts: the job
 //! is the one that the words ask for, help and the version are told where they are asked for, and
-//! every other command line is refused (`job_of`). What stands behind `edit` and `compact` is read as
-//! clap's own definition says.
+//! every other command line is refused (`job_of`). What stands behind `edit` and `compact` is read
+//! as clap's own definition says.
 #![tactic(auto)]
 
 mod arguments;

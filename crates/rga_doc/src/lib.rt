@@ -6,8 +6,8 @@
 //! inserted and deleted. A place among others' edits is kept by an `Anchor`. A document may list
 //! its visible elements and their characters, so that edits and anchors cost no walk.
 //!
-//! The crate stands on rga_ops, and on the traits of rga_store, and is generic over any `TextStore`.
-//! The layer above may rest on the contracts: the operations answered are those of the
+//! The crate stands on rga_ops, and on the traits of rga_store, and is generic over any
+//! `TextStore`. The layer above may rest on the contracts: the operations answered are those of the
 //! definition, the content is joined with them, and the text afterwards is the splice of the text
 //! before; by a law, the revert of splices gives the text from before them.
 #![tactic(auto)]

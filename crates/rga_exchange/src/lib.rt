@@ -5,14 +5,14 @@
 //! more in front, its head, which may be absent, and one that ends it and names the number of
 //! operations. `append_log` and `send` write them, `send_list` an exchange of some; `read_log` and
 //! `receive` take them into whatever takes operations, and `take_log` is the reader of logs within,
-//! which also tells how many lines there were. The crate stands on rga_lines for the lines and the
-//! devices, on the traits of rga_store for what takes operations (`Taker`) and what has them
-//! (`TextStore`), and on rga_ops for what they mean. The layer above may rest on the contracts, for
-//! any taker, any store and any device that tells its bytes: however the reads cut the bytes, what
-//! is held afterwards is what was held joined with the operations of the lines before the first
-//! fault, or before the end; what is written is exactly the lines of the operations, or a beginning
-//! of them where a call fails; and bytes that stand for a content still do so, for the joined one,
-//! once operations were appended (`laws`).
+//! which also tells how many lines there were. The crate stands on rga_lines for the lines, on
+//! rga_devices for the devices, on the traits of rga_store for what takes operations (`Taker`) and
+//! what has them (`TextStore`), and on rga_ops for what they mean. The layer above may rest on the
+//! contracts, for any taker, any store and any device that tells its bytes: however the reads cut
+//! the bytes, what is held afterwards is what was held joined with the operations of the lines
+//! before the first fault, or before the end; what is written is exactly the lines of the
+//! operations, or a beginning of them where a call fails; and bytes that stand for a content still
+//! do so, for the joined one, once operations were appended (`laws`).
 #![tactic(auto)]
 
 mod block;

@@ -4,9 +4,10 @@
 //! JSON object (RFC 8259) of a few members; an exchange has a line more in front, its head, which
 //! may be absent, and one that ends it. This crate says what a line means (`read_any`,
 //! `read_line`), writes lines (`Speller`, `write_line`, `write_run`, `write_deletion_run`,
-//! `write_head`, `write_end`), puts bytes among others (`bytes`), and cuts a stream into its lines in
-//! whatever pieces it comes (`Splitter`). It stands on `rga_ops` for the operations, on `serde_json`
-//! and `json` for the JSON, on `itoa` for the digits and on `memchr` for the ends of lines.
+//! `write_head`, `write_end`), puts bytes among others (`bytes`), and cuts a stream into its lines
+//! in whatever pieces it comes (`Splitter`). It stands on `rga_ops` for the operations, on
+//! `serde_json` and `json` for the JSON, on `itoa` for the digits and on `memchr` for the ends of
+//! lines.
 //!
 //! The layer above may rest on the table of `specs/Table.antt`, which each line meets or is at
 //! fault by; on the one spelling of what is written, in `specs/Spelling.antt`; on the lines and the

@@ -125,14 +125,24 @@ fn written_deletions(bytes: &[u8]) -> Option<DeletionRun>
 
 /// Two numbers between brackets behind the literal, with which the bytes begin, and what stands
 /// behind them.
+#[inline(always)]
 pub(crate) fn pair_after<'a>(bytes: &'a [u8], literal: &[u8]) -> Option<(u64, u16, &'a [u8])>
     ensures { IfSome result (λ p.
         bytes.now ≡ literal.now ++ (pair_text (identifier p.0 p.1) ++ p.2.now)) }
 {
-    let Some(rest) = after(bytes, literal) else {
-        return None;
-    };
-    let Some((counter, rest)) = number_after(rest, b"[") else {
+    // Each caller compares a literal of a length that is known.
+    match after(bytes, literal) {
+        Some(rest) => pair(rest),
+        None => None,
+    }
+}
+
+/// Two numbers between brackets, with which the bytes begin, and what stands behind them.
+fn pair(bytes: &[u8]) -> Option<(u64, u16, &[u8])>
+    ensures { IfSome result (λ p.
+        bytes.now ≡ pair_text (identifier p.0 p.1) ++ p.2.now) }
+{
+    let Some((counter, rest)) = number_after(bytes, b"[") else {
         return None;
     };
     let Some((replica, rest)) = number_after(rest, b",") else {

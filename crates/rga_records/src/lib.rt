@@ -3,11 +3,11 @@
 //! A `Records` says of each identifier whether it is inserted, with which parent and character,
 //! whether it is deleted, and where in a sequence its element may stand. It stands on rga_ops for
 //! the operations, on rga_store for what a store's content and limit are and who is told the
-//! operations one by one, on rga_sequence for what `Near` is, and on rga_pages, which keeps
-//! the records in the order of their identifiers: none that is chosen can make a search slow, and
-//! what is listed is in order already. The layer above may rest on the contracts, which see a
-//! `Records` as a content and a limit; where elements may stand serves speed alone and is no part of
-//! that value.
+//! operations one by one, on rga_sequence for what `Near` is, and on rga_pages, which keeps the
+//! records in the order of their identifiers: none that is chosen can make a search slow, and what
+//! is listed is in order already. The layer above may rest on the contracts, which see a `Records`
+//! as a content and a limit; where elements may stand serves speed alone and is no part of that
+//! value.
 #![tactic(auto)]
 
 mod chains;

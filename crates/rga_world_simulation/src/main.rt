@@ -1,11 +1,11 @@
 //! Random events in a world of eight sites, and what the laws say of it, looked at as they happen.
 //!
 //! `SEED EVENTS` makes so many events, others for each seed: edits, saves, deliveries and restarts,
-//! some of which are refused. Each inserted character is another one. Every thousand events what all
-//! sites have saved is joined, by operations, in which no conflict may come. Then each text has to
-//! show what is saved of it in the order of that join, and the order of the join before has to be a
-//! part of its order. It prints how many events were done and refused, how many elements are saved
-//! in the end, and how many differences there were. Nothing stands on this crate.
+//! some of which are refused. Each inserted character is another one. Every thousand events what
+//! all sites have saved is joined, by operations, in which no conflict may come. Then each text has
+//! to show what is saved of it in the order of that join, and the order of the join before has to
+//! be a part of its order. It prints how many events were done and refused, how many elements are
+//! saved in the end, and how many differences there were. Nothing stands on this crate.
 #![tactic(auto)]
 
 mod events;

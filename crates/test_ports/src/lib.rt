@@ -2,8 +2,8 @@
 //! whose steps fail, and a log over one.
 //!
 //! Only tests use this crate. It stands on mg_files and mgr_port; the layer above may rest on the
-//! contracts of `Port`, `Disk` and `Logs`, by which they tell their calls and steps, and for the rest
-//! on the comments.
+//! contracts of `Port`, `Disk` and `Logs`, by which they tell their calls and steps, and for the
+//! rest on the comments.
 #![tactic(auto)]
 
 mod call;
