@@ -72,10 +72,6 @@ module _ (old found : Option (List ℕ)) (bytes : List ℕ) where
       (λ synced then. early (behind_step (behind_step p Empties) (Writes bytes)) Syncs (naming_steps keeps ++ SyncsFolder ∷ []) synced u.unnamed u.unsettled then
       (λ named last. naming keeps (behind_step (behind_step (behind_step p Empties) (Writes bytes)) Syncs) named u.unnamed u.unsettled refl refl last)))
 
-  pub the_new_one : (p : Place) (keeps : Bool) → IsUntouched p → MayBeFound old (behind_steps p (whole_steps keeps bytes)) found → found ≡ Some bytes
-  the_new_one p false u may = may refl
-  the_new_one p true u may = may refl
-
 -- ---- what stood there
 
 -- it is kept once the file beside has the name

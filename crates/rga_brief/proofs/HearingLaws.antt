@@ -12,7 +12,6 @@ use Rattle.rga_lines.specs.declared.fault.LineFault.TheVariants as line_fault
 use Rattle.rga_lines.proofs.SplitterLemmas.{GivesLine, rest_is_all}
 use Rattle.rga_exchange.specs.declared.fault.ReceiveFault.{ReceiveFault}
 use Rattle.rga_exchange.specs.declared.fault.ReceiveFault.TheVariants as fault
-use Rattle.rga_exchange.proofs.ReadLaws.{on_all}
 use Rattle.rga_digest.specs.Summary.{Summary}
 use Rattle.rga_brief.specs.declared.claim.Claim.{Claim}
 use Rattle.rga_brief.specs.Heard.{HasHeard}
@@ -76,12 +75,6 @@ module _ {R : Type 0} (remaining : R → Option (List ℕ)) where
         same = λ further.
             ap summary_heard (append_assoc all piece further) ∙ h.same (piece ++ further) ∙ ap (bytes_heard claims) (sym (append_assoc waiting piece further));
       }
-
-  -- what all bytes lead to, where what waits leads to it whatever follows
-  pub heard_all : (r s : Calls R) (claims : List Claim) (waiting : List ℕ) (outcome : Result Summary ReceiveFault) → HasHeard remaining r s claims waiting
-      → ((more : List ℕ) → bytes_heard claims (waiting ++ more) ≡ outcome) → OnBytes remaining r (λ bytes. summary_heard bytes ≡ outcome)
-  heard_all r s claims waiting outcome h leads =
-      on_all (remaining r.inner) (remaining s.inner) (h.reads.before ++ h.reads.last) (λ bytes. summary_heard bytes ≡ outcome) h.reads.read (λ more. h.same more ∙ leads more)
 
   -- and at the end of the input
   pub heard_to_end : (r s t : Calls R) (claims : List Claim) (waiting : List ℕ) → HasHeard remaining r s claims waiting → lines_of waiting ≡ [] → length waiting ≤ MAX_LINE

@@ -51,9 +51,6 @@ grown_knows (x ∷ rs) (suc i) r id other l is filled h =
     ap (λ b. is_in x other || b) (grown_knows rs i r id other (omega arith) is filled h)
     ∙ sym (or_assoc (is_in x other) (is_known rs other) (is_id id other))
 
-still_filled : (r k x l n : ℕ) → nat_le x l ≡ true → ((r == k) && ((l + 1) == n)) ≡ true → nat_le x n ≡ true
-still_filled r k x l n f h = grind (arith, nat_tests)
-
 in_one : (r q n m : ℕ) → ((r == q) && (nat_le n m && nat_le m n)) ≡ ((n == m) && (r == q))
 in_one r q n m = grind (arith, nat_tests)
 

@@ -49,10 +49,6 @@ pub without_noted-both : (xs ys : List Step) (c : Content) → without_noted (xs
 without_noted-both [] ys c = refl
 without_noted-both (x ∷ xs) ys c = ap (without_noted (x ∷ [])) (without_noted-both xs ys c)
 
-end_of : (xs : List Step) → xs ≡ xs ++ []
-end_of [] = refl
-end_of (x ∷ xs) = ap (λ r. x ∷ r) (end_of xs)
-
 pub gathered_more : (limit : ℕ) (base c d : Content) (step : Step) (ops : List Op) (before steps : List Step) → IsGathered limit base c ops before steps → answer limit c step.op.now ≡ Ok New → d ≡ join c (single step.op.now) → step.clock ≡ clock_of c
     → IsGathered limit base d (ops ++ step.op.now ∷ []) before (steps ++ step ∷ [])
 gathered_more limit base c d step ops before steps g answered joined clocked =
@@ -111,10 +107,6 @@ list_later limit c d ops i n h =
 -- the steps that were there lead where they led
 pub gathered_start : (limit : ℕ) (base c : Content) (ops : List Op) (before steps : List Step) → IsGathered limit base c ops before steps → without_noted steps c ≡ without_noted before base
 gathered_start limit base c ops before steps g = ap (λ ss. without_noted ss c) g.noted ∙ without_noted-both before g.own c ∙ ap (without_noted before) g.gone
-
-take_front : (xs ys : List Step) → take (length xs) (xs ++ ys) ≡ xs
-take_front [] ys = refl
-take_front (x ∷ xs) ys = ap (λ r. x ∷ r) (take_front xs ys)
 
 -- one step less behind those that stay
 pub left_gone : (from : ℕ) (ss : List Step) (s : Step) (c : Content) → from < length (ss ++ s ∷ []) → without_noted (drop from ss) (without_operation s.op.now c) ≡ without_noted (drop from (ss ++ s ∷ [])) c

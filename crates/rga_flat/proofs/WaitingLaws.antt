@@ -12,7 +12,7 @@ use Rattle.std.proofs.lemmas.Bool.{or_right}
 use Rattle.std.specs.FinMap as finite_map
 use Rattle.rga_ops.specs.Identifier.{Identifier, id_cmp}
 use Rattle.rga_ops.specs.Content.{Content}
-use Rattle.rga_ops.proofs.IdentifierLaws.{is, same_id, is_itself}
+use Rattle.rga_ops.proofs.IdentifierLaws.{is, same_id}
 use Rattle.rga_flat.specs.Waiting.{Waiting, under, has_list, is_listed, KeepsUnder, KeepsLists, SettlesLists, AreInserted}
 use Rattle.rga_flat.proofs.EntryLaws.{either}
 
@@ -47,9 +47,6 @@ module _ (old new : Waiting) (id : Identifier) (v : Children) (changed : (q : Id
       split true = refl
       split false = refl
 
-  pub there_now : is id id ≡ true → has_list new id ≡ true
-  there_now t = list_now id ∙ ap (λ b. b || has_list old id) t
-
   pub lists_now : KeepsLists old new id
   lists_now = (λ p h. list_now p ∙ or_right (is id p) (has_list old p) h, λ p f. list_now p ∙ ap (λ b. b || has_list old p) f)
 
@@ -62,18 +59,6 @@ module _ (old new : Waiting) (id : Identifier) (v : Children) (changed : (q : Id
   pushed_under k e p = under_now p ∙ either (is id p)
       (λ t. ap (λ b. cond b v.items (under old p)) t ∙ e ∙ ap (λ q. under old q ++ k ∷ []) (same_id id p t) ∙ sym (ap (λ b. cond b (under old p ++ k ∷ []) (under old p)) t))
       (λ f. ap (λ b. cond b v.items (under old p)) f ∙ sym (ap (λ b. cond b (under old p ++ k ∷ []) (under old p)) f))
-
--- a list that goes
-module _ (old new : Waiting) (id : Identifier) (changed : (q : Identifier) → get id_cmp new q ≡ cond (is id q) None (get id_cmp old q)) where
-  pub others_under : (p : Identifier) → is id p ≡ false → under new p ≡ under old p
-  others_under p f = ap (λ o. option_map_or (λ (v : Children). v.items) o []) (changed p ∙ ap (λ b. cond b None (get id_cmp old p)) f)
-
-  pub one_gone : (p : Identifier) → has_list new p ≡ (not (is id p) && has_list old p)
-  one_gone p = ap is_some (changed p) ∙ split (is id p)
-    where
-      split : (b : Bool) → is_some (cond b None (get id_cmp old p)) ≡ (not b && has_list old p)
-      split true = refl
-      split false = refl
 
 -- ---- lists that are done with
 
@@ -94,12 +79,6 @@ module _ (w : Waiting) (old new : BTreeSet Identifier) (id : Identifier) (change
   inserted_now c h p t = either (is id p)
       (λ e. inr (ap (finite_map.contains_key c.inserted) (sym (same_id id p e)) ∙ h))
       (λ f. inl (sym (changed p ∙ ap (λ b. cond b true (contains id_cmp old p)) f) ∙ t))
-
-  pub unlisted_now : is_listed w new id ≡ false
-  unlisted_now = ap (λ b. has_list w id && not b) (changed id ∙ ap (λ b. cond b true (contains id_cmp old id)) (is_itself id)) ∙ and-false (has_list w id)
-
-  pub listed_else : (p : Identifier) → is id p ≡ false → is_listed w new p ≡ is_listed w old p
-  listed_else p f = ap (λ b. has_list w p && not b) (changed p ∙ ap (λ b. cond b true (contains id_cmp old p)) f)
 
 pub settles_on : (w : Waiting) (a b c : BTreeSet Identifier) → SettlesLists w a b → SettlesLists w b c → SettlesLists w a c
 settles_on w a b c s t = record {
