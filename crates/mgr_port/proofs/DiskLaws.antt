@@ -1,5 +1,5 @@
 -- What stands under a name behind each beginning of the steps that give it a file.
-use Rattle.std.proofs.Common.{◌≡◌, ◌⊎◌, inl, inr, ℕ, List, [], ◌∷◌, ◌++◌, Bool, true, false, Option, Some, None, refl, sym, ap, ◌∙◌, subst, append_assoc, append-nil}
+use Rattle.std.proofs.Common.{◌≡◌, ◌⊎◌, inl, inr, ℕ, List, [], ◌∷◌, ◌++◌, Bool, true, false, Option, Some, None, refl, sym, ap, ◌∙◌, subst, append_assoc}
 use Rattle.mgr_port.specs.Disk.{DiskStep, Empties, Writes, Syncs, Keeps, TakesName, SyncsFolder, BeginsSteps, Place, behind_step, behind_steps, MayStand, MayBeFound, IsUntouched, naming_steps, whole_steps, TellsSteps, TellsWrittenFront, StopsBefore}
 
 -- What holds of a place, holds of it behind a part of the first step where that is a write, and behind that step and any

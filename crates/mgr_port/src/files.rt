@@ -13,6 +13,9 @@ use std::{fs, io};
 /// A file that only its owner may read and write.
 pub(crate) const OWN: u32 = 0o600;
 
+/// How often a file is looked for anew where its name changes meanwhile.
+pub(crate) const TRIES: u32 = 16;
+
 /// How many files may be kept beside one, so that a search for a free name ends.
 const MAX_KEPT: u32 = 10000;
 
@@ -22,6 +25,16 @@ pub(crate) fn metadata_if_there<R: Files>(rt: &R, path: &str) -> io::Result<Opti
         Ok(metadata) => Ok(Some(metadata)),
         Err(error) if error.kind() == ErrorKind::NotFound => Ok(None),
         Err(error) => Err(error),
+    }
+}
+
+/// What a plain file is; none where it is not there. `InvalidInput` where something else is: a pipe
+/// may never have an end, and a device may have none.
+pub(crate) fn plain_if_there<R: Files>(rt: &R, path: &str) -> io::Result<Option<Metadata>> {
+    let there = metadata_if_there(rt, path)?;
+    match &there {
+        Some(standing) if !standing.is_file() => Err(io::Error::from(ErrorKind::InvalidInput)),
+        _ => Ok(there),
     }
 }
 
@@ -53,20 +66,73 @@ pub(crate) fn open_to_add<R: Files<File = File>>(rt: &R, path: &str) -> io::Resu
 }
 
 /// Opens a file that is still to get its name, and makes it where it is not there. Only its owner may
-/// read it. What is written goes to its end.
+/// read it. What is written goes to its end. What stands there and is no plain file makes way, so
+/// that nothing is written through a link.
 pub(crate) fn open_beside<R: Files<File = File>>(rt: &R, path: &str) -> io::Result<File> {
+    match fs::symlink_metadata(rt, path) {
+        Ok(standing) if !standing.is_file() => fs::remove_file(rt, path)?,
+        _ => {}
+    }
     let mut options = OpenOptions::new();
     options.read(true).append(true).create(true).mode(OWN);
     options.open(rt, path)
 }
 
-/// Makes a file beside another, new and empty.
-pub(crate) fn make_beside<R: Files<File = File>>(
+/// Locks a file of a path that is still to get its name. `WouldBlock` where something else has it
+/// locked. `Interrupted` where the path stood for another file meanwhile, or for one with bytes, as
+/// one that was killed may leave it: that is kept, and lets go of the name.
+pub(crate) fn lock_beside<R: Files<File = File> + AllocGlobal>(
+    rt: &R,
+    path: &str,
+    next: &File,
+) -> io::Result<()> {
+    lock(next)?;
+    if !stands_for(rt, path, next)? {
+        return Err(io::Error::from(ErrorKind::Interrupted));
+    }
+    if next.metadata()?.len() > 0 {
+        make_way(rt, path)?;
+        return Err(io::Error::from(ErrorKind::Interrupted));
+    }
+    Ok(())
+}
+
+/// A file of a path that is still to get its name, empty and locked.
+pub(crate) fn take_beside<R: Files<File = File> + AllocGlobal>(
+    rt: &R,
+    path: &str,
+) -> io::Result<File> {
+    for _ in 0..TRIES {
+        let next = open_beside(rt, path)?;
+        match lock_beside(rt, path, &next) {
+            Ok(()) => return Ok(next),
+            Err(error) if error.kind() == ErrorKind::Interrupted => {}
+            Err(error) => return Err(error),
+        }
+    }
+    Err(io::Error::from(ErrorKind::WouldBlock))
+}
+
+/// Has what stands under a path let go of it. Bytes of a plain file are kept.
+fn make_way<R: Files<File = File> + AllocGlobal>(rt: &R, path: &str) -> io::Result<()> {
+    match fs::symlink_metadata(rt, path) {
+        Ok(standing) if standing.is_file() && standing.len() > 0 => {
+            keep(rt, path, Keeping::ByName)?;
+        }
+        Ok(_) => {}
+        Err(error) if error.kind() == ErrorKind::NotFound => return Ok(()),
+        Err(error) => return Err(error),
+    }
+    fs::remove_file(rt, path)
+}
+
+/// Makes a file beside another, new and empty. Bytes that stand there are kept.
+pub(crate) fn make_beside<R: Files<File = File> + AllocGlobal>(
     rt: &R,
     path: &str,
     mode: u32,
 ) -> io::Result<File> {
-    let _ = fs::remove_file(rt, path);
+    make_way(rt, path)?;
     let mut options = OpenOptions::new();
     options.read(true).write(true).create_new(true).mode(mode);
     options.open(rt, path)

@@ -1,5 +1,5 @@
 //! A log that this port has open.
-use crate::files::{fill_with, lock, metadata_if_there, open_to_add, stands_for};
+use crate::files::{fill_with, lock, metadata_if_there, open_to_add, plain_if_there, stands_for};
 use crate::stamp::Stamp;
 use mg_files::LogLines;
 use std::fs::File;
@@ -35,9 +35,13 @@ impl Log {
         Ok(Log { file, stamp, end })
     }
 
-    /// Opens and locks the log of a path; none where it is not there. `Interrupted` where the path
-    /// stood for another file meanwhile, and `WouldBlock` where something else has it locked.
+    /// Opens and locks the log of a path; none where it is not there. `InvalidInput` where it is no
+    /// plain file, `Interrupted` where the path stood for another file meanwhile, and `WouldBlock`
+    /// where something else has it locked.
     pub(crate) fn open<R: Files<File = File>>(rt: &R, path: &str) -> io::Result<Option<File>> {
+        if plain_if_there(rt, path)?.is_none() {
+            return Ok(None);
+        }
         let file = match open_to_add(rt, path) {
             Ok(file) => file,
             Err(error) if error.kind() == ErrorKind::NotFound => return Ok(None),

@@ -1,7 +1,7 @@
 //! The files of one note, as this port found and left them.
 use crate::beside::{Beside, Kind, remove_next};
 use crate::disk::{Named, put_log};
-use crate::files::{lock, metadata_if_there, open_beside, stands_for};
+use crate::files::{TRIES, lock_beside, metadata_if_there, open_beside, stands_for, take_beside};
 use crate::log::Log;
 use crate::names::Paths;
 use crate::text::Text;
@@ -10,9 +10,6 @@ use std::fs::{File, Metadata};
 use std::io::ErrorKind;
 use std::rt::Files;
 use std::{fs, io};
-
-/// How often the log is looked for anew where its name changes meanwhile.
-const TRIES: u32 = 16;
 
 /// A note under its name.
 #[derive(Drop)]
@@ -183,7 +180,7 @@ impl NoteFiles {
 }
 
 /// The log, locked; where there is none the file that will be it is locked.
-fn take_log<R: Files<File = File>>(
+fn take_log<R: Files<File = File> + AllocGlobal>(
     rt: &R,
     paths: &Paths,
     next: &mut Option<File>,
@@ -197,7 +194,7 @@ fn take_log<R: Files<File = File>>(
     Err(io::Error::from(ErrorKind::WouldBlock))
 }
 
-fn try_log<R: Files<File = File>>(
+fn try_log<R: Files<File = File> + AllocGlobal>(
     rt: &R,
     paths: &Paths,
     next: &mut Option<File>,
@@ -215,13 +212,14 @@ fn try_log<R: Files<File = File>>(
     Ok(None)
 }
 
-/// Locks the next log. `Interrupted` where its path stood for another file meanwhile, and where the
-/// log is there by now.
-fn lock_next<R: Files<File = File>>(rt: &R, path: &str, next: &File, log: &str) -> io::Result<()> {
-    lock(next)?;
-    if !stands_for(rt, path, next)? {
-        return Err(io::Error::from(ErrorKind::Interrupted));
-    }
+/// Locks the next log. `Interrupted` as of `lock_beside`, and where the log is there by now.
+fn lock_next<R: Files<File = File> + AllocGlobal>(
+    rt: &R,
+    path: &str,
+    next: &File,
+    log: &str,
+) -> io::Result<()> {
+    lock_beside(rt, path, next)?;
     if metadata_if_there(rt, log)?.is_some() {
         let _ = fs::remove_file(rt, path);
         return Err(io::Error::from(ErrorKind::Interrupted));
@@ -230,7 +228,7 @@ fn lock_next<R: Files<File = File>>(rt: &R, path: &str, next: &File, log: &str) 
 }
 
 /// The next log of a path, open and locked.
-fn take_next<R: Files<File = File>>(
+fn take_next<R: Files<File = File> + AllocGlobal>(
     rt: &R,
     path: &str,
     open: &mut Option<File>,
@@ -240,9 +238,7 @@ fn take_next<R: Files<File = File>>(
             return Ok(next);
         }
     }
-    let next = open_beside(rt, path)?;
-    lock(&next)?;
-    Ok(next)
+    take_beside(rt, path)
 }
 
 /// Writes all of the next log, and gives it the log's name. Its owner and rights are those of the log

@@ -2,7 +2,7 @@
 use crate::beside::{Beside, Kind, remove_next};
 use crate::disk::{Named, name_written};
 use crate::files::{
-    Keeping, check_writable, keep, lock, metadata_if_there, open_beside, take_mode,
+    Keeping, TRIES, check_writable, keep, metadata_if_there, take_beside, take_mode,
 };
 use crate::log::Log;
 use crate::names::Paths;
@@ -12,9 +12,6 @@ use std::io;
 use std::io::{ErrorKind, Read};
 use std::rt::Files;
 use std::time::SystemTime;
-
-/// How often the log is looked for anew where its name changes meanwhile.
-const TRIES: u32 = 16;
 
 /// A log that is read. It is locked for as long as it is open.
 #[derive(Drop)]
@@ -93,14 +90,12 @@ pub(crate) fn keep_as_read<R: Files<File = File> + AllocGlobal>(
 }
 
 /// An empty file beside a log, locked, with the owner and the rights of the log.
-pub(crate) fn make_next<R: Files<File = File>>(
+pub(crate) fn make_next<R: Files<File = File> + AllocGlobal>(
     rt: &R,
     path: &str,
     log: &OpenLog,
 ) -> io::Result<File> {
-    let next = open_beside(rt, path)?;
-    lock(&next)?;
-    next.set_len(0)?;
+    let next = take_beside(rt, path)?;
     take_mode(&next, &log.file.metadata()?)?;
     Ok(next)
 }

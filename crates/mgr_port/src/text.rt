@@ -2,7 +2,7 @@
 use crate::beside::{Beside, Kind, sync_dated};
 use crate::disk::{Named, put_whole};
 use crate::files::{
-    Keeping, check_writable, keep, lock, make_beside, metadata_if_there, set_mode, stands_for,
+    Keeping, TRIES, check_writable, keep, lock, make_beside, plain_if_there, set_mode, stands_for,
     take_owner,
 };
 use crate::log::Log;
@@ -13,9 +13,6 @@ use std::io::{ErrorKind, Write};
 use std::os::unix::fs::MetadataExt;
 use std::rt::Files;
 use std::{fs, io};
-
-/// How often the file is looked at anew where its name changes meanwhile.
-const TRIES: u32 = 16;
 
 /// A text that is made gets the permissions that the user's mask leaves of these.
 const ALL: u32 = 0o666;
@@ -47,14 +44,11 @@ impl Text {
         self.replaced = None;
     }
 
-    /// Locks the text of a path, where it is a plain file. `WouldBlock` where something else has it
-    /// locked.
+    /// Locks the text of a path, where it is there. `InvalidInput` where it is no plain file, and
+    /// `WouldBlock` where something else has it locked.
     fn take<R: Files<File = File>>(&mut self, rt: &R, path: &str) -> io::Result<()> {
         for _ in 0..TRIES {
-            let Some(there) = metadata_if_there(rt, path)? else {
-                return Ok(());
-            };
-            if !there.is_file() {
+            if plain_if_there(rt, path)?.is_none() {
                 return Ok(());
             }
             let file = fs::open(rt, path)?;
@@ -110,8 +104,8 @@ impl Text {
     }
 
     /// Makes these bytes the text, beside a log. What stands there is kept, unless this port read it
-    /// or put it, or it is the same. The file whose name the text takes stays open until the next
-    /// call, or until `close_replaced`.
+    /// or put it, or it is the same; it is refused where it is no plain file, or may not be written.
+    /// The file whose name the text takes stays open until the next call, or until `close_replaced`.
     pub(crate) fn put<R: Files<File = File> + AllocGlobal>(
         &mut self,
         rt: &R,
@@ -121,8 +115,10 @@ impl Text {
     ) -> io::Result<()> {
         self.close_replaced();
         let path = paths.text.as_str();
-        let there = metadata_if_there(rt, path)?;
-        check_plain(rt, path, &there)?;
+        let there = plain_if_there(rt, path)?;
+        if there.is_some() {
+            check_writable(rt, path)?;
+        }
         let is_safe = self.is_safe(rt, path, &there, bytes)?;
         match make_next(rt, paths, &there)? {
             Some(next) => self.put_beside(rt, paths, next, bytes, log, is_safe),
@@ -141,7 +137,7 @@ impl Text {
         let Some(there) = there else {
             return Ok(true);
         };
-        if !there.is_file() || self.own == Some(Stamp::of(there)) {
+        if self.own == Some(Stamp::of(there)) {
             return Ok(true);
         }
         if there.len() != bytes.len() as u64 {
@@ -208,22 +204,9 @@ fn name_next<R: Files<File = File> + AllocGlobal>(
     put_whole(&mut disk, bytes, keeps)
 }
 
-/// Whether the text may be written, where it is a plain file. Nothing of it changes.
-fn check_plain<R: Files<File = File>>(
-    rt: &R,
-    path: &str,
-    there: &Option<Metadata>,
-) -> io::Result<()> {
-    match there {
-        Some(there) if there.is_file() => check_writable(rt, path),
-        _ => Ok(()),
-    }
-}
-
 /// A new file for a text, with its mode, owner and group; none where the text has to be written in
-/// place: what is no plain file, a file whose owner can't be kept, and one in a folder that takes no
-/// new file.
-fn make_next<R: Files<File = File>>(
+/// place: a link, a file whose owner can't be kept, and one in a folder that takes no new file.
+fn make_next<R: Files<File = File> + AllocGlobal>(
     rt: &R,
     paths: &Paths,
     there: &Option<Metadata>,
@@ -240,7 +223,7 @@ fn make_next<R: Files<File = File>>(
 }
 
 /// A new file of a path, with the mode, the owner and the group of a text; none where it can't be had.
-fn make_like<R: Files<File = File>>(
+fn make_like<R: Files<File = File> + AllocGlobal>(
     rt: &R,
     path: &str,
     standing: &Metadata,

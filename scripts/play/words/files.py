@@ -116,6 +116,12 @@ def twin(stage, about):
 
 
 @word
+def pipe(stage, about):
+    """A pipe of that name, which nobody writes to."""
+    os.mkfifo(stage.path(about))
+
+
+@word
 def dated(stage, about):
     """`dated NAME SECONDS` gives a file the time of its last change."""
     name, seconds = about.split()

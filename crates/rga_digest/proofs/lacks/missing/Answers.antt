@@ -1,4 +1,4 @@
-use Rattle.std.proofs.Common.{◌≡◌, List, [], filter, map, sym, ap, ◌∙◌, ◌++◌}
+use Rattle.std.proofs.Common.{◌≡◌, List, [], filter, sym, ap, ◌∙◌, ◌++◌}
 use Rattle.std.proofs.lemmas.List.{append-nil}
 use Rattle.std.proofs.lemmas.List.Elements.{filter-append}
 use Rattle.std.specs.FinSet as finite_set
