@@ -37,9 +37,6 @@ module _ (how : Manner) where
   pub took_more : (xs ys : List Event) {all : List Event} (a b c : Moment) → all ≡ xs ++ ys → TakesEvents how xs a b → TakesEvents how ys b c → TakesEvents how all a c
   took_more xs ys {all} a b c is first next = subst (λ es. TakesEvents how es a c) (sym is) (takes_more xs ys a b c first next)
 
-  pub took_ended : (xs ys : List Event) {all : List Event} (a b : Moment) → all ≡ xs ++ ys → b.course ≢ On → TakesEvents how xs a b → TakesEvents how all a b
-  took_ended xs ys a b is ended first = took_more xs ys a b b is first (takes_none ys b ended)
-
   -- the next key of a list, and then the others
   pub next_key : (bytes : List ℕ) (i d : ℕ) (a b c : Moment) → i < length bytes → TakesEvents how (key (get_or bytes i d) ∷ []) a b
       → TakesEvents how (keys (drop (i + 1) bytes)) b c → TakesEvents how (keys (drop i bytes)) a c

@@ -60,11 +60,11 @@ editor_rows e = utf8 (frame_rows e.work.columns (screen_of e))
 abbrev pub shown_cursor : Bool → Position → Option Position
 shown_cursor has_cursor at = if has_cursor then Some at else None
 
--- the frame of an editor, as it is written, where the cursor is in sight
+-- the frame of an editor, as it is written, where its cursor is in sight
 abbrev pub editor_text : Bool → Editor → Option (List ℕ)
 editor_text has_cursor e = option_map (λ at. frame_text (editor_rows e) (shown_cursor has_cursor at)) (cursor_in e (screen_of e))
 
--- Once the windows are placed, a frame was written and flushed, or the device failed behind a beginning of it, or memory was
+-- The windows were placed, and the frame was written and flushed, or the device failed behind a beginning of it; or memory was
 -- wanting for it, and nothing was written.
 pub data Displays (has_cursor : Bool) (before behind : Moment) : Type 0 where
   whole : (text : List ℕ) (screen : Calls Known) → editor_text has_cursor (placed_editor before.editor) ≡ Some text

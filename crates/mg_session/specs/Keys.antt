@@ -27,12 +27,12 @@ abbrev pub course_behind : Request → Course
 course_behind request.Quit = Quit
 course_behind asked = On
 
--- The byte was pressed, and what it requests was carried.
+-- The byte was pressed, want of memory was said, and what was requested was carried.
 pub record TakesKey (byte : ℕ) (before behind : Moment) : Type 0 where
   pub answer : presses.PressAnswer
   pub pressed : Editor
-  pub carried_answer : telling.CarryAnswer
+  pub carry_answer : telling.CarryAnswer
   pub presses : presses.Pressed byte before.editor pressed answer
-  pub carried : carrying.Carried (request_of answer) before.calls behind.calls (said answer pressed) behind.editor carried_answer
+  pub carried : carrying.Carried (request_of answer) before.calls behind.calls (said answer pressed) behind.editor carry_answer
   pub screen : behind.screen ≡ before.screen
   pub course : behind.course ≡ course_behind (request_of answer)

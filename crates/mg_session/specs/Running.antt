@@ -31,8 +31,8 @@ use Rattle.mg_session.specs.declared.manner.Manner.{Manner}
 abbrev pub resized_editor : ℕ → ℕ → Editor → Editor
 resized_editor rows columns e = record e { work = resized_work (min (max rows MIN_ROWS) MAX_ROWS) (min (max columns MIN_COLUMNS) MAX_COLUMNS) e.work }
 
--- A byte was taken, and where a frame follows each step, one behind each byte with which no key sequence is left begun; or the
--- screen took a size, or a block ended.
+-- A byte was taken, and where a frame follows each step, one behind each byte with which no key sequence is left begun; or
+-- the screen took a size, or a block ended.
 abbrev pub TakesEvent : Manner → Event → Moment → Moment → Type 0
 TakesEvent how (key byte) before behind =
     (pressed : Moment) × (amid : Bool) × TakesKey byte before pressed × ((amid ≡ false) ↔ HasBegun pressed.editor.talk.keys [])
@@ -49,7 +49,7 @@ TakesEvents how (event ∷ rest) before behind =
 
 -- ---- the reads of the keys
 
--- Keys were read in blocks, and what their bytes mean was taken, with those that were held before.
+-- Keys were read in blocks, and what their bytes mean, behind those that were held, was taken in turn.
 pub data ReadsKeys (how : Manner) (held : Reports) (before behind : Moment) (keys rest : Calls Known) : Type 0 where
   -- Up to an event behind which the session ends, or to the end of the keys. Each read gave a block, but the last one may
   -- have given no bytes.
@@ -75,8 +75,8 @@ LoadsTo v calls told (Err fault) = ⊥
 
 -- ---- a session
 
--- Once its editor is opened, a frame is written at the start, where steps are traced, then the keys are read, unless the
--- session ended by that frame, and else a frame is written at the end, unless the session failed before.
+-- Once its editor is opened, a frame is written where steps are traced, and the keys are read, unless that frame ended the
+-- session. Where steps are not traced a frame is written at the end, unless the session failed.
 pub record Runs {R : Type 0} (remaining : R → Known) (how : Manner) (before behind : Moment) (keys rest : Calls R) : Type 0 where
   pub begun : Moment
   pub ended : Moment
@@ -95,8 +95,8 @@ pub record Devices (R W : Type 0) : Type 0 where
 abbrev pub devices : {R W : Type 0} → Calls R → Calls W → ToldCalls → Devices R W
 devices keys screen calls = record { keys = keys; screen = screen; calls = calls }
 
--- A session of these settings, and its answer. Where an editor opens that is answered by how the session stands in the end;
--- where none does, no key is read, and nothing is written.
+-- A session of these settings. Where an editor opened the session is answered by how it stands in the end; where none did,
+-- for a fault, that is answered, no key was read, and nothing was written.
 pub record IsSession {R W : Type 0} (remaining : R → Known) (contents : W → Known) (v : Values) (r : SessionAnswer) (before behind : Devices R W) : Type 0 where
   pub told : ToldCalls
   pub opened : Result Editor SessionFault
