@@ -74,17 +74,19 @@ module _ (keys rest old : Calls Known) where
   events_tell : (how : Manner) (events : List Event) (a b : Moment) → Tells a → TakesEvents how events a b → Tells b
   events_tell how [] a b t same = subst Tells (sym same) t
   events_tell how (x ∷ xs) a b t (mid, step, next) =
-      let first = behind_step Tells (TakesEvent how x) (is_on a.course) a mid t (λ on. event_tells how x a mid (fine_at t (answer_on a.course on))) step in
-      events_tell how xs mid b first next
+      let event : is_on a.course ≡ true → TakesEvent how x a mid → Tells mid = λ on. event_tells how x a mid (fine_at t (answer_on a.course on)) in
+      events_tell how xs mid b (behind_step Tells (TakesEvent how x) (is_on a.course) a mid t event step) next
 
   -- behind the frame at the end
   last_tells : (how : Manner) (a b : Moment) → Tells a → StepIf (follows_session how a.course) (Displays how.cursor) a b → Tells b
   last_tells how a b t =
-      behind_step Tells (Displays how.cursor) (follows_session how a.course) a b t (λ is. shown_tells (fine_at t (ok_answer _ (and_parts (not how.trace) _ is).1)))
+      behind_step Tells (Displays how.cursor) (follows_session how a.course) a b t
+      (λ is. shown_tells (fine_at t (ok_answer (course_answer a.course) (and_parts (not how.trace) _ is).1)))
 
 -- ---- behind a whole session
 
-reads_tell : {how : Manner} {held : Reports} {keys rest old : Calls Known} {a b : Moment} → IsFine keys keys old a → ReadsKeys how held a b keys rest → Tells keys rest old b
+reads_tell : {how : Manner} {held : Reports} {keys rest old : Calls Known} {a b : Moment}
+    → IsFine keys keys old a → ReadsKeys how held a b keys rest → Tells keys rest old b
 reads_tell {how} {held} {keys} {rest} {old} {a} {b} f (through blocks read least most unfailed end taken) =
     let before : IsFine keys rest old a = record { answer = f.answer; read = unfailed; written = f.written; flushed = f.flushed } in
     events_tell keys rest old how (all_events held blocks) a b (fine_tells keys rest old before) taken
@@ -106,4 +108,5 @@ module _ {R : Type 0} (remaining : R → Known) (how : Manner) (keys rest : Call
       let k = seen remaining keys in
       let start : IsFine k k a.screen a = record { answer = ap course_answer on; read = refl; written = refl; flushed = λ was. was } in
       let first = step_tells k k a.screen how.cursor how.trace a ran.begun start ran.starts in
-      last_tells k (seen remaining rest) a.screen how ran.ended b (taken_tells (is_on ran.begun.course) a.screen ran.begun ran.ended refl first ran.taken) ran.finishes
+      let taken = taken_tells (is_on ran.begun.course) a.screen ran.begun ran.ended refl first ran.taken in
+      last_tells k (seen remaining rest) a.screen how ran.ended b taken ran.finishes

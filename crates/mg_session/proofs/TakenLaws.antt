@@ -15,7 +15,8 @@ use Rattle.mg_session.specs.declared.course.Course.TheVariants.{On}
 use Rattle.mg_session.specs.declared.manner.Manner.{Manner}
 
 -- what holds before a step holds behind it, if it does where the step is done
-pub behind_step : (P : Moment → Type 0) (Does : Moment → Moment → Type 0) (asked : Bool) (a b : Moment) → P a → (asked ≡ true → Does a b → P b) → StepIf asked Does a b → P b
+pub behind_step : (P : Moment → Type 0) (Does : Moment → Moment → Type 0) (asked : Bool) (a b : Moment)
+    → P a → (asked ≡ true → Does a b → P b) → StepIf asked Does a b → P b
 behind_step P Does true a b holds done step = done refl step
 behind_step P Does false a b holds done same = subst P (sym same) holds
 
@@ -34,7 +35,8 @@ module _ (how : Manner) where
   takes_more [] ys a b c same next = subst (λ m. TakesEvents how ys m c) same next
   takes_more (x ∷ xs) ys a b c (mid, step, rest) next = (mid, step, takes_more xs ys mid b c rest next)
 
-  pub took_more : (xs ys : List Event) {all : List Event} (a b c : Moment) → all ≡ xs ++ ys → TakesEvents how xs a b → TakesEvents how ys b c → TakesEvents how all a c
+  pub took_more : (xs ys : List Event) {all : List Event} (a b c : Moment)
+      → all ≡ xs ++ ys → TakesEvents how xs a b → TakesEvents how ys b c → TakesEvents how all a c
   took_more xs ys {all} a b c is first next = subst (λ es. TakesEvents how es a c) (sym is) (takes_more xs ys a b c first next)
 
   -- the next key of a list, and then the others
@@ -74,5 +76,6 @@ module _ (how : Manner) where
   pub runs_none : {R : Type 0} (remaining : R → Known) (keys : Calls R) (a b : Moment) → a.course ≡ On → b.course ≢ On
       → StepIf how.trace (Displays how.cursor) a b → Runs remaining how a b keys keys
   runs_none remaining keys a b on ended starts =
-      let traced : how.trace ≡ true = behind_step (λ m. m.course ≢ On → how.trace ≡ true) (Displays how.cursor) how.trace a b (λ off. absurd (off on)) (λ is _ _. is) starts ended in
+      let traced : how.trace ≡ true =
+      behind_step (λ m. m.course ≢ On → how.trace ≡ true) (Displays how.cursor) how.trace a b (λ off. absurd (off on)) (λ is _ _. is) starts ended in
       record { begun = b; ended = b; starts = starts; taken = rw (is_off b.course ended) (refl, refl); finishes = rw traced refl }

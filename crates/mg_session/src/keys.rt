@@ -10,7 +10,7 @@ use mg_editor::{Editor, Fault};
 use mg_files::Port;
 use mg_minibuffer::{Message, Request};
 use mg_plain::Notice;
-use rga_store::{Teller, TextStore};
+use rga_store::Teller;
 
 /// Presses a byte, carries what it requests, and answers how the session stands then. What fails is
 /// said, and so is want of memory.

@@ -1,6 +1,5 @@
 use Rattle.std.proofs.Common.{refl}
 use Rattle.mg_session.specs.Display.{whole, begun, unmade}
-use Rattle.mg_session.specs.Moments.{seen}
 use Rattle.mg_session.proofs.display.show.Goals as goal
 
 pub returns-in_default : goal.returns-in_default
@@ -10,12 +9,10 @@ pub returns-in-Ok : goal.returns-in-Ok
 returns-in-Ok g c = λ calls.
     let text = rw c.in-Some.ensures.placed at c.in-Some.ensures.text in
     let written = rw c.as_str.ensures.value at c.in-Ok.ensures.bytes in
-    let screen = seen g.W.Write.contents c.write_text.new.screen in
-    rw c.in-Some.ensures.placed (whole _ screen text written c.in-Ok.ensures.device c.in-Ok.ensures.flushed refl)
+    rw c.in-Some.ensures.placed (whole _ _ text written c.in-Ok.ensures.device c.in-Ok.ensures.flushed refl)
 
 pub returns : goal.returns
 returns g c = λ calls.
     let front = c.in-Err.ensures.begun in
     let text = rw (c.in-Some.ensures.placed, ← c.as_str.ensures.value, front.parts) at c.in-Some.ensures.text in
-    let screen = seen g.W.Write.contents c.write_text.new.screen in
-    rw c.in-Some.ensures.placed (begun front.front front.rest screen text front.written c.in-Err.ensures.device refl)
+    rw c.in-Some.ensures.placed (begun front.front front.rest _ text front.written c.in-Err.ensures.device refl)

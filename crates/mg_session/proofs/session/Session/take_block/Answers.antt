@@ -22,7 +22,8 @@ returns-in_default-clause-taken g c =
     let i = c.loop-byte.byte-index in
     let how = c.args.self.now.manner in
     c.loop-byte.invariant.taken _
-    (next_byte how c.loop-byte.reports c.args.block.now i 0 _ _ _ (omega (arith, c.loop-byte-test.true)) (rw c.read.ensures.events at c.take.ensures) (takes_none how _ _ c.in_default.not-On))
+    (next_byte how c.loop-byte.reports c.args.block.now i 0 _ _ _ (omega (arith, c.loop-byte-test.true)) (rw c.read.ensures.events at c.take.ensures)
+    (takes_none how _ _ c.in_default.not-On))
 
 pub returns-clause-taken : goal.returns-clause-taken
 returns-clause-taken g c =
