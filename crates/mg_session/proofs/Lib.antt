@@ -1,4 +1,2 @@
 pub mod TakenLaws
 pub mod StandingLaws
-pub mod SessionLaws
-pub mod AnswerLaws

@@ -1,128 +1,112 @@
--- How a session stands behind what it took, and what that tells of its devices.
-use Rattle.std.proofs.Common.{◌≡◌, ◌≢◌, inl, inr, ◌&&◌, not, Bool, true, false, List, [], ◌∷◌, refl, sym, ap, subst, ◌∙◌, true≢false}
-use Rattle.rga_devices.specs.Counting.{Calls, one_more}
+-- What a session is answered by tells of its devices.
+use Rattle.std.proofs.Common.{◌≡◌, ◌≢◌, rules, not, Bool, true, false, List, [], ◌∷◌, Ok, Err, is_ok, refl, sym, ap, subst, ◌∙◌, true≢false}
+use Rattle.std.proofs.lemmas.Bool.{and_parts}
+use Rattle.std.specs.Bool.{MatchBool}
+use Rattle.rga_devices.specs.Counting.{Calls, CountsAs, StaysFlushed, one_more}
 use Rattle.mg_minibuffer.specs.declared.ending.Request.{Request}
 use Rattle.mg_minibuffer.specs.declared.ending.Request.TheVariants as request
-use Rattle.mg_reports.specs.Reports.{Event, key, size, block_end, fresh, read_events, all_events}
-use Rattle.mg_session.specs.Courses.{is_on, is_unfailed, IsFailed}
-use Rattle.mg_session.specs.Display.{Displays, whole, begun, unmade, follows_key, follows_step, follows_block}
-use Rattle.mg_session.specs.Keys.{course_behind}
-use Rattle.mg_session.specs.Moments.{Known, Moment, StepIf}
-use Rattle.mg_session.specs.Running.{resized_editor, TakesEvent, TakesEvents, ReadsKeys, Runs}
+use Rattle.mg_reports.specs.Reports.{Event, key, size, block_end, Reports, fresh, read_events, all_events}
+use Rattle.mg_session.specs.Courses.{is_on, SessionAnswer, course_answer}
+use Rattle.mg_session.specs.Display.{Displays, whole, begun, unmade, follows_session}
+use Rattle.mg_session.specs.Keys.{course_behind, request_of}
+use Rattle.mg_session.specs.Moments.{Known, Moment, seen, StepIf}
+use Rattle.mg_session.specs.Running.{TakesEvent, TakesEvents, ReadsKeys, through, broken_off, Runs}
 use Rattle.mg_session.specs.declared.course.Course.{Course}
-use Rattle.mg_session.specs.declared.course.Course.TheVariants.{On, Quit, NoKeys, NoScreen}
+use Rattle.mg_session.specs.declared.course.Course.TheVariants.{On}
+use Rattle.mg_session.specs.declared.fault.SessionFault.TheVariants.{File, Keys, Screen}
 use Rattle.mg_session.specs.declared.manner.Manner.{Manner}
+use Rattle.mg_session.proofs.TakenLaws.{behind_step}
 
--- no call of the device failed, and where all was flushed before, all is
-pub record IsUnfailed {T : Type 0} (old new : Calls T) : Type 0 where
-  pub failures : new.failures ≡ old.failures
-  pub flushed : old.flushed ≡ true → new.flushed ≡ true
+answer_on : (course : Course) → is_on course ≡ true → course_answer course ≡ Ok tt
+answer_on On is = refl
+answer_on course is = absurd (true≢false (sym is))
 
--- what a session that stands so leaves of the screen, and it reads its keys
-abbrev Stands : {W : Type 0} → Course → Calls W → Calls W → Type 0
-Stands NoKeys old new = ⊥
-Stands NoScreen old new = IsFailed old new
-Stands course old new = IsUnfailed old new
+request_answer : (asked : Request) → course_answer (course_behind asked) ≡ Ok tt
+request_answer request.Quit = refl
+request_answer asked = refl
 
--- what one leaves of both devices
-abbrev pub Leaves : {R W : Type 0} → Course → Calls R → Calls R → Calls W → Calls W → Type 0
-Leaves NoKeys keys rest old new = IsFailed keys rest × IsUnfailed old new
-Leaves NoScreen keys rest old new = (rest.failures ≡ keys.failures) × IsFailed old new
-Leaves course keys rest old new = (rest.failures ≡ keys.failures) × IsUnfailed old new
-
--- ---- of courses
-
-unfailed : {W : Type 0} (course : Course) {old new : Calls W} → is_unfailed course ≡ true → Stands course old new → IsUnfailed old new
-unfailed On ok s = s
-unfailed Quit ok s = s
-unfailed course ok s = absurd (true≢false (sym ok))
-
-stands : {W : Type 0} (course : Course) {old new : Calls W} → is_unfailed course ≡ true → IsUnfailed old new → Stands course old new
-stands On ok u = u
-stands Quit ok u = u
-stands course ok u = absurd (true≢false (sym ok))
-
-leaves : {R W : Type 0} (course : Course) (keys rest : Calls R) (old new : Calls W) → rest.failures ≡ keys.failures → Stands course old new → Leaves course keys rest old new
-leaves NoKeys keys rest old new same s = absurd s
-leaves NoScreen keys rest old new same s = (same, s)
-leaves course keys rest old new same s = (same, s)
-
-unfailed_going : (course : Course) → is_on course ≡ true → is_unfailed course ≡ true
-unfailed_going On is = refl
-unfailed_going course is = absurd (true≢false (sym is))
-
-unfailed_request : (asked : Request) → is_unfailed (course_behind asked) ≡ true
-unfailed_request request.Quit = refl
-unfailed_request asked = refl
+ok_answer : (r : SessionAnswer) → is_ok r ≡ true → r ≡ Ok tt
+ok_answer (Ok u) is = refl
+ok_answer (Err fault) is = absurd (true≢false (sym is))
 
 -- ---- behind what was taken
 
-module _ (from : Calls Known) where
-  abbrev StandsAt : Moment → Type 0
-  StandsAt m = Stands m.course from m.screen
+module _ (keys rest old : Calls Known) where
+  -- what the answer of a session that stands so tells of its keys, and of its screen, which it began with as the old one
+  pub record Tells (m : Moment) : Type 0 where
+    pub reads : CountsAs Keys (course_answer m.course) keys rest
+    pub writes : CountsAs Screen (course_answer m.course) old m.screen
+    pub flushed : StaysFlushed Screen (course_answer m.course) old m.screen
+    pub file : course_answer m.course ≢ Err File
 
-  stands_shown : {has_cursor : Bool} (a b : Moment) → is_unfailed a.course ≡ true → StandsAt a → Displays has_cursor a b → StandsAt b
-  stands_shown a b ok s (whole new text shown frame written is) =
-      let before = unfailed a.course ok s in
-      subst StandsAt (sym is) (stands a.course ok (record { failures = written.failures ∙ before.failures; flushed = λ _. written.flushed }))
-  stands_shown a b ok s (begun new text shown frame part is) =
-      let before = unfailed a.course ok s in
-      subst StandsAt (sym is) (part.failed ∙ ap one_more before.failures)
-  stands_shown a b ok s (unmade new is) = subst StandsAt (sym is) (unfailed a.course ok s)
+  -- nothing has failed
+  record IsFine (m : Moment) : Type 0 where
+    pub answer : course_answer m.course ≡ Ok tt
+    pub read : rest.failures ≡ keys.failures
+    pub written : m.screen.failures ≡ old.failures
+    pub flushed : old.flushed ≡ true → m.screen.flushed ≡ true
 
-  stands_if : (has_cursor asked : Bool) (a b : Moment) → is_unfailed a.course ≡ true → StandsAt a → StepIf asked (Displays has_cursor) a b → StandsAt b
-  stands_if has_cursor true a b ok s shown = stands_shown a b ok s shown
-  stands_if has_cursor false a b ok s same = subst StandsAt (sym same) s
+  fine_at : {m : Moment} → Tells m → course_answer m.course ≡ Ok tt → IsFine m
+  fine_at t ok = record { answer = ok; read = t.reads.unfailed (λ is. cc); written = t.writes.unfailed (λ is. cc); flushed = t.flushed (λ is. cc) }
 
-  stands_event : (how : Manner) (event : Event) (a b : Moment) → is_unfailed a.course ≡ true → StandsAt a → TakesEvent how event a b → StandsAt b
-  stands_event how (key byte) a b ok s taken =
-      let pressed = taken.between in
-      let fine : is_unfailed pressed.course ≡ true = ap is_unfailed taken.taken.course ∙ unfailed_request taken.taken.asked in
-      let same : IsUnfailed from pressed.screen = subst (IsUnfailed from) (sym taken.taken.screen) (unfailed a.course ok s) in
-      stands_if how.cursor (follows_key how pressed.course taken.amid) pressed b fine (stands pressed.course fine same) taken.shown
-  stands_event how (size rows columns) a b ok s shown =
-      stands_if how.cursor (follows_step how a.course) (record a { editor = resized_editor rows columns a.editor }) b ok s shown
-  stands_event how block_end a b ok s shown = stands_if how.cursor (follows_block how) a b ok s shown
+  fine_tells : {m : Moment} → IsFine m → Tells m
+  fine_tells f = search rules
 
-  stands_step : (how : Manner) (event : Event) (go : Bool) (a b : Moment) → is_on a.course ≡ go → StandsAt a → StepIf go (TakesEvent how event) a b → StandsAt b
-  stands_step how event true a b on s taken = stands_event how event a b (unfailed_going a.course on) s taken
-  stands_step how event false a b on s same = subst StandsAt (sym same) s
+  shown_tells : {has_cursor : Bool} {a b : Moment} → IsFine a → Displays has_cursor a b → Tells b
+  shown_tells f (whole text screen is written failures flushed same) =
+      subst Tells (sym same) (fine_tells (record { answer = f.answer; read = f.read; written = failures ∙ f.written; flushed = λ _. flushed }))
+  shown_tells f (begun front rest screen is written failed same) =
+      let more = failed ∙ ap one_more f.written in
+      subst Tells (sym same) (search rules)
+  shown_tells f (unmade new same) = subst Tells (sym same) (search rules)
 
-  stands_all : (how : Manner) (events : List Event) (a b : Moment) → StandsAt a → TakesEvents how events a b → StandsAt b
-  stands_all how [] a b s same = subst StandsAt (sym same) s
-  stands_all how (x ∷ xs) a b s (mid, step, rest) = stands_all how xs mid b (stands_step how x (is_on a.course) a mid refl s step) rest
+  step_tells : (has_cursor asked : Bool) (a b : Moment) → IsFine a → StepIf asked (Displays has_cursor) a b → Tells b
+  step_tells has_cursor asked a b f = behind_step Tells (Displays has_cursor) asked a b (fine_tells f) (λ _. shown_tells f)
 
-  -- the frame at the end
-  stands_last : (has_cursor ok asked : Bool) (a b : Moment) → is_unfailed a.course ≡ ok → StandsAt a → StepIf (ok && asked) (Displays has_cursor) a b → StandsAt b
-  stands_last has_cursor true asked a b is s shown = stands_if has_cursor asked a b is s shown
-  stands_last has_cursor false asked a b is s same = subst StandsAt (sym same) s
+  event_tells : (how : Manner) (event : Event) (a b : Moment) → IsFine a → TakesEvent how event a b → Tells b
+  event_tells how (key byte) a b f (pressed, amid, taken, is_amid, step) =
+      let answer = ap course_answer taken.course ∙ request_answer (request_of taken.answer) in
+      step_tells how.cursor _ pressed b (record { answer = answer; read = f.read; written = rw taken.screen f.written; flushed = rw taken.screen f.flushed }) step
+  event_tells how (size rows columns) a b f step =
+      step_tells how.cursor _ _ b (record { answer = f.answer; read = f.read; written = f.written; flushed = f.flushed }) step
+  event_tells how block_end a b f step = step_tells how.cursor _ a b f step
+
+  events_tell : (how : Manner) (events : List Event) (a b : Moment) → Tells a → TakesEvents how events a b → Tells b
+  events_tell how [] a b t same = subst Tells (sym same) t
+  events_tell how (x ∷ xs) a b t (mid, step, next) =
+      let event : is_on a.course ≡ true → TakesEvent how x a mid → Tells mid = λ on. event_tells how x a mid (fine_at t (answer_on a.course on)) in
+      events_tell how xs mid b (behind_step Tells (TakesEvent how x) (is_on a.course) a mid t event step) next
+
+  -- behind the frame at the end
+  last_tells : (how : Manner) (a b : Moment) → Tells a → StepIf (follows_session how a.course) (Displays how.cursor) a b → Tells b
+  last_tells how a b t =
+      behind_step Tells (Displays how.cursor) (follows_session how a.course) a b t
+      (λ is. shown_tells (fine_at t (ok_answer (course_answer a.course) (and_parts (not how.trace) _ is).1)))
 
 -- ---- behind a whole session
 
-module _ {R : Type 0} {remaining : R → Known} {how : Manner} {keys rest : Calls R} where
-  leaves_keys : (from : Calls Known) (a ended b : Moment) → Stands a.course from a.screen → ReadsKeys remaining how a ended keys rest
-      → StepIf (is_unfailed ended.course && not how.trace) (Displays how.cursor) ended b → Leaves b.course keys rest from b.screen
-  leaves_keys from a ended b s (inl taken) finish =
-      let seen = stands_all from how (all_events (fresh how.resizable) taken.blocks) a ended s taken.taken in
-      leaves b.course keys rest from b.screen taken.unfailed (stands_last from how.cursor (is_unfailed ended.course) (not how.trace) ended b refl seen finish)
-  leaves_keys from a ended b s (inr off) finish =
-      let seen : IsUnfailed from ended.screen = stands_all from how (read_events (fresh how.resizable) off.blocks) a (record ended { course = On }) s off.taken in
-      let same : b ≡ ended = subst (λ ok. StepIf (ok && not how.trace) (Displays how.cursor) ended b) (ap is_unfailed off.course) finish in
-      subst (λ (m : Moment). Leaves m.course keys rest from m.screen) (sym same) (subst (λ c. Leaves c keys rest from ended.screen) (sym off.course) (off.failed, seen))
+reads_tell : {how : Manner} {held : Reports} {keys rest old : Calls Known} {a b : Moment}
+    → IsFine keys keys old a → ReadsKeys how held a b keys rest → Tells keys rest old b
+reads_tell {how} {held} {keys} {rest} {old} {a} {b} f (through blocks read least most unfailed end taken) =
+    let before : IsFine keys rest old a = record { answer = f.answer; read = unfailed; written = f.written; flushed = f.flushed } in
+    events_tell keys rest old how (all_events held blocks) a b (fine_tells keys rest old before) taken
+reads_tell {how} {held} {keys} {rest} {old} {a} {b} f (broken_off blocks read failed ends taken) =
+    let before = events_tell keys keys old how (read_events held blocks) a (record b { course = On }) (fine_tells keys keys old f) taken in
+    let still = fine_at keys keys old before refl in
+    let answer : course_answer b.course ≡ Err Keys = ap course_answer ends in
+    search rules
 
-  pub run_leaves : {a b : Moment} → a.course ≡ On → Runs remaining how a b keys rest → Leaves b.course keys rest a.screen b.screen
-  run_leaves {a} {b} on ran =
-      let ok = ap is_unfailed on in
-      let first = stands a.course ok (record { failures = refl; flushed = λ was. was }) in
-      leaves_keys a.screen ran.begun ran.ended b (stands_if a.screen how.cursor how.trace a ran.begun ok first ran.starts) ran.taken ran.finishes
+module _ {R : Type 0} (remaining : R → Known) (how : Manner) (keys rest : Calls R) where
+  taken_tells : (go : Bool) (old : Calls Known) (a b : Moment) → is_on a.course ≡ go → Tells (seen remaining keys) (seen remaining keys) old a
+      → MatchBool go (ReadsKeys how (fresh how.resizable) a b (seen remaining keys) (seen remaining rest)) ((b ≡ a) × (rest ≡ keys))
+      → Tells (seen remaining keys) (seen remaining rest) old b
+  taken_tells true old a b on t reads = reads_tell (fine_at (seen remaining keys) (seen remaining keys) old t (answer_on a.course on)) reads
+  taken_tells false old a b off t (same, unread) = rw (unread, same) t
 
--- ---- behind a session that the frame at its start ended
-
-stopped_shown : {has_cursor : Bool} (a b : Moment) → a.course ≡ On → b.course ≢ On → Displays has_cursor a b → is_unfailed b.course ≡ false
-stopped_shown a b on stops (whole new text shown frame written is) = absurd (stops (ap (λ (m : Moment). m.course) is ∙ on))
-stopped_shown a b on stops (begun new text shown frame part is) = ap (λ (m : Moment). is_unfailed m.course) is
-stopped_shown a b on stops (unmade new is) = ap (λ (m : Moment). is_unfailed m.course) is
-
-pub stopped : (has_cursor asked : Bool) (a b : Moment) → a.course ≡ On → b.course ≢ On → StepIf asked (Displays has_cursor) a b → is_unfailed b.course ≡ false
-stopped has_cursor true a b on stops shown = stopped_shown a b on stops shown
-stopped has_cursor false a b on stops same = absurd (stops (ap (λ (m : Moment). m.course) same ∙ on))
+  pub run_tells : {a b : Moment} → a.course ≡ On → Runs remaining how a b keys rest → Tells (seen remaining keys) (seen remaining rest) a.screen b
+  run_tells {a} {b} on ran =
+      let k = seen remaining keys in
+      let start : IsFine k k a.screen a = record { answer = ap course_answer on; read = refl; written = refl; flushed = λ was. was } in
+      let first = step_tells k k a.screen how.cursor how.trace a ran.begun start ran.starts in
+      let taken = taken_tells (is_on ran.begun.course) a.screen ran.begun ran.ended refl first ran.taken in
+      last_tells k (seen remaining rest) a.screen how ran.ended b taken ran.finishes

@@ -1,72 +1,81 @@
--- Events that were taken, one after the other.
-use Rattle.std.proofs.Common.{◌≡◌, ◌≢◌, ◌↔◌, ℕ, Bool, true, false, List, [], ◌∷◌, ◌++◌, length, get_or, take, drop, ◌+◌, ◌<◌, refl, sym, ap, subst, ◌∙◌, true≢false}
-use Rattle.std.proofs.lemmas.List.{map_more, map-append, take-append-drop}
-use Rattle.mg_keys.specs.Begun.{HasBegun}
-use Rattle.mg_reports.specs.Reports.{Event, key, keys, Reports, read, events, after}
-use Rattle.mg_reports.proofs.ReportLaws.{events_next, events_behind}
+-- Events that were taken, one after the other, and reads of the keys.
+use Rattle.std.proofs.Common.{◌≡◌, ◌≢◌, arith, ℕ, ◌+◌, ◌<◌, Bool, true, false, List, [], ◌∷◌, ◌++◌, length, get_or, drop, refl, sym, ap, subst, ◌∙◌, append_assoc}
+use Rattle.std.proofs.KnownBytes.{Consumes-nil, Consumes-trans}
+use Rattle.std.proofs.lemmas.List.{drop_more}
+use Rattle.std.specs.Io.KnownBytes.{Consumes}
+use Rattle.std.specs.List.{concat}
+use Rattle.rga_devices.specs.Counting.{Calls, one_more}
+use Rattle.mg_reports.specs.Reports.{Event, key, keys, block_end, Reports, read, events, after, block_events, read_events, after_reads, held_events}
 use Rattle.mg_session.specs.Courses.{is_on}
-use Rattle.mg_session.specs.Display.{Displays, follows_key}
-use Rattle.mg_session.specs.Keys.{TakesKey}
-use Rattle.mg_session.specs.Moments.{Moment, StepIf}
-use Rattle.mg_session.specs.Running.{TakesByte, TakesEvent, TakesEvents}
+use Rattle.mg_session.specs.Display.{Displays}
+use Rattle.mg_session.specs.Moments.{Known, Moment, StepIf}
+use Rattle.mg_session.specs.Running.{TakesEvents, ReadsKeys, through, broken_off, Runs}
 use Rattle.mg_session.specs.declared.course.Course.{Course}
 use Rattle.mg_session.specs.declared.course.Course.TheVariants.{On}
 use Rattle.mg_session.specs.declared.manner.Manner.{Manner}
 
-pub does_not_go_on : (course : Course) → course ≢ On → is_on course ≡ false
-does_not_go_on On ended = absurd (ended refl)
-does_not_go_on course ended = refl
+-- what holds before a step holds behind it, if it does where the step is done
+pub behind_step : (P : Moment → Type 0) (Does : Moment → Moment → Type 0) (asked : Bool) (a b : Moment)
+    → P a → (asked ≡ true → Does a b → P b) → StepIf asked Does a b → P b
+behind_step P Does true a b holds done step = done refl step
+behind_step P Does false a b holds done same = subst P (sym same) holds
 
-pub no_step : (asked : Bool) (Does : Moment → Moment → Type 0) (m : Moment) → asked ≡ false → StepIf asked Does m m
-no_step true Does m off = absurd (true≢false off)
-no_step false Does m off = refl
+is_off : (course : Course) → course ≢ On → is_on course ≡ false
+is_off On ended = absurd (ended refl)
+is_off course ended = refl
 
 module _ (how : Manner) where
+  -- none, where the session does not go on
+  pub takes_none : (events : List Event) (m : Moment) → m.course ≢ On → TakesEvents how events m m
+  takes_none [] m ended = refl
+  takes_none (x ∷ xs) m ended = (m, rw (is_off m.course ended) refl, takes_none xs m ended)
+
   -- those of which each is taken, and then further ones
   takes_more : (xs ys : List Event) (a b c : Moment) → TakesEvents how xs a b → TakesEvents how ys b c → TakesEvents how (xs ++ ys) a c
   takes_more [] ys a b c same next = subst (λ m. TakesEvents how ys m c) same next
   takes_more (x ∷ xs) ys a b c (mid, step, rest) next = (mid, step, takes_more xs ys mid b c rest next)
 
-  -- none, where the session does not go on
-  pub takes_none : (events : List Event) (m : Moment) → is_on m.course ≡ false → TakesEvents how events m m
-  takes_none [] m off = refl
-  takes_none (x ∷ xs) m off = (m, no_step (is_on m.course) (TakesEvent how x) m off, takes_none xs m off)
-
-  pub took_more : (xs ys : List Event) {all : List Event} (a b c : Moment) → all ≡ xs ++ ys → TakesEvents how xs a b → TakesEvents how ys b c → TakesEvents how all a c
+  pub took_more : (xs ys : List Event) {all : List Event} (a b c : Moment)
+      → all ≡ xs ++ ys → TakesEvents how xs a b → TakesEvents how ys b c → TakesEvents how all a c
   took_more xs ys {all} a b c is first next = subst (λ es. TakesEvents how es a c) (sym is) (takes_more xs ys a b c first next)
 
-  pub took_ended : (xs ys : List Event) {all : List Event} (a b : Moment) → all ≡ xs ++ ys → b.course ≢ On → TakesEvents how xs a b → TakesEvents how all a b
-  took_ended xs ys {all} a b is ended first = took_more xs ys a b b is first (takes_none ys b (does_not_go_on b.course ended))
+  -- the next key of a list, and then the others
+  pub next_key : (bytes : List ℕ) (i d : ℕ) (a b c : Moment) → i < length bytes → TakesEvents how (key (get_or bytes i d) ∷ []) a b
+      → TakesEvents how (keys (drop (i + 1) bytes)) b c → TakesEvents how (keys (drop i bytes)) a c
+  next_key bytes i d a b c inside = took_more (key (get_or bytes i d) ∷ []) (keys (drop (i + 1) bytes)) a b c (ap keys (drop_more bytes i d inside))
 
-  -- a key, behind which a frame is asked for or not
-  pub key_taken : {byte : ℕ} {before between behind : Moment} {amid asked : Bool}
-      → TakesKey byte before between → ((amid ≡ false) ↔ HasBegun between.editor.talk.keys []) → asked ≡ follows_key how between.course amid
-      → StepIf asked (Displays how.cursor) between behind → TakesByte how byte before behind
-  key_taken {byte} {before} {between} {behind} {amid} {asked} taken is_amid is shown =
-      record { between = between; taken = taken; amid = amid; is_amid = is_amid; shown = subst (λ b. StepIf b (Displays how.cursor) between behind) is shown }
+  -- what the next byte of a block leads to, and then the others
+  pub next_byte : (r : Reports) (bytes : List ℕ) (i d : ℕ) (a b c : Moment) → i < length bytes → TakesEvents how (read r (get_or bytes i d)).events a b
+      → TakesEvents how (block_events (read r (get_or bytes i d)).left (drop (i + 1) bytes)) b c → TakesEvents how (block_events r (drop i bytes)) a c
+  next_byte r bytes i d a b c inside =
+      let first = (read r (get_or bytes i d)).events in
+      let then = events (read r (get_or bytes i d)).left (drop (i + 1) bytes) in
+      took_more first (then ++ block_end ∷ []) a b c (ap (block_events r) (drop_more bytes i d inside) ∙ append_assoc first then (block_end ∷ []))
 
-  -- ---- keys of a list, and bytes of a block
+  -- ---- reads of the keys, which took what is held to what is left
 
-  -- the next one
-  pub next_key : (bytes : List ℕ) (i d : ℕ) (a b c : Moment) → i < length bytes
-      → TakesEvents how (keys (take i bytes)) a b → TakesEvents how (key (get_or bytes i d) ∷ []) b c → TakesEvents how (keys (take (i + 1) bytes)) a c
-  next_key bytes i d a b c inside before taken = took_more (keys (take i bytes)) (key (get_or bytes i d) ∷ []) a b c (map_more key bytes i d inside) before taken
+  -- none, behind which the session ends
+  pub reads_none : (now : Reports) (m : Moment) (rest : Calls Known) → m.course ≢ On → ReadsKeys how now m m rest rest
+  reads_none now m rest ended =
+      through [] (Consumes-nil rest.inner) (omega arith) (omega arith) refl (λ goes. absurd (ended goes)) (takes_none (held_events now.held) m ended)
 
-  -- one behind which nothing is pressed
-  pub last_key : (bytes : List ℕ) (i : ℕ) (a b : Moment) → b.course ≢ On → TakesEvents how (keys (take i bytes)) a b → TakesEvents how (keys bytes) a b
-  last_key bytes i a b ended taken =
-      took_ended (keys (take i bytes)) (keys (drop i bytes)) a b (ap keys (sym (take-append-drop i bytes)) ∙ map-append key (take i bytes) (drop i bytes)) ended taken
+  -- a block, and then further ones
+  pub reads_more : (now : Reports) (block : List ℕ) {a b c : Moment} {from mid rest : Calls Known} → Consumes from.inner mid.inner block
+      → mid.failures ≡ from.failures → from.left ≡ mid.left + 1 → TakesEvents how (block_events now block) a b
+      → ReadsKeys how (after now block) b c mid rest → ReadsKeys how now a c from rest
+  reads_more now block {a} {b} {c} {from} {mid} {rest} read same call taken (through blocks bytes least most unfailed whole next) =
+      let left = after now block in
+      let all = append_assoc (block_events now block) (read_events left blocks) (held_events (after_reads left blocks).held) in
+      through (block ∷ blocks) (Consumes-trans from.inner mid.inner rest.inner block (concat blocks) read bytes) (omega arith) (omega arith)
+      (unfailed ∙ same) whole (took_more (block_events now block) _ a b c all taken next)
+  reads_more now block {a} {b} {c} {from} {mid} {rest} read same call taken (broken_off blocks bytes failed ends next) =
+      broken_off (block ∷ blocks) (Consumes-trans from.inner mid.inner rest.inner block (concat blocks) read bytes)
+      (failed ∙ ap one_more same) ends (took_more (block_events now block) (read_events (after now block) blocks) a b _ refl taken next)
 
-  pub next_byte : (reports now : Reports) (bytes : List ℕ) (i d : ℕ) {leads : List Event} (a b c : Moment) → i < length bytes
-      → now ≡ after reports (take i bytes) → leads ≡ (read now (get_or bytes i d)).events
-      → TakesEvents how (events reports (take i bytes)) a b → TakesEvents how leads b c → TakesEvents how (events reports (take (i + 1) bytes)) a c
-  next_byte reports now bytes i d {leads} a b c inside left are before taken =
-      let x = get_or bytes i d in
-      let here : leads ≡ (read (after reports (take i bytes)) x).events = are ∙ ap (λ (r : Reports). (read r x).events) left in
-      took_more (events reports (take i bytes)) leads a b c (events_next reports bytes i d inside ∙ ap (λ es. events reports (take i bytes) ++ es) (sym here)) before taken
-
-  pub last_byte : (reports : Reports) (bytes : List ℕ) (i : ℕ) (behind : List Event) (a b : Moment) → b.course ≢ On
-      → TakesEvents how (events reports (take i bytes)) a b → TakesEvents how (events reports bytes ++ behind) a b
-  last_byte reports bytes i behind a b ended taken =
-      took_ended (events reports bytes) behind a b refl ended
-      (took_ended (events reports (take i bytes)) (events (after reports (take i bytes)) (drop i bytes)) a b (events_behind reports bytes i) ended taken)
+  -- none, where the frame at the start ended the session
+  pub runs_none : {R : Type 0} (remaining : R → Known) (keys : Calls R) (a b : Moment) → a.course ≡ On → b.course ≢ On
+      → StepIf how.trace (Displays how.cursor) a b → Runs remaining how a b keys keys
+  runs_none remaining keys a b on ended starts =
+      let traced : how.trace ≡ true =
+      behind_step (λ m. m.course ≢ On → how.trace ≡ true) (Displays how.cursor) how.trace a b (λ off. absurd (off on)) (λ is _ _. is) starts ended in
+      record { begun = b; ended = b; starts = starts; taken = rw (is_off b.course ended) (refl, refl); finishes = rw traced refl }

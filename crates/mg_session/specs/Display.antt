@@ -1,16 +1,17 @@
 -- Frames, as they are written.
-use Rattle.std.specs.Prelude.{◌≡◌, ℕ, Bool, true, not, List, [], ◌∷◌, ◌++◌, ◌&&◌, Option, Some, None, codes, if◌then◌else◌}
+use Rattle.std.specs.Prelude.{◌≡◌, ℕ, Bool, true, not, List, [], ◌∷◌, ◌++◌, ◌&&◌, Option, Some, None, codes, is_ok, if◌then◌else◌}
 use Rattle.std.specs.Fmt.{decimal}
 use Rattle.std.specs.Io.KnownBytes.{Appends}
-use Rattle.rga_devices.specs.Counting.{Calls}
+use Rattle.std.specs.Option.{option_map}
+use Rattle.rga_devices.specs.Counting.{Calls, one_more}
 use Rattle.rga_lines.specs.Stream.{bytes_of_lines}
 use Rattle.mg_screen.specs.Frame.{frame_rows}
 use Rattle.mg_screen.specs.Written.{utf8}
 use Rattle.mg_screen.specs.declared.screen.Position.{Position}
 use Rattle.mg_settings.specs.Settings.{Values}
 use Rattle.mg_editor.specs.Editors.{Editor}
-use Rattle.mg_editor.specs.Frames.{PlacesWindows, ShowsCursor, screen_of}
-use Rattle.mg_session.specs.Courses.{is_on, IsFailed}
+use Rattle.mg_editor.specs.Frames.{cursor_in, placed_editor, screen_of}
+use Rattle.mg_session.specs.Courses.{is_on, course_answer}
 use Rattle.mg_session.specs.Moments.{Known, Moment}
 use Rattle.mg_session.specs.declared.course.Course.{Course}
 use Rattle.mg_session.specs.declared.course.Course.TheVariants.{NoScreen, NoMemory}
@@ -32,6 +33,10 @@ follows_key how course amid = follows_step how course && not amid
 -- one behind a block of keys
 abbrev pub follows_block : Manner → Bool
 follows_block how = how.trace && how.newest
+
+-- one at the end of the session, where none follow steps, unless it failed
+abbrev pub follows_session : Manner → Course → Bool
+follows_session how course = not how.trace && is_ok (course_answer course)
 
 -- ---- a frame
 
@@ -55,33 +60,17 @@ editor_rows e = utf8 (frame_rows e.work.columns (screen_of e))
 abbrev pub shown_cursor : Bool → Position → Option Position
 shown_cursor has_cursor at = if has_cursor then Some at else None
 
--- the text is the frame of the editor, whose windows were placed for it
-pub record ShowsFrame (has_cursor : Bool) (old new : Editor) (text : List ℕ) : Type 0 where
-  pub at : Position
-  pub placed : PlacesWindows old new
-  pub cursor : ShowsCursor new at
-  pub written : text ≡ frame_text (editor_rows new) (shown_cursor has_cursor at)
+-- the frame of an editor, as it is written, where its cursor is in sight
+abbrev pub editor_text : Bool → Editor → Option (List ℕ)
+editor_text has_cursor e = option_map (λ at. frame_text (editor_rows e) (shown_cursor has_cursor at)) (cursor_in e (screen_of e))
 
--- ---- how it is written
-
--- all of the text, and it was flushed
-pub record IsWritten (text : List ℕ) (old new : Calls Known) : Type 0 where
-  pub written : Appends old.inner new.inner text
-  pub failures : new.failures ≡ old.failures
-  pub flushed : new.flushed ≡ true
-
--- a beginning of the text, behind which the device failed
-pub record IsCutShort (text : List ℕ) (old new : Calls Known) : Type 0 where
-  pub front : List ℕ
-  pub rest : List ℕ
-  pub parts : text ≡ front ++ rest
-  pub written : Appends old.inner new.inner front
-  pub failed : IsFailed old new
-
--- A frame of the editor was written, or its text was only begun, or memory was wanting for it, and nothing was written.
+-- The windows were placed, and the frame was written and flushed, or the device failed behind a beginning of it; or memory was
+-- wanting for it, and nothing was written.
 pub data Displays (has_cursor : Bool) (before behind : Moment) : Type 0 where
-  whole : (new : Editor) (text : List ℕ) (shown : Calls Known) → ShowsFrame has_cursor before.editor new text → IsWritten text before.screen shown
-      → behind ≡ record before { editor = new; screen = shown } → Displays has_cursor before behind
-  begun : (new : Editor) (text : List ℕ) (shown : Calls Known) → ShowsFrame has_cursor before.editor new text → IsCutShort text before.screen shown
-      → behind ≡ record before { editor = new; screen = shown; course = NoScreen } → Displays has_cursor before behind
+  whole : (text : List ℕ) (screen : Calls Known) → editor_text has_cursor (placed_editor before.editor) ≡ Some text
+      → Appends before.screen.inner screen.inner text → screen.failures ≡ before.screen.failures → screen.flushed ≡ true
+      → behind ≡ record before { editor = placed_editor before.editor; screen = screen } → Displays has_cursor before behind
+  begun : (front rest : List ℕ) (screen : Calls Known) → editor_text has_cursor (placed_editor before.editor) ≡ Some (front ++ rest)
+      → Appends before.screen.inner screen.inner front → screen.failures ≡ one_more before.screen.failures
+      → behind ≡ record before { editor = placed_editor before.editor; screen = screen; course = NoScreen } → Displays has_cursor before behind
   unmade : (new : Editor) → behind ≡ record before { editor = new; course = NoMemory } → Displays has_cursor before behind

@@ -22,25 +22,17 @@ abbrev pub said : presses.PressAnswer → Editor → Editor
 said (Ok asked) e = e
 said (Err fault) e = record e { talk = record e.talk { message = Refused notice.Memory } }
 
--- the byte was pressed
-pub record Presses (byte : ℕ) (old new : Editor) (asked : Request) : Type 0 where
-  pub answer : presses.PressAnswer
-  pub between : Editor
-  pub pressed : presses.Pressed byte old between answer
-  pub left : new ≡ said answer between
-  pub requested : asked ≡ request_of answer
-
 -- a session ends behind a request to quit
 abbrev pub course_behind : Request → Course
 course_behind request.Quit = Quit
 course_behind asked = On
 
--- and what it requests was carried
+-- The byte was pressed, want of memory was said, and what was requested was carried.
 pub record TakesKey (byte : ℕ) (before behind : Moment) : Type 0 where
-  pub asked : Request
+  pub answer : presses.PressAnswer
   pub pressed : Editor
-  pub answer : telling.CarryAnswer
-  pub presses : Presses byte before.editor pressed asked
-  pub carried : carrying.Carried asked before.calls behind.calls pressed behind.editor answer
+  pub carry_answer : telling.CarryAnswer
+  pub presses : presses.Pressed byte before.editor pressed answer
+  pub carried : carrying.Carried (request_of answer) before.calls behind.calls (said answer pressed) behind.editor carry_answer
   pub screen : behind.screen ≡ before.screen
-  pub course : behind.course ≡ course_behind asked
+  pub course : behind.course ≡ course_behind (request_of answer)

@@ -29,16 +29,6 @@ pub(crate) fn is_on(course: Course) -> bool
     }
 }
 
-/// Whether neither a device nor memory failed.
-pub(crate) fn is_unfailed(course: Course) -> bool
-    ensures { result ≡ spec.is_unfailed course }
-{
-    match course {
-        Course::On | Course::Quit => true,
-        Course::NoKeys | Course::NoScreen | Course::NoMemory => false,
-    }
-}
-
 /// What a session that stands so is answered by.
 pub(crate) fn answer(course: Course) -> Result<(), SessionFault>
     ensures { result ≡ spec.course_answer course }

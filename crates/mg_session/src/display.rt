@@ -1,6 +1,8 @@
 //! Frames, as they are written.
-ghost use Rattle.std.specs.Prelude.{◌≡◌, ◌∷◌, ◌++◌, [], map, string_bytes, IfOk, OnOk, OnErr, IfSome};
+ghost use Rattle.std.specs.Prelude.{◌≡◌, ◌∷◌, ◌++◌, [], map, string_bytes, true, Some, IfOk, OnOk, IfSome, OnSome};
+ghost use Rattle.rga_devices.specs.Counting.{Counts, Writes, WritesFront};
 ghost use Rattle.rga_lines.specs.Stream.{newline, bytes_of_lines};
+ghost use Rattle.mg_editor.specs.Frames.{placed_editor};
 ghost use Rattle.mg_session.specs.Display as spec;
 ghost use Rattle.mg_session.specs.Moments.{ToldCalls, seen, moment};
 
@@ -60,10 +62,10 @@ fn frame_text(
 
 /// Writes a text, and flushes the device.
 fn write_text<W: Write>(text: &str, screen: &mut Counted<W>) -> io::Result<()>
-    ensures written { OnOk result
-        (spec.IsWritten text.now (seen W.contents screen.old) (seen W.contents screen.new)) }
-    ensures begun { OnErr result
-        (spec.IsCutShort text.now (seen W.contents screen.old) (seen W.contents screen.new)) }
+    ensures bytes { OnOk result (Writes W.contents screen.old screen.new text.now) }
+    ensures begun { WritesFront W.contents screen.old screen.new text.now }
+    ensures device { Counts result screen.old screen.new }
+    ensures flushed { OnOk result (screen.new.flushed ≡ true) }
 {
     screen.write_all(text.as_bytes())?;
     screen.flush()
@@ -78,8 +80,9 @@ fn shown_cursor(has_cursor: bool, at: Position) -> Option<Position>
 
 /// The frame of an editor, as it is written; nothing where memory is wanting.
 fn frame_of<S: TextStore>(alloc: Global, editor: &mut Editor<S>, has_cursor: bool) -> Option<String>
-    ensures { IfSome result (λ text.
-        spec.ShowsFrame has_cursor editor.old editor.new (string_bytes text)) }
+    ensures placed { OnSome result (editor.new ≡ placed_editor editor.old) }
+    ensures text { IfSome result (λ text.
+        spec.editor_text has_cursor editor.new ≡ Some (string_bytes text)) }
 {
     match editor.frame() {
         Ok(frame) => { frame_text(alloc, &frame.rows, shown_cursor(has_cursor, frame.cursor)).ok() }

@@ -10,32 +10,26 @@ use mg_editor::{Editor, Fault};
 use mg_files::Port;
 use mg_minibuffer::{Message, Request};
 use mg_plain::Notice;
-use rga_store::{Teller, TextStore};
-
-/// Presses a byte. Want of memory is said.
-fn press<S: TextStore>(editor: &mut Editor<S>, byte: u8) -> Request
-    ensures { spec.Presses byte editor.old editor.new result }
-{
-    match editor.press(byte) {
-        Ok(request) => request,
-        Err(Fault::Memory) => {
-            editor.tell(Message::Refused(Notice::Memory));
-            Request::Idle
-        }
-    }
-}
+use rga_store::Teller;
 
 /// Presses a byte, carries what it requests, and answers how the session stands then. What fails is
-/// said.
+/// said, and so is want of memory.
 pub(crate) fn take_key<S: Teller, P: Port>(editor: &mut Editor<S>, byte: u8, port: &mut P) -> Course
     ensures { (screen : Calls Known) → spec.TakesKey byte
         (moment editor.old (P.calls port.old) screen On)
         (moment editor.new (P.calls port.new) screen result) }
 {
-    let request = press(editor, byte);
-    let course = course_behind(&request);
-    let _ = editor.carry(request, port);
-    course
+    match editor.press(byte) {
+        Ok(request) => {
+            let course = course_behind(&request);
+            let _ = editor.carry(request, port);
+            course
+        }
+        Err(Fault::Memory) => {
+            editor.tell(Message::Refused(Notice::Memory));
+            Course::On
+        }
+    }
 }
 
 /// How a session stands behind a request.

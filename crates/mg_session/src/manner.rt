@@ -2,7 +2,7 @@
 ghost use Rattle.std.specs.Prelude.{◌≡◌};
 ghost use Rattle.mg_session.specs.Display as spec;
 
-use crate::course::{Course, is_on};
+use crate::course::{Course, answer, is_on};
 
 /// How a session reads its keys, which frames it writes, and what stands behind each.
 #[derive(Clone, Copy)]
@@ -39,4 +39,11 @@ pub(crate) fn follows_block(manner: Manner) -> bool
     ensures { result ≡ spec.follows_block manner }
 {
     manner.trace && manner.newest
+}
+
+/// Whether a frame follows a session that stands so in the end.
+pub(crate) fn follows_session(manner: Manner, course: Course) -> bool
+    ensures { result ≡ spec.follows_session manner course }
+{
+    !manner.trace && answer(course).is_ok()
 }

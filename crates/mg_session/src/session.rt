@@ -1,20 +1,20 @@
 //! Sessions.
-ghost use Rattle.std.specs.Prelude.{◌≡◌, ◌≢◌, ◌<◌, [], ◌∷◌, length, Err, IfOk, OnErr};
-ghost use Rattle.std.specs.Io.KnownBytes.{Keeps};
-ghost use Rattle.rga_devices.specs.Counting.{CountsAs, StaysFlushed, one_more};
+ghost use Rattle.std.specs.Prelude.{◌≡◌, ◌≢◌, ◌+◌, ◌<◌, ◌≤◌, [], ◌∷◌, length, take, Err, IfOk, OnOk, OnErr};
+ghost use Rattle.std.specs.Io.KnownBytes.{Consumes, Keeps};
+ghost use Rattle.rga_devices.specs.Counting.{Counts, CountsAs, IsReadToEnd, StaysFlushed, one_more};
+ghost use Rattle.mg_files.specs.Calls.{Adds, found_call};
 ghost use Rattle.mg_reports.specs.Reports as report;
-ghost use Rattle.mg_session.specs.Courses.{IsFailed};
 ghost use Rattle.mg_session.specs.Display as frames;
 ghost use Rattle.mg_session.specs.Moments.{ToldCalls, seen, moment, StepIf};
 ghost use Rattle.mg_session.specs.Running as running;
 ghost use Rattle.mg_session.specs.declared.course.Course.TheVariants.{On};
 ghost use Rattle.mg_session.specs.declared.fault.SessionFault.TheVariants.{File, Keys, Screen};
 
-use crate::course::{Course, answer, is_unfailed};
+use crate::course::{Course, answer};
 use crate::display::show;
 use crate::fault::{SessionFault, of_load, of_port};
 use crate::keys::take_key;
-use crate::manner::{Manner, follows_block, follows_key, follows_step};
+use crate::manner::{Manner, follows_block, follows_key, follows_session, follows_step};
 use mg_editor::Editor;
 use mg_files::{Found, Port};
 use mg_reports::{Meaning, Reports};
@@ -108,7 +108,8 @@ fn edit<S: TextStore>(
     settings: &Settings,
     found: Found,
 ) -> Result<Editor<S>, SessionFault>
-    ensures loaded { (calls told : ToldCalls) → running.IsFound settings.now found calls told →
+    ensures loaded { (calls told : ToldCalls) →
+        Adds calls told (found_call settings.now.name found ∷ []) →
         running.LoadsTo settings.now calls told result }
     ensures file { result ≢ Err File }
 {
@@ -153,8 +154,7 @@ impl Session {
             stopped => return stopped,
         }
         let ended = self.take_keys(editor, keys, screen, port);
-        let is_asked = is_unfailed(ended) && !self.manner.trace;
-        self.show_if(editor, is_asked, screen, ended)
+        self.show_if(editor, follows_session(self.manner, ended), screen, ended)
     }
 
     /// Writes a frame, where one is asked for. The session then stands as it did, unless that fails.
@@ -320,10 +320,10 @@ impl Session {
         screen: &mut Counted<W>,
         port: &mut P,
     ) -> Course
-        ensures { running.ReadsKeys R.remaining self.now.manner
+        ensures { running.ReadsKeys self.now.manner (report.fresh self.now.manner.resizable)
             (moment editor.old (P.calls port.old) (seen W.contents screen.old) On)
             (moment editor.new (P.calls port.new) (seen W.contents screen.new) result)
-            keys.old keys.new }
+            (seen R.remaining keys.old) (seen R.remaining keys.new) }
     {
         let mut reports = Reports::new(self.manner.resizable);
         let mut block = [0u8; BLOCK];
@@ -349,11 +349,13 @@ impl Session {
 fn read_block<R: Read>(keys: &mut Counted<R>, block: &mut [u8]) -> io::Result<usize>
     requires { 0 < length block.old }
     ensures length { length block.new ≡ length block.old }
-    ensures given { IfOk result
-        (λ count. running.GivesBytes R.remaining count block.new keys.old keys.new) }
-    ensures failed { OnErr result
-        (Keeps (R.remaining keys.old.inner) (R.remaining keys.new.inner)
-        × IsFailed keys.old keys.new) }
+    ensures within { IfOk result (λ count. count ≤ length block.new) }
+    ensures bytes { IfOk result (λ count.
+        Consumes (R.remaining keys.old.inner) (R.remaining keys.new.inner) (take count block.new)) }
+    ensures kept { OnErr result (Keeps (R.remaining keys.old.inner) (R.remaining keys.new.inner)) }
+    ensures end { IfOk result (λ count. count ≡ 0 → IsReadToEnd R.remaining keys.new) }
+    ensures device { Counts result keys.old keys.new }
+    ensures call { OnOk result (keys.old.left ≡ keys.new.left + 1) }
 {
     keys.read(block)
 }

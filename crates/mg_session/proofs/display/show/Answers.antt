@@ -1,12 +1,18 @@
-use Rattle.mg_session.specs.Display.{whole, begun, unmade}
 use Rattle.std.proofs.Common.{refl}
+use Rattle.mg_session.specs.Display.{whole, begun, unmade}
 use Rattle.mg_session.proofs.display.show.Goals as goal
 
 pub returns-in_default : goal.returns-in_default
 returns-in_default g c = λ calls. unmade c.frame_of.new.editor refl
 
 pub returns-in-Ok : goal.returns-in-Ok
-returns-in-Ok g c = λ calls. whole c.frame_of.new.editor _ _ (rw c.as_str.ensures.value c.in-Some.ensures) c.in-Ok.ensures.written refl
+returns-in-Ok g c = λ calls.
+    let text = rw c.in-Some.ensures.placed at c.in-Some.ensures.text in
+    let written = rw c.as_str.ensures.value at c.in-Ok.ensures.bytes in
+    rw c.in-Some.ensures.placed (whole _ _ text written c.in-Ok.ensures.device c.in-Ok.ensures.flushed refl)
 
 pub returns : goal.returns
-returns g c = λ calls. begun c.frame_of.new.editor _ _ (rw c.as_str.ensures.value c.in-Some.ensures) c.in-Err.ensures.begun refl
+returns g c = λ calls.
+    let front = c.in-Err.ensures.begun in
+    let text = rw (c.in-Some.ensures.placed, ← c.as_str.ensures.value, front.parts) at c.in-Some.ensures.text in
+    rw c.in-Some.ensures.placed (begun front.front front.rest _ text front.written c.in-Err.ensures.device refl)

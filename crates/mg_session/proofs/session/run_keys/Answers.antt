@@ -1,16 +1,14 @@
-use Rattle.std.proofs.Common.{refl}
-use Rattle.mg_session.proofs.AnswerLaws.{answers_file, counts_keys, counts_screen, stays_flushed}
-use Rattle.mg_session.proofs.StandingLaws.{run_leaves}
+use Rattle.std.proofs.Common.{Ok, refl}
+use Rattle.mg_session.proofs.StandingLaws.{run_tells}
 use Rattle.mg_session.proofs.session.run_keys.Goals as goal
 
-pub returns-in-Ok-clause-flushed : goal.returns-in-Ok-clause-flushed
-returns-in-Ok-clause-flushed g c = rw c.answer.ensures (stays_flushed g.W.Write.contents _ _ _ _ c.run.result (run_leaves refl c.run.ensures))
-
-pub returns-in-Ok-clause-keys : goal.returns-in-Ok-clause-keys
-returns-in-Ok-clause-keys g c = rw c.answer.ensures (counts_keys g.W.Write.contents _ _ _ _ c.run.result (run_leaves refl c.run.ensures))
-
-pub returns-in-Ok-clause-screen : goal.returns-in-Ok-clause-screen
-returns-in-Ok-clause-screen g c = rw c.answer.ensures (counts_screen g.W.Write.contents _ _ _ _ c.run.result (run_leaves refl c.run.ensures))
-
-pub returns-in-Ok-clause-file : goal.returns-in-Ok-clause-file
-returns-in-Ok-clause-file g c = rw c.answer.ensures (λ is. absurd (answers_file c.run.result is))
+pub returns-in-Ok : goal.returns-in-Ok
+returns-in-Ok g c =
+    let told = run_tells g.R.Read.remaining c.session_of.result.manner c.args.keys.now c.run.new.keys refl c.run.ensures in
+    rw c.answer.ensures (record {
+      ran = record { told = _; opened = Ok _; loads = c.in-Ok.ensures.loaded; ran = (_, _, refl, rw c.session_of.ensures at c.run.ensures) };
+      flushed = told.flushed;
+      keys = record { failed = told.reads.failed; unfailed = told.reads.unfailed };
+      screen = record { failed = told.writes.failed; unfailed = told.writes.unfailed };
+      file = λ is. absurd (told.file is);
+    })

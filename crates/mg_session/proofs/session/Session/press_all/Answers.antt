@@ -1,12 +1,14 @@
-use Rattle.std.proofs.Common.{arith, ◌+◌}
-use Rattle.mg_session.proofs.TakenLaws.{next_key, last_key}
+use Rattle.std.proofs.Common.{arith}
+use Rattle.mg_session.proofs.TakenLaws.{next_key, takes_none}
 use Rattle.mg_session.proofs.session.Session.press_all.Goals as goal
 
 pub loop-key-preserved : goal.loop-key-preserved
-loop-key-preserved g c =
-    next_key c.args.self.now.manner c.args.keys.now c.loop-key.key-index 0 _ _ _ (omega (arith, c.loop-key-test.true)) c.loop-key.invariant c.in-On.ensures
+loop-key-preserved g c = λ behind rest.
+    c.loop-key.invariant behind
+    (next_key c.args.self.now.manner c.args.keys.now c.loop-key.key-index 0 _ _ behind (omega (arith, c.loop-key-test.true)) c.in-On.ensures rest)
 
 pub returns-in_default : goal.returns-in_default
 returns-in_default g c =
-    last_key c.args.self.now.manner c.args.keys.now (c.loop-key.key-index + 1) _ _ c.in_default.not-On
-    (next_key c.args.self.now.manner c.args.keys.now c.loop-key.key-index 0 _ _ _ (omega (arith, c.loop-key-test.true)) c.loop-key.invariant c.press.ensures)
+    c.loop-key.invariant _
+    (next_key c.args.self.now.manner c.args.keys.now c.loop-key.key-index 0 _ _ _ (omega (arith, c.loop-key-test.true)) c.press.ensures
+    (takes_none c.args.self.now.manner _ _ c.in_default.not-On))
