@@ -4,7 +4,7 @@ use Rattle.std.proofs.lemmas.Bool.{cond_both}
 use Rattle.std.proofs.lemmas.Option.{same_Some}
 use Rattle.rga_ops.proofs.VisibleLaws.{text_long}
 use Rattle.mg_plain.specs.Situation.{IsView}
-use Rattle.mg_buffer.proofs.Prelude.{option_map_or, Identifier, is_id, is_root, Content, order, text, is_visible, visible, up_to, is_complete, Marker, stands, IsPlaced, State, Notes, place_of, situation_of}
+use Rattle.mg_buffer.proofs.Prelude.{option_map_or, Identifier, is_id, is_root, Content, order, text, is_visible, visible, up_to, is_complete, Marker, stands, place, State, Notes, place_of, situation_of}
 
 kept_more : (p : Identifier → Bool) (x : Identifier) (ys xs : List Identifier) → length (filter p ys) ≤ length (filter p xs) → length (filter p (x ∷ ys)) ≤ length (filter p (x ∷ xs))
 kept_more p x ys xs h = elim (p x) as (λ t. length (cond t (x ∷ filter p ys) (filter p ys)) ≤ length (cond t (x ∷ filter p xs) (filter p xs))) [ true ↦ omega (arith, h) | false ↦ h ]
@@ -35,18 +35,18 @@ is_view b notes = record { point = place_within b.content b.point; mark = mark_w
 
 -- ---- places at hand
 
-pub placed_within : (c : Content) (s : Marker) (chars : List ℕ) → chars ≡ text c → IsPlaced c s → s.place ≤ length chars
+pub placed_within : (c : Content) (s : Marker) (chars : List ℕ) → chars ≡ text c → place c s.element ≡ Some s.place → s.place ≤ length chars
 placed_within c s chars is at =
     let value : place_of c s.element ≡ s.place = ap (λ o. unwrap_or o 0) at in
     let long : length chars ≡ length (text c) = ap length is in
     omega (arith, place_within c s.element, value, long)
 
-pub mark_placed_within : (c : Content) (mark : Option Marker) (chars : List ℕ) → chars ≡ text c → IfSome mark (IsPlaced c) → (x : ℕ) → option_map (λ (s : Marker). s.place) mark ≡ Some x → x ≤ length chars
+pub mark_placed_within : (c : Content) (mark : Option Marker) (chars : List ℕ) → chars ≡ text c → IfSome mark (λ s. place c s.element ≡ Some s.place) → (x : ℕ) → option_map (λ (s : Marker). s.place) mark ≡ Some x → x ≤ length chars
 mark_placed_within c None chars is at x h = let clash : None ≡ Some x = h in cc
 mark_placed_within c (Some s) chars is at x h = subst (λ n. n ≤ length chars) (same_Some s.place x h) (placed_within c s chars is at)
 
 -- what has a place at hand has a place
-pub mark_stands_if : (c : Content) (mark : Option Marker) → IfSome mark (IsPlaced c) → option_map_or (stands c) mark true ≡ true
+pub mark_stands_if : (c : Content) (mark : Option Marker) → IfSome mark (λ s. place c s.element ≡ Some s.place) → option_map_or (stands c) mark true ≡ true
 mark_stands_if c None at = refl
 mark_stands_if c (Some s) at = ap is_some at
 

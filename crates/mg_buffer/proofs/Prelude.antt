@@ -15,9 +15,9 @@ pub use Rattle.rga_doc.specs.Revert.{StandsDirectlyBehind, are_restorable, disti
 pub use Rattle.rga_doc.specs.LocalEdit.{edit_answer, splices_answer, splices_operations}
 pub use Rattle.mg_slots.specs.Slots.{with_element, with_elements}
 pub use Rattle.mg_buffer.specs.Groups.{Past, all_substituted, are_revertible, first_of, group_to_undo, instead, last_group, last_of, past_at, past_of, point_after, stand_in, substituted, with_group}
-pub use Rattle.mg_buffer.specs.Slots.{AreOld, AreStandIns, IsFilled, PastList, Slotted, deleted_at_slot, deleted_ones, element_at_slot, past_by, pasts_by, with_past}
+pub use Rattle.mg_buffer.specs.Slots.{IsFilled, PastList, Slotted, any_repeats, deleted_at_slot, deleted_ones, element_at_slot, newest, past_by, pasts_by, repeats, with_past}
 pub use Rattle.mg_buffer.specs.State.{State}
-pub use Rattle.mg_buffer.specs.Kept.{IsAtHand, IsKeptBuffer, IsLineOfPlace, IsPlaced, stands}
+pub use Rattle.mg_buffer.specs.Kept.{IsAtHand, IsKeptBuffer, IsLineOfPlace, stands}
 pub use Rattle.mg_buffer.specs.Sight.{CommandCall, Notes, command_call, effect_of_call, place_of, situation_of}
 pub use Rattle.mg_buffer.specs.Faults.{growth_answer, planned_answer, run_answer, stored}
 pub use Rattle.mg_buffer.specs.declared.marker.Marker.{Marker}

@@ -1,13 +1,12 @@
-use Rattle.std.proofs.Common.{rules, ◌≡◌, ℕ, ◌≤◌, List, true, take, is_some, length, arith, ap, sym, subst, ◌∙◌, IfSome}
+use Rattle.std.proofs.Common.{rules, ◌≡◌, ℕ, List, true, take, is_some, arith, ap, sym, subst, ◌∙◌}
 use Rattle.mg_buffer.specs.LineNumbers.{least_begin}
-use Rattle.mg_buffer.proofs.Prelude.{join, content_of, Op, text, text_after, Document, splices_operations, past_of, with_group, are_revertible, IsLineOfPlace, AreOld, with_past, State}
+use Rattle.mg_buffer.proofs.Prelude.{join, content_of, Op, text, text_after, Document, splices_operations, past_of, with_group, are_revertible, IsLineOfPlace, clock_of, newest, with_past}
 use Rattle.mg_buffer.proofs.GroupLaws.{edited_revertible}
 use Rattle.mg_buffer.proofs.OldLaws.{past_old}
 use Rattle.mg_buffer.proofs.PlaceLaws.{mark_stands_if}
 use Rattle.mg_buffer.proofs.LineLaws.{least_within, front_stays, line_stays}
-use Rattle.mg_buffer.proofs.KeptLaws.{kept_unlisted}
 use Rattle.mg_buffer.proofs.buffer.Buffer.edit.Given.{Over}
-use Rattle.mg_buffer.proofs.buffer.Buffer.edit.Goals.{After-characters, In_ok-take}
+use Rattle.mg_buffer.proofs.buffer.Buffer.edit.Goals.{After-characters}
 use Rattle.mg_buffer.proofs.buffer.Buffer.edit.Goals as goal
 
 pub invariant_of-self-2 : goal.invariant_of-self-2
@@ -28,9 +27,7 @@ invariant_of-self-2 g c =
       point_stands = ap is_some c.marker_at-self-inside.ensures.placed;
       mark_stands = mark_stands_if c.take.new.self.content c.mark_at-self-inside.result c.mark_at-self-inside.ensures.placed;
       line_known = subst (λ xs. IsLineOfPlace xs c.moved-self-inside.result) c.characters-2.ensures c.moved-self-inside.ensures.line;
-      old =
-          subst (λ d. AreOld d c.add.new.self.slots.elements) (sym content)
-          (subst (AreOld (join before.content (content_of ops))) (sym known) (past_old before.content ops c.self.inside.history.slots.elements c.self.invariant.old));
+      old = omega (arith, past_old before.content ops c.self.inside.history.slots.elements c.self.invariant.old, ap newest known, ap clock_of content);
       revertible = (λ k. are_revertible (content k) (pasts k))
           ∙ edited_revertible before.limit before.replica before.content c.args.splices.now c.self.inside.history.pasts c.in_ok-drafted.ensures.exact c.self.invariant.revertible;
       at_hand = λ _. record {
@@ -41,41 +38,9 @@ invariant_of-self-2 g c =
       };
     }
 
--- ---- elements and groups are as they were until there is room and the operations are taken
-
-pub invariant_of-self-in_err-change : goal.invariant_of-self-in_err-change
-invariant_of-self-in_err-change g c =
-    kept_unlisted c.self.inside.doc c.draft.new.self c.self.inside.point c.self.inside.line c.self.inside.mark c.self.inside.history c.prepare.new.history c.self.inside.listed c.self.invariant c.prepare.ensures.pasts c.prepare.ensures.elements
-    (ap (λ (d : Document). d.content) c.in_ok-drafted.ensures.listed)
-
-pub invariant_of-self-in_err-take : goal.invariant_of-self-in_err-take
-invariant_of-self-in_err-take g c =
-    kept_unlisted c.self.inside.doc c.take.new.self c.self.inside.point c.self.inside.line c.self.inside.mark c.self.inside.history c.prepare.new.history c.self.inside.listed c.self.invariant c.prepare.ensures.pasts c.prepare.ensures.elements
-    (ap (λ (d : Document). d.content) (c.in_err-take.ensures.same ∙ c.in_ok-drafted.ensures.listed))
-
--- ---- the places are in the new text, and the line of point goes with it
-
-after : (g : Over) (c : In_ok-take g) → text c.take.new.self.content ≡ text_after (text c.args.self.now.content) c.args.splices.now
-after g c =
-    c.in_ok-take.ensures.text
-    ∙ ap (λ d. text_after (text d) c.args.splices.now) (ap (λ (d : Document). d.content) c.in_ok-drafted.ensures.listed ∙ ap (λ (b : State). b.content) c.self.view_is)
-
-pub marker_at-self-inside-requires : goal.marker_at-self-inside-requires
-marker_at-self-inside-requires g c = subst (λ xs. c.args.point ≤ length xs) (sym (after g (goal.at.marker_at-self-inside-requires g c).In_ok-take)) c.requires.point
-
-pub mark_at-self-inside-requires : goal.mark_at-self-inside-requires
-mark_at-self-inside-requires g c = subst (λ xs. IfSome c.args.mark (λ n. n ≤ length xs)) (sym (after g (goal.at.mark_at-self-inside-requires g c).In_ok-take)) c.requires.mark
-
-pub moved-self-inside-requires-clause-place : goal.moved-self-inside-requires-clause-place
-moved-self-inside-requires-clause-place g c =
-    subst (λ xs. c.args.point ≤ length xs) (sym (c.characters-2.ensures ∙ after g (goal.at.moved-self-inside-requires-clause-place g c).In_ok-take)) c.requires.point
-
 known : (g : Over) (c : After-characters g) → IsLineOfPlace c.characters.result.now c.self.inside.line
 known g c =
     subst (λ xs. IsLineOfPlace xs c.self.inside.line) (sym (c.characters.ensures ∙ ap (λ (d : Document). text d.content) c.in_ok-drafted.ensures.listed)) c.self.invariant.line_known
-
-pub moved-line-requires-clause-line : goal.moved-line-requires-clause-line
-moved-line-requires-clause-line g c = known g (goal.at.moved-line-requires-clause-line g c).After-characters
 
 pub moved-line-requires-clause-place : goal.moved-line-requires-clause-place
 moved-line-requires-clause-place g c =

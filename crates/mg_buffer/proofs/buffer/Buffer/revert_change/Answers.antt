@@ -1,35 +1,12 @@
-use Rattle.std.proofs.Common.{◌≡◌, ℕ, ◌+◌, ◌++◌, List, map, true, is_some, length, refl, sym, ap, ◌∙◌, subst, true≢false, Ok, Err}
-use Rattle.std.proofs.lemmas.Result.{err_from_is_err_and}
-use Rattle.rga_ops.specs.ListAnswer.{IsAnswer}
+use Rattle.std.proofs.Common.{◌≡◌, ◌+◌, ◌++◌, List, map, true, is_some, length, refl, sym, ap, ◌∙◌, subst, arith, true≢false, Ok}
 use Rattle.rga_doc.proofs.PutBackLaws.{revert_behind}
 use Rattle.rga_doc.proofs.UndoLists.{as_many_inserted}
-use Rattle.mg_buffer.proofs.Prelude.{option_map_or, Identifier, identifier, clock_of, join, content_of, order, text, place, Op, Document, edit_answer, are_restorable, revert_operations, revert_answer, StandsDirectlyBehind, growth_answer, Past, past_at, past_of, with_group, are_revertible, stand_in, all_substituted, point_after, IsLineOfPlace, stands, with_elements, PastList, AreOld, AreStandIns, deleted_ones, State}
+use Rattle.mg_buffer.proofs.Prelude.{option_map_or, identifier, clock_of, join, content_of, order, text, place, Op, Document, are_restorable, revert_operations, revert_answer, StandsDirectlyBehind, Past, past_at, past_of, with_group, are_revertible, stand_in, all_substituted, point_after, IsLineOfPlace, stands, with_elements, PastList, newest, any_repeats, deleted_ones, State}
 use Rattle.mg_buffer.proofs.GroupLaws.{past_restorable, reverted_revertible, point_stands, mark_stands_still}
-use Rattle.mg_buffer.proofs.StandInLaws.{AreThere, others_old, pasts_after, they_stand_in}
-use Rattle.mg_buffer.proofs.KeptLaws.{kept_still}
+use Rattle.mg_buffer.proofs.StandInLaws.{none_repeats, others_old, pasts_after}
 use Rattle.mg_buffer.proofs.buffer.Buffer.revert_change.Given.{Over}
 use Rattle.mg_buffer.proofs.buffer.Buffer.revert_change.Goals.{In_ok-front}
 use Rattle.mg_buffer.proofs.buffer.Buffer.revert_change.Goals as goal
-
--- a group that can be reverted is refused for its room and its counters alone
-answered : (v before : State) (index : ℕ) (undone : Past) (back : List (Identifier × ℕ)) → v ≡ before → undone ≡ past_at before.groups index → are_revertible v.content v.groups ≡ true → back ≡ undone.deleted
-    → revert_answer v.limit v.content back ≡ growth_answer before (length undone.deleted)
-answered v before index undone back is at able same =
-    ap (revert_answer v.limit v.content) same
-    ∙ ap (λ t. edit_answer v.limit v.content t (length undone.deleted)) (ap (λ (x : Past). are_restorable v.content x.deleted) (at ∙ ap (λ (b : State). past_at b.groups index) (sym is)) ∙ past_restorable v.content v.groups index able)
-    ∙ ap (λ b. growth_answer b (length undone.deleted)) is
-
-pub returns-in_err-drafted-clause-exact : goal.returns-in_err-drafted-clause-exact
-returns-in_err-drafted-clause-exact g c =
-    let back = c.as_slice-deleted.ensures.value ∙ ap (λ (x : Past). x.deleted) c.undone.view_is in
-    let p = err_from_is_err_and c.from_residual.result c.from_residual.ensures.1 in
-    rw (p.1, p.2) (subst (λ v. IsAnswer {A = List Op} (Err c.in_err-drafted.field-0.0) v)
-    (answered _ c.args.self.now c.args.index c.args.undone.now c.as_slice-deleted.result.now c.self.view_is c.requires.at c.self.invariant.revertible back) c.in_err-drafted.ensures.exact)
-
-pub returns-clause-exact : goal.returns-clause-exact
-returns-clause-exact g c =
-    let back = c.as_slice-deleted.ensures.value ∙ ap (λ (x : Past). x.deleted) c.undone.view_is in
-    sym (answered _ c.args.self.now c.args.index c.args.undone.now c.as_slice-deleted.result.now c.self.view_is c.requires.at c.self.invariant.revertible back) ∙ c.in_ok-drafted.ensures.exact
 
 -- ---- the operations, and what they did
 
@@ -86,14 +63,10 @@ add_undo-requires-clause-restored g c =
     let b : In_ok-front g = (goal.at.add_undo-requires-clause-restored g c).In_ok-front in
     ap (λ (x : Past). length x.deleted) (at g b) ∙ sym (as_many_inserted (doc g b).replica (doc g b).content (undone g b).inserted (undone g b).deleted) ∙ ap (λ (x : Past). length x.inserted) (sym (done g b))
 
-pub add_undo-requires-clause-stand_ins : goal.add_undo-requires-clause-stand_ins
-add_undo-requires-clause-stand_ins g c = λ there.
-    let b : In_ok-front g = (goal.at.add_undo-requires-clause-stand_ins g c).In_ok-front in
-    let elements : List Identifier = with_elements c.prepare.new.history.slots.elements (deleted_ones c.in_ok-done.done.deleted) in
-    subst (AreStandIns elements) (sym (made g b))
-    (subst (λ xs. AreStandIns xs (ops g b)) (sym (known g b))
-    (they_stand_in (doc g b).replica (doc g b).content (history g b).slots.elements (undone g b) c.self.invariant.old (able g b)
-    (subst (λ xs. AreThere xs (undone g b).deleted) (known g b) (subst (λ (x : Past). AreThere elements x.deleted) (at g b) there))))
+pub add_undo-requires-clause-newcomers : goal.add_undo-requires-clause-newcomers
+add_undo-requires-clause-newcomers g c =
+    let b : In_ok-front g = (goal.at.add_undo-requires-clause-newcomers g c).In_ok-front in
+    (λ k. any_repeats (known g b k) (made g b k)) ∙ none_repeats (doc g b).replica (doc g b).content (history g b).slots.elements (undone g b) c.self.invariant.old (able g b)
 
 pub invariant_of-self-2 : goal.invariant_of-self-2
 invariant_of-self-2 g c =
@@ -107,10 +80,7 @@ invariant_of-self-2 g c =
       mark_stands = ap (λ d. option_map_or (stands d) c.self.inside.mark true) (whole g b) ∙ mark_stands_still doc.content (content_of (ops g b)) c.self.inside.mark c.self.invariant.mark_stands;
       line_known = c.kept_in-self-inside.ensures (text doc.content) (text c.take_revert.new.self.content) c.in_ok-front.ensures.front
           (subst (λ d. IsLineOfPlace (text d) c.args.line) (sym (ap (λ (b : State). b.content) c.self.view_is)) c.requires.line);
-      old =
-          subst (λ d. AreOld d c.add_undo.new.self.slots.elements) (sym (whole g b))
-          (subst (AreOld (join doc.content (content_of (ops g b)))) (sym elements)
-          (others_old doc.replica doc.content c.self.inside.history.slots.elements undone c.self.invariant.old (able g b)));
+      old = omega (arith, others_old doc.replica doc.content c.self.inside.history.slots.elements undone c.self.invariant.old (able g b), ap newest elements, ap clock_of (whole g b));
       revertible = (λ k. are_revertible (whole g b k) ((c.add_undo.ensures.pasts ∙ pasts g b) k))
           ∙ reverted_revertible doc.limit doc.replica doc.content undone.inserted undone.deleted (allowed g b) c.self.inside.history.pasts c.self.invariant.revertible;
       at_hand = λ never. absurd (true≢false (sym never));
@@ -133,10 +103,3 @@ returns-clause-reverted g c =
       limit = ap (λ (d : Document). d.limit) c.in_ok-front.ensures.content;
       replica = ap (λ (d : Document). d.replica) c.in_ok-front.ensures.content;
     })
-
--- ---- where memory is wanting all is as it was
-
-pub invariant_of-self-in_err-front : goal.invariant_of-self-in_err-front
-invariant_of-self-in_err-front g c =
-    kept_still c.self.inside.doc c.take_revert.new.self c.self.inside.point c.self.inside.line c.self.inside.mark c.self.inside.history c.prepare.new.history c.self.inside.listed c.self.invariant c.prepare.ensures.pasts c.prepare.ensures.elements
-    c.in_err-front.ensures.same

@@ -25,7 +25,7 @@ module _ (c : After-add_group) where
   grows : Grows first last
   grows = grows_on first between last (subst (Grows first) (sym c.push_inserted.ensures.elements) (grows_all first c.deref.result.now)) grown
 
-  filled : IsFilled last group
+  filled : IsFilled (length last) group
   filled = record {
     inserted = all_map (λ s. s < length between) (λ s. s < length last) (λ s h. omega (arith, h, longer between last grown)) group.inserted c.push_inserted.ensures.filled;
     deleted = c.push_deleted.ensures.filled;
@@ -45,5 +45,5 @@ returns-clause-pasts c =
 
 pub invariant_of-self : goal.invariant_of-self
 invariant_of-self c =
-    subst (AllByRecursion (IsFilled (last c))) (sym c.add_group.ensures)
+    subst (AllByRecursion (IsFilled (length (last c)))) (sym c.add_group.ensures)
     (grown_filled (first c) (last c) (grows c) c.self.inside.groups.items c.self.invariant (group c) c.args.ops.now (filled c))

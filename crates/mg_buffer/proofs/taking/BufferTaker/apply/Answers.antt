@@ -55,6 +55,3 @@ returns-clause-follows g c =
     (ap (λ (d : Document). d.limit) doc ∙ ap (λ (b : State). b.limit) c.self.view_is) (ap (λ (d : Document). d.replica) doc ∙ ap (λ (b : State). b.replica) c.self.view_is)
     (c.add_all.ensures ∙ (λ k. (c.reserve.ensures.items ∙ ap (λ (b : State). b.unsaved) c.self.view_is) k ++ c.args.op ∷ [])
     ∙ ap (λ xs. before.unsaved ++ xs) (sym (new_if_new before.limit before.content c.args.op new)))
-
-pub returns-clause-same : goal.returns-clause-same
-returns-clause-same g c = λ other. absurd (other refl)

@@ -1,15 +1,14 @@
-use Rattle.std.proofs.Common.{rules, arith, ◌≡◌, ℕ, Bool, true, false, cond, List, [], ◌++◌, refl, sym, ap, ◌∙◌, subst, Option, Some, None, Ok, Err, nat_le, true≢false}
+use Rattle.std.proofs.Common.{rules, arith, ◌≡◌, ℕ, Bool, true, false, cond, List, [], refl, sym, ap, ◌∙◌, subst, Option, Some, None, Ok, Err, nat_le, true≢false}
 use Rattle.std.proofs.lemmas.Grind.{common_steps}
 use Rattle.std.proofs.lemmas.Result.{MatchResult-from_err, err_from_is_err_and}
-use Rattle.rga_ops.specs.NewOperations.{new_operations}
 use Rattle.rga_ops.proofs.AnswerLaws.{bad}
 use Rattle.rga_ops.proofs.ContentLaws.{join_nothing}
 use Rattle.rga_doc.specs.Following.{Follows}
-use Rattle.mg_buffer.proofs.Prelude.{Identifier, Content, known_count, join, content_of, text, Op, Document, State}
+use Rattle.mg_buffer.proofs.Prelude.{Identifier, Content, known_count, join, content_of, text, Op, Document}
 use Rattle.mg_buffer.specs.Following.{takes_no_operations}
 use Rattle.mg_buffer.proofs.KeptLaws.{kept_joined, kept_still}
 use Rattle.mg_buffer.proofs.LineLaws.{first_line}
-use Rattle.mg_buffer.proofs.TakingLaws.{takes, takes_nothing}
+use Rattle.mg_buffer.proofs.TakingLaws.{takes_nothing}
 use Rattle.rga_ops.specs.ListAnswer.{Verdict, and_check, all_checked, union_answer, first_conflict, list_answer}
 use Rattle.rga_ops.specs.declared.refusal.Refusal.TheVariants.{Conflict, Full, Memory}
 use Rattle.rga_ops.proofs.ListSteps.{checked_without_memory}
@@ -77,21 +76,3 @@ pub invariant_of-self-2 : goal.invariant_of-self-2
 invariant_of-self-2 g c =
     kept_joined c.self.inside.doc c.apply_all.new.self c.self.inside.point c.self.inside.line c.self.inside.mark c.self.inside.history c.self.inside.history c.self.inside.listed c.self.invariant refl refl
     (content_of c.args.ops.now) _ false (c.in_ok-apply_all.ensures.whole refl) (first_line (text c.apply_all.new.self.content) _ refl refl) (λ never. absurd (true≢false (sym never)))
-
-pub returns-clause-follows : goal.returns-clause-follows
-returns-clause-follows g c =
-    let before : State = c.args.self.now in
-    let ops : List Op = c.args.ops.now in
-    let whole : c.apply_all.new.self.content ≡ join before.content (content_of ops) =
-    c.in_ok-apply_all.ensures.whole refl ∙ ap (λ (b : State). join b.content (content_of ops)) c.self.view_is in
-    let new : c.in_ok-new.new.items ≡ new_operations before.content ops = search rules in
-    let follows : Follows c.self.inside.doc ops c.apply_all.new.self = c.in_ok-apply_all.ensures.follows in
-    takes _ before c.apply_all.new.self c.add_all.new.all.items ops c.self.view_is whole
-    (c.apply_all.ensures.limit ∙ ap (λ (b : State). b.limit) c.self.view_is) (follows.replica ∙ ap (λ (b : State). b.replica) c.self.view_is)
-    (c.add_all.ensures ∙ (λ k. (c.reserve.ensures.items ∙ ap (λ (b : State). b.unsaved) c.self.view_is) k ++ (c.deref.ensures.value ∙ new) k))
-
-pub returns-clause-whole : goal.returns-clause-whole
-returns-clause-whole g c = λ _. c.in_ok-apply_all.ensures.whole refl ∙ ap (λ (b : State). join b.content (content_of c.args.ops.now)) c.self.view_is
-
-pub returns-clause-same : goal.returns-clause-same
-returns-clause-same g c = λ other. absurd (other refl)
