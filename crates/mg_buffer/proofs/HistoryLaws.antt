@@ -1,11 +1,8 @@
 -- Groups by slots, as groups and elements are added and as others stand for elements.
-use Rattle.std.proofs.Common.{◌≡◌, ℕ, zero, suc, ◌<◌, ◌≤◌, List, [], ◌∷◌, map, length, get_or, sym, refl, ap, ◌∙◌, subst, arith}
-use Rattle.std.proofs.lemmas.List.{map-append, get_or-map}
-use Rattle.rga_ops.proofs.MemberLaws.{all_map, all_append}
-use Rattle.mg_buffer.proofs.Prelude.{AllByRecursion, Identifier, root, Op, past_at, with_group, substituted, all_substituted, Slotted, element_at_slot, deleted_at_slot, past_by, pasts_by, IsFilled, deleted_ones}
+use Rattle.mg_buffer.proofs.Prelude.{◌≡◌, ℕ, zero, suc, ◌<◌, ◌≤◌, List, [], ◌∷◌, map, length, get_or, sym, refl, ap, ◌∙◌, subst, arith, map-append, get_or-map, all_map, all_append, AllByRecursion, Identifier, root, Op, past_at, with_group, substituted, all_substituted, Slotted, element_at_slot, deleted_at_slot, past_by, pasts_by, IsFilled, deleted_ones}
 use Rattle.mg_buffer.proofs.SlotLaws.{Grows, longer, same_map, map-map, same_reads}
 
-abbrev pub AreFilled : ℕ → List Slotted → Type 0
+abbrev AreFilled : ℕ → List Slotted → Type 0
 AreFilled count groups = AllByRecursion (IsFilled count) groups
 
 pub map-with_group : {A B : Type 0} (f : A → B) (groups : List A) (g : A) (ops : List Op) → map f (with_group groups g ops) ≡ with_group (map f groups) (f g) ops

@@ -1,55 +1,51 @@
 -- No element in a slot is newer than the clock, so what an undo inserts is in none.
-use Rattle.std.proofs.Common.{◌≡◌, ℕ, ◌≤◌, Bool, true, false, List, [], ◌∷◌, ◌++◌, map, max, ap, ◌∙◌, sym, subst, arith, Some, None, if◌then◌else◌}
+use Rattle.mg_buffer.proofs.Prelude.{◌≡◌, ℕ, ◌≤◌, Bool, true, false, List, [], ◌∷◌, ◌++◌, map, max, ap, ◌∙◌, sym, subst, arith, Some, None, if◌then◌else◌, or_right, map-id, all_members, option_or, list_any, AllByRecursion, with_element, with_elements, Identifier, is_id, Content, clock_of, join, single, content_of, Op, Insert, Delete, inserted_elements, deleted_elements, element_characters, past_of, stand_in, greatest_counter, deleted_ones, with_past}
 use Rattle.std.specs.FinMap as finite_map
 use Rattle.std.specs.FinSet as finite_set
-use Rattle.std.proofs.lemmas.Bool.{or_right}
-use Rattle.std.proofs.lemmas.List.{map-id}
 use Rattle.rga_ops.specs.Content.{element}
 use Rattle.rga_ops.proofs.ClockLaws.{clock_within, within_clock}
 use Rattle.rga_ops.proofs.ContentLaws.{get-join, contains-join, join_assoc, within_join}
-use Rattle.rga_ops.proofs.MemberLaws.{all_members}
 use Rattle.rga_ops.proofs.OperationLaws.{single_holds}
 use Rattle.rga_doc.proofs.UndoLists.{contains-operations}
-use Rattle.mg_buffer.proofs.Prelude.{option_or, list_any, AllByRecursion, with_element, with_elements, Identifier, is_id, Content, clock_of, join, single, content_of, Op, Insert, Delete, inserted_elements, deleted_elements, element_characters, past_of, stand_in, newest, deleted_ones, with_past}
 use Rattle.mg_buffer.proofs.SlotLaws.{map-map}
 
 -- ---- the newest of elements
 
-pub newest_within : (n : ℕ) (ids : List Identifier) → AllByRecursion (λ (id : Identifier). id.counter ≤ n) ids → newest ids ≤ n
-newest_within n [] all = omega arith
-newest_within n (id ∷ ids) all = omega (arith, all.0, newest_within n ids all.1)
+pub greatest_within : (n : ℕ) (ids : List Identifier) → AllByRecursion (λ (id : Identifier). id.counter ≤ n) ids → greatest_counter ids ≤ n
+greatest_within n [] all = omega arith
+greatest_within n (id ∷ ids) all = omega (arith, all.0, greatest_within n ids all.1)
 
-newest-append : (xs ys : List Identifier) → newest (xs ++ ys) ≡ max (newest xs) (newest ys)
-newest-append [] ys = omega arith
-newest-append (x ∷ xs) ys = omega (arith, newest-append xs ys)
+greatest_counter-append : (xs ys : List Identifier) → greatest_counter (xs ++ ys) ≡ max (greatest_counter xs) (greatest_counter ys)
+greatest_counter-append [] ys = omega arith
+greatest_counter-append (x ∷ xs) ys = omega (arith, greatest_counter-append xs ys)
 
 pub either : {A : Type 0} (P : A → Type 0) (t : Bool) (x y : A) → P x → P y → P (if t then x else y)
 either P true x y p q = p
 either P false x y p q = q
 
-pub newest_with : (n : ℕ) (elements ids : List Identifier) → newest elements ≤ n → newest ids ≤ n → newest (with_elements elements ids) ≤ n
-newest_with n elements [] low below = low
-newest_with n elements (id ∷ ids) low below =
-    newest_with n (with_element elements id) ids
-    (either (λ xs. newest xs ≤ n) (list_any (is_id id) elements) elements (elements ++ id ∷ []) low (omega (arith, newest-append elements (id ∷ []), low, below)))
+pub greatest_with : (n : ℕ) (elements ids : List Identifier) → greatest_counter elements ≤ n → greatest_counter ids ≤ n → greatest_counter (with_elements elements ids) ≤ n
+greatest_with n elements [] low below = low
+greatest_with n elements (id ∷ ids) low below =
+    greatest_with n (with_element elements id) ids
+    (either (λ xs. greatest_counter xs ≤ n) (list_any (is_id id) elements) elements (elements ++ id ∷ []) low (omega (arith, greatest_counter-append elements (id ∷ []), low, below)))
     (omega (arith, below))
 
 -- ---- one in the place of another
 
-abbrev pub way : Identifier → Identifier → Identifier → Identifier
-way old new id = if is_id old id then new else id
+abbrev pub replacement : Identifier → Identifier → Identifier → Identifier
+replacement old new id = if is_id old id then new else id
 
-pub newest_way : (old new : Identifier) (n : ℕ) (ids : List Identifier) → new.counter ≤ n → newest ids ≤ n → newest (map (way old new) ids) ≤ n
-newest_way old new n [] low below = below
-newest_way old new n (id ∷ ids) low below =
-    omega (arith, either (λ (x : Identifier). x.counter ≤ n) (is_id old id) new id low (omega (arith, below)), newest_way old new n ids low (omega (arith, below)))
+pub greatest_replacement : (old new : Identifier) (n : ℕ) (ids : List Identifier) → new.counter ≤ n → greatest_counter ids ≤ n → greatest_counter (map (replacement old new) ids) ≤ n
+greatest_replacement old new n [] low below = below
+greatest_replacement old new n (id ∷ ids) low below =
+    omega (arith, either (λ (x : Identifier). x.counter ≤ n) (is_id old id) new id low (omega (arith, below)), greatest_replacement old new n ids low (omega (arith, below)))
 
-pub newest_stand_in : (n : ℕ) (ops : List Op) (ids : List Identifier) → newest (inserted_elements ops) ≤ n → newest ids ≤ n → newest (map (stand_in ops) ids) ≤ n
-newest_stand_in n [] ids low below = subst (λ xs. newest xs ≤ n) (sym (map-id ids)) below
-newest_stand_in n (Delete x ∷ ops) ids low below = newest_stand_in n ops ids low below
-newest_stand_in n (Insert x parent ch ∷ ops) ids low below =
-    subst (λ xs. newest xs ≤ n) (map-map (stand_in ops) (way parent x) ids)
-    (newest_stand_in n ops (map (way parent x) ids) (omega (arith, low)) (newest_way parent x n ids (omega (arith, low)) below))
+pub greatest_stand_in : (n : ℕ) (ops : List Op) (ids : List Identifier) → greatest_counter (inserted_elements ops) ≤ n → greatest_counter ids ≤ n → greatest_counter (map (stand_in ops) ids) ≤ n
+greatest_stand_in n [] ids low below = subst (λ xs. greatest_counter xs ≤ n) (sym (map-id ids)) below
+greatest_stand_in n (Delete x ∷ ops) ids low below = greatest_stand_in n ops ids low below
+greatest_stand_in n (Insert x parent ch ∷ ops) ids low below =
+    subst (λ xs. greatest_counter xs ≤ n) (map-map (stand_in ops) (replacement parent x) ids)
+    (greatest_stand_in n ops (map (replacement parent x) ids) (omega (arith, low)) (greatest_replacement parent x n ids (omega (arith, low)) below))
 
 -- ---- the clock goes on
 
@@ -72,24 +68,24 @@ inserted_one c id parent ch =
       | Some x ↦ λ is. (within_clock (join c one)).own id x is
     ] at
 
-pub inserted_old : (c : Content) (ops : List Op) → newest (inserted_elements ops) ≤ clock_of (join c (content_of ops))
+pub inserted_old : (c : Content) (ops : List Op) → greatest_counter (inserted_elements ops) ≤ clock_of (join c (content_of ops))
 inserted_old c [] = omega arith
-inserted_old c (Delete id ∷ ops) = subst (λ d. newest (inserted_elements ops) ≤ clock_of d) (join_assoc c (single (Delete id)) (content_of ops)) (inserted_old (join c (single (Delete id))) ops)
+inserted_old c (Delete id ∷ ops) = subst (λ d. greatest_counter (inserted_elements ops) ≤ clock_of d) (join_assoc c (single (Delete id)) (content_of ops)) (inserted_old (join c (single (Delete id))) ops)
 inserted_old c (Insert id parent ch ∷ ops) =
     let one : Content = single (Insert id parent ch) in
-    subst (λ d. newest (id ∷ inserted_elements ops) ≤ clock_of d) (join_assoc c one (content_of ops))
+    subst (λ d. greatest_counter (id ∷ inserted_elements ops) ≤ clock_of d) (join_assoc c one (content_of ops))
     (omega (arith, inserted_one c id parent ch, clock_goes_on (join c one) (content_of ops), inserted_old (join c one) ops))
 
-deleted_old : (c : Content) (ops : List Op) → newest (deleted_elements ops) ≤ clock_of (join c (content_of ops))
-deleted_old c ops = newest_within (clock_of (join c (content_of ops))) (deleted_elements ops) (all_members (λ (id : Identifier). id.counter ≤ clock_of (join c (content_of ops))) (deleted_elements ops) (λ id m.
+deleted_old : (c : Content) (ops : List Op) → greatest_counter (deleted_elements ops) ≤ clock_of (join c (content_of ops))
+deleted_old c ops = greatest_within (clock_of (join c (content_of ops))) (deleted_elements ops) (all_members (λ (id : Identifier). id.counter ≤ clock_of (join c (content_of ops))) (deleted_elements ops) (λ id m.
     (within_clock (join c (content_of ops))).deleted id
     (contains-join c (content_of ops) id ∙ or_right (finite_set.contains c.deleted id) (finite_set.contains (content_of ops).deleted id) (contains-operations ops id ∙ m))))
 
 -- after operations those that they inserted and deleted are old too
-pub past_old : (c : Content) (ops : List Op) (elements : List Identifier) → newest elements ≤ clock_of c → newest (with_past elements (past_of c ops)) ≤ clock_of (join c (content_of ops))
+pub past_old : (c : Content) (ops : List Op) (elements : List Identifier) → greatest_counter elements ≤ clock_of c → greatest_counter (with_past elements (past_of c ops)) ≤ clock_of (join c (content_of ops))
 past_old c ops elements old =
     let n : ℕ = clock_of (join c (content_of ops)) in
     let deleted : deleted_ones (element_characters c (deleted_elements ops)) ≡ deleted_elements ops = map-map _ _ (deleted_elements ops) ∙ map-id (deleted_elements ops) in
-    newest_with n (with_elements elements (inserted_elements ops)) (deleted_ones (element_characters c (deleted_elements ops)))
-    (newest_with n elements (inserted_elements ops) (omega (arith, old, clock_goes_on c (content_of ops))) (inserted_old c ops))
-    (subst (λ xs. newest xs ≤ n) (sym deleted) (deleted_old c ops))
+    greatest_with n (with_elements elements (inserted_elements ops)) (deleted_ones (element_characters c (deleted_elements ops)))
+    (greatest_with n elements (inserted_elements ops) (omega (arith, old, clock_goes_on c (content_of ops))) (inserted_old c ops))
+    (subst (λ xs. greatest_counter xs ≤ n) (sym deleted) (deleted_old c ops))

@@ -1,10 +1,7 @@
 -- A place is within the text, so that point and mark are where a command can look.
-use Rattle.std.proofs.Common.{◌≡◌, ℕ, ◌≤◌, Bool, true, false, cond, List, [], ◌∷◌, is_some, filter, length, refl, ap, subst, arith, Option, Some, None, option_map, unwrap_or, IfSome}
-use Rattle.std.proofs.lemmas.Bool.{cond_both}
-use Rattle.std.proofs.lemmas.Option.{same_Some}
+use Rattle.mg_buffer.proofs.Prelude.{◌≡◌, ℕ, ◌≤◌, Bool, true, false, cond, List, [], ◌∷◌, is_some, filter, length, refl, ap, subst, arith, Option, Some, None, option_map, unwrap_or, IfSome, cond_both, same_Some, option_map_or, Identifier, is_id, is_root, Content, order, text, is_visible, visible, up_to, is_complete, Marker, stands, place, State, Notes, place_of, situation_of}
 use Rattle.rga_ops.proofs.VisibleLaws.{text_long}
 use Rattle.mg_plain.specs.Situation.{IsView}
-use Rattle.mg_buffer.proofs.Prelude.{option_map_or, Identifier, is_id, is_root, Content, order, text, is_visible, visible, up_to, is_complete, Marker, stands, place, State, Notes, place_of, situation_of}
 
 kept_more : (p : Identifier → Bool) (x : Identifier) (ys xs : List Identifier) → length (filter p ys) ≤ length (filter p xs) → length (filter p (x ∷ ys)) ≤ length (filter p (x ∷ xs))
 kept_more p x ys xs h = elim (p x) as (λ t. length (cond t (x ∷ filter p ys) (filter p ys)) ≤ length (cond t (x ∷ filter p xs) (filter p xs))) [ true ↦ omega (arith, h) | false ↦ h ]
@@ -15,7 +12,7 @@ up_to_shorter p id (x ∷ xs) =
     cond_both (is_id x id) (x ∷ []) (x ∷ up_to id xs) (λ ys. length (filter p ys) ≤ length (filter p (x ∷ xs)))
     (λ _. kept_more p x [] xs (omega arith)) (λ _. kept_more p x (up_to id xs) xs (up_to_shorter p id xs))
 
-pub place_within : (c : Content) (id : Identifier) → place_of c id ≤ length (text c)
+place_within : (c : Content) (id : Identifier) → place_of c id ≤ length (text c)
 place_within c id =
     let n : ℕ = length (filter (is_visible c) (up_to id (order c))) in
     let shorter : n ≤ length (visible c) = up_to_shorter (is_visible c) id (order c) in

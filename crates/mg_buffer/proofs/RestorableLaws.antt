@@ -1,9 +1,6 @@
 -- Every group can be reverted: its deleted elements are complete and apart, and stay so.
-use Rattle.std.proofs.Common.{◌≡◌, ℕ, ◌+◌, ◌<◌, ◌≤◌, true, false, not, ◌&&◌, ◌||◌, List, [], ◌∷◌, ◌++◌, map, filter, refl, sym, ap, ◌∙◌, subst, arith, append-nil, true≢false, Ok, if◌then◌else◌}
-use Rattle.std.proofs.lemmas.Bool.{and_parts, not-true, or_parts, or_right}
-use Rattle.std.proofs.lemmas.List.{map-id}
+use Rattle.mg_buffer.proofs.Prelude.{◌≡◌, ℕ, ◌+◌, ◌<◌, ◌≤◌, true, false, not, ◌&&◌, ◌||◌, List, [], ◌∷◌, ◌++◌, map, filter, refl, sym, ap, ◌∙◌, subst, arith, append-nil, true≢false, Ok, if◌then◌else◌, and_parts, not-true, or_parts, or_right, map-id, all_map, list_all, Identifier, identifier, is_id, is_root, Content, clock_of, join, content_of, is_complete, is_visible, Op, Delete, distinct_elements, restorations, revert_operations, revert_answer, are_restorable, inserted_elements, deleted_elements, element_characters, Past, stand_in, substituted, greatest_counter, deleted_ones}
 use Rattle.rga_ops.proofs.IdentifierLaws.{is_id-itself, is_id-same, is_id-is}
-use Rattle.rga_ops.proofs.MemberLaws.{all_map}
 use Rattle.rga_ops.proofs.NewestTextLaws.{root_or_complete_within}
 use Rattle.rga_doc.proofs.UndoLists.{apart_by_counter, deleted_elements-append, deleted_elements-deletions, inserted_elements-append, inserted_elements-deletions, deleted_elements-restorations}
 use Rattle.rga_doc.proofs.ApartLists.{apart_if_once}
@@ -11,8 +8,7 @@ use Rattle.rga_doc.proofs.RevertLaws.{back_complete, gone_complete}
 use Rattle.rga_doc.proofs.RevertSets.{among, id_swap}
 use Rattle.rga_doc.proofs.RevertedLaws.{restorable_if, reverted_complete}
 use Rattle.rga_doc.proofs.PlaceLaws.{complete_still}
-use Rattle.mg_buffer.proofs.Prelude.{list_all, Identifier, identifier, is_id, is_root, Content, clock_of, join, content_of, is_complete, is_visible, Op, Delete, distinct_elements, restorations, revert_operations, revert_answer, are_restorable, inserted_elements, deleted_elements, element_characters, Past, stand_in, substituted, newest, deleted_ones}
-use Rattle.mg_buffer.proofs.OldLaws.{either, newest_way, newest_within, way}
+use Rattle.mg_buffer.proofs.OldLaws.{either, greatest_replacement, greatest_within, replacement}
 use Rattle.mg_buffer.proofs.SlotLaws.{map-map}
 
 abbrev pub Back : Type 0
@@ -29,9 +25,9 @@ parts_of c b back h =
     let first = and_parts (is_complete c b.0) (not (among b.0 back)) two.0 in
     record { complete = first.0; apart = not-true (among b.0 back) first.1; rest = two.1 }
 
-pub restorable_old : (c : Content) (back : Back) → are_restorable c back ≡ true → newest (deleted_ones back) ≤ clock_of c
+pub restorable_old : (c : Content) (back : Back) → are_restorable c back ≡ true → greatest_counter (deleted_ones back) ≤ clock_of c
 restorable_old c back able =
-    newest_within (clock_of c) (deleted_ones back)
+    greatest_within (clock_of c) (deleted_ones back)
     (all_map (λ id. is_complete c id ≡ true) (λ (id : Identifier). id.counter ≤ clock_of c) (λ id h. root_or_complete_within c id (or_right (is_root id) (is_complete c id) h)) (deleted_ones back) (back_complete c back able))
 
 -- under every join
@@ -51,8 +47,8 @@ module _ (old new : Identifier) where
   newer_apart id low = is_id-same new id ∙ apart_by_counter id new low
 
   -- different ones stay so
-  way_apart : (a b : Identifier) → a.counter < new.counter → b.counter < new.counter → is_id a b ≡ false → is_id (way old new a) (way old new b) ≡ false
-  way_apart a b low_a low_b apart = elim (is_id old a) as (λ s. is_id old a ≡ s → is_id (if s then new else a) (way old new b) ≡ false) [
+  replacement_apart : (a b : Identifier) → a.counter < new.counter → b.counter < new.counter → is_id a b ≡ false → is_id (replacement old new a) (replacement old new b) ≡ false
+  replacement_apart a b low_a low_b apart = elim (is_id old a) as (λ s. is_id old a ≡ s → is_id (if s then new else a) (replacement old new b) ≡ false) [
     | true ↦ λ s. elim (is_id old b) as (λ t. is_id old b ≡ t → is_id new (if t then new else b) ≡ false) [
       | true ↦ λ t. absurd (true≢false (sym (ap (λ x. is_id x b) (sym (is_id-is old a s) ∙ is_id-is old b t) ∙ is_id-itself b) ∙ apart))
       | false ↦ λ _. newer_apart b low_b
@@ -60,30 +56,30 @@ module _ (old new : Identifier) where
     | false ↦ λ _. either (λ x. is_id a x ≡ false) (is_id old b) new b (id_swap a new ∙ newer_apart a low_a) apart
   ] refl
 
-  among_way : (id : Identifier) (back : Back) → id.counter < new.counter → newest (deleted_ones back) < new.counter → among id back ≡ false → among (way old new id) (others (way old new) back) ≡ false
-  among_way id [] low below apart = refl
-  among_way id (b ∷ back) low below apart =
+  among_replacement : (id : Identifier) (back : Back) → id.counter < new.counter → greatest_counter (deleted_ones back) < new.counter → among id back ≡ false → among (replacement old new id) (others (replacement old new) back) ≡ false
+  among_replacement id [] low below apart = refl
+  among_replacement id (b ∷ back) low below apart =
       let p = or_parts (is_id b.0 id) (among id back) apart in
-      λ k. way_apart b.0 id (omega (arith, below)) low p.0 k || among_way id back low (omega (arith, below)) p.1 k
+      λ k. replacement_apart b.0 id (omega (arith, below)) low p.0 k || among_replacement id back low (omega (arith, below)) p.1 k
 
-  way_restorable : (c : Content) (back : Back) → is_complete c new ≡ true → newest (deleted_ones back) < new.counter → are_restorable c back ≡ true → are_restorable c (others (way old new) back) ≡ true
-  way_restorable c [] complete below able = refl
-  way_restorable c (b ∷ back) complete below able =
+  replacement_restorable : (c : Content) (back : Back) → is_complete c new ≡ true → greatest_counter (deleted_ones back) < new.counter → are_restorable c back ≡ true → are_restorable c (others (replacement old new) back) ≡ true
+  replacement_restorable c [] complete below able = refl
+  replacement_restorable c (b ∷ back) complete below able =
       let p = parts_of c b back able in
-      λ k. (either (λ x. is_complete c x ≡ true) (is_id old b.0) new b.0 complete p.complete k && not (among_way b.0 back (omega (arith, below)) (omega (arith, below)) p.apart k))
-      && way_restorable c back complete (omega (arith, below)) p.rest k
+      λ k. (either (λ x. is_complete c x ≡ true) (is_id old b.0) new b.0 complete p.complete k && not (among_replacement b.0 back (omega (arith, below)) (omega (arith, below)) p.apart k))
+      && replacement_restorable c back complete (omega (arith, below)) p.rest k
 
 -- so it is with each that is restored in turn
-standing_restorable : (back : Back) (c : Content) (replica last : ℕ) (deleted : Back) → list_all (is_complete c) (inserted_elements (restorations replica last back)) ≡ true → newest (deleted_ones deleted) ≤ last → are_restorable c deleted ≡ true → are_restorable c (others (stand_in (restorations replica last back)) deleted) ≡ true
+standing_restorable : (back : Back) (c : Content) (replica last : ℕ) (deleted : Back) → list_all (is_complete c) (inserted_elements (restorations replica last back)) ≡ true → greatest_counter (deleted_ones deleted) ≤ last → are_restorable c deleted ≡ true → are_restorable c (others (stand_in (restorations replica last back)) deleted) ≡ true
 standing_restorable [] c replica last deleted all below able = ap (are_restorable c) (map-id deleted) ∙ able
 standing_restorable (b ∷ back) c replica last deleted all below able =
     let x : Identifier = identifier (last + 1) replica in
     let p = and_parts (is_complete c x) (list_all (is_complete c) (inserted_elements (restorations replica (last + 1) back))) all in
-    let firsts : map (way b.0 x) (deleted_ones deleted) ≡ deleted_ones (others (way b.0 x) deleted) = map-map _ _ deleted ∙ sym (map-map _ _ deleted) in
+    let firsts : map (replacement b.0 x) (deleted_ones deleted) ≡ deleted_ones (others (replacement b.0 x) deleted) = map-map _ _ deleted ∙ sym (map-map _ _ deleted) in
     ap (are_restorable c) (sym (map-map _ _ deleted))
-    ∙ standing_restorable back c replica (last + 1) (others (way b.0 x) deleted) p.1
-    (subst (λ xs. newest xs ≤ last + 1) firsts (newest_way b.0 x (last + 1) (deleted_ones deleted) (omega arith) (omega (arith, below))))
-    (way_restorable b.0 x c deleted p.0 (omega (arith, below)) able)
+    ∙ standing_restorable back c replica (last + 1) (others (replacement b.0 x) deleted) p.1
+    (subst (λ xs. greatest_counter xs ≤ last + 1) firsts (greatest_replacement b.0 x (last + 1) (deleted_ones deleted) (omega arith) (omega (arith, below))))
+    (replacement_restorable b.0 x c deleted p.0 (omega (arith, below)) able)
 
 pub stand_in-deletions_first : (ids : List Identifier) (ops : List Op) → stand_in (map Delete ids ++ ops) ≡ stand_in ops
 stand_in-deletions_first [] ops = refl

@@ -9,7 +9,7 @@ use Rattle.mg_buffer.specs.declared.line_numbers.KnownLine.{KnownLine}
 use Rattle.mg_buffer.specs.declared.marker.Marker.{Marker}
 use Rattle.mg_buffer.specs.Groups.{are_revertible}
 use Rattle.mg_buffer.specs.LineNumbers.{line_of}
-use Rattle.mg_buffer.specs.Slots.{PastList, newest}
+use Rattle.mg_buffer.specs.Slots.{PastList, greatest_counter}
 
 -- the element has a place
 abbrev pub stands : Content → Marker → Bool
@@ -33,6 +33,6 @@ pub record IsKeptBuffer (d : Document) (point : Marker) (line : KnownLine) (mark
   pub point_stands : stands d.content point ≡ true
   pub mark_stands : option_map_or (stands d.content) mark true ≡ true
   pub line_known : IsLineOfPlace (text d.content) line
-  pub old : newest h.slots.elements ≤ clock_of d.content
+  pub old : greatest_counter h.slots.elements ≤ clock_of d.content
   pub revertible : are_revertible d.content h.pasts ≡ true
   pub at_hand : listed ≡ true → IsAtHand d point line mark

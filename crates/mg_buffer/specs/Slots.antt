@@ -36,15 +36,15 @@ past_by elements g = record { inserted = map (element_at_slot elements) g.insert
 abbrev pub pasts_by : List Identifier → List Slotted → List Past
 pasts_by elements groups = map (past_by elements) groups
 
--- the slots of a group are among the first so many
+-- so many slots have elements, and those of a group are among them
 pub record IsFilled (count : ℕ) (g : Slotted) : Type 0 where
   pub inserted : AllByRecursion (λ s. s < count) g.inserted
   pub deleted : AllByRecursion (λ (b : ℕ × ℕ). b.0 < count) g.deleted
 
 -- the greatest counter of elements
-abbrev pub newest : List Identifier → ℕ
-newest [] = 0
-newest (id ∷ ids) = max id.counter (newest ids)
+abbrev pub greatest_counter : List Identifier → ℕ
+greatest_counter [] = 0
+greatest_counter (id ∷ ids) = max id.counter (greatest_counter ids)
 
 -- ---- more elements, and others
 

@@ -36,7 +36,8 @@ impl Model for History {
       room = vec_capacity h.groups - vec_len h.groups;
     } };
 
-    ghost invariant = { λ h. AllByRecursion (IsFilled (length h.elements.elements)) h.groups.items };
+    ghost invariant = { λ h.
+        AllByRecursion (IsFilled (length h.elements.elements)) h.groups.items };
 }
 
 /// The slots of a group that is still empty.

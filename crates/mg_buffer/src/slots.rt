@@ -115,6 +115,7 @@ pub(crate) fn replace_all(elements: &mut Slots, ops: &[Op])
 }
 
 /// Puts what an operation restores an element by into its slot, if it does. There is room.
+#[tactic(auto, using(crate::proofs::SlotLaws::deletion_replaces_nothing))]
 fn replace_by(elements: &mut Slots, op: &Op)
     requires newcomer { repeats elements.old.elements op.now ≡ false }
     requires entries { length (inserted_elements (op.now ∷ [])) ≤ elements.old.entries }

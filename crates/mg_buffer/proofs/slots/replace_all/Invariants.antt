@@ -1,5 +1,4 @@
-use Rattle.std.proofs.Common.{◌≡◌, ◌≤◌, false, map, drop, length}
-use Rattle.mg_buffer.proofs.Prelude.{inserted_elements, stand_in, any_repeats}
+use Rattle.mg_buffer.proofs.Prelude.{◌≡◌, ◌≤◌, false, map, drop, length, inserted_elements, stand_in, any_repeats}
 use Rattle.mg_buffer.proofs.slots.replace_all.Given as goal
 
 -- what the operations that are left put in is all that was wanted
