@@ -1,26 +1,11 @@
--- Groups: which one an undo takes, that each can be reverted, and that point keeps a place over an undo.
-use Rattle.std.proofs.Common.{◌≡◌, ℕ, zero, suc, true, ◌&&◌, is_some, List, [], ◌∷◌, length, refl, sym, ap, ◌∙◌, true≢false, Option, Some, None, Ok, option_map, slice_get}
-use Rattle.std.proofs.lemmas.Bool.{and_parts}
-use Rattle.std.proofs.lemmas.Option.{get_or_from_slice_get, same_Some}
+-- Groups: that each can be reverted, and that point keeps a place over an undo.
+use Rattle.mg_buffer.proofs.Prelude.{◌≡◌, ℕ, zero, suc, true, ◌&&◌, is_some, List, [], ◌∷◌, refl, sym, ◌∙◌, true≢false, Option, Some, None, Ok, and_parts, option_map_or, list_all, Identifier, Content, join, content_of, place, is_complete, Splice, Op, splices_operations, splices_answer, revert_operations, revert_answer, are_restorable, inserted_elements, deleted_elements, element_characters, Marker, Past, past_at, past_of, with_group, are_revertible, stand_in, all_substituted, first_of, last_of, point_after, stands}
 use Rattle.std.proofs.lemmas.List.Folds.{list_all-append}
 use Rattle.rga_ops.proofs.VisibleLaws.{no_place}
 use Rattle.rga_doc.proofs.PlaceLaws.{stands_still}
 use Rattle.rga_doc.proofs.RevertedLaws.{reverted_complete, reverted_restorable}
 use Rattle.rga_doc.proofs.UndoApart.{edit_restorable}
-use Rattle.mg_buffer.proofs.Prelude.{option_map_or, list_all, Identifier, Content, join, content_of, place, is_complete, Splice, Op, edit_answer, splices_operations, splices_answer, revert_operations, revert_answer, are_restorable, inserted_elements, deleted_elements, element_characters, Marker, Past, past_at, past_of, with_group, are_revertible, last_group, stand_in, all_substituted, first_of, last_of, point_after, stands}
 use Rattle.mg_buffer.proofs.RestorableLaws.{restorable_still, gone_restorable, substituted_restorable}
-
--- ---- the group that an undo takes
-
-pub taken_at : (groups : List Past) (n i : ℕ) → option_map (λ (p : ℕ × Past). p.0) (last_group groups n) ≡ Some i → last_group groups n ≡ Some (i, past_at groups i)
-taken_at groups zero i h = let clash : None ≡ Some i = h in cc
-taken_at groups (suc k) i h = by (slice_get groups k) refl h
-  where
-    by : (o : Option Past) → slice_get groups k ≡ o → option_map (λ (p : ℕ × Past). p.0) (option_map (λ (g : Past). (k, g)) o) ≡ Some i → last_group groups (suc k) ≡ Some (i, past_at groups i)
-    by None e h = let clash : None ≡ Some i = h in cc
-    by (Some g) e h =
-        let same : k ≡ i = same_Some k i h in
-        ap (option_map (λ (g : Past). (k, g))) e ∙ (λ j. Some (same j, (sym (get_or_from_slice_get groups k g _ e) ∙ ap (past_at groups) same) j))
 
 -- ---- every group can be reverted
 
@@ -28,13 +13,6 @@ pub past_restorable : (c : Content) (groups : List Past) (i : ℕ) → are_rever
 past_restorable c [] i h = refl
 past_restorable c (x ∷ groups) zero h = (and_parts (are_restorable c x.deleted) (are_revertible c groups) h).0
 past_restorable c (x ∷ groups) (suc i) h = past_restorable c groups i (and_parts (are_restorable c x.deleted) (are_revertible c groups) h).1
-
--- a group that can be reverted is refused for its room and its counters alone
-pub revert_answer_is : (limit : ℕ) (c : Content) (groups : List Past) (i : ℕ) (g : Past) (back : List (Identifier × ℕ)) → are_revertible c groups ≡ true → slice_get groups i ≡ Some g → back ≡ g.deleted → revert_answer limit c back ≡ edit_answer limit c true (length g.deleted)
-revert_answer_is limit c groups i g back h at is =
-    ap (revert_answer limit c) is
-    ∙ ap (λ t. edit_answer limit c t (length g.deleted))
-    (ap (λ (x : Past). are_restorable c x.deleted) (sym (get_or_from_slice_get groups i g _ at)) ∙ past_restorable c groups i h)
 
 pub still_revertible : (c x : Content) (groups : List Past) → are_revertible c groups ≡ true → are_revertible (join c x) groups ≡ true
 still_revertible c x [] h = refl

@@ -1,11 +1,7 @@
 -- The line of a place, by that of another place, and what splices leave alone.
-use Rattle.std.proofs.Common.{◌≡◌, ℕ, ◌+◌, ◌-◌, ◌≤◌, List, [], ◌∷◌, ◌++◌, length, take, drop, min, count_by, cond, arith, refl, sym, ap, ◌∙◌, drop-drop, take-take, append_assoc}
-use Rattle.std.proofs.lemmas.List.{length-take, take-append-le}
+use Rattle.mg_buffer.proofs.Prelude.{◌≡◌, ℕ, ◌+◌, ◌-◌, ◌≤◌, List, [], ◌∷◌, ◌++◌, length, take, drop, min, count_by, cond, arith, refl, sym, subst, ap, ◌∙◌, drop-drop, take-take, append_assoc, length-take, take-append-le, min-le_left, min-le_right, min-eq_left, Splice, spliced, text_after, KnownLine, IsLineOfPlace, line_of, least_begin}
 use Rattle.std.proofs.lemmas.List.Sums.{sum_by-take-drop}
-use Rattle.std.proofs.Math.Nat.{min-le_left, min-le_right, min-eq_left}
 use Rattle.mg_text.specs.Characters.{is_newline}
-use Rattle.mg_buffer.proofs.Prelude.{Splice, spliced, text_after, KnownLine, IsLineOfPlace}
-use Rattle.mg_buffer.specs.LineNumbers.{line_of, least_begin}
 
 -- of two places the one behind has the newlines between both more
 pub lines_between : (text : List ℕ) (from to : ℕ) → from ≤ to → line_of text from + count_by is_newline (take (to - from) (drop from text)) ≡ line_of text to
@@ -29,7 +25,7 @@ pub first_line : (text : List ℕ) (line : KnownLine) → line.place ≡ 0 → l
 first_line text line at none = record { within = omega (arith, at); numbered = none ∙ ap (line_of text) (sym at) }
 
 -- a line stays where the text up to its place does
-pub line_stays : (old new : List ℕ) (line : KnownLine) → take line.place new ≡ take line.place old → IsLineOfPlace old line → IsLineOfPlace new line
+line_stays : (old new : List ℕ) (line : KnownLine) → take line.place new ≡ take line.place old → IsLineOfPlace old line → IsLineOfPlace new line
 line_stays old new line same known = record {
   within = within_same line.place new old same known.within;
   numbered = known.numbered ∙ ap (count_by is_newline) (sym same);
@@ -49,7 +45,7 @@ least_within place (s ∷ splices) = omega (arith, least_within (min place s.lo)
 take_front : (n lo : ℕ) (xs rest : List ℕ) → n ≤ lo → n ≤ length xs → take n (take lo xs ++ rest) ≡ take n xs
 take_front n lo xs rest before within = take-append-le n (take lo xs) rest (omega (arith, length-take lo xs)) ∙ take-take n lo xs before
 
-pub front_stays : (place : ℕ) (chars : List ℕ) (splices : List Splice) → place ≤ length chars
+front_stays : (place : ℕ) (chars : List ℕ) (splices : List Splice) → place ≤ length chars
     → take (least_begin place splices) (text_after chars splices) ≡ take (least_begin place splices) chars
 front_stays place chars [] within = refl
 front_stays place chars (s ∷ splices) within =
@@ -64,3 +60,8 @@ front_stays place chars (s ∷ splices) within =
     let inside = within_same least after chars kept (omega (arith, first, within)) in
     front_stays least after splices inside ∙ ap (take (least_begin least splices)) parts
     ∙ take_front (least_begin least splices) s.lo chars rest (omega (arith, below, begin)) (omega (arith, below, first, within))
+
+-- a line that is no further than where the first of them begins is one of the new text
+pub line_after : (place : ℕ) (before after : List ℕ) (splices : List Splice) (line : KnownLine) → IsLineOfPlace before line → after ≡ text_after before splices → line.place ≡ least_begin place splices → place ≤ length before → IsLineOfPlace after line
+line_after place before after splices line known is at within =
+    line_stays before after line (subst (λ n. take n after ≡ take n before) (sym at) (ap (take (least_begin place splices)) is ∙ front_stays place before splices within)) known

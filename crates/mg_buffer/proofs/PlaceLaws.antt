@@ -1,10 +1,7 @@
 -- A place is within the text, so that point and mark are where a command can look.
-use Rattle.std.proofs.Common.{◌≡◌, ℕ, ◌≤◌, Bool, true, false, cond, List, [], ◌∷◌, is_some, filter, length, refl, ap, subst, arith, Option, Some, None, option_map, unwrap_or, IfSome}
-use Rattle.std.proofs.lemmas.Bool.{cond_both}
-use Rattle.std.proofs.lemmas.Option.{same_Some}
+use Rattle.mg_buffer.proofs.Prelude.{◌≡◌, ℕ, ◌≤◌, Bool, true, false, cond, List, [], ◌∷◌, is_some, filter, length, refl, ap, subst, arith, Option, Some, None, option_map, unwrap_or, IfSome, cond_both, same_Some, option_map_or, Identifier, is_id, is_root, Content, order, text, is_visible, visible, up_to, is_complete, Marker, stands, place, State, Notes, place_of, situation_of}
 use Rattle.rga_ops.proofs.VisibleLaws.{text_long}
 use Rattle.mg_plain.specs.Situation.{IsView}
-use Rattle.mg_buffer.proofs.Prelude.{option_map_or, Identifier, is_id, is_root, Content, order, text, is_visible, visible, up_to, is_complete, Marker, stands, IsPlaced, State, Notes, place_of, situation_of}
 
 kept_more : (p : Identifier → Bool) (x : Identifier) (ys xs : List Identifier) → length (filter p ys) ≤ length (filter p xs) → length (filter p (x ∷ ys)) ≤ length (filter p (x ∷ xs))
 kept_more p x ys xs h = elim (p x) as (λ t. length (cond t (x ∷ filter p ys) (filter p ys)) ≤ length (cond t (x ∷ filter p xs) (filter p xs))) [ true ↦ omega (arith, h) | false ↦ h ]
@@ -15,7 +12,7 @@ up_to_shorter p id (x ∷ xs) =
     cond_both (is_id x id) (x ∷ []) (x ∷ up_to id xs) (λ ys. length (filter p ys) ≤ length (filter p (x ∷ xs)))
     (λ _. kept_more p x [] xs (omega arith)) (λ _. kept_more p x (up_to id xs) xs (up_to_shorter p id xs))
 
-pub place_within : (c : Content) (id : Identifier) → place_of c id ≤ length (text c)
+place_within : (c : Content) (id : Identifier) → place_of c id ≤ length (text c)
 place_within c id =
     let n : ℕ = length (filter (is_visible c) (up_to id (order c))) in
     let shorter : n ≤ length (visible c) = up_to_shorter (is_visible c) id (order c) in
@@ -35,18 +32,18 @@ is_view b notes = record { point = place_within b.content b.point; mark = mark_w
 
 -- ---- places at hand
 
-pub placed_within : (c : Content) (s : Marker) (chars : List ℕ) → chars ≡ text c → IsPlaced c s → s.place ≤ length chars
+pub placed_within : (c : Content) (s : Marker) (chars : List ℕ) → chars ≡ text c → place c s.element ≡ Some s.place → s.place ≤ length chars
 placed_within c s chars is at =
     let value : place_of c s.element ≡ s.place = ap (λ o. unwrap_or o 0) at in
     let long : length chars ≡ length (text c) = ap length is in
     omega (arith, place_within c s.element, value, long)
 
-pub mark_placed_within : (c : Content) (mark : Option Marker) (chars : List ℕ) → chars ≡ text c → IfSome mark (IsPlaced c) → (x : ℕ) → option_map (λ (s : Marker). s.place) mark ≡ Some x → x ≤ length chars
+pub mark_placed_within : (c : Content) (mark : Option Marker) (chars : List ℕ) → chars ≡ text c → IfSome mark (λ s. place c s.element ≡ Some s.place) → (x : ℕ) → option_map (λ (s : Marker). s.place) mark ≡ Some x → x ≤ length chars
 mark_placed_within c None chars is at x h = let clash : None ≡ Some x = h in cc
 mark_placed_within c (Some s) chars is at x h = subst (λ n. n ≤ length chars) (same_Some s.place x h) (placed_within c s chars is at)
 
 -- what has a place at hand has a place
-pub mark_stands_if : (c : Content) (mark : Option Marker) → IfSome mark (IsPlaced c) → option_map_or (stands c) mark true ≡ true
+pub mark_stands_if : (c : Content) (mark : Option Marker) → IfSome mark (λ s. place c s.element ≡ Some s.place) → option_map_or (stands c) mark true ≡ true
 mark_stands_if c None at = refl
 mark_stands_if c (Some s) at = ap is_some at
 

@@ -1,9 +1,5 @@
 -- Slots and the elements in them, as elements are added.
-use Rattle.std.proofs.Common.{◌≡◌, ℕ, ◌+◌, ◌<◌, ◌≤◌, true, false, List, [], ◌∷◌, ◌++◌, map, length, get_or, take, refl, sym, ap, ◌∙◌, arith, append-nil, append_assoc, length-append, Some, if◌then◌else◌, slice_get}
-use Rattle.std.proofs.lemmas.Option.{slice_get_within, get_or_from_slice_get}
-use Rattle.std.proofs.lemmas.List.{map-append, get_or_append_left, take_more}
-use Rattle.rga_ops.proofs.MemberLaws.{all_map, all_append}
-use Rattle.mg_buffer.proofs.Prelude.{list_any, AllByRecursion, Identifier, is_id, root, with_element, with_elements, element_at_slot}
+use Rattle.mg_buffer.proofs.Prelude.{◌≡◌, ℕ, ◌<◌, ◌≤◌, true, false, List, [], ◌∷◌, ◌++◌, map, length, get_or, refl, sym, ap, ◌∙◌, arith, append-nil, append_assoc, length-append, Some, if◌then◌else◌, slice_get, slice_get_within, get_or_from_slice_get, map-append, map-id, get_or_append_left, all_map, all_append, list_any, AllByRecursion, Identifier, is_id, root, with_element, with_elements, element_at_slot, instead, Delete}
 
 -- ---- maps
 
@@ -14,6 +10,9 @@ same_map f g P h (x ∷ xs) all = λ k. h x all.0 k ∷ same_map f g P h xs all.
 pub map-map : {A B C : Type 0} (f : B → C) (g : A → B) (xs : List A) → map f (map g xs) ≡ map (λ x. f (g x)) xs
 map-map f g [] = refl
 map-map f g (x ∷ xs) = λ k. f (g x) ∷ map-map f g xs k
+
+pub deletion_replaces_nothing : (id : Identifier) (elements : List Identifier) → map (instead (Delete id)) elements ≡ elements
+deletion_replaces_nothing id elements = map-id elements
 
 pub all_of_map : {A B : Type 0} (P : B → Type 0) (f : A → B) (xs : List A) → AllByRecursion (λ x. P (f x)) xs → AllByRecursion P (map f xs)
 all_of_map P f [] h = tt
@@ -41,7 +40,7 @@ grows_all elements (id ∷ ids) = grows_on elements (with_element elements id) (
 pub longer : (old new : List Identifier) → Grows old new → length old ≤ length new
 longer old new g = omega (arith, ap length g.parts, length-append old g.more)
 
-pub same_element : (old new : List Identifier) → Grows old new → (s : ℕ) → s < length old → element_at_slot new s ≡ element_at_slot old s
+same_element : (old new : List Identifier) → Grows old new → (s : ℕ) → s < length old → element_at_slot new s ≡ element_at_slot old s
 same_element old new g s within = ap (λ xs. get_or xs s root) g.parts ∙ get_or_append_left old g.more root s within
 
 -- ---- elements in slots, alone or with their characters
@@ -65,7 +64,3 @@ within_more slot old new grows xs a id h at =
     all_append (λ a. slot a < length new) xs (a ∷ [])
     (all_map (λ a. slot a < length old) (λ a. slot a < length new) (λ a w. omega (arith, w, longer old new grows)) xs h)
     (slice_get_within new (slot a) id at, tt)
-
--- one more of a list
-pub taken_more : {A : Type 0} (xs : List A) (i : ℕ) (x : A) → i < length xs → x ≡ get_or xs i x → take (i + 1) xs ≡ take i xs ++ x ∷ []
-taken_more xs i x within is = take_more xs i x within ∙ ap (λ y. take i xs ++ y ∷ []) (sym is)

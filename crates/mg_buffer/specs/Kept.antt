@@ -1,7 +1,7 @@
 -- What is true of each buffer.
 use Rattle.std.specs.Prelude.{◌≡◌, ◌≤◌, ℕ, Bool, true, List, Option, Some, is_some, length}
 use Rattle.std.specs.Option.{option_map_or, IfSome}
-use Rattle.rga_ops.specs.Content.{Content}
+use Rattle.rga_ops.specs.Content.{Content, clock_of}
 use Rattle.rga_ops.specs.Order.{text}
 use Rattle.rga_ops.specs.Places.{place}
 use Rattle.rga_doc.specs.Document.{Document}
@@ -9,15 +9,11 @@ use Rattle.mg_buffer.specs.declared.line_numbers.KnownLine.{KnownLine}
 use Rattle.mg_buffer.specs.declared.marker.Marker.{Marker}
 use Rattle.mg_buffer.specs.Groups.{are_revertible}
 use Rattle.mg_buffer.specs.LineNumbers.{line_of}
-use Rattle.mg_buffer.specs.Slots.{PastList, AreOld}
+use Rattle.mg_buffer.specs.Slots.{PastList, greatest_counter}
 
 -- the element has a place
 abbrev pub stands : Content → Marker → Bool
 stands c s = is_some (place c s.element)
-
--- the element has that place
-abbrev pub IsPlaced : Content → Marker → Type 0
-IsPlaced c s = place c s.element ≡ Some s.place
 
 -- the number is that of the line in which the place stands, which is in the text
 pub record IsLineOfPlace (text : List ℕ) (line : KnownLine) : Type 0 where
@@ -27,9 +23,9 @@ pub record IsLineOfPlace (text : List ℕ) (line : KnownLine) : Type 0 where
 -- the document is listed, the places are those of point and mark, and the line is that of point
 pub record IsAtHand (d : Document) (point : Marker) (line : KnownLine) (mark : Option Marker) : Type 0 where
   pub document : d.listed ≡ true
-  pub place_of_point : IsPlaced d.content point
+  pub place_of_point : place d.content point.element ≡ Some point.place
   pub line_of_point : line.place ≡ point.place
-  pub place_of_mark : IfSome mark (IsPlaced d.content)
+  pub place_of_mark : IfSome mark (λ s. place d.content s.element ≡ Some s.place)
 
 -- point and mark have places, and a line is known; no element in the slots of the groups is newer than the clock, and every
 -- group can be reverted; and what is listed is at hand
@@ -37,6 +33,6 @@ pub record IsKeptBuffer (d : Document) (point : Marker) (line : KnownLine) (mark
   pub point_stands : stands d.content point ≡ true
   pub mark_stands : option_map_or (stands d.content) mark true ≡ true
   pub line_known : IsLineOfPlace (text d.content) line
-  pub old : AreOld d.content h.slots.elements
+  pub old : greatest_counter h.slots.elements ≤ clock_of d.content
   pub revertible : are_revertible d.content h.pasts ≡ true
   pub at_hand : listed ≡ true → IsAtHand d point line mark

@@ -1,12 +1,11 @@
 -- Undo groups by slots. A slot stands for an element, and for another one once that restores it: so no group changes.
-use Rattle.std.specs.Prelude.{◌≡◌, ℕ, ◌<◌, ◌≤◌, ◌+◌, Bool, true, false, List, [], ◌∷◌, map, length, slice_index_or, refl, if◌then◌else◌}
+use Rattle.std.specs.Prelude.{ℕ, ◌<◌, ◌||◌, Bool, false, List, [], ◌∷◌, map, max, slice_index_or, refl}
 use Rattle.std.specs.List.{list_any, AllByRecursion}
 use Rattle.std.specs.Coded.{Coded, code_by, coded×, coded_ℕ, coded_list}
 use Rattle.rga_ops.specs.Identifier.{Identifier, root, is_id}
-use Rattle.rga_ops.specs.Content.{Content, clock_of}
 use Rattle.rga_ops.specs.declared.op.Op.{Op}
 use Rattle.rga_ops.specs.declared.op.Op.TheVariants.{Insert, Delete}
-use Rattle.mg_slots.specs.Slots.{IsRow, SlotList, first_counter, with_elements}
+use Rattle.mg_slots.specs.Slots.{SlotList, with_elements}
 use Rattle.mg_buffer.specs.Groups.{Past, instead}
 
 -- the slots of the elements that a command or an undo inserted, and of those that it deleted, with their characters
@@ -37,14 +36,15 @@ past_by elements g = record { inserted = map (element_at_slot elements) g.insert
 abbrev pub pasts_by : List Identifier → List Slotted → List Past
 pasts_by elements groups = map (past_by elements) groups
 
--- there are elements in all slots of a group
-pub record IsFilled (elements : List Identifier) (g : Slotted) : Type 0 where
-  pub inserted : AllByRecursion (λ s. s < length elements) g.inserted
-  pub deleted : AllByRecursion (λ (b : ℕ × ℕ). b.0 < length elements) g.deleted
+-- so many slots have elements, and those of a group are among them
+pub record IsFilled (count : ℕ) (g : Slotted) : Type 0 where
+  pub inserted : AllByRecursion (λ s. s < count) g.inserted
+  pub deleted : AllByRecursion (λ (b : ℕ × ℕ). b.0 < count) g.deleted
 
--- no counter among the elements is above the clock
-abbrev pub AreOld : Content → List Identifier → Type 0
-AreOld c elements = AllByRecursion (λ (id : Identifier). id.counter ≤ clock_of c) elements
+-- the greatest counter of elements
+abbrev pub greatest_counter : List Identifier → ℕ
+greatest_counter [] = 0
+greatest_counter (id ∷ ids) = max id.counter (greatest_counter ids)
 
 -- ---- more elements, and others
 
@@ -59,25 +59,12 @@ with_deleted elements g = with_elements elements (deleted_ones g.deleted)
 abbrev pub with_past : List Identifier → Past → List Identifier
 with_past elements g = with_deleted (with_elements elements g.inserted) g
 
--- there is room for so many more
-pub record HasSpace (s : SlotList) (count : ℕ) : Type 0 where
-  pub places : count ≤ s.room
-  pub entries : count ≤ s.entries
+-- whether an operation inserts an element that is there
+abbrev pub repeats : List Identifier → Op → Bool
+repeats elements (Insert id parent ch) = list_any (is_id id) elements
+repeats elements (Delete id) = false
 
--- the same for elements that go in, as a row or one by one, and so many others
-pub record HasSpaceFor (s : SlotList) (is_row : Bool) (ids : List Identifier) (more : ℕ) : Type 0 where
-  pub places : length ids + more ≤ s.room
-  pub entries : (if is_row then more else length ids + more) ≤ s.entries
-  pub rows : 0 < s.rows
-  pub row : is_row ≡ true → IsRow ids
-  pub above : is_row ≡ true → s.greatest < first_counter ids
-
--- an insertion is of an element that is not there, and restores one that is
-abbrev pub IsStandIn : List Identifier → Op → Type 0
-IsStandIn elements (Insert id parent ch) = (list_any (is_id parent) elements ≡ true) × (list_any (is_id id) elements ≡ false)
-IsStandIn elements (Delete id) = Unit {0}
-
--- so it is with each of them in turn
-abbrev pub AreStandIns : List Identifier → List Op → Type 0
-AreStandIns elements [] = Unit {0}
-AreStandIns elements (op ∷ ops) = IsStandIn elements op × AreStandIns (map (instead op) elements) ops
+-- whether one of them does, where each in turn puts what restores an element in its place
+abbrev pub any_repeats : List Identifier → List Op → Bool
+any_repeats elements [] = false
+any_repeats elements (op ∷ ops) = repeats elements op || any_repeats (map (instead op) elements) ops

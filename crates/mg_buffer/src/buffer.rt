@@ -122,6 +122,7 @@ impl<S: TextStore> Buffer<S> {
 
     /// Lists the text, the places of point and mark and the line of point, so that `view` and
     /// `line` find them. A command does so too. `Memory` alone.
+    #[tactic(auto, using(crate::proofs::PlaceLaws::placed_within))]
     pub fn list(&mut self) -> Result<(), Refusal>
         ensures same { self.new ≡ self.old }
         ensures memory { IfErr result (λ e. e ≡ Refusal.Memory) }
@@ -151,6 +152,7 @@ impl<S: TextStore> Buffer<S> {
 
     /// What a command sees: the text, lent, the places of point and mark, and what the memo keeps.
     /// `None` where the buffer is not listed. Takes no memory.
+    #[tactic(auto, using(crate::proofs::PlaceLaws::placed_within, crate::proofs::PlaceLaws::mark_placed_within))]
     pub fn view<'a>(&'a self, memo: &'a Memo) -> Option<View<'a>>
         ensures { IfSome result (λ view. view ≡ situation_of self.now memo.now) }
     {

@@ -28,7 +28,7 @@ impl Model for Group {
 impl Group {
     /// The same by the elements that are in the slots. `Memory` alone.
     pub(crate) fn change(&self, alloc: Global, elements: &[Id]) -> Result<Change, Refusal>
-        requires { IsFilled elements.now self.now }
+        requires { IsFilled (length elements.now) self.now }
         ensures ok { IfOk result (λ change. change ≡ past_by elements.now self.now) }
         ensures memory { IfErr result (λ e. e ≡ Refusal.Memory) }
     {

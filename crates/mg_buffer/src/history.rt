@@ -1,12 +1,10 @@
 //! What commands and undos did, oldest first.
 ghost use Rattle.std.specs.Prelude.{◌≡◌, ◌<◌, ◌≤◌, ◌+◌, [], true, false, map, length, IfOk, IfErr};
-ghost use Rattle.std.specs.List.{AllByRecursion, list_any};
 ghost use Rattle.std.specs.Vec.{vec_len, vec_capacity};
-ghost use Rattle.rga_ops.specs.Identifier.{is_id};
 ghost use Rattle.rga_doc.specs.UndoGroup.{inserted_elements};
 ghost use Rattle.mg_buffer.specs.Groups.{all_substituted, past_at, stand_in, with_group};
 ghost use Rattle.mg_buffer.specs.Room.{HasRoom};
-ghost use Rattle.mg_buffer.specs.Slots.{AreStandIns, deleted_ones, with_deleted, with_past};
+ghost use Rattle.mg_buffer.specs.Slots.{any_repeats, deleted_ones, with_deleted, with_past};
 
 use crate::change::Change;
 use crate::group::Group;
@@ -26,7 +24,7 @@ pub(crate) struct History {
 }
 
 impl Model for History {
-    ghost use Rattle.std.specs.Prelude.{◌-◌, vec_len, vec_capacity};
+    ghost use Rattle.std.specs.Prelude.{◌-◌, length, vec_len, vec_capacity};
     ghost use Rattle.std.specs.List.{AllByRecursion};
     ghost use Rattle.mg_buffer.specs.Slots.{IsFilled, PastList, pasts_by};
 
@@ -38,7 +36,8 @@ impl Model for History {
       room = vec_capacity h.groups - vec_len h.groups;
     } };
 
-    ghost invariant = { λ h. AllByRecursion (IsFilled h.elements.elements) h.groups.items };
+    ghost invariant = { λ h.
+        AllByRecursion (IsFilled (length h.elements.elements)) h.groups.items };
 }
 
 /// The slots of a group that is still empty.
@@ -132,9 +131,8 @@ impl History {
         requires inserted { inserted_elements ops.now ≡ change.now.inserted }
         requires restored { length (past_at self.old.pasts index).deleted
             ≡ length change.now.inserted }
-        requires stand_ins { let known = with_deleted self.old.slots.elements change.now in
-            AllByRecursion (λ b. list_any (is_id b.0) known ≡ true)
-            (past_at self.old.pasts index).deleted → AreStandIns known ops.now }
+        requires newcomers { any_repeats (with_deleted self.old.slots.elements change.now) ops.now
+            ≡ false }
         ensures pasts { self.new.pasts ≡ all_substituted (stand_in ops.now)
             (with_group self.old.pasts (record {
               inserted = deleted_ones (past_at self.old.pasts index).deleted;

@@ -64,6 +64,7 @@ impl KnownLine {
     };
 
     /// That of another place, so that no more is looked at than what stands between both.
+    #[tactic(auto, using(crate::proofs::LineLaws::lines_between))]
     pub(crate) fn moved(self, text: &[char], place: usize) -> KnownLine
         requires line { IsLineOfPlace text.now self }
         requires place { place ≤ length text.now }
@@ -80,6 +81,7 @@ impl KnownLine {
 
     /// The same where so many characters at the front stayed, and that of the front where its place
     /// is behind them.
+    #[tactic(auto, using(crate::proofs::LineLaws::line_in_front))]
     pub(crate) fn kept_in(self, front: usize) -> KnownLine
         ensures { (old new : List ℕ) → take front new ≡ take front old → IsLineOfPlace old self →
             IsLineOfPlace new result }

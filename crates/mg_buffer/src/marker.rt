@@ -3,7 +3,7 @@ ghost use Rattle.std.specs.Prelude.{◌≡◌, ◌≤◌, true, Some, length, If
 ghost use Rattle.std.specs.Option.{option_map, option_map_or};
 ghost use Rattle.rga_ops.specs.Prelude.{place, text};
 ghost use Rattle.rga_doc.specs.LocalEdit.{element_behind};
-ghost use Rattle.mg_buffer.specs.Kept.{IsPlaced, stands};
+ghost use Rattle.mg_buffer.specs.Kept.{stands};
 
 use rga_doc::{Anchor, Doc};
 use rga_ops::Id;
@@ -21,7 +21,7 @@ pub(crate) fn marker_at<S: TextStore>(doc: &Doc<S>, k: usize) -> Marker
     requires { k ≤ length (text doc.now.content) }
     ensures place { result.place ≡ k }
     ensures element { element_behind doc.now.content k ≡ Some result.element }
-    ensures placed { IsPlaced doc.now.content result }
+    ensures placed { place doc.now.content result.element ≡ Some result.place }
 {
     let anchor = doc.anchor_within(k);
     Marker {
@@ -35,7 +35,7 @@ pub(crate) fn mark_at<S: TextStore>(doc: &Doc<S>, k: Option<usize>) -> Option<Ma
     requires { IfSome k (λ n. n ≤ length (text doc.now.content)) }
     ensures element { option_map (element_behind doc.now.content) k
         ≡ option_map Some (option_map (λ s. s.element) result) }
-    ensures placed { IfSome result (IsPlaced doc.now.content) }
+    ensures placed { IfSome result (λ s. place doc.now.content s.element ≡ Some s.place) }
 {
     match k {
         Some(k) => Some(marker_at(doc, k)),
@@ -47,7 +47,7 @@ pub(crate) fn mark_at<S: TextStore>(doc: &Doc<S>, k: Option<usize>) -> Option<Ma
 pub(crate) fn find<S: TextStore>(doc: &Doc<S>, marker: Marker) -> Marker
     requires { stands doc.now.content marker ≡ true }
     ensures element { result.element ≡ marker.element }
-    ensures placed { IsPlaced doc.now.content result }
+    ensures placed { place doc.now.content result.element ≡ Some result.place }
 {
     let element = marker.element;
     match doc.place(Anchor { element }) {
@@ -60,7 +60,7 @@ pub(crate) fn find<S: TextStore>(doc: &Doc<S>, marker: Marker) -> Marker
 pub(crate) fn find_mark<S: TextStore>(doc: &Doc<S>, mark: Option<Marker>) -> Option<Marker>
     requires { option_map_or (stands doc.now.content) mark true ≡ true }
     ensures element { option_map (λ s. s.element) result ≡ option_map (λ s. s.element) mark }
-    ensures placed { IfSome result (IsPlaced doc.now.content) }
+    ensures placed { IfSome result (λ s. place doc.now.content s.element ≡ Some s.place) }
 {
     match mark {
         Some(marker) => Some(find(doc, marker)),

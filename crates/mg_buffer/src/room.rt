@@ -11,7 +11,8 @@ use rga_store::TextStore;
 use std::alloc::Global;
 
 /// What operations do to what a store holds, with room for the group of it, and for them among the
-/// unsaved ones; `restores` says whether what they insert stands for other elements. `Memory` alone; groups, elements and unsaved ones stay.
+/// unsaved ones; `restores` says whether what they insert stands for other elements. `Memory`
+/// alone; groups, elements and unsaved ones stay.
 pub(crate) fn prepare<S: TextStore>(
     alloc: Global,
     store: &S,

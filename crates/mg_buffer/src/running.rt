@@ -67,6 +67,7 @@ impl<S: TextStore> Buffer<S> {
 
     /// Makes the splices, and puts point and mark at places of the new text. `Full`, `Range`,
     /// `Clock`, `Memory`, as the document has them.
+    #[tactic(auto, using(crate::proofs::LineLaws::least_within))]
     fn edit(&mut self, splices: &[Splice], point: usize, mark: Option<usize>) -> Result<(), Refusal>
         requires point { point ≤ length (text_after (text self.old.content) splices.now) }
         requires mark { IfSome mark

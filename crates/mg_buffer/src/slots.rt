@@ -1,11 +1,11 @@
 //! Slots, each of which stands for an element, and later for the one that restores it.
-ghost use Rattle.std.specs.Prelude.{◌≡◌, ◌<◌, ◌≤◌, ◌+◌, ℕ, [], ◌∷◌, map, length};
+ghost use Rattle.std.specs.Prelude.{◌≡◌, ◌<◌, ◌≤◌, ◌+◌, [], ◌∷◌, true, false, if◌then◌else◌, map, length};
 ghost use Rattle.std.specs.List.{AllByRecursion};
 ghost use Rattle.std.specs.Vec.{vec_capacity};
 ghost use Rattle.rga_doc.specs.UndoGroup.{inserted_elements};
 ghost use Rattle.mg_slots.specs.Slots.{IsRow, first_counter, with_elements};
 ghost use Rattle.mg_buffer.specs.Groups.{instead, stand_in};
-ghost use Rattle.mg_buffer.specs.Slots.{AreStandIns, HasSpace, HasSpaceFor, IsStandIn, deleted_at_slot, deleted_ones, element_at_slot};
+ghost use Rattle.mg_buffer.specs.Slots.{any_repeats, deleted_at_slot, deleted_ones, element_at_slot, repeats};
 
 use mg_slots::Slots;
 use rga_ops::{Id, Op};
@@ -14,12 +14,17 @@ use rga_ops::{Id, Op};
 pub(crate) fn push_inserted(slots: &mut Vec<usize>, elements: &mut Slots, ids: &[Id], is_row: bool)
     requires empty { slots.old.items ≡ [] }
     requires room { length ids.now ≤ vec_capacity slots.old }
-    requires space { HasSpaceFor elements.old is_row ids.now 0 }
+    requires places { length ids.now ≤ elements.old.room }
+    requires entries { (if is_row then 0 else length ids.now) ≤ elements.old.entries }
+    requires rows { 0 < elements.old.rows }
+    requires row { is_row ≡ true → IsRow ids.now }
+    requires above { is_row ≡ true → elements.old.greatest < first_counter ids.now }
     ensures slots { map (element_at_slot elements.new.elements) slots.new.items ≡ ids.now }
     ensures filled { AllByRecursion (λ s. s < length elements.new.elements) slots.new.items }
     ensures elements { elements.new.elements ≡ with_elements elements.old.elements ids.now }
-    ensures space { (more : ℕ) → HasSpaceFor elements.old is_row ids.now more →
-        HasSpace elements.new more }
+    ensures places { elements.old.room ≤ elements.new.room + length ids.now }
+    ensures entries { elements.old.entries
+        ≤ elements.new.entries + (if is_row then 0 else length ids.now) }
 {
     if is_row {
         push_row(slots, elements, ids);
@@ -74,7 +79,8 @@ pub(crate) fn push_deleted(
 )
     requires empty { slots.old.items ≡ [] }
     requires room { length deleted.now ≤ vec_capacity slots.old }
-    requires space { HasSpace elements.old (length deleted.now) }
+    requires places { length deleted.now ≤ elements.old.room }
+    requires entries { length deleted.now ≤ elements.old.entries }
     ensures slots { map (deleted_at_slot elements.new.elements) slots.new.items ≡ deleted.now }
     ensures filled { AllByRecursion (λ b. b.0 < length elements.new.elements) slots.new.items }
     ensures elements { elements.new.elements
@@ -99,7 +105,7 @@ pub(crate) fn push_same(slots: &mut Vec<usize>, deleted: &[(usize, char)])
 
 /// Puts what restores an element into its slot, by each operation in turn. There is room.
 pub(crate) fn replace_all(elements: &mut Slots, ops: &[Op])
-    requires stand_ins { AreStandIns elements.old.elements ops.now }
+    requires newcomers { any_repeats elements.old.elements ops.now ≡ false }
     requires entries { length (inserted_elements ops.now) ≤ elements.old.entries }
     ensures { elements.new.elements ≡ map (stand_in ops.now) elements.old.elements }
 {
@@ -109,8 +115,9 @@ pub(crate) fn replace_all(elements: &mut Slots, ops: &[Op])
 }
 
 /// Puts what an operation restores an element by into its slot, if it does. There is room.
+#[tactic(auto, using(crate::proofs::SlotLaws::deletion_replaces_nothing))]
 fn replace_by(elements: &mut Slots, op: &Op)
-    requires able { IsStandIn elements.old.elements op.now }
+    requires newcomer { repeats elements.old.elements op.now ≡ false }
     requires entries { length (inserted_elements (op.now ∷ [])) ≤ elements.old.entries }
     ensures elements { elements.new.elements ≡ map (instead op.now) elements.old.elements }
     ensures entries { elements.old.entries

@@ -20,6 +20,7 @@ impl<S: TextStore> Taker for Buffer<S> {
 
     ghost follows_on = { λ b d e xs ys f g. takes_more_operations f g };
 
+    #[tactic(auto, using(crate::proofs::TakingLaws::refused))]
     fn apply(&mut self, op: Op) -> Result<Taken, Refusal> {
         if answer_at(self.doc.store(), op)? == Taken::Known {
             return Ok(Taken::Known);
@@ -32,6 +33,7 @@ impl<S: TextStore> Taker for Buffer<S> {
         Ok(Taken::New)
     }
 
+    #[tactic(auto, using(crate::proofs::TakingLaws::refused))]
     fn apply_all(&mut self, ops: &[Op]) -> Result<(), Refusal> {
         early_answer_at(self.doc.store(), ops)?;
         let new = new_operations_at(self.alloc, self.doc.store(), ops)?;

@@ -22,7 +22,7 @@ use rga_ops::{Id, Refusal};
 use rga_store::TextStore;
 
 impl<S: TextStore> Buffer<S> {
-    /// Undoes the newest group, or in a run of undos the group before the one that was undone last:
+    /// Undoes the greatest_counter group, or in a run of undos the group before the one that was undone last:
     /// takes the operations of its revert, which are unsaved then, and a group of their own where
     /// there are any. From then on each restored element stands in every group for the one that it
     /// restores. Point goes behind the last element inserted, else behind the first deleted, else
@@ -74,6 +74,7 @@ impl<S: TextStore> Buffer<S> {
     }
 
     /// The same by what the group did, and a line that is known.
+    #[tactic(auto, using(rga_doc::proofs::UndoLists::as_many_inserted))]
     fn revert_change(
         &mut self,
         index: usize,

@@ -97,7 +97,7 @@ module _ (old new : Identifier) where
     | false ↦ λ _. refl
   ] refl
 
-  others_stay : (xs : List Identifier) → ((i : ℕ) → slice_get xs i ≡ Some old → ⊥) → map instead xs ≡ xs
+  pub others_stay : (xs : List Identifier) → ((i : ℕ) → slice_get xs i ≡ Some old → ⊥) → map instead xs ≡ xs
   others_stay [] none = refl
   others_stay (x ∷ xs) none = λ k. other_stays x (λ e. none zero (ap Some e)) k ∷ others_stay xs (λ i. none (suc i)) k
 

@@ -140,9 +140,8 @@ impl Slots {
         slot
     }
 
-    /// Puts another element into the slot of one. There is room.
+    /// Puts another element into the slot of one, if it has one. There is room.
     pub fn replace(&mut self, old: Id, new: Id)
-        requires there { list_any (is_id old) self.old.elements ≡ true }
         requires newcomer { list_any (is_id new) self.old.elements ≡ false }
         requires entries { 0 < self.old.entries }
         ensures elements { self.new.elements

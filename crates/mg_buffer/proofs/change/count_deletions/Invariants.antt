@@ -1,4 +1,4 @@
-use Rattle.std.proofs.Common.{◌≤◌}
+use Rattle.mg_buffer.proofs.Prelude.{◌≤◌}
 use Rattle.mg_buffer.proofs.change.count_deletions.Given as goal
 
 -- of the operations so far

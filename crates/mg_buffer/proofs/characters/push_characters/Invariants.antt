@@ -1,4 +1,4 @@
-use Rattle.std.proofs.Common.{◌≡◌, ◌++◌, drop, string_bytes, encode_utf8_all}
+use Rattle.mg_buffer.proofs.Prelude.{◌≡◌, ◌++◌, drop, string_bytes, encode_utf8_all}
 use Rattle.mg_buffer.proofs.characters.push_characters.Given as goal
 
 abbrev pub invariant-loop-c : goal.invariant-loop-c

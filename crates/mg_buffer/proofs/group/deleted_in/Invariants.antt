@@ -1,5 +1,4 @@
-use Rattle.std.proofs.Common.{◌≡◌, map, take}
-use Rattle.mg_buffer.specs.Slots.{deleted_at_slot}
+use Rattle.mg_buffer.proofs.Prelude.{◌≡◌, map, take, deleted_at_slot}
 use Rattle.mg_buffer.proofs.group.deleted_in.Given as goal
 
 abbrev pub invariant-loop-slot : goal.invariant-loop-slot

@@ -1,5 +1,4 @@
-use Rattle.std.proofs.Common.{◌≡◌, map, take}
-use Rattle.mg_buffer.specs.Slots.{element_at_slot}
+use Rattle.mg_buffer.proofs.Prelude.{◌≡◌, map, take, element_at_slot}
 use Rattle.mg_buffer.proofs.group.elements_in.Given as goal
 
 abbrev pub invariant-loop-slot : goal.invariant-loop-slot

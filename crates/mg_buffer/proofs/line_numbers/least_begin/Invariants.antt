@@ -1,5 +1,4 @@
-use Rattle.std.proofs.Common.{◌≡◌, drop}
-use Rattle.mg_buffer.specs.LineNumbers.{least_begin}
+use Rattle.mg_buffer.proofs.Prelude.{◌≡◌, drop, least_begin}
 use Rattle.mg_buffer.proofs.line_numbers.least_begin.Given as goal
 
 abbrev pub invariant-loop-splice : goal.invariant-loop-splice

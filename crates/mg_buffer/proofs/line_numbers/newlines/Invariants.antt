@@ -1,4 +1,4 @@
-use Rattle.std.proofs.Common.{◌≡◌, ◌≤◌, ◌+◌, length, count_by}
+use Rattle.mg_buffer.proofs.Prelude.{◌≡◌, ◌≤◌, ◌+◌, length, count_by}
 use Rattle.mg_text.specs.Characters.{is_newline}
 use Rattle.mg_buffer.proofs.line_numbers.newlines.Given as goal
 

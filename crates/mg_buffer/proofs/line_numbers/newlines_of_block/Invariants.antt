@@ -1,4 +1,4 @@
-use Rattle.std.proofs.Common.{◌≡◌, take, count_by}
+use Rattle.mg_buffer.proofs.Prelude.{◌≡◌, take, count_by}
 use Rattle.mg_text.specs.Characters.{is_newline}
 use Rattle.mg_buffer.proofs.line_numbers.newlines_of_block.Given as goal
 

@@ -1,5 +1,4 @@
-use Rattle.std.proofs.Common.{◌≡◌, ◌<◌, ◌≤◌, ◌+◌, ℕ, map, take, drop, length, vec_len, vec_capacity}
-use Rattle.mg_buffer.proofs.Prelude.{AllByRecursion, with_elements, deleted_at_slot, deleted_ones}
+use Rattle.mg_buffer.proofs.Prelude.{◌≡◌, ◌<◌, ◌≤◌, ◌+◌, ℕ, map, take, drop, length, vec_len, vec_capacity, AllByRecursion, with_elements, deleted_at_slot, deleted_ones}
 use Rattle.mg_buffer.proofs.slots.push_deleted.Given as goal
 
 -- the slots so far are those of the elements so far, and those that are left are still to go in

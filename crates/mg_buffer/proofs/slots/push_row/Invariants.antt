@@ -1,5 +1,4 @@
-use Rattle.std.proofs.Common.{◌≡◌, ◌≤◌, ◌<◌, ◌-◌, ◌+◌, map, take, length, vec_len, vec_capacity}
-use Rattle.mg_buffer.proofs.Prelude.{AllByRecursion, element_at_slot}
+use Rattle.mg_buffer.proofs.Prelude.{◌≡◌, ◌≤◌, ◌<◌, ◌-◌, ◌+◌, map, take, length, vec_len, vec_capacity, AllByRecursion, element_at_slot}
 use Rattle.mg_buffer.proofs.slots.push_row.Given as goal
 
 -- the slots so far are those of as many elements

@@ -1,4 +1,4 @@
-use Rattle.std.proofs.Common.{◌≡◌, ◌≤◌, ℕ, map, take, vec_len, vec_capacity}
+use Rattle.mg_buffer.proofs.Prelude.{◌≡◌, ◌≤◌, ℕ, map, take, vec_len, vec_capacity}
 use Rattle.mg_buffer.proofs.slots.push_same.Given as goal
 
 abbrev pub invariant-loop-slot : goal.invariant-loop-slot

@@ -1,5 +1,4 @@
-use Rattle.std.proofs.Common.{◌≡◌, ◌<◌, ◌≤◌, ◌+◌, map, take, drop, length, vec_len, vec_capacity}
-use Rattle.mg_buffer.proofs.Prelude.{AllByRecursion, with_elements, element_at_slot}
+use Rattle.mg_buffer.proofs.Prelude.{◌≡◌, ◌<◌, ◌≤◌, ◌+◌, map, take, drop, length, vec_len, vec_capacity, AllByRecursion, with_elements, element_at_slot}
 use Rattle.mg_buffer.proofs.slots.push_slots.Given as goal
 
 -- the slots so far are those of the elements so far, and those that are left are still to go in

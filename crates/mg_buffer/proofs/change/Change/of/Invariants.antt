@@ -1,4 +1,4 @@
-use Rattle.std.proofs.Common.{◌≡◌, ◌++◌, drop}
+use Rattle.mg_buffer.proofs.Prelude.{◌≡◌, ◌++◌, drop}
 use Rattle.rga_doc.specs.UndoGroup.{inserted_elements, deleted_elements, element_characters}
 use Rattle.mg_buffer.proofs.change.Change.of.Given as goal
 

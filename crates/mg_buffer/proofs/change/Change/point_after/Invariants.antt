@@ -1,5 +1,4 @@
-use Rattle.std.proofs.Common.{◌≡◌, drop}
-use Rattle.mg_buffer.specs.Groups.{last_of}
+use Rattle.mg_buffer.proofs.Prelude.{◌≡◌, drop, last_of}
 use Rattle.mg_buffer.proofs.change.Change.point_after.Given as goal
 
 -- the last of those that are left is the last of all

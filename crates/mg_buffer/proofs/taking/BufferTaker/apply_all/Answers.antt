@@ -1,37 +1,15 @@
-use Rattle.std.proofs.Common.{rules, arith, ◌≡◌, ℕ, Bool, true, false, cond, List, [], ◌++◌, refl, sym, ap, ◌∙◌, subst, Option, Some, None, Ok, Err, nat_le, true≢false}
+use Rattle.mg_buffer.proofs.Prelude.{arith, ◌≡◌, [], refl, sym, ap, ◌∙◌, subst, join, content_of, Document}
 use Rattle.std.proofs.lemmas.Grind.{common_steps}
-use Rattle.std.proofs.lemmas.Result.{MatchResult-from_err, err_from_is_err_and}
-use Rattle.rga_ops.specs.NewOperations.{new_operations}
+use Rattle.std.proofs.lemmas.Result.{err_from_is_err_and}
+use Rattle.rga_ops.specs.declared.refusal.Refusal.TheVariants.{Memory}
 use Rattle.rga_ops.proofs.AnswerLaws.{bad}
 use Rattle.rga_ops.proofs.ContentLaws.{join_nothing}
 use Rattle.rga_doc.specs.Following.{Follows}
-use Rattle.mg_buffer.proofs.Prelude.{Identifier, Content, known_count, join, content_of, text, Op, Document, State}
-use Rattle.mg_buffer.specs.Following.{takes_no_operations}
-use Rattle.mg_buffer.proofs.KeptLaws.{kept_joined, kept_still}
-use Rattle.mg_buffer.proofs.LineLaws.{first_line}
-use Rattle.mg_buffer.proofs.TakingLaws.{takes, takes_nothing}
-use Rattle.rga_ops.specs.ListAnswer.{Verdict, and_check, all_checked, union_answer, first_conflict, list_answer}
-use Rattle.rga_ops.specs.declared.refusal.Refusal.TheVariants.{Conflict, Full, Memory}
-use Rattle.rga_ops.proofs.ListSteps.{checked_without_memory}
+use Rattle.mg_buffer.proofs.KeptLaws.{kept_still, kept_taken}
+use Rattle.mg_buffer.proofs.TakingLaws.{list_without_memory}
 use Rattle.mg_buffer.proofs.taking.BufferTaker.apply_all.Given.{Over}
 use Rattle.mg_buffer.proofs.taking.BufferTaker.apply_all.Goals.{After-from_residual}
 use Rattle.mg_buffer.proofs.taking.BufferTaker.apply_all.Goals as goal
-
--- a list is never refused for want of memory by what is due
-list_without_memory : (limit : ℕ) (c : Content) (ops : List Op) → list_answer limit c ops ≡ bad Memory → ⊥
-list_without_memory limit c ops = by (all_checked ops) refl
-  where
-    room : (b : Bool) → cond b (Ok tt) (bad Full) ≡ bad Memory → ⊥
-    room true h = let clash : Ok tt ≡ bad Memory = h in cc
-    room false h = let clash : bad Full ≡ bad Memory = h in cc
-
-    union : (o : Option Identifier) → union_answer limit o (join c (content_of ops)) ≡ bad Memory → ⊥
-    union (Some id) h = let clash : bad (Conflict id) ≡ bad Memory = h in cc
-    union None h = room (nat_le (known_count (join c (content_of ops))) limit) h
-
-    by : (v : Verdict) → all_checked ops ≡ v → and_check v (union_answer limit (first_conflict c ops) (join c (content_of ops))) ≡ bad Memory → ⊥
-    by (Ok u) e h = union (first_conflict c ops) h
-    by (Err x) e h = checked_without_memory ops (e ∙ h)
 
 -- what the early answer refuses is not refused for want of memory
 never : (g : Over) (c : After-from_residual g) → c.from_residual.result ≡ bad Memory → ⊥
@@ -45,24 +23,6 @@ returns-in_err-early_answer_at-clause-memory g c = λ h. absurd (never g c h)
 pub returns-in_err-early_answer_at-clause-early : goal.returns-in_err-early_answer_at-clause-early
 returns-in_err-early_answer_at-clause-early g c = λ h. absurd (never g c h)
 
-pub returns-in_err-early_answer_at-clause-follows : goal.returns-in_err-early_answer_at-clause-follows
-returns-in_err-early_answer_at-clause-follows g c = MatchResult-from_err c.from_residual.result _ _ c.from_residual.ensures.0 (λ _. takes_no_operations c.args.self.now)
-
-pub returns-in_err-new-clause-follows : goal.returns-in_err-new-clause-follows
-returns-in_err-new-clause-follows g c = MatchResult-from_err c.from_residual-in_err-new.result _ _ c.from_residual-in_err-new.ensures.0 (λ _. takes_no_operations c.args.self.now)
-
-pub returns-in_err-reserve-clause-follows : goal.returns-in_err-reserve-clause-follows
-returns-in_err-reserve-clause-follows g c =
-    MatchResult-from_err c.from_residual-in_err-reserve.result _ _ c.from_residual-in_err-reserve.ensures.0
-    (λ _. takes_nothing _ c.args.self.now c.self.inside.doc _ c.self.view_is refl refl refl c.reserve.ensures.items)
-
-pub returns-in_err-apply_all-clause-follows : goal.returns-in_err-apply_all-clause-follows
-returns-in_err-apply_all-clause-follows g c =
-    let stays : c.apply_all.new.self.content ≡ c.self.inside.doc.content = search rules in
-    let follows : Follows c.self.inside.doc [] c.apply_all.new.self = c.in_err-apply_all.ensures.follows in
-    MatchResult-from_err c.from_residual-in_err-apply_all.result _ _ c.from_residual-in_err-apply_all.ensures.0
-    (λ _. takes_nothing _ c.args.self.now c.apply_all.new.self _ c.self.view_is stays c.apply_all.ensures.limit follows.replica c.reserve.ensures.items)
-
 -- where there was no operation the document is as it was
 pub invariant_of-self-then-is_empty : goal.invariant_of-self-then-is_empty
 invariant_of-self-then-is_empty g c =
@@ -75,23 +35,4 @@ invariant_of-self-then-is_empty g c =
 
 pub invariant_of-self-2 : goal.invariant_of-self-2
 invariant_of-self-2 g c =
-    kept_joined c.self.inside.doc c.apply_all.new.self c.self.inside.point c.self.inside.line c.self.inside.mark c.self.inside.history c.self.inside.history c.self.inside.listed c.self.invariant refl refl
-    (content_of c.args.ops.now) _ false (c.in_ok-apply_all.ensures.whole refl) (first_line (text c.apply_all.new.self.content) _ refl refl) (λ never. absurd (true≢false (sym never)))
-
-pub returns-clause-follows : goal.returns-clause-follows
-returns-clause-follows g c =
-    let before : State = c.args.self.now in
-    let ops : List Op = c.args.ops.now in
-    let whole : c.apply_all.new.self.content ≡ join before.content (content_of ops) =
-    c.in_ok-apply_all.ensures.whole refl ∙ ap (λ (b : State). join b.content (content_of ops)) c.self.view_is in
-    let new : c.in_ok-new.new.items ≡ new_operations before.content ops = search rules in
-    let follows : Follows c.self.inside.doc ops c.apply_all.new.self = c.in_ok-apply_all.ensures.follows in
-    takes _ before c.apply_all.new.self c.add_all.new.all.items ops c.self.view_is whole
-    (c.apply_all.ensures.limit ∙ ap (λ (b : State). b.limit) c.self.view_is) (follows.replica ∙ ap (λ (b : State). b.replica) c.self.view_is)
-    (c.add_all.ensures ∙ (λ k. (c.reserve.ensures.items ∙ ap (λ (b : State). b.unsaved) c.self.view_is) k ++ (c.deref.ensures.value ∙ new) k))
-
-pub returns-clause-whole : goal.returns-clause-whole
-returns-clause-whole g c = λ _. c.in_ok-apply_all.ensures.whole refl ∙ ap (λ (b : State). join b.content (content_of c.args.ops.now)) c.self.view_is
-
-pub returns-clause-same : goal.returns-clause-same
-returns-clause-same g c = λ other. absurd (other refl)
+    kept_taken c.self.inside.doc c.apply_all.new.self c.self.inside.point c.self.inside.line _ c.self.inside.mark c.self.inside.history c.self.inside.listed (content_of c.args.ops.now) c.self.invariant (c.in_ok-apply_all.ensures.whole refl) refl refl

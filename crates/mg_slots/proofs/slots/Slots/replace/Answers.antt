@@ -1,8 +1,8 @@
-use Rattle.std.proofs.Common.{◌≡◌, Some, false, cond, List, map, ap, ◌∙◌, sym, arith}
+use Rattle.std.proofs.Common.{rules, ◌≡◌, Some, false, cond, List, map, ap, ◌∙◌, sym, arith}
 use Rattle.std.specs.List.{slice_get, list_any}
 use Rattle.rga_ops.specs.Identifier.{Identifier, is_id}
 use Rattle.mg_slots.specs.Slots.{SlotList}
-use Rattle.mg_slots.proofs.ListLaws.{instead, replaced_is}
+use Rattle.mg_slots.proofs.ListLaws.{instead, not_at, others_stay, replaced_is}
 use Rattle.mg_slots.proofs.FoundLaws.{slot_replaced}
 use Rattle.mg_slots.proofs.slots.Slots.replace.Goals as goal
 
@@ -23,3 +23,10 @@ returns-in-Some-clause-elements c =
     replaced_is c.args.old c.args.new xs c.in-Some.slot (ap (λ ys. slice_get ys c.in-Some.slot) own ∙ c.in-Some.ensures.there)
     (λ i at. c.in-Some.ensures.alone i (ap (λ ys. slice_get ys i) (sym own) ∙ at))
     ∙ ap (map (instead c.args.old c.args.new)) own
+
+-- what has no slot is nowhere, so that all stay
+pub returns-in_default-clause-elements : goal.returns-in_default-clause-elements
+returns-in_default-clause-elements c =
+    let xs : List Identifier = c.args.self.now.elements in
+    let none : list_any (is_id c.args.old) xs ≡ false = search rules in
+    sym (others_stay c.args.old c.args.new xs (λ i at. not_at c.args.old xs i none at))
