@@ -10,7 +10,7 @@ returns-in_err-say g c =
     let b = c.args.opened.now in
     let brief : b.brief ≡ true = sym c.is_brief.ensures ∙ search rules in
     let is : c.from_residual-in_err-say.result ≡ Err (Send c.in_err-say.field-0.0) = search rules in
-    subst (λ (r : Result (Option Summary) ExchangeFault). Asks _ Waits b c.args.link.now c.say.new.writer r) (sym is)
+    subst (λ (r : Result (Option Summary) ExchangeFault). Asks _ r Waits b c.args.link.now c.say.new.writer) (sym is)
     (brief, (c.in_ok-peer.peer, record { mid = c.learn.new.reader; learns = c.in_ok-peer.ensures; says = c.in_err-say.ensures b.buffer.content c.own_lines-lines.ensures }))
 
 pub returns : goal.returns

@@ -10,7 +10,7 @@ returns-in_err-say g c =
     let b = c.args.opened.now in
     let brief : b.brief ≡ true = sym c.is_brief.ensures ∙ search rules in
     let is : c.from_residual.result ≡ Err (Send c.in_err-say.field-0.0) = search rules in
-    subst (λ (r : Result (Option Summary) ExchangeFault). Asks _ Connects b c.args.link.now c.say.new.writer r) (sym is)
+    subst (λ (r : Result (Option Summary) ExchangeFault). Asks _ r Connects b c.args.link.now c.say.new.writer) (sym is)
     (brief, c.in_err-say.ensures b.buffer.content c.own_lines.ensures)
 
 pub returns-in_err-peer : goal.returns-in_err-peer
@@ -18,7 +18,7 @@ returns-in_err-peer g c =
     let b = c.args.opened.now in
     let brief : b.brief ≡ true = sym c.is_brief.ensures ∙ search rules in
     let is : c.from_residual-in_err-peer.result ≡ Err (Receive c.in_err-peer.field-0.0) = search rules in
-    subst (λ (r : Result (Option Summary) ExchangeFault). Asks _ Connects b c.args.link.now c.learn.new.reader r) (sym is)
+    subst (λ (r : Result (Option Summary) ExchangeFault). Asks _ r Connects b c.args.link.now c.learn.new.reader) (sym is)
     (brief, record { mid = c.say.new.writer; says = c.in_ok-say.ensures b.buffer.content c.own_lines.ensures; learns = c.in_err-peer.ensures })
 
 pub returns : goal.returns
