@@ -1,5 +1,5 @@
 -- What is loaded from the files under a name, and why nothing is.
-use Rattle.std.specs.Prelude.{◌≡◌, ℕ, ◌==◌, nat_lt, Bool, true, false, List, [], length, Option, Some, None, Result, Ok, Err, chars, if◌then◌else◌}
+use Rattle.std.specs.Prelude.{ℕ, ◌==◌, nat_lt, Bool, true, false, List, [], length, Option, Some, None, Result, Ok, Err, chars, if◌then◌else◌}
 use Rattle.std.specs.Str.{is_utf8}
 use Rattle.rga_ops.specs.Content.{Content, nothing, content_of}
 use Rattle.rga_ops.specs.declared.op.Op.{Op}
