@@ -166,15 +166,12 @@ no_peer wire Waits b old new (Some peer) is asks = absurd (true≢false (sym ask
 
 -- ---- a summary that is heard as it was told
 
-abbrev knows : Summary → Result Summary ReceiveFault
-knows s = Ok s
-
 heard_as_told : {L M : Type 0} (remaining : L → Option (List ℕ)) (contents : M → Option (List ℕ)) (link new : Calls L) (old next : Calls M) (c : Content) (peer : Summary)
     → Tells remaining contents link.inner old.inner next.inner → TellsSummary contents old next c → LearnsOver remaining link new (Ok peer) → IsSummary c peer
 heard_as_told remaining contents link new old next c peer t told learns =
-    let heard : summary_heard t.bytes ≡ knows peer = subst (λ k. IfSome k (λ bytes. summary_heard bytes ≡ knows peer)) t.told (learns.outcome (not_both peer Read _ refl) (not_both peer Memory _ refl)) in
-    let same : knows told.own ≡ knows peer = sym told.heard ∙ ap summary_heard (sym (tells_all remaining contents link.inner old next (summary_text told.own) t told.written)) ∙ heard in
-    subst (IsSummary c) (one_value told.own peer _ refl same) told.is
+    let heard : summary_heard t.bytes ≡ Ok peer = subst (λ k. IfSome k (λ bytes. summary_heard bytes ≡ Ok peer)) t.told (learns.outcome (not_both peer Read _ refl) (not_both peer Memory _ refl)) in
+    let same : summary_heard t.bytes ≡ Ok told.own = ap summary_heard (tells_all remaining contents link.inner old next (summary_text told.own) t told.written) ∙ told.heard in
+    subst (IsSummary c) (one_value told.own peer _ same heard) told.is
 
 module _ {L M : Type 0} (a : Account L) (b d : OpenState) (their : Account M) (their_b their_d : OpenState) where
   pub meet : Meet a b d their their_b their_d → b.brief ≡ false → their_b.brief ≡ false → IsSound b.buffer.content → IsSound their_b.buffer.content

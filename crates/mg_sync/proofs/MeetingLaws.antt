@@ -66,10 +66,8 @@ gains_on b d e f g = record {
 
 gains_met : {old new : Option (List Call)} {b d : OpenState} {made : List Call} (kept : Result Bool PortFault) → Meets old new b d made kept → Gains b.buffer d.buffer
 gains_met {new = new} {b} {d} kept m =
-    let took : Gains (saved b).buffer m.met.buffer = record {
-      within = subst (λ c. IsWithin (saved b).buffer.content c) (sym m.took.content) (within_join (saved b).buffer.content (content_of m.ops));
-      rest = m.took.rest;
-    } in
+    let within = subst (λ c. IsWithin (saved b).buffer.content c) (sym m.took.content) (within_join (saved b).buffer.content (content_of m.ops)) in
+    let took : Gains (saved b).buffer m.met.buffer = record { within = within; rest = m.took.rest } in
     gains_on b.buffer (saved b).buffer d.buffer (if_gains (has_unsaved b) b) (gains_on (saved b).buffer m.met.buffer d.buffer took (saves_gain kept m.mid new m.met d m.saves))
 
 -- ---- how an exchange ended says all of it
@@ -112,10 +110,8 @@ hears_first peer asked heard same opens behind is asks hears = record { peer = p
 -- then what is told to it was sent
 pub then_sends : {L : Type 0} {a : Account L} {s met : OpenState} {heard : Result ℕ ReceiveFault} {answer : Result ℕ SendFault} {link : L} {writer : Calls L} (c : Content) (first : HearsFirst a s heard met) (sent : Calls L)
     → link ≡ first.heard.inner → writer ≡ counted link → SendsOver first.peer a.wire.contents writer sent answer c → ThenSends a s first answer c
-then_sends {a = a} {answer = answer} c first sent is fresh sends = record {
-  sent = sent;
-  sends = subst (λ x. SendsOver first.peer a.wire.contents x sent answer c) (fresh ∙ ap counted is) sends;
-}
+then_sends {a = a} {answer = answer} c first sent is fresh sends =
+    record { sent = sent; sends = subst (λ x. SendsOver first.peer a.wire.contents x sent answer c) (fresh ∙ ap counted is) sends }
 
 -- The buffer was saved before anything else.
 module _ {L : Type 0} (a : Account L) {b s : OpenState} {changed : Bool} {calls : Option (List Call)} (first : IsSaved changed a.calls calls b s) where
@@ -155,11 +151,12 @@ module _ {L : Type 0} (a : Account L) {b s : OpenState} {changed : Bool} {calls 
       saves = keeps;
     }
 
-    pub turned : {answer : Result Exchanged ExchangeFault} {n : ℕ} → answer ≡ whole_answer (Ok n) (peer_answer heard kept) → Adds calls mid (link_call Connect ∷ link_call Finish ∷ []) → ThenHears a s n heard met → ExchangesOver a b d Connects answer
-    turned {n = n} is adds h =
+    pub turned : {answer : Result Exchanged ExchangeFault} {r : Result ℕ ExchangeFault} {n : ℕ} → answer ≡ whole_answer (Ok n) r → r ≡ peer_answer heard kept → Adds calls mid (link_call Connect ∷ link_call Finish ∷ [])
+        → ThenHears a s n heard met → ExchangesOver a b d Connects answer
+    turned {n = n} is answered adds h =
         let own = subst (λ x. ThenHears a x n heard met) first.left h in
         let m = meets (link_call Connect ∷ link_call Finish ∷ []) adds own.hears in
-        over {a = a} {b = b} {d = d} Connects (Met (Ok n) heard kept) is m (gains_met kept m) own
+        over {a = a} {b = b} {d = d} Connects (Met (Ok n) heard kept) (is ∙ ap (whole_answer (Ok n)) answered) m (gains_met kept m) own
 
     pub waited : {answer : Result Exchanged ExchangeFault} {r : Result ℕ ExchangeFault} (sent : Result ℕ SendFault) → answer ≡ whole_answer sent r → r ≡ peer_answer heard kept → Adds calls mid (link_call Accept ∷ []) → (h : HearsFirst a s heard met)
         → MatchResult r (λ _. ThenSends a s h sent d.buffer.content) (λ _. sent ≡ Ok 0) → ExchangesOver a b d Waits answer

@@ -8,14 +8,13 @@ use Rattle.mg_sync.proofs.server.serve.Goals as goal
 
 pub returns-in_err-save-clause-serves : goal.returns-in_err-save-clause-serves
 returns-in_err-save-clause-serves g c =
-    let e = c.in_err-save.ensures in
-    over Waits (Unsaved c.in_err-save.field-0.0) (search rules) e.saves (saves_gain (Err c.in_err-save.field-0.0) _ _ _ _ e.saves) e.links
+    over Waits (Unsaved c.in_err-save.field-0.0) (search rules) c.in_err-save.ensures.saves (saves_gain (Err c.in_err-save.field-0.0) _ _ _ _ c.in_err-save.ensures.saves) c.in_err-save.ensures.links
 
 pub returns-in_err-accept-clause-serves : goal.returns-in_err-accept-clause-serves
 returns-in_err-accept-clause-serves g c =
     let e = c.in_ok-save.ensures in
-    let o = c.in_err-accept.ensures in
-    ends _ e.saves Waits (Unopened c.in_err-accept.field-0.0) (link_refusals c.in_err-accept.field-0.0 (link_call Accept)) (search rules) o.tells (λ left. (left, o.links ∙ e.links))
+    ends _ e.saves Waits (Unopened c.in_err-accept.field-0.0) (link_refusals c.in_err-accept.field-0.0 (link_call Accept)) (search rules)
+    c.in_err-accept.ensures.tells (λ left. (left, c.in_err-accept.ensures.links ∙ e.links))
 
 pub returns-in_err-peer-clause-serves : goal.returns-in_err-peer-clause-serves
 returns-in_err-peer-clause-serves g c =
