@@ -1,2 +1,1 @@
 pub mod LoadedLaws
-pub mod SaveLaws

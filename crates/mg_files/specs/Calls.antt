@@ -60,9 +60,9 @@ abbrev pub link_told : {A : Type 0} → Result A LinkFault → Call → List Cal
 link_told (Ok a) c = c ∷ []
 link_told (Err fault) c = link_refusals fault c
 
--- a port that tells its calls tells these more
-abbrev pub Adds : Option (List Call) → Option (List Call) → List Call → Type 0
-Adds old new more = IfSome old (λ calls. new ≡ Some (calls ++ more))
+-- a port that tells its calls, or its links, tells these more
+abbrev pub Adds : {A : Type 0} → Option (List A) → Option (List A) → List A → Type 0
+Adds old new more = IfSome old (λ told. new ≡ Some (told ++ more))
 
 -- how many calls failed, after one that is answered so
 abbrev pub failures_after : {A : Type 0} → Result A PortFault → ℕ → ℕ

@@ -1,10 +1,6 @@
 -- The links that a port opens.
-use Rattle.std.specs.Prelude.{◌≡◌, ℕ, List, [], ◌∷◌, ◌++◌, Option, Some, IfSome}
+use Rattle.std.specs.Prelude.{ℕ, List, Option}
 use Rattle.std.specs.Io.KnownBytes.{Keeps}
-
--- a port that tells its links has opened this one more
-abbrev pub Opens : {L : Type 0} → Option (List L) → Option (List L) → L → Type 0
-Opens old new link = IfSome old (λ links. new ≡ Some (links ++ link ∷ []))
 
 -- what a link tells both ways stays: what it was given, and what it is still to give
 pub record KeepsBytes {L : Type 0} (remaining contents : L → Option (List ℕ)) (old new : L) : Type 0 where

@@ -1,5 +1,5 @@
 -- What is loaded from the files under a name, and why nothing is.
-use Rattle.std.specs.Prelude.{◌≡◌, ℕ, ◌==◌, nat_lt, Bool, true, false, List, [], length, Option, Some, None, Result, Ok, Err, ⊤, chars, if◌then◌else◌}
+use Rattle.std.specs.Prelude.{ℕ, ◌==◌, nat_lt, Bool, true, false, List, [], length, Option, Some, None, Result, Ok, Err, chars, if◌then◌else◌}
 use Rattle.std.specs.Str.{is_utf8}
 use Rattle.rga_ops.specs.Content.{Content, nothing, content_of}
 use Rattle.rga_ops.specs.declared.op.Op.{Op}
@@ -99,9 +99,3 @@ after_opening (Err e) r = Err e
 abbrev pub load_outcome : List ℕ → ℕ → ℕ → Files → Result (OpenState × LogEnd) LoadFault
 load_outcome name replica limit found =
     after_opening (opening_answer replica limit) (opened_and_end name replica limit (files_loaded replica limit found))
-
--- the text, where it is looked at, is UTF-8
-abbrev pub HasText : Option (List ℕ) → Option (List ℕ) → Type 0
-HasText (Some log) text = ⊤
-HasText None (Some text) = is_utf8 text ≡ true
-HasText None None = ⊤

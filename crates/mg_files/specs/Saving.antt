@@ -1,5 +1,5 @@
 -- What a save does and what it leaves.
-use Rattle.std.specs.Prelude.{◌≡◌, ◌⊎◌, ℕ, ◌||◌, ◌&&◌, nat_lt, Bool, true, false, List, [], ◌∷◌, ◌++◌, length, Option, Result, Ok, Err, if◌then◌else◌}
+use Rattle.std.specs.Prelude.{◌≡◌, ℕ, ◌||◌, ◌&&◌, nat_lt, Bool, true, false, List, [], ◌∷◌, ◌++◌, length, Option, Result, Ok, Err, if◌then◌else◌}
 use Rattle.rga_ops.specs.Operations.{operations}
 use Rattle.rga_ops.specs.declared.op.Op.{Op}
 use Rattle.rga_exchange.specs.RunLines.{runs_text}
@@ -64,25 +64,31 @@ saved b = record (logged b) { text_waits = false }
 abbrev pub unlogged : OpenState → OpenState
 unlogged b = record b { whole = true }
 
--- ---- a save that ends with a fault, by the calls that a port tells before and after it
+-- ---- a save, by the calls that a port tells before and after it
 
--- the log was due, and was not written
-pub record FailsAtLog (fault : PortFault) (old new : Option (List Call)) (b d : OpenState) : Type 0 where
-  pub due : has_unsaved b ≡ true
-  pub calls : Adds old new (refusals fault (log_call b))
-  pub left : d ≡ unlogged b
+-- What a save that fails was at: the log, which was due, or else the text.
+pub data SaveStep : Type 0 where
+  AtLog : SaveStep
+  AtText : SaveStep
 
--- the log was written where it was due, and the text was not put
-pub record FailsAtText (fault : PortFault) (old new : Option (List Call)) (b d : OpenState) : Type 0 where
-  pub due : is_changed b ≡ true
-  pub calls : Adds old new (log_calls b ++ refusals fault (text_call b))
-  pub left : d ≡ logged b
+abbrev pub is_due : SaveStep → OpenState → Bool
+is_due AtLog b = has_unsaved b
+is_due AtText b = is_changed b
 
--- a call of the save failed: one at the log, or the one at the text
-abbrev pub SaveFailed : PortFault → Option (List Call) → Option (List Call) → OpenState → OpenState → Type 0
-SaveFailed fault old new b d = FailsAtLog fault old new b d ⊎ FailsAtText fault old new b d
+-- the calls of one that ends there with this fault
+abbrev pub failed_calls : SaveStep → PortFault → OpenState → List Call
+failed_calls AtLog fault b = refusals fault (log_call b)
+failed_calls AtText fault b = log_calls b ++ refusals fault (text_call b)
 
--- ---- a save, whatever it answers
+-- and what it leaves: the log was written before the text
+abbrev pub failed_state : SaveStep → OpenState → OpenState
+failed_state AtLog b = unlogged b
+failed_state AtText b = logged b
+
+pub record SaveFailed (step : SaveStep) (fault : PortFault) (old new : Option (List Call)) (b d : OpenState) : Type 0 where
+  pub due : is_due step b ≡ true
+  pub calls : Adds old new (failed_calls step fault b)
+  pub left : d ≡ failed_state step b
 
 -- it was done, and there was something to save or not
 pub record IsSaved (changed : Bool) (old new : Option (List Call)) (b d : OpenState) : Type 0 where
@@ -93,4 +99,4 @@ pub record IsSaved (changed : Bool) (old new : Option (List Call)) (b d : OpenSt
 -- what a save leaves, by what it answers
 abbrev pub SavesTo : Result Bool PortFault → Option (List Call) → Option (List Call) → OpenState → OpenState → Type 0
 SavesTo (Ok changed) old new b d = IsSaved changed old new b d
-SavesTo (Err fault) old new b d = SaveFailed fault old new b d
+SavesTo (Err fault) old new b d = (step : SaveStep) × SaveFailed step fault old new b d

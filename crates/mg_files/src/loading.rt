@@ -3,7 +3,7 @@ ghost use Rattle.std.specs.Prelude.{◌≡◌, ◌≢◌, [], true, false, None,
 ghost use Rattle.rga_ops.specs.Prelude.{nothing};
 ghost use Rattle.rga_doc.specs.Document.{document};
 ghost use Rattle.mg_files.specs.Files.{Files, text_bytes};
-ghost use Rattle.mg_files.specs.Loading.{load_outcome, opened_and_end, opening_answer, log_loaded, text_loaded, loaded, HasText};
+ghost use Rattle.mg_files.specs.Loading.{load_outcome, opened_and_end, opening_answer, log_loaded, text_loaded, loaded};
 ghost use Rattle.std.specs.Str.{is_utf8};
 ghost use Rattle.rga_exchange.specs.declared.log.LogEnd.TheVariants.{Whole};
 ghost use Rattle.mg_files.specs.declared.fault.LoadFault.TheVariants.{Memory, NotText};
@@ -45,7 +45,8 @@ impl<S: TextStore> VisitedBuffer<S> {
         ensures shown { IfOk result (λ o. found.log ≡ None → IfSome found.text
             (λ bytes. text_bytes o.0.buffer.content ≡ bytes)) }
         ensures memory { result ≡ Err Memory →
-            (opening_answer replica limit ≡ Ok tt) × HasText found.log found.text }
+            (opening_answer replica limit ≡ Ok tt) × (found.log ≡ None → IfSome found.text
+            (λ bytes. is_utf8 bytes ≡ true)) }
     {
         check_opening(replica, limit)?;
         let Found { log, text } = found;

@@ -1,6 +1,6 @@
 //! Where the files of buffers are, and peers.
-ghost use Rattle.std.specs.Prelude.{◌≡◌, ℕ, List, Option, IfOk, OnErr};
-ghost use Rattle.mg_files.specs.Links.{Opens, KeepsBytes};
+ghost use Rattle.std.specs.Prelude.{◌≡◌, ℕ, List, [], ◌∷◌, Option, IfOk, OnErr};
+ghost use Rattle.mg_files.specs.Links.{KeepsBytes};
 ghost use Rattle.mg_files.specs.Calls.{Call, call, link_call, Adds, told, load_told, link_told, failures_after, failures_after_link};
 
 use crate::lines::LogLines;
@@ -138,7 +138,7 @@ pub trait Port {
     fn connect(&mut self) -> Result<Self::Link, LinkFault>
         ensures tells { Adds (calls self.old) (calls self.new)
             (link_told result (link_call CallKind.Connect)) }
-        ensures opens { IfOk result (λ link. Opens (links self.old) (links self.new) link) }
+        ensures opens { IfOk result (λ link. Adds (links self.old) (links self.new) (link ∷ [])) }
         ensures links { OnErr result (links self.new ≡ links self.old) }
         ensures device { failures self.new ≡ failures_after_link result (failures self.old) };
 
@@ -146,7 +146,7 @@ pub trait Port {
     fn accept(&mut self) -> Result<Self::Link, LinkFault>
         ensures tells { Adds (calls self.old) (calls self.new)
             (link_told result (link_call CallKind.Accept)) }
-        ensures opens { IfOk result (λ link. Opens (links self.old) (links self.new) link) }
+        ensures opens { IfOk result (λ link. Adds (links self.old) (links self.new) (link ∷ [])) }
         ensures links { OnErr result (links self.new ≡ links self.old) }
         ensures device { failures self.new ≡ failures_after_link result (failures self.old) };
 

@@ -1,7 +1,7 @@
 //! How a buffer is saved.
-ghost use Rattle.std.specs.Prelude.{◌≡◌, false, IfOk, IfErr, OnOk, OnErr};
+ghost use Rattle.std.specs.Prelude.{◌≡◌, false, IfErr, OnOk, OnErr};
 ghost use Rattle.mg_files.specs.Calls.{Adds, told, failures_after};
-ghost use Rattle.mg_files.specs.Saving.{is_changed, log_call, log_calls, text_call, save_calls, logged, saved, unlogged, written, FailsAtLog, SaveFailed};
+ghost use Rattle.mg_files.specs.Saving.{log_call, log_calls, text_call, logged, AtLog, SaveFailed, SavesTo};
 
 use crate::lines::LogLines;
 use crate::port::{Port, PortFault};
@@ -19,12 +19,7 @@ impl<S: TextStore> VisitedBuffer<S> {
     /// whole one; after it nothing is unsaved, and the text waits. In no case does it change the
     /// text, point, mark or groups.
     pub fn save<P: Port>(&mut self, port: &mut P) -> Result<bool, PortFault>
-        ensures changed { IfOk result (λ changed. changed ≡ is_changed self.old) }
-        ensures calls { OnOk result
-            (Adds (P.calls port.old) (P.calls port.new) (save_calls self.old)) }
-        ensures saved { OnOk result (self.new ≡ saved self.old) }
-        ensures failed { IfErr result (λ fault.
-            SaveFailed fault (P.calls port.old) (P.calls port.new) self.old self.new) }
+        ensures saves { SavesTo result (P.calls port.old) (P.calls port.new) self.old self.new }
         ensures links { P.links port.new ≡ P.links port.old }
         ensures device { P.failures port.new ≡ failures_after result (P.failures port.old) }
     {
@@ -43,7 +38,7 @@ impl<S: TextStore> VisitedBuffer<S> {
             (Adds (P.calls port.old) (P.calls port.new) (log_calls self.old)) }
         ensures logged { OnOk result (self.new ≡ logged self.old) }
         ensures failed { IfErr result (λ fault.
-            FailsAtLog fault (P.calls port.old) (P.calls port.new) self.old self.new) }
+            SaveFailed AtLog fault (P.calls port.old) (P.calls port.new) self.old self.new) }
         ensures links { P.links port.new ≡ P.links port.old }
         ensures device { P.failures port.new ≡ failures_after result (P.failures port.old) }
     {

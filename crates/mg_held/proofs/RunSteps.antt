@@ -1,5 +1,5 @@
 -- Through any saves and changes what was held once is held.
-use Rattle.std.proofs.Common.{◌≡◌, ℕ, Bool, true, false, cond, List, [], ◌∷◌, ◌++◌, Some, Result, Ok, Err, refl, sym, subst, inl, inr}
+use Rattle.std.proofs.Common.{◌≡◌, ℕ, Bool, true, false, cond, List, [], ◌∷◌, ◌++◌, Some, Result, Ok, Err, refl, sym, subst}
 use Rattle.std.proofs.lemmas.List.{append_cancel_left}
 use Rattle.std.proofs.lemmas.Option.{same_Some}
 use Rattle.rga_ops.specs.Content.{Content, IsWithin}
@@ -7,7 +7,7 @@ use Rattle.rga_ops.proofs.ContentLaws.{within_itself, within_chain}
 use Rattle.mg_files.specs.Files.{Files}
 use Rattle.mg_files.specs.OpenState.{OpenState}
 use Rattle.mg_files.specs.Calls.{Call, Adds, refusals}
-use Rattle.mg_files.specs.Saving.{has_unsaved, unlogged, written, logged, saved, save_calls, log_call, log_calls, text_call, SaveFailed}
+use Rattle.mg_files.specs.Saving.{has_unsaved, unlogged, written, logged, saved, save_calls, log_call, log_calls, text_call, SaveStep, AtLog, AtText, SaveFailed}
 use Rattle.mg_files.specs.declared.port.PortFault.{PortFault}
 use Rattle.mg_buffer.specs.Ran.{operations_of_splices}
 use Rattle.mg_buffer.specs.Undid.{undo_operations}
@@ -42,14 +42,14 @@ after_save held (Ok changed) b d s t h m =
     let leads : MayLead (save_calls b) s t = subst (λ calls. MayLead calls s t) (made_are m.before m.made (save_calls b) m.saves.calls) m.leads in
     subst (λ x. HoldsMore held x t) (sym m.saves.left)
     (named b.buffer.content held b.buffer.name (saved b) t (saved_name b) (held_within held b (s b.buffer.name).log h) (save_answered held b s t h leads))
-after_save held (Err fault) b d s t h m = by m.saves
+after_save held (Err fault) b d s t h m = by m.saves.0 m.saves.1
   where
-    by : SaveFailed fault (Some m.before) (Some (m.before ++ m.made)) b d → HoldsMore held d t
-    by (inl at_log) =
+    by : (step : SaveStep) → SaveFailed step fault (Some m.before) (Some (m.before ++ m.made)) b d → HoldsMore held d t
+    by AtLog at_log =
         let leads : MayLead (refusals fault (log_call b)) s t = subst (λ calls. MayLead calls s t) (made_are m.before m.made (refusals fault (log_call b)) at_log.calls) m.leads in
         let w : Grows held b (unlogged b) (t b.buffer.name).log = grows_at_log fault held b s t h leads in
         subst (λ x. HoldsMore held x t) (sym at_log.left) (named w.now held b.buffer.name (unlogged b) t refl w.grown w.logged)
-    by (inr at_text) =
+    by AtText at_text =
         let due : List Call = log_calls b ++ refusals fault (text_call b) in
         let leads : MayLead due s t = subst (λ calls. MayLead calls s t) (made_are m.before m.made due at_text.calls) m.leads in
         let w : Grows held b (logged b) (t b.buffer.name).log = grows_at_text fault held b s t h leads in

@@ -1,3 +1,2 @@
 mod MeetingLaws
-mod LinkLaws
 mod JoinedLaws

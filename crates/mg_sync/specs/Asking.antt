@@ -52,12 +52,12 @@ module _ {L : Type 0} (wire : Wire L) where
     pub says : SaysOver wire.contents mid new answer c
 
   -- What is done first with a buffer: nothing, unless its exchanges are brief.
-  abbrev pub Asks : Role → OpenState → Calls L → Calls L → Result (Option Summary) ExchangeFault → Type 0
-  Asks role b old new (Ok None) = (b.brief ≡ false) × (new ≡ old)
-  Asks Connects b old new (Ok (Some peer)) = (b.brief ≡ true) × SaysThenLearns old new b.buffer.content (Ok peer)
-  Asks Connects b old new (Err (Send fault)) = (b.brief ≡ true) × SaysOver wire.contents old new (Err fault) b.buffer.content
-  Asks Connects b old new (Err (Receive fault)) = (b.brief ≡ true) × SaysThenLearns old new b.buffer.content (Err fault)
-  Asks Waits b old new (Ok (Some peer)) = (b.brief ≡ true) × LearnsThenSays old new b.buffer.content peer (Ok tt)
-  Asks Waits b old new (Err (Receive fault)) = (b.brief ≡ true) × LearnsOver wire.remaining old new (Err fault)
-  Asks Waits b old new (Err (Send fault)) = (b.brief ≡ true) × ((peer : Summary) × LearnsThenSays old new b.buffer.content peer (Err fault))
-  Asks role b old new (Err fault) = ⊥
+  abbrev pub Asks : Result (Option Summary) ExchangeFault → Role → OpenState → Calls L → Calls L → Type 0
+  Asks (Ok None) role b old new = (b.brief ≡ false) × (new ≡ old)
+  Asks (Ok (Some peer)) Connects b old new = (b.brief ≡ true) × SaysThenLearns old new b.buffer.content (Ok peer)
+  Asks (Err (Send fault)) Connects b old new = (b.brief ≡ true) × SaysOver wire.contents old new (Err fault) b.buffer.content
+  Asks (Err (Receive fault)) Connects b old new = (b.brief ≡ true) × SaysThenLearns old new b.buffer.content (Err fault)
+  Asks (Ok (Some peer)) Waits b old new = (b.brief ≡ true) × LearnsThenSays old new b.buffer.content peer (Ok tt)
+  Asks (Err (Receive fault)) Waits b old new = (b.brief ≡ true) × LearnsOver wire.remaining old new (Err fault)
+  Asks (Err (Send fault)) Waits b old new = (b.brief ≡ true) × ((peer : Summary) × LearnsThenSays old new b.buffer.content peer (Err fault))
+  Asks (Err fault) role b old new = ⊥

@@ -1,13 +1,13 @@
 -- What passes over the link that a port opens for an exchange.
-use Rattle.std.specs.Prelude.{◌≡◌, ⊤, ℕ, Bool, true, false, List, ◌++◌, Option, Some, Result, Ok, Err, MatchResult}
-use Rattle.rga_ops.specs.Content.{Content, IsWithin, join}
+use Rattle.std.specs.Prelude.{◌≡◌, ⊤, ℕ, Bool, true, false, List, [], ◌∷◌, ◌++◌, Option, Some, Result, Ok, Err, MatchResult}
+use Rattle.rga_ops.specs.Content.{Content}
 use Rattle.rga_devices.specs.Counting.{Calls}
 use Rattle.rga_devices.specs.declared.counted.TheConstants.{MAX_CALLS}
 use Rattle.rga_exchange.specs.declared.fault.ReceiveFault.{ReceiveFault}
 use Rattle.rga_exchange.specs.declared.fault.SendFault.{SendFault}
 use Rattle.rga_digest.specs.Summary.{Summary}
-use Rattle.mg_files.specs.Calls.{Call}
-use Rattle.mg_files.specs.Links.{Opens, KeepsBytes}
+use Rattle.mg_files.specs.Calls.{Call, Adds}
+use Rattle.mg_files.specs.Links.{KeepsBytes}
 use Rattle.mg_files.specs.OpenState.{OpenState}
 use Rattle.mg_files.specs.Saving.{saved}
 use Rattle.mg_sync.specs.declared.fault.ExchangeFault.{ExchangeFault}
@@ -38,9 +38,9 @@ module _ {L : Type 0} (a : Account L) (s : OpenState) where
   -- One link was opened, and where the exchange is brief each asked what the other knows, with this answer.
   pub record BeginsOver (role : Role) (answer : Result (Option Summary) ExchangeFault) : Type 0 where
     pub link : L
-    pub opens : Opens a.links a.opened link
+    pub opens : Adds a.links a.opened (link ∷ [])
     pub asked : Calls L
-    pub asks : Asks a.wire role s (counted link) asked answer
+    pub asks : Asks a.wire answer role s (counted link) asked
 
   -- Behind that what is told to the peer was sent.
   pub record SendsFirst (answer : Result ℕ SendFault) : Type 0 where
@@ -75,9 +75,9 @@ module _ {L : Type 0} (a : Account L) (b d : OpenState) where
   abbrev pub PassesOver : (role : Role) (ending : Ending) → Came a.calls a.made b d role ending → Type 0
   PassesOver role (Unsaved fault) came = a.opened ≡ a.links
   PassesOver role (Unopened fault) came = a.opened ≡ a.links
-  PassesOver role (Unasked fault) came = BeginsOver a (saved b) role (Err fault)
-  PassesOver Connects (Unsent fault) came = SendsFirst a (saved b) (Err fault)
-  PassesOver Connects (Unended fault) came = (sent : ℕ) × SendsFirst a (saved b) (Ok sent)
+  PassesOver role (Unasked fault) came = BeginsOver a d role (Err fault)
+  PassesOver Connects (Unsent fault) came = SendsFirst a d (Err fault)
+  PassesOver Connects (Unended fault) came = (sent : ℕ) × SendsFirst a d (Ok sent)
   PassesOver Connects (Met (Ok sent) heard kept) came = ThenHears a (saved b) sent heard came.met
   PassesOver Waits (Met sent heard kept) came =
       (first : HearsFirst a (saved b) heard came.met) × MatchResult (peer_answer heard kept) (λ _. ThenSends a (saved b) first sent d.buffer.content) (λ _. sent ≡ Ok 0)
@@ -103,12 +103,6 @@ pub record Tells {L M : Type 0} (remaining : L → Option (List ℕ)) (contents 
   pub before : contents old ≡ Some front
   pub behind : contents new ≡ Some (front ++ bytes)
   pub told : remaining link ≡ Some bytes
-
--- one content became another by what is a part of a third
-pub record JoinsPart (c from d : Content) : Type 0 where
-  pub part : Content
-  pub within : IsWithin part from
-  pub joined : d ≡ join c part
 
 module _ {L M : Type 0} (a : Account L) (b d : OpenState) (their : Account M) (their_b their_d : OpenState) where
   -- One replica connected and another waited, both answered their counts, and the link of each tells what the other wrote

@@ -1,19 +1,21 @@
 -- What an exchange asks of a port, and what it leaves of a buffer.
 use Rattle.std.specs.Prelude.{◌≡◌, ◌⊎◌, ℕ, Bool, true, false, List, [], ◌∷◌, ◌++◌, Option, Result, Ok, Err}
+use Rattle.rga_ops.specs.Content.{IsWithin}
+use Rattle.rga_ops.specs.declared.op.Op.{Op}
 use Rattle.rga_devices.specs.Counting.{one_more}
 use Rattle.rga_exchange.specs.declared.fault.ReceiveFault.{ReceiveFault}
 use Rattle.rga_exchange.specs.declared.fault.SendFault.{SendFault}
+use Rattle.mg_buffer.specs.Following.{TakesOperations}
 use Rattle.mg_files.specs.declared.port.CallKind.TheVariants.{Connect, Accept, Finish}
 use Rattle.mg_files.specs.declared.port.LinkFault.{LinkFault}
 use Rattle.mg_files.specs.declared.port.PortFault.{PortFault}
 use Rattle.mg_files.specs.Calls.{Call, link_call, link_refusals, Adds, failures_after, failures_after_link}
 use Rattle.mg_files.specs.OpenState.{OpenState}
-use Rattle.mg_files.specs.Saving.{save_calls, saved, SaveFailed, SavesTo}
+use Rattle.mg_files.specs.Saving.{save_calls, saved, SavesTo}
 use Rattle.mg_sync.specs.declared.fault.ExchangeFault.{ExchangeFault}
 use Rattle.mg_sync.specs.declared.fault.ExchangeFault.TheVariants.{Save, Link, Send, Receive}
 use Rattle.mg_sync.specs.declared.talking.Exchanged.{Exchanged}
 use Rattle.mg_sync.specs.Asking.{Role, Connects, Waits}
-use Rattle.mg_sync.specs.Talking.{Gains, TakesSome}
 
 -- ---- how an exchange ended
 
@@ -50,15 +52,6 @@ answer_of (Met sent heard kept) = whole_answer sent (peer_answer heard kept)
 
 -- ---- what was done
 
--- A peer was heard, of which this is said, to its end or not, and then what was held was saved or not.
-pub record TakesAndSaves (Hears : Result ℕ ReceiveFault → OpenState → OpenState → Type 0) (old new : Option (List Call)) (b d : OpenState) (answer : Result ℕ ExchangeFault) : Type 0 where
-  pub heard : Result ℕ ReceiveFault
-  pub kept : Result Bool PortFault
-  pub answered : answer ≡ peer_answer heard kept
-  pub met : OpenState
-  pub hears : Hears heard b met
-  pub saves : SavesTo kept old new met d
-
 -- the call that opens a link
 abbrev pub opening : Role → Call
 opening Connects = link_call Connect
@@ -76,19 +69,21 @@ module _ (old new : Option (List Call)) (b d : OpenState) where
     pub calls : Adds old new (save_calls b ++ made)
     pub left : d ≡ saved b
 
-  -- The buffer was saved, and behind the save and these calls a peer was heard, to its end or not, and then what was held
-  -- was saved or not.
+  -- The buffer was saved, and behind the save and these calls a peer was heard, to its end or not: operations were taken,
+  -- and nothing else changed. Then what was held was saved or not.
   pub record Meets (made : List Call) (kept : Result Bool PortFault) : Type 0 where
     pub mid : Option (List Call)
     pub calls : Adds old mid (save_calls b ++ made)
     pub met : OpenState
-    pub took : TakesSome (saved b) met
+    pub ops : List Op
+    pub took : TakesOperations (saved b).buffer ops met.buffer
+    pub rest : met ≡ record (saved b) { buffer = met.buffer }
     pub saves : SavesTo kept mid new met d
 
   -- A replica that connects sends all before it hears the peer, and one that waits replies once all is saved: so neither
   -- ends in any other way.
   abbrev pub Came : Role → Ending → Type 0
-  Came role (Unsaved fault) = SaveFailed fault old new b d
+  Came role (Unsaved fault) = SavesTo (Err fault) old new b d
   Came role (Unopened fault) = EndsBehind (link_refusals fault (opening role))
   Came role (Unasked fault) = (b.brief ≡ true) × ((is_talk fault ≡ true) × EndsBehind (opening role ∷ []))
   Came Connects (Unsent fault) = EndsBehind (link_call Connect ∷ [])
@@ -97,12 +92,14 @@ module _ (old new : Option (List Call)) (b d : OpenState) where
   Came Waits (Met sent heard kept) = Meets (link_call Accept ∷ []) kept
   Came role ending = ⊥
 
--- How it ended is what is answered, and nothing was lost, whatever that is.
+-- How it ended is what is answered. Whatever that is, the buffer has all that it had, and may have more; its name, replica
+-- and limit, point, mark and groups stay.
 pub record Exchanges (role : Role) (old new : Option (List Call)) (b d : OpenState) (answer : Result Exchanged ExchangeFault) : Type 0 where
   pub ending : Ending
   pub answered : answer ≡ answer_of ending
   pub came : Came old new b d role ending
-  pub gains : Gains b d
+  pub within : IsWithin b.buffer.content d.buffer.content
+  pub rest : d.buffer ≡ record b.buffer { content = d.buffer.content; unsaved = d.buffer.unsaved }
 
 -- How many calls of a port failed. A save that fails behind a peer that was not heard to its end is not answered.
 abbrev pub CountsFaults : {A : Type 0} → Result A ExchangeFault → ℕ → ℕ → Type 0

@@ -1,6 +1,6 @@
 -- What passes over a link, and what it leaves of a buffer.
 use Rattle.std.specs.Prelude.{◌≡◌, ◌≢◌, ℕ, ◌≤◌, List, length, Option, Some, None, Result, Ok, Err, OnOk, IfOk}
-use Rattle.rga_ops.specs.Content.{Content, IsWithin, IsSound, Agree, join, content_of, known_count}
+use Rattle.rga_ops.specs.Content.{Content, IsSound, Agree, join, content_of, known_count}
 use Rattle.rga_ops.specs.Operations.{operations}
 use Rattle.rga_ops.specs.declared.op.Op.{Op}
 use Rattle.rga_devices.specs.Counting.{Calls, CountsAs, OnBytes, Writes, WritesFront}
@@ -50,17 +50,4 @@ pub record HearsOver {L : Type 0} (remaining : L → Option (List ℕ)) (old new
   pub outcome : answer ≢ Err receive.Read → answer ≢ Err receive.Memory → OnBytes remaining old (λ bytes. exchange_outcome b.buffer.limit b.buffer.content bytes ≡ (d.buffer.content, answer))
   pub joined : OnOk answer (OnBytes remaining old (λ bytes. d.buffer.content ≡ join b.buffer.content (content_of (stream_operations bytes))))
   pub device : CountsAs receive.Read answer old new
-  pub rest : d ≡ record b { buffer = d.buffer }
-
--- ---- what is gained
-
--- The buffer has all that it had, and may have more. Its name, replica and limit, point, mark and groups stay.
-pub record Gains (b d : OpenState) : Type 0 where
-  pub within : IsWithin b.buffer.content d.buffer.content
-  pub rest : d.buffer ≡ record b.buffer { content = d.buffer.content; unsaved = d.buffer.unsaved }
-
--- operations were taken into the buffer, and nothing else changed
-pub record TakesSome (b d : OpenState) : Type 0 where
-  pub ops : List Op
-  pub follows : TakesOperations b.buffer ops d.buffer
   pub rest : d ≡ record b { buffer = d.buffer }

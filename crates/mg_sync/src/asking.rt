@@ -22,8 +22,8 @@ pub(crate) fn ask<S: Teller, L: Read + Write>(
     opened: &VisitedBuffer<S>,
     link: &mut Counted<L>,
 ) -> Result<Option<Summary>, ExchangeFault>
-    ensures { Asks (record { remaining = L.remaining; contents = L.contents }) Connects opened.now
-        link.old link.new result }
+    ensures { Asks (record { remaining = L.remaining; contents = L.contents }) result Connects
+        opened.now link.old link.new }
 {
     if !opened.is_brief() {
         return Ok(None);
@@ -41,8 +41,8 @@ pub(crate) fn answer<S: Teller, L: Read + Write>(
     opened: &VisitedBuffer<S>,
     link: &mut Counted<L>,
 ) -> Result<Option<Summary>, ExchangeFault>
-    ensures { Asks (record { remaining = L.remaining; contents = L.contents }) Waits opened.now
-        link.old link.new result }
+    ensures { Asks (record { remaining = L.remaining; contents = L.contents }) result Waits
+        opened.now link.old link.new }
 {
     if !opened.is_brief() {
         return Ok(None);

@@ -5,7 +5,7 @@ ghost use Rattle.mg_sync.specs.Meeting.{CountsFaults};
 
 use crate::asking::ask;
 use crate::fault::ExchangeFault;
-use crate::talking::{Exchanged, hear_and_save, tell};
+use crate::talking::{Exchanged, hear, peer_answer, tell};
 use mg_files::{Port, VisitedBuffer};
 use rga_devices::Counted;
 use rga_store::Teller;
@@ -41,6 +41,7 @@ pub fn exchange<S: Teller, P: Port>(
     let mut link = writer.into_inner();
     port.finish(&mut link)?;
     let mut reader = Counted::new(link);
-    let received = hear_and_save(alloc, opened, &mut reader, port)?;
+    let heard = hear(alloc, opened, &mut reader);
+    let received = peer_answer(heard, opened.save(port))?;
     Ok(Exchanged { sent, received })
 }

@@ -1,12 +1,12 @@
 //! Theorems about exchanges. Each function does nothing: its contract is the theorem.
 ghost use Rattle.std.specs.Prelude.{◌≡◌, false, ℕ, List, Some, Ok};
-ghost use Rattle.rga_ops.specs.Content.{Agree, IsSound, join, content_of};
+ghost use Rattle.rga_ops.specs.Content.{Content, Agree, IsWithin, IsSound, join, content_of};
 ghost use Rattle.rga_lines.specs.Log.{stream_operations};
 ghost use Rattle.rga_digest.specs.Summary.{DigestsTellApart};
 ghost use Rattle.mg_files.specs.OpenState.{OpenState};
 ghost use Rattle.mg_sync.specs.Asking.{Role, Connects, Waits};
 ghost use Rattle.mg_sync.specs.Linking.{Account, ExchangesOver, Whole};
-ghost use Rattle.mg_sync.specs.Linking.{HaveMetBriefly, JoinsPart, Meet};
+ghost use Rattle.mg_sync.specs.Linking.{HaveMetBriefly, Meet};
 ghost use Rattle.mg_sync.specs.declared.talking.Exchanged.{Exchanged};
 
 use mg_files::Port;
@@ -65,6 +65,8 @@ pub fn what_is_taken_is_the_peers<P: Port, Q: Port>()
         (their_b their_d : OpenState) → Meet a b d their their_b their_d
         → IsSound b.buffer.content → IsSound their_b.buffer.content
         → Agree b.buffer.content their_b.buffer.content
-        → JoinsPart their_b.buffer.content b.buffer.content their_d.buffer.content
-        × JoinsPart b.buffer.content their_d.buffer.content d.buffer.content }
+        → ((part : Content) × (IsWithin part b.buffer.content
+        × (their_d.buffer.content ≡ join their_b.buffer.content part)))
+        × ((part : Content) × (IsWithin part their_d.buffer.content
+        × (d.buffer.content ≡ join b.buffer.content part))) }
 {}

@@ -5,7 +5,7 @@ ghost use Rattle.mg_sync.specs.Meeting.{CountsFaults};
 
 use crate::asking::answer;
 use crate::fault::ExchangeFault;
-use crate::talking::{Exchanged, hear_and_save, tell};
+use crate::talking::{Exchanged, hear, peer_answer, tell};
 use mg_files::{Port, VisitedBuffer};
 use rga_devices::Counted;
 use rga_store::Teller;
@@ -37,7 +37,8 @@ pub fn serve<S: Teller, P: Port>(
     opened.save(port)?;
     let mut reader = Counted::new(port.accept()?);
     let peer = answer(alloc, opened, &mut reader)?;
-    let received = hear_and_save(alloc, opened, &mut reader, port)?;
+    let heard = hear(alloc, opened, &mut reader);
+    let received = peer_answer(heard, opened.save(port))?;
     let mut writer = Counted::new(reader.into_inner());
     let sent = tell(alloc, opened, &peer, &mut writer)?;
     Ok(Exchanged { sent, received })

@@ -1,10 +1,11 @@
 //! What passes between a buffer and a peer.
-ghost use Rattle.std.specs.Prelude.{◌≡◌};
+ghost use Rattle.std.specs.Prelude.{◌≡◌, ℕ};
+ghost use Rattle.mg_files.specs.Calls.{failures_after};
 ghost use Rattle.mg_sync.specs.Meeting as spec;
 ghost use Rattle.mg_sync.specs.Talking.{SendsOver, HearsOver};
 
 use crate::fault::ExchangeFault;
-use mg_files::{Port, VisitedBuffer};
+use mg_files::{PortFault, VisitedBuffer};
 use rga_brief::send_missing;
 use rga_devices::Counted;
 use rga_digest::Summary;
@@ -36,28 +37,8 @@ pub(crate) fn tell<S: Teller, L: Write>(
     }
 }
 
-/// Takes what a peer says into a buffer, up to its end or to a fault, and saves what is then held
-/// in either case. A fault of the peer is answered before one of the save.
-pub(crate) fn hear_and_save<S: TextStore, L: Read, P: Port>(
-    alloc: Global,
-    opened: &mut VisitedBuffer<S>,
-    reader: &mut Counted<L>,
-    port: &mut P,
-) -> Result<u64, ExchangeFault>
-    ensures takes { spec.TakesAndSaves (HearsOver L.remaining reader.old reader.new)
-        (P.calls port.old) (P.calls port.new) opened.old opened.new result }
-    ensures links { P.links port.new ≡ P.links port.old }
-    ensures device { spec.CountsFaults result (P.failures port.old) (P.failures port.new) }
-{
-    let heard = hear(alloc, opened, reader);
-    let saved = opened.save(port);
-    let received = heard?;
-    saved?;
-    Ok(received)
-}
-
 /// Takes what a peer says into a buffer, up to its end or to a fault.
-fn hear<S: TextStore, L: Read>(
+pub(crate) fn hear<S: TextStore, L: Read>(
     alloc: Global,
     opened: &mut VisitedBuffer<S>,
     reader: &mut Counted<L>,
@@ -65,4 +46,22 @@ fn hear<S: TextStore, L: Read>(
     ensures { HearsOver L.remaining reader.old reader.new result opened.old opened.new }
 {
     receive(alloc, &mut opened.buffer, reader)
+}
+
+/// What is answered of a peer that was heard, and of the save behind it: a fault of the peer before
+/// one of the save.
+pub(crate) fn peer_answer(
+    heard: Result<u64, ReceiveFault>,
+    saved: Result<bool, PortFault>,
+) -> Result<u64, ExchangeFault>
+    ensures answer { result ≡ spec.peer_answer heard saved }
+    ensures device { (n : ℕ) → spec.CountsFaults result n (failures_after saved n) }
+{
+    match heard {
+        Err(fault) => Err(ExchangeFault::Receive(fault)),
+        Ok(received) => match saved {
+            Err(fault) => Err(ExchangeFault::Save(fault)),
+            Ok(_) => Ok(received),
+        },
+    }
 }

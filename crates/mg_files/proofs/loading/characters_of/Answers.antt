@@ -1,19 +1,12 @@
-use Rattle.std.proofs.Common.{◌≡◌, ℕ, List, Bool, true, false, refl, inl, inr, rules}
-use Rattle.std.specs.Str.{is_utf8}
-use Rattle.std.specs.Prelude.{chars, IsUtf8}
+use Rattle.std.proofs.Common.{◌≡◌, refl, inl, inr, rules}
+use Rattle.std.specs.Prelude.{chars}
+use Rattle.std.proofs.lemmas.Bool.{false_from_ne_true}
 use Rattle.std.proofs.lemmas.Result.{err_from_is_err_and}
 use Rattle.std.proofs.lemmas.Str.{chars_from_encodes, is_utf8-from_IsUtf8, IsUtf8-from_is_utf8}
 use Rattle.mg_files.proofs.loading.characters_of.Goals as goal
 
-no_text : (bytes : List ℕ) → ¬ (IsUtf8 bytes) → is_utf8 bytes ≡ false
-no_text bytes hidden = by (is_utf8 bytes) refl
-  where
-    by : (b : Bool) → is_utf8 bytes ≡ b → b ≡ false
-    by true is = absurd (hidden (IsUtf8-from_is_utf8 bytes is))
-    by false is = refl
-
 pub returns-in_default : goal.returns-in_default
-returns-in_default c = inl (refl, no_text c.args.bytes.now c.in_default.ensures.cases.0)
+returns-in_default c = inl (refl, false_from_ne_true _ (λ is. c.in_default.ensures.cases.0 (IsUtf8-from_is_utf8 c.args.bytes.now is)))
 
 pub returns-in_err-collect : goal.returns-in_err-collect
 returns-in_err-collect c =

@@ -10,7 +10,7 @@ use Rattle.rga_doc.specs.Document.{document}
 use Rattle.rga_doc.specs.LocalEdit.{splice_operations}
 use Rattle.mg_files.specs.Faults.{store_fault}
 use Rattle.mg_files.specs.Loading.{text_insertions}
-use Rattle.mg_files.proofs.LoadedLaws.{limit_of, text_refused, text_taken, text_inserted}
+use Rattle.mg_files.proofs.LoadedLaws.{limit_of, of_verdict, text_is_loaded, text_inserted}
 use Rattle.mg_files.proofs.loading.load_text.Goals as goal
 
 pub returns-in_err-ops-clause-exact : goal.returns-in_err-ops-clause-exact
@@ -21,8 +21,8 @@ returns-in_err-ops-clause-exact g c =
     λ fine. elim c.in_err-ops.ensures.exact [
       | inl want ↦ absurd (fine (p.1 ∙ (λ k. Err ((p.2 ∙ ap store_fault want) k))))
       | inr is ↦
-          let long = text_refused c.args.replica c.args.limit c.args.bytes.now c.deref.result.now c.in_ok-doc.doc c.in_err-ops.field-0.0 (limit_of c.args.replica c.args.limit c.requires) c.in_ok-put.ensures.1 made put is in
-          rw (p.1, p.2, long.told, long.outcome) refl
+          let loaded = text_is_loaded c.args.replica c.args.limit c.args.bytes.now c.deref.result.now c.in_ok-doc.doc (limit_of c.args.replica c.args.limit c.requires) c.in_ok-put.ensures.1 made put in
+          rw (p.1, p.2, loaded ∙ ap (of_verdict c.args.replica (chars c.args.bytes.now)) is) refl
     ]
 
 pub returns-clause-shown : goal.returns-clause-shown
@@ -42,5 +42,6 @@ returns-clause-exact g c =
     c.in_ok-ops.ensures.content
     ∙ (λ k. record (made k) { content = join (made k).content (content_of (ops k)); listed = c.splice.new.self.listed })
     ∙ (λ k. document (nothing_join (content_of all) k) c.args.limit c.args.replica c.splice.new.self.listed) in
-    let taken = text_taken c.args.replica c.args.limit c.args.bytes.now c.deref.result.now c.in_ok-doc.doc (limit_of c.args.replica c.args.limit c.requires) c.in_ok-put.ensures.1 made put c.in_ok-ops.ensures.exact in
+    let loaded = text_is_loaded c.args.replica c.args.limit c.args.bytes.now c.deref.result.now c.in_ok-doc.doc (limit_of c.args.replica c.args.limit c.requires) c.in_ok-put.ensures.1 made put in
+    let taken = loaded ∙ ap (of_verdict c.args.replica (chars c.args.bytes.now)) c.in_ok-ops.ensures.exact in
     λ fine. rw (taken, c.new.ensures, c.new-buffer.ensures, left, ops) refl

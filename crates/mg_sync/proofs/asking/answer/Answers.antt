@@ -1,4 +1,4 @@
-use Rattle.std.proofs.Common.{rules, ◌≡◌, true, Option, Result, Err, sym, subst, ◌∙◌}
+use Rattle.std.proofs.Common.{rules, ◌≡◌, Option, Result, Err, sym, subst, ◌∙◌}
 use Rattle.rga_digest.specs.Summary.{Summary}
 use Rattle.mg_sync.specs.Asking.{Asks, Waits}
 use Rattle.mg_sync.specs.declared.fault.ExchangeFault.{ExchangeFault}
@@ -7,14 +7,10 @@ use Rattle.mg_sync.proofs.asking.answer.Goals as goal
 
 pub returns-in_err-say : goal.returns-in_err-say
 returns-in_err-say g c =
-    let b = c.args.opened.now in
-    let brief : b.brief ≡ true = sym c.is_brief.ensures ∙ search rules in
     let is : c.from_residual-in_err-say.result ≡ Err (Send c.in_err-say.field-0.0) = search rules in
-    subst (λ (r : Result (Option Summary) ExchangeFault). Asks _ Waits b c.args.link.now c.say.new.writer r) (sym is)
-    (brief, (c.in_ok-peer.peer, record { mid = c.learn.new.reader; learns = c.in_ok-peer.ensures; says = c.in_err-say.ensures b.buffer.content c.own_lines-lines.ensures }))
+    subst (λ (r : Result (Option Summary) ExchangeFault). Asks _ r Waits c.args.opened.now c.args.link.now c.say.new.writer) (sym is)
+    (sym c.is_brief.ensures ∙ search rules, (c.in_ok-peer.peer, record { mid = c.learn.new.reader; learns = c.in_ok-peer.ensures; says = c.in_err-say.ensures c.args.opened.now.buffer.content c.own_lines-lines.ensures }))
 
 pub returns : goal.returns
 returns g c =
-    let b = c.args.opened.now in
-    let brief : b.brief ≡ true = sym c.is_brief.ensures ∙ search rules in
-    (brief, record { mid = c.learn.new.reader; learns = c.in_ok-peer.ensures; says = c.in_ok-say.ensures b.buffer.content c.own_lines-lines.ensures })
+    (sym c.is_brief.ensures ∙ search rules, record { mid = c.learn.new.reader; learns = c.in_ok-peer.ensures; says = c.in_ok-say.ensures c.args.opened.now.buffer.content c.own_lines-lines.ensures })

@@ -1,4 +1,4 @@
-use Rattle.std.proofs.Common.{rules, ◌≡◌, true, Option, Result, Err, sym, subst, ◌∙◌}
+use Rattle.std.proofs.Common.{rules, ◌≡◌, Option, Result, Err, sym, subst, ◌∙◌}
 use Rattle.rga_digest.specs.Summary.{Summary}
 use Rattle.mg_sync.specs.Asking.{Asks, Connects}
 use Rattle.mg_sync.specs.declared.fault.ExchangeFault.{ExchangeFault}
@@ -7,22 +7,16 @@ use Rattle.mg_sync.proofs.asking.ask.Goals as goal
 
 pub returns-in_err-say : goal.returns-in_err-say
 returns-in_err-say g c =
-    let b = c.args.opened.now in
-    let brief : b.brief ≡ true = sym c.is_brief.ensures ∙ search rules in
     let is : c.from_residual.result ≡ Err (Send c.in_err-say.field-0.0) = search rules in
-    subst (λ (r : Result (Option Summary) ExchangeFault). Asks _ Connects b c.args.link.now c.say.new.writer r) (sym is)
-    (brief, c.in_err-say.ensures b.buffer.content c.own_lines.ensures)
+    subst (λ (r : Result (Option Summary) ExchangeFault). Asks _ r Connects c.args.opened.now c.args.link.now c.say.new.writer) (sym is)
+    (sym c.is_brief.ensures ∙ search rules, c.in_err-say.ensures c.args.opened.now.buffer.content c.own_lines.ensures)
 
 pub returns-in_err-peer : goal.returns-in_err-peer
 returns-in_err-peer g c =
-    let b = c.args.opened.now in
-    let brief : b.brief ≡ true = sym c.is_brief.ensures ∙ search rules in
     let is : c.from_residual-in_err-peer.result ≡ Err (Receive c.in_err-peer.field-0.0) = search rules in
-    subst (λ (r : Result (Option Summary) ExchangeFault). Asks _ Connects b c.args.link.now c.learn.new.reader r) (sym is)
-    (brief, record { mid = c.say.new.writer; says = c.in_ok-say.ensures b.buffer.content c.own_lines.ensures; learns = c.in_err-peer.ensures })
+    subst (λ (r : Result (Option Summary) ExchangeFault). Asks _ r Connects c.args.opened.now c.args.link.now c.learn.new.reader) (sym is)
+    (sym c.is_brief.ensures ∙ search rules, record { mid = c.say.new.writer; says = c.in_ok-say.ensures c.args.opened.now.buffer.content c.own_lines.ensures; learns = c.in_err-peer.ensures })
 
 pub returns : goal.returns
 returns g c =
-    let b = c.args.opened.now in
-    let brief : b.brief ≡ true = sym c.is_brief.ensures ∙ search rules in
-    (brief, record { mid = c.say.new.writer; says = c.in_ok-say.ensures b.buffer.content c.own_lines.ensures; learns = c.in_ok-peer.ensures })
+    (sym c.is_brief.ensures ∙ search rules, record { mid = c.say.new.writer; says = c.in_ok-say.ensures c.args.opened.now.buffer.content c.own_lines.ensures; learns = c.in_ok-peer.ensures })

@@ -1,93 +1,56 @@
-use Rattle.std.proofs.Common.{rules, [], ◌∷◌, Ok, Err, refl, subst, ◌∙◌}
+use Rattle.std.proofs.Common.{rules, [], ◌∷◌, Err, refl, ◌∙◌}
 use Rattle.mg_files.specs.declared.port.CallKind.TheVariants.{Connect, Finish}
-use Rattle.mg_files.specs.Calls.{link_call}
-use Rattle.mg_files.specs.Links.{KeepsBytes}
+use Rattle.mg_files.specs.Calls.{link_call, link_refusals}
 use Rattle.mg_sync.specs.Asking.{Connects}
-use Rattle.mg_sync.specs.Talking.{HearsOver}
-use Rattle.mg_sync.specs.Meeting.{Unsaved}
-use Rattle.mg_sync.specs.Linking.{account, BeginsOver, SendsFirst, ThenHears}
-use Rattle.mg_sync.proofs.MeetingLaws.{adds_then}
-use Rattle.mg_sync.proofs.LinkLaws.{Saved, begins, over, unopened, unasked, unsent, unended, turned}
+use Rattle.mg_sync.specs.Meeting.{Unsaved, Unopened, Unsent, Unended}
+use Rattle.mg_sync.proofs.MeetingLaws.{adds_then, saves_gain, over, begins, sends_first, then_hears, ends, unasked, turned}
 use Rattle.mg_sync.proofs.client.exchange.Goals as goal
 
 pub returns-in_err-save-clause-exchanges : goal.returns-in_err-save-clause-exchanges
 returns-in_err-save-clause-exchanges g c =
-    let a = account g.P.Link.Read.remaining g.P.Link.Write.contents g.P.Port.links g.P.Port.calls c.args.port.now c.save.new.port in
-    over a c.args.opened.now c.save.new.self Connects (Unsaved c.in_err-save.field-0.0) (search rules) c.in_err-save.ensures.failed c.in_err-save.ensures.links
+    over Connects (Unsaved c.in_err-save.field-0.0) (search rules) c.in_err-save.ensures.saves (saves_gain (Err c.in_err-save.field-0.0) _ _ _ _ c.in_err-save.ensures.saves) c.in_err-save.ensures.links
 
 pub returns-in_err-connect-clause-exchanges : goal.returns-in_err-connect-clause-exchanges
 returns-in_err-connect-clause-exchanges g c =
-    let a = account g.P.Link.Read.remaining g.P.Link.Write.contents g.P.Port.links g.P.Port.calls c.args.port.now c.connect.new.self in
-    let s = c.save.new.self in
     let e = c.in_ok-save.ensures in
-    let k : Saved a c.args.opened.now s = record { calls = g.P.Port.calls c.save.new.port; links = g.P.Port.links c.save.new.port; saves = e.calls; same = e.links; left = e.saved } in
-    unopened k Connects c.in_err-connect.field-0.0 (search rules) c.in_err-connect.ensures.tells c.in_err-connect.ensures.links
+    ends _ e.saves Connects (Unopened c.in_err-connect.field-0.0) (link_refusals c.in_err-connect.field-0.0 (link_call Connect)) (search rules)
+    c.in_err-connect.ensures.tells (λ left. (left, c.in_err-connect.ensures.links ∙ e.links))
 
 pub returns-in_err-peer-clause-exchanges : goal.returns-in_err-peer-clause-exchanges
 returns-in_err-peer-clause-exchanges g c =
-    let a = account g.P.Link.Read.remaining g.P.Link.Write.contents g.P.Port.links g.P.Port.calls c.args.port.now c.connect.new.self in
-    let s = c.save.new.self in
     let e = c.in_ok-save.ensures in
-    let k : Saved a c.args.opened.now s = record { calls = g.P.Port.calls c.save.new.port; links = g.P.Port.links c.save.new.port; saves = e.calls; same = e.links; left = e.saved } in
-    let begun : BeginsOver a s Connects (Err c.in_err-peer.field-0.0) = begins k Connects (Err c.in_err-peer.field-0.0) c.in_ok-connect.field-0 c.ask.new.link c.in_ok-connect.ensures.opens refl c.new-writer.ensures c.in_err-peer.ensures in
-    unasked k Connects c.in_err-peer.field-0.0 (search rules) c.in_ok-connect.ensures.tells begun
+    let o = c.in_ok-connect.ensures in
+    unasked _ e.saves Connects c.in_err-peer.field-0.0 (search rules) o.tells (begins c.ask.new.link e.links o.opens refl c.new-writer.ensures c.in_err-peer.ensures)
 
 pub returns-in_err-sent-clause-exchanges : goal.returns-in_err-sent-clause-exchanges
 returns-in_err-sent-clause-exchanges g c =
-    let a = account g.P.Link.Read.remaining g.P.Link.Write.contents g.P.Port.links g.P.Port.calls c.args.port.now c.connect.new.self in
-    let s = c.save.new.self in
     let e = c.in_ok-save.ensures in
-    let k : Saved a c.args.opened.now s = record { calls = g.P.Port.calls c.save.new.port; links = g.P.Port.links c.save.new.port; saves = e.calls; same = e.links; left = e.saved } in
-    let begun : BeginsOver a s Connects (Ok c.in_ok-peer.peer) = begins k Connects (Ok c.in_ok-peer.peer) c.in_ok-connect.field-0 c.ask.new.link c.in_ok-connect.ensures.opens refl c.new-writer.ensures c.in_ok-peer.ensures in
-    let sends : SendsFirst a s (Err c.in_err-sent.field-0.0) = record { peer = c.in_ok-peer.peer; begins = begun; sent = c.tell.new.writer; sends = c.in_err-sent.ensures } in
-    unsent k c.in_err-sent.field-0.0 (search rules) c.in_ok-connect.ensures.tells sends
+    let o = c.in_ok-connect.ensures in
+    ends _ e.saves Connects (Unsent c.in_err-sent.field-0.0) (link_call Connect ∷ []) (search rules) o.tells
+    (λ left. (left, sends_first c.in_ok-peer.peer c.ask.new.link c.tell.new.writer e.links o.opens refl c.new-writer.ensures c.in_ok-peer.ensures c.in_err-sent.ensures))
 
 pub returns-in_err-finish-clause-exchanges : goal.returns-in_err-finish-clause-exchanges
 returns-in_err-finish-clause-exchanges g c =
-    let a = account g.P.Link.Read.remaining g.P.Link.Write.contents g.P.Port.links g.P.Port.calls c.args.port.now c.finish.new.self in
-    let s = c.save.new.self in
     let e = c.in_ok-save.ensures in
-    let k : Saved a c.args.opened.now s = record { calls = g.P.Port.calls c.save.new.port; links = g.P.Port.links c.save.new.port; saves = e.calls; same = e.links; left = e.saved } in
-    let begun : BeginsOver a s Connects (Ok c.in_ok-peer.peer) = begins k Connects (Ok c.in_ok-peer.peer) c.in_ok-connect.field-0 c.ask.new.link c.in_ok-connect.ensures.opens c.finish.ensures.links c.new-writer.ensures c.in_ok-peer.ensures in
-    let sends : SendsFirst a s (Ok c.in_ok-sent.sent) = record { peer = c.in_ok-peer.peer; begins = begun; sent = c.tell.new.writer; sends = c.in_ok-sent.ensures } in
-    unended k c.in_err-finish.field-0.0 c.in_ok-sent.sent (g.P.Port.calls c.connect.new.self) (search rules) c.in_ok-connect.ensures.tells c.in_err-finish.ensures.tells sends
+    let o = c.in_ok-connect.ensures in
+    let refused = link_refusals c.in_err-finish.field-0.0 (link_call Finish) in
+    ends _ e.saves Connects (Unended c.in_err-finish.field-0.0) (link_call Connect ∷ refused) (search rules) (adds_then _ _ _ (link_call Connect ∷ []) refused o.tells c.in_err-finish.ensures.tells)
+    (λ left. (left, (c.in_ok-sent.sent, sends_first c.in_ok-peer.peer c.ask.new.link c.tell.new.writer e.links o.opens c.finish.ensures.links c.new-writer.ensures c.in_ok-peer.ensures c.in_ok-sent.ensures)))
 
 pub returns-in_err-received-clause-exchanges : goal.returns-in_err-received-clause-exchanges
 returns-in_err-received-clause-exchanges g c =
-    let a = account g.P.Link.Read.remaining g.P.Link.Write.contents g.P.Port.links g.P.Port.calls c.args.port.now c.hear_and_save.new.port in
-    let s = c.save.new.self in
     let e = c.in_ok-save.ensures in
-    let k : Saved a c.args.opened.now s = record { calls = g.P.Port.calls c.save.new.port; links = g.P.Port.links c.save.new.port; saves = e.calls; same = e.links; left = e.saved } in
-    let begun : BeginsOver a s Connects (Ok c.in_ok-peer.peer) = begins k Connects (Ok c.in_ok-peer.peer) c.in_ok-connect.field-0 c.ask.new.link c.in_ok-connect.ensures.opens (c.hear_and_save.ensures.links ∙ c.finish.ensures.links) c.new-writer.ensures c.in_ok-peer.ensures in
-    let sends : SendsFirst a s (Ok c.in_ok-sent.sent) = record { peer = c.in_ok-peer.peer; begins = begun; sent = c.tell.new.writer; sends = c.in_ok-sent.ensures } in
-    let t = c.in_err-received.ensures.takes in
-    let mid = g.P.Port.calls c.finish.new.self in
-    let makes = adds_then k.calls (g.P.Port.calls c.connect.new.self) mid (link_call Connect ∷ []) (link_call Finish ∷ []) c.in_ok-connect.ensures.tells c.in_ok-finish.ensures.tells in
-    let hears : ThenHears a s c.in_ok-sent.sent t.heard t.met = record {
-      first = sends;
-      ended = c.finish.new.link;
-      keeps = subst (λ x. KeepsBytes a.wire.remaining a.wire.contents x c.finish.new.link) c.into_inner-link.ensures c.finish.ensures.bytes;
-      heard = c.hear_and_save.new.reader;
-      hears = subst (λ x. HearsOver a.wire.remaining x c.hear_and_save.new.reader t.heard s t.met) c.new-reader.ensures t.hears;
-    } in
-    turned k mid _ _ _ _ t c.in_ok-sent.sent (search rules) makes hears
+    let o = c.in_ok-connect.ensures in
+    turned _ e.saves (g.P.Port.calls c.finish.new.self) c.save-2.result c.save-2.ensures.saves (search rules) c.in_err-received.ensures.answer
+    (adds_then _ _ _ (link_call Connect ∷ []) (link_call Finish ∷ []) o.tells c.in_ok-finish.ensures.tells)
+    (then_hears (sends_first c.in_ok-peer.peer c.ask.new.link c.tell.new.writer e.links o.opens (c.save-2.ensures.links ∙ c.finish.ensures.links) c.new-writer.ensures c.in_ok-peer.ensures c.in_ok-sent.ensures)
+    c.into_inner-link.ensures c.finish.ensures.bytes c.new-reader.ensures c.hear-heard.ensures)
 
 pub returns-clause-exchanges : goal.returns-clause-exchanges
 returns-clause-exchanges g c =
-    let a = account g.P.Link.Read.remaining g.P.Link.Write.contents g.P.Port.links g.P.Port.calls c.args.port.now c.hear_and_save.new.port in
-    let s = c.save.new.self in
     let e = c.in_ok-save.ensures in
-    let k : Saved a c.args.opened.now s = record { calls = g.P.Port.calls c.save.new.port; links = g.P.Port.links c.save.new.port; saves = e.calls; same = e.links; left = e.saved } in
-    let begun : BeginsOver a s Connects (Ok c.in_ok-peer.peer) = begins k Connects (Ok c.in_ok-peer.peer) c.in_ok-connect.field-0 c.ask.new.link c.in_ok-connect.ensures.opens (c.hear_and_save.ensures.links ∙ c.finish.ensures.links) c.new-writer.ensures c.in_ok-peer.ensures in
-    let sends : SendsFirst a s (Ok c.in_ok-sent.sent) = record { peer = c.in_ok-peer.peer; begins = begun; sent = c.tell.new.writer; sends = c.in_ok-sent.ensures } in
-    let t = c.in_ok-received.ensures.takes in
-    let mid = g.P.Port.calls c.finish.new.self in
-    let makes = adds_then k.calls (g.P.Port.calls c.connect.new.self) mid (link_call Connect ∷ []) (link_call Finish ∷ []) c.in_ok-connect.ensures.tells c.in_ok-finish.ensures.tells in
-    let hears : ThenHears a s c.in_ok-sent.sent t.heard t.met = record {
-      first = sends;
-      ended = c.finish.new.link;
-      keeps = subst (λ x. KeepsBytes a.wire.remaining a.wire.contents x c.finish.new.link) c.into_inner-link.ensures c.finish.ensures.bytes;
-      heard = c.hear_and_save.new.reader;
-      hears = subst (λ x. HearsOver a.wire.remaining x c.hear_and_save.new.reader t.heard s t.met) c.new-reader.ensures t.hears;
-    } in
-    turned k mid _ _ _ _ t c.in_ok-sent.sent refl makes hears
+    let o = c.in_ok-connect.ensures in
+    turned _ e.saves (g.P.Port.calls c.finish.new.self) c.save-2.result c.save-2.ensures.saves refl c.in_ok-received.ensures.answer
+    (adds_then _ _ _ (link_call Connect ∷ []) (link_call Finish ∷ []) o.tells c.in_ok-finish.ensures.tells)
+    (then_hears (sends_first c.in_ok-peer.peer c.ask.new.link c.tell.new.writer e.links o.opens (c.save-2.ensures.links ∙ c.finish.ensures.links) c.new-writer.ensures c.in_ok-peer.ensures c.in_ok-sent.ensures)
+    c.into_inner-link.ensures c.finish.ensures.bytes c.new-reader.ensures c.hear-heard.ensures)

@@ -7,13 +7,6 @@ pub returns : goal.returns
 returns g c =
     let s = c.receive.ensures in
     let i = c.opened.inside in
-    let b : OpenState = record { buffer = i.buffer; whole = i.whole; text_waits = i.text_waits; runs = i.runs; brief = i.brief } in
     let d : OpenState = record { buffer = c.receive.new.taker; whole = i.whole; text_waits = i.text_waits; runs = i.runs; brief = i.brief } in
-    let heard : HearsOver g.L.Read.remaining c.args.reader.now c.receive.new.reader c.receive.result b d = record {
-      lines = s.lines;
-      outcome = s.outcome;
-      joined = s.joined;
-      device = s.device;
-      rest = refl;
-    } in
-    subst (λ (x : OpenState). HearsOver g.L.Read.remaining c.args.reader.now c.receive.new.reader c.receive.result x d) c.opened.view_is heard
+    subst (λ (b : OpenState). HearsOver g.L.Read.remaining c.args.reader.now c.receive.new.reader c.receive.result b d) c.opened.view_is
+    (record { lines = s.lines; outcome = s.outcome; joined = s.joined; device = s.device; rest = refl })

@@ -1,5 +1,4 @@
 use Rattle.std.proofs.Common.{rules}
-use Rattle.mg_files.proofs.SaveLaws.{saves_to}
 use Rattle.mg_files.specs.Saving.{SavesTo}
 use Rattle.mg_editor.specs.Carrying.{save_outcome}
 use Rattle.mg_editor.proofs.Meetings.{concluded}
@@ -10,8 +9,7 @@ returns-clause-saved g c =
     let b = c.current_mut.result.now in
     let d = c.save-answer.new.self in
     let r = c.save-answer.result in
-    let s = c.save-answer.ensures in
     let calls = g.P.Port.calls c.args.port.now in
     let more = g.P.Port.calls c.save-answer.new.port in
     concluded (λ answer. SavesTo answer calls more) save_outcome _ _ c.self.inside.work b d r _
-    (search rules) c.current_mut.ensures.value (saves_to r calls more b d s.changed s.calls s.saved s.failed) (search rules) (search rules)
+    (search rules) c.current_mut.ensures.value c.save-answer.ensures.saves (search rules) (search rules)
