@@ -157,3 +157,14 @@ removed_shown bs l gone shown inside others =
       each = show_map n (length (remove bs.all gone)) (window_without gone) l.windows (λ w here. subst (λ k. moved gone w.shown.buffer < k) (sym m) (moved_within gone n w.shown.buffer inside here others)) shown.each;
       current = without_shows gone l.windows l.current ∙ ap (moved gone) shown.current;
     }
+
+-- changed windows, where the buffer of the current one is current among as many buffers
+pub arranged_shown : (bs mid now : Buffers) (old new : Layout Viewport) (x : Viewport) → AreShown bs old → length mid.all ≡ length bs.all → ShowThese (length bs.all) new.windows
+    → x ≡ current_viewport new → now ≡ record mid { current = x.buffer } → AreShown now new
+arranged_shown bs mid now old new x shown kept each is left =
+    let count : length now.all ≡ length bs.all = ap (λ (y : Buffers). length y.all) left ∙ kept in
+    record {
+      few = subst (λ n. n ≤ MAX_BUFFERS) (sym count) shown.few;
+      each = subst (λ n. ShowThese n new.windows) (sym count) each;
+      current = ap (λ (y : Viewport). y.buffer) (sym is) ∙ sym (ap (λ (y : Buffers). y.current) left);
+    }

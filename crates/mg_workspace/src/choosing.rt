@@ -68,7 +68,7 @@ impl<S: TextStore> Workspace<S> {
 
     /// Another buffer is current: that of the name, or without a name the next one, round.
     pub(crate) fn switch(&mut self, name: &[char]) -> Result<(), ActionFault>
-        ensures switched { spec.Switched name.now self.old self.new result }
+        ensures switched { (self.new, result) ≡ spec.switch_outcome name.now self.old }
         ensures no_memory { result ≢ Err Memory }
     {
         let Some(index) = self.buffers.asked(name, self.buffers.next()) else {
@@ -80,7 +80,7 @@ impl<S: TextStore> Workspace<S> {
 
     /// A buffer is removed: that of the name, or without a name the current one.
     pub(crate) fn kill(&mut self, name: &[char]) -> Result<(), ActionFault>
-        ensures killed { spec.Killed name.now self.old self.new result }
+        ensures killed { (self.new, result) ≡ spec.kill_outcome name.now self.old }
         ensures no_memory { result ≢ Err Memory }
     {
         let Some(index) = self.buffers.asked(name, self.buffers.current_index()) else {
@@ -93,7 +93,7 @@ impl<S: TextStore> Workspace<S> {
     /// first one that is left.
     fn remove(&mut self, index: usize) -> Result<(), ActionFault>
         requires { index < length self.old.buffers.all }
-        ensures removed { spec.RemovesAt index self.old self.new result }
+        ensures removed { (self.new, result) ≡ spec.removal_outcome index self.old }
         ensures no_memory { result ≢ Err Memory }
     {
         if self.buffers.at(index).is_changed() {
@@ -110,7 +110,7 @@ impl<S: TextStore> Workspace<S> {
     /// Goes to the buffer of a name, and answers whether it is open; where it is not, nothing
     /// changes. Takes no memory.
     pub fn visit(&mut self, name: &[char]) -> bool
-        ensures { spec.Visited name.now self.old self.new result }
+        ensures { (self.new, result) ≡ spec.visit_outcome name.now self.old }
     {
         let Some(index) = self.buffers.named(name) else {
             return false;
@@ -135,8 +135,8 @@ impl<S: TextStore> Workspace<S> {
     pub fn open(&mut self, name: String, found: Found) -> Result<LogEnd, LoadFault>
         requires { length self.old.buffers.all < MAX_BUFFERS }
         ensures exact { let w = self.old in result ≢ Err load_fault.Memory →
-            opening.OpensBy (load_outcome (string_bytes name) w.replica w.limit found)
-            w self.new result }
+            (self.new, result) ≡
+            opening.open_outcome (load_outcome (string_bytes name) w.replica w.limit found) w }
         ensures same { OnErr result (self.new ≡ self.old) }
     {
         let (mut opened, end) = VisitedBuffer::load(

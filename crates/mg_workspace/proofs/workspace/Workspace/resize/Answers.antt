@@ -1,5 +1,5 @@
 use Rattle.std.proofs.Common.{length, refl, rules}
-use Rattle.mg_workspace.proofs.Arrangements.{arranged_shown}
+use Rattle.mg_workspace.proofs.ViewportLaws.{arranged_shown}
 use Rattle.mg_workspace.proofs.ViewportLaws.{show_resized}
 use Rattle.mg_workspace.proofs.workspace.Workspace.resize.Goals as goal
 
