@@ -1,7 +1,6 @@
 pub mod Results
 pub mod NameLaws
 pub mod Moves
-pub mod Current
 pub mod InCurrent
 pub mod MappedLaws
 pub mod ViewportLaws

@@ -128,25 +128,6 @@ left_at gone (w ∷ ws) (suc i) s x at is = ap (λ us. w ∷ us) (left_at gone w
 
 -- ---- the windows of a workspace show its buffers
 
-pub gone_shown : (bs : Buffers) (l new : Layout Viewport) (i : ℕ) → AreShown bs l → i < length bs.all → new ≡ turned_to_buffer i l → (current_viewport new).buffer ≡ i → AreShown (record bs { current = i }) new
-gone_shown bs l new i shown inside is here = record {
-  few = shown.few;
-  each = subst (λ (v : Layout Viewport). ShowThese (length bs.all) v.windows) (sym is) (show_at (length bs.all) l.current (viewport i (current_viewport l).first) l.windows inside shown.each);
-  current = here;
-}
-
-pub opened_shown : (bs : Buffers) (l new : Layout Viewport) (b : OpenState) → AreShown bs l → length bs.all < MAX_BUFFERS → new ≡ turned_to_buffer (length bs.all) l → (current_viewport new).buffer ≡ length bs.all
-    → AreShown (with_buffer b bs) new
-opened_shown bs l new b shown room is here =
-    let more : length (bs.all ++ b ∷ []) ≡ length bs.all + 1 = length_push bs.all b in
-    record {
-      few = omega (arith, more, room);
-      each = subst (λ (v : Layout Viewport). ShowThese (length (bs.all ++ b ∷ [])) v.windows) (sym is)
-          (show_at (length (bs.all ++ b ∷ [])) l.current (viewport (length bs.all) (current_viewport l).first) l.windows (omega (arith, more))
-          (show_more (length bs.all) (length (bs.all ++ b ∷ [])) l.windows (omega (arith, more)) shown.each));
-      current = here;
-    }
-
 pub removed_shown : (bs : Buffers) (l : Layout Viewport) (gone : ℕ) → AreShown bs l → gone < length bs.all → 1 < length bs.all → AreShown (without_buffer gone bs) (layout_without gone l)
 removed_shown bs l gone shown inside others =
     let n = length bs.all in
@@ -156,15 +137,4 @@ removed_shown bs l gone shown inside others =
       few = omega (arith, less, shown.few);
       each = show_map n (length (remove bs.all gone)) (window_without gone) l.windows (λ w here. subst (λ k. moved gone w.shown.buffer < k) (sym m) (moved_within gone n w.shown.buffer inside here others)) shown.each;
       current = without_shows gone l.windows l.current ∙ ap (moved gone) shown.current;
-    }
-
--- changed windows, where the buffer of the current one is current among as many buffers
-pub arranged_shown : (bs mid now : Buffers) (old new : Layout Viewport) (x : Viewport) → AreShown bs old → length mid.all ≡ length bs.all → ShowThese (length bs.all) new.windows
-    → x ≡ current_viewport new → now ≡ record mid { current = x.buffer } → AreShown now new
-arranged_shown bs mid now old new x shown kept each is left =
-    let count : length now.all ≡ length bs.all = ap (λ (y : Buffers). length y.all) left ∙ kept in
-    record {
-      few = subst (λ n. n ≤ MAX_BUFFERS) (sym count) shown.few;
-      each = subst (λ n. ShowThese n new.windows) (sym count) each;
-      current = ap (λ (y : Viewport). y.buffer) (sym is) ∙ sym (ap (λ (y : Buffers). y.current) left);
     }

@@ -5,8 +5,10 @@ ghost use Rattle.mg_screen.specs.Layout.{all_shown, heights, FillsRows};
 ghost use Rattle.mg_screen.specs.declared.size.TheConstants.{MIN_ROWS, MAX_ROWS, MIN_COLUMNS, MAX_COLUMNS};
 ghost use Rattle.mg_workspace.specs.declared.fault.ActionFault.TheVariants.{Memory};
 ghost use Rattle.mg_workspace.specs.Actions as spec;
-ghost use Rattle.mg_workspace.specs.Viewports.{current_viewport, ShowThese};
+ghost use Rattle.mg_workspace.specs.Viewports.{current_viewport, ShowThese, AreShown};
+ghost use Rattle.mg_workspace.specs.declared.workspace.TheConstants.{MAX_BUFFERS};
 
+use crate::buffers::Buffers;
 use crate::fault::{ActionFault, of_windows};
 use crate::viewport::Viewport;
 use crate::workspace::Workspace;
@@ -87,6 +89,18 @@ fn change_windows<S: TextStore>(
     }
 }
 
+/// The buffer of the current window is current.
+fn follow<S: TextStore>(buffers: &mut Buffers<S>, windows: &Windows<Viewport>)
+    requires few { length buffers.old.all ≤ MAX_BUFFERS }
+    requires each { ShowThese (length buffers.old.all) windows.now.windows }
+    ensures exact { let shown = current_viewport windows.now in
+        buffers.new ≡ record buffers.old { current = shown.buffer } }
+    ensures shown { AreShown buffers.new windows.now }
+{
+    let shown = current_viewport(windows);
+    buffers.go_to(shown.buffer);
+}
+
 fn lacks_memory(answer: Result<(), WindowFault>) -> bool
     ensures memory { result ≡ true → answer ≡ Err WindowFault.Memory }
     ensures others { result ≡ false → answer ≢ Err WindowFault.Memory }
@@ -113,8 +127,7 @@ impl<S: TextStore> Workspace<S> {
             return Err(ActionFault::Memory);
         }
         self.buffers.idle(&mut self.memo);
-        let shown = current_viewport(&self.windows);
-        self.buffers.go_to(shown.buffer);
+        follow(&mut self.buffers, &self.windows);
         of_windows(answer)
     }
 
@@ -130,7 +143,6 @@ impl<S: TextStore> Workspace<S> {
     {
         self.windows.resize(rows);
         self.columns = columns;
-        let shown = current_viewport(&self.windows);
-        self.buffers.go_to(shown.buffer);
+        follow(&mut self.buffers, &self.windows);
     }
 }
