@@ -1,4 +1,3 @@
-pub mod Results
 pub mod NameLaws
 pub mod Moves
 pub mod InCurrent

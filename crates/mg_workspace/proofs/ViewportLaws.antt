@@ -1,5 +1,5 @@
 -- What is known of windows by what they show.
-use Rattle.std.proofs.Common.{◌≡◌, ℕ, zero, suc, ◌+◌, ◌-◌, ◌/◌, ◌<◌, ◌≤◌, List, [], ◌∷◌, ◌++◌, length, map, take, drop, get_or, Some, slice_get, slice_set, is_some, true≢false, refl, sym, ap, subst, ◌∙◌, arith}
+use Rattle.std.proofs.Common.{◌≡◌, ℕ, zero, suc, ◌+◌, ◌-◌, ◌/◌, ◌<◌, ◌≤◌, List, [], ◌∷◌, ◌++◌, length, map, take, drop, get_or, Some, slice_get, slice_set, is_some, Result, Ok, Err, OnOk, OnErr, true≢false, refl, sym, ap, subst, ◌∙◌, arith}
 use Rattle.std.specs.List.{AllByRecursion, remove}
 use Rattle.std.specs.Option.{option_map}
 use Rattle.std.proofs.lemmas.List.{length-map, length-set}
@@ -41,6 +41,11 @@ changed_on f ws vs i w x inside at is changed =
     shows_set i x vs w ∙ ap (λ (u : Window Viewport). slice_set vs i (window u.height x)) read ∙ ap (slice_set vs i) is ∙ map_over_more f ws vs i w inside changed (sym read)
 
 -- ---- each window shows one of so many buffers
+
+-- windows that changed, or stayed where that was refused
+pub show_either : {T E : Type 0} (r : Result T E) (n : ℕ) (l m new : Layout Viewport) → OnOk r (new ≡ m) → OnErr r (new ≡ l) → ShowThese n m.windows → ShowThese n l.windows → ShowThese n new.windows
+show_either (Ok x) n l m new is same changed stayed = subst (λ (v : Layout Viewport). ShowThese n v.windows) (sym is) changed
+show_either (Err e) n l m new is same changed stayed = subst (λ (v : Layout Viewport). ShowThese n v.windows) (sym same) stayed
 
 pub show_split : (n i : ℕ) (ws : List (Window Viewport)) → ShowThese n ws → ShowThese n (split_at i ws)
 show_split n i [] all = all

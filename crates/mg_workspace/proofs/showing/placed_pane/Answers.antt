@@ -1,5 +1,5 @@
 use Rattle.std.proofs.Common.{arith, sym, ap, ◌∙◌, Some}
-use Rattle.mg_workspace.proofs.Results.{if_ok_map}
+use Rattle.std.proofs.lemmas.Result.{IfOk-weaker}
 use Rattle.mg_workspace.proofs.ShownWindows.{height_within, pane_there}
 use Rattle.mg_workspace.proofs.showing.placed_pane.Goals as goal
 
@@ -17,4 +17,4 @@ pub returns : goal.returns
 returns g c =
     let placed = c.in-Some.ensures in
     let there = pane_there c.args.buffers.now.all c.args.windows.now.windows c.args.index c.height_at-height.result c.in-Some.placed c.at.result.now c.height_at-height.ensures placed.exact c.at.ensures in
-    if_ok_map c.pane.result _ _ (λ p is. there ∙ ap Some (sym is)) c.pane.ensures
+    IfOk-weaker c.pane.result _ _ (λ p is. there ∙ ap Some (sym is)) c.pane.ensures
