@@ -22,15 +22,21 @@ acts (Err e) verdict Becomes w b notes (inl lacks) became same kept = inl (λ k.
 acts (Err e) (Ok x) Becomes w b notes (inr exact) became same kept = absurd (true≢false (ap is_ok exact))
 acts (Err e) (Err f) Becomes w b notes (inr exact) became same kept = let back = sym exact in inr (λ k. (stayed w b notes same kept k, of_buffer (back k)))
 
--- the current buffer, by the name x, answered r
-pub acted : (verdict : Workspace → State → FaultVerdict) (Becomes : Workspace → State → State → Notes → Type 0) (s w : Workspace) (x : OpenState) (r : FaultVerdict) (b : State) (notes : Notes) (told : ActionVerdict)
-    → s ≡ w → x ≡ workspace_buffer s → IsFaultAnswer r (verdict s x.buffer) → OnOk r (Becomes s x.buffer b notes) → OnErr r (b ≡ x.buffer) → OnErr r (notes ≡ s.notes) → told ≡ of_buffer r
-    → ActsInCurrent (verdict w (current_state w)) (Becomes w (current_state w)) w (record s { buffers = with_current s.buffers (record x { buffer = b }); notes = notes }, told)
+-- the current buffer, by the name x, has another state
+abbrev changed_to : Workspace → OpenState → State → Notes → Workspace
+changed_to w x b notes = record w { buffers = with_current w.buffers (record x { buffer = b }); notes = notes }
+
+-- it answered r
+pub acted : (verdict : Workspace → State → FaultVerdict) (Becomes : Workspace → State → State → Notes → Type 0) (s w : Workspace) (x : OpenState) (r : FaultVerdict)
+    (b : State) (notes : Notes) (told : ActionVerdict) → s ≡ w → x ≡ workspace_buffer s → IsFaultAnswer r (verdict s x.buffer) → OnOk r (Becomes s x.buffer b notes)
+    → OnErr r (b ≡ x.buffer) → OnErr r (notes ≡ s.notes) → told ≡ of_buffer r
+    → ActsInCurrent (verdict w (current_state w)) (Becomes w (current_state w)) w (changed_to s x b notes, told)
 acted verdict Becomes s w x r b notes told whole is exact became same kept is_told =
     let here : x.buffer ≡ current_state s = ap (λ y. y.buffer) is in
     let done = acts r (verdict s (current_state s)) (Becomes s (current_state s)) s b notes (subst (λ d. IsFaultAnswer r (verdict s d)) here exact)
     (subst (λ d. OnOk r (Becomes s d b notes)) here became) (subst (λ d. OnErr r (b ≡ d)) here same) kept in
-    let named : ◌≡◌ {A = ActionOutcome} (with_state_and_notes b notes s, of_buffer r) (record s { buffers = with_current s.buffers (record x { buffer = b }); notes = notes }, told) =
-    let back = sym is in let tell = sym is_told in λ k. (record s { buffers = with_current s.buffers (record (back k) { buffer = b }); notes = notes }, tell k) in
-    subst (λ v. ActsInCurrent (verdict v (current_state v)) (Becomes v (current_state v)) v (record s { buffers = with_current s.buffers (record x { buffer = b }); notes = notes }, told)) whole
+    let back = sym is in
+    let tell = sym is_told in
+    let named : ◌≡◌ {A = ActionOutcome} (with_state_and_notes b notes s, of_buffer r) (changed_to s x b notes, told) = λ k. (changed_to s (back k) b notes, tell k) in
+    subst (λ v. ActsInCurrent (verdict v (current_state v)) (Becomes v (current_state v)) v (changed_to s x b notes, told)) whole
     (subst (ActsInCurrent (verdict s (current_state s)) (Becomes s (current_state s)) s) named done)

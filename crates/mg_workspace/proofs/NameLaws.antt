@@ -10,7 +10,8 @@ module _ {S T : Type 0} (steps : S → Option ℕ → S → Type 0) (others : T 
   abbrev Last : Option ℕ → Option ℕ → Type 0
   Last o p = MatchOption o (MatchOption p (r ≡ true) (λ _. r ≡ false)) (λ x. (r ≡ false) × IfSome p (λ y. nat_eq x y ≡ false))
 
-  at_last : (o p : Option ℕ) (xs ys : List ℕ) (s u : S) (t w : T) → AlwaysYields steps (λ c. c) s xs → AlwaysYields others (λ c. c) t ys → steps s o u → others t p w → Last o p → r ≡ pointwise nat_eq xs ys
+  at_last : (o p : Option ℕ) (xs ys : List ℕ) (s u : S) (t w : T) → AlwaysYields steps (λ c. c) s xs → AlwaysYields others (λ c. c) t ys
+      → steps s o u → others t p w → Last o p → r ≡ pointwise nat_eq xs ys
   at_last None p (x ∷ xs) ys s u t w e f a b h = absurd (e.0 u a)
   at_last (Some x) p [] ys s u t w e f a b h = absurd (e x u a)
   at_last None None [] (y ∷ ys) s u t w e f a b h = absurd (f.0 w b)

@@ -45,7 +45,8 @@ placed_shown bs l shown = record {
 abbrev shown_panes : List OpenState → List (Window Viewport) → List Pane
 shown_panes bs ws = map (pane_of bs) (map (placed_window bs) ws)
 
-pub pane_at : (bs : List OpenState) (ws : List (Window Viewport)) (i : ℕ) (w : Window Viewport) → slice_get ws i ≡ Some w → slice_get (shown_panes bs ws) i ≡ Some (pane_of bs (placed_window bs w))
+pub pane_at : (bs : List OpenState) (ws : List (Window Viewport)) (i : ℕ) (w : Window Viewport) → slice_get ws i ≡ Some w
+    → slice_get (shown_panes bs ws) i ≡ Some (pane_of bs (placed_window bs w))
 pane_at bs ws i w at =
     slice_get-map (pane_of bs) (map (placed_window bs) ws) i
     ∙ ap (option_map (pane_of bs)) (slice_get-map (placed_window bs) ws i)
@@ -77,7 +78,9 @@ cursor_shown bs l columns s i is tall inside =
     let at : slice_get l.windows i ≡ Some w = slice_get-get_or l.windows i (window 0 (viewport 0 0)) inside in
     let p = pane_of bs (placed_window bs w) in
     let here : slice_get s.panes i ≡ Some p = ap (λ ps. slice_get ps i) is ∙ pane_at bs l.windows i w at in
-    let shown : shows_point p ≡ true = shows_over (buffer_of bs w) w (height_within l.windows i w.height tall (slice_get-map (λ (v : Window Viewport). v.height) l.windows i ∙ ap (option_map (λ (v : Window Viewport). v.height)) at)).0 in
+    let height = λ (v : Window Viewport). v.height in
+    let tall_at = slice_get-map height l.windows i ∙ ap (option_map height) at in
+    let shown : shows_point p ≡ true = shows_over (buffer_of bs w) w (height_within l.windows i w.height tall tall_at).0 in
     subst (λ o. IsSome (option_and_then (pane_cursor columns (rows_above i s.panes)) o)) (sym here) (rw shown refl)
 
 -- one more of a list
@@ -89,7 +92,8 @@ taken_on all before new i x at is more =
 
 -- ---- what windows show once they are placed
 
-pub viewport_placed : (bs : List OpenState) (ws : List (Window Viewport)) (i : ℕ) (w : Window Viewport) → slice_get ws i ≡ Some w → slice_get (all_shown (map (placed_window bs) ws)) i ≡ Some (placed_window bs w).shown
+pub viewport_placed : (bs : List OpenState) (ws : List (Window Viewport)) (i : ℕ) (w : Window Viewport) → slice_get ws i ≡ Some w
+    → slice_get (all_shown (map (placed_window bs) ws)) i ≡ Some (placed_window bs w).shown
 viewport_placed bs ws i w at =
     slice_get-map (λ (v : Window Viewport). v.shown) (map (placed_window bs) ws) i
     ∙ ap (option_map (λ (v : Window Viewport). v.shown)) (slice_get-map (placed_window bs) ws i ∙ ap (option_map (placed_window bs)) at)
@@ -113,8 +117,8 @@ placed_on bs l v new i x inside at was shows =
     ∙ ap (λ ws. layout ws l.current) (changed_on f l.windows _ i w x inside (mapped_there f l.windows i ∙ here) (ap (window w.height) shown) refl)
 
 -- the pane of a window that is placed
-pub pane_there : (bs : List OpenState) (ws : List (Window Viewport)) (i h : ℕ) (x : Viewport) (b : OpenState) → slice_get (heights ws) i ≡ Some h → slice_get (all_shown (map (placed_window bs) ws)) i ≡ Some x
-    → slice_get bs x.buffer ≡ Some b → slice_get (shown_panes bs ws) i ≡ Some (pane_over (Some b) (window h x))
+pub pane_there : (bs : List OpenState) (ws : List (Window Viewport)) (i h : ℕ) (x : Viewport) (b : OpenState) → slice_get (heights ws) i ≡ Some h
+    → slice_get (all_shown (map (placed_window bs) ws)) i ≡ Some x → slice_get bs x.buffer ≡ Some b → slice_get (shown_panes bs ws) i ≡ Some (pane_over (Some b) (window h x))
 pane_there bs ws i h x b tall shown at =
     let there = window_there (map (placed_window bs) ws) i h x (ap (λ hs. slice_get hs i) (map-map (λ (w : Window Viewport). w.height) (placed_window bs) ws) ∙ tall) shown in
     slice_get-map (pane_of bs) (map (placed_window bs) ws) i ∙ ap (option_map (pane_of bs)) there ∙ ap (λ o. Some (pane_over o (window h x))) at

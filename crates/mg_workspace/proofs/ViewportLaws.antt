@@ -34,8 +34,8 @@ pub length-shows_at : {T : Type 0} (i : ℕ) (x : T) (ws : List (Window T)) → 
 length-shows_at i x ws = ap length (shows_set i x ws (window 0 x)) ∙ length-set ws i _
 
 -- one window more becomes what the function says of it
-pub changed_on : (f : Window Viewport → Window Viewport) (ws vs : List (Window Viewport)) (i : ℕ) (w : Window Viewport) (x : Viewport) → i < length ws → slice_get vs i ≡ Some w → window w.height x ≡ f w
-    → vs ≡ map f (take i ws) ++ drop i ws → shows_at i x vs ≡ map f (take (i + 1) ws) ++ drop (i + 1) ws
+pub changed_on : (f : Window Viewport → Window Viewport) (ws vs : List (Window Viewport)) (i : ℕ) (w : Window Viewport) (x : Viewport) → i < length ws
+    → slice_get vs i ≡ Some w → window w.height x ≡ f w → vs ≡ map f (take i ws) ++ drop i ws → shows_at i x vs ≡ map f (take (i + 1) ws) ++ drop (i + 1) ws
 changed_on f ws vs i w x inside at is changed =
     let read : get_or vs i w ≡ w = get_or_from_slice_get vs i w w at in
     shows_set i x vs w ∙ ap (λ (u : Window Viewport). slice_set vs i (window u.height x)) read ∙ ap (slice_set vs i) is ∙ map_over_more f ws vs i w inside changed (sym read)
@@ -43,7 +43,8 @@ changed_on f ws vs i w x inside at is changed =
 -- ---- each window shows one of so many buffers
 
 -- windows that changed, or stayed where that was refused
-pub show_either : {T E : Type 0} (r : Result T E) (n : ℕ) (l m new : Layout Viewport) → OnOk r (new ≡ m) → OnErr r (new ≡ l) → ShowThese n m.windows → ShowThese n l.windows → ShowThese n new.windows
+pub show_either : {T E : Type 0} (r : Result T E) (n : ℕ) (l m new : Layout Viewport) → OnOk r (new ≡ m) → OnErr r (new ≡ l)
+    → ShowThese n m.windows → ShowThese n l.windows → ShowThese n new.windows
 show_either (Ok x) n l m new is same changed stayed = subst (λ (v : Layout Viewport). ShowThese n v.windows) (sym is) changed
 show_either (Err e) n l m new is same changed stayed = subst (λ (v : Layout Viewport). ShowThese n v.windows) (sym same) stayed
 
@@ -69,7 +70,8 @@ show_take n zero ws all = tt
 show_take n (suc k) [] all = tt
 show_take n (suc k) (w ∷ ws) all = (all.0, show_take n k ws all.1)
 
-pub show_map : (n m : ℕ) (f : Window Viewport → Window Viewport) (ws : List (Window Viewport)) → ((w : Window Viewport) → w.shown.buffer < n → (f w).shown.buffer < m) → ShowThese n ws → ShowThese m (map f ws)
+pub show_map : (n m : ℕ) (f : Window Viewport → Window Viewport) (ws : List (Window Viewport))
+    → ((w : Window Viewport) → w.shown.buffer < n → (f w).shown.buffer < m) → ShowThese n ws → ShowThese m (map f ws)
 show_map n m f [] step all = tt
 show_map n m f (w ∷ ws) step all = (step w all.0, show_map n m f ws step all.1)
 
@@ -109,7 +111,8 @@ mapped_shows f [] i d same = refl
 mapped_shows f (w ∷ ws) zero d same = same w
 mapped_shows f (w ∷ ws) (suc i) d same = mapped_shows f ws i d same
 
-pub without_shows : (gone : ℕ) (ws : List (Window Viewport)) (i : ℕ) → (get_or (all_shown (map (window_without gone) ws)) i (viewport 0 0)).buffer ≡ moved gone (get_or (all_shown ws) i (viewport 0 0)).buffer
+pub without_shows : (gone : ℕ) (ws : List (Window Viewport)) (i : ℕ)
+    → (get_or (all_shown (map (window_without gone) ws)) i (viewport 0 0)).buffer ≡ moved gone (get_or (all_shown ws) i (viewport 0 0)).buffer
 without_shows gone [] i = sym (moved_first gone)
 without_shows gone (w ∷ ws) zero = refl
 without_shows gone (w ∷ ws) (suc i) = without_shows gone ws i
@@ -138,6 +141,7 @@ removed_shown bs l gone shown inside others =
     let m : length (remove bs.all gone) ≡ n - 1 = omega (arith, less) in
     record {
       few = omega (arith, less, shown.few);
-      each = show_map n (length (remove bs.all gone)) (window_without gone) l.windows (λ w here. subst (λ k. moved gone w.shown.buffer < k) (sym m) (moved_within gone n w.shown.buffer inside here others)) shown.each;
+      each = show_map n (length (remove bs.all gone)) (window_without gone) l.windows
+          (λ w here. subst (λ k. moved gone w.shown.buffer < k) (sym m) (moved_within gone n w.shown.buffer inside here others)) shown.each;
       current = without_shows gone l.windows l.current ∙ ap (moved gone) shown.current;
     }

@@ -10,5 +10,8 @@ pub loop-index-preserved : goal.loop-index-preserved
 loop-index-preserved c =
     let l = c.args.windows.now in
     let s = c.viewport_at-was.result in
-    let inside : c.loop-index.index < length l.windows = omega (arith, c.loop-index-test.true, ap length c.heights-index-end.ensures, length-map l.windows (λ (w : Window Viewport). w.height)) in
-    left_on c.args.gone l c.loop-index.windows c.show.new.self c.loop-index.index s _ inside c.viewport_at-was.ensures (ap (λ n. viewport n s.first) c.moved-buffer.ensures) c.loop-index.invariant c.show.ensures.exact
+    let i = c.loop-index.index in
+    let count = length-map l.windows (λ (w : Window Viewport). w.height) in
+    let inside : i < length l.windows = omega (arith, c.loop-index-test.true, ap length c.heights-index-end.ensures, count) in
+    let is = ap (λ n. viewport n s.first) c.moved-buffer.ensures in
+    left_on c.args.gone l c.loop-index.windows c.show.new.self i s _ inside c.viewport_at-was.ensures is c.loop-index.invariant c.show.ensures.exact

@@ -7,4 +7,5 @@ use Rattle.mg_workspace.proofs.showing.place_windows.Given as goal
 abbrev pub invariant-loop-index : goal.invariant-loop-index
 invariant-loop-index l =
     let old = l.fn.windows in (length l.windows.windows ≡ length old.windows)
-    × ((bs : List OpenState) → l.placed ≡ all_shown (placed_windows bs old).windows → l.windows ≡ layout (map (placed_window bs) (take l.index old.windows) ++ drop l.index old.windows) old.current)
+    × ((bs : List OpenState) → l.placed ≡ all_shown (placed_windows bs old).windows
+    → l.windows ≡ layout (map (placed_window bs) (take l.index old.windows) ++ drop l.index old.windows) old.current)
