@@ -66,7 +66,7 @@ Replies reply old new r = Shown reply.next reply.said old new × (r ≡ reply.an
 -- the action was done or refused, and told
 pub record Ended (e : Ending) (old new : Editor) (r : PressAnswer) : Type 0 where
   pub verdict : ActionVerdict
-  pub done : Done e.action old.work new.work verdict
+  pub done : Done e.action old.work (new.work, verdict)
   pub told : Replies (reply_to verdict e old.talk.message) old.talk new.talk r
 
 -- ---- a step
@@ -83,8 +83,8 @@ abbrev pub FollowsReaction : Reaction → Editor → Editor → PressAnswer → 
 FollowsReaction (Ends e) old new r = Ended e old new r
 FollowsReaction (Replaces pattern put count) old new r =
     RanOut old new r
-    ⊎ ((mid : Editor) × RanInCurrent (ReplaceOne pattern put) 1 old.work mid.work (Ok tt) × (mid.talk ≡ old.talk) × GoesOn pattern put (sum count 1) mid new r)
-    ⊎ ((said : Message) × RanInCurrent (ReplaceOne pattern put) 1 old.work new.work (Err (action_fault.Refused said)) × Shown Same said old.talk new.talk × (r ≡ Ok Idle))
+    ⊎ ((mid : Editor) × RanInCurrent (ReplaceOne pattern put) 1 old.work (mid.work, Ok tt) × (mid.talk ≡ old.talk) × GoesOn pattern put (sum count 1) mid new r)
+    ⊎ ((said : Message) × RanInCurrent (ReplaceOne pattern put) 1 old.work (new.work, Err (action_fault.Refused said)) × Shown Same said old.talk new.talk × (r ≡ Ok Idle))
 FollowsReaction Accepts old new r = KeepsWork AcceptedSearch old new × (r ≡ Ok Idle)
 
 -- the reaction to a step that neither waits for more bytes nor leaves a search, at that prompt or without one

@@ -1,10 +1,5 @@
-pub mod Results
 pub mod NameLaws
 pub mod Moves
-pub mod Current
-pub mod MappedLaws
+pub mod InCurrent
 pub mod ViewportLaws
-pub mod Removals
-pub mod Arrangements
-pub mod Keeping
 pub mod ShownWindows

@@ -2,7 +2,7 @@ use Rattle.std.proofs.Common.{rules, ◌≡◌, Ok, refl, sym, subst}
 use Rattle.mg_keys.specs.declared.step.Step.TheVariants.{Pending}
 use Rattle.mg_minibuffer.specs.declared.ending.Request.TheVariants.{Idle}
 use Rattle.mg_dialogue.specs.Dialogues.{Fed, Forgot}
-use Rattle.mg_workspace.proofs.Results.{on_err_map}
+use Rattle.std.proofs.lemmas.Result.{on_err_weaker}
 use Rattle.mg_editor.specs.Editors.{Editor}
 use Rattle.mg_editor.specs.Presses.{KeepsWork, Pressed}
 use Rattle.mg_editor.proofs.Steps.{as_before, taken_default}
@@ -28,8 +28,8 @@ returns-in_default g c =
     let r = c.take_step.result in
     let step = c.feed-step.result in
     let taken = taken_default step c.args.byte (record was { talk = fed }) now r c.in_default.not-Pending c.in_default.not-Leave c.take_step.ensures.stepped in
-    let before = on_err_map r _ _ (as_before c.args.byte step was now fed c.feed-step.ensures) c.take_step.ensures.refused in
+    let before = on_err_weaker r (as_before c.args.byte step was now fed c.feed-step.ensures) c.take_step.ensures.refused in
     record {
       pressed = subst (λ e. Pressed c.args.byte e now r) (sym is) (record { step = step; fed = fed; feeds = c.feed-step.ensures; taken = taken });
-      refused = on_err_map r _ _ (subst (λ e. KeepsWork Forgot e now) (sym is)) before;
+      refused = on_err_weaker r (subst (λ e. KeepsWork Forgot e now) (sym is)) before;
     }
