@@ -4,12 +4,11 @@ use Rattle.std.specs.Fmt.{decimal}
 use Rattle.std.specs.Io.KnownBytes.{Appends}
 use Rattle.rga_devices.specs.Counting.{Calls}
 use Rattle.rga_lines.specs.Stream.{bytes_of_lines}
-use Rattle.mg_screen.specs.Frame.{frame_rows}
 use Rattle.mg_screen.specs.Written.{utf8}
 use Rattle.mg_screen.specs.declared.screen.Position.{Position}
 use Rattle.mg_settings.specs.Settings.{Values}
 use Rattle.mg_editor.specs.Editors.{Editor}
-use Rattle.mg_editor.specs.Frames.{PlacesWindows, ShowsCursor, screen_of}
+use Rattle.mg_editor.specs.Frames.{cursor_of, placed_editor, rows_of}
 use Rattle.mg_session.specs.Courses.{is_on, IsFailed}
 use Rattle.mg_session.specs.Moments.{Known, Moment}
 use Rattle.mg_session.specs.declared.course.Course.{Course}
@@ -49,7 +48,7 @@ frame_text rows cursor = bytes_of_lines (frame_lines rows cursor)
 
 -- the rows of an editor, in UTF-8
 abbrev pub editor_rows : Editor → List (List ℕ)
-editor_rows e = utf8 (frame_rows e.work.columns (screen_of e))
+editor_rows e = utf8 (rows_of e)
 
 -- what is shown of where the cursor stands
 abbrev pub shown_cursor : Bool → Position → Option Position
@@ -58,8 +57,8 @@ shown_cursor has_cursor at = if has_cursor then Some at else None
 -- the text is the frame of the editor, whose windows were placed for it
 pub record ShowsFrame (has_cursor : Bool) (old new : Editor) (text : List ℕ) : Type 0 where
   pub at : Position
-  pub placed : PlacesWindows old new
-  pub cursor : ShowsCursor new at
+  pub placed : new ≡ placed_editor old
+  pub cursor : cursor_of new ≡ Some at
   pub written : text ≡ frame_text (editor_rows new) (shown_cursor has_cursor at)
 
 -- ---- how it is written
