@@ -10,7 +10,7 @@ use Rattle.mg_minibuffer.specs.declared.prompt.Search.{Search}
 use Rattle.mg_minibuffer.specs.SearchStep.{or_last}
 use Rattle.mg_dialogue.specs.Dialogues.{Dialogue, Closes, Fed, last_after, search_of}
 use Rattle.mg_editor.specs.Editors.{Editor}
-use Rattle.mg_editor.specs.Presses.{PressAnswer, FollowsReaction, IsRead, Pressed, RanOut, StepTaken, accepting, editor_reaction, searching}
+use Rattle.mg_editor.specs.Presses.{PressAnswer, FollowsReaction, IsRead, Pressed, RanOut, StepTaken, with_search_accepted, editor_reaction, with_search}
 
 -- a step that does not wait for more bytes was taken, or memory was wanting
 pub taken : (step : Step) (before old new : Editor) (r : PressAnswer) → step ≢ Pending → IfOk r (FollowsReaction (editor_reaction step old) old new) → OnErr r (RanOut before new)
@@ -40,20 +40,20 @@ open_search (Some Quitting) s is = cc
 
 -- a byte left a search, and its step was taken
 pub left : (byte : ℕ) (s : Search) (step : Step) (old new : Editor) (closed read : Dialogue) (r : PressAnswer) → search_of old.talk.prompt ≡ Some s → Closes old.talk closed → Fed byte step closed read
-    → StepTaken step (searching s (record old { talk = read })) (accepting s (record old { talk = read })) new r
+    → StepTaken step (with_search s (record old { talk = read })) (with_search_accepted s (record old { talk = read })) new r
     → (step : Step) × (read : Dialogue) × IsRead byte Leave old.talk step read × StepTaken step old (record old { talk = read }) new r
 left byte s step old new closed read r is closes feeds it =
     let left : Editor = record old { talk = read } in
     let last : read.last ≡ old.talk.last = ap (λ (t : Dialogue). t.last) feeds.rest ∙ ap (λ (t : Dialogue). t.last) closes.rest in
-    let reads : IsRead byte Leave old.talk step (accepting s left).talk = rw (is, IsRead) (
+    let reads : IsRead byte Leave old.talk step (with_search_accepted s left).talk = rw (is, IsRead) (
       record closed { prompt = None; message = Nothing; last = or_last s.pattern old.talk.last },
       record { keys = closes.keys; rest = ap (λ o. record closed { prompt = None; message = Nothing; last = last_after o old.talk.last }) (sym is) },
       record { answers = feeds.answers; mode = feeds.mode; rest = ap (λ l. record read { prompt = None; message = Nothing; last = or_last s.pattern l }) last },
     ) in
     let reopened = λ (t : Dialogue). record t { keys = new.talk.keys; prompt = Some (Searching s) } in
     let rest = ap reopened feeds.rest ∙ ap reopened closes.rest ∙ ap (λ p. record old.talk { keys = new.talk.keys; prompt = p }) (sym (open_search old.talk.prompt s is)) in
-    let before : RanOut (searching s left) new → RanOut old new = λ t. record { work = t.work; talk = record { keys = t.talk.keys; rest = t.talk.rest ∙ rest } } in
-    (step, (accepting s left).talk, reads, taken_from step (searching s left) old (accepting s left) new r before it)
+    let before : RanOut (with_search s left) new → RanOut old new = λ t. record { work = t.work; talk = record { keys = t.talk.keys; rest = t.talk.rest ∙ rest } } in
+    (step, (with_search_accepted s left).talk, reads, taken_from step (with_search s left) old (with_search_accepted s left) new r before it)
 
 -- ---- the whole press
 

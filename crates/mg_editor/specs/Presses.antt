@@ -41,20 +41,20 @@ pub record RanOut (old new : Editor) : Type 0 where
 
 -- ---- a step
 
--- an action was refused: why is said, before this prompt, and nothing is requested
+-- an action was refused: why is said, this is the prompt then, and nothing is requested
 abbrev pub Refuses : Action → prompt_behind.Next → Editor → Editor → Request → Type 0
 Refuses action next old new request =
     (said : Message) × Done action old.work new.work (Err (Refused said)) × Shown next said old.talk new.talk × (request ≡ Idle)
 
--- the action of an ending was done, and its prompt, its message and its request follow, or it was refused
+-- the action of an ending was done, and its prompt, its message and its request follow; or it was refused
 abbrev pub Ended : Ending → Editor → Editor → Request → Type 0
 Ended e old new request =
     (Done e.action old.work new.work (Ok tt) × Shown e.next e.message old.talk new.talk × (request ≡ e.request))
     ⊎ Refuses e.action e.refused old new request
 
--- query-replace ends where the next match is looked for, and memory is wanting
-abbrev pub ends_without_memory : Ending
-ends_without_memory = ending_of Nothing Closed (message.Refused notice.Memory)
+-- query-replace ends where memory is wanting for the search of the next match
+abbrev pub ending_without_memory : Ending
+ending_without_memory = ending_of Nothing Closed (message.Refused notice.Memory)
 
 -- What a reaction asks for. The match at point is replaced, and then the next one is looked for; a replacement that is
 -- refused leaves the question open. Where a search is accepted the prompt closes.
@@ -62,7 +62,7 @@ abbrev pub FollowsReaction : Reaction → Editor → Editor → Request → Type
 FollowsReaction (Ends e) old new request = Ended e old new request
 FollowsReaction (Replaces pattern put count) old new request =
     ((mid : Editor) × (e : Ending) × Done (Run (ReplaceOne pattern put) 1) old.work mid.work (Ok tt) × (mid.talk ≡ old.talk)
-    × ((e ≡ asks_at_next_match pattern put (sum count 1) (scene_of mid.work)) ⊎ (e ≡ ends_without_memory)) × Ended e mid new request)
+    × ((e ≡ asks_at_next_match pattern put (sum count 1) (scene_of mid.work)) ⊎ (e ≡ ending_without_memory)) × Ended e mid new request)
     ⊎ Refuses (Run (ReplaceOne pattern put) 1) Same old new request
 FollowsReaction Accepts old new request = (new.work ≡ old.work) × AcceptedSearch old.talk new.talk × (request ≡ Idle)
 
@@ -75,16 +75,16 @@ reaction_to (Some p) step scene last = prompt_step p step scene last
 abbrev pub editor_reaction : Step → Editor → Reaction
 editor_reaction step e = reaction_to e.talk.prompt step (scene_of e.work) e.talk.last
 
--- A step is taken, or memory is wanting, which changes the editor no more than that. One that waits for more bytes changes
--- nothing.
+-- A step was taken, or memory was wanting, and what stood before the byte stands again. One that waits for more bytes
+-- changes nothing.
 abbrev pub StepTaken : Step → Editor → Editor → Editor → PressAnswer → Type 0
 StepTaken Pending before old new r = (new ≡ old) × (r ≡ Ok Idle)
 StepTaken step before old new r = MatchResult r (FollowsReaction (editor_reaction step old) old new) (λ _. RanOut before new)
 
 -- ---- a byte
 
--- The step that is taken of a byte that was read. One that leaves an open search accepts it, and is read again with no
--- prompt open; where no search is open it is no key.
+-- The step that is taken of a byte whose first reading gives that one. A byte that leaves an open search accepts it, and is
+-- read again with no prompt open; where no search is open it is no key.
 abbrev pub IsRead : ℕ → Step → Dialogue → Step → Dialogue → Type 0
 IsRead byte Leave fed step read = elim (search_of fed.prompt) [
   | None ↦ (step ≡ Unbound) × (read ≡ fed)
@@ -92,15 +92,14 @@ IsRead byte Leave fed step read = elim (search_of fed.prompt) [
 ]
 IsRead byte first fed step read = (step ≡ first) × (read ≡ fed)
 
--- with that search open
-abbrev pub searching : Search → Editor → Editor
-searching s e = record e { talk = record e.talk { prompt = Some (Searching s) } }
+-- an editor whose prompt is that search, and one that accepted it: the prompt closes, and nothing is said
+abbrev pub with_search : Search → Editor → Editor
+with_search s e = record e { talk = record e.talk { prompt = Some (Searching s) } }
 
--- where it is accepted: the prompt closes, and nothing is said
-abbrev pub accepting : Search → Editor → Editor
-accepting s e = record e { talk = record e.talk { prompt = None; message = message.Nothing; last = or_last s.pattern e.talk.last } }
+abbrev pub with_search_accepted : Search → Editor → Editor
+with_search_accepted s e = record e { talk = record e.talk { prompt = None; message = message.Nothing; last = or_last s.pattern e.talk.last } }
 
--- the keys give a step, which is taken
+-- the byte is read, and its step is taken
 pub record Pressed (byte : ℕ) (old new : Editor) (r : PressAnswer) : Type 0 where
   pub first : Step
   pub fed : Dialogue

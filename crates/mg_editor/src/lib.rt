@@ -16,6 +16,7 @@ mod carrying;
 mod editor;
 mod fault;
 mod framing;
+pub mod laws;
 mod meeting;
 mod opening;
 mod pressing;

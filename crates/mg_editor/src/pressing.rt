@@ -156,7 +156,7 @@ impl<S: TextStore> Editor<S> {
     fn go_on(&mut self, pattern: &[char], put: &[char], count: usize) -> Request
         ensures { let scene = scene_of self.old.work in (e : Ending)
             × ((e ≡ queries.asks_at_next_match pattern.now put.now count scene)
-            ⊎ (e ≡ spec.ends_without_memory)) × spec.Ended e self.old self.new result }
+            ⊎ (e ≡ spec.ending_without_memory)) × spec.Ended e self.old self.new result }
     {
         match self.find_next(pattern, put, count) {
             Ok(request) => request,
@@ -227,8 +227,8 @@ impl<S: TextStore> Editor<S> {
     /// The step of a byte that left a search.
     fn leave_by(&mut self, search: Search, step: Step) -> Result<Request, Fault>
         requires { self.old.talk.prompt ≡ None }
-        ensures { spec.StepTaken step (spec.searching search self.old)
-            (spec.accepting search self.old) self.new result }
+        ensures { spec.StepTaken step (spec.with_search search self.old)
+            (spec.with_search_accepted search self.old) self.new result }
     {
         match step {
             Step::Pending => {
@@ -242,9 +242,9 @@ impl<S: TextStore> Editor<S> {
 
     fn leave_plainly(&mut self, search: Search, step: Step) -> Result<Request, Fault>
         requires { self.old.talk.prompt ≡ None }
-        ensures left { let old = spec.accepting search self.old in
+        ensures left { let old = spec.with_search_accepted search self.old in
             IfOk result (spec.Ended (plain.plain_step step (scene_of old.work)) old self.new) }
-        ensures refused { OnErr result (spec.RanOut (spec.searching search self.old) self.new) }
+        ensures refused { OnErr result (spec.RanOut (spec.with_search search self.old) self.new) }
     {
         match self.take_plain(step) {
             Ok(request) => {

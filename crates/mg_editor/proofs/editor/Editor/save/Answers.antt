@@ -1,8 +1,7 @@
-use Rattle.std.proofs.Common.{rules}
+use Rattle.std.proofs.Common.{rules, ◌≡◌, subst}
 use Rattle.mg_files.proofs.SaveLaws.{saves_to}
 use Rattle.mg_files.specs.Saving.{SavesTo}
-use Rattle.mg_editor.specs.Carrying.{save_outcome}
-use Rattle.mg_editor.proofs.Meetings.{concluded}
+use Rattle.mg_workspace.specs.Workspaces.{workspace_buffer}
 use Rattle.mg_editor.proofs.editor.Editor.save.Goals as goal
 
 pub returns-clause-saved : goal.returns-clause-saved
@@ -13,5 +12,6 @@ returns-clause-saved g c =
     let s = c.save-answer.ensures in
     let calls = g.P.Port.calls c.args.port.now in
     let more = g.P.Port.calls c.save-answer.new.port in
-    concluded (λ answer. SavesTo answer calls more) save_outcome _ _ c.self.inside.work b d r _
-    (search rules) c.current_mut.ensures.value (saves_to r calls more b d s.changed s.calls s.saved s.failed) (search rules) (search rules)
+    let current : b ≡ workspace_buffer c.args.self.now.work = search rules in
+    let became = subst (λ x. SavesTo r calls more x d) current (saves_to r calls more b d s.changed s.calls s.saved s.failed) in
+    record { came = r; became = (d, search rules, became); is = search rules; done = search rules }
