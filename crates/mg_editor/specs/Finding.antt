@@ -9,7 +9,7 @@ use Rattle.mg_files.specs.declared.fault.LoadFault.TheVariants.{Memory}
 use Rattle.mg_files.specs.declared.port.PortFault.{PortFault}
 use Rattle.mg_minibuffer.specs.declared.message.Message.TheVariants as message
 use Rattle.mg_workspace.specs.Actions.{gone_to}
-use Rattle.mg_workspace.specs.Opening.{is_full, OpensBy}
+use Rattle.mg_workspace.specs.Opening.{is_full, open_outcome}
 use Rattle.mg_workspace.specs.Workspaces.{Workspace}
 use Rattle.mg_editor.specs.Editors.{Editor}
 use Rattle.mg_editor.specs.Opening.{message_of_end}
@@ -37,7 +37,7 @@ abbrev pub Loads : List ℕ → Option (List Call) → Option (List Call) → Op
 Loads name calls more r w v =
     ((v ≡ w) × (r ≡ Err (Load Memory)) × (Adds calls more [] ⊎ ((found : Files) × Adds calls more (load_told (Ok found) name))))
     ⊎ ((given : Result Files PortFault) × Adds calls more (load_told given name) × MatchResult given
-    (λ found. (end : Result LogEnd LoadFault) × OpensBy (load_outcome name w.replica w.limit found) w v end × (r ≡ of_load end))
+    (λ found. let o = open_outcome (load_outcome name w.replica w.limit found) w in (v ≡ o.0) × (r ≡ of_load o.1))
     (λ fault. (v ≡ w) × (r ≡ Err (Port fault))))
 
 -- ---- a buffer that is asked for

@@ -44,12 +44,12 @@ pub record RanOut (old new : Editor) : Type 0 where
 -- an action was refused: why is said, this is the prompt then, and nothing is requested
 abbrev pub Refuses : Action → prompt_behind.Next → Editor → Editor → Request → Type 0
 Refuses action next old new request =
-    (said : Message) × Done action old.work new.work (Err (Refused said)) × Shown next said old.talk new.talk × (request ≡ Idle)
+    (said : Message) × Done action old.work (new.work, Err (Refused said)) × Shown next said old.talk new.talk × (request ≡ Idle)
 
 -- the action of an ending was done, and its prompt, its message and its request follow; or it was refused
 abbrev pub Ended : Ending → Editor → Editor → Request → Type 0
 Ended e old new request =
-    (Done e.action old.work new.work (Ok tt) × Shown e.next e.message old.talk new.talk × (request ≡ e.request))
+    (Done e.action old.work (new.work, Ok tt) × Shown e.next e.message old.talk new.talk × (request ≡ e.request))
     ⊎ Refuses e.action e.refused old new request
 
 -- query-replace ends where memory is wanting for the search of the next match
@@ -61,7 +61,7 @@ ending_without_memory = ending_of Nothing Closed (message.Refused notice.Memory)
 abbrev pub FollowsReaction : Reaction → Editor → Editor → Request → Type 0
 FollowsReaction (Ends e) old new request = Ended e old new request
 FollowsReaction (Replaces pattern put count) old new request =
-    ((mid : Editor) × (e : Ending) × Done (Run (ReplaceOne pattern put) 1) old.work mid.work (Ok tt) × (mid.talk ≡ old.talk)
+    ((mid : Editor) × (e : Ending) × Done (Run (ReplaceOne pattern put) 1) old.work (mid.work, Ok tt) × (mid.talk ≡ old.talk)
     × ((e ≡ asks_at_next_match pattern put (sum count 1) (scene_of mid.work)) ⊎ (e ≡ ending_without_memory)) × Ended e mid new request)
     ⊎ Refuses (Run (ReplaceOne pattern put) 1) Same old new request
 FollowsReaction Accepts old new request = (new.work ≡ old.work) × AcceptedSearch old.talk new.talk × (request ≡ Idle)

@@ -141,8 +141,8 @@ impl<S: TextStore> Editor<S> {
 
     fn replace_one(&mut self, pattern: &[char], put: &[char]) -> Result<(), ActionFault>
         ensures one { result ≢ Err ActionFault.Memory →
-            RanInCurrent (Command.ReplaceOne pattern.now put.now) 1 self.old.work self.new.work
-            result }
+            RanInCurrent (Command.ReplaceOne pattern.now put.now) 1
+            self.old.work (self.new.work, result) }
         ensures memory { result ≡ Err ActionFault.Memory → self.new.work ≡ self.old.work }
         ensures talk { self.new.talk ≡ self.old.talk }
     {

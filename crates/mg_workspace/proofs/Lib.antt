@@ -1,10 +1,7 @@
 pub mod Results
 pub mod NameLaws
 pub mod Moves
-pub mod Current
+pub mod InCurrent
 pub mod MappedLaws
 pub mod ViewportLaws
-pub mod Removals
-pub mod Arrangements
-pub mod Keeping
 pub mod ShownWindows

@@ -1,4 +1,4 @@
--- Names looked for, and their characters compared, one after another.
+-- Characters compared, one after another.
 use Rattle.std.proofs.Common.{◌≡◌, ◌≢◌, ℕ, ◌+◌, ◌<◌, ◌≤◌, List, [], ◌∷◌, length, drop, get_or, Bool, true, false, nat_eq, nat_lt, ◌&&◌, cond, Some, None, refl, sym, ap, ◌∙◌, arith}
 use Rattle.std.specs.Cmp.Lexicographic.{pointwise}
 use Rattle.std.specs.List.{position_from}
@@ -41,17 +41,3 @@ none_on xs ys i past within = ap (λ zs. pointwise nat_eq zs (drop i ys)) (drop_
     by_more false none =
         let end = ltb-false i (length ys) none in
         ap (λ zs. pointwise nat_eq [] zs) (drop_all i ys end) ∙ sym (eq-eqb i (length ys) (omega (arith, end, within)))
-
--- ---- the first element that passes a test
-
-pub found_at : {A : Type 0} (test : A → Bool) (xs : List A) (i : ℕ) (x : A) → i < length xs → x ≡ get_or xs i x → true ≡ test x → position_from test i (drop i xs) ≡ Some i
-found_at test xs i x inside is passes =
-    ap (position_from test i) (one_on xs i x inside is) ∙ ap (λ b. cond b (Some i) (position_from test (i + 1) (drop (i + 1) xs))) (sym passes)
-
-pub passed_at : {A : Type 0} (test : A → Bool) (xs : List A) (i : ℕ) (x : A) → i < length xs → x ≡ get_or xs i x → false ≡ test x
-    → position_from test i (drop i xs) ≡ position_from test (i + 1) (drop (i + 1) xs)
-passed_at test xs i x inside is fails =
-    ap (position_from test i) (one_on xs i x inside is) ∙ ap (λ b. cond b (Some i) (position_from test (i + 1) (drop (i + 1) xs))) (sym fails)
-
-pub none_left : {A : Type 0} (test : A → Bool) (xs : List A) (i : ℕ) → length xs ≤ i → position_from test i (drop i xs) ≡ None
-none_left test xs i past = ap (position_from test i) (drop_all i xs past)

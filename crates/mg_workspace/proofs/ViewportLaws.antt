@@ -128,25 +128,6 @@ left_at gone (w ∷ ws) (suc i) s x at is = ap (λ us. w ∷ us) (left_at gone w
 
 -- ---- the windows of a workspace show its buffers
 
-pub gone_shown : (bs : Buffers) (l new : Layout Viewport) (i : ℕ) → AreShown bs l → i < length bs.all → new ≡ turned_to_buffer i l → (current_viewport new).buffer ≡ i → AreShown (record bs { current = i }) new
-gone_shown bs l new i shown inside is here = record {
-  few = shown.few;
-  each = subst (λ (v : Layout Viewport). ShowThese (length bs.all) v.windows) (sym is) (show_at (length bs.all) l.current (viewport i (current_viewport l).first) l.windows inside shown.each);
-  current = here;
-}
-
-pub opened_shown : (bs : Buffers) (l new : Layout Viewport) (b : OpenState) → AreShown bs l → length bs.all < MAX_BUFFERS → new ≡ turned_to_buffer (length bs.all) l → (current_viewport new).buffer ≡ length bs.all
-    → AreShown (with_buffer b bs) new
-opened_shown bs l new b shown room is here =
-    let more : length (bs.all ++ b ∷ []) ≡ length bs.all + 1 = length_push bs.all b in
-    record {
-      few = omega (arith, more, room);
-      each = subst (λ (v : Layout Viewport). ShowThese (length (bs.all ++ b ∷ [])) v.windows) (sym is)
-          (show_at (length (bs.all ++ b ∷ [])) l.current (viewport (length bs.all) (current_viewport l).first) l.windows (omega (arith, more))
-          (show_more (length bs.all) (length (bs.all ++ b ∷ [])) l.windows (omega (arith, more)) shown.each));
-      current = here;
-    }
-
 pub removed_shown : (bs : Buffers) (l : Layout Viewport) (gone : ℕ) → AreShown bs l → gone < length bs.all → 1 < length bs.all → AreShown (without_buffer gone bs) (layout_without gone l)
 removed_shown bs l gone shown inside others =
     let n = length bs.all in

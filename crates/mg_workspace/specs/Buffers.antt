@@ -25,7 +25,7 @@ with_buffer b bs = record { all = bs.all ++ b ∷ []; current = length bs.all }
 abbrev pub without_buffer : ℕ → Buffers → Buffers
 without_buffer gone bs = record { all = remove bs.all gone; current = moved gone bs.current }
 
--- ---- the current one
+-- ---- the one at an index, and the current one
 
 -- where there is no buffer; there always is a current one
 abbrev pub no_buffer : OpenState
@@ -37,8 +37,11 @@ no_buffer = record {
   brief = false;
 }
 
+abbrev pub buffer_at : ℕ → Buffers → OpenState
+buffer_at i bs = get_or bs.all i no_buffer
+
 abbrev pub current_buffer : Buffers → OpenState
-current_buffer bs = get_or bs.all bs.current no_buffer
+current_buffer bs = buffer_at bs.current bs
 
 -- with another as the current one
 abbrev pub with_current : Buffers → OpenState → Buffers

@@ -1,5 +1,5 @@
 -- The workspace of one buffer, and buffers that are opened in it.
-use Rattle.std.specs.Prelude.{◌≡◌, ◌-◌, Bool, [], ◌∷◌, length, nat_le, Result, Ok, Err}
+use Rattle.std.specs.Prelude.{◌-◌, Bool, [], ◌∷◌, length, nat_le, Result, Ok, Err}
 use Rattle.rga_exchange.specs.declared.log.LogEnd.{LogEnd}
 use Rattle.mg_plain.specs.declared.view.Kind.TheVariants.{Plain}
 use Rattle.mg_files.specs.OpenState.{OpenState, with_brief, with_runs}
@@ -34,7 +34,7 @@ is_full w = nat_le MAX_BUFFERS (length w.buffers.all)
 abbrev pub with_opened : OpenState → Workspace → Workspace
 with_opened b w = record w { buffers = with_buffer (with_brief w.brief (with_runs w.runs b)) w.buffers; windows = turned_to_buffer (length w.buffers.all) w.windows }
 
--- as what was found is loaded, or its fault
-abbrev pub OpensBy : Result (OpenState × LogEnd) LoadFault → Workspace → Workspace → Result LogEnd LoadFault → Type 0
-OpensBy (Ok l) w v r = (v ≡ with_opened l.0 w) × (r ≡ Ok l.1)
-OpensBy (Err fault) w v r = (v ≡ w) × (r ≡ Err fault)
+-- with what was loaded, and how its log ends; or the fault
+abbrev pub open_outcome : Result (OpenState × LogEnd) LoadFault → Workspace → Workspace × Result LogEnd LoadFault
+open_outcome (Ok l) w = (with_opened l.0 w, Ok l.1)
+open_outcome (Err fault) w = (w, Err fault)

@@ -12,7 +12,7 @@ use rga_store::TextStore;
 impl<S: TextStore> Workspace<S> {
     /// Does an action. Want of memory changes nothing.
     pub fn do_action(&mut self, action: &Action) -> Result<(), ActionFault>
-        ensures done { spec.Done action.now self.old self.new result }
+        ensures done { spec.Done action.now self.old (self.new, result) }
         ensures kept { result ≡ Err Memory → self.new ≡ self.old }
     {
         match action {
@@ -31,7 +31,7 @@ impl<S: TextStore> Workspace<S> {
 
     /// The current buffer runs a command.
     pub fn run(&mut self, command: &Command, argument: u16) -> Result<(), ActionFault>
-        ensures ran { spec.RanInCurrent command.now argument self.old self.new result }
+        ensures ran { spec.RanInCurrent command.now argument self.old (self.new, result) }
         ensures kept { result ≡ Err Memory → self.new ≡ self.old }
     {
         let current = self.buffers.current_mut();
@@ -43,7 +43,7 @@ impl<S: TextStore> Workspace<S> {
 
     /// The current buffer undoes.
     fn undo(&mut self) -> Result<(), ActionFault>
-        ensures undid { spec.UndidInCurrent self.old self.new result }
+        ensures undid { spec.Done Action.Undo self.old (self.new, result) }
         ensures kept { result ≡ Err Memory → self.new ≡ self.old }
     {
         let answer = self.buffers.current_mut().buffer.undo(&mut self.memo);

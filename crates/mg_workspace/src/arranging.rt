@@ -1,11 +1,14 @@
 //! Windows that change.
-ghost use Rattle.std.specs.Prelude.{◌≡◌, ℕ, ◌<◌, ◌≤◌, Some, Err, length, slice_get, OnOk, OnErr, IfErr};
+ghost use Rattle.std.specs.Prelude.{◌≡◌, ◌≢◌, ℕ, ◌<◌, ◌≤◌, true, false, Some, Err, length, slice_get, OnOk, OnErr, IfErr};
+ghost use Rattle.mg_minibuffer.specs.declared.ending.Action.TheVariants.{Arrange};
 ghost use Rattle.mg_screen.specs.Layout.{all_shown, heights, FillsRows};
 ghost use Rattle.mg_screen.specs.declared.size.TheConstants.{MIN_ROWS, MAX_ROWS, MIN_COLUMNS, MAX_COLUMNS};
 ghost use Rattle.mg_workspace.specs.declared.fault.ActionFault.TheVariants.{Memory};
 ghost use Rattle.mg_workspace.specs.Actions as spec;
-ghost use Rattle.mg_workspace.specs.Viewports.{current_viewport, ShowThese};
+ghost use Rattle.mg_workspace.specs.Viewports.{current_viewport, ShowThese, AreShown};
+ghost use Rattle.mg_workspace.specs.declared.workspace.TheConstants.{MAX_BUFFERS};
 
+use crate::buffers::Buffers;
 use crate::fault::{ActionFault, of_windows};
 use crate::viewport::Viewport;
 use crate::workspace::Workspace;
@@ -45,8 +48,8 @@ fn recenter<S: TextStore>(
     opened: &VisitedBuffer<S>,
 ) -> Result<(), WindowFault>
     ensures memory { IfErr result (λ e. e ≡ WindowFault.Memory) }
-    ensures windows { OnOk result
-        (windows.new ≡ spec.arranged Arrangement.Recenter opened.now windows.old) }
+    ensures exact { OnOk result ((windows.new, result)
+        ≡ spec.window_outcome Arrangement.Recenter opened.now windows.old) }
     ensures same { OnErr result (windows.new ≡ windows.old) }
     ensures shown { (n : ℕ) → ShowThese n windows.old.windows → ShowThese n windows.new.windows }
 {
@@ -66,10 +69,9 @@ fn change_windows<S: TextStore>(
     arrangement: Arrangement,
     opened: &VisitedBuffer<S>,
 ) -> Result<(), WindowFault>
-    ensures exact { spec.IsWindowAnswer result (spec.window_answer arrangement windows.old) }
-    ensures windows { OnOk result
-        (windows.new ≡ spec.arranged arrangement opened.now windows.old) }
-    ensures same { OnErr result (windows.new ≡ windows.old) }
+    ensures exact { result ≢ Err WindowFault.Memory →
+        (windows.new, result) ≡ spec.window_outcome arrangement opened.now windows.old }
+    ensures same { result ≡ Err WindowFault.Memory → windows.new ≡ windows.old }
     ensures shown { (n : ℕ) → ShowThese n windows.old.windows → ShowThese n windows.new.windows }
 {
     match arrangement {
@@ -87,8 +89,21 @@ fn change_windows<S: TextStore>(
     }
 }
 
+/// The buffer of the current window is current.
+fn follow<S: TextStore>(buffers: &mut Buffers<S>, windows: &Windows<Viewport>)
+    requires few { length buffers.old.all ≤ MAX_BUFFERS }
+    requires each { ShowThese (length buffers.old.all) windows.now.windows }
+    ensures exact { let shown = current_viewport windows.now in
+        buffers.new ≡ record buffers.old { current = shown.buffer } }
+    ensures shown { AreShown buffers.new windows.now }
+{
+    let shown = current_viewport(windows);
+    buffers.go_to(shown.buffer);
+}
+
 fn lacks_memory(answer: Result<(), WindowFault>) -> bool
-    ensures { result ≡ spec.lacks_memory answer }
+    ensures memory { result ≡ true → answer ≡ Err WindowFault.Memory }
+    ensures others { result ≡ false → answer ≢ Err WindowFault.Memory }
 {
     match answer {
         Err(WindowFault::Memory) => true,
@@ -100,7 +115,7 @@ impl<S: TextStore> Workspace<S> {
     /// The windows change, and a run of commands ends, refused or not. Then the buffer of the
     /// current window is current.
     pub(crate) fn arrange(&mut self, arrangement: Arrangement) -> Result<(), ActionFault>
-        ensures arranged { spec.Arranged arrangement self.old self.new result }
+        ensures arranged { spec.Done (Arrange arrangement) self.old (self.new, result) }
         ensures kept { result ≡ Err Memory → self.new ≡ self.old }
     {
         let Ok(()) = self.list() else {
@@ -112,8 +127,7 @@ impl<S: TextStore> Workspace<S> {
             return Err(ActionFault::Memory);
         }
         self.buffers.idle(&mut self.memo);
-        let shown = current_viewport(&self.windows);
-        self.buffers.go_to(shown.buffer);
+        follow(&mut self.buffers, &self.windows);
         of_windows(answer)
     }
 
@@ -129,7 +143,6 @@ impl<S: TextStore> Workspace<S> {
     {
         self.windows.resize(rows);
         self.columns = columns;
-        let shown = current_viewport(&self.windows);
-        self.buffers.go_to(shown.buffer);
+        follow(&mut self.buffers, &self.windows);
     }
 }

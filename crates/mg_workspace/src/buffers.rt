@@ -92,7 +92,7 @@ impl<S: TextStore> Buffers<S> {
         ensures exact { result ≡ names.buffer_named name.now self.now.all }
         ensures within { IfSome result (λ i. i < length self.now.all) }
     {
-        index_named(self.all.as_slice(), name)
+        self.all.iter().position(|opened| is_named(opened, name))
     }
 
     /// The index of the buffer that an answer asks for. Without a name that is another one. Takes no
@@ -113,7 +113,7 @@ impl<S: TextStore> Buffers<S> {
         ensures exact { result ≡ names.next_round (length self.now.all) self.now.current }
         ensures within { result < length self.now.all }
     {
-        behind_round(self.all.as_slice().len(), self.current)
+        behind_round(self.count(), self.current)
     }
 
     /// The buffer at an index is current. Takes no memory.
@@ -176,6 +176,7 @@ impl<S: TextStore> Buffers<S> {
     /// A run of commands ends in the current buffer. Takes no memory.
     pub fn idle(&mut self, memo: &mut Memo)
         ensures buffers { self.new ≡ spec.idled self.old }
+        ensures count { length self.new.all ≡ length self.old.all }
         ensures memo { memo.new ≡ record memo.old { kind = Plain } }
     {
         self.current_mut().buffer.idle(memo);
@@ -189,19 +190,6 @@ fn behind_round(count: usize, index: usize) -> usize
     ensures within { result < count }
 {
     if index + 1 < count { index + 1 } else { 0 }
-}
-
-/// The index of the buffer of a name, among these.
-fn index_named<S: TextStore>(all: &[VisitedBuffer<S>], name: &[char]) -> Option<usize>
-    ensures exact { result ≡ names.buffer_named name.now all.now }
-    ensures within { IfSome result (λ i. i < length all.now) }
-{
-    for index in 0..all.len() {
-        if is_named(&all[index], name) {
-            return Some(index);
-        }
-    }
-    None
 }
 
 /// Whether the characters are a buffer's name.

@@ -1,5 +1,5 @@
 //! Buffers by their names: gone to, removed, opened.
-ghost use Rattle.std.specs.Prelude.{◌≡◌, ◌≢◌, ◌<◌, Err, length, string_bytes, OnErr};
+ghost use Rattle.std.specs.Prelude.{◌≡◌, ◌≢◌, ◌<◌, ◌≤◌, Err, length, string_bytes, OnErr};
 ghost use Rattle.mg_files.specs.Loading.{load_outcome};
 ghost use Rattle.mg_files.specs.declared.fault.LoadFault.TheVariants as load_fault;
 ghost use Rattle.mg_workspace.specs.Mapped.{mapped_at};
@@ -10,7 +10,7 @@ ghost use Rattle.mg_workspace.specs.Viewports as viewports;
 ghost use Rattle.mg_workspace.specs.Opening as opening;
 
 use crate::arranging::{current_viewport, viewport_at};
-use crate::buffers::moved;
+use crate::buffers::{Buffers, moved};
 use crate::fault::ActionFault;
 use crate::viewport::Viewport;
 use crate::workspace::{MAX_BUFFERS, Workspace};
@@ -20,11 +20,14 @@ use mg_screen::Windows;
 use rga_exchange::LogEnd;
 use rga_store::TextStore;
 
-/// The current window shows another buffer, from the same line on.
-fn turn(windows: &mut Windows<Viewport>, buffer: usize)
-    ensures exact { windows.new ≡ viewports.turned_to_buffer buffer windows.old }
-    ensures current { (viewports.current_viewport windows.new).buffer ≡ buffer }
+/// The current window shows the current buffer, from the same line on.
+fn turn<S: TextStore>(windows: &mut Windows<Viewport>, buffers: &Buffers<S>)
+    requires few { length buffers.now.all ≤ MAX_BUFFERS }
+    requires each { viewports.ShowThese (length buffers.now.all) windows.old.windows }
+    ensures exact { windows.new ≡ viewports.turned_to_buffer buffers.now.current windows.old }
+    ensures shown { viewports.AreShown buffers.now windows.new }
 {
+    let buffer = buffers.current_index();
     let first = current_viewport(windows).first;
     windows.show(windows.current(), Viewport { buffer, first });
 }
@@ -63,12 +66,12 @@ impl<S: TextStore> Workspace<S> {
         ensures { self.new ≡ spec.gone_to index self.old }
     {
         self.buffers.go_to(index);
-        turn(&mut self.windows, index);
+        turn(&mut self.windows, &self.buffers);
     }
 
     /// Another buffer is current: that of the name, or without a name the next one, round.
     pub(crate) fn switch(&mut self, name: &[char]) -> Result<(), ActionFault>
-        ensures switched { spec.Switched name.now self.old self.new result }
+        ensures switched { (self.new, result) ≡ spec.switch_outcome name.now self.old }
         ensures no_memory { result ≢ Err Memory }
     {
         let Some(index) = self.buffers.asked(name, self.buffers.next()) else {
@@ -80,7 +83,7 @@ impl<S: TextStore> Workspace<S> {
 
     /// A buffer is removed: that of the name, or without a name the current one.
     pub(crate) fn kill(&mut self, name: &[char]) -> Result<(), ActionFault>
-        ensures killed { spec.Killed name.now self.old self.new result }
+        ensures killed { (self.new, result) ≡ spec.kill_outcome name.now self.old }
         ensures no_memory { result ≢ Err Memory }
     {
         let Some(index) = self.buffers.asked(name, self.buffers.current_index()) else {
@@ -93,7 +96,7 @@ impl<S: TextStore> Workspace<S> {
     /// first one that is left.
     fn remove(&mut self, index: usize) -> Result<(), ActionFault>
         requires { index < length self.old.buffers.all }
-        ensures removed { spec.RemovesAt index self.old self.new result }
+        ensures removed { (self.new, result) ≡ spec.removal_outcome index self.old }
         ensures no_memory { result ≢ Err Memory }
     {
         if self.buffers.at(index).is_changed() {
@@ -110,7 +113,7 @@ impl<S: TextStore> Workspace<S> {
     /// Goes to the buffer of a name, and answers whether it is open; where it is not, nothing
     /// changes. Takes no memory.
     pub fn visit(&mut self, name: &[char]) -> bool
-        ensures { spec.Visited name.now self.old self.new result }
+        ensures { (self.new, result) ≡ spec.visit_outcome name.now self.old }
     {
         let Some(index) = self.buffers.named(name) else {
             return false;
@@ -135,8 +138,8 @@ impl<S: TextStore> Workspace<S> {
     pub fn open(&mut self, name: String, found: Found) -> Result<LogEnd, LoadFault>
         requires { length self.old.buffers.all < MAX_BUFFERS }
         ensures exact { let w = self.old in result ≢ Err load_fault.Memory →
-            opening.OpensBy (load_outcome (string_bytes name) w.replica w.limit found)
-            w self.new result }
+            (self.new, result) ≡
+            opening.open_outcome (load_outcome (string_bytes name) w.replica w.limit found) w }
         ensures same { OnErr result (self.new ≡ self.old) }
     {
         let (mut opened, end) = VisitedBuffer::load(
@@ -149,7 +152,7 @@ impl<S: TextStore> Workspace<S> {
         opened.append_runs(self.runs);
         opened.exchange_briefly(self.brief);
         self.buffers.open(opened)?;
-        turn(&mut self.windows, self.buffers.current_index());
+        turn(&mut self.windows, &self.buffers);
         Ok(end)
     }
 }

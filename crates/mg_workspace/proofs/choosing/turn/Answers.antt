@@ -1,12 +1,16 @@
-use Rattle.std.proofs.Common.{ap, ◌∙◌}
+use Rattle.std.proofs.Common.{sym, ap, subst, ◌∙◌}
 use Rattle.mg_screen.specs.Layout.{Layout}
 use Rattle.mg_workspace.specs.declared.viewport.Viewport.{Viewport}
-use Rattle.mg_workspace.specs.Viewports.{viewport, current_viewport}
-use Rattle.mg_workspace.proofs.ViewportLaws.{turned_current}
+use Rattle.mg_workspace.specs.Viewports.{viewport, AreShown}
+use Rattle.mg_workspace.proofs.ViewportLaws.{show_at, turned_current}
 use Rattle.mg_workspace.proofs.choosing.turn.Goals as goal
 
-pub returns-clause-current : goal.returns-clause-current
-returns-clause-current c =
+pub returns-clause-shown : goal.returns-clause-shown
+returns-clause-shown g c =
     let l = c.args.windows.now in
-    let x = viewport c.args.buffer c.current_viewport-first.result.first in
-    ap (λ (v : Layout Viewport). (current_viewport v).buffer) c.show.ensures.exact ∙ turned_current l c.current.result x c.current.ensures.exact c.current.ensures.within
+    let x = viewport c.current_index-buffer.result c.current_viewport-first.result.first in
+    subst (AreShown c.args.buffers.now) (sym c.show.ensures.exact) record {
+      few = c.requires.few;
+      each = show_at _ c.current.result x l.windows c.current_index-buffer.ensures.within c.requires.each;
+      current = turned_current l c.current.result x c.current.ensures.exact c.current.ensures.within ∙ c.current_index-buffer.ensures.exact;
+    }

@@ -1,39 +1,11 @@
-use Rattle.std.proofs.Common.{◌≡◌, OnOk, refl, ap, sym, subst, ◌∙◌}
-use Rattle.mg_buffer.specs.Faults.{IsFaultAnswer, undo_answer}
-use Rattle.mg_buffer.specs.Undid as buffer
-use Rattle.mg_files.specs.OpenState.{OpenState}
-use Rattle.mg_workspace.specs.Buffers.{current_buffer, with_current}
-use Rattle.mg_workspace.proofs.Results.{on_err_map}
-use Rattle.mg_workspace.specs.Actions.{UndidInCurrent, current_state, with_state_and_notes}
-use Rattle.mg_workspace.specs.Workspaces.{Workspace}
-use Rattle.mg_workspace.proofs.Keeping.{refused_undo_keeps, done_or_same}
+use Rattle.std.proofs.Common.{◌∙◌}
+use Rattle.mg_buffer.specs.Faults.{undo_answer}
+use Rattle.mg_buffer.specs.Undid.{Undid}
+use Rattle.mg_workspace.proofs.InCurrent.{acted}
 use Rattle.mg_workspace.proofs.workspace.Workspace.undo.Goals as goal
 
-pub returns : goal.returns
-returns g c =
-    let s = c.self.inside in
-    let b = c.behind-self.inside in
-    let x : OpenState = record { buffer = b.buffer; whole = b.whole; text_waits = b.text_waits; runs = b.runs; brief = b.brief } in
-    let is : x ≡ current_buffer s.buffers = c.behind-self.view_is ∙ c.current_mut.ensures.value in
-    let answer = c.undo-answer in
-    let r = answer.result in
-    let after = answer.new.self in
-    let notes = answer.new.memo in
-    let told = c.of_buffer.result in
-    let was : Workspace = record { buffers = s.buffers; notes = s.memo; windows = s.windows; fill = s.fill; columns = s.columns; replica = s.replica; limit = s.limit; runs = s.runs; brief = s.brief } in
-    let now : Workspace = record was { buffers = with_current s.buffers (record x { buffer = after }); notes = notes } in
-    let here : x.buffer ≡ current_state was = ap (λ o. o.buffer) is in
-    let exact = subst (λ d. IsFaultAnswer r (undo_answer d)) here answer.ensures.exact in
-    let done = subst (λ d. OnOk r (buffer.Undid d s.memo after notes)) here answer.ensures.undid in
-    let same = on_err_map r _ _ (λ kept. kept ∙ here) answer.ensures.same in
-    let became : UndidInCurrent was (with_state_and_notes after notes was) told = record {
-      answer = r;
-      after = after;
-      exact = exact;
-      undid = done_or_same r _ was after notes done same answer.ensures.memo;
-      is = refl;
-      told = c.of_buffer.ensures;
-    } in
-    let left : with_state_and_notes after notes was ≡ now = λ k. record was { buffers = with_current s.buffers (record (sym is k) { buffer = after }); notes = notes } in
-    let undid : UndidInCurrent c.args.self.now now told = subst (λ w. UndidInCurrent w now told) c.self.view_is (subst (λ v. UndidInCurrent was v told) left became) in
-    record { undid = undid; kept = refused_undo_keeps c.args.self.now now told undid }
+pub returns-clause-undid : goal.returns-clause-undid
+returns-clause-undid g c =
+    let answer = c.undo-answer.ensures in
+    acted (λ w b. undo_answer b) (λ w b. Undid b w.notes) _ _ _ _ _ _ _ c.self.view_is (c.behind-self.view_is ∙ c.current_mut.ensures.value)
+    answer.exact answer.undid answer.same answer.memo c.of_buffer.ensures
