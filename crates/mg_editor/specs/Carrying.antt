@@ -21,8 +21,7 @@ save_outcome (Ok true) = Ok Wrote
 save_outcome (Ok false) = Ok NoChanges
 save_outcome (Err fault) = Err (Port fault)
 
--- What the request leads to. Only a buffer that is not open is asked of the port by its name, and only while more may be
--- open; and to go nowhere, or to quit, asks nothing of it.
+-- what the request leads to; where it asks nothing of the port the calls stay
 abbrev pub Carried : Request → Option (List Call) → Option (List Call) → Editor → Editor → CarryAnswer → Type 0
 Carried Idle calls more old new r = (more ≡ calls) × (new ≡ old) × (r ≡ Ok tt)
 Carried Save calls more old new r = ChangesCurrent (λ answer. SavesTo answer calls more) save_outcome old new r

@@ -13,19 +13,19 @@ use Rattle.mg_workspace.specs.Workspaces.{workspace_buffer}
 abbrev pub screen_of : Editor → Screen
 screen_of e = record { panes = work_panes e.work; echo = echo_text e.talk (workspace_buffer e.work).buffer.name }
 
--- the rows of its frame
-abbrev pub rows_of : Editor → List (List ℕ)
-rows_of e = frame_rows e.work.columns (screen_of e)
+-- the rows of its frame, from the top on
+abbrev pub editor_frame : Editor → List (List ℕ)
+editor_frame e = frame_rows e.work.columns (screen_of e)
 
--- where the cursor stands on a screen: in the echo line behind an answer that is typed there, else in the current window at
--- point
+-- the cursor on a screen: in the echo line behind an answer that is typed there, else in the current window at point
 abbrev pub cursor_in : Editor → Screen → Option Position
 cursor_in e screen =
     if has_cursor e.talk then Some (echo_cursor e.work.columns screen)
     else cursor e.work.columns screen e.work.windows.current
 
-abbrev pub cursor_of : Editor → Option Position
-cursor_of e = cursor_in e (screen_of e)
+-- its cursor
+abbrev pub editor_cursor : Editor → Option Position
+editor_cursor e = cursor_in e (screen_of e)
 
 -- the editor, once its windows are placed
 abbrev pub placed_editor : Editor → Editor

@@ -75,7 +75,7 @@ reaction_to (Some p) step scene last = prompt_step p step scene last
 abbrev pub editor_reaction : Step → Editor → Reaction
 editor_reaction step e = reaction_to e.talk.prompt step (scene_of e.work) e.talk.last
 
--- A step was taken, or memory was wanting, and what stood before the byte stands again. One that waits for more bytes
+-- A step was taken, or memory was wanting, and what stood before its byte stands again. One that waits for more bytes
 -- changes nothing.
 abbrev pub StepTaken : Step → Editor → Editor → Editor → PressAnswer → Type 0
 StepTaken Pending before old new r = (new ≡ old) × (r ≡ Ok Idle)

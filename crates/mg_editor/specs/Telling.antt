@@ -24,7 +24,7 @@ use Rattle.mg_editor.specs.declared.fault.CarryFault.TheVariants.{Port, Load, Ex
 abbrev pub CarryAnswer : Type 0
 CarryAnswer = Result (Unit {0}) CarryFault
 
--- what its port did wrong, as an exchange says it: files that were found, and are not loaded, are no fault of the port
+-- what a request's port did wrong, as an exchange says it: files that were found, and are not loaded, are no fault of it
 abbrev pub port_outcome : {A : Type 0} → Result A CarryFault → Result (Unit {0}) ExchangeFault
 port_outcome (Ok a) = Ok tt
 port_outcome (Err (Port fault)) = Err (exchange.Save fault)

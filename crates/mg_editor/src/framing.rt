@@ -62,9 +62,9 @@ impl<S: TextStore> Editor<S> {
     /// The frame, once the windows are placed.
     fn placed_frame(&self) -> Result<Frame, FrameFault>
         ensures rows { let placed = spec.placed_editor self.now in
-            IfOk result (λ frame. SpellRows (spec.rows_of placed) frame.rows.items) }
+            IfOk result (λ frame. SpellRows (spec.editor_frame placed) frame.rows.items) }
         ensures cursor { let placed = spec.placed_editor self.now in
-            IfOk result (λ frame. spec.cursor_of placed ≡ Some frame.cursor) }
+            IfOk result (λ frame. spec.editor_cursor placed ≡ Some frame.cursor) }
     {
         let columns = self.work.columns();
         let rows = self.work.rows();
@@ -84,8 +84,8 @@ impl<S: TextStore> Editor<S> {
     /// The only fault is `Memory`: nothing changed then.
     pub fn frame(&mut self) -> Result<Frame, Fault>
         ensures placed { OnOk result (self.new ≡ spec.placed_editor self.old) }
-        ensures rows { IfOk result (λ frame. SpellRows (spec.rows_of self.new) frame.rows.items) }
-        ensures cursor { IfOk result (λ frame. spec.cursor_of self.new ≡ Some frame.cursor) }
+        ensures rows { IfOk result (λ frame. SpellRows (spec.editor_frame self.new) frame.rows.items) }
+        ensures cursor { IfOk result (λ frame. spec.editor_cursor self.new ≡ Some frame.cursor) }
         ensures same { OnErr result (self.new ≡ self.old) }
     {
         let Ok(()) = self.work.list_all() else {

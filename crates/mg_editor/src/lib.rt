@@ -9,7 +9,7 @@
 //! may rest on `Pressed`: which step the keys gave, and what that left of the buffers, the windows,
 //! the prompt, the message and the keys, want of memory aside, which changes nothing but that a key
 //! sequence begun is forgotten; and on `Carried`: which calls a request makes of a port, and what
-//! that leaves. `frame` shows the editor's own windows.
+//! that leaves; and on the theorems of `laws`. `frame` shows the editor's own windows.
 #![tactic(auto)]
 
 mod carrying;

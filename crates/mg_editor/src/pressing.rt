@@ -200,6 +200,7 @@ impl<S: TextStore> Editor<S> {
     }
 
     /// A step of a byte that stays at the open prompt.
+    #[tactic(auto, using(crate::proofs::Steps::taken))]
     fn take_step(&mut self, step: Step) -> Result<Request, Fault>
         ensures { spec.StepTaken step self.old self.old self.new result }
     {
@@ -225,6 +226,7 @@ impl<S: TextStore> Editor<S> {
     }
 
     /// The step of a byte that left a search.
+    #[tactic(auto, using(crate::proofs::Steps::taken))]
     fn leave_by(&mut self, search: Search, step: Step) -> Result<Request, Fault>
         requires { self.old.talk.prompt ≡ None }
         ensures { spec.StepTaken step (spec.with_search search self.old)

@@ -8,7 +8,7 @@ use Rattle.mg_screen.specs.Written.{utf8}
 use Rattle.mg_screen.specs.declared.screen.Position.{Position}
 use Rattle.mg_settings.specs.Settings.{Values}
 use Rattle.mg_editor.specs.Editors.{Editor}
-use Rattle.mg_editor.specs.Frames.{cursor_of, placed_editor, rows_of}
+use Rattle.mg_editor.specs.Frames.{editor_cursor, placed_editor, editor_frame}
 use Rattle.mg_session.specs.Courses.{is_on, IsFailed}
 use Rattle.mg_session.specs.Moments.{Known, Moment}
 use Rattle.mg_session.specs.declared.course.Course.{Course}
@@ -48,7 +48,7 @@ frame_text rows cursor = bytes_of_lines (frame_lines rows cursor)
 
 -- the rows of an editor, in UTF-8
 abbrev pub editor_rows : Editor → List (List ℕ)
-editor_rows e = utf8 (rows_of e)
+editor_rows e = utf8 (editor_frame e)
 
 -- what is shown of where the cursor stands
 abbrev pub shown_cursor : Bool → Position → Option Position
@@ -58,7 +58,7 @@ shown_cursor has_cursor at = if has_cursor then Some at else None
 pub record ShowsFrame (has_cursor : Bool) (old new : Editor) (text : List ℕ) : Type 0 where
   pub at : Position
   pub placed : new ≡ placed_editor old
-  pub cursor : cursor_of new ≡ Some at
+  pub cursor : editor_cursor new ≡ Some at
   pub written : text ≡ frame_text (editor_rows new) (shown_cursor has_cursor at)
 
 -- ---- how it is written

@@ -1,8 +1,6 @@
-use Rattle.std.proofs.Common.{◌≡◌, ◌≢◌, ◌∷◌, [], ◌++◌, None, Ok, Err, inl, inr, sym, ap, subst, ◌∙◌}
+use Rattle.std.proofs.Common.{◌≡◌, ◌≢◌, ◌∷◌, [], ◌++◌, None, Ok, Err, inl, inr, sym, ap, subst, ◌∙◌, arith}
 use Rattle.std.proofs.lemmas.List.{get_or-set_same}
 use Rattle.rga_ops.specs.Order.{text}
-use Rattle.rga_ops.specs.declared.refusal.Refusal.TheVariants.{Full, Clock}
-use Rattle.mg_buffer.specs.declared.fault.BufferFault.TheVariants.{Notice as Noticed, Store}
 use Rattle.mg_buffer.specs.Faults.{FaultVerdict}
 use Rattle.mg_buffer.specs.Sight.{Notes}
 use Rattle.mg_buffer.specs.State.{State}
@@ -26,12 +24,7 @@ module _ (Becomes : State → Notes → Type 0) (w v : Workspace) where
   done (Err e) (inr is) = let no = ap (λ (o : ActionOutcome). o.1) is in cc
 
   refused : (said : Message) (verdict : FaultVerdict) → ActsInCurrent verdict Becomes w (v, Err (Refused said)) → (v ≡ w) × (said ≢ Nothing)
-  refused said verdict (inl lacks) = let no = ap (λ (o : ActionOutcome). o.1) lacks in cc
-  refused said (Ok u) (inr t) = let no = ap (λ (o : ActionOutcome). o.1) t.3 in cc
-  refused said (Err (Noticed notice)) (inr is) = let told = ap (λ (o : ActionOutcome). o.1) is in (ap (λ (o : ActionOutcome). o.0) is, λ none. cc)
-  refused said (Err (Store Full)) (inr is) = let told = ap (λ (o : ActionOutcome). o.1) is in (ap (λ (o : ActionOutcome). o.0) is, λ none. cc)
-  refused said (Err (Store Clock)) (inr is) = let told = ap (λ (o : ActionOutcome). o.1) is in (ap (λ (o : ActionOutcome). o.0) is, λ none. cc)
-  refused said (Err (Store e)) (inr is) = let no = ap (λ (o : ActionOutcome). o.1) is in cc
+  refused said verdict acts = grind arith
 
 pub returns : goal.returns
 returns c = λ byte n bytes command old new request none begun key there p.

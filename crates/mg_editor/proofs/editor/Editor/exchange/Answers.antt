@@ -1,6 +1,4 @@
 use Rattle.std.proofs.Common.{rules}
-use Rattle.mg_sync.specs.Asking.{Connects}
-use Rattle.mg_editor.proofs.Meetings.{met_some}
 use Rattle.mg_editor.proofs.editor.Editor.exchange.Goals as goal
 
 pub returns-clause-over : goal.returns-clause-over
@@ -11,5 +9,8 @@ returns-clause-over g c = record {
   done = search rules;
 }
 
+-- nothing need be said of links
 pub returns-clause-told : goal.returns-clause-told
-returns-clause-told g c = met_some Connects _ _ _ _ (returns-clause-over g c)
+returns-clause-told g c =
+    let over = returns-clause-over g c in
+    record { came = over.came; became = (over.became.0, over.became.1, over.became.2.course); is = over.is; done = over.done }

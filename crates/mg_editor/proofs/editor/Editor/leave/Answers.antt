@@ -1,7 +1,8 @@
-use Rattle.std.proofs.Common.{rules, ◌≡◌, None}
+use Rattle.std.proofs.Common.{rules, ◌≡◌, None, refl}
 use Rattle.mg_keys.specs.declared.step.Step.TheVariants.{Unbound}
 use Rattle.mg_dialogue.specs.Dialogues.{search_of}
-use Rattle.mg_editor.proofs.Steps.{left, no_search}
+use Rattle.mg_editor.specs.Presses.{IsRead}
+use Rattle.mg_editor.proofs.Steps.{left}
 use Rattle.mg_editor.proofs.editor.Editor.leave.Goals as goal
 
 pub returns-in-Some : goal.returns-in-Some
@@ -12,4 +13,4 @@ returns-in-Some g c =
 pub returns-in-None : goal.returns-in-None
 returns-in-None g c =
     let none : search_of c.args.self.now.talk.prompt ≡ None = search rules in
-    (Unbound, c.args.self.now.talk, no_search c.args.byte c.args.self.now.talk none, search rules)
+    (Unbound, c.args.self.now.talk, rw (none, IsRead) (refl, refl), search rules)
