@@ -1,40 +1,30 @@
 -- Windows that are placed over buffers, one after another, and what a frame shows of them.
-use Rattle.std.proofs.Common.{◌≡◌, ℕ, zero, suc, ◌+◌, ◌<◌, ◌≤◌, List, [], ◌∷◌, ◌++◌, length, map, take, get_or, true, is_some, true≢false, Option, Some, None, IsSome, slice_get, sum_by, refl, sym, ap, ◌∙◌, subst, arith}
+use Rattle.std.proofs.Common.{◌≡◌, ℕ, zero, suc, ◌+◌, ◌<◌, ◌≤◌, List, [], ◌∷◌, ◌++◌, length, map, take, drop, get_or, true, is_some, true≢false, Option, Some, None, IsSome, slice_get, sum_by, refl, sym, ap, ◌∙◌, subst, arith}
 use Rattle.std.specs.Option.{option_and_then, option_map}
 use Rattle.std.proofs.lemmas.List.{take_more}
-use Rattle.std.proofs.lemmas.Option.{slice_get_within, get_or_from_slice_get, slice_get-map, slice_get-get_or, same_Some}
 use Rattle.std.proofs.lemmas.List.Sums.{sum_by-cons}
+use Rattle.std.proofs.lemmas.Option.{slice_get_within, get_or_from_slice_get, slice_get-map, slice_get-get_or, same_Some}
+use Rattle.std.proofs.lemmas.Simd.{map-map}
 use Rattle.mg_files.specs.OpenState.{OpenState}
 use Rattle.mg_screen.specs.Cursor.{cursor, pane_cursor, rows_above, shows_point}
-use Rattle.mg_screen.specs.Layout.{Window, window, Layout, layout, all_shown, shows_at, shown_layout, heights, rows_of, IsTall}
+use Rattle.mg_screen.specs.Layout.{Window, window, Layout, layout, all_shown, shown_layout, heights, rows_of, IsTall}
 use Rattle.mg_screen.specs.Screen.{Pane, Screen}
 use Rattle.mg_screen.proofs.CursorLaws.{placed_shows}
 use Rattle.rga_ops.specs.Order.{text}
 use Rattle.mg_buffer.specs.Sight.{place_of}
 use Rattle.mg_workspace.specs.Buffers.{Buffers}
-use Rattle.mg_workspace.proofs.MappedLaws.{mapped_to, mapped_on}
 use Rattle.mg_workspace.specs.declared.viewport.Viewport.{Viewport}
 use Rattle.mg_workspace.specs.Viewports.{viewport, AreShown}
-use Rattle.mg_workspace.specs.Showing.{buffer_of, first_over, placed_window, placed_windows, IsPlacedViewport, pane_over, pane_of, panes_of}
-use Rattle.mg_workspace.proofs.ViewportLaws.{show_map, mapped_shows, shows_mapped}
+use Rattle.mg_workspace.specs.Showing.{buffer_of, first_over, placed_window, placed_windows, pane_over, pane_of, panes_of}
+use Rattle.mg_workspace.proofs.ViewportLaws.{show_map, mapped_shows, window_there, changed_on}
 
 -- ---- heights
 
 -- each window has some text rows, and together with its mode line no more than all
-pub height_within : (ws : List (Window Viewport)) (i : ℕ) (w : Window Viewport) → IsTall ws → slice_get ws i ≡ Some w → (1 ≤ w.height) × (w.height + 1 ≤ rows_of ws)
-height_within [] i w tall at = absurd (true≢false (sym (ap is_some at)))
-height_within (v ∷ ws) zero w tall at =
-    let same : v.height ≡ w.height = ap (λ u. u.height) (same_Some v w at) in
-    let here : 1 ≤ v.height = tall.0 in
-    (omega (arith, same, here), omega (arith, same))
-height_within (v ∷ ws) (suc i) w tall at =
-    let rest = height_within ws i w tall.1 at in
-    (rest.0, omega (arith, rest.1))
-
-pub height_read : (ws : List (Window Viewport)) (i : ℕ) (w : Window Viewport) (h : ℕ) → slice_get ws i ≡ Some w → slice_get (heights ws) i ≡ Some h → w.height ≡ h
-height_read [] i w h at tall = absurd (true≢false (sym (ap is_some at)))
-height_read (v ∷ ws) zero w h at tall = ap (λ u. u.height) (sym (same_Some v w at)) ∙ same_Some v.height h tall
-height_read (v ∷ ws) (suc i) w h at tall = height_read ws i w h at tall
+pub height_within : {T : Type 0} (ws : List (Window T)) (i h : ℕ) → IsTall ws → slice_get (heights ws) i ≡ Some h → (1 ≤ h) × (h + 1 ≤ rows_of ws)
+height_within [] i h tall at = absurd (true≢false (sym (ap is_some at)))
+height_within (v ∷ ws) zero h tall at = let same = same_Some v.height h at in (omega (arith, same, tall.0), omega (arith, same))
+height_within (v ∷ ws) (suc i) h tall at = let rest = height_within ws i h tall.1 at in (rest.0, omega (arith, rest.1))
 
 pub some_rows : (ws : List (Window Viewport)) → IsTall ws → 0 < length ws → 2 ≤ rows_of ws
 some_rows [] tall some = absurd (omega (arith, some))
@@ -87,7 +77,7 @@ cursor_shown bs l columns s i is tall inside =
     let at : slice_get l.windows i ≡ Some w = slice_get-get_or l.windows i (window 0 (viewport 0 0)) inside in
     let p = pane_of bs (placed_window bs w) in
     let here : slice_get s.panes i ≡ Some p = ap (λ ps. slice_get ps i) is ∙ pane_at bs l.windows i w at in
-    let shown : shows_point p ≡ true = shows_over (buffer_of bs w) w (height_within l.windows i w tall at).0 in
+    let shown : shows_point p ≡ true = shows_over (buffer_of bs w) w (height_within l.windows i w.height tall (slice_get-map (λ (v : Window Viewport). v.height) l.windows i ∙ ap (option_map (λ (v : Window Viewport). v.height)) at)).0 in
     subst (λ o. IsSome (option_and_then (pane_cursor columns (rows_above i s.panes)) o)) (sym here) (rw shown refl)
 
 -- one more of a list
@@ -99,32 +89,32 @@ taken_on all before new i x at is more =
 
 -- ---- what windows show once they are placed
 
-pub viewport_placed : (bs : List OpenState) (ws : List (Window Viewport)) (i : ℕ) (x : Viewport) → IsPlacedViewport bs ws i x → slice_get (all_shown (map (placed_window bs) ws)) i ≡ Some x
-viewport_placed bs ws i x p =
-    slice_get-map (λ (w : Window Viewport). w.shown) (map (placed_window bs) ws) i
-    ∙ ap (option_map (λ (w : Window Viewport). w.shown)) (slice_get-map (placed_window bs) ws i)
-    ∙ ap (λ o. option_map (λ (w : Window Viewport). w.shown) (option_map (placed_window bs) o)) p.1
-    ∙ ap Some (sym p.2)
+pub viewport_placed : (bs : List OpenState) (ws : List (Window Viewport)) (i : ℕ) (w : Window Viewport) → slice_get ws i ≡ Some w → slice_get (all_shown (map (placed_window bs) ws)) i ≡ Some (placed_window bs w).shown
+viewport_placed bs ws i w at =
+    slice_get-map (λ (v : Window Viewport). v.shown) (map (placed_window bs) ws) i
+    ∙ ap (option_map (λ (v : Window Viewport). v.shown)) (slice_get-map (placed_window bs) ws i ∙ ap (option_map (placed_window bs)) at)
 
-mapped_there : {A : Type 0} (f : A → A) (xs : List A) (i : ℕ) → slice_get (mapped_to f i xs) i ≡ slice_get xs i
+mapped_there : {A : Type 0} (f : A → A) (xs : List A) (i : ℕ) → slice_get (map f (take i xs) ++ drop i xs) i ≡ slice_get xs i
 mapped_there f xs zero = refl
 mapped_there f [] (suc i) = refl
 mapped_there f (x ∷ xs) (suc i) = mapped_there f xs i
 
-pub length-shows_at : {T : Type 0} (i : ℕ) (s : T) (ws : List (Window T)) → length (shows_at i s ws) ≡ length ws
-length-shows_at i s [] = refl
-length-shows_at zero s (w ∷ ws) = refl
-length-shows_at (suc i) s (w ∷ ws) = let rest = length-shows_at i s ws in omega (arith, rest)
-
 -- one window more shows what it shows once it is placed
-pub placed_on : (bs : List OpenState) (l v new : Layout Viewport) (placed_ones : List Viewport) (i : ℕ) (x : Viewport) → i < length l.windows
-    → placed_ones ≡ all_shown (placed_windows bs l).windows → slice_get placed_ones i ≡ Some x
-    → v ≡ layout (mapped_to (placed_window bs) i l.windows) l.current → new ≡ shown_layout i x v → new ≡ layout (mapped_to (placed_window bs) (i + 1) l.windows) l.current
-placed_on bs l v new placed_ones i x inside are at is shows =
+pub placed_on : (bs : List OpenState) (l v new : Layout Viewport) (i : ℕ) (x : Viewport) → i < length l.windows → slice_get (all_shown (placed_windows bs l).windows) i ≡ Some x
+    → v ≡ layout (map (placed_window bs) (take i l.windows) ++ drop i l.windows) l.current → new ≡ shown_layout i x v
+    → new ≡ layout (map (placed_window bs) (take (i + 1) l.windows) ++ drop (i + 1) l.windows) l.current
+placed_on bs l v new i x inside at was shows =
     let f = placed_window bs in
-    let w = get_or l.windows i (window 0 (viewport 0 0)) in
-    let here : slice_get l.windows i ≡ Some w = slice_get-get_or l.windows i (window 0 (viewport 0 0)) inside in
-    let shown : x ≡ (f w).shown = same_Some x (f w).shown (sym at ∙ ap (λ xs. slice_get xs i) are ∙ viewport_placed bs l.windows i (f w).shown (w, here, refl)) in
-    shows ∙ ap (shown_layout i x) is
-    ∙ ap (λ ws. layout ws l.current) (shows_mapped f (mapped_to f i l.windows) i w x (mapped_there f l.windows i ∙ here) (ap (window w.height) shown)
-    ∙ mapped_on f l.windows (mapped_to f i l.windows) i (i + 1) (omega arith) inside refl)
+    let d = window 0 (viewport 0 0) in
+    let w = get_or l.windows i d in
+    let here : slice_get l.windows i ≡ Some w = slice_get-get_or l.windows i d inside in
+    let shown : x ≡ (f w).shown = same_Some x _ (sym at ∙ viewport_placed bs l.windows i w here) in
+    shows ∙ ap (shown_layout i x) was
+    ∙ ap (λ ws. layout ws l.current) (changed_on f l.windows _ i w x inside (mapped_there f l.windows i ∙ here) (ap (window w.height) shown) refl)
+
+-- the pane of a window that is placed
+pub pane_there : (bs : List OpenState) (ws : List (Window Viewport)) (i h : ℕ) (x : Viewport) (b : OpenState) → slice_get (heights ws) i ≡ Some h → slice_get (all_shown (map (placed_window bs) ws)) i ≡ Some x
+    → slice_get bs x.buffer ≡ Some b → slice_get (shown_panes bs ws) i ≡ Some (pane_over (Some b) (window h x))
+pane_there bs ws i h x b tall shown at =
+    let there = window_there (map (placed_window bs) ws) i h x (ap (λ hs. slice_get hs i) (map-map (λ (w : Window Viewport). w.height) (placed_window bs) ws) ∙ tall) shown in
+    slice_get-map (pane_of bs) (map (placed_window bs) ws) i ∙ ap (option_map (pane_of bs)) there ∙ ap (λ o. Some (pane_over o (window h x))) at

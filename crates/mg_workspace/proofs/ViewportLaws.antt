@@ -1,18 +1,16 @@
 -- What is known of windows by what they show.
-use Rattle.std.proofs.Common.{◌≡◌, ℕ, zero, suc, ◌+◌, ◌-◌, ◌/◌, ◌<◌, ◌≤◌, List, [], ◌∷◌, ◌++◌, length, map, take, drop, get_or, Some, slice_get, is_some, true≢false, refl, sym, ap, subst, ◌∙◌, arith}
+use Rattle.std.proofs.Common.{◌≡◌, ℕ, zero, suc, ◌+◌, ◌-◌, ◌/◌, ◌<◌, ◌≤◌, List, [], ◌∷◌, ◌++◌, length, map, take, drop, get_or, Some, slice_get, slice_set, is_some, Result, Ok, Err, OnOk, OnErr, true≢false, refl, sym, ap, subst, ◌∙◌, arith}
 use Rattle.std.specs.List.{AllByRecursion, remove}
-use Rattle.std.proofs.lemmas.List.{length_push}
-use Rattle.std.proofs.lemmas.Option.{same_Some}
-use Rattle.std.proofs.lemmas.List.Edits.{length-remove}
-use Rattle.mg_files.specs.OpenState.{OpenState}
-use Rattle.mg_screen.specs.Layout.{Window, window, Layout, heights, all_shown, shows_at, shown_layout, split_at, remove_at, only_at, windows_of, shared, staying, resized_layout, of_height, rows_of}
-use Rattle.mg_workspace.specs.Buffers.{Buffers, with_buffer, without_buffer}
-use Rattle.mg_workspace.specs.Mapped.{mapped_at}
+use Rattle.std.specs.Option.{option_map}
+use Rattle.std.proofs.lemmas.List.{length-map, length-set}
+use Rattle.std.proofs.lemmas.Option.{same_Some, get_or_from_slice_get, slice_get-get_or, slice_get-map, slice_get_within}
+use Rattle.std.proofs.lemmas.List.Edits.{length-remove, map_over_more}
+use Rattle.mg_screen.specs.Layout.{Window, window, Layout, layout, heights, all_shown, shows_at, shown_layout, split_at, remove_at, only_at, windows_of, shared, staying, resized_layout, of_height, rows_of}
+use Rattle.mg_workspace.specs.Buffers.{Buffers, without_buffer}
 use Rattle.mg_workspace.specs.Names.{moved}
 use Rattle.mg_workspace.proofs.Moves.{moved_first, moved_within}
 use Rattle.mg_workspace.specs.declared.viewport.Viewport.{Viewport}
-use Rattle.mg_workspace.specs.declared.workspace.TheConstants.{MAX_BUFFERS}
-use Rattle.mg_workspace.specs.Viewports.{viewport, current_viewport, turned_to_buffer, window_without, layout_without, ShowThese, AreShown}
+use Rattle.mg_workspace.specs.Viewports.{viewport, current_viewport, window_without, layout_without, ShowThese, AreShown}
 
 -- ---- the window at an index
 
@@ -22,24 +20,32 @@ window_there (w ∷ ws) zero h s tall shown =
     ap (λ n. Some (window n w.shown)) (same_Some w.height h tall) ∙ ap (λ t. Some (window h t)) (same_Some w.shown s shown)
 window_there (w ∷ ws) (suc i) h s tall shown = window_there ws i h s tall shown
 
-pub each_there : {A : Type 0} (P : A → Type 0) (xs : List A) (i : ℕ) (x : A) → slice_get xs i ≡ Some x → AllByRecursion P xs → P x
-each_there P [] i x at all = absurd (true≢false (sym (ap is_some at)))
-each_there P (y ∷ xs) zero x at all = subst P (same_Some y x at) all.0
-each_there P (y ∷ xs) (suc i) x at all = each_there P xs i x at all.1
-
 pub shown_there : {T : Type 0} (ws : List (Window T)) (i : ℕ) (s : T) (P : T → Type 0) → slice_get (all_shown ws) i ≡ Some s → AllByRecursion (λ w. P w.shown) ws → P s
 shown_there [] i s P at all = absurd (true≢false (sym (ap is_some at)))
 shown_there (w ∷ ws) zero s P at all = subst P (same_Some w.shown s at) all.0
 shown_there (w ∷ ws) (suc i) s P at all = shown_there ws i s P at all.1
 
-pub shows_mapped : {T : Type 0} (f : Window T → Window T) (ws : List (Window T)) (i : ℕ) (w : Window T) (s : T) → slice_get ws i ≡ Some w → window w.height s ≡ f w
-    → shows_at i s ws ≡ mapped_at f i ws
-shows_mapped f [] i w s at is = refl
-shows_mapped f (v ∷ ws) zero w s at is =
-    ap (λ u. window u.height s ∷ ws) (same_Some v w at) ∙ ap (λ u. u ∷ ws) (is ∙ ap f (sym (same_Some v w at)))
-shows_mapped f (v ∷ ws) (suc i) w s at is = ap (λ us. v ∷ us) (shows_mapped f ws i w s at is)
+shows_set : {T : Type 0} (i : ℕ) (x : T) (ws : List (Window T)) (d : Window T) → shows_at i x ws ≡ slice_set ws i (window (get_or ws i d).height x)
+shows_set i x [] d = refl
+shows_set zero x (w ∷ ws) d = refl
+shows_set (suc i) x (w ∷ ws) d = ap (λ vs. w ∷ vs) (shows_set i x ws d)
+
+pub length-shows_at : {T : Type 0} (i : ℕ) (x : T) (ws : List (Window T)) → length (shows_at i x ws) ≡ length ws
+length-shows_at i x ws = ap length (shows_set i x ws (window 0 x)) ∙ length-set ws i _
+
+-- one window more becomes what the function says of it
+pub changed_on : (f : Window Viewport → Window Viewport) (ws vs : List (Window Viewport)) (i : ℕ) (w : Window Viewport) (x : Viewport) → i < length ws → slice_get vs i ≡ Some w → window w.height x ≡ f w
+    → vs ≡ map f (take i ws) ++ drop i ws → shows_at i x vs ≡ map f (take (i + 1) ws) ++ drop (i + 1) ws
+changed_on f ws vs i w x inside at is changed =
+    let read : get_or vs i w ≡ w = get_or_from_slice_get vs i w w at in
+    shows_set i x vs w ∙ ap (λ (u : Window Viewport). slice_set vs i (window u.height x)) read ∙ ap (slice_set vs i) is ∙ map_over_more f ws vs i w inside changed (sym read)
 
 -- ---- each window shows one of so many buffers
+
+-- windows that changed, or stayed where that was refused
+pub show_either : {T E : Type 0} (r : Result T E) (n : ℕ) (l m new : Layout Viewport) → OnOk r (new ≡ m) → OnErr r (new ≡ l) → ShowThese n m.windows → ShowThese n l.windows → ShowThese n new.windows
+show_either (Ok x) n l m new is same changed stayed = subst (λ (v : Layout Viewport). ShowThese n v.windows) (sym is) changed
+show_either (Err e) n l m new is same changed stayed = subst (λ (v : Layout Viewport). ShowThese n v.windows) (sym same) stayed
 
 pub show_split : (n i : ℕ) (ws : List (Window Viewport)) → ShowThese n ws → ShowThese n (split_at i ws)
 show_split n i [] all = all
@@ -53,22 +59,22 @@ show_remove n zero (v ∷ w ∷ ws) all = (all.1.0, all.1.1)
 show_remove n (suc zero) (v ∷ w ∷ ws) all = (all.0, all.1.1)
 show_remove n (suc (suc i)) (v ∷ w ∷ ws) all = (all.0, show_remove n (suc i) (w ∷ ws) all.1)
 
-show_first : (n h : ℕ) (ws : List (Window Viewport)) → ShowThese n ws → ShowThese n (map (of_height h) (take 1 ws))
-show_first n h [] all = tt
-show_first n h (w ∷ ws) all = (all.0, tt)
-
 show_drop : (n i : ℕ) (ws : List (Window Viewport)) → ShowThese n ws → ShowThese n (drop i ws)
 show_drop n zero ws all = all
 show_drop n (suc i) [] all = tt
 show_drop n (suc i) (w ∷ ws) all = show_drop n i ws all.1
 
-pub show_only : (n i : ℕ) (ws : List (Window Viewport)) → ShowThese n ws → ShowThese n (only_at i ws)
-show_only n i ws all = show_first n (rows_of ws - 1) (drop i ws) (show_drop n i ws all)
-
 show_take : (n k : ℕ) (ws : List (Window Viewport)) → ShowThese n ws → ShowThese n (take k ws)
 show_take n zero ws all = tt
 show_take n (suc k) [] all = tt
 show_take n (suc k) (w ∷ ws) all = (all.0, show_take n k ws all.1)
+
+pub show_map : (n m : ℕ) (f : Window Viewport → Window Viewport) (ws : List (Window Viewport)) → ((w : Window Viewport) → w.shown.buffer < n → (f w).shown.buffer < m) → ShowThese n ws → ShowThese m (map f ws)
+show_map n m f [] step all = tt
+show_map n m f (w ∷ ws) step all = (step w all.0, show_map n m f ws step all.1)
+
+pub show_only : (n i : ℕ) (ws : List (Window Viewport)) → ShowThese n ws → ShowThese n (only_at i ws)
+show_only n i ws all = show_map n n (of_height (rows_of ws - 1)) (take 1 (drop i ws)) (λ w here. here) (show_take n 1 (drop i ws) (show_drop n i ws all))
 
 show_as_tall : (n : ℕ) (hs : List ℕ) (ws : List (Window Viewport)) → ShowThese n ws → ShowThese n (windows_of hs (all_shown ws))
 show_as_tall n [] ws all = tt
@@ -84,14 +90,6 @@ pub show_at : (n i : ℕ) (x : Viewport) (ws : List (Window Viewport)) → x.buf
 show_at n i x [] here all = tt
 show_at n zero x (w ∷ ws) here all = (here, all.1)
 show_at n (suc i) x (w ∷ ws) here all = (all.0, show_at n i x ws here all.1)
-
-pub show_map : (n m : ℕ) (f : Window Viewport → Window Viewport) (ws : List (Window Viewport)) → ((w : Window Viewport) → w.shown.buffer < n → (f w).shown.buffer < m) → ShowThese n ws → ShowThese m (map f ws)
-show_map n m f [] step all = tt
-show_map n m f (w ∷ ws) step all = (step w all.0, show_map n m f ws step all.1)
-
-pub show_more : (n m : ℕ) (ws : List (Window Viewport)) → n ≤ m → ShowThese n ws → ShowThese m ws
-show_more n m [] more all = tt
-show_more n m (w ∷ ws) more all = (omega (arith, more, all.0), show_more n m ws more all.1)
 
 -- ---- the current window
 
@@ -118,13 +116,18 @@ without_shows gone (w ∷ ws) (suc i) = without_shows gone ws i
 
 -- ---- windows that follow what was done
 
--- the window at an index, once a buffer is removed
-pub left_at : (gone : ℕ) (ws : List (Window Viewport)) (i : ℕ) (s x : Viewport) → slice_get (all_shown ws) i ≡ Some s → x ≡ viewport (moved gone s.buffer) s.first
-    → shows_at i x ws ≡ mapped_at (window_without gone) i ws
-left_at gone [] i s x at is = refl
-left_at gone (w ∷ ws) zero s x at is =
-    ap (λ y. window w.height y ∷ ws) (is ∙ ap (λ t. viewport (moved gone t.buffer) t.first) (sym (same_Some w.shown s at)))
-left_at gone (w ∷ ws) (suc i) s x at is = ap (λ us. w ∷ us) (left_at gone ws i s x at is)
+-- one window more, once a buffer is removed
+pub left_on : (gone : ℕ) (l v new : Layout Viewport) (i : ℕ) (s x : Viewport) → i < length l.windows → slice_get (all_shown v.windows) i ≡ Some s → x ≡ viewport (moved gone s.buffer) s.first
+    → v ≡ layout (map (window_without gone) (take i l.windows) ++ drop i l.windows) l.current → new ≡ shown_layout i x v
+    → new ≡ layout (map (window_without gone) (take (i + 1) l.windows) ++ drop (i + 1) l.windows) l.current
+left_on gone l v new i s x inside at is was shows =
+    let shown_by = λ (u : Window Viewport). u.shown in
+    let w = get_or v.windows i (window 0 s) in
+    let here : slice_get v.windows i ≡ Some w = slice_get-get_or v.windows i (window 0 s) (subst (λ n. i < n) (length-map v.windows shown_by) (slice_get_within _ i s at)) in
+    let shown : s ≡ w.shown = same_Some s w.shown (sym at ∙ slice_get-map shown_by v.windows i ∙ ap (option_map shown_by) here) in
+    let becomes = ap (window w.height) (is ∙ ap (λ (y : Viewport). viewport (moved gone y.buffer) y.first) shown) in
+    shows ∙ (λ k. layout (shows_at i x v.windows) (was k).current)
+    ∙ ap (λ ws. layout ws l.current) (changed_on (window_without gone) l.windows v.windows i w x inside here becomes (ap (λ (u : Layout Viewport). u.windows) was))
 
 -- ---- the windows of a workspace show its buffers
 

@@ -1,6 +1,5 @@
 pub mod Names
 pub mod Buffers
-pub mod Mapped
 pub mod Viewports
 pub mod Workspaces
 pub mod Actions

@@ -29,10 +29,6 @@ placed_window bs w = window w.height (viewport w.shown.buffer (first_over (buffe
 abbrev pub placed_windows : List OpenState → Layout Viewport → Layout Viewport
 placed_windows bs l = layout (map (placed_window bs) l.windows) l.current
 
--- what the window at an index shows once it is placed
-abbrev pub IsPlacedViewport : List OpenState → List (Window Viewport) → ℕ → Viewport → Type 0
-IsPlacedViewport bs ws i x = (w : Window Viewport) × (slice_get ws i ≡ Some w) × (x ≡ (placed_window bs w).shown)
-
 -- the layout fills the rows of a screen
 abbrev pub IsOnScreen : Layout Viewport → Type 0
 IsOnScreen l = (rows : ℕ) × FillsRows rows l × (rows ≤ MAX_ROWS)

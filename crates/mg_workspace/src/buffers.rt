@@ -203,17 +203,7 @@ fn is_named<S: TextStore>(opened: &VisitedBuffer<S>, name: &[char]) -> bool
 fn is_spelled(text: &str, characters: &[char]) -> bool
     ensures { result ≡ pointwise nat_eq (chars text.now) characters.now }
 {
-    let mut count = 0;
-    for c in text.chars() {
-        if count >= characters.len() {
-            return false;
-        }
-        if characters[count] != c {
-            return false;
-        }
-        count += 1;
-    }
-    count == characters.len()
+    text.chars().eq(characters.iter().copied())
 }
 
 /// Where a buffer stands once the one at an index is removed. What was that one is the first. Takes

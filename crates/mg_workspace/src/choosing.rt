@@ -2,7 +2,6 @@
 ghost use Rattle.std.specs.Prelude.{◌≡◌, ◌≢◌, ◌<◌, ◌≤◌, Err, length, string_bytes, OnErr};
 ghost use Rattle.mg_files.specs.Loading.{load_outcome};
 ghost use Rattle.mg_files.specs.declared.fault.LoadFault.TheVariants as load_fault;
-ghost use Rattle.mg_workspace.specs.Mapped.{mapped_at};
 ghost use Rattle.mg_workspace.specs.declared.fault.ActionFault.TheVariants.{Memory};
 ghost use Rattle.mg_workspace.specs.declared.workspace.TheConstants.{MAX_BUFFERS};
 ghost use Rattle.mg_workspace.specs.Actions as spec;
@@ -32,30 +31,15 @@ fn turn<S: TextStore>(windows: &mut Windows<Viewport>, buffers: &Buffers<S>)
     windows.show(windows.current(), Viewport { buffer, first });
 }
 
-/// The window at an index, once a buffer is removed.
-fn leave_at(windows: &mut Windows<Viewport>, gone: usize, index: usize)
-    requires { index < length windows.old.windows }
-    ensures { windows.new ≡ record windows.old {
-      windows = mapped_at (viewports.window_without gone) index windows.old.windows;
-    } }
-{
-    let was = viewport_at(windows, index);
-    let buffer = moved(gone, was.buffer);
-    windows.show(
-        index,
-        Viewport {
-            buffer,
-            first: was.first,
-        },
-    );
-}
-
 /// The windows, once a buffer is removed.
 fn leave(windows: &mut Windows<Viewport>, gone: usize)
     ensures { windows.new ≡ viewports.layout_without gone windows.old }
 {
     for index in 0..windows.heights().len() {
-        leave_at(windows, gone, index);
+        let was = viewport_at(windows, index);
+        let buffer = moved(gone, was.buffer);
+        let first = was.first;
+        windows.show(index, Viewport { buffer, first });
     }
 }
 

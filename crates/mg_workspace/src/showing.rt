@@ -26,7 +26,9 @@ fn placed_viewport<S: TextStore>(
 ) -> Option<Viewport>
     requires shown { ShowThese (length buffers.now.all) windows.now.windows }
     requires within { index < length windows.now.windows }
-    ensures { IfSome result (spec.IsPlacedViewport buffers.now.all windows.now.windows index) }
+    ensures exact { let placed = spec.placed_windows buffers.now.all windows.now in
+        IfSome result (λ x. slice_get (all_shown placed.windows) index ≡ Some x) }
+    ensures within { IfSome result (λ x. x.buffer < length buffers.now.all) }
 {
     let shown = viewport_at(windows, index);
     let height = height_at(windows, index);

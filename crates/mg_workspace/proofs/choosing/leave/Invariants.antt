@@ -1,8 +1,7 @@
-use Rattle.std.proofs.Common.{◌≡◌}
+use Rattle.std.proofs.Common.{◌≡◌, ◌++◌, map, take, drop}
 use Rattle.mg_screen.specs.Layout.{layout}
-use Rattle.mg_workspace.proofs.MappedLaws.{mapped_to}
 use Rattle.mg_workspace.specs.Viewports.{window_without}
 use Rattle.mg_workspace.proofs.choosing.leave.Given as goal
 
 abbrev pub invariant-loop-index : goal.invariant-loop-index
-invariant-loop-index l = l.windows ≡ layout (mapped_to (window_without l.gone) l.index l.fn.windows.windows) l.fn.windows.current
+invariant-loop-index l = let old = l.fn.windows in l.windows ≡ layout (map (window_without l.gone) (take l.index old.windows) ++ drop l.index old.windows) old.current

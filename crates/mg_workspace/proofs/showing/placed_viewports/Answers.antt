@@ -1,10 +1,9 @@
 use Rattle.std.proofs.Common.{rules, ◌≡◌, ◌++◌, [], ◌∷◌}
-use Rattle.mg_workspace.proofs.ShownWindows.{taken_on, viewport_placed}
+use Rattle.mg_workspace.proofs.ShownWindows.{taken_on}
 use Rattle.mg_workspace.proofs.showing.placed_viewports.Goals as goal
 
 pub loop-index-preserved : goal.loop-index-preserved
 loop-index-preserved g c =
     let x = c.in-Some.viewport in
     let more : c.push.new.self.items ≡ c.loop-index.placed.items ++ x ∷ [] = search rules in
-    let at = viewport_placed c.args.buffers.now.all c.args.windows.now.windows c.loop-index.index x c.in-Some.ensures in
-    taken_on _ c.loop-index.placed.items c.push.new.self.items c.loop-index.index x at c.loop-index.invariant more
+    taken_on _ c.loop-index.placed.items c.push.new.self.items c.loop-index.index x c.in-Some.ensures.exact c.loop-index.invariant more
