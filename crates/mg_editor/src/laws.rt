@@ -28,8 +28,9 @@ pub fn a_press_that_is_refused_changes_nothing()
         new.talk ≡ record old.talk { keys = new.talk.keys } }
 {}
 
-/// Where no prompt is open, the byte that ends the key sequence of a command leaves in the current
-/// buffer the text that the command's effect gives; or it changes nothing, and a message says why.
+/// Where no prompt is open and a buffer is current, the byte that ends the key sequence of a command
+/// leaves in it the text that the command's effect gives; or it changes nothing of what is worked
+/// on, and a message says why.
 pub fn a_key_leaves_the_text_that_its_command_gives()
     ensures { (byte n : ℕ) (bytes : List ℕ) (command : Command) (old new : Editor)
         (request : Request) → old.talk.prompt ≡ None → HasBegun old.talk.keys bytes →
