@@ -1,5 +1,5 @@
 -- What it leads to that a buffer is asked for by its name.
-use Rattle.std.specs.Prelude.{◌≡◌, ◌⊎◌, ℕ, List, [], Option, Some, None, Result, Ok, Err, MatchResult, encode_utf8_all, if◌then◌else◌}
+use Rattle.std.specs.Prelude.{◌≡◌, ◌⊎◌, ℕ, List, [], Option, Some, None, Result, Ok, Err, MatchResult, if◌then◌else◌}
 use Rattle.rga_exchange.specs.declared.log.LogEnd.{LogEnd}
 use Rattle.mg_files.specs.Calls.{Call, load_told, Adds}
 use Rattle.mg_files.specs.Files.{Files}
@@ -8,13 +8,12 @@ use Rattle.mg_files.specs.declared.fault.LoadFault.{LoadFault}
 use Rattle.mg_files.specs.declared.fault.LoadFault.TheVariants.{Memory}
 use Rattle.mg_files.specs.declared.port.PortFault.{PortFault}
 use Rattle.mg_minibuffer.specs.declared.message.Message.TheVariants as message
-use Rattle.mg_workspace.specs.Names.{buffer_named}
 use Rattle.mg_workspace.specs.Actions.{gone_to}
 use Rattle.mg_workspace.specs.Opening.{is_full, open_outcome}
 use Rattle.mg_workspace.specs.Workspaces.{Workspace}
 use Rattle.mg_editor.specs.Editors.{Editor}
 use Rattle.mg_editor.specs.Opening.{message_of_end}
-use Rattle.mg_editor.specs.Telling.{CarryAnswer, CarryOutcome, outcome_message, outcome_answer, AsksNothing, editor_saying}
+use Rattle.mg_editor.specs.Telling.{CarryOutcome, editor_saying}
 use Rattle.mg_editor.specs.declared.fault.CarryFault.{CarryFault}
 use Rattle.mg_editor.specs.declared.fault.CarryFault.TheVariants.{Port, Load}
 
@@ -34,19 +33,12 @@ of_load (Err fault) = Err (Load fault)
 
 -- Memory was wanting, before the files of that name were asked for or behind it; or else the port gave this answer: files,
 -- which were loaded with the replica and the limit of the workspace, or a fault.
-abbrev pub Loads : List ℕ → Option (List Call) → Option (List Call) → Workspace → Workspace → Opening → Type 0
-Loads name calls more w v r =
+abbrev pub Loads : List ℕ → Option (List Call) → Option (List Call) → Opening → Workspace → Workspace → Type 0
+Loads name calls more r w v =
     ((v ≡ w) × (r ≡ Err (Load Memory)) × (Adds calls more [] ⊎ ((found : Files) × Adds calls more (load_told (Ok found) name))))
     ⊎ ((given : Result Files PortFault) × Adds calls more (load_told given name) × MatchResult given
-    (λ found. (end : Result LogEnd LoadFault) × (open_outcome (load_outcome name w.replica w.limit found) w ≡ (v, end)) × (r ≡ of_load end))
+    (λ found. let o = open_outcome (load_outcome name w.replica w.limit found) w in (v ≡ o.0) × (r ≡ of_load o.1))
     (λ fault. (v ≡ w) × (r ≡ Err (Port fault))))
-
--- it was opened or not, and that is told
-pub record Opened (name : List ℕ) (calls more : Option (List Call)) (old new : Editor) (r : CarryAnswer) : Type 0 where
-  pub came : Opening
-  pub loads : Loads (encode_utf8_all name) calls more old.work new.work came
-  pub is : new ≡ editor_saying new.work (outcome_message (opening_outcome came)) old
-  pub done : r ≡ outcome_answer (opening_outcome came)
 
 -- ---- a buffer that is asked for
 
@@ -55,10 +47,3 @@ pub record Opened (name : List ℕ) (calls more : Option (List Call)) (old new :
 abbrev pub unopened : Option ℕ → Editor → Option Editor
 unopened (Some i) e = Some (record e { work = gone_to i e.work })
 unopened None e = if is_full e.work then Some (editor_saying e.work message.TooManyBuffers e) else None
-
--- the buffer of that name is gone to, or opened
-abbrev pub FoundBuffer : List ℕ → Option (List Call) → Option (List Call) → Editor → Editor → CarryAnswer → Type 0
-FoundBuffer name calls more old new r = elim (unopened (buffer_named name old.work.buffers.all) old) [
-  | None ↦ Opened name calls more old new r
-  | Some now ↦ AsksNothing now calls more new r
-]

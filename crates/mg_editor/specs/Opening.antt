@@ -1,11 +1,10 @@
 -- The editor that opens, and its text.
-use Rattle.std.specs.Prelude.{◌≡◌, ℕ, List, Result, Ok, Err}
+use Rattle.std.specs.Prelude.{◌≡◌, ℕ, List, Result, Ok, Err, MatchResult}
 use Rattle.rga_ops.specs.Order.{text}
 use Rattle.rga_exchange.specs.declared.log.LogEnd.{LogEnd}
 use Rattle.rga_exchange.specs.declared.log.LogEnd.TheVariants.{Whole, Bare, Torn}
 use Rattle.mg_files.specs.Files.{Files}
 use Rattle.mg_files.specs.Loading.{load_outcome}
-use Rattle.mg_files.specs.OpenState.{OpenState}
 use Rattle.mg_files.specs.declared.fault.LoadFault.{LoadFault}
 use Rattle.mg_minibuffer.specs.declared.message.Message.{Message}
 use Rattle.mg_minibuffer.specs.declared.message.Message.TheVariants.{Nothing, TornLog}
@@ -22,12 +21,11 @@ message_of_end Bare = Nothing
 message_of_end (Torn bytes) = TornLog bytes
 
 -- as what was found is loaded, or its fault: the editor with that buffer, whose log ended so
-abbrev pub OpensEditorBy : Values → Result (OpenState × LogEnd) LoadFault → Result Editor LoadFault → Type 0
-OpensEditorBy v (Ok l) r = (e : Editor) × (r ≡ Ok e) × ((e.work ≡ workspace v l.0) × Begins (message_of_end l.1) e.talk)
-OpensEditorBy v (Err fault) r = r ≡ Err fault
-
 abbrev pub OpensEditor : Values → Files → Result Editor LoadFault → Type 0
-OpensEditor v found r = OpensEditorBy v (load_outcome v.name v.replica v.limit found) r
+OpensEditor v found r =
+    MatchResult (load_outcome v.name v.replica v.limit found)
+    (λ l. (e : Editor) × (r ≡ Ok e) × (e.work ≡ workspace v l.0) × Begins (message_of_end l.1) e.talk)
+    (λ fault. r ≡ Err fault)
 
 -- the text of the buffer that is current
 abbrev pub current_text : Editor → List ℕ

@@ -1,11 +1,10 @@
 -- What is told of a request, and what is answered to it.
-use Rattle.std.specs.Prelude.{◌≡◌, ℕ, List, Option, Result, Ok, Err}
+use Rattle.std.specs.Prelude.{◌≡◌, Result, Ok, Err}
 use Rattle.rga_exchange.specs.declared.fault.ReceiveFault.{ReceiveFault}
 use Rattle.rga_exchange.specs.declared.fault.ReceiveFault.TheVariants as receive
 use Rattle.rga_exchange.specs.declared.fault.SendFault.{SendFault}
 use Rattle.rga_exchange.specs.declared.fault.SendFault.TheVariants as send
 use Rattle.mg_plain.specs.declared.outcome.Notice.TheVariants as notice
-use Rattle.mg_files.specs.Calls.{Call, failures_after}
 use Rattle.mg_files.specs.OpenState.{OpenState}
 use Rattle.mg_files.specs.declared.fault.LoadFault.{LoadFault}
 use Rattle.mg_files.specs.declared.fault.LoadFault.TheVariants as load
@@ -13,7 +12,6 @@ use Rattle.mg_files.specs.declared.port.LinkFault.{LinkFault}
 use Rattle.mg_files.specs.declared.port.LinkFault.TheVariants as link
 use Rattle.mg_files.specs.declared.port.PortFault.{PortFault}
 use Rattle.mg_files.specs.declared.port.PortFault.TheVariants as port
-use Rattle.mg_sync.specs.Meeting.{CountsFaults}
 use Rattle.mg_sync.specs.declared.fault.ExchangeFault.{ExchangeFault}
 use Rattle.mg_sync.specs.declared.fault.ExchangeFault.TheVariants as exchange
 use Rattle.mg_minibuffer.specs.declared.message.Message.{Message}
@@ -26,12 +24,12 @@ use Rattle.mg_editor.specs.declared.fault.CarryFault.TheVariants.{Port, Load, Ex
 abbrev pub CarryAnswer : Type 0
 CarryAnswer = Result (Unit {0}) CarryFault
 
--- how many calls of the port failed, before and after one request that is answered so
-abbrev pub CountsBehind : {A : Type 0} → Result A CarryFault → ℕ → ℕ → Type 0
-CountsBehind (Ok a) old new = new ≡ old
-CountsBehind {A} (Err (Port fault)) old new = new ≡ failures_after {A = A} (Err fault) old
-CountsBehind (Err (Load fault)) old new = new ≡ old
-CountsBehind {A} (Err (Exchange fault)) old new = CountsFaults {A = A} (Err fault) old new
+-- what a request's port did wrong, as an exchange says it: files that were found, and are not loaded, are no fault of it
+abbrev pub port_outcome : {A : Type 0} → Result A CarryFault → Result (Unit {0}) ExchangeFault
+port_outcome (Ok a) = Ok tt
+port_outcome (Err (Port fault)) = Err (exchange.Save fault)
+port_outcome (Err (Load fault)) = Ok tt
+port_outcome (Err (Exchange fault)) = Err fault
 
 -- ---- what is said of faults
 
@@ -102,17 +100,14 @@ outcome_answer (Err fault) = Err fault
 abbrev pub editor_saying : Workspace → Message → Editor → Editor
 editor_saying work said e = record { work = work; talk = record e.talk { message = said } }
 
--- The current buffer, with what is to be written of it, became another in a way that is said of what came of a request, and
--- that is told and answered. Nothing else changed.
-pub record ChangesCurrent {A : Type 0} (R : A → OpenState → OpenState → Type 0) (outcome : A → CarryOutcome) (old new : Editor) (r : CarryAnswer) : Type 0 where
+-- The workspace changed in a way that is said of what came of a request, and that is told and answered.
+pub record TellsOutcome {A : Type 0} (R : A → Workspace → Workspace → Type 0) (outcome : A → CarryOutcome) (old new : Editor) (r : CarryAnswer) : Type 0 where
   pub came : A
-  pub after : OpenState
-  pub became : R came (workspace_buffer old.work) after
-  pub is : new ≡ editor_saying (with_workspace_buffer old.work after) (outcome_message (outcome came)) old
+  pub became : R came old.work new.work
+  pub is : new ≡ editor_saying new.work (outcome_message (outcome came)) old
   pub done : r ≡ outcome_answer (outcome came)
 
--- nothing was asked of the port, and the editor became this one
-pub record AsksNothing (now : Editor) (calls more : Option (List Call)) (new : Editor) (r : CarryAnswer) : Type 0 where
-  pub no_call : more ≡ calls
-  pub is : new ≡ now
-  pub done : r ≡ Ok tt
+-- the same of the current buffer, with what is to be written of it: nothing else changed
+abbrev pub ChangesCurrent : {A : Type 0} → (A → OpenState → OpenState → Type 0) → (A → CarryOutcome) → Editor → Editor → CarryAnswer → Type 0
+ChangesCurrent R outcome old new r =
+    TellsOutcome (λ came w v. (after : OpenState) × (v ≡ with_workspace_buffer w after) × R came (workspace_buffer w) after) outcome old new r

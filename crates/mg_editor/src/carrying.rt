@@ -2,6 +2,7 @@
 ghost use Rattle.std.specs.Prelude.{◌≡◌, ◌<◌, length, IfSome, encode_utf8_all};
 ghost use Rattle.mg_workspace.specs.declared.workspace.TheConstants.{MAX_BUFFERS};
 ghost use Rattle.mg_sync.specs.Linking.{account, ExchangesOver};
+ghost use Rattle.mg_sync.specs.Meeting.{CountsFaults};
 ghost use Rattle.mg_editor.specs.Carrying as spec;
 ghost use Rattle.mg_editor.specs.Finding as finding;
 ghost use Rattle.mg_editor.specs.Meeting as meeting;
@@ -59,7 +60,8 @@ impl<S: Teller> Editor<S> {
             IfSome (meeting.role_of request) (λ role. telling.ChangesCurrent
             (λ answer b d. ExchangesOver a b d role answer) meeting.meeting_outcome
             self.old self.new result) }
-        ensures device { telling.CountsBehind result (P.failures port.old) (P.failures port.new) }
+        ensures device { CountsFaults (telling.port_outcome result)
+            (P.failures port.old) (P.failures port.new) }
     {
         match request {
             Request::Idle | Request::Quit => Ok(()),
@@ -74,7 +76,8 @@ impl<S: Teller> Editor<S> {
     fn save<P: Port>(&mut self, port: &mut P) -> Result<(), CarryFault>
         ensures saved { spec.Carried Request.Save
             (P.calls port.old) (P.calls port.new) self.old self.new result }
-        ensures device { telling.CountsBehind result (P.failures port.old) (P.failures port.new) }
+        ensures device { CountsFaults (telling.port_outcome result)
+            (P.failures port.old) (P.failures port.new) }
     {
         let answer = self.work.current_mut().save(port);
         self.conclude(save_outcome(answer))
@@ -82,9 +85,10 @@ impl<S: Teller> Editor<S> {
 
     /// The buffer of a name is current, opened if need be.
     fn find<P: Port>(&mut self, name: &[char], port: &mut P) -> Result<(), CarryFault>
-        ensures found { finding.FoundBuffer name.now
+        ensures found { spec.Carried (Request.Find name.now)
             (P.calls port.old) (P.calls port.new) self.old self.new result }
-        ensures device { telling.CountsBehind result (P.failures port.old) (P.failures port.new) }
+        ensures device { CountsFaults (telling.port_outcome result)
+            (P.failures port.old) (P.failures port.new) }
     {
         if self.work.visit(name) {
             return Ok(());
@@ -99,9 +103,11 @@ impl<S: Teller> Editor<S> {
     /// The buffer of a name is opened, or not, which is said.
     fn open<P: Port>(&mut self, name: &[char], port: &mut P) -> Result<(), CarryFault>
         requires { length self.old.work.buffers.all < MAX_BUFFERS }
-        ensures opened { finding.Opened name.now
-            (P.calls port.old) (P.calls port.new) self.old self.new result }
-        ensures device { telling.CountsBehind result (P.failures port.old) (P.failures port.new) }
+        ensures opened { let name = encode_utf8_all name.now in
+            telling.TellsOutcome (finding.Loads name (P.calls port.old) (P.calls port.new))
+            finding.opening_outcome self.old self.new result }
+        ensures device { CountsFaults (telling.port_outcome result)
+            (P.failures port.old) (P.failures port.new) }
     {
         let answer = self.load(name, port);
         self.conclude(opening_outcome(answer))
@@ -111,9 +117,10 @@ impl<S: Teller> Editor<S> {
     fn load<P: Port>(&mut self, name: &[char], port: &mut P) -> Result<LogEnd, CarryFault>
         requires { length self.old.work.buffers.all < MAX_BUFFERS }
         ensures loads { finding.Loads (encode_utf8_all name.now)
-            (P.calls port.old) (P.calls port.new) self.old.work self.new.work result }
+            (P.calls port.old) (P.calls port.new) result self.old.work self.new.work }
         ensures talk { self.new.talk ≡ self.old.talk }
-        ensures device { telling.CountsBehind result (P.failures port.old) (P.failures port.new) }
+        ensures device { CountsFaults (telling.port_outcome result)
+            (P.failures port.old) (P.failures port.new) }
     {
         let text = string_of(self.alloc, name)?;
         let found = port.load(text.as_str())?;

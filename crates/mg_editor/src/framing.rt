@@ -2,6 +2,7 @@
 ghost use Rattle.std.specs.Prelude.{◌≡◌, ◌≤◌, Some, IfOk, OnOk, OnErr, IsSome};
 ghost use Rattle.mg_screen.specs.Cursor as cursors;
 ghost use Rattle.mg_screen.specs.Frame.{screen_rows};
+ghost use Rattle.mg_screen.specs.Written.{SpellRows};
 ghost use Rattle.mg_screen.specs.declared.size.TheConstants.{MAX_ROWS, MIN_COLUMNS};
 ghost use Rattle.mg_editor.specs.Frames as spec;
 ghost use Rattle.mg_workspace.specs.Showing.{IsOnScreen};
@@ -61,9 +62,9 @@ impl<S: TextStore> Editor<S> {
     /// The frame, once the windows are placed.
     fn placed_frame(&self) -> Result<Frame, FrameFault>
         ensures rows { let placed = spec.placed_editor self.now in
-            IfOk result (λ frame. spec.ShowsRows placed frame.rows.items) }
+            IfOk result (λ frame. SpellRows (spec.editor_frame placed) frame.rows.items) }
         ensures cursor { let placed = spec.placed_editor self.now in
-            IfOk result (λ frame. spec.ShowsCursor placed frame.cursor) }
+            IfOk result (λ frame. spec.editor_cursor placed ≡ Some frame.cursor) }
     {
         let columns = self.work.columns();
         let rows = self.work.rows();
@@ -82,9 +83,9 @@ impl<S: TextStore> Editor<S> {
     ///
     /// The only fault is `Memory`: nothing changed then.
     pub fn frame(&mut self) -> Result<Frame, Fault>
-        ensures placed { OnOk result (spec.PlacesWindows self.old self.new) }
-        ensures rows { IfOk result (λ frame. spec.ShowsRows self.new frame.rows.items) }
-        ensures cursor { IfOk result (λ frame. spec.ShowsCursor self.new frame.cursor) }
+        ensures placed { OnOk result (self.new ≡ spec.placed_editor self.old) }
+        ensures rows { IfOk result (λ frame. SpellRows (spec.editor_frame self.new) frame.rows.items) }
+        ensures cursor { IfOk result (λ frame. spec.editor_cursor self.new ≡ Some frame.cursor) }
         ensures same { OnErr result (self.new ≡ self.old) }
     {
         let Ok(()) = self.work.list_all() else {

@@ -8,14 +8,15 @@
 //! on mg_files for ports, on mg_sync for peers, and is generic over any `TextStore`. The layer
 //! above may rest on `Pressed`: which step the keys gave, and what that left of the buffers, the
 //! windows, the prompt, the message and the keys, want of memory aside, which changes nothing but
-//! that a key sequence begun is forgotten; and on `Carried`: which calls a request makes of a port,
-//! and what that leaves. `frame` shows the editor's own windows.
+//! that a key sequence begun is forgotten; on `Carried`: which calls a request makes of a port, and
+//! what that leaves; and on the theorems of `laws`. `frame` shows the editor's own windows.
 #![tactic(auto)]
 
 mod carrying;
 mod editor;
 mod fault;
 mod framing;
+pub mod laws;
 mod meeting;
 mod opening;
 mod pressing;

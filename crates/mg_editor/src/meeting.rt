@@ -2,6 +2,7 @@
 ghost use Rattle.std.specs.Prelude.{◌≡◌};
 ghost use Rattle.mg_sync.specs.Asking.{Connects, Waits};
 ghost use Rattle.mg_sync.specs.Linking.{account, ExchangesOver};
+ghost use Rattle.mg_sync.specs.Meeting.{CountsFaults};
 ghost use Rattle.mg_editor.specs.Carrying as carrying;
 ghost use Rattle.mg_editor.specs.Meeting as spec;
 ghost use Rattle.mg_editor.specs.Telling as telling;
@@ -32,7 +33,8 @@ impl<S: Teller> Editor<S> {
             account P.Link.remaining P.Link.contents P.links P.calls port.old port.new in
             telling.ChangesCurrent (λ answer b d. ExchangesOver a b d Connects answer)
             spec.meeting_outcome self.old self.new result }
-        ensures device { telling.CountsBehind result (P.failures port.old) (P.failures port.new) }
+        ensures device { CountsFaults (telling.port_outcome result)
+            (P.failures port.old) (P.failures port.new) }
     {
         let answer = mg_sync::exchange(self.alloc, self.work.current_mut(), port);
         self.conclude(meeting_outcome(answer))
@@ -46,7 +48,8 @@ impl<S: Teller> Editor<S> {
             account P.Link.remaining P.Link.contents P.links P.calls port.old port.new in
             telling.ChangesCurrent (λ answer b d. ExchangesOver a b d Waits answer)
             spec.meeting_outcome self.old self.new result }
-        ensures device { telling.CountsBehind result (P.failures port.old) (P.failures port.new) }
+        ensures device { CountsFaults (telling.port_outcome result)
+            (P.failures port.old) (P.failures port.new) }
     {
         let answer = mg_sync::serve(self.alloc, self.work.current_mut(), port);
         self.conclude(meeting_outcome(answer))

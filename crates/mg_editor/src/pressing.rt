@@ -1,8 +1,8 @@
 //! The editor, pressed byte by byte.
-ghost use Rattle.std.specs.Prelude.{◌≡◌, ◌≢◌, None, Some, Ok, Err, IfOk, OnOk, OnErr};
-ghost use Rattle.mg_dialogue.specs.Dialogues.{Forgot, Reopened, Shown};
+ghost use Rattle.std.specs.Prelude.{◌≡◌, ◌≢◌, ◌⊎◌, true, is_some, None, Err, IfOk, OnErr};
+ghost use Rattle.mg_dialogue.specs.Dialogues.{Dialogue, Shown};
+ghost use Rattle.mg_minibuffer.specs.PlainStep as plain;
 ghost use Rattle.mg_minibuffer.specs.ReplacementStep as queries;
-ghost use Rattle.mg_minibuffer.specs.declared.prompt.Prompt.{Prompt};
 ghost use Rattle.mg_workspace.specs.Actions.{RanInCurrent};
 ghost use Rattle.mg_workspace.specs.Workspaces.{scene_of};
 ghost use Rattle.mg_editor.specs.Presses as spec;
@@ -20,8 +20,9 @@ use std::alloc::{AllocError, Global};
 impl<S: TextStore> Editor<S> {
     /// A step where no prompt is open.
     fn take_plain(&mut self, step: Step) -> Result<Request, Fault>
-        ensures plainly { spec.Stepped None step self.old self.new result }
-        ensures refused { OnErr result (spec.KeepsWork Forgot self.old self.new) }
+        ensures plainly { IfOk result
+            (spec.Ended (plain.plain_step step (scene_of self.old.work)) self.old self.new) }
+        ensures refused { OnErr result (spec.RanOut self.old self.new) }
     {
         let Ok(()) = self.work.list() else {
             return self.run_out();
@@ -35,8 +36,8 @@ impl<S: TextStore> Editor<S> {
 
     /// Want of memory: the key sequence begun is forgotten.
     fn run_out(&mut self) -> Result<Request, Fault>
-        ensures ran_out { spec.RanOut self.old self.new result }
-        ensures work { self.new.work ≡ self.old.work }
+        ensures ran_out { spec.RanOut self.old self.new }
+        ensures answer { result ≡ Err Memory }
     {
         self.talk.forget();
         Err(Fault::Memory)
@@ -44,8 +45,8 @@ impl<S: TextStore> Editor<S> {
 
     /// Does the action of an ending, and tells what came of it.
     fn end(&mut self, ending: Ending) -> Result<Request, Fault>
-        ensures ended { spec.Ended ending self.old self.new result }
-        ensures refused { OnErr result (spec.KeepsWork Forgot self.old self.new) }
+        ensures ended { IfOk result (spec.Ended ending self.old self.new) }
+        ensures refused { OnErr result (spec.RanOut self.old self.new) }
     {
         let Ending {
             action,
@@ -72,8 +73,10 @@ impl<S: TextStore> Editor<S> {
 
     /// Tells why an action was refused. Want of memory leaves prompt and message as they are.
     fn refuse(&mut self, fault: ActionFault, refused: Next) -> Result<Request, Fault>
-        ensures told { let reply = spec.refusal fault refused self.old.talk.message in
-            spec.Replies reply self.old.talk self.new.talk result }
+        ensures told { IfOk result (λ request. (said : Message) × (fault ≡ ActionFault.Refused said)
+            × Shown refused said self.old.talk self.new.talk × (request ≡ Request.Idle)) }
+        ensures memory { OnErr result (fault ≡ ActionFault.Memory) }
+        ensures refused { OnErr result (spec.RanOut self.old self.new) }
         ensures work { self.new.work ≡ self.old.work }
     {
         match fault {
@@ -84,9 +87,9 @@ impl<S: TextStore> Editor<S> {
 
     /// A step at an open prompt.
     fn take_prompted(&mut self, step: &Step) -> Result<Request, Fault>
-        ensures prompted { (p : Prompt) → self.old.talk.prompt ≡ Some p →
-            spec.Stepped (Some p) step.now self.old self.new result }
-        ensures refused { OnErr result (spec.KeepsWork Forgot self.old self.new) }
+        ensures prompted { is_some self.old.talk.prompt ≡ true → IfOk result
+            (spec.FollowsReaction (spec.editor_reaction step.now self.old) self.old self.new) }
+        ensures refused { OnErr result (spec.RanOut self.old self.new) }
     {
         let Ok(()) = self.work.list() else {
             return self.run_out();
@@ -102,8 +105,8 @@ impl<S: TextStore> Editor<S> {
 
     /// What a reaction asks for.
     fn follow(&mut self, reaction: Reaction) -> Result<Request, Fault>
-        ensures follows { spec.FollowsReaction reaction self.old self.new result }
-        ensures refused { OnErr result (spec.KeepsWork Forgot self.old self.new) }
+        ensures follows { IfOk result (spec.FollowsReaction reaction self.old self.new) }
+        ensures refused { OnErr result (spec.RanOut self.old self.new) }
     {
         match reaction {
             Reaction::Ends(ending) => self.end(ending),
@@ -118,7 +121,7 @@ impl<S: TextStore> Editor<S> {
 
     /// An open search is accepted.
     fn accept(&mut self) -> Request
-        ensures { spec.FollowsReaction Reaction.Accepts self.old self.new (Ok result) }
+        ensures { spec.FollowsReaction Reaction.Accepts self.old self.new result }
     {
         self.talk.accept_search();
         Request::Idle
@@ -127,8 +130,8 @@ impl<S: TextStore> Editor<S> {
     /// Replaces the match at point, and looks for the next one.
     fn replace(&mut self, pattern: &[char], put: &[char], count: usize) -> Result<Request, Fault>
         ensures replaced { let reaction = Reaction.Replaces pattern.now put.now count in
-            spec.FollowsReaction reaction self.old self.new result }
-        ensures refused { OnErr result (spec.KeepsWork Forgot self.old self.new) }
+            IfOk result (spec.FollowsReaction reaction self.old self.new) }
+        ensures refused { OnErr result (spec.RanOut self.old self.new) }
     {
         match self.replace_one(pattern, put) {
             Ok(()) => Ok(self.go_on(pattern, put, count.saturating_add(1))),
@@ -151,7 +154,9 @@ impl<S: TextStore> Editor<S> {
 
     /// Looks for the next match. Where that finds no memory, query-replace ends.
     fn go_on(&mut self, pattern: &[char], put: &[char], count: usize) -> Request
-        ensures { spec.GoesOn pattern.now put.now count self.old self.new (Ok result) }
+        ensures { let scene = scene_of self.old.work in (e : Ending)
+            × ((e ≡ queries.asks_at_next_match pattern.now put.now count scene)
+            ⊎ (e ≡ spec.ending_without_memory)) × spec.Ended e self.old self.new result }
     {
         match self.find_next(pattern, put, count) {
             Ok(request) => request,
@@ -164,10 +169,10 @@ impl<S: TextStore> Editor<S> {
     }
 
     fn find_next(&mut self, pattern: &[char], put: &[char], count: usize) -> Result<Request, Fault>
-        ensures found { let scene = scene_of self.old.work in OnOk result
+        ensures found { let scene = scene_of self.old.work in IfOk result
             (spec.Ended (queries.asks_at_next_match pattern.now put.now count scene)
-            self.old self.new result) }
-        ensures refused { OnErr result (spec.KeepsWork Forgot self.old self.new) }
+            self.old self.new) }
+        ensures refused { OnErr result (spec.RanOut self.old self.new) }
     {
         let Ok(()) = self.work.list() else {
             return self.run_out();
@@ -181,10 +186,11 @@ impl<S: TextStore> Editor<S> {
         }
     }
 
-    /// A step that neither waits for more bytes nor leaves a search.
-    fn take_step(&mut self, step: Step) -> Result<Request, Fault>
-        ensures stepped { spec.Stepped self.old.talk.prompt step self.old self.new result }
-        ensures refused { OnErr result (spec.KeepsWork Forgot self.old self.new) }
+    /// A step that does not wait for more bytes.
+    fn do_step(&mut self, step: Step) -> Result<Request, Fault>
+        ensures stepped { IfOk result
+            (spec.FollowsReaction (spec.editor_reaction step self.old) self.old self.new) }
+        ensures refused { OnErr result (spec.RanOut self.old self.new) }
     {
         if self.talk.has_prompt() {
             self.take_prompted(&step)
@@ -193,10 +199,22 @@ impl<S: TextStore> Editor<S> {
         }
     }
 
+    /// A step of a byte that stays at the open prompt.
+    #[tactic(auto, using(crate::proofs::Steps::taken))]
+    fn take_step(&mut self, step: Step) -> Result<Request, Fault>
+        ensures { spec.StepTaken step self.old self.old self.new result }
+    {
+        match step {
+            Step::Pending => Ok(Request::Idle),
+            step => self.do_step(step),
+        }
+    }
+
     /// A byte that leaves the search that is open.
     fn leave(&mut self, byte: u8) -> Result<Request, Fault>
-        ensures leaves { spec.LeavesOpenSearch byte self.old self.new result }
-        ensures refused { OnErr result (spec.KeepsWork Forgot self.old self.new) }
+        ensures { (step : Step) × (read : Dialogue)
+            × spec.IsRead byte Step.Leave self.old.talk step read
+            × spec.StepTaken step self.old (record self.old { talk = read }) self.new result }
     {
         match self.talk.take_search() {
             Some(search) => {
@@ -208,9 +226,11 @@ impl<S: TextStore> Editor<S> {
     }
 
     /// The step of a byte that left a search.
+    #[tactic(auto, using(crate::proofs::Steps::taken))]
     fn leave_by(&mut self, search: Search, step: Step) -> Result<Request, Fault>
-        ensures left { spec.LeftBy search step self.old self.new result }
-        ensures refused { OnErr result (spec.KeepsWork (Reopened search) self.old self.new) }
+        requires { self.old.talk.prompt ≡ None }
+        ensures { spec.StepTaken step (spec.with_search search self.old)
+            (spec.with_search_accepted search self.old) self.new result }
     {
         match step {
             Step::Pending => {
@@ -223,8 +243,10 @@ impl<S: TextStore> Editor<S> {
     }
 
     fn leave_plainly(&mut self, search: Search, step: Step) -> Result<Request, Fault>
-        ensures left { spec.LeftPlainly search step self.old self.new result }
-        ensures refused { OnErr result (spec.KeepsWork (Reopened search) self.old self.new) }
+        requires { self.old.talk.prompt ≡ None }
+        ensures left { let old = spec.with_search_accepted search self.old in
+            IfOk result (spec.Ended (plain.plain_step step (scene_of old.work)) old self.new) }
+        ensures refused { OnErr result (spec.RanOut (spec.with_search search self.old) self.new) }
     {
         match self.take_plain(step) {
             Ok(request) => {
@@ -246,11 +268,10 @@ impl<S: TextStore> Editor<S> {
     /// forgotten.
     pub fn press(&mut self, byte: u8) -> Result<Request, Fault>
         ensures pressed { spec.Pressed byte self.old self.new result }
-        ensures refused { OnErr result (spec.KeepsWork Forgot self.old self.new) }
+        ensures refused { OnErr result (spec.RanOut self.old self.new) }
     {
         let step = self.talk.feed(byte);
         match step {
-            Step::Pending => Ok(Request::Idle),
             Step::Leave => self.leave(byte),
             step => self.take_step(step),
         }

@@ -5,12 +5,11 @@ use Rattle.std.specs.Io.KnownBytes.{Appends}
 use Rattle.std.specs.Option.{option_map}
 use Rattle.rga_devices.specs.Counting.{Calls, one_more}
 use Rattle.rga_lines.specs.Stream.{bytes_of_lines}
-use Rattle.mg_screen.specs.Frame.{frame_rows}
 use Rattle.mg_screen.specs.Written.{utf8}
 use Rattle.mg_screen.specs.declared.screen.Position.{Position}
 use Rattle.mg_settings.specs.Settings.{Values}
 use Rattle.mg_editor.specs.Editors.{Editor}
-use Rattle.mg_editor.specs.Frames.{cursor_in, placed_editor, screen_of}
+use Rattle.mg_editor.specs.Frames.{editor_cursor, editor_frame, placed_editor}
 use Rattle.mg_session.specs.Courses.{is_on, course_answer}
 use Rattle.mg_session.specs.Moments.{Known, Moment}
 use Rattle.mg_session.specs.declared.course.Course.{Course}
@@ -54,7 +53,7 @@ frame_text rows cursor = bytes_of_lines (frame_lines rows cursor)
 
 -- the rows of an editor, in UTF-8
 abbrev pub editor_rows : Editor → List (List ℕ)
-editor_rows e = utf8 (frame_rows e.work.columns (screen_of e))
+editor_rows e = utf8 (editor_frame e)
 
 -- what is shown of where the cursor stands
 abbrev pub shown_cursor : Bool → Position → Option Position
@@ -62,7 +61,7 @@ shown_cursor has_cursor at = if has_cursor then Some at else None
 
 -- the frame of an editor, as it is written, where its cursor is in sight
 abbrev pub editor_text : Bool → Editor → Option (List ℕ)
-editor_text has_cursor e = option_map (λ at. frame_text (editor_rows e) (shown_cursor has_cursor at)) (cursor_in e (screen_of e))
+editor_text has_cursor e = option_map (λ at. frame_text (editor_rows e) (shown_cursor has_cursor at)) (editor_cursor e)
 
 -- The windows were placed, and the frame was written and flushed, or the device failed behind a beginning of it; or memory was
 -- wanting for it, and nothing was written.

@@ -1,12 +1,11 @@
-use Rattle.std.proofs.Common.{rules}
+use Rattle.std.proofs.Common.{rules, ◌≡◌, IfOk, subst}
 use Rattle.mg_minibuffer.specs.ReplacementStep.{asks_at_next_match}
 use Rattle.mg_workspace.specs.Workspaces.{scene_of}
 use Rattle.mg_editor.specs.Presses.{Ended}
-use Rattle.mg_editor.proofs.Steps.{on_ok}
 use Rattle.mg_editor.proofs.editor.Editor.find_next.Goals as goal
 
 pub returns-in-Ok-next_match-clause-found : goal.returns-in-Ok-next_match-clause-found
 returns-in-Ok-next_match-clause-found g c =
     let old = c.args.self.now in
-    let found : Ended (asks_at_next_match c.args.pattern.now c.args.put.now c.args.count (scene_of old.work)) old c.end.new.self c.end.result = search rules in
-    on_ok c.end.result found
+    let found : c.in-Ok-next_match.ending ≡ asks_at_next_match c.args.pattern.now c.args.put.now c.args.count (scene_of old.work) = search rules in
+    subst (λ e. IfOk c.end.result (Ended e old c.end.new.self)) found (search rules)

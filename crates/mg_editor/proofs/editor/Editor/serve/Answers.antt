@@ -1,15 +1,16 @@
 use Rattle.std.proofs.Common.{rules}
-use Rattle.mg_sync.specs.Asking.{Waits}
-use Rattle.mg_sync.specs.Linking.{account, ExchangesOver}
-use Rattle.mg_editor.specs.Meeting.{meeting_outcome}
-use Rattle.mg_editor.proofs.Meetings.{concluded, met_some}
 use Rattle.mg_editor.proofs.editor.Editor.serve.Goals as goal
 
 pub returns-clause-over : goal.returns-clause-over
-returns-clause-over g c =
-    let a = account g.P.Link.Read.remaining g.P.Link.Write.contents g.P.Port.links g.P.Port.calls c.args.port.now c.serve-answer.new.port in
-    concluded (λ answer b d. ExchangesOver a b d Waits answer) meeting_outcome _ _ c.self.inside.work _ c.serve-answer.new.opened c.serve-answer.result _
-    (search rules) c.current_mut.ensures.value c.serve-answer.ensures.serves (search rules) (search rules)
+returns-clause-over g c = record {
+  came = c.serve-answer.result;
+  became = (c.serve-answer.new.opened, search rules, search rules);
+  is = search rules;
+  done = search rules;
+}
 
+-- nothing need be said of links
 pub returns-clause-told : goal.returns-clause-told
-returns-clause-told g c = met_some Waits _ _ _ _ (returns-clause-over g c)
+returns-clause-told g c =
+    let over = returns-clause-over g c in
+    record { came = over.came; became = (over.became.0, over.became.1, over.became.2.course); is = over.is; done = over.done }
