@@ -1,5 +1,5 @@
 -- What is answered to a command and to an undo, want of memory aside.
-use Rattle.std.specs.Prelude.{◌≡◌, ◌⊎◌, ℕ, true, length, Option, Some, None, Result, Ok, Err, MatchResult}
+use Rattle.std.specs.Prelude.{ℕ, true, length, Option, Some, None, Result, Ok, Err}
 use Rattle.rga_ops.specs.Splice.{new_characters}
 use Rattle.rga_ops.specs.ListAnswer.{Verdict}
 use Rattle.rga_ops.specs.declared.refusal.Refusal.TheVariants.{Memory}
@@ -24,10 +24,6 @@ fault_of NoMemory = Store Memory
 
 abbrev pub FaultVerdict : Type 0
 FaultVerdict = Result (Unit {0}) BufferFault
-
--- the result is as the verdict says, want of memory aside
-abbrev pub IsFaultAnswer : FaultVerdict → FaultVerdict → Type 0
-IsFaultAnswer r verdict = MatchResult r (λ _. verdict ≡ Ok tt) (λ e. (e ≡ Store Memory) ⊎ (verdict ≡ Err e))
 
 abbrev pub stored : Verdict → FaultVerdict
 stored (Ok u) = Ok tt

@@ -1,11 +1,11 @@
 //! Commands that run on a buffer.
-ghost use Rattle.std.specs.Prelude.{◌≡◌, ◌≤◌, true, Err, IsOk, length, IfSome, OnOk, OnErr};
+ghost use Rattle.std.specs.Prelude.{◌≡◌, ◌⊎◌, ◌≤◌, true, Err, IsOk, length, IfSome, OnOk, OnErr};
 ghost use Rattle.rga_ops.specs.Prelude.{text};
 ghost use Rattle.rga_ops.specs.ListAnswer.{IsAnswer};
 ghost use Rattle.rga_ops.specs.Splice.{text_after};
 ghost use Rattle.rga_doc.specs.LocalEdit.{splices_answer};
 ghost use Rattle.mg_plain.specs.Commands.{effect};
-ghost use Rattle.mg_buffer.specs.Faults.{IsFaultAnswer, run_answer};
+ghost use Rattle.mg_buffer.specs.Faults.{run_answer};
 ghost use Rattle.mg_buffer.specs.Ran.{Edited, Ran};
 ghost use Rattle.mg_buffer.specs.Sight.{command_call, situation_of};
 ghost use Rattle.rga_ops.specs.declared.refusal.Refusal.TheVariants.{Memory};
@@ -37,8 +37,8 @@ impl<S: TextStore> Buffer<S> {
         memo: &mut Memo,
         fill: u16,
     ) -> Result<(), BufferFault>
-        ensures exact { IsFaultAnswer result
-            (run_answer (command_call command.now arg fill) self.old memo.old) }
+        ensures exact { (result ≡ Err (Store Memory))
+            ⊎ (result ≡ run_answer (command_call command.now arg fill) self.old memo.old) }
         ensures ran { OnOk result
             (Ran (command_call command.now arg fill) self.old memo.old self.new memo.new) }
         ensures same { OnErr result (self.new ≡ self.old) }

@@ -1,9 +1,9 @@
 //! Undo.
-ghost use Rattle.std.specs.Prelude.{◌≡◌, ◌<◌, Err, IsSome, length, OnOk, OnErr};
+ghost use Rattle.std.specs.Prelude.{◌≡◌, ◌⊎◌, ◌<◌, Err, IsSome, length, OnOk, OnErr};
 ghost use Rattle.std.specs.Option.{option_map};
 ghost use Rattle.rga_ops.specs.ListAnswer.{IsAnswer};
 ghost use Rattle.rga_ops.specs.Order.{text};
-ghost use Rattle.mg_buffer.specs.Faults.{IsFaultAnswer, growth_answer, undo_answer};
+ghost use Rattle.mg_buffer.specs.Faults.{growth_answer, undo_answer};
 ghost use Rattle.mg_buffer.specs.Groups.{group_to_undo, past_at};
 ghost use Rattle.mg_buffer.specs.Kept.{IsLineOfPlace};
 ghost use Rattle.mg_buffer.specs.Undid.{Reverted, Undid};
@@ -22,16 +22,16 @@ use rga_ops::{Id, Refusal};
 use rga_store::TextStore;
 
 impl<S: TextStore> Buffer<S> {
-    /// Undoes the greatest_counter group, or in a run of undos the group before the one that was undone last:
-    /// takes the operations of its revert, which are unsaved then, and a group of their own where
-    /// there are any. From then on each restored element stands in every group for the one that it
-    /// restores. Point goes behind the last element inserted, else behind the first deleted, else
+    /// Undoes the newest group, or in a run of undos the group before the one that was undone
+    /// last: takes the operations of its revert, which are unsaved then, and a group of their own
+    /// where there are any. From then on each restored element stands in every group for the one
+    /// that it restores. Point goes behind the last element inserted, else behind the first deleted, else
     /// it stays; the mark stays behind its element. The kind becomes Plain.
     ///
     /// Faults, in this order: `NothingToUndo` where there is no group to take; `Full` and `Clock`
     /// of the restored characters; `Memory`. A fault changes nothing.
     pub fn undo(&mut self, memo: &mut Memo) -> Result<(), BufferFault>
-        ensures exact { IsFaultAnswer result (undo_answer self.old) }
+        ensures exact { (result ≡ Err (Store Memory)) ⊎ (result ≡ undo_answer self.old) }
         ensures undid { OnOk result (Undid self.old memo.old self.new memo.new) }
         ensures same { OnErr result (self.new ≡ self.old) }
         ensures memo { OnErr result (memo.new ≡ memo.old) }

@@ -1,11 +1,11 @@
 //! Frames of the editor's own windows.
-ghost use Rattle.std.specs.Prelude.{◌≡◌, ◌≤◌, Some, IfOk, OnOk, OnErr, IsSome};
+ghost use Rattle.std.specs.Prelude.{◌≡◌, ◌≤◌, ℕ, Some, IfOk, OnOk, OnErr, IsSome};
 ghost use Rattle.mg_screen.specs.Cursor as cursors;
 ghost use Rattle.mg_screen.specs.Frame.{screen_rows};
+ghost use Rattle.mg_screen.specs.Layout.{FillsRows};
 ghost use Rattle.mg_screen.specs.Written.{SpellRows};
 ghost use Rattle.mg_screen.specs.declared.size.TheConstants.{MAX_ROWS, MIN_COLUMNS};
 ghost use Rattle.mg_editor.specs.Frames as spec;
-ghost use Rattle.mg_workspace.specs.Showing.{IsOnScreen};
 
 use crate::editor::Editor;
 use crate::fault::Fault;
@@ -35,7 +35,7 @@ fn window_cursor(columns: usize, screen: &Screen<'_>, index: usize) -> Position
 impl<S: TextStore> Editor<S> {
     /// The screen, once the windows are placed.
     fn screen<'a>(&'a self) -> Result<Screen<'a>, FrameFault>
-        requires { IsOnScreen self.now.work.windows }
+        requires { (rows : ℕ) × FillsRows rows self.now.work.windows × (rows ≤ MAX_ROWS) }
         ensures { IfOk result (λ screen. screen ≡ spec.screen_of (spec.placed_editor self.now)) }
     {
         let echo = self.talk.echo(self.alloc, self.work.name())?;

@@ -3,7 +3,8 @@ ghost use Rattle.std.specs.Prelude.{◌≡◌, ◌≢◌, ◌⊎◌, true, is_so
 ghost use Rattle.mg_dialogue.specs.Dialogues.{Dialogue, Shown};
 ghost use Rattle.mg_minibuffer.specs.PlainStep as plain;
 ghost use Rattle.mg_minibuffer.specs.ReplacementStep as queries;
-ghost use Rattle.mg_workspace.specs.Actions.{RanInCurrent};
+ghost use Rattle.mg_minibuffer.specs.declared.ending.Action.TheVariants.{Run};
+ghost use Rattle.mg_workspace.specs.Actions.{Done};
 ghost use Rattle.mg_workspace.specs.Workspaces.{scene_of};
 ghost use Rattle.mg_editor.specs.Presses as spec;
 ghost use Rattle.mg_editor.specs.declared.fault.Fault.TheVariants.{Memory};
@@ -141,7 +142,7 @@ impl<S: TextStore> Editor<S> {
 
     fn replace_one(&mut self, pattern: &[char], put: &[char]) -> Result<(), ActionFault>
         ensures one { result ≢ Err ActionFault.Memory →
-            RanInCurrent (Command.ReplaceOne pattern.now put.now) 1
+            Done (Run (Command.ReplaceOne pattern.now put.now) 1)
             self.old.work (self.new.work, result) }
         ensures memory { result ≡ Err ActionFault.Memory → self.new.work ≡ self.old.work }
         ensures talk { self.new.talk ≡ self.old.talk }

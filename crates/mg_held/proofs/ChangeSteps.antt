@@ -1,7 +1,8 @@
 -- Commands, undos and operations of others, as operations that are joined and all unsaved.
-use Rattle.std.proofs.Common.{◌≡◌, ℕ, ◌≤◌, zero, suc, List, [], ◌++◌, length, Option, Some, None, Ok, Err, refl, sym, ap, subst, ◌∙◌, append-nil}
+use Rattle.std.proofs.Common.{◌≡◌, ℕ, ◌≤◌, zero, suc, true, List, [], ◌++◌, length, Option, Some, None, Ok, Err, refl, sym, ap, subst, ◌∙◌, append-nil}
 use Rattle.std.specs.Prelude.{Contains, ◌⊎◌}
 use Rattle.std.proofs.Common.{inl, inr}
+use Rattle.std.proofs.lemmas.Option.{get_or_from_slice_get}
 use Rattle.std.specs.FinSet as finite_set
 use Rattle.std.specs.List.{slice_get}
 use Rattle.std.specs.Option.{option_map, unwrap_or}
@@ -17,7 +18,8 @@ use Rattle.rga_ops.proofs.ListAnswerLaws.{list_taken-iff}
 use Rattle.rga_ops.proofs.NewLaws.{content-new, new_among}
 use Rattle.rga_ops.proofs.OperationLaws.{inserted-iff, deleted-iff}
 use Rattle.rga_ops.proofs.SoundLaws.{join_holds}
-use Rattle.rga_doc.specs.Revert.{revert_answer}
+use Rattle.rga_doc.specs.LocalEdit.{edit_answer}
+use Rattle.rga_doc.specs.Revert.{are_restorable, revert_answer}
 use Rattle.rga_doc.proofs.EditLaws.{splices_taken}
 use Rattle.rga_doc.proofs.RevertLaws.{revert_taken}
 use Rattle.mg_buffer.specs.Faults.{FaultVerdict, stored, growth_answer, taken_answer}
@@ -28,7 +30,7 @@ use Rattle.mg_buffer.specs.State.{State}
 use Rattle.mg_buffer.specs.Undid.{undo_operations}
 use Rattle.mg_buffer.specs.declared.fault.BufferFault.{BufferFault}
 use Rattle.mg_buffer.specs.declared.fault.BufferFault.TheVariants.{Store}
-use Rattle.mg_buffer.proofs.GroupLaws.{revert_answer_is}
+use Rattle.mg_buffer.proofs.GroupLaws.{past_restorable}
 use Rattle.mg_files.specs.OpenState.{OpenState}
 use Rattle.mg_held.specs.Held.{Held}
 use Rattle.mg_held.specs.Kept.{IsLogged}
@@ -120,7 +122,9 @@ undid_joins b old d new u =
     let g : Past = u.undid.group in
     let at : slice_get b.groups u.undid.index ≡ Some g = last_at b.groups (unwrap_or b.undone (length b.groups)) u.undid.index g u.undid.due in
     let fits : growth_answer b (length g.deleted) ≡ Ok tt = stored_well (growth_answer b (length g.deleted)) (ap (taken_answer b) (sym u.undid.due) ∙ u.allowed) in
-    let allowed : revert_answer b.limit b.content g.deleted ≡ Ok tt = revert_answer_is b.limit b.content b.groups u.undid.index g g.deleted u.revertible at refl ∙ fits in
+    let restorable : are_restorable b.content g.deleted ≡ true =
+    ap (λ (x : Past). are_restorable b.content x.deleted) (sym (get_or_from_slice_get b.groups u.undid.index g _ at)) ∙ past_restorable b.content b.groups u.undid.index u.revertible in
+    let allowed : revert_answer b.limit b.content g.deleted ≡ Ok tt = ap (λ t. edit_answer b.limit b.content t (length g.deleted)) restorable ∙ fits in
     let r = u.undid.reverted in
     joined b d (undo_operations b g) r.name r.content r.unsaved r.limit (revert_taken b.limit b.replica b.content g.inserted g.deleted allowed)
 

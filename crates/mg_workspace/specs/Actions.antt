@@ -3,7 +3,6 @@ use Rattle.std.specs.Prelude.{◌≡◌, ◌⊎◌, ℕ, Bool, true, false, List
 use Rattle.std.specs.Option.{option_map_or}
 use Rattle.rga_ops.specs.Order.{text}
 use Rattle.rga_ops.specs.declared.refusal.Refusal.TheVariants.{Full, Clock}
-use Rattle.mg_plain.specs.declared.command.Command.{Command}
 use Rattle.mg_plain.specs.declared.view.Kind.TheVariants.{Plain}
 use Rattle.mg_buffer.specs.declared.fault.BufferFault.{BufferFault}
 use Rattle.mg_buffer.specs.declared.fault.BufferFault.TheVariants.{Notice as Noticed, Store}
@@ -87,13 +86,6 @@ ActsInCurrent verdict Becomes w o =
     (λ _. (b : State) × (notes : Notes) × Becomes b notes × (o ≡ (with_state_and_notes b notes w, Ok tt)))
     (λ e. o ≡ (w, Err (action_fault_of e)))
 
--- it ran a command
-abbrev pub RanInCurrent : Command → ℕ → Workspace → ActionOutcome → Type 0
-RanInCurrent command n w o =
-    let call = command_call command n w.fill in
-    let b = current_state w in
-    ActsInCurrent (run_answer call b w.notes) (buffer_run.Ran call b w.notes) w o
-
 -- ---- of the windows
 
 -- as they become where that buffer is current, and the answer, want of memory aside
@@ -158,7 +150,10 @@ kill_outcome name w = outcome_at (λ i. removal_outcome i w) (asked name w.buffe
 abbrev pub Done : Action → Workspace → ActionOutcome → Type 0
 Done Nothing w o = o ≡ (w, Ok tt)
 Done EndRun w o = o ≡ (idled_work w, Ok tt)
-Done (Run command n) w o = RanInCurrent command n w o
+Done (Run command n) w o =
+    let call = command_call command n w.fill in
+    let b = current_state w in
+    ActsInCurrent (run_answer call b w.notes) (buffer_run.Ran call b w.notes) w o
 Done Undo w o = ActsInCurrent (undo_answer (current_state w)) (buffer_undo.Undid (current_state w) w.notes) w o
 Done (Arrange a) w o = (o ≡ (w, Err Memory)) ⊎ (o ≡ arrange_outcome a w)
 Done (Switch name) w o = o ≡ switch_outcome name w

@@ -1,11 +1,10 @@
 -- What windows show of the buffers.
-use Rattle.std.specs.Prelude.{◌≡◌, ℕ, ◌≤◌, false, List, [], length, map, Option, Some, None, slice_get}
+use Rattle.std.specs.Prelude.{ℕ, false, List, [], length, map, Option, Some, None, slice_get}
 use Rattle.rga_ops.specs.Order.{text, waiting}
 use Rattle.mg_buffer.specs.Sight.{place_of}
 use Rattle.mg_files.specs.OpenState.{OpenState}
 use Rattle.mg_files.specs.Saving.{is_changed}
-use Rattle.mg_screen.specs.declared.size.TheConstants.{MAX_ROWS}
-use Rattle.mg_screen.specs.Layout.{Window, window, Layout, layout, FillsRows}
+use Rattle.mg_screen.specs.Layout.{Window, window, Layout, layout}
 use Rattle.mg_screen.specs.Lines.{first_line}
 use Rattle.mg_screen.specs.Screen.{Pane}
 use Rattle.mg_workspace.specs.declared.viewport.Viewport.{Viewport}
@@ -28,10 +27,6 @@ placed_window bs w = window w.height (viewport w.shown.buffer (first_over (buffe
 -- all windows
 abbrev pub placed_windows : List OpenState → Layout Viewport → Layout Viewport
 placed_windows bs l = layout (map (placed_window bs) l.windows) l.current
-
--- the layout fills the rows of a screen
-abbrev pub IsOnScreen : Layout Viewport → Type 0
-IsOnScreen l = (rows : ℕ) × FillsRows rows l × (rows ≤ MAX_ROWS)
 
 -- a window over a buffer, as a frame shows it; over none, as over an empty text
 abbrev pub pane_over : Option OpenState → Window Viewport → Pane

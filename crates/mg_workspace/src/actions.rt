@@ -31,7 +31,7 @@ impl<S: TextStore> Workspace<S> {
 
     /// The current buffer runs a command.
     pub fn run(&mut self, command: &Command, argument: u16) -> Result<(), ActionFault>
-        ensures ran { spec.RanInCurrent command.now argument self.old (self.new, result) }
+        ensures ran { spec.Done (Action.Run command.now argument) self.old (self.new, result) }
         ensures kept { result ≡ Err Memory → self.new ≡ self.old }
     {
         let current = self.buffers.current_mut();

@@ -1,5 +1,5 @@
 //! Windows over buffers. Each is placed, and shown, by the buffer that it is over.
-ghost use Rattle.std.specs.Prelude.{◌≡◌, ◌<◌, ◌≤◌, List, Some, IfOk, IfSome, OnOk, length, slice_get, ◌++◌, [], ◌∷◌};
+ghost use Rattle.std.specs.Prelude.{◌≡◌, ◌<◌, ◌≤◌, ℕ, List, Some, IfOk, IfSome, OnOk, length, slice_get, ◌++◌, [], ◌∷◌};
 ghost use Rattle.mg_screen.specs.declared.size.TheConstants.{MAX_ROWS};
 ghost use Rattle.mg_screen.specs.Layout.{all_shown, window, FillsRows};
 ghost use Rattle.mg_files.specs.OpenState.{OpenState};
@@ -114,7 +114,7 @@ fn placed_pane<'a, S: TextStore>(
 ) -> Result<Pane<'a>, FrameFault>
     requires shown { ShowThese (length buffers.now.all) windows.now.windows }
     requires within { index < length windows.now.windows }
-    requires on_screen { spec.IsOnScreen windows.now }
+    requires on_screen { (rows : ℕ) × FillsRows rows windows.now × (rows ≤ MAX_ROWS) }
     ensures { let bs = buffers.now.all in
         let panes = spec.panes_of bs (spec.placed_windows bs windows.now) in
         IfOk result (λ p. slice_get panes index ≡ Some p) }
@@ -140,7 +140,7 @@ fn placed_panes<'a, S: TextStore>(
     memo: &'a Memo,
 ) -> Result<Vec<Pane<'a>>, FrameFault>
     requires shown { ShowThese (length buffers.now.all) windows.now.windows }
-    requires on_screen { spec.IsOnScreen windows.now }
+    requires on_screen { (rows : ℕ) × FillsRows rows windows.now × (rows ≤ MAX_ROWS) }
     ensures { let bs = buffers.now.all in
         let panes = spec.panes_of bs (spec.placed_windows bs windows.now) in
         IfOk result (λ ps. ps.items ≡ panes) }
@@ -189,7 +189,7 @@ impl<S: TextStore> Workspace<S> {
     /// The windows as they are shown once they are placed. `Memory`, also where one of the buffers
     /// is not listed.
     pub fn panes<'a>(&'a self, alloc: Global) -> Result<Vec<Pane<'a>>, FrameFault>
-        requires on_screen { spec.IsOnScreen self.now.windows }
+        requires on_screen { (rows : ℕ) × FillsRows rows self.now.windows × (rows ≤ MAX_ROWS) }
         ensures { IfOk result (λ ps. ps.items ≡ spec.work_panes (spec.placed_work self.now)) }
     {
         placed_panes(alloc, &self.windows, &self.buffers, &self.memo)

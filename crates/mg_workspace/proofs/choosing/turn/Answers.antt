@@ -1,6 +1,4 @@
-use Rattle.std.proofs.Common.{sym, ap, subst, ◌∙◌}
-use Rattle.mg_screen.specs.Layout.{Layout}
-use Rattle.mg_workspace.specs.declared.viewport.Viewport.{Viewport}
+use Rattle.std.proofs.Common.{sym, subst, ◌∙◌}
 use Rattle.mg_workspace.specs.Viewports.{viewport, AreShown}
 use Rattle.mg_workspace.proofs.ViewportLaws.{show_at, turned_current}
 use Rattle.mg_workspace.proofs.choosing.turn.Goals as goal

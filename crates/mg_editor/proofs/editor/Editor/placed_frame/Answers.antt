@@ -1,9 +1,7 @@
 use Rattle.std.proofs.Common.{rules, ◌≤◌, sym, ap, subst}
 use Rattle.mg_screen.specs.declared.size.TheConstants.{MAX_ROWS}
-use Rattle.mg_screen.specs.Frame.{frame_rows}
 use Rattle.mg_screen.specs.Layout.{FillsRows}
 use Rattle.mg_screen.specs.Screen.{Screen}
-use Rattle.mg_screen.specs.Written.{SpellRows}
 use Rattle.mg_editor.proofs.FrameLaws.{screen_filled, rows_from}
 use Rattle.mg_workspace.proofs.ShownWindows.{cursor_shown}
 use Rattle.mg_editor.proofs.editor.Editor.placed_frame.Goals as goal
@@ -27,6 +25,3 @@ cursor_in-requires-clause-shown g c =
     let work = c.args.self.now.work in
     let filled : FillsRows c.rows-rows.result work.windows = search rules in
     cursor_shown work.buffers.all work.windows work.columns c.in_ok-screen.screen work.windows.current (ap (λ (s : Screen). s.panes) c.in_ok-screen.ensures) filled.tall filled.here
-
-pub returns-clause-rows : goal.returns-clause-rows
-returns-clause-rows g c = subst (λ s. SpellRows (frame_rows c.args.self.now.work.columns s) c.in_ok-frame.field-0.items) c.in_ok-screen.ensures (search rules)

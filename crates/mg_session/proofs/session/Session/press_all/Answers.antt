@@ -2,11 +2,6 @@ use Rattle.std.proofs.Common.{arith}
 use Rattle.mg_session.proofs.TakenLaws.{next_key, takes_none}
 use Rattle.mg_session.proofs.session.Session.press_all.Goals as goal
 
-pub loop-key-preserved : goal.loop-key-preserved
-loop-key-preserved g c = λ behind rest.
-    c.loop-key.invariant behind
-    (next_key c.args.self.now.manner c.args.keys.now c.loop-key.key-index 0 _ _ behind (omega (arith, c.loop-key-test.true)) c.in-On.ensures rest)
-
 pub returns-in_default : goal.returns-in_default
 returns-in_default g c =
     c.loop-key.invariant _

@@ -1,11 +1,8 @@
-use Rattle.std.proofs.Common.{refl, sym, [], ◌∷◌}
+use Rattle.std.proofs.Common.{sym, [], ◌∷◌}
 use Rattle.mg_reports.specs.Reports.{keys, block_end}
-use Rattle.mg_reports.proofs.ReportLaws.{held_some, held_none}
+use Rattle.mg_reports.proofs.ReportLaws.{held_some}
 use Rattle.mg_session.proofs.TakenLaws.{took_more, takes_none}
 use Rattle.mg_session.proofs.session.Session.press_held.Goals as goal
-
-pub returns-then-is_empty : goal.returns-then-is_empty
-returns-then-is_empty g c = rw (held_none c.args.held.now (sym c.if-is_empty.ensures)) refl
 
 pub returns-in-On : goal.returns-in-On
 returns-in-On g c =
