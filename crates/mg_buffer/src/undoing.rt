@@ -22,10 +22,10 @@ use rga_ops::{Id, Refusal};
 use rga_store::TextStore;
 
 impl<S: TextStore> Buffer<S> {
-    /// Undoes the newest group, or in a run of undos the group before the one that was undone
-    /// last: takes the operations of its revert, which are unsaved then, and a group of their own
-    /// where there are any. From then on each restored element stands in every group for the one
-    /// that it restores. Point goes behind the last element inserted, else behind the first deleted, else
+    /// Undoes the newest group, or in a run of undos the group before the one that was undone last:
+    /// takes the operations of its revert, which are unsaved then, and a group of their own where
+    /// there are any. From then on each restored element stands in every group for the one that it
+    /// restores. Point goes behind the last element inserted, else behind the first deleted, else
     /// it stays; the mark stays behind its element. The kind becomes Plain.
     ///
     /// Faults, in this order: `NothingToUndo` where there is no group to take; `Full` and `Clock`

@@ -84,7 +84,8 @@ impl<S: TextStore> Editor<S> {
     /// The only fault is `Memory`: nothing changed then.
     pub fn frame(&mut self) -> Result<Frame, Fault>
         ensures placed { OnOk result (self.new ≡ spec.placed_editor self.old) }
-        ensures rows { IfOk result (λ frame. SpellRows (spec.editor_frame self.new) frame.rows.items) }
+        ensures rows { IfOk result
+            (λ frame. SpellRows (spec.editor_frame self.new) frame.rows.items) }
         ensures cursor { IfOk result (λ frame. spec.editor_cursor self.new ≡ Some frame.cursor) }
         ensures same { OnErr result (self.new ≡ self.old) }
     {
