@@ -5,7 +5,9 @@ Without an argument: every call of the library crates, in the order of crates.tx
 left out, below its file. With names (`run_keys`, `Opened::save`): these calls alone, and below each
 the definitions of specs/ that its clauses reach, and those that these reach, by file, and how many
 they are. They are found by name, so that a variable with the name of a definition counts as the
-definition. What the sources declare, types and how these are seen, is not followed.
+definition. What the sources declare, types and how these are seen, is not followed. Behind names
+`--down-to mg_plain,mg_keys` prints these definitions themselves, down to those of these crates and of
+the crates below them.
 With --claim: what is to be read to audit the claim of README.md, which are the definitions that the
 contracts of its table reach, by file; and behind them, by file, those that no such contract reaches.
 """
@@ -124,6 +126,49 @@ def print_files(definitions):
     print(f"  {len(definitions)} definitions in {len(files)} files")
 
 
+def texts_of(path):
+    """Returns each definition of a file of specs/ as it stands, with the comment above it."""
+    found, above, current = {}, [], None
+    for line in path.read_text().splitlines():
+        if head := DEFINITION.match(line):
+            current = head[1] or head[2]
+            found[current] = [*above, line]
+        elif not line.strip():
+            current = None
+        elif line.lstrip().startswith("--"):
+            above.append(line)
+            continue
+        elif current:
+            found[current] += [*above, line]
+        above = []
+    return found
+
+
+def below(crates):
+    """Returns these crates and all below them."""
+    lines = (CRATES.parent / "crates.txt").read_text()
+    uses = {crate: others.split() for crate, others in re.findall(r"^(\w+):([^\n]*)", lines, re.M)}
+    found, left = set(), list(crates)
+    while left:
+        crate = left.pop()
+        if crate in uses and crate not in found:
+            found.add(crate)
+            left += uses[crate]
+    return found
+
+
+def print_texts(definitions, ended):
+    """Prints the definitions themselves, those of the uppermost crates first, down to these crates."""
+    crates = listed_crates()
+    files = {(crate, stem) for crate, stem, _ in definitions if crate not in ended}
+    for crate, stem in sorted(files, key=lambda file: (-crates.index(file[0]), file[1])):
+        path = CRATES / crate / "specs" / f"{stem}.antt"
+        print(f"  ---- {path.relative_to(CRATES.parent)}\n")
+        for name, lines in texts_of(path).items():
+            if (crate, stem, name) in definitions:
+                print(textwrap.indent(textwrap.dedent("\n".join(lines)), "  "), end="\n\n")
+
+
 def listed_crates():
     names = re.findall(r"^(\w+):", (CRATES.parent / "crates.txt").read_text(), re.M)
     return [name for name in names if not name.startswith(("test_", "bench_"))]
@@ -152,9 +197,11 @@ def print_claim():
 
 
 def main():
-    asked, printed, last = set(sys.argv[1:]), set(), None
-    if asked == {"--claim"}:
+    words, printed, last = sys.argv[1:], set(), None
+    if words == ["--claim"]:
         return print_claim()
+    ended = below(words.pop(words.index("--down-to") + 1).split(",")) if "--down-to" in words[:-1] else None
+    asked = set(words) - {"--down-to"}
     for crate in listed_crates():
         for path, name, head, clauses in calls_of(CRATES / crate):
             if asked and not {name, name.split("::")[-1]} & asked:
@@ -165,7 +212,8 @@ def main():
             last, printed = path, printed | {name, name.split("::")[-1]}
             if asked:
                 print()
-                print_files(reached_by(clauses, scope_of(path.read_text())))
+                reached = reached_by(clauses, scope_of(path.read_text()))
+                print_files(reached) if ended is None else print_texts(reached, ended)
     if asked - printed:
         sys.exit(f"no public call: {', '.join(sorted(asked - printed))}")
 
