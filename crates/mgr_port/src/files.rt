@@ -80,7 +80,8 @@ pub(crate) fn open_beside<R: Files<File = File>>(rt: &R, path: &str) -> io::Resu
 
 /// Locks a file of a path that is still to get its name. `WouldBlock` where something else has it
 /// locked. `Interrupted` where the path stood for another file meanwhile, or for one with bytes, as
-/// one that was killed may leave it: that is kept, and lets go of the name.
+/// one that was killed may leave it: that is kept, and lets go of the name; `PermissionDenied` where
+/// it can't.
 pub(crate) fn lock_beside<R: Files<File = File> + AllocGlobal>(
     rt: &R,
     path: &str,
@@ -90,11 +91,14 @@ pub(crate) fn lock_beside<R: Files<File = File> + AllocGlobal>(
     if !stands_for(rt, path, next)? {
         return Err(io::Error::from(ErrorKind::Interrupted));
     }
-    if next.metadata()?.len() > 0 {
-        make_way(rt, path)?;
-        return Err(io::Error::from(ErrorKind::Interrupted));
+    if next.metadata()?.len() == 0 {
+        return Ok(());
     }
-    Ok(())
+    match make_way(rt, path) {
+        Ok(()) => Err(io::Error::from(ErrorKind::Interrupted)),
+        Err(error) if error.kind() == ErrorKind::OutOfMemory => Err(error),
+        Err(_) => Err(io::Error::from(ErrorKind::PermissionDenied)),
+    }
 }
 
 /// A file of a path that is still to get its name, empty and locked.

@@ -207,8 +207,11 @@ fn try_log<R: Files<File = File> + AllocGlobal>(
     let Ok(file) = open_beside(rt, paths.next_log.as_str()) else {
         return Ok(None);
     };
-    lock_next(rt, paths.next_log.as_str(), &file, path)?;
-    *next = Some(file);
+    match lock_next(rt, paths.next_log.as_str(), &file, path) {
+        Ok(()) => *next = Some(file),
+        Err(error) if error.kind() == ErrorKind::PermissionDenied => {}
+        Err(error) => return Err(error),
+    }
     Ok(None)
 }
 

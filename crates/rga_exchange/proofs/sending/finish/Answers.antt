@@ -1,4 +1,5 @@
-use Rattle.rga_devices.proofs.WrittenLemmas.{Appends-kept, front_whole}
+use Rattle.std.proofs.KnownBytes.{Appends-kept}
+use Rattle.rga_devices.proofs.WrittenLemmas.{front_whole}
 use Rattle.rga_exchange.proofs.sending.finish.Goals as goal
 
 pub returns-clause-ok : goal.returns-clause-ok
