@@ -213,7 +213,10 @@ def main():
             if asked:
                 print()
                 reached = reached_by(clauses, scope_of(path.read_text()))
-                print_files(reached) if ended is None else print_texts(reached, ended)
+                if ended is None:
+                    print_files(reached)
+                else:
+                    print_texts(reached, ended)
     if asked - printed:
         sys.exit(f"no public call: {', '.join(sorted(asked - printed))}")
 
