@@ -6,7 +6,7 @@ use Rattle.rga_devices.specs.Counting.{Calls, Writes, WritesFront, WritesNothing
 use Rattle.rga_lines.specs.Stream.{rest_of}
 use Rattle.rga_exchange.specs.Compacting.{compact_text}
 use Rattle.rga_exchange.specs.Sending.{StandsFor}
-use Rattle.mgr_show.specs.Compacted.{compacted, Compacts, BeginsToCompact}
+use Rattle.mgr_show.specs.Compacted.{Compacts, BeginsToCompact}
 use Rattle.mgr_show.proofs.ShownLaws.{IsContentOf}
 
 module _ {W : Type 0} (contents : W → Option (List ℕ)) where

@@ -4,7 +4,8 @@ use Rattle.std.specs.Prelude.{IfErr, IfSome, ◌⊎◌}
 use Rattle.rga_ops.specs.Content.{Content, nothing, content_of}
 use Rattle.rga_ops.proofs.TakenLaws.{taken_from_nothing, taken_list_agrees}
 use Rattle.rga_ops.specs.Content.{IsAgreed}
-use Rattle.rga_ops.specs.declared.op.Op.{Op}
+use Rattle.rga_ops.specs.declared.refusal.Refusal.{Refusal}
+use Rattle.rga_store.specs.Kept.{Kept}
 use Rattle.rga_store.specs.declared.text_store.TheConstants.{MAX_LIMIT}
 use Rattle.rga_devices.specs.Counting.{Calls, Writes, WritesFront, WritesNothing}
 use Rattle.rga_lines.specs.Log.{log_operations}
@@ -79,6 +80,15 @@ text_of_content (Some bytes) c written h is = record { accepted = h.accepted; is
 pub text_of_input : (known : Option (List ℕ)) (limit : ℕ) (start c : Content) (written : List ℕ) → limit ≡ MAX_LIMIT → start ≡ nothing
     → IfSome known (λ bytes. shown_from limit start bytes ≡ Ok c) → written ≡ shown_bytes c → IfSome known (λ bytes. IsTextOf bytes written)
 text_of_input known limit start c written same empty h is = text_of_content known c written (content_of_input known limit start c same empty h) is
+
+abbrev made : Kept → Result Kept Refusal
+made v = Ok v
+
+-- records of nothing, which a log is read into
+pub made_of_nothing : (v : Kept) → made v ≡ made (record { content = nothing; limit = MAX_LIMIT }) → (v.content ≡ nothing) × (v.limit ≡ MAX_LIMIT)
+made_of_nothing v h =
+    let same : v ≡ record { content = nothing; limit = MAX_LIMIT } = cc in
+    (ap (λ (k : Kept). k.content) same, ap (λ (k : Kept). k.limit) same)
 
 -- what holds of the fault holds of an answer that is it
 pub at_err : {A E : Type 0} (P : E → Type 0) (r : Result A E) (e : E) → r ≡ Err e → P e → IfErr r P

@@ -1,8 +1,11 @@
 //! A log in as few lines as runs allow.
-ghost use Rattle.std.specs.Prelude.{◌≡◌, ◌≢◌, ◌⊎◌, true, false, Ok, Err, OnOk, OnErr, IfErr};
+ghost use Rattle.std.specs.Prelude.{◌≡◌, ◌≢◌, ◌⊎◌, [], true, false, Ok, Err, OnOk, OnErr, IfErr};
 ghost use Rattle.rga_ops.specs.Prelude.{Content, nothing};
 ghost use Rattle.rga_store.specs.declared.text_store.TheConstants.{MAX_LIMIT};
-ghost use Rattle.rga_devices.specs.Counting.{CountsAs, OnBytes, WritesNothing};
+ghost use Rattle.rga_devices.specs.Counting.{CountsAs, OnBytes, Writes, WritesFront, WritesNothing};
+ghost use Rattle.rga_lines.specs.Stream.{rest_of};
+ghost use Rattle.rga_exchange.specs.Compacting.{compact_text};
+ghost use Rattle.rga_exchange.specs.Sending.{StandsFor};
 ghost use Rattle.rga_exchange.specs.Taking.{content_intake, HasTakenWholeLines};
 ghost use Rattle.rga_exchange.specs.declared.taking.Form.TheVariants.{Log};
 ghost use Rattle.mgr_show.specs.Log.{log_of};
@@ -12,9 +15,9 @@ ghost use Rattle.mgr_show.specs.Compacted.{Compacts, BeginsToCompact};
 use crate::fault::ShowFault;
 use crate::show::take_whole_log;
 use rga_devices::Counted;
-use rga_exchange::compact_with;
-use rga_flat::FlatStore;
-use rga_store::{MAX_LIMIT, TextStore};
+use rga_exchange::{SendFault, compact_ops};
+use rga_records::Records;
+use rga_store::MAX_LIMIT;
 use std::alloc::Global;
 use std::io::{Read, Write};
 
@@ -77,10 +80,36 @@ pub fn compact_log_with<R: Read, W: Write>(
     ensures reads { CountsAs ShowFault.Read result reader.old reader.new }
     ensures writes { CountsAs ShowFault.Write result writer.old writer.new }
 {
-    let Ok(mut store) = FlatStore::new(alloc, MAX_LIMIT) else {
+    let Ok(mut records) = Records::new(alloc, MAX_LIMIT) else {
         return Err(ShowFault::Memory);
     };
-    take_whole_log(alloc, &mut store, reader)?;
-    compact_with(alloc, &store, dels, writer)?;
+    take_whole_log(alloc, &mut records, reader)?;
+    compact_records(alloc, &records, dels, writer)?;
+    Ok(())
+}
+
+/// Writes the lines of what records hold.
+fn compact_records<W: Write>(
+    alloc: Global,
+    records: &Records,
+    dels: bool,
+    writer: &mut Counted<W>,
+) -> Result<(), SendFault>
+    ensures written { OnOk result (Writes W.contents writer.old writer.new
+        (compact_text dels records.now.content)) }
+    ensures stands { OnOk result (StandsFor (compact_text dels records.now.content)
+        records.now.content) }
+    ensures ended { OnOk result (rest_of (compact_text dels records.now.content) ≡ []) }
+    ensures begun { WritesFront W.contents writer.old writer.new
+        (compact_text dels records.now.content) }
+    ensures flushed { OnOk result (writer.new.flushed ≡ true) }
+    ensures device { CountsAs SendFault.Write result writer.old writer.new }
+{
+    // What is known is told with the fact that each operation is well-formed.
+    let _known = records.known();
+    let Ok(ops) = records.ops(alloc) else {
+        return Err(SendFault::Memory);
+    };
+    compact_ops(alloc, &ops, dels, writer)?;
     Ok(())
 }

@@ -12,8 +12,8 @@ use crate::fault::ShowFault;
 use crate::text::text_string;
 use rga_devices::Counted;
 use rga_exchange::{LogEnd, take_log};
-use rga_flat::FlatStore;
-use rga_store::{MAX_LIMIT, Taker, TextStore};
+use rga_records::Records;
+use rga_store::{MAX_LIMIT, Taker};
 use std::alloc::Global;
 use std::io::{Read, Write};
 
@@ -49,15 +49,12 @@ pub fn show_ops<R: Read, W: Write>(
     ensures reads { CountsAs ShowFault.Read result reader.old reader.new }
     ensures writes { CountsAs ShowFault.Write result writer.old writer.new }
 {
-    let text = text_of_log::<FlatStore, R>(alloc, reader)?;
+    let text = text_of_log(alloc, reader)?;
     write_text(text.as_str(), writer)
 }
 
-/// The text of a log, which a new store takes.
-fn text_of_log<S: TextStore, R: Read>(
-    alloc: Global,
-    reader: &mut Counted<R>,
-) -> Result<String, ShowFault>
+/// The text of a log, whose operations are put in order once all are read.
+fn text_of_log<R: Read>(alloc: Global, reader: &mut Counted<R>) -> Result<String, ShowFault>
     ensures text { IfOk result (λ text. OnBytes R.remaining reader.old
         (λ bytes. IsTextOf bytes (string_bytes text))) }
     ensures refused { IfErr result (λ e. IsOfInput e → OnBytes R.remaining reader.old
@@ -69,11 +66,11 @@ fn text_of_log<S: TextStore, R: Read>(
     ensures device { CountsAs ShowFault.Read result reader.old reader.new }
     ensures no_write { result ≢ Err ShowFault.Write }
 {
-    let Ok(mut store) = S::new(alloc, MAX_LIMIT) else {
+    let Ok(mut records) = Records::new(alloc, MAX_LIMIT) else {
         return Err(ShowFault::Memory);
     };
-    take_whole_log(alloc, &mut store, reader)?;
-    text_string(alloc, &store)
+    take_whole_log(alloc, &mut records, reader)?;
+    text_string(alloc, &records)
 }
 
 /// Takes the operations of a log to its end, where a last line that was cut off is a fault.

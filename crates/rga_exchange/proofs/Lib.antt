@@ -16,4 +16,5 @@ pub mod AgainLaws
 pub mod CompactLaws
 pub mod GoingOnLemmas
 pub mod TurnLaws
+pub mod FindingLaws
 pub mod RunLineLaws

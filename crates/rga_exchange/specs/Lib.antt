@@ -7,3 +7,4 @@ pub mod Stops
 pub mod Compacting
 pub mod Turns
 pub mod RunLines
+pub mod Finding

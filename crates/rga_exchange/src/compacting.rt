@@ -1,7 +1,7 @@
 //! Logs in as few lines as runs allow.
 ghost use Rattle.std.specs.Prelude.{◌≡◌, ℕ, ◌+◌, ◌<◌, ◌≤◌, ◌++◌, ◌∷◌, [], length, slice_index, true, false, Ok, Some, None, IfOk, IfErr, OnOk, string_bytes};
 ghost use Rattle.std.specs.Option.{option_map, option_map_or};
-ghost use Rattle.rga_ops.specs.Prelude.{checked, operations, IsSound};
+ghost use Rattle.rga_ops.specs.Prelude.{checked, operations, content_of, IsSound};
 ghost use Rattle.rga_ops.specs.Content.{element};
 ghost use Rattle.rga_ops.specs.Identifier.{is_in_range};
 ghost use Rattle.rga_ops.specs.declared.op.Op.TheVariants.{Insert, Delete};
@@ -17,6 +17,7 @@ ghost use Rattle.rga_exchange.specs.Turns.{run_with, last_behind, last_line, end
 
 use crate::block::Block;
 use crate::fault::SendFault;
+use crate::finding::element_in;
 use crate::sending::finish;
 use rga_devices::Counted;
 use rga_lines::{DeletionRun, LineFault, MAX_RUN, Run, write_deletion_run, write_line, write_run};
@@ -74,8 +75,33 @@ pub fn compact_with<S: TextStore, W: Write>(
     ensures device { CountsAs SendFault.Write result writer.old writer.new }
 {
     let ops = sound_ops(store)?;
+    compact_ops(alloc, &ops, dels, writer)
+}
+
+/// Does what `compact_with` does, with the content whose operations these are: the insertions by
+/// rising identifier, and then the deletions by rising identifier, as `TextStore::ops` lists them.
+pub fn compact_ops<W: Write>(
+    alloc: Global,
+    ops: &[Op],
+    dels: bool,
+    writer: &mut Counted<W>,
+) -> Result<u64, SendFault>
+    requires all { ops.now ≡ operations (content_of ops.now) }
+    requires sound { IsSound (content_of ops.now) }
+    ensures number { IfOk result (λ n. n ≡ length (compact_lines dels (content_of ops.now))) }
+    ensures written { OnOk result (Writes W.contents writer.old writer.new
+        (compact_text dels (content_of ops.now))) }
+    // These lines stand for the content, and the last one too ends in a newline.
+    ensures stands { OnOk result (StandsFor (compact_text dels (content_of ops.now))
+        (content_of ops.now)) }
+    ensures ended { OnOk result (rest_of (compact_text dels (content_of ops.now)) ≡ []) }
+    ensures begun { WritesFront W.contents writer.old writer.new
+        (compact_text dels (content_of ops.now)) }
+    ensures flushed { OnOk result (writer.new.flushed ≡ true) }
+    ensures device { CountsAs SendFault.Write result writer.old writer.new }
+{
     let mut block = Block::new(alloc)?;
-    let lines = push_compacted(alloc, store, dels, &ops, &mut block, writer)?;
+    let lines = push_compacted(alloc, ops, dels, &mut block, writer)?;
     finish(block, writer)?;
     Ok(lines)
 }
@@ -94,31 +120,32 @@ fn sound_ops<S: TextStore>(store: &S) -> Result<Vec<Op>, SendFault>
     Ok(ops)
 }
 
-/// Adds the lines of the operations of a store to the block, which is written whenever it is full,
-/// and answers how many lines there are.
-fn push_compacted<S: TextStore, W: Write>(
+/// Adds the lines of all operations to the block, which is written whenever it is full, and answers
+/// how many lines there are.
+fn push_compacted<W: Write>(
     alloc: Global,
-    store: &S,
-    dels: bool,
     ops: &[Op],
+    dels: bool,
     block: &mut Block,
     writer: &mut Counted<W>,
 ) -> Result<u64, SendFault>
-    requires all { ops.now ≡ operations (S.content store.now) }
-    requires sound { IsSound (S.content store.now) }
-    ensures number { IfOk result (λ n. n ≡ length (compact_lines dels (S.content store.now))) }
+    requires all { ops.now ≡ operations (content_of ops.now) }
+    requires sound { IsSound (content_of ops.now) }
+    ensures number { IfOk result (λ n. n ≡ length (compact_lines dels (content_of ops.now))) }
     ensures ok { OnOk result (WritesAllBut W.contents writer.old writer.new
-        (block.old ++ compact_text dels (S.content store.now)) block.new) }
+        (block.old ++ compact_text dels (content_of ops.now)) block.new) }
     ensures writable { OnOk result (AreWritable ops.now) }
     ensures begun { WritesFront W.contents writer.old writer.new
-        (block.old ++ compact_text dels (S.content store.now)) }
+        (block.old ++ compact_text dels (content_of ops.now)) }
     ensures device { CountsAs SendFault.Write result writer.old writer.new }
 {
     let mut ends = RunEnds::new(alloc)?;
     let mut last = None;
     let mut lines = 0u64;
-    for op in ops {
-        lines += push_operation(alloc, store, dels, op, &mut ends, &mut last, block, writer)?;
+    for (index, op) in ops.iter().enumerate() {
+        lines += push_operation(
+            alloc, ops, index, op, dels, &mut ends, &mut last, block, writer,
+        )?;
     }
     let rest = push_last(alloc, last, block, writer)?;
     Ok(lines + rest)
@@ -149,30 +176,32 @@ fn push_last<W: Write>(
 }
 
 /// Adds the line that comes for an operation, where one does, and answers how many there are.
-fn push_operation<S: TextStore, W: Write>(
+fn push_operation<W: Write>(
     alloc: Global,
-    store: &S,
-    dels: bool,
+    ops: &[Op],
+    index: usize,
     op: &Op,
+    dels: bool,
     ends: &mut RunEnds,
     last: &mut Option<DeletionRun>,
     block: &mut Block,
     writer: &mut Counted<W>,
 ) -> Result<u64, SendFault>
-    requires { checked op.now ≡ Ok tt }
-    ensures number { IfOk result (λ n. n ≡ length (lines_at dels (S.content store.now)
+    requires all { ops.now ≡ operations (content_of ops.now) }
+    requires checked { checked op.now ≡ Ok tt }
+    ensures number { IfOk result (λ n. n ≡ length (lines_at dels (content_of ops.now)
         (slice_index ends.old) last.old op.now)) }
     ensures ok { OnOk result (WritesAllBut W.contents writer.old writer.new
-        (block.old ++ bytes_of_lines (lines_at dels (S.content store.now)
+        (block.old ++ bytes_of_lines (lines_at dels (content_of ops.now)
         (slice_index ends.old) last.old op.now)) block.new) }
     ensures last { OnOk result (last.new ≡ last_behind dels last.old op.now) }
     ensures ends { OnOk result ((replica : ℕ) → slice_index ends.new replica
-        ≡ ends_behind (S.content store.now) (slice_index ends.old) op.now replica) }
+        ≡ ends_behind (content_of ops.now) (slice_index ends.old) op.now replica) }
     ensures writable { OnOk result (IsWritable op.now) }
     ensures begun { WritesFront W.contents writer.old writer.new block.old }
     ensures device { CountsAs SendFault.Write result writer.old writer.new }
 {
-    let Some(line) = next_line(alloc, store, dels, op, ends, last)? else {
+    let Some(line) = next_line(alloc, ops, index, op, dels, ends, last)? else {
         return Ok(0);
     };
     block.take_line(line.as_bytes(), writer)?;
@@ -182,25 +211,27 @@ fn push_operation<S: TextStore, W: Write>(
 /// The line that comes for an operation, if one does: an insertion that is in the last run of its
 /// replica has none, and where deletions are written in runs each ends the run before it or goes on
 /// with it.
-fn next_line<S: TextStore>(
+fn next_line(
     alloc: Global,
-    store: &S,
-    dels: bool,
+    ops: &[Op],
+    index: usize,
     op: &Op,
+    dels: bool,
     ends: &mut RunEnds,
     last: &mut Option<DeletionRun>,
 ) -> Result<Option<String>, SendFault>
-    requires { checked op.now ≡ Ok tt }
+    requires all { ops.now ≡ operations (content_of ops.now) }
+    requires checked { checked op.now ≡ Ok tt }
     ensures line { IfOk result (λ line. option_map_or (λ text. string_bytes text ∷ []) line []
-        ≡ lines_at dels (S.content store.now) (slice_index ends.old) last.old op.now) }
+        ≡ lines_at dels (content_of ops.now) (slice_index ends.old) last.old op.now) }
     ensures last { OnOk result (last.new ≡ last_behind dels last.old op.now) }
     ensures ends { OnOk result ((replica : ℕ) → slice_index ends.new replica
-        ≡ ends_behind (S.content store.now) (slice_index ends.old) op.now replica) }
+        ≡ ends_behind (content_of ops.now) (slice_index ends.old) op.now replica) }
     ensures writable { OnOk result (IsWritable op.now) }
     ensures memory { IfErr result (λ e. e ≡ SendFault.Memory) }
 {
     match op {
-        Op::Insert { id, parent, ch } => run_line(alloc, store, *id, *parent, *ch, ends),
+        Op::Insert { id, parent, ch } => run_line(alloc, ops, index, *id, *parent, *ch, ends),
         Op::Delete { id } => {
             if dels {
                 return line_of_ended(alloc, *id, last);
@@ -278,19 +309,21 @@ fn deletion_line(alloc: Global, run: &DeletionRun) -> Result<String, LineFault>
 }
 
 /// The same for an insertion: the line of the run that it begins, unless it is in one.
-fn run_line<S: TextStore>(
+fn run_line(
     alloc: Global,
-    store: &S,
+    ops: &[Op],
+    index: usize,
     id: Id,
     parent: Id,
     ch: char,
     ends: &mut RunEnds,
 ) -> Result<Option<String>, SendFault>
-    requires { checked (Insert id parent ch) ≡ Ok tt }
+    requires all { ops.now ≡ operations (content_of ops.now) }
+    requires checked { checked (Insert id parent ch) ≡ Ok tt }
     ensures line { IfOk result (λ line. option_map_or (λ text. string_bytes text ∷ []) line []
-        ≡ lines_at false (S.content store.now) (slice_index ends.old) None (Insert id parent ch)) }
+        ≡ lines_at false (content_of ops.now) (slice_index ends.old) None (Insert id parent ch)) }
     ensures ends { OnOk result ((replica : ℕ) → slice_index ends.new replica
-        ≡ ends_behind (S.content store.now) (slice_index ends.old) (Insert id parent ch) replica) }
+        ≡ ends_behind (content_of ops.now) (slice_index ends.old) (Insert id parent ch) replica) }
     ensures writable { OnOk result (IsWritable (Insert id parent ch)) }
     ensures memory { IfErr result (λ e. e ≡ SendFault.Memory) }
 {
@@ -299,7 +332,7 @@ fn run_line<S: TextStore>(
     if ends.covers(id) {
         return Ok(None);
     }
-    let run = run_from(alloc, store, id, parent, ch)?;
+    let run = run_from(alloc, ops, index, id, parent, ch)?;
     ends.note(&run);
     let Ok(line) = shortest_line(alloc, &run) else {
         return Err(SendFault::Memory);
@@ -309,16 +342,18 @@ fn run_line<S: TextStore>(
 
 /// The run that begins with an insertion: with those that go on behind it, up to `MAX_RUN`
 /// characters.
-fn run_from<S: TextStore>(
+fn run_from(
     alloc: Global,
-    store: &S,
+    ops: &[Op],
+    index: usize,
     id: Id,
     parent: Id,
     ch: char,
 ) -> Result<Run, AllocError>
+    requires all { ops.now ≡ operations (content_of ops.now) }
     requires rising { checked (Insert id parent ch) ≡ Ok tt }
     requires within { is_in_range id.counter id.replica ≡ true }
-    ensures run { IfOk result (λ r. r ≡ run_of (S.content store.now) (id, element parent ch)) }
+    ensures run { IfOk result (λ r. r ≡ run_of (content_of ops.now) (id, element parent ch)) }
     ensures whole { IfOk result (λ r. IsRun r) }
 {
     let mut chars = Vec::new(alloc);
@@ -326,8 +361,9 @@ fn run_from<S: TextStore>(
         return Err(AllocError);
     };
     let mut last = id;
+    let mut near = index;
     'chars: while chars.len() < MAX_RUN {
-        let Some((next, ch)) = next_in_run(store, last) else {
+        let Some((next, ch)) = next_in_run(ops, &mut near, last) else {
             break;
         };
         let Ok(()) = chars.push(ch) else {
@@ -339,15 +375,16 @@ fn run_from<S: TextStore>(
 }
 
 /// The insertion that goes on with a run behind its last identifier: its own, and its character.
-fn next_in_run<S: TextStore>(store: &S, last: Id) -> Option<(Id, char)>
-    requires { is_in_range last.counter last.replica ≡ true }
+fn next_in_run(ops: &[Op], near: &mut usize, last: Id) -> Option<(Id, char)>
+    requires all { ops.now ≡ operations (content_of ops.now) }
+    requires within { is_in_range last.counter last.replica ≡ true }
     ensures { result ≡ option_map (λ ch. (next last, ch))
-        (next_character (S.content store.now) last) }
+        (next_character (content_of ops.now) last) }
 {
     let Ok(next) = Id::new(last.counter() + 1, last.replica()) else {
         return None;
     };
-    let (parent, ch) = store.get(next)?;
+    let (parent, ch) = element_in(ops, near, next)?;
     if parent == last {
         Some((next, ch))
     } else {

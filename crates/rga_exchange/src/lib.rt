@@ -18,6 +18,7 @@
 mod block;
 mod compacting;
 mod fault;
+mod finding;
 pub mod laws;
 mod log;
 mod receiving;
@@ -25,7 +26,7 @@ mod runs;
 mod sending;
 mod taking;
 
-pub use compacting::{compact, compact_with};
+pub use compacting::{compact, compact_ops, compact_with};
 pub use fault::{LogFault, ReceiveFault, SendFault};
 pub use log::{LogEnd, LogRead, read_log, take_log};
 pub use receiving::receive;

@@ -1,63 +1,26 @@
 -- Operations that are removed again, the last first.
-use Rattle.std.proofs.Common.{◌≡◌, is_some, Bool, true, false, cond, not, ◌&&◌, ℕ, List, [], ◌∷◌, ◌++◌, refl, sym, ap, ◌∙◌, subst, true≢false}
-use Rattle.std.specs.Prelude.{Option, Some, None, Ok}
+use Rattle.std.proofs.Common.{◌≡◌, is_some, Bool, true, false, cond, not, ◌&&◌, List, [], ◌∷◌, refl, sym, ap, ◌∙◌, true≢false}
+use Rattle.std.specs.Prelude.{Option, Some, None}
 use Rattle.std.specs.FinMap as finite_map
 use Rattle.std.specs.FinSet as finite_set
 use Rattle.std.specs.BTreeSet.{BTreeSet, contains}
 use Rattle.std.proofs.lemmas.Option.{none-some}
 use Rattle.rga_ops.specs.Identifier.{Identifier, id_cmp}
-use Rattle.rga_ops.specs.Content.{Element, Content, IsWithin, Holds, join, single, clock_of}
+use Rattle.rga_ops.specs.Content.{Element, Content, IsWithin, Holds}
 use Rattle.rga_ops.specs.RootPath.{is_complete}
-use Rattle.rga_ops.specs.Answer.{answer}
 use Rattle.rga_ops.proofs.IdentifierLaws.{ids_total, is}
 use Rattle.rga_ops.proofs.ContentLaws.{within_chain}
 use Rattle.rga_ops.specs.declared.op.Op.{Op}
 use Rattle.rga_ops.specs.declared.op.Op.TheVariants.{Insert, Delete}
-use Rattle.rga_ops.specs.declared.refusal.Taken.TheVariants.{New}
 use Rattle.rga_sequence.specs.declared.entry.Entry.{Entry}
 use Rattle.rga_store.specs.Without.{without_operation}
-use Rattle.rga_store.proofs.WithoutLaws.{without_new, new_held}
-use Rattle.rga_flat.specs.declared.steps.Step.{Step}
-use Rattle.rga_flat.specs.Back.{without_noted, CanTakeBack, IsLastNoted}
+use Rattle.rga_records.specs.declared.steps.Step.{Step}
+use Rattle.rga_records.specs.Back.{without_noted}
 use Rattle.rga_flat.specs.Flat.{IsFlat}
 use Rattle.rga_flat.specs.Undo.{undone_entries, undone_under, IsGoingBack, IsReturnable}
 use Rattle.rga_flat.specs.Waiting.{Waiting, under, has_list}
 use Rattle.rga_flat.proofs.EntryLaws.{either}
 use Rattle.rga_flat.proofs.UndoLaws.{going_insertion, going_deletion, going_end}
-
--- ---- steps
-
-pub without_noted-push : (ss : List Step) (s : Step) (c : Content) → without_noted (ss ++ s ∷ []) c ≡ without_noted ss (without_operation s.op.now c)
-without_noted-push [] s c = refl
-without_noted-push (t ∷ ss) s c = ap (without_operation t.op.now) (without_noted-push ss s c)
-
-pub last_step : (ss : List Step) (s : Step) (c : Content) → CanTakeBack (ss ++ s ∷ []) c → IsLastNoted ss s.op.now s.clock c
-last_step [] s c h = record { held = h.1.0; clocked = h.1.1; rest = tt }
-last_step (t ∷ ss) s c h =
-    let last : IsLastNoted ss s.op.now s.clock c = last_step ss s c h.0 in
-    record {
-      held = last.held;
-      clocked = last.clocked;
-      rest = (last.rest, subst (λ d. Holds d t.op.now × (t.clock ≡ clock_of (without_operation t.op.now d))) (without_noted-push ss s c) h.1);
-    }
-
-pub one_step_more : (ss : List Step) (s : Step) (c : Content) → IsLastNoted ss s.op.now s.clock c → CanTakeBack (ss ++ s ∷ []) c
-one_step_more [] s c last = (tt, (last.held, last.clocked))
-one_step_more (t ∷ ss) s c last = (
-  one_step_more ss s c (record { held = last.held; clocked = last.clocked; rest = last.rest.0 }),
-  subst (λ d. Holds d t.op.now × (t.clock ≡ clock_of (without_operation t.op.now d))) (sym (without_noted-push ss s c)) last.rest.1,
-)
-
-module _ (limit : ℕ) (n m : Content) (op : Op) (answered : answer limit n op ≡ Ok New) (joined : m ≡ join n (single op)) where
-  pub without_taken : without_operation op m ≡ n
-  without_taken = ap (without_operation op) joined ∙ without_new limit n op answered
-
-  pub last_taken : (ss : List Step) (before : ℕ) → before ≡ clock_of n → CanTakeBack ss n → IsLastNoted ss op before m
-  last_taken ss before same back = record {
-    held = subst (λ d. Holds d op) (sym joined) (new_held limit n op answered);
-    clocked = same ∙ ap clock_of (sym without_taken);
-    rest = subst (λ d. CanTakeBack ss d) (sym without_taken) back;
-  }
 
 -- ---- what is left is within what was there
 

@@ -1,12 +1,12 @@
 -- Insertions that are taken at once: where they lead, and what is shown then.
 use Rattle.std.proofs.lemmas.Bool.Decides.{nat_tests}
-use Rattle.std.proofs.Common.{◌≡◌, ℕ, zero, suc, ◌<◌, ◌+◌, ◌-◌, nat_le, ◌||◌, true, false, List, [], ◌∷◌, ◌++◌, length, take, drop, slice_index_or, refl, sym, ap, ◌∙◌, subst, arith, append_assoc, length-append, inl, inr}
+use Rattle.std.proofs.Common.{◌≡◌, ℕ, zero, suc, ◌<◌, ◌+◌, ◌-◌, nat_le, ◌||◌, true, false, List, [], ◌∷◌, ◌++◌, length, take, drop, slice_index_or, refl, sym, ap, ◌∙◌, subst, arith, append_assoc, inl, inr}
 use Rattle.std.specs.Prelude.{Result, Some, Ok, Err, IfErr, not, ◌&&◌}
 use Rattle.std.specs.FinMap as finite_map
 use Rattle.std.specs.FinSet as finite_set
 use Rattle.std.specs.Ordering.{is_gt, ordering_reverse}
 use Rattle.std.specs.BTreeSet.{contains}
-use Rattle.std.proofs.lemmas.List.{take_more, take_rest, drop_more, take-append-drop, take-append-le, drop-append-le}
+use Rattle.std.proofs.lemmas.List.{take_more, take_rest, drop_more, take-append-drop}
 use Rattle.rga_ops.specs.Identifier.{Identifier, id_cmp, is_root}
 use Rattle.rga_ops.specs.Content.{element, Content, IsSound, IsWithin, join, single, clock_of}
 use Rattle.rga_ops.specs.Answer.{answer, after_answer, taken, and_take, taken_one_by_one}
@@ -20,30 +20,21 @@ use Rattle.rga_ops.proofs.ContentLaws.{within_join, within_chain}
 use Rattle.rga_ops.proofs.GrowLaws.{complete_stays}
 use Rattle.rga_ops.proofs.InsertionLaws.{contains-insertion}
 use Rattle.rga_ops.proofs.NewestLaws.{lower_counter}
-use Rattle.rga_store.specs.Without.{without_operation}
 use Rattle.rga_store.proofs.WithoutLaws.{new_held}
 use Rattle.rga_sequence.specs.declared.entry.Entry.{Entry}
 use Rattle.rga_sequence.specs.Entries.{has, put_entry, put_chain, CanFollow, IsChain}
 use Rattle.rga_records.specs.Chains.{last_entry_of}
-use Rattle.rga_flat.specs.declared.steps.Step.{Step}
-use Rattle.rga_flat.specs.Back.{without_noted}
+use Rattle.rga_records.specs.declared.steps.Step.{Step}
+use Rattle.rga_records.specs.Back.{without_noted}
 use Rattle.rga_flat.specs.Chains.{IsGathered, ChainShows}
 use Rattle.rga_flat.specs.Flat.{is_above, IsFlat}
 use Rattle.rga_flat.specs.Placing.{IsPlacing}
 use Rattle.rga_flat.specs.Waiting.{Waiting, under, has_list, is_listed}
-use Rattle.rga_flat.proofs.BackLaws.{without_noted-push, one_step_more, without_taken, last_taken}
+use Rattle.rga_records.proofs.BackLaws.{without_noted-push, one_step_more, without_taken, last_taken, taken_on}
 use Rattle.rga_flat.proofs.WaitingLaws.{under_none}
 use Rattle.rga_flat.proofs.PlacingLaws.{above_cases, of_root, of_complete, complete_of, place_start, place_step, place_absent, place_parent, placed_flat}
 
 -- ---- where the operations lead
-
-pub taken_on : (limit : ℕ) (c d : Content) (xs ys : List Op) → taken_one_by_one limit c xs ≡ Ok d → taken_one_by_one limit c (xs ++ ys) ≡ taken_one_by_one limit d ys
-taken_on limit c d [] ys h = let same : c ≡ d = cc in ap (λ e. taken_one_by_one limit e ys) same
-taken_on limit c d (x ∷ xs) ys h =
-    elim (taken limit c x) as (λ r. and_take r (λ e. taken_one_by_one limit e xs) ≡ Ok d → and_take r (λ e. taken_one_by_one limit e (xs ++ ys)) ≡ taken_one_by_one limit d ys) [
-      | Ok e ↦ λ k. taken_on limit e d xs ys k
-      | Err e ↦ λ k. absurd (cc)
-    ] h
 
 pub without_noted-both : (xs ys : List Step) (c : Content) → without_noted (xs ++ ys) c ≡ without_noted xs (without_noted ys c)
 without_noted-both [] ys c = refl
@@ -68,13 +59,6 @@ gathered_next limit base c d step item ops i before steps later noted g w is sam
     subst (λ ss. IsGathered limit base d (take (i + 1) ops) before ss) (sym noted)
     (subst (λ xs. IsGathered limit base d xs before (steps ++ step ∷ [])) (sym (take_more ops i item w ∙ ap (λ x. take i ops ++ x ∷ []) (sym is ∙ same)))
     (gathered_more limit base c d step (take i ops) before steps g answered joined clocked))
-
--- where the next one leads
-pub next_taken : (limit : ℕ) (base c d : Content) (item : Op) (ops : List Op) (i : ℕ) → taken_one_by_one limit base (take i ops) ≡ Ok c → i < length ops → item ≡ slice_index_or ops i item → taken limit c item ≡ Ok d → taken_one_by_one limit base (take (i + 1) ops) ≡ Ok d
-next_taken limit base c d item ops i first w is next =
-    ap (taken_one_by_one limit base) (take_more ops i item w ∙ ap (λ x. take i ops ++ x ∷ []) (sym is))
-    ∙ taken_on limit base c (take i ops) (item ∷ []) first
-    ∙ ap (λ r. and_take r (λ e. Ok e)) next
 
 pub next_refused : (limit : ℕ) (base c : Content) (item : Op) (ops : List Op) (i : ℕ) (e : Refusal) → taken_one_by_one limit base (take i ops) ≡ Ok c → i < length ops → item ≡ slice_index_or ops i item → taken limit c item ≡ Err e → taken_one_by_one limit base ops ≡ Err e
 next_refused limit base c item ops i e first w is next =
@@ -107,17 +91,6 @@ list_later limit c d ops i n h =
 -- the steps that were there lead where they led
 pub gathered_start : (limit : ℕ) (base c : Content) (ops : List Op) (before steps : List Step) → IsGathered limit base c ops before steps → without_noted steps c ≡ without_noted before base
 gathered_start limit base c ops before steps g = ap (λ ss. without_noted ss c) g.noted ∙ without_noted-both before g.own c ∙ ap (without_noted before) g.gone
-
--- one step less behind those that stay
-pub left_gone : (from : ℕ) (ss : List Step) (s : Step) (c : Content) → from < length (ss ++ s ∷ []) → without_noted (drop from ss) (without_operation s.op.now c) ≡ without_noted (drop from (ss ++ s ∷ [])) c
-left_gone from ss s c w =
-    let many : length (ss ++ s ∷ []) ≡ length ss + 1 = length-append ss (s ∷ []) in
-    sym (ap (λ ts. without_noted ts c) (drop-append-le from ss (s ∷ []) (omega (arith, many, w))) ∙ without_noted-push (drop from ss) s c)
-
-pub left_kept : (from : ℕ) (ss : List Step) (s : Step) → from < length (ss ++ s ∷ []) → take from ss ≡ take from (ss ++ s ∷ [])
-left_kept from ss s w =
-    let many : length (ss ++ s ∷ []) ≡ length ss + 1 = length-append ss (s ∷ []) in
-    sym (take-append-le from ss (s ∷ []) (omega (arith, many, w)))
 
 -- what holds of a refusal that was answered
 pub at_err : {A E : Type 0} (P : E → Type 0) (r : Result A E) (e : E) → r ≡ Err e → P e → IfErr r P

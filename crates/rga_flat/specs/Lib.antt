@@ -3,5 +3,4 @@ pub mod Flat
 pub mod Placing
 pub mod Based
 pub mod Undo
-pub mod Back
 pub mod Chains

@@ -5,18 +5,17 @@ ghost use Rattle.std.specs.FinSet as finite_set;
 ghost use Rattle.rga_ops.specs.Content.{join, single, clock_of};
 ghost use Rattle.rga_ops.specs.Answer.{answer};
 ghost use Rattle.rga_sequence.specs.Entries.{put_chain, IsChain};
-ghost use Rattle.rga_flat.specs.Back.{without_noted, CanTakeBack};
+ghost use Rattle.rga_records.specs.Back.{without_noted, CanTakeBack};
 ghost use Rattle.rga_flat.specs.Chains.{ChainShows, IsGathered};
 ghost use Rattle.rga_flat.specs.Flat.{is_above, IsFlat};
 ghost use Rattle.rga_flat.specs.Waiting.{under, has_list, is_listed};
 
 use crate::newer::{gather_newer, is_newer};
 use crate::placing::{next, note_block, note_entries};
-use crate::steps::{Step, note};
 use crate::taking::near_above;
 use crate::waiting::has_list;
 use rga_ops::{Id, Op, Refusal, Taken, answer_to};
-use rga_records::Records;
+use rga_records::{Records, Step, note};
 use rga_sequence::{Entry, MOST_AT_ONCE, Near, Sequence};
 use std::alloc::Global;
 use std::collections::{BTreeMap, BTreeSet};
@@ -69,11 +68,11 @@ pub(crate) fn take_chain<'a>(
         &mut entries,
     );
     if gathered.is_err() {
-        remove_from(records, steps, before);
+        records.remove_steps(steps, before);
         return Err(Refusal::Memory);
     }
     if put_chain(records, sequence, parent, near, entries.as_slice()).is_err() {
-        remove_from(records, steps, before);
+        records.remove_steps(steps, before);
         return Err(Refusal::Memory);
     }
     Ok(entries.as_slice().len())
@@ -285,20 +284,4 @@ fn put_chain(
         note_entries(records, entries, put.near);
     }
     Ok(())
-}
-
-/// The operations of the steps from one on leave the records, the last first. Takes no memory.
-fn remove_from(records: &mut Records, steps: &mut Vec<Step<'_>>, from: usize)
-    requires { CanTakeBack steps.old.items records.old.content }
-    ensures content { records.new.content
-        ≡ without_noted (drop from steps.old.items) records.old.content }
-    ensures steps { steps.new.items ≡ take from steps.old.items }
-    ensures limit { records.new.limit ≡ records.old.limit }
-{
-    while steps.as_slice().len() > from {
-        match steps.pop() {
-            Some(step) => records.remove(step.op, step.clock),
-            None => unreachable!(),
-        }
-    }
 }

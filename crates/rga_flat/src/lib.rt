@@ -15,7 +15,6 @@ mod flat_store;
 mod newer;
 mod placing;
 mod reading;
-mod steps;
 mod taking;
 mod undoing;
 mod waiting;

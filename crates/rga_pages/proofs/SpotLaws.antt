@@ -1,16 +1,17 @@
 -- Where an identifier is: how that is seen, and what a change there makes of all entries.
-use Rattle.std.proofs.Common.{◌≡◌, ℕ, ◌+◌, ◌<◌, ◌≤◌, suc, Bool, true, false, List, [], ◌∷◌, ◌++◌, length, take, drop, slice_index_or, refl, sym, ap, ◌∙◌, subst, arith, true≢false}
+use Rattle.std.proofs.Common.{◌≡◌, ℕ, ◌+◌, ◌<◌, ◌≤◌, suc, Bool, true, false, List, [], ◌∷◌, ◌++◌, length, take, drop, slice_index_or, refl, sym, ap, ◌∙◌, subst, arith, append_assoc, true≢false}
 use Rattle.std.specs.Prelude.{Some, None, insert, remove, slice_set}
 use Rattle.std.specs.BTreeMap.{insert_entry}
 use Rattle.std.specs.Cmp.{tied_itself}
-use Rattle.std.specs.Ordering.{is_lt}
+use Rattle.std.specs.Ordering.{is_lt, is_gt}
+use Rattle.std.proofs.lemmas.List.{take_more, drop_more}
 use Rattle.std.specs.List.Sorted.{IsStrictlySortedBy}
 use Rattle.std.specs.Map.{remove_entry, set_value}
 use Rattle.rga_ops.specs.Identifier.{Identifier, id_cmp}
 use Rattle.rga_ops.proofs.IdentifierLaws.{is, ids_total}
 use Rattle.rga_pages.specs.declared.entry.Record.{Record}
 use Rattle.rga_pages.specs.Pages.{Entries, record_of, entries_in, entries_before, entries_behind, AreOrdered, AreBelow, StartsAbove, StartsAt, AreFilledPages, ArePages, IsSpot}
-use Rattle.rga_pages.proofs.EntryLaws.{before_below, above_append, below_append, insert_between, insert_over, set_between, ordered_insert, remove_between, ordered_remove, record_between, record_absent}
+use Rattle.rga_pages.proofs.EntryLaws.{not_less, ordered_front, before_below, above_append, below_append, insert_between, insert_over, set_between, ordered_insert, remove_between, ordered_remove, record_between, record_absent}
 use Rattle.rga_pages.proofs.PlaceLaws.{starts_at, one_up, page_at, place_at, parted, before_is, behind_is, index_there, Stood, stood, put_there, set_there, removed_there, page_gone}
 
 pub no_pages : ArePages []
@@ -52,6 +53,26 @@ module _ (ps : List Entries) (p i : ℕ) (id : Identifier) (d : Entries) (w : p 
         below = before_below id (entries_before ps p i) stands.entry (entries_behind ps p (suc i)) parts (ap (λ k. is_lt (id_cmp id k)) stands.named ∙ ap is_lt (tied_itself ids_total id));
         there = λ t. subst (λ y. StartsAt id (drop i y)) (sym the_page) there;
         absent = λ f. absurd (true≢false f);
+      }
+
+  -- between two entries that stand side by side
+  pub spot_between : (j : ℕ) → suc j ≡ i → i < length (slice_index_or ps p d) → (e f : Identifier × Record) → is_gt (id_cmp id (slice_index_or (slice_index_or ps p d) j e).0) ≡ true → is_lt (id_cmp id (slice_index_or (slice_index_or ps p d) i f).0) ≡ true → AreOrdered (entries_in ps) → IsSpot ps p i false id
+  spot_between j next h e f larger less ordered =
+      let page : Entries = slice_index_or ps p d in
+      let last : Identifier × Record = slice_index_or page j e in
+      let before : entries_before ps p i ≡ (entries_in (take p ps) ++ take j page) ++ last ∷ [] =
+      before_is ps p i d w
+      ∙ ap (λ n. entries_in (take p ps) ++ take n page) (sym next ∙ one_up j)
+      ∙ ap (λ xs. entries_in (take p ps) ++ xs) (take_more page j e (omega (arith, next, h)))
+      ∙ sym (append_assoc (entries_in (take p ps)) (take j page) (last ∷ [])) in
+      let front : AreOrdered ((entries_in (take p ps) ++ take j page) ++ last ∷ []) =
+      subst AreOrdered before (ordered_front (entries_before ps p i) (entries_behind ps p i) (subst AreOrdered (parted ps p i) ordered)) in
+      record {
+        place = place_at ps p i d w (omega (arith, h));
+        below = subst (AreBelow id) (sym before)
+            (below_append id (entries_in (take p ps) ++ take j page) (last ∷ []) (before_below id (entries_in (take p ps) ++ take j page) last [] front (not_less _ larger)) (larger, tt));
+        there = λ t. absurd (true≢false (sym t));
+        absent = λ _. subst (StartsAbove id) (sym (behind_is ps p i d w ∙ ap (λ xs. xs ++ entries_in (drop (suc p) ps)) (drop_more page i f h))) less;
       }
 
   -- ---- where it is

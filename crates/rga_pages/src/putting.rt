@@ -8,7 +8,7 @@ ghost use Rattle.rga_pages.specs.Pages.{entries_in, record_of, entries_before, e
 
 use crate::entry::Record;
 use crate::page::{MOST, Page};
-use crate::search::find_again;
+use crate::search::place_for;
 use crate::spot::Spot;
 use rga_ops::{Id, Refusal};
 use std::alloc::Global;
@@ -42,7 +42,7 @@ pub(crate) fn insert(
             found: true,
         });
     }
-    let spot = find_again(pages, last, id);
+    let spot = place_for(pages, last, id);
     if has_room(pages, spot) {
         write(pages, spot, id, value)?;
         return Ok(spot);
@@ -138,7 +138,7 @@ fn insert_in_full(
         });
     }
     cut_page(alloc, pages, at.page, cut_for(at.index))?;
-    let spot = find_again(pages, at, id);
+    let spot = place_for(pages, at, id);
     write(pages, spot, id, value)?;
     Ok(spot)
 }

@@ -31,7 +31,7 @@ pub(crate) fn find(pages: &Vec<Page>, last: Spot, id: Id) -> Spot
 }
 
 /// The same, looked for first at the place that was used last, and then in its page and beside it.
-pub(crate) fn find_again(pages: &Vec<Page>, last: Spot, id: Id) -> Spot
+fn find_again(pages: &Vec<Page>, last: Spot, id: Id) -> Spot
     requires ordered { AreOrdered (entries_in pages.now.items) }
     requires filled { AreFilledPages pages.now.items }
     requires some { 0 < vec_len pages.now }
@@ -102,6 +102,49 @@ pub(crate) fn end_for(pages: &Vec<Page>, id: Id) -> Option<Spot>
         });
     }
     None
+}
+
+/// Where an identifier would come in that is absent, if that is the place that was used last.
+#[inline(always)]
+fn gap_at(pages: &Vec<Page>, last: Spot, id: Id) -> Option<Spot>
+    requires { AreOrdered (entries_in pages.now.items) }
+    ensures page { IfSome result (λ at. at.page < vec_len pages.now) }
+    ensures spot { IfSome result (λ at. IsSpot pages.now.items at.page at.index at.found id) }
+{
+    if last.page >= pages.len() {
+        return None;
+    }
+    let entries = pages[last.page].entries();
+    let index = last.index;
+    if index == 0 {
+        return None;
+    }
+    if index >= entries.len() {
+        return None;
+    }
+    if is_below(&entries[index - 1], id) && is_less(id, entries[index].0) {
+        return Some(Spot {
+            page: last.page,
+            index,
+            found: false,
+        });
+    }
+    None
+}
+
+/// Where an identifier is, or would come in. It is looked for first at the place that was used last,
+/// where it may be absent.
+pub(crate) fn place_for(pages: &Vec<Page>, last: Spot, id: Id) -> Spot
+    requires ordered { AreOrdered (entries_in pages.now.items) }
+    requires filled { AreFilledPages pages.now.items }
+    requires some { 0 < vec_len pages.now }
+    ensures page { result.page < vec_len pages.now }
+    ensures spot { IsSpot pages.now.items result.page result.index result.found id }
+{
+    match gap_at(pages, last, id) {
+        Some(gap) => gap,
+        None => find_again(pages, last, id),
+    }
 }
 
 /// About where in a page an identifier is, if counters rise evenly from that of the page's first

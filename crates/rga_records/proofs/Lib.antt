@@ -4,3 +4,8 @@ pub mod SortedRecordLaws
 pub mod MergingLaws
 pub mod ToldLaws
 pub mod NewerLaws
+pub mod LinkOrderLaws
+pub mod BackLaws
+pub mod LinkLaws
+pub mod LinkedRecordLaws
+pub mod WalkLaws

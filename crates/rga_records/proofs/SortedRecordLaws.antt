@@ -61,7 +61,7 @@ module _ (test : Record → Bool) where
   ids_all P [] h = tt
   ids_all P (e ∷ es) h = elim (test e.1) as (λ b. AllByRecursion P (keys_of (cond b (e ∷ filter (λ d. test d.1) es) (filter (λ d. test d.1) es)))) [ true ↦ (h.0, ids_all P es h.1) | false ↦ ids_all P es h.1 ]
 
-  ids_rise : (es : Entries) → AreOrdered es → IsStrictlySortedBy id_cmp (ids_of_records_where test es)
+  pub ids_rise : (es : Entries) → AreOrdered es → IsStrictlySortedBy id_cmp (ids_of_records_where test es)
   unfolding IsStrictlySortedBy
   ids_rise [] h = tt
   ids_rise (e ∷ es) h = elim (test e.1) as (λ b. IsStrictlySortedBy id_cmp (keys_of (cond b (e ∷ filter (λ d. test d.1) es) (filter (λ d. test d.1) es)))) [ true ↦ (ids_all (λ y. id_cmp e.0 y ≡ Less) es h.0, ids_rise es h.1) | false ↦ ids_rise es h.1 ]
@@ -72,7 +72,7 @@ module _ (test : Record → Bool) where
 
 -- ---- deletions
 
-sorted_of_rising : (xs : List Identifier) → IsStrictlySortedBy id_cmp xs → IsSorted id_cmp xs
+pub sorted_of_rising : (xs : List Identifier) → IsStrictlySortedBy id_cmp xs → IsSorted id_cmp xs
 sorted_of_rising xs h = λ k d low l.
     ap is_lt (ids_total.antisymm (get_or xs (k + 1) d) (get_or xs k d) ∙ ap ordering_reverse (Less-from_sorted id_cmp xs k (k + 1) d h (omega arith) l))
 

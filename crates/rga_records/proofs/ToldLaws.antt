@@ -44,7 +44,7 @@ deletions_split xs ys =
     ∙ ap (map Delete) (map-append (λ (e : Identifier × Record). e.0) (filter (λ e. e.1.deleted) xs) (filter (λ e. e.1.deleted) ys))
     ∙ map-append Delete (marked_record_ids xs) (marked_record_ids ys)
 
-flat_split : (ps qs : List Entries) → entries_in (ps ++ qs) ≡ entries_in ps ++ entries_in qs
+pub flat_split : (ps qs : List Entries) → entries_in (ps ++ qs) ≡ entries_in ps ++ entries_in qs
 flat_split [] qs = refl
 flat_split (p ∷ ps) qs = ap (λ r. p ++ r) (flat_split ps qs) ∙ sym (append_assoc p (entries_in ps) (entries_in qs))
 

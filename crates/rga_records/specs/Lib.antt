@@ -1,3 +1,5 @@
 pub mod Records
 pub mod Listing
 pub mod Chains
+pub mod Back
+pub mod Links

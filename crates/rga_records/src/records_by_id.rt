@@ -1,8 +1,8 @@
 //! Records by identifier, with the clock and the counts of their content.
-ghost use Rattle.std.specs.Prelude.{◌≡◌, ◌≢◌, ◌≤◌, ◌+◌, ◌↔◌, length, None, Ok, Err, OnOk, OnErr, IfOk, IfErr, is_some, true, false};
+ghost use Rattle.std.specs.Prelude.{◌≡◌, ◌≢◌, ◌≤◌, ◌+◌, ◌↔◌, length, take, drop, None, Ok, Err, OnOk, OnErr, IfOk, IfErr, is_some, string_bytes, encode_utf8_all, true, false};
 ghost use Rattle.std.specs.FinMap as finite_map;
 ghost use Rattle.std.specs.FinSet as finite_set;
-ghost use Rattle.rga_ops.specs.Prelude.{all_checked, answer, clock_of, element_at, join, known_count, known_ids, list_answer, nothing, operations, single, IsSound};
+ghost use Rattle.rga_ops.specs.Prelude.{all_checked, answer, clock_of, element_at, join, known_count, known_ids, list_answer, nothing, operations, single, text, IsSound};
 ghost use Rattle.rga_ops.specs.Answer.{facts};
 ghost use Rattle.rga_ops.specs.Content.{Holds};
 ghost use Rattle.rga_ops.specs.Found.{facts_of};
@@ -11,6 +11,7 @@ ghost use Rattle.rga_ops.specs.ListAnswer.{early_conflict, least_conflict};
 ghost use Rattle.rga_ops.specs.declared.refusal.Taken.TheVariants.{New};
 ghost use Rattle.rga_store.specs.Limit.{is_limit};
 ghost use Rattle.rga_store.specs.Without.{without_operation, without_insertion, without_deletion};
+ghost use Rattle.rga_records.specs.Back.{without_noted, CanTakeBack};
 ghost use Rattle.rga_records.specs.Chains.{grown, AreNewer};
 
 use crate::chains::{append_chain, latest};
@@ -22,7 +23,10 @@ use crate::entries::{
 use crate::list_answer::answer_to_list;
 use crate::merging::{count_unknown, least_conflict};
 use crate::operations::operations_of;
+use crate::steps::Step;
+use crate::taking::remove_from;
 use crate::telling::{tell_both, tell_deletions, tell_insertions};
+use crate::walking::text_of;
 use rga_ops::{Found, Id, Op, Refusal};
 use rga_pages::Pages;
 use rga_sequence::{Entry, Near};
@@ -34,6 +38,7 @@ use std::marker::Model;
 /// many there may be. Callers see the content that the records stand for, and the limit.
 #[derive(Drop)]
 pub struct Records {
+    alloc: Global,
     entries: Pages,
     clock: u64,
     /// How many identifiers are inserted.
@@ -72,12 +77,18 @@ impl Records {
             return Err(Refusal::Range);
         }
         Ok(Records {
+            alloc,
             entries: Pages::new(alloc),
             clock: 0,
             inserted: 0,
             known: 0,
             limit,
         })
+    }
+
+    /// Where memory is taken from.
+    pub(crate) fn alloc(&self) -> Global {
+        self.alloc
     }
 
     /// What is known of an identifier, and of the room that is left. The next calls for the same
@@ -285,6 +296,17 @@ impl Records {
         }
     }
 
+    /// Removes the operations of the steps from one on, the last first. Takes no memory.
+    pub fn remove_steps(&mut self, steps: &mut Vec<Step<'_>>, from: usize)
+        requires { CanTakeBack steps.old.items self.old.content }
+        ensures content { self.new.content
+            ≡ without_noted (drop from steps.old.items) self.old.content }
+        ensures steps { steps.new.items ≡ take from steps.old.items }
+        ensures limit { self.new.limit ≡ self.old.limit }
+    {
+        remove_from(self, steps, from);
+    }
+
     /// The element of an identifier goes.
     fn remove_insertion(&mut self, id: Id, clock: u64)
         requires inserted { finite_map.contains_key self.old.content.inserted id ≡ true }
@@ -317,6 +339,17 @@ impl Records {
         ensures memory { IfErr result (λ e. e ≡ Refusal.Memory) }
     {
         operations_of(alloc, &self.entries, self.inserted)
+    }
+
+    /// The characters of the visible elements, in order, in UTF-8. The elements are put in order
+    /// for it, in one pass by rising identifier. `Memory` alone.
+    pub fn text_string(&self, alloc: Global) -> Result<String, Refusal>
+        ensures ok { IfOk result (λ string.
+            string_bytes string ≡ encode_utf8_all (text self.now.content)) }
+        ensures memory { IfErr result (λ e. e ≡ Refusal.Memory) }
+    {
+        let _known = self.known();
+        text_of(alloc, &self.entries, self.inserted)
     }
 
     /// Tells the insertions by rising identifier, without a list of them. `Memory` where the listener

@@ -2,28 +2,28 @@ use Rattle.std.proofs.Common.{◌≡◌, ◌∙◌, Result, Err, refl, sym}
 use Rattle.std.proofs.lemmas.Result.{err_from_is_err_and}
 use Rattle.mgr_show.specs.declared.fault.ShowFault.{ShowFault}
 use Rattle.mgr_show.specs.declared.fault.ShowFault.TheVariants.{Read}
-use Rattle.mgr_show.proofs.ShownLaws.{content_of_input, whole_from}
+use Rattle.mgr_show.proofs.ShownLaws.{content_of_input, made_of_nothing, whole_from}
 use Rattle.mgr_show.proofs.CompactedLaws.{compacts, begins_to_compact, on_err}
 use Rattle.mgr_show.proofs.compact.compact_log_with.Goals as goal
 
 pub returns-clause-compacted : goal.returns-clause-compacted
 returns-clause-compacted g c =
-    let made = c.in-Ok.ensures.made refl in
+    let made = made_of_nothing c.in-Ok.records (c.in-Ok.ensures.made refl) in
     let content = content_of_input _ _ _ _ made.1 made.0 c.in_ok-take_whole_log.ensures.ok in
-    compacts _ _ _ _ _ _ content c.in_ok-compact_with.ensures.stands c.in_ok-compact_with.ensures.ended c.in_ok-compact_with.ensures.written
+    compacts _ _ _ _ _ _ content c.in_ok-compact_records.ensures.stands c.in_ok-compact_records.ensures.ended c.in_ok-compact_records.ensures.written
 
-pub returns-in_err-compact_with-clause-begun : goal.returns-in_err-compact_with-clause-begun
-returns-in_err-compact_with-clause-begun g c =
-    let made = c.in-Ok.ensures.made refl in
+pub returns-in_err-compact_records-clause-begun : goal.returns-in_err-compact_records-clause-begun
+returns-in_err-compact_records-clause-begun g c =
+    let made = made_of_nothing c.in-Ok.records (c.in-Ok.ensures.made refl) in
     let content = content_of_input _ _ _ _ made.1 made.0 c.in_ok-take_whole_log.ensures.ok in
-    on_err c.from_residual-in_err-compact_with.result (begins_to_compact _ _ _ _ _ _ content c.in_err-compact_with.ensures.begun)
+    on_err c.from_residual-in_err-compact_records.result (begins_to_compact _ _ _ _ _ _ content c.in_err-compact_records.ensures.begun)
 
 abbrev failed : ShowFault → Result (Unit {0}) ShowFault
 failed e = Err e
 
 pub returns-in_err-take_whole_log-clause-whole_lines : goal.returns-in_err-take_whole_log-clause-whole_lines
 returns-in_err-take_whole_log-clause-whole_lines g c =
-    let made = c.in-Ok.ensures.made refl in
+    let made = made_of_nothing c.in-Ok.records (c.in-Ok.ensures.made refl) in
     let p = err_from_is_err_and c.from_residual.result c.from_residual.ensures.1 in
     λ read.
     let answered : failed p.0 ≡ failed Read = sym p.1 ∙ read in

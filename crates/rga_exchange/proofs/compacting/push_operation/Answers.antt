@@ -1,4 +1,4 @@
-use Rattle.std.proofs.Common.{List, ℕ, [], ◌∷◌, ◌++◌, sym, ap, subst, ◌∙◌, append-nil}
+use Rattle.std.proofs.Common.{[], ◌∷◌, ◌++◌, sym, ap, subst, ◌∙◌, append-nil}
 use Rattle.std.specs.Prelude.{string_bytes}
 use Rattle.std.specs.Option.{option_map_or}
 use Rattle.rga_devices.specs.Counting.{WritesAllBut}

@@ -6,8 +6,9 @@ use Rattle.rga_ops.proofs.ContentLaws.{within_join}
 use Rattle.rga_ops.specs.declared.op.Op.{Op}
 use Rattle.rga_ops.specs.declared.refusal.Taken.TheVariants.{New}
 use Rattle.rga_ops.specs.declared.refusal.Refusal.TheVariants.{Memory}
-use Rattle.rga_flat.specs.Back.{without_noted, CanTakeBack}
-use Rattle.rga_flat.proofs.BackLaws.{without_noted-push, one_step_more, without_taken, last_taken, inserted_later}
+use Rattle.rga_records.specs.Back.{without_noted, CanTakeBack}
+use Rattle.rga_records.proofs.BackLaws.{without_noted-push, one_step_more, without_taken, last_taken}
+use Rattle.rga_flat.proofs.BackLaws.{inserted_later}
 use Rattle.rga_flat.proofs.whole_list.take_noted.Goals as goal
 
 -- what is answered, unless memory is wanting, was that it is new

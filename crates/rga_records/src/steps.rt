@@ -3,16 +3,16 @@ ghost use Rattle.std.specs.Prelude.{◌≡◌, ◌<◌, ◌++◌, ◌∷◌, [],
 
 use rga_ops::Op;
 
-/// An operation of the list that was new, and the clock from before it.
+/// An operation of a list that was new, and the clock from before it.
 #[derive(Drop)]
-pub(crate) struct Step<'a> {
-    pub(crate) op: &'a Op,
-    pub(crate) clock: u64,
+pub struct Step<'a> {
+    pub op: &'a Op,
+    pub clock: u64,
 }
 
-/// Notes an operation, for which there is room.
+/// Notes an operation, for which there is room. Takes no memory.
 #[inline(always)]
-pub(crate) fn note<'a>(steps: &mut Vec<Step<'a>>, op: &'a Op, clock: u64)
+pub fn note<'a>(steps: &mut Vec<Step<'a>>, op: &'a Op, clock: u64)
     requires { vec_len steps.old < vec_capacity steps.old }
     ensures noted { steps.new.items ≡ steps.old.items ++ record { op = op.entry; clock = clock } ∷ [] }
     ensures capacity { vec_capacity steps.new ≡ vec_capacity steps.old }

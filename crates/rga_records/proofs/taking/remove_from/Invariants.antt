@@ -1,6 +1,6 @@
 use Rattle.std.proofs.Common.{◌≡◌, length, take, drop}
-use Rattle.rga_flat.specs.Back.{without_noted, CanTakeBack}
-use Rattle.rga_flat.proofs.chains.remove_from.Given as goal
+use Rattle.rga_records.specs.Back.{without_noted, CanTakeBack}
+use Rattle.rga_records.proofs.taking.remove_from.Given as goal
 
 -- the steps from one on lead where all of them do
 abbrev pub invariant-loop-steps : goal.invariant-loop-steps

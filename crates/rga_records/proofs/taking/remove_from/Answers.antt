@@ -1,8 +1,7 @@
 use Rattle.std.proofs.Common.{◌<◌, ◌++◌, ◌∷◌, [], length, take, drop, sym, ap, ◌∙◌, subst}
-use Rattle.rga_flat.specs.Back.{without_noted, CanTakeBack, IsLastNoted}
-use Rattle.rga_flat.proofs.BackLaws.{last_step}
-use Rattle.rga_flat.proofs.ChainLaws.{left_gone, left_kept}
-use Rattle.rga_flat.proofs.chains.remove_from.Goals as goal
+use Rattle.rga_records.specs.Back.{without_noted, CanTakeBack, IsLastNoted}
+use Rattle.rga_records.proofs.BackLaws.{last_step, left_gone, left_kept}
+use Rattle.rga_records.proofs.taking.remove_from.Goals as goal
 
 pub remove-requires-clause-held : goal.remove-requires-clause-held
 remove-requires-clause-held c =

@@ -3,7 +3,7 @@ use Rattle.std.specs.Prelude.{◌≡◌, ℕ, List, [], ◌∷◌}
 use Rattle.rga_ops.specs.Content.{Content, Holds, clock_of}
 use Rattle.rga_ops.specs.declared.op.Op.{Op}
 use Rattle.rga_store.specs.Without.{without_operation}
-use Rattle.rga_flat.specs.declared.steps.Step.{Step}
+use Rattle.rga_records.specs.declared.steps.Step.{Step}
 
 -- what is left once the operations of the steps are removed, the last first
 abbrev pub without_noted : List Step → Content → Content

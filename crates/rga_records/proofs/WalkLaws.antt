@@ -1,0 +1,46 @@
+-- What is left to be read along links.
+use Rattle.std.proofs.Common.{◌≡◌, ◌≤◌, ◌+◌, ◌-◌, ◌++◌, ℕ, List, [], ◌∷◌, length, get_or, refl, sym, ap, ◌∙◌, subst, append_assoc, arith, encode_utf8, encode_utf8_all}
+use Rattle.std.specs.Prelude.{◌≢◌, Option, Some, None}
+use Rattle.std.specs.List.{cons_option}
+use Rattle.std.proofs.lemmas.List.{append-nil}
+use Rattle.rga_records.specs.Links.{IsLinkChain, chars_along}
+
+-- after so many elements of a chain, of which the bytes are read, those from a node on are left
+pub record IsLeft (next : List ℕ) (shown : List (Option ℕ)) (chain : List ℕ) (node count : ℕ) (bytes : List ℕ) : Type 0 where
+  pub left : List ℕ
+  pub linked : IsLinkChain next node left
+  pub few : length left + count ≤ length shown
+  pub read : bytes ++ encode_utf8_all (chars_along shown left) ≡ encode_utf8_all (chars_along shown chain)
+
+module _ (next : List ℕ) (shown : List (Option ℕ)) (chain : List ℕ) where
+  -- nothing is left at the root
+  pub read_all : (node count : ℕ) (bytes : List ℕ) → IsLeft next shown chain node count bytes → node ≡ 0 → bytes ≡ encode_utf8_all (chars_along shown chain)
+  read_all node count bytes l root = sym (append-nil bytes) ∙ ap (λ xs. bytes ++ encode_utf8_all (chars_along shown xs)) (none l.left l.linked) ∙ l.read
+    where
+      none : (left : List ℕ) → IsLinkChain next node left → [] ≡ left
+      none [] h = refl
+      none (i ∷ js) h = absurd (omega (arith, h.0, root))
+
+  first_apart : (i : ℕ) (left : List ℕ) → encode_utf8_all (chars_along shown (i ∷ left)) ≡ encode_utf8_all (chars_along shown (i ∷ [])) ++ encode_utf8_all (chars_along shown left)
+  first_apart i left = of (get_or shown i None)
+    where
+      of : (o : Option ℕ) → encode_utf8_all (cons_option o (chars_along shown left)) ≡ encode_utf8_all (cons_option o []) ++ encode_utf8_all (chars_along shown left)
+      of None = refl
+      of (Some ch) = ap (λ xs. xs ++ encode_utf8_all (chars_along shown left)) (sym (append-nil (encode_utf8 ch)))
+
+  -- one element more
+  pub read_more : (node count : ℕ) (bytes more : List ℕ) → IsLeft next shown chain node count bytes → node ≢ 0 → more ≡ bytes ++ encode_utf8_all (chars_along shown ((node - 1) ∷ [])) → IsLeft next shown chain (get_or next node 0) (count + 1) more
+  read_more node count bytes more l other grown = of l.left l.linked l.few l.read
+    where
+      of : (left : List ℕ) → IsLinkChain next node left → length left + count ≤ length shown → bytes ++ encode_utf8_all (chars_along shown left) ≡ encode_utf8_all (chars_along shown chain) → IsLeft next shown chain (get_or next node 0) (count + 1) more
+      of [] h few read = absurd (other h)
+      of (i ∷ js) h few read =
+          let index : node - 1 ≡ i = omega (arith, h.0) in
+          record {
+            left = js;
+            linked = subst (λ n. IsLinkChain next (get_or next n 0) js) (sym h.0) h.2;
+            few = omega (arith, few);
+            read = ap (λ xs. xs ++ encode_utf8_all (chars_along shown js)) (grown ∙ ap (λ n. bytes ++ encode_utf8_all (chars_along shown (n ∷ []))) index)
+                ∙ append_assoc bytes (encode_utf8_all (chars_along shown (i ∷ []))) (encode_utf8_all (chars_along shown js))
+                ∙ ap (λ xs. bytes ++ xs) (sym (first_apart i js)) ∙ read;
+          }

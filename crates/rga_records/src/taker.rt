@@ -1,0 +1,59 @@
+//! Records as what takes operations: a log is read into them whose text is asked for at its end.
+ghost use Rattle.std.specs.Prelude.{◌≡◌, Ok, OnOk, OnErr};
+ghost use Rattle.rga_ops.specs.Answer.{taken_one_by_one};
+
+use crate::records_by_id::Records;
+use crate::steps::Step;
+use crate::taking::{remove_from, take_each, take_op};
+use rga_ops::{Op, Refusal, Taken};
+use rga_store::Taker;
+
+impl Taker for Records {
+    ghost use Rattle.rga_store.specs.Growth.{NeedsRoom};
+
+    ghost content = { λ s. s.content };
+
+    ghost limit = { λ s. s.limit };
+
+    ghost may_grow = { λ s op. NeedsRoom s.content op };
+
+    ghost follows = { λ s ops t. Unit {0} };
+
+    ghost follows_nothing = { λ s. tt };
+
+    ghost follows_on = { λ s t u xs ys a b. tt };
+
+    fn apply(&mut self, op: Op) -> Result<Taken, Refusal> {
+        take_op(self, &op)
+    }
+
+    fn apply_all(&mut self, ops: &[Op]) -> Result<(), Refusal> {
+        let _known = self.known();
+        match take_whole(self, ops) {
+            Ok(()) => Ok(()),
+            Err(_) => {
+                // Which refusal comes first depends on the whole list, so it is looked for only now.
+                self.answer_to_list(self.alloc(), ops)?;
+                Err(Refusal::Memory)
+            }
+        }
+    }
+}
+
+/// Takes operations one by one, or none of them: the first that is refused leaves all as it was.
+/// `Memory` may be wanting before that one is found.
+fn take_whole(records: &mut Records, ops: &[Op]) -> Result<(), Refusal>
+    ensures ok { OnOk result (taken_one_by_one records.old.limit records.old.content ops.now
+        ≡ Ok records.new.content) }
+    ensures same { OnErr result (records.new.content ≡ records.old.content) }
+    ensures limit { records.new.limit ≡ records.old.limit }
+{
+    let mut steps: Vec<Step<'_>> = Vec::with_capacity(records.alloc(), ops.len())?;
+    match take_each(records, ops, &mut steps) {
+        Ok(()) => Ok(()),
+        Err(refusal) => {
+            remove_from(records, &mut steps, 0);
+            Err(refusal)
+        }
+    }
+}

@@ -1,0 +1,58 @@
+//! The text of records, read off the links of their elements.
+ghost use Rattle.std.specs.Prelude.{◌≡◌, ◌≤◌, ◌∷◌, [], ◌++◌, ℕ, List, length, slice_index, IfOk, IfErr, OnOk, string_bytes, encode_utf8_all};
+ghost use Rattle.rga_ops.specs.Prelude.{text, IsSound};
+ghost use Rattle.rga_records.specs.Records.{content_of_records};
+ghost use Rattle.rga_records.specs.Links.{IsLinkChain, chars_along};
+
+use crate::linking::links_of;
+use crate::nodes::link_at;
+use rga_ops::Refusal;
+use rga_pages::Pages;
+use std::alloc::Global;
+
+/// The characters of the visible elements, in order, in UTF-8. About so many are inserted.
+pub(crate) fn text_of(alloc: Global, entries: &Pages, inserted: usize) -> Result<String, Refusal>
+    requires { IsSound (content_of_records entries.now) }
+    ensures ok { IfOk result (λ string.
+        string_bytes string ≡ encode_utf8_all (text (content_of_records entries.now))) }
+    ensures memory { IfErr result (λ e. e ≡ Refusal.Memory) }
+{
+    let links = links_of(alloc, entries.pages(), inserted)?;
+    read_along(alloc, links.next.as_slice(), links.shown.as_slice())
+}
+
+/// The characters that are shown of the elements along the links from the root, in UTF-8.
+fn read_along(alloc: Global, next: &[usize], shown: &[Option<char>]) -> Result<String, Refusal>
+    ensures ok { (chain : List ℕ) → IsLinkChain next.now (slice_index next.now 0) chain →
+        length chain ≤ length shown.now →
+        IfOk result (λ string.
+        string_bytes string ≡ encode_utf8_all (chars_along shown.now chain)) }
+    ensures memory { IfErr result (λ e. e ≡ Refusal.Memory) }
+{
+    let mut string = String::with_capacity(alloc, shown.len())?;
+    let mut node = link_at(next, 0);
+    for _ in shown {
+        if node == 0 {
+            return Ok(string);
+        }
+        push_shown(&mut string, shown, node - 1)?;
+        node = link_at(next, node);
+    }
+    Ok(string)
+}
+
+/// The character that is shown of an element, if there is one, comes behind others.
+fn push_shown(string: &mut String, shown: &[Option<char>], index: usize) -> Result<(), Refusal>
+    ensures ok { OnOk result
+        (string_bytes string.new ≡ string_bytes string.old
+        ++ encode_utf8_all (chars_along shown.now (index ∷ []))) }
+    ensures memory { IfErr result (λ e. e ≡ Refusal.Memory) }
+{
+    if index >= shown.len() {
+        return Ok(());
+    }
+    if let Some(ch) = shown[index] {
+        string.push(ch)?;
+    }
+    Ok(())
+}
