@@ -1,12 +1,13 @@
 #!/usr/bin/env python3
-"""Measures what the store of mgr is good or bad at: undo, what waits, identifiers that collide, and memory.
+"""Measures what mgr's store, and the records it reads logs into, are good or bad at: undo, what waits,
+identifiers that collide, and memory.
 
 Prints a row a figure: the milliseconds of user time of 10,000 characters killed in a text of 100,000, and
 that undone; the microseconds of a motion with its frame, without and with an insertion that waits in the
 log; the seconds of `mgr show` of a log whose identifiers collide in the hash of a map, and the exponent of
 its growth by their number; and the peak memory of a loaded log of a million operations. With `--other PATH`
-also the times of `mgr show` over those of another mgr, say one that was built over a `TreeStore`. The time
-of the same run with nothing of it done is taken off, and the least of the measurements counts.
+also the times of `mgr show` over those of another mgr, say of one from before a change. The time of the
+same run with nothing of it done is taken off, and the least of the measurements counts.
 """
 
 import argparse
