@@ -91,6 +91,14 @@ module _ (id : Identifier) where
   take_below (e ∷ es) (suc i) d h w k =
       (below_less id e.0 (slice_index_or es i d).0 (key_at (λ q. id_cmp e.0 q ≡ Less) es i d h.0 (omega arith)) (not_less _ k), take_below es i d h.1 (omega arith) k)
 
+  pub below_front : (xs ys : Entries) → AreBelow id (xs ++ ys) → AreBelow id xs
+  below_front [] ys a = tt
+  below_front (x ∷ xs) ys a = (a.0, below_front xs ys a.1)
+
+  pub below_back : (xs ys : Entries) → AreBelow id (xs ++ ys) → AreBelow id ys
+  below_back [] ys a = a
+  below_back (x ∷ xs) ys a = below_back xs ys a.1
+
   pub below_append : (xs ys : Entries) → AreBelow id xs → AreBelow id ys → AreBelow id (xs ++ ys)
   below_append [] ys a b = b
   below_append (x ∷ xs) ys a b = (a.0, below_append xs ys a.1 b)
@@ -108,6 +116,10 @@ module _ (id : Identifier) where
   above_end [] (suc i) w = tt
   above_end (e ∷ es) zero w = absurd (omega arith)
   above_end (e ∷ es) (suc i) w = above_end es i (omega arith)
+
+  pub above_some : (xs ys : Entries) → 0 < length xs → StartsAbove id xs → StartsAbove id (xs ++ ys)
+  above_some [] ys w a = absurd (omega arith)
+  above_some (x ∷ xs) ys w a = a
 
   pub above_append : (xs ys : Entries) → StartsAbove id xs → StartsAbove id ys → StartsAbove id (xs ++ ys)
   above_append [] ys a b = b

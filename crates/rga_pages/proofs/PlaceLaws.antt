@@ -1,6 +1,6 @@
 -- Places in pages, and what stands in pages that change.
 use Rattle.std.proofs.Common.{◌≡◌, ℕ, ◌+◌, ◌<◌, ◌≤◌, suc, zero, true, false, List, [], ◌∷◌, ◌++◌, length, take, drop, slice_index_or, refl, sym, ap, ◌∙◌, subst, arith, append_assoc}
-use Rattle.std.proofs.lemmas.List.{append-nil}
+use Rattle.std.proofs.lemmas.List.{append-nil, drop_more}
 use Rattle.std.specs.Prelude.{insert, remove, slice_set, Result, Ok, Err, OnOk, OnErr}
 use Rattle.std.specs.Ordering.{is_lt}
 use Rattle.rga_ops.specs.Identifier.{Identifier, id_cmp}
@@ -90,6 +90,15 @@ module _ (ps : List Entries) (p : ℕ) (d : Entries) (ordered : AreOrdered (entr
         earlier : (page : Entries) → 0 < length page → BeginsWith f page → AreOrdered (entries_in (take p ps) ++ page) → AreBelow id (entries_in (take p ps))
         earlier [] some begins o = absurd (omega arith)
         earlier (y ∷ page) some begins o = before_below id (entries_in (take p ps)) y page o (subst (λ q. is_lt (id_cmp id q) ≡ false) begins h)
+
+    -- all before an entry of a page that is not above it
+    pub up_to : (i : ℕ) (e : Identifier × Record) → i < length (slice_index_or ps p d) → is_lt (id_cmp id (slice_index_or (slice_index_or ps p d) i e).0) ≡ false → AreBelow id (entries_in (take p ps) ++ take i (slice_index_or ps p d))
+    up_to i e h k =
+        let page : Entries = slice_index_or ps p d in
+        let split : entries_in (take p ps) ++ page ≡ (entries_in (take p ps) ++ take i page) ++ slice_index_or page i e ∷ drop (i + 1) page =
+        ap (λ y. entries_in (take p ps) ++ y) (sym (take_drop i page) ∙ ap (λ r. take i page ++ r) (drop_more page i e h))
+        ∙ sym (append_assoc (entries_in (take p ps)) (take i page) (slice_index_or page i e ∷ drop (i + 1) page)) in
+        before_below id (entries_in (take p ps) ++ take i page) (slice_index_or page i e) (drop (i + 1) page) (subst AreOrdered split as_far) k
 
     -- what is above a page's entries is above all those before
     pub page_below : 0 < length (slice_index_or ps p d) → AreBelow id (slice_index_or ps p d) → AreBelow id (entries_in (take p ps))

@@ -11,8 +11,8 @@ use Rattle.rga_ops.specs.Identifier.{Identifier, id_cmp}
 use Rattle.rga_ops.proofs.IdentifierLaws.{is, ids_total}
 use Rattle.rga_pages.specs.declared.entry.Record.{Record}
 use Rattle.rga_pages.specs.Pages.{Entries, record_of, entries_in, entries_before, entries_behind, AreOrdered, AreBelow, StartsAbove, StartsAt, AreFilledPages, ArePages, IsSpot}
-use Rattle.rga_pages.proofs.EntryLaws.{not_less, ordered_front, before_below, above_append, below_append, insert_between, insert_over, set_between, ordered_insert, remove_between, ordered_remove, record_between, record_absent}
-use Rattle.rga_pages.proofs.PlaceLaws.{starts_at, one_up, page_at, place_at, parted, before_is, behind_is, index_there, Stood, stood, put_there, set_there, removed_there, page_gone}
+use Rattle.rga_pages.proofs.EntryLaws.{not_less, ordered_front, before_below, above_append, above_some, below_append, insert_between, insert_over, set_between, ordered_insert, remove_between, ordered_remove, record_between, record_absent}
+use Rattle.rga_pages.proofs.PlaceLaws.{starts_at, one_up, page_at, place_at, parted, before_is, behind_is, index_there, Stood, stood, put_there, set_there, removed_there, page_gone, drop_some}
 
 pub no_pages : ArePages []
 unfolding IsStrictlySortedBy
@@ -40,6 +40,17 @@ module _ (ps : List Entries) (p i : ℕ) (id : Identifier) (d : Entries) (w : p 
     there = λ t. subst (λ y. StartsAt id (drop i y)) (sym the_page) (there t);
     absent = λ f. subst (StartsAbove id) (sym (behind_is ps p i d w))
         (above_append id (drop i (slice_index_or ps p d)) (entries_in (drop (suc p) ps)) (absent f) (subst (λ n. StartsAbove id (entries_in (drop n ps))) (sym (one_up p)) above));
+  }
+
+  -- before an entry of that page
+  pub spot_on : (found : Bool) → AreBelow id (entries_in (take p ps)) → i < length (slice_index_or ps p d) → AreBelow id (take i (slice_index_or ps p d))
+      → (found ≡ true → StartsAt id (drop i (slice_index_or ps p d))) → (found ≡ false → StartsAbove id (drop i (slice_index_or ps p d))) → IsSpot ps p i found id
+  spot_on found below within here there absent = record {
+    place = place_at ps p i d w (omega (arith, within));
+    below = subst (AreBelow id) (sym (before_is ps p i d w)) (below_append id (entries_in (take p ps)) (take i (slice_index_or ps p d)) below here);
+    there = λ t. subst (λ y. StartsAt id (drop i y)) (sym the_page) (there t);
+    absent = λ f. subst (StartsAbove id) (sym (behind_is ps p i d w))
+        (above_some id (drop i (slice_index_or ps p d)) (entries_in (drop (suc p) ps)) (drop_some i (slice_index_or ps p d) within) (absent f));
   }
 
   -- where it is seen

@@ -28,6 +28,11 @@ abbrev pub noted : ℕ → ℕ → Option Record → Option Record
 noted block index None = None
 noted block index (Some r) = Some (record r { block = block; index = index })
 
+-- a record, if there is one, with a mark
+abbrev pub marked : Option Record → Option Record
+marked None = None
+marked (Some r) = Some (record r { deleted = true })
+
 -- the pages one after another
 abbrev pub entries_in : List Entries → Entries
 entries_in [] = []

@@ -1,5 +1,5 @@
 //! What is known of an identifier.
-ghost use Rattle.std.specs.Prelude.{◌≡◌, None, false};
+ghost use Rattle.std.specs.Prelude.{◌≡◌, None, true, false};
 ghost use Rattle.std.specs.Option.{option_map};
 
 use rga_ops::Id;
@@ -44,6 +44,19 @@ impl Record {
             block,
             index,
             deleted: self.deleted,
+        }
+    }
+
+    /// The same record, with a mark.
+    pub fn marked(&self) -> Record
+        ensures { result ≡ record self.now { deleted = true } }
+    {
+        Record {
+            parent: self.parent,
+            ch: self.ch,
+            block: self.block,
+            index: self.index,
+            deleted: true,
         }
     }
 

@@ -4,7 +4,7 @@ ghost use Rattle.std.specs.BTreeMap.{insert_entry};
 ghost use Rattle.std.specs.Map.{remove_entry, set_value};
 ghost use Rattle.std.specs.Ordering.{eq_by_cmp};
 ghost use Rattle.rga_ops.specs.Identifier.{id_cmp};
-ghost use Rattle.rga_pages.specs.Pages.{entries_in, record_of, noted, AreOrdered, Updates};
+ghost use Rattle.rga_pages.specs.Pages.{entries_in, record_of, marked, noted, AreOrdered, Updates};
 
 use crate::appending::{append, can_follow, end_of};
 use crate::entry::Record;
@@ -155,6 +155,31 @@ impl Pages {
         }
         if let Some(record) = record_at(&self.pages, spot, id) {
             overwrite(&mut self.pages, spot, id, record.moved(block, index));
+        }
+    }
+
+    /// The record of an identifier, if there is one, as it was before it gets a mark. Takes no memory.
+    pub fn mark(&mut self, id: Id) -> Option<Record>
+        ensures value { result ≡ record_of id self.old }
+        ensures updates { Updates self.old self.new id (marked (record_of id self.old)) }
+        ensures same { result ≡ None → self.new ≡ self.old }
+        ensures ordered { AreOrdered self.new }
+        ensures was_ordered { AreOrdered self.old }
+    {
+        if self.pages.as_slice().len() == 0 {
+            return None;
+        }
+        let spot = find(&self.pages, self.last, id);
+        self.last = spot;
+        if !spot.found {
+            return None;
+        }
+        match record_at(&self.pages, spot, id) {
+            Some(record) => {
+                overwrite(&mut self.pages, spot, id, record.marked());
+                Some(record)
+            }
+            None => None,
         }
     }
 

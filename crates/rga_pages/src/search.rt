@@ -9,8 +9,8 @@ use crate::page::{MOST, Page};
 use crate::spot::Spot;
 use rga_ops::Id;
 
-/// Where an identifier is, or where it would come in. It is looked for first behind the place that
-/// was used last.
+/// Where an identifier is, or where it would come in. It is looked for first from the place that was
+/// used last on.
 pub(crate) fn find(pages: &Vec<Page>, last: Spot, id: Id) -> Spot
     requires ordered { AreOrdered (entries_in pages.now.items) }
     requires filled { AreFilledPages pages.now.items }
@@ -18,19 +18,14 @@ pub(crate) fn find(pages: &Vec<Page>, last: Spot, id: Id) -> Spot
     ensures page { result.page < vec_len pages.now }
     ensures spot { IsSpot pages.now.items result.page result.index result.found id }
 {
-    let page = last.page;
-    let index = last.index.saturating_add(1);
-    if stands_at(pages, page, index, id) {
-        return Spot {
-            page,
-            index,
-            found: true,
-        };
+    if let Some(spot) = find_on(pages, last, id) {
+        return spot;
     }
     find_again(pages, last, id)
 }
 
-/// The same, looked for first at the place that was used last, and then in its page and beside it.
+/// The same, looked for first in the page that was used last, on both sides of the place there.
+#[inline(never)]
 fn find_again(pages: &Vec<Page>, last: Spot, id: Id) -> Spot
     requires ordered { AreOrdered (entries_in pages.now.items) }
     requires filled { AreFilledPages pages.now.items }
@@ -38,13 +33,6 @@ fn find_again(pages: &Vec<Page>, last: Spot, id: Id) -> Spot
     ensures page { result.page < vec_len pages.now }
     ensures spot { IsSpot pages.now.items result.page result.index result.found id }
 {
-    if stands_at(pages, last.page, last.index, id) {
-        return Spot {
-            page: last.page,
-            index: last.index,
-            found: true,
-        };
-    }
     if is_in(pages, last.page, id) {
         return find_in(pages, last.page, last.index, id);
     }
@@ -52,28 +40,37 @@ fn find_again(pages: &Vec<Page>, last: Spot, id: Id) -> Spot
     find_in(pages, page, guess(pages, page, id), id)
 }
 
-/// Whether an identifier is that of an entry.
-fn is_same(entry: &(Id, Record), id: Id) -> bool
-    ensures { result ≡ true → entry.now.0 ≡ id }
-{
-    entry.0 == id
-}
-
-/// Whether an identifier stands at an index in a page.
+/// Where an identifier is, or would come in, if that is in the page that was used last: not before
+/// the place there, nor at the page's end.
 #[inline(always)]
-fn stands_at(pages: &Vec<Page>, page: usize, index: usize, id: Id) -> bool
+fn find_on(pages: &Vec<Page>, last: Spot, id: Id) -> Option<Spot>
     requires { AreOrdered (entries_in pages.now.items) }
-    ensures page { result ≡ true → page < vec_len pages.now }
-    ensures spot { result ≡ true → IsSpot pages.now.items page index true id }
+    ensures page { IfSome result (λ at. at.page < vec_len pages.now) }
+    ensures spot { IfSome result (λ at. IsSpot pages.now.items at.page at.index at.found id) }
 {
-    if page >= pages.len() {
-        return false;
+    if last.page >= pages.len() {
+        return None;
     }
-    let entries = pages[page].entries();
+    let entries = pages[last.page].entries();
+    if last.index >= entries.len() {
+        return None;
+    }
+    if is_less(id, entries[last.index].0) {
+        return None;
+    }
+    if is_below(&entries[entries.len() - 1], id) {
+        return None;
+    }
+    let index = go_on(entries, last.index, id);
     if index >= entries.len() {
-        return false;
+        return None;
     }
-    is_same(&entries[index], id)
+    let found = is_at(entries, index, id);
+    Some(Spot {
+        page: last.page,
+        index,
+        found,
+    })
 }
 
 /// Where an identifier would come in that is above all others, if there is room in the last page.
@@ -143,7 +140,7 @@ pub(crate) fn place_for(pages: &Vec<Page>, last: Spot, id: Id) -> Spot
 {
     match gap_at(pages, last, id) {
         Some(gap) => gap,
-        None => find_again(pages, last, id),
+        None => find(pages, last, id),
     }
 }
 

@@ -120,16 +120,13 @@ pub(crate) fn mark(entries: &mut Pages, id: Id) -> Result<bool, Refusal>
     ensures ordered { AreOrdered entries.new }
     ensures memory { IfErr result (λ e. e ≡ Refusal.Memory) }
 {
-    let record = found_or_new(entries.look_up(id));
-    let marked = Record {
-        parent: record.parent,
-        ch: record.ch,
-        block: record.block,
-        index: record.index,
-        deleted: true,
-    };
-    entries.insert(id, marked)?;
-    Ok(record.ch.is_some())
+    match entries.mark(id) {
+        Some(record) => Ok(record.ch.is_some()),
+        None => {
+            entries.insert(id, Record::new().marked())?;
+            Ok(false)
+        }
+    }
 }
 
 /// Where the element of a record that has one may stand.

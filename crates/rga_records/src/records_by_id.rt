@@ -1,5 +1,5 @@
 //! Records by identifier, with the clock and the counts of their content.
-ghost use Rattle.std.specs.Prelude.{◌≡◌, ◌≢◌, ◌≤◌, ◌+◌, ◌↔◌, length, take, drop, None, Ok, Err, OnOk, OnErr, IfOk, IfErr, is_some, string_bytes, encode_utf8_all, true, false};
+ghost use Rattle.std.specs.Prelude.{◌≡◌, ◌≢◌, ◌≤◌, ◌<◌, ◌+◌, ◌↔◌, length, take, drop, None, Ok, Err, OnOk, OnErr, IfOk, IfErr, is_some, string_bytes, encode_utf8_all, true, false};
 ghost use Rattle.std.specs.FinMap as finite_map;
 ghost use Rattle.std.specs.FinSet as finite_set;
 ghost use Rattle.rga_ops.specs.Prelude.{all_checked, answer, clock_of, element_at, join, known_count, known_ids, list_answer, nothing, operations, single, text, IsSound};
@@ -17,7 +17,7 @@ ghost use Rattle.rga_records.specs.Chains.{grown, AreNewer};
 use crate::chains::{append_chain, latest};
 use crate::counts::{count_unless, raise, uncount_unless};
 use crate::entries::{
-    clear_element, clear_mark, find_element, found_or_new, is_known, is_marked, mark, near_of,
+    clear_element, clear_mark, find_element, is_known, is_marked, mark, near_of,
     set_element, set_near,
 };
 use crate::list_answer::answer_to_list;
@@ -116,12 +116,23 @@ impl Records {
         ensures facts { facts_of result ≡ facts self.old.limit self.old.content id }
         ensures same { self.new ≡ self.old }
     {
-        let record = found_or_new(self.entries.look_up(id));
-        Found {
-            element: record.element(),
-            deleted: record.deleted,
-            known: self.known,
-            limit: self.limit,
+        match self.entries.look_up(id) {
+            Some(record) => {
+                return Found {
+                    element: record.element(),
+                    deleted: record.deleted,
+                    known: self.known,
+                    limit: self.limit,
+                };
+            }
+            None => {
+                return Found {
+                    element: None,
+                    deleted: false,
+                    known: self.known,
+                    limit: self.limit,
+                };
+            }
         }
     }
 
@@ -238,6 +249,43 @@ impl Records {
         self.inserted += 1;
         count_unless(deleted, &mut self.known);
         raise(&mut self.clock, id.counter());
+        Ok(())
+    }
+
+    /// Whether an insertion is newer than all that is known and than its parent, and has room. Takes
+    /// no memory.
+    #[inline(always)]
+    pub(crate) fn is_newer(&self, id: Id, parent: Id) -> bool
+        ensures newer { result ≡ true → clock_of self.now.content < id.counter }
+        ensures rises { result ≡ true → parent.counter < id.counter }
+        ensures room { result ≡ true → known_count self.now.content < self.now.limit }
+    {
+        if id.counter() <= self.clock {
+            return false;
+        }
+        if id.counter() <= parent.counter() {
+            return false;
+        }
+        self.known < self.limit
+    }
+
+    /// Takes an insertion that is newer than all that is known and than its parent, where there is
+    /// room. `Memory` alone, which changes nothing.
+    #[inline(always)]
+    pub(crate) fn insert_newer(&mut self, id: Id, parent: Id, ch: char) -> Result<(), Refusal>
+        requires newer { clock_of self.old.content < id.counter }
+        requires rises { parent.counter < id.counter }
+        requires room { known_count self.old.content < self.old.limit }
+        ensures ok { OnOk result
+            (self.new.content ≡ join self.old.content (single (Op.Insert id parent ch))) }
+        ensures same { OnErr result (self.new.content ≡ self.old.content) }
+        ensures memory { IfErr result (λ e. e ≡ Refusal.Memory) }
+        ensures limit { self.new.limit ≡ self.old.limit }
+    {
+        set_element(&mut self.entries, id, parent, ch, Near { block: 0, index: 0 }, false)?;
+        self.inserted += 1;
+        self.known += 1;
+        self.clock = id.counter();
         Ok(())
     }
 

@@ -26,6 +26,28 @@ pub(crate) fn take_op(records: &mut Records, op: &Op) -> Result<Taken, Refusal>
     ensures same { result ≢ Ok Taken.New → records.new.content ≡ records.old.content }
     ensures limit { records.new.limit ≡ records.old.limit }
 {
+    if let Op::Insert { id, parent, ch } = op {
+        if records.is_newer(*id, *parent) {
+            records.insert_newer(*id, *parent, *ch)?;
+            return Ok(Taken::New);
+        }
+    }
+    take_found(records, op)
+}
+
+/// The same, where nothing is known of the operation.
+#[inline(always)]
+pub(crate) fn take_found(records: &mut Records, op: &Op) -> Result<Taken, Refusal>
+    ensures exact { result ≢ Err Refusal.Memory →
+        result ≡ answer records.old.limit records.old.content op.now }
+    ensures memory { result ≡ Err Refusal.Memory →
+        answer records.old.limit records.old.content op.now ≡ Ok Taken.New }
+    ensures growth { result ≡ Err Refusal.Memory → NeedsRoom records.old.content op.now }
+    ensures new { result ≡ Ok Taken.New →
+        records.new.content ≡ join records.old.content (single op.now) }
+    ensures same { result ≢ Ok Taken.New → records.new.content ≡ records.old.content }
+    ensures limit { records.new.limit ≡ records.old.limit }
+{
     let found = records.find(op.id());
     let deleted = found.deleted;
     let answer = answer_to(*op, found);
