@@ -1,12 +1,14 @@
--- Bytes that are spelled as the line of a run say that run.
+-- Bytes that are spelled as the line of a run or of a deletion say that run or that deletion.
 use Rattle.std.proofs.Common.{◌≡◌, ℕ, ◌+◌, ◌<◌, ◌≤◌, List, length, codes, Ok, true, ◌||◌, ap, ◌∙◌}
 use Rattle.rga_ops.specs.Identifier.{Identifier, is_root, is_in_range}
-use Rattle.rga_lines.specs.declared.reading.Line.TheVariants.{Run}
+use Rattle.rga_ops.specs.declared.op.Op.TheVariants.{Delete}
+use Rattle.rga_lines.specs.declared.reading.Line.TheVariants.{One, Run}
 use Rattle.rga_ops.specs.declared.id.TheConstants.Id.{MAX_COUNTER}
 use Rattle.rga_lines.specs.declared.run.TheConstants.{MAX_RUN}
 use Rattle.rga_lines.specs.Runs.{stretch}
-use Rattle.rga_lines.specs.Spelling.{run_from, run_line, BeginsWithCharacters}
+use Rattle.rga_lines.specs.Spelling.{line, element_from, run_from, run_line, BeginsWithCharacters}
 use Rattle.rga_lines.specs.Table.{any_line_at}
+use Rattle.rga_lines.proofs.ReadBack.{delete_back}
 use Rattle.rga_lines.proofs.RunBack.{run_back}
 
 pub spelled_run_says : (rest : List ℕ) (id parent : Identifier) (chars : List ℕ)
@@ -17,3 +19,7 @@ unfolding run_line
 spelled_run_says rest id parent chars h k read some few end rising =
     ap any_line_at (ap (run_from id parent) read.parts)
     ∙ run_back (stretch id parent chars) (record { id = h; parent = k; scalars = read.scalars; run = record { some = some; few = few; end = end; rising = rising } })
+
+pub spelled_deletion_says : (rest : List ℕ) (id : Identifier) → is_in_range id.counter id.replica ≡ true → rest ≡ codes ",\"op\":\"del\"}" → any_line_at (element_from id rest) ≡ Ok (One (Delete id))
+unfolding line
+spelled_deletion_says rest id h end = ap (λ l. any_line_at (element_from id l)) end ∙ delete_back id h

@@ -67,6 +67,10 @@ head_line = codes "{\"op\":\"head\",\"version\":2}"
 
 -- ---- runs
 
+-- an object up to its first member, the identifier of an element, and then the rest
+abbrev pub element_from : Identifier → List ℕ → List ℕ
+element_from id rest = codes "{\"id\":" ++ (pair_text id ++ rest)
+
 -- the line of a run up to the quote that opens its text, and then the rest
 abbrev pub run_from : Identifier → Identifier → List ℕ → List ℕ
 run_from id parent rest =
