@@ -1,5 +1,5 @@
 -- The parts of a line that is spelled in one way.
-use Rattle.std.proofs.Common.{lit≤, ◌≡◌, ◌≢◌, ℕ, zero, suc, refl, ◌+◌, ◌-◌, ◌*◌, ◌/◌, ◌%◌, ◌^◌, ◌<◌, ◌≤◌, true, false, List, [], ◌∷◌, ◌++◌, length, take, drop, decimal, Option, Some, None, IfSome, MatchOption, Bor, get_or, nat_eq, sym, ap, subst, ◌∙◌, arith, append-nil, lt-ltb, le-ltb, ne_eqb}
+use Rattle.std.proofs.Common.{lit≤, ◌≡◌, ◌≢◌, ℕ, zero, suc, refl, ◌+◌, ◌-◌, ◌*◌, ◌/◌, ◌%◌, ◌^◌, ◌<◌, ◌≤◌, true, false, List, [], ◌∷◌, ◌++◌, length, take, drop, decimal, Option, Some, None, IfSome, MatchOption, Bor, get_or, nat_eq, sym, ap, subst, ◌∙◌, arith, append-nil, append_assoc, lt-ltb, le-ltb, ne_eqb}
 use Rattle.std.specs.Char.{encode_utf8, IsScalar}
 use Rattle.std.specs.Str.{IsUtf8, chars, encode_utf8_all}
 use Rattle.std.specs.Cmp.Lexicographic.{pointwise, same_text}
@@ -25,10 +25,9 @@ parted s front rest p n a b same = sym (take-append-drop n s) ∙ (λ i. sym a i
 
 -- ---- a number
 
--- so many of the bytes are the number
-pub record IsRead (bytes : List ℕ) (len value : ℕ) : Type 0 where
-  pub front : take len bytes ≡ decimal value
-  pub within : len ≤ length bytes
+-- the bytes are the number, and then the rest
+pub record IsRead (bytes : List ℕ) (value : ℕ) (rest : List ℕ) : Type 0 where
+  pub parts : bytes ≡ decimal value ++ rest
   pub some : 0 < value
   pub small : value < 10 ^ 18
 
@@ -42,13 +41,12 @@ next_digit value d some small digit =
 pub read_zero : (bytes rest : List ℕ) (first : ℕ) → bytes ≡ first ∷ rest → first ≡ 48 → bytes ≡ decimal 0 ++ rest
 read_zero bytes rest first is digit = is ∙ (λ i. digit i ∷ rest) ∙ ap (λ l. l ++ rest) (sym (decimal_digit 0 (lit≤ tt)))
 
-pub read_first : (bytes rest : List ℕ) (first value : ℕ) → bytes ≡ first ∷ rest → first ≢ 48 → 48 ≤ first → first < 58 → value ≡ first - 48 → IsRead bytes 1 value
+pub read_first : (bytes rest : List ℕ) (first value : ℕ) → bytes ≡ first ∷ rest → first ≢ 48 → 48 ≤ first → first < 58 → value ≡ first - 48 → IsRead bytes value rest
 read_first bytes rest first value is other low high digit =
     let same : first ≡ 48 + value = omega (arith, low, digit) in
     let few : value < 10 = omega (arith, low, high, digit) in
     record {
-      front = ap (take 1) is ∙ ap (λ b. b ∷ []) same ∙ sym (decimal_digit value few);
-      within = omega (arith, ap length is);
+      parts = is ∙ (λ i. same i ∷ rest) ∙ ap (λ l. l ++ rest) (sym (decimal_digit value few));
       some = positive value (λ z. other (same ∙ ap (λ v. 48 + v) z));
       small = omega (arith, few);
     }
@@ -57,13 +55,12 @@ read_first bytes rest first value is other low high digit =
     positive zero h = absurd (h refl)
     positive (suc n) h = omega arith
 
-pub read_next : (bytes : List ℕ) (len value d : ℕ) → IsRead bytes len value → len < length bytes → value < 10 ^ 17 → 48 ≤ get_or bytes len 0 → get_or bytes len 0 < 58 → d ≡ get_or bytes len 0 - 48 → IsRead bytes (len + 1) (10 * value + d)
-read_next bytes len value d h more small low high digit =
-    let is : get_or bytes len 0 ≡ 48 + d = omega (arith, low, digit) in
+pub read_next : (bytes rest behind : List ℕ) (next value d : ℕ) → IsRead bytes value rest → rest ≡ next ∷ behind → value < 10 ^ 17 → 48 ≤ next → next < 58 → d ≡ next - 48 → IsRead bytes (10 * value + d) behind
+read_next bytes rest behind next value d h more small low high digit =
+    let is : next ≡ 48 + d = omega (arith, low, digit) in
     let few : d < 10 = omega (arith, low, high, digit) in
     record {
-      front = take_more bytes len 0 more ∙ (λ i. h.front i ++ (is i ∷ [])) ∙ sym (next_digit value d h.some small few);
-      within = omega (arith, more);
+      parts = h.parts ∙ ap (λ l. decimal value ++ l) (more ∙ (λ i. is i ∷ behind)) ∙ sym (append_assoc (decimal value) ((48 + d) ∷ []) behind) ∙ ap (λ l. l ++ behind) (sym (next_digit value d h.some small few));
       some = omega (arith, h.some);
       small = omega (arith, few, small);
     }

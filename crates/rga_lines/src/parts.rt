@@ -167,25 +167,28 @@ pub(crate) fn only_char(text: &str) -> Option<char>
 pub(crate) fn number(bytes: &[u8]) -> Option<(u64, &[u8])>
     ensures { IfSome result (λ p. bytes.now ≡ decimal p.0 ++ p.1.now) }
 {
-    let Some((first, rest)) = bytes.split_first() else {
+    let Some((first, behind)) = bytes.split_first() else {
         return None;
     };
     if *first == b'0' {
-        return Some((0, rest));
+        return Some((0, behind));
     }
     if !is_digit(*first) {
         return None;
     }
     let mut value = u64::from(*first - b'0');
-    let mut len = 1usize;
-    'digits: while len < bytes.len() && is_digit(bytes[len]) {
+    let mut rest = behind;
+    'digits: while let Some((next, behind)) = rest.split_first() {
+        if !is_digit(*next) {
+            break;
+        }
         if value > Id::MAX_COUNTER {
             return None;
         }
-        value = 10 * value + u64::from(bytes[len] - b'0');
-        len += 1;
+        value = 10 * value + u64::from(*next - b'0');
+        rest = behind;
     }
-    Some((value, &bytes[len..]))
+    Some((value, rest))
 }
 
 /// A number behind the byte, with which the bytes begin, and what stands behind it.

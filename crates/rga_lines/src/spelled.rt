@@ -45,7 +45,7 @@ fn spelled_behind(alloc: Global, id: Id, rest: &[u8]) -> Result<Option<Line>, Li
 }
 
 /// The identifier of an element, with which the object begins, and what stands behind it.
-fn element_front(bytes: &[u8]) -> Option<(Id, &[u8])>
+pub(crate) fn element_front(bytes: &[u8]) -> Option<(Id, &[u8])>
     ensures { IfSome result (λ p. (bytes.now ≡ element_from p.0 p.1.now) × IsElement p.0) }
 {
     let Some((counter, replica, rest)) = pair_after(bytes, b"{\"id\":") else {
