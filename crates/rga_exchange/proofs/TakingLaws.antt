@@ -15,11 +15,13 @@ use Rattle.rga_lines.specs.declared.deletion_run.DeletionRun.{DeletionRun}
 use Rattle.rga_lines.specs.Table.{AnyReading, any_line_at}
 use Rattle.rga_lines.specs.declared.reading.TheConstants.{MAX_LINE}
 use Rattle.rga_lines.specs.Stream.{lines_of, rest_of, BeginsLong, Splitting}
-use Rattle.rga_lines.specs.Log.{operations_of, operations_at, then_operations, IsOperation}
+use Rattle.rga_lines.specs.declared.run.TheConstants.{MAX_RUN}
+use Rattle.rga_lines.specs.Log.{SaysRun, operations_of, operations_at, then_operations, IsOperation}
 use Rattle.rga_lines.specs.declared.reading.Line.TheVariants.{One, Run, Deletions, Head, Last}
 use Rattle.rga_lines.specs.declared.fault.LineFault.{LineFault}
 use Rattle.rga_lines.specs.declared.fault.LineFault.TheVariants as line_fault
-use Rattle.rga_lines.proofs.ReadingLemmas.{too_long}
+use Rattle.rga_lines.proofs.ReadingLemmas.{too_long, any_run}
+use Rattle.rga_lines.proofs.RunLemmas.{run_operations-length}
 use Rattle.rga_lines.proofs.StandLemmas.{stands, stands_for, stands_for_none}
 use Rattle.rga_lines.proofs.SplitterLemmas.{GivesLine}
 use Rattle.rga_exchange.specs.declared.fault.LogFault.{LogFault}
@@ -184,6 +186,18 @@ one_alone line op says = ap (λ r. then_operations r []) (stands line (Ok (One o
 
 pub run_alone : (line : List ℕ) (r : Stretch) → any_line_at line ≡ Ok (Run r) → operations_of (line ∷ []) ≡ stretch_operations r
 run_alone line r says = ap (λ r. then_operations r []) (stands line (Ok (Run r)) says) ∙ append-nil (stretch_operations r)
+
+-- what comes of the line of a run, by its insertions
+pub insertions_outcome : (form : Form) (limit n : ℕ) (c : Content) (line : List ℕ) (ops : List Op) → SaysRun line ops → after_line form limit n c (any_line_at line) ≡ refused_at n (taken_whole limit c ops)
+insertions_outcome form limit n c line ops h = ap (after_line form limit n c) h.1 ∙ ap (λ (l : List Op). refused_at n (taken_whole limit c l)) (sym h.2)
+
+pub insertions_alone : (line : List ℕ) (ops : List Op) → SaysRun line ops → operations_of (line ∷ []) ≡ ops
+insertions_alone line ops h = run_alone line h.0 h.1 ∙ sym h.2
+
+pub insertions_few : (line : List ℕ) (ops : List Op) → SaysRun line ops → length ops ≤ MAX_RUN
+insertions_few line ops h =
+    let run = any_run line h.0 h.1 in
+    omega (arith, run.few, ap length h.2, run_operations-length h.0.id h.0.parent h.0.chars)
 
 pub deletions_alone : (line : List ℕ) (r : DeletionRun) → any_line_at line ≡ Ok (Deletions r) → operations_of (line ∷ []) ≡ run_deletions r
 deletions_alone line r says = ap (λ r. then_operations r []) (stands line (Ok (Deletions r)) says) ∙ append-nil (run_deletions r)

@@ -17,7 +17,7 @@ ghost use Rattle.rga_exchange.specs.declared.fault.LogFault.TheVariants.{Memory,
 use crate::block::BLOCK;
 use crate::fault::LogFault;
 use rga_devices::Counted;
-use rga_lines::{DeletionRun, Line, LineFault, Run, Splitter, read_any};
+use rga_lines::{DeletionRun, Line, LineFault, Run, Splitter, read_any, read_insertions};
 use rga_ops::{Op, Refusal};
 use rga_store::Taker;
 use std::alloc::Global;
@@ -79,6 +79,7 @@ pub(crate) fn take_stream<T: Taker, R: Read>(
     ensures bound { IfOk result (λ s. s.lines < 2 ^ 63) }
 {
     let mut splitter = Splitter::new(alloc);
+    let mut ops = Vec::new(alloc);
     let mut lines = 0u64;
     let mut operations = 0u128;
     let mut block = [0u8; BLOCK];
@@ -88,6 +89,7 @@ pub(crate) fn take_stream<T: Taker, R: Read>(
             form,
             taker,
             &mut splitter,
+            &mut ops,
             &mut lines,
             &mut operations,
         )? {
@@ -116,12 +118,14 @@ pub(crate) fn take_stream<T: Taker, R: Read>(
 }
 
 /// Takes the whole lines that the splitter has, behind so many others, up to the end line: then
-/// the number that it names is the answer.
+/// the number that it names is the answer. What stands in the list of operations counts for nothing:
+/// its places are used again.
 fn take_lines<T: Taker>(
     alloc: Global,
     form: Form,
     taker: &mut T,
     splitter: &mut Splitter,
+    ops: &mut Vec<Op>,
     lines: &mut u64,
     operations: &mut u128,
 ) -> Result<Option<u64>, LogFault>
@@ -163,6 +167,7 @@ fn take_lines<T: Taker>(
             alloc,
             form,
             taker,
+            ops,
             *lines + 1,
             splitter.line(end),
             operations,
@@ -175,8 +180,48 @@ fn take_lines<T: Taker>(
 }
 
 /// Takes the operations of a whole line, all or none, and counts them, passes over the head of an
-/// exchange, or answers the number that the end line names.
+/// exchange, or answers the number that the end line names. The insertions of a run are read into
+/// the list, in place of what stood there.
 fn take_line<T: Taker>(
+    alloc: Global,
+    form: Form,
+    taker: &mut T,
+    ops: &mut Vec<Op>,
+    number: u64,
+    line: &[u8],
+    operations: &mut u128,
+) -> Result<Option<u64>, LogFault>
+    requires { operations.old < 2 ^ 127 }
+    ensures operation { result ≡ Ok None →
+        line_outcome form T.limit T.content taker.old number line.now ≡ Ok (T.content taker.new) }
+    ensures end { (count : ℕ) → result ≡ Ok (Some count) →
+        line_outcome form T.limit T.content taker.old number line.now ≡ Err (AtEnd count) }
+    ensures fault { IfErr result (λ e. e ≢ Memory →
+        line_outcome form T.limit T.content taker.old number line.now ≡ Err (AtFault e)) }
+    ensures device { IfErr result (λ e. e ≢ ReadFailed) }
+    ensures same { result ≢ Ok None → T.content taker.new ≡ T.content taker.old }
+    ensures limit { T.limit taker.new ≡ T.limit taker.old }
+    ensures follows { result ≡ Ok None →
+        T.follows taker.old (operations_of (line.now ∷ [])) taker.new }
+    ensures follows_nothing { result ≢ Ok None → T.follows taker.old [] taker.new }
+    ensures count { result ≡ Ok None →
+        operations.new ≡ operations.old + length (operations_of (line.now ∷ [])) }
+    ensures same_count { result ≢ Ok None → operations.new ≡ operations.old }
+    ensures few { operations.new ≤ operations.old + MAX_RUN }
+{
+    match read_insertions(ops, line) {
+        Ok(true) => {
+            let inserted = take_all(taker, number, ops)?;
+            *operations += u128::from(inserted);
+            Ok(None)
+        }
+        Ok(false) => take_other(alloc, form, taker, number, line, operations),
+        Err(_) => Err(LogFault::Memory),
+    }
+}
+
+/// The same of any line, whatever it is.
+fn take_other<T: Taker>(
     alloc: Global,
     form: Form,
     taker: &mut T,

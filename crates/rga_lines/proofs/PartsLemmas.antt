@@ -1,5 +1,5 @@
 -- The parts of a line that is spelled in one way.
-use Rattle.std.proofs.Common.{◌≡◌, ◌≢◌, ℕ, ◌+◌, ◌*◌, ◌/◌, ◌%◌, ◌^◌, ◌<◌, ◌≤◌, true, false, List, [], ◌∷◌, ◌++◌, length, take, drop, decimal, Option, Some, None, IfSome, MatchOption, Bor, get_or, nat_eq, sym, ap, subst, ◌∙◌, arith, append-nil, lt-ltb, le-ltb, ne_eqb}
+use Rattle.std.proofs.Common.{lit≤, ◌≡◌, ◌≢◌, ℕ, zero, suc, refl, ◌+◌, ◌-◌, ◌*◌, ◌/◌, ◌%◌, ◌^◌, ◌<◌, ◌≤◌, true, false, List, [], ◌∷◌, ◌++◌, length, take, drop, decimal, Option, Some, None, IfSome, MatchOption, Bor, get_or, nat_eq, sym, ap, subst, ◌∙◌, arith, append-nil, append_assoc, lt-ltb, le-ltb, ne_eqb}
 use Rattle.std.specs.Char.{encode_utf8, IsScalar}
 use Rattle.std.specs.Str.{IsUtf8, chars, encode_utf8_all}
 use Rattle.std.specs.Cmp.Lexicographic.{pointwise, same_text}
@@ -20,12 +20,15 @@ pub stripped : (s p : List ℕ) (r : Option (Bor (List ℕ))) → MatchOption r 
 stripped s p None m = tt
 stripped s p (Some x) m = sym (take-append-drop (length p) s) ∙ ap (λ l. l ++ drop (length p) s) (same_text _ _ (sym m.0)) ∙ ap (λ l. p ++ l) (sym m.1)
 
+pub parted : (s front rest p : List ℕ) (n : ℕ) → front ≡ take n s → rest ≡ drop n s → true ≡ pointwise nat_eq front p → s ≡ p ++ rest
+parted s front rest p n a b same = sym (take-append-drop n s) ∙ (λ i. sym a i ++ sym b i) ∙ ap (λ l. l ++ rest) (same_text front p same)
+
 -- ---- a number
 
--- so many of the bytes are the number
-pub record IsRead (bytes : List ℕ) (len value : ℕ) : Type 0 where
-  pub front : take len bytes ≡ decimal value
-  pub within : len ≤ length bytes
+-- the bytes are the number, and then the rest
+pub record IsRead (bytes : List ℕ) (value : ℕ) (rest : List ℕ) : Type 0 where
+  pub parts : bytes ≡ decimal value ++ rest
+  pub some : 0 < value
   pub small : value < 10 ^ 18
 
 -- one digit more
@@ -35,19 +38,32 @@ next_digit value d some small digit =
     let ones : (10 * value + d) % 10 ≡ d = omega (arith, digit) in
     decimal_step (10 * value + d) (omega arith) (omega (arith, digit, small)) ∙ (λ i. decimal (tens i) ++ ((48 + ones i) ∷ []))
 
-pub read_first : (bytes : List ℕ) (first d : ℕ) → 0 < length bytes → first ≡ get_or bytes 0 first → d < 10 → first ≡ 48 + d → IsRead bytes 1 d
-read_first bytes first d some at digit is = record {
-  front = take_more bytes 0 first some ∙ ap (λ b. b ∷ []) (sym at ∙ is) ∙ sym (decimal_digit d digit);
-  within = omega (arith, some);
-  small = omega (arith, digit);
-}
+pub read_zero : (bytes rest : List ℕ) (first : ℕ) → bytes ≡ first ∷ rest → first ≡ 48 → bytes ≡ decimal 0 ++ rest
+read_zero bytes rest first is digit = is ∙ (λ i. digit i ∷ rest) ∙ ap (λ l. l ++ rest) (sym (decimal_digit 0 (lit≤ tt)))
 
-pub read_next : (bytes : List ℕ) (len value d : ℕ) → IsRead bytes len value → len < length bytes → 0 < value → value < 10 ^ 17 → d < 10 → get_or bytes len 0 ≡ 48 + d → IsRead bytes (len + 1) (10 * value + d)
-read_next bytes len value d h more some small digit is = record {
-  front = take_more bytes len 0 more ∙ (λ i. h.front i ++ (is i ∷ [])) ∙ sym (next_digit value d some small digit);
-  within = omega (arith, more);
-  small = omega (arith, digit, small);
-}
+pub read_first : (bytes rest : List ℕ) (first value : ℕ) → bytes ≡ first ∷ rest → first ≢ 48 → 48 ≤ first → first < 58 → value ≡ first - 48 → IsRead bytes value rest
+read_first bytes rest first value is other low high digit =
+    let same : first ≡ 48 + value = omega (arith, low, digit) in
+    let few : value < 10 = omega (arith, low, high, digit) in
+    record {
+      parts = is ∙ (λ i. same i ∷ rest) ∙ ap (λ l. l ++ rest) (sym (decimal_digit value few));
+      some = positive value (λ z. other (same ∙ ap (λ v. 48 + v) z));
+      small = omega (arith, few);
+    }
+  where
+    positive : (n : ℕ) → (n ≡ 0 → ⊥) → 0 < n
+    positive zero h = absurd (h refl)
+    positive (suc n) h = omega arith
+
+pub read_next : (bytes rest behind : List ℕ) (next value d : ℕ) → IsRead bytes value rest → rest ≡ next ∷ behind → value < 10 ^ 17 → 48 ≤ next → next < 58 → d ≡ next - 48 → IsRead bytes (10 * value + d) behind
+read_next bytes rest behind next value d h more small low high digit =
+    let is : next ≡ 48 + d = omega (arith, low, digit) in
+    let few : d < 10 = omega (arith, low, high, digit) in
+    record {
+      parts = h.parts ∙ ap (λ l. decimal value ++ l) (more ∙ (λ i. is i ∷ behind)) ∙ sym (append_assoc (decimal value) ((48 + d) ∷ []) behind) ∙ ap (λ l. l ++ behind) (sym (next_digit value d h.some small few));
+      some = omega (arith, h.some);
+      small = omega (arith, few, small);
+    }
 
 -- ---- a character
 

@@ -164,7 +164,7 @@ insert_back id parent ch h k rising scalar_ch =
     (insert-json (encode_utf8 ch) id parent f g)
     (insert-line (encode_utf8 ch) ch id parent h k rising (chars-one ch scalar_ch))
 
-delete_back : (id : Identifier) → is_in_range id.counter id.replica ≡ true → any_line_at (line (Delete id)) ≡ Ok (One (Delete id))
+pub delete_back : (id : Identifier) → is_in_range id.counter id.replica ≡ true → any_line_at (line (Delete id)) ≡ Ok (One (Delete id))
 unfolding line
 delete_back id h =
     let f = within id h in

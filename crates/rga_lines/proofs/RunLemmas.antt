@@ -1,13 +1,14 @@
 -- The characters of a run's line, one after another.
-use Rattle.std.proofs.Common.{◌≡◌, ℕ, ◌<◌, Ok, ne_eqb, List, [], ◌∷◌, ◌++◌, length, refl, sym, ap, ◌∙◌, arith, append_assoc, append-nil, length-append}
+use Rattle.std.proofs.Common.{◌≡◌, ℕ, ◌+◌, ◌<◌, Ok, ne_eqb, List, [], ◌∷◌, ◌++◌, length, refl, sym, ap, ◌∙◌, arith, append_assoc, append-nil, length-append}
 use Rattle.std.specs.Char.{IsScalar}
 use Rattle.std.specs.List.{flat_map, AllByRecursion}
 use Rattle.std.proofs.lemmas.Str.{length-encode, len_utf8_bounds}
-use Rattle.rga_ops.specs.Identifier.{Identifier}
+use Rattle.rga_ops.specs.Identifier.{Identifier, identifier}
 use Rattle.rga_ops.specs.Operation.{checked}
 use Rattle.rga_ops.specs.declared.op.Op.{Op}
+use Rattle.rga_ops.specs.declared.op.Op.TheVariants.{Insert}
 use Rattle.rga_lines.specs.Runs.{Stretch, IsRun, next, run_operations, stretch_operations}
-use Rattle.rga_lines.specs.Spelling.{escaped, BeginsWithCharacters}
+use Rattle.rga_lines.specs.Spelling.{escaped, BeginsWithCharacters, ReadsInsertions}
 use Rattle.std.proofs.lemmas.Bool.{lt-leb}
 use Rattle.rga_lines.proofs.SpellingLemmas.{escaped_all}
 
@@ -45,3 +46,38 @@ operations_checked id parent (c ∷ chars) h = (rw (ne_eqb id.counter 0 (λ z. o
 -- they are well-formed
 pub run_checked : (r : Stretch) → IsRun r → AllByRecursion (λ (op : Op). checked op ≡ Ok tt) (stretch_operations r)
 run_checked r h = operations_checked r.id r.parent r.chars h.rising
+
+-- ---- the insertions of a run, read one after another
+
+-- So many insertions are those of the characters that were read, and those of any more characters go on behind them.
+pub record IsReadTo (id parent : Identifier) (bytes : List ℕ) (ops : List Op) (counter : ℕ) (above : Identifier) (rest : List ℕ) : Type 0 where
+  pub chars : List ℕ
+  pub read : BeginsWithCharacters bytes chars rest
+  pub on : (more : List ℕ) → ops ++ run_operations (identifier counter id.replica) above more ≡ run_operations id parent (chars ++ more)
+
+pub read_to_first : (id parent : Identifier) (bytes : List ℕ) (ops : List Op) → ops ≡ [] → IsReadTo id parent bytes ops id.counter parent bytes
+read_to_first id parent bytes ops none = record {
+  chars = [];
+  read = record { parts = refl; scalars = tt };
+  on = λ more. ap (λ (l : List Op). l ++ run_operations id parent more) none;
+}
+
+pub read_to_next : (id parent : Identifier) (bytes : List ℕ) (ops all : List Op) (counter : ℕ) (above new : Identifier) (rest behind : List ℕ) (c : ℕ) → IsReadTo id parent bytes ops counter above rest → rest ≡ escaped c ++ behind → IsScalar c
+    → identifier counter id.replica ≡ new → all ≡ ops ++ Insert new above c ∷ [] → IsReadTo id parent bytes all (counter + 1) new behind
+read_to_next id parent bytes ops all counter above new rest behind c h e k same pushed = record {
+  chars = h.chars ++ c ∷ [];
+  read = read_one bytes h.chars rest behind c h.read e k;
+  on = λ more.
+      ap (λ (l : List Op). l ++ run_operations (identifier (counter + 1) id.replica) new more) pushed
+      ∙ (λ i. (ops ++ Insert (sym same i) above c ∷ []) ++ run_operations (identifier (counter + 1) id.replica) (sym same i) more)
+      ∙ append_assoc ops (Insert (identifier counter id.replica) above c ∷ []) (run_operations (identifier (counter + 1) id.replica) (identifier counter id.replica) more)
+      ∙ h.on (c ∷ more)
+      ∙ ap (run_operations id parent) (sym (append_assoc h.chars (c ∷ []) more));
+}
+
+pub read_to_end : (id parent : Identifier) (bytes : List ℕ) (ops : List Op) (counter : ℕ) (above : Identifier) (rest : List ℕ) → IsReadTo id parent bytes ops counter above rest → ReadsInsertions id parent bytes rest ops
+read_to_end id parent bytes ops counter above rest h = record {
+  chars = h.chars;
+  read = h.read;
+  insertions = sym (append-nil ops) ∙ h.on [] ∙ ap (run_operations id parent) (append-nil h.chars);
+}

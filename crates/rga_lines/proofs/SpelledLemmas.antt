@@ -3,7 +3,7 @@ use Rattle.std.proofs.Common.{◌≡◌, ℕ, List, [], ◌++◌, codes, decimal
 use Rattle.rga_ops.specs.Identifier.{Identifier}
 use Rattle.rga_ops.specs.declared.op.Op.TheVariants.{Insert}
 use Rattle.rga_lines.specs.Runs.{deletion_run}
-use Rattle.rga_lines.specs.Spelling.{escaped, pair_text, line, run_from, deletion_run_line, BeginsWithCharacter, IsElement, IsElementOrRoot, IsLineOf}
+use Rattle.rga_lines.specs.Spelling.{escaped, pair_text, line, element_from, run_from, deletion_run_line, BeginsWithCharacter, IsElement, IsElementOrRoot, IsLineOf}
 
 -- these bytes, an identifier and then the rest
 abbrev pub Names : List ℕ → List ℕ → Identifier → List ℕ → Type 0
@@ -18,11 +18,11 @@ insertion_read bytes inside named above ended end id parent ch first char name p
     let names = name.0 ∙ ap (λ l. codes "\",\"id\":" ++ (pair_text id ++ l)) op in
     (first ∙ ap (λ l. codes "{\"char\":\"" ++ l) (char.0 ∙ ap (λ l. escaped ch ++ l) names), (name.1, place.1, char.1))
 
-pub run_read : (bytes above named rest : List ℕ) (id parent : Identifier) → Names bytes (codes "{\"id\":") id above × IsElement id → Names above (codes ",\"op\":\"run\",\"parent\":") parent named × IsElementOrRoot parent
-    → named ≡ codes ",\"text\":\"" ++ rest → (bytes ≡ run_from id parent rest) × IsElement id × IsElementOrRoot parent
-run_read bytes above named rest id parent name place last =
+pub run_read : (above named rest : List ℕ) (id parent : Identifier) → Names above (codes ",\"op\":\"run\",\"parent\":") parent named × IsElementOrRoot parent
+    → named ≡ codes ",\"text\":\"" ++ rest → (element_from id above ≡ run_from id parent rest) × IsElementOrRoot parent
+run_read above named rest id parent place last =
     let op = place.0 ∙ ap (λ l. codes ",\"op\":\"run\",\"parent\":" ++ (pair_text parent ++ l)) last in
-    (name.0 ∙ ap (λ l. codes "{\"id\":" ++ (pair_text id ++ l)) op, name.1, place.1)
+    (ap (element_from id) op, place.1)
 
 pub deletions_read : (bytes named ended end : List ℕ) (id : Identifier) (count : ℕ) → bytes ≡ codes "{\"count\":" ++ (decimal count ++ named) → Names named (codes ",\"id\":") id ended × IsElement id
     → ended ≡ codes ",\"op\":\"dels\"}" ++ end → end ≡ [] → (bytes ≡ deletion_run_line (deletion_run id count)) × IsElement id

@@ -2,7 +2,7 @@
 use Rattle.std.specs.Prelude.{◌≡◌, ◌⊎◌, ℕ, Bool, true, false, if◌then◌else◌, List, [], ◌∷◌, ◌++◌, Result, Ok, Err}
 use Rattle.std.specs.List.{AllByRecursion}
 use Rattle.rga_ops.specs.declared.op.Op.{Op}
-use Rattle.rga_lines.specs.Runs.{stretch_operations, run_deletions}
+use Rattle.rga_lines.specs.Runs.{Stretch, stretch_operations, run_deletions}
 use Rattle.rga_lines.specs.declared.reading.Line.TheVariants.{One, Run, Deletions, Head, Last}
 use Rattle.rga_lines.specs.declared.fault.LineFault.{LineFault}
 use Rattle.rga_lines.specs.declared.fault.LineFault.TheVariants.{Kind}
@@ -17,6 +17,10 @@ operations_in (Ok (Deletions r)) = Ok (run_deletions r)
 operations_in (Ok Head) = Err Kind
 operations_in (Ok (Last number)) = Err Kind
 operations_in (Err e) = Err e
+
+-- the line is that of a run of these insertions
+abbrev pub SaysRun : List ℕ → List Op → Type 0
+SaysRun line ops = (r : Stretch) × (any_line_at line ≡ Ok (Run r)) × (ops ≡ stretch_operations r)
 
 unfoldable pub operations_at : List ℕ → Result (List Op) LineFault
 operations_at bytes = operations_in (any_line_at bytes)

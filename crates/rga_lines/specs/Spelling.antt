@@ -6,7 +6,7 @@ use Rattle.std.specs.List.{flat_map, AllByRecursion}
 use Rattle.rga_ops.specs.Identifier.{Identifier, is_root, is_in_range}
 use Rattle.rga_ops.specs.declared.op.Op.{Op}
 use Rattle.rga_ops.specs.declared.op.Op.TheVariants.{Insert, Delete}
-use Rattle.rga_lines.specs.Runs.{Stretch, IsRun}
+use Rattle.rga_lines.specs.Runs.{Stretch, IsRun, run_operations}
 use Rattle.rga_lines.specs.declared.deletion_run.DeletionRun.{DeletionRun}
 
 -- a character below a space by four hexadecimal digits
@@ -67,6 +67,10 @@ head_line = codes "{\"op\":\"head\",\"version\":2}"
 
 -- ---- runs
 
+-- an object up to its first member, the identifier of an element, and then the rest
+abbrev pub element_from : Identifier → List ℕ → List ℕ
+element_from id rest = codes "{\"id\":" ++ (pair_text id ++ rest)
+
 -- the line of a run up to the quote that opens its text, and then the rest
 abbrev pub run_from : Identifier → Identifier → List ℕ → List ℕ
 run_from id parent rest =
@@ -89,6 +93,12 @@ pub record IsWritableRun (r : Stretch) : Type 0 where
 pub record BeginsWithCharacters (bytes chars rest : List ℕ) : Type 0 where
   pub parts : bytes ≡ flat_map escaped chars ++ rest
   pub scalars : AllByRecursion IsScalar chars
+
+-- the bytes are characters as they stand between quotes, and then the rest, and these are the insertions of a run of them
+pub record ReadsInsertions (id parent : Identifier) (bytes rest : List ℕ) (ops : List Op) : Type 0 where
+  pub chars : List ℕ
+  pub read : BeginsWithCharacters bytes chars rest
+  pub insertions : ops ≡ run_operations id parent chars
 
 -- the line of a run of deletions, without its newline
 unfoldable pub deletion_run_line : DeletionRun → List ℕ

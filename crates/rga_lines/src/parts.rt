@@ -17,21 +17,60 @@ pub(crate) fn after<'a>(bytes: &'a [u8], literal: &[u8]) -> Option<&'a [u8]>
     bytes.strip_prefix(literal)
 }
 
+/// The same of a literal whose length is known, so that nothing is called to compare it.
+#[inline(always)]
+pub(crate) fn after_literal<'a, const N: usize>(
+    bytes: &'a [u8],
+    literal: &[u8; N],
+) -> Option<&'a [u8]>
+    ensures { IfSome result (λ rest. bytes.now ≡ literal.now ++ rest.now) }
+{
+    let Some((front, rest)) = bytes.split_first_chunk() else {
+        return None;
+    };
+    if front == literal { Some(rest) } else { None }
+}
+
+/// The same of one byte.
+#[inline(always)]
+pub(crate) fn after_byte(bytes: &[u8], byte: u8) -> Option<&[u8]>
+    ensures { IfSome result (λ rest. bytes.now ≡ byte ∷ rest.now) }
+{
+    let Some((first, rest)) = bytes.split_first() else {
+        return None;
+    };
+    if *first == byte { Some(rest) } else { None }
+}
+
 /// The character that the bytes begin with, and what stands behind it.
+#[inline(always)]
 pub(crate) fn character(bytes: &[u8]) -> Option<(char, &[u8])>
+    ensures { IfSome result (λ p. BeginsWithCharacter bytes.now p.0 p.1.now) }
+{
+    // Most characters are plain, and cost no call.
+    match plain_character(bytes) {
+        Some(found) => Some(found),
+        None => other_character(bytes),
+    }
+}
+
+/// The same of a character that is no plain one.
+#[inline(never)]
+fn other_character(bytes: &[u8]) -> Option<(char, &[u8])>
     ensures { IfSome result (λ p. BeginsWithCharacter bytes.now p.0 p.1.now) }
 {
     let first = *bytes.first()?;
     if first == b'\\' {
         short_escape(bytes)
     } else if first < 128 {
-        plain_character(bytes)
+        None
     } else {
         wide_character(bytes)
     }
 }
 
 /// An ASCII character that needs no escape, and what stands behind it.
+#[inline(always)]
 #[tactic(auto, using(crate::proofs::PartsLemmas::plain_spelled))]
 fn plain_character(bytes: &[u8]) -> Option<(char, &[u8])>
     ensures { IfSome result (λ p. BeginsWithCharacter bytes.now p.0 p.1.now) }
@@ -124,47 +163,49 @@ pub(crate) fn only_char(text: &str) -> Option<char>
 }
 
 /// A number without leading zeros, and what stands behind it.
+#[inline(always)]
 pub(crate) fn number(bytes: &[u8]) -> Option<(u64, &[u8])>
     ensures { IfSome result (λ p. bytes.now ≡ decimal p.0 ++ p.1.now) }
 {
-    let Some(first) = bytes.first() else {
+    let Some((first, behind)) = bytes.split_first() else {
         return None;
     };
-    let Some(mut value) = digit(*first) else {
+    if *first == b'0' {
+        return Some((0, behind));
+    }
+    if !is_digit(*first) {
         return None;
-    };
-    let mut len = 1usize;
-    'digits: while len < bytes.len() {
-        let Some(next) = digit(bytes[len]) else {
+    }
+    let mut value = u64::from(*first - b'0');
+    let mut rest = behind;
+    'digits: while let Some((next, behind)) = rest.split_first() {
+        if !is_digit(*next) {
             break;
-        };
-        if value == 0 || value > Id::MAX_COUNTER {
+        }
+        if value > Id::MAX_COUNTER {
             return None;
         }
-        value = 10 * value + next;
-        len += 1;
+        value = 10 * value + u64::from(*next - b'0');
+        rest = behind;
     }
-    Some((value, &bytes[len..]))
+    Some((value, rest))
 }
 
-/// A number behind the literal, with which the bytes begin, and what stands behind it.
-pub(crate) fn number_after<'a>(bytes: &'a [u8], literal: &[u8]) -> Option<(u64, &'a [u8])>
-    ensures { IfSome result (λ p. bytes.now ≡ literal.now ++ (decimal p.0 ++ p.1.now)) }
+/// A number behind the byte, with which the bytes begin, and what stands behind it.
+#[inline(always)]
+pub(crate) fn number_behind(bytes: &[u8], byte: u8) -> Option<(u64, &[u8])>
+    ensures { IfSome result (λ p. bytes.now ≡ byte ∷ (decimal p.0 ++ p.1.now)) }
 {
-    let Some(rest) = after(bytes, literal) else {
+    let Some(rest) = after_byte(bytes, byte) else {
         return None;
     };
     number(rest)
 }
 
-fn digit(byte: u8) -> Option<u64>
-    ensures { IfSome result (λ d. (d < 10) × (byte ≡ 48 + d)) }
+fn is_digit(byte: u8) -> bool
+    ensures { OnTrue result ((48 ≤ byte) × (byte < 58)) }
 {
-    if byte >= b'0' && byte <= b'9' {
-        Some(u64::from(byte - b'0'))
-    } else {
-        None
-    }
+    byte >= b'0' && byte <= b'9'
 }
 
 /// The identifier of an element that has this counter and this replica.

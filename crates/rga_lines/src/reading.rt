@@ -13,8 +13,7 @@ use crate::fault::LineFault;
 use crate::members::by_members;
 use crate::parts::{element, element_or_root, only_char};
 use crate::run::{MAX_RUN, Run};
-use crate::spelled::{spelled, spelled_deletions};
-use crate::spelled_run::spelled_run;
+use crate::spelled::spelled;
 use rga_ops::{Id, Op};
 use serde_json::Value;
 use std::alloc::Global;
@@ -65,14 +64,8 @@ pub fn read_any(alloc: Global, bytes: &[u8]) -> Result<Line, LineFault>
     if bytes.len() > MAX_LINE {
         return Err(LineFault::Long);
     }
-    if let Some(op) = spelled(bytes) {
-        return Ok(Line::One(op));
-    }
-    if let Some(run) = spelled_run(alloc, bytes)? {
-        return Ok(Line::Run(run));
-    }
-    if let Some(run) = spelled_deletions(bytes) {
-        return Ok(Line::Deletions(run));
+    if let Some(line) = spelled(alloc, bytes)? {
+        return Ok(line);
     }
     if let Some(op) = by_members(bytes) {
         return Ok(Line::One(op));

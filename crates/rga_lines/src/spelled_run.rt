@@ -1,36 +1,38 @@
 //! Runs that are spelled in one way, read with no value of JSON in between.
 ghost use Rattle.std.specs.Prelude.{◌≡◌, codes, Ok, IfOk, IfErr, IfSome};
-ghost use Rattle.rga_lines.specs.Spelling.{run_from, IsElement, IsElementOrRoot, BeginsWithCharacters};
+ghost use Rattle.rga_lines.specs.Spelling.{element_from, run_from, IsElement, IsElementOrRoot, BeginsWithCharacters};
 ghost use Rattle.rga_lines.specs.Table.{any_line_at};
-ghost use Rattle.rga_lines.specs.declared.reading.Line.TheVariants.{Run as RunLine};
 ghost use Rattle.rga_lines.specs.declared.fault.LineFault.TheVariants.{Memory};
 
 use crate::fault::LineFault;
-use crate::parts::{after, character, element, element_or_root};
+use crate::parts::{after_literal, character, element_or_root};
+use crate::reading::Line;
 use crate::run::{MAX_RUN, Run};
 use crate::spelled::pair_after;
 use rga_ops::Id;
 use std::alloc::Global;
 
-/// The run that the bytes of a line say, where they are spelled as `run_line` of
-/// `specs/Spelling.antt` has it. `None` says nothing of the line.
-pub(crate) fn spelled_run(alloc: Global, bytes: &[u8]) -> Result<Option<Run>, LineFault>
-    ensures said { IfOk result (λ o. IfSome o (λ run. any_line_at bytes.now ≡ Ok (RunLine run))) }
+/// The run that the bytes of a line say, by its identifier and what stands behind it, where they
+/// are spelled as `run_line` of `specs/Spelling.antt` has it. `None` says nothing of the line.
+pub(crate) fn spelled_run(alloc: Global, id: Id, rest: &[u8]) -> Result<Option<Line>, LineFault>
+    requires { IsElement id }
+    ensures said { IfOk result (λ o. IfSome o (λ line.
+        any_line_at (element_from id rest.now) ≡ Ok line)) }
     ensures memory { IfErr result (λ e. e ≡ Memory) }
 {
-    let Some((id, parent, rest)) = run_front(bytes) else {
+    let Some((parent, inside)) = run_parent(id, rest) else {
         return Ok(None);
     };
-    run_with(alloc, id, parent, rest)
+    run_with(alloc, id, parent, inside)
 }
 
 /// The run with this identifier and this parent, by what stands behind the quote that opens its
 /// text.
-fn run_with(alloc: Global, id: Id, parent: Id, rest: &[u8]) -> Result<Option<Run>, LineFault>
+fn run_with(alloc: Global, id: Id, parent: Id, rest: &[u8]) -> Result<Option<Line>, LineFault>
     requires id { IsElement id }
     requires parent { IsElementOrRoot parent }
-    ensures said { IfOk result (λ o. IfSome o (λ run.
-        any_line_at (run_from id parent rest.now) ≡ Ok (RunLine run))) }
+    ensures said { IfOk result (λ o. IfSome o (λ line.
+        any_line_at (run_from id parent rest.now) ≡ Ok line)) }
     ensures memory { IfErr result (λ e. e ≡ Memory) }
 {
     let Some(chars) = characters(alloc, rest)? else {
@@ -44,30 +46,25 @@ fn run_with(alloc: Global, id: Id, parent: Id, rest: &[u8]) -> Result<Option<Run
     {
         return Ok(None);
     }
-    Ok(Some(Run { id, parent, chars }))
+    Ok(Some(Line::Run(Run { id, parent, chars })))
 }
 
-/// The identifier and the parent of a run, and what stands behind the quote that opens its text.
-fn run_front(bytes: &[u8]) -> Option<(Id, Id, &[u8])>
-    ensures { IfSome result (λ p. (bytes.now ≡ run_from p.0 p.1 p.2.now)
-        × IsElement p.0 × IsElementOrRoot p.1) }
+/// The parent of the run with this identifier, and what stands behind the quote that opens its
+/// text.
+pub(crate) fn run_parent(id: Id, bytes: &[u8]) -> Option<(Id, &[u8])>
+    ensures { IfSome result (λ p. (element_from id bytes.now ≡ run_from id p.0 p.1.now)
+        × IsElementOrRoot p.0) }
 {
-    let Some((counter, replica, rest)) = pair_after(bytes, b"{\"id\":") else {
-        return None;
-    };
-    let Some(id) = element(counter, replica) else {
-        return None;
-    };
-    let Some((counter, replica, rest)) = pair_after(rest, b",\"op\":\"run\",\"parent\":") else {
+    let Some((counter, replica, rest)) = pair_after(bytes, b",\"op\":\"run\",\"parent\":") else {
         return None;
     };
     let Some(parent) = element_or_root(counter, replica) else {
         return None;
     };
-    let Some(rest) = after(rest, b",\"text\":\"") else {
+    let Some(rest) = after_literal(rest, b",\"text\":\"") else {
         return None;
     };
-    Some((id, parent, rest))
+    Some((parent, rest))
 }
 
 /// The characters up to the quote that closes the text, behind which the object ends. `None` where
@@ -88,7 +85,7 @@ fn characters(alloc: Global, bytes: &[u8]) -> Result<Option<Vec<char>>, LineFaul
         };
         rest = behind;
     }
-    match after(rest, b"\"}") {
+    match after_literal(rest, b"\"}") {
         Some(rest) if rest.is_empty() => Ok(Some(chars)),
         _ => Ok(None),
     }

@@ -1,9 +1,12 @@
 use Rattle.std.proofs.Common.{rules}
-use Rattle.rga_lines.proofs.PartsLemmas.{read_first, read_next}
+use Rattle.rga_lines.proofs.PartsLemmas.{read_zero, read_first, read_next}
 use Rattle.rga_lines.proofs.parts.number.Goals as goal
 
+pub returns-then-first-eq48 : goal.returns-then-first-eq48
+returns-then-first-eq48 c = read_zero c.args.bytes.now c.in-Some.behind.now c.in-Some.first.now (search rules) (search rules)
+
 pub digits-init : goal.digits-init
-digits-init c = read_first c.args.bytes.now c.in-Some.first.now c.in-Some-digit.value c.in-Some.ensures.item.3.0 c.in-Some.ensures.item.1 c.in-Some-digit.ensures.0 c.in-Some-digit.ensures.1
+digits-init c = read_first c.args.bytes.now c.in-Some.behind.now c.in-Some.first.now c.from-value.result (search rules) (search rules) (search rules) (search rules) c.from-value.ensures
 
 pub digits-preserved : goal.digits-preserved
-digits-preserved c = search (rules, read_next c.args.bytes.now c.digits.len c.digits.value c.in-Some-digit-2.next c.digits.invariant)
+digits-preserved c = read_next c.args.bytes.now c.digits.rest.now c.in-Some-split_first.behind.now c.in-Some-split_first.next.now c.digits.value c.from.result c.digits.invariant (search rules) (search rules) (search rules) (search rules) c.from.ensures
