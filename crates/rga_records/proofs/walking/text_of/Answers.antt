@@ -12,11 +12,11 @@ returns-clause-ok c =
     let es : Entries = c.args.entries.now in
     let kept : List (Option ℕ) = c.in_ok-links.links.shown.items in
     let next : List ℕ = c.in_ok-links.links.next.items in
-    let l : AreLinks es c.in_ok-links.links.ids.items kept next = subst (λ fs. AreLinks fs c.in_ok-links.links.ids.items kept next) c.pages.ensures.pages c.in_ok-links.ensures.ok in
+    let l : AreLinks es kept next = subst (λ fs. AreLinks fs kept next) c.pages.ensures.pages c.in_ok-links.ensures.ok in
     let linked : IsLinkChain c.as_slice.result.now (get_or c.as_slice.result.now 0 0) l.linked.chain =
     subst (λ ns. IsLinkChain ns (get_or ns 0 0) l.linked.chain) (sym c.as_slice.ensures.value) l.linked.linked in
     let few : length l.linked.chain ≤ length c.as_slice-2.result.now =
-    subst (λ ks. length l.linked.chain ≤ length ks) (sym c.as_slice-2.ensures.value) (links_few es c.in_ok-links.links.ids.items kept next l) in
+    subst (λ ks. length l.linked.chain ≤ length ks) (sym c.as_slice-2.ensures.value) (links_few es kept next l) in
     IfOk-weaker c.read_along.result _ (λ string. string_bytes string ≡ encode_utf8_all (text (content_of_records es)))
-    (λ string same. same ∙ ap encode_utf8_all (ap (λ ks. chars_along ks l.linked.chain) c.as_slice-2.ensures.value ∙ links_text es c.in_ok-links.links.ids.items kept next c.pages.ensures.ordered l))
+    (λ string same. same ∙ ap encode_utf8_all (ap (λ ks. chars_along ks l.linked.chain) c.as_slice-2.ensures.value ∙ links_text es kept next c.pages.ensures.ordered l))
     (c.read_along.ensures.ok l.linked.chain linked few)
