@@ -56,6 +56,11 @@ node_in_page ps p k head w place first =
     let page : Entries = slice_index_or ps p [] in
     omega (arith, first, ap length (before_is ps p k [] w), length-append (entries_in (take p ps)) (take k page), length-take-le k page (index_within ps p k [] place))
 
+pub length_before : (ps : List Entries) (p i : ℕ) → p < length ps → i ≤ length (slice_index_or ps p []) → length (entries_before ps p i) ≡ length (entries_in (take p ps)) + i
+length_before ps p i w h =
+    let page : Entries = slice_index_or ps p [] in
+    omega (arith, ap length (before_is ps p i [] w), length-append (entries_in (take p ps)) (take i page), length-take-le i page h)
+
 -- an entry more
 pub one_more_before : (ps : List Entries) (p i : ℕ) (d : Entries) (e : Identifier × Record) → p < length ps → i < length (slice_index_or ps p d) → entries_before ps p i ++ slice_index_or (slice_index_or ps p d) i e ∷ [] ≡ entries_before ps p (i + 1)
 one_more_before ps p i d e w h =

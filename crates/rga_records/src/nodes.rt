@@ -1,7 +1,7 @@
 //! Where an identifier is among the records of pages, and the nodes of a linked list of these.
 ghost use Rattle.std.specs.Prelude.{◌≡◌, ◌≤◌, ◌<◌, ◌-◌, [], true, suc, length, vec_len, slice_index, slice_index_or, IfSome};
 ghost use Rattle.std.specs.Map.{keys_of};
-ghost use Rattle.rga_ops.specs.Identifier.{Identifier};
+ghost use Rattle.rga_ops.specs.Identifier.{Identifier, is_root};
 ghost use Rattle.rga_pages.specs.Pages.{entries_in, entries_before, AreOrdered, AreFilledPages, IsSpot};
 ghost use Rattle.rga_records.specs.Links.{AreHeads, IsNodeOf};
 
@@ -43,10 +43,14 @@ pub(crate) fn node_of(
     ensures { let before = entries_before pages.now.items (length heads.now - 1) index in
         IsNodeOf id (keys_of before) result }
 {
-    if id == Id::ROOT {
+    if is_root(id) {
         return Some(0);
     }
-    let spot = spot_of(pages, heads.len() - 1, index, id);
+    let page = heads.len() - 1;
+    if let Some(near) = index_near(pages[page].entries(), index, id) {
+        return Some(count - index + near);
+    }
+    let spot = spot_of(pages, page, index, id);
     if !spot.found {
         return None;
     }
@@ -60,24 +64,39 @@ pub(crate) fn node_of(
     None
 }
 
-/// Where an identifier is, or would come in. It is looked for first in a page before an index.
+/// Whether an identifier is the root.
+#[inline(always)]
+fn is_root(id: Id) -> bool
+    ensures { result ≡ is_root id }
+{
+    if id.counter() == 0 {
+        return id == Id::ROOT;
+    }
+    false
+}
+
+/// Where an identifier is, or would come in. It is looked for first at the end of the page before
+/// one, where an index in that one is small.
 fn spot_of(pages: &Vec<Page>, page: usize, index: usize, id: Id) -> Spot
     requires ordered { AreOrdered (entries_in pages.now.items) }
     requires filled { AreFilledPages pages.now.items }
     requires within { page < vec_len pages.now }
-    requires index { index ≤ length (slice_index_or pages.now.items page []) }
     ensures page { result.page < vec_len pages.now }
     ensures spot { IsSpot pages.now.items result.page result.index result.found id }
 {
-    if let Some(near) = index_near(pages[page].entries(), index, id) {
-        return Spot {
-            page,
-            index: near,
-            found: true,
-        };
+    let before = page.saturating_sub(1);
+    if index < NEAR {
+        let entries = pages[before].entries();
+        if let Some(near) = index_near(entries, entries.len(), id) {
+            return Spot {
+                page: before,
+                index: near,
+                found: true,
+            };
+        }
     }
     let last = Spot {
-        page: page.saturating_sub(1),
+        page: before,
         index: usize::MAX,
         found: false,
     };
@@ -85,9 +104,10 @@ fn spot_of(pages: &Vec<Page>, page: usize, index: usize, id: Id) -> Spot
 }
 
 /// The index of an identifier, if it is one of the last few before an index.
+#[inline(always)]
 fn index_near(entries: &[(Id, Record)], before: usize, id: Id) -> Option<usize>
     requires { before ≤ length entries.now }
-    ensures within { IfSome result (λ i. i < length entries.now) }
+    ensures within { IfSome result (λ i. i < before) }
     ensures there { (e : Identifier × Record) →
         IfSome result (λ i. (slice_index_or entries.now i e).0 ≡ id) }
 {
