@@ -1,6 +1,7 @@
 -- Elements as a linked list, in the order of their text. A node is 0 for the root, and for a record one more than its
 -- index among all, which rise by identifier.
-use Rattle.std.specs.Prelude.{◌≡◌, ◌≤◌, ◌<◌, ◌==◌, ℕ, zero, suc, true, false, not, List, [], ◌∷◌, ◌++◌, map, length, take, slice_index, slice_index_or, slice_set, Option, Some, None, if◌then◌else◌}
+use Rattle.std.specs.Prelude.{◌≡◌, ◌≤◌, ◌<◌, ◌==◌, ℕ, zero, suc, true, false, not, List, [], ◌∷◌, ◌++◌, map, length, take, slice_index, slice_index_or, slice_set, Option, Some, None, SomeIff, if◌then◌else◌}
+use Rattle.std.specs.Char.{IsScalar}
 use Rattle.std.specs.List.{filter_map, list_any}
 use Rattle.std.specs.Map.{keys_of}
 use Rattle.rga_ops.specs.Identifier.{Identifier, is_id, is_root, root}
@@ -16,6 +17,13 @@ use Rattle.rga_records.specs.declared.linking.TheConstants.{WAITS}
 -- the character of an element that is not deleted
 abbrev pub shown_of : Record → Option ℕ
 shown_of v = if v.deleted then None else v.ch
+
+-- each number stands for a character, which may be none: its own, or one that is no character's
+abbrev pub AreCodes : List ℕ → List (Option ℕ) → Type 0
+AreCodes [] [] = Unit {0}
+AreCodes [] (o ∷ os) = ⊥
+AreCodes (x ∷ xs) [] = ⊥
+AreCodes (x ∷ xs) (o ∷ os) = SomeIff o (IsScalar x) x × AreCodes xs os
 
 -- ---- links
 
@@ -58,8 +66,8 @@ pub record AreSoundRecords (es : Entries) : Type 0 where
   pub sound : IsSound (content_of_records es)
 
 -- the elements of the records are kept and linked in their order; a record without one waits, and nothing is shown of it
-pub record AreLinks (es : Entries) (shown : List (Option ℕ)) (next : List ℕ) : Type 0 where
-  pub each_shown : shown ≡ map (λ e. shown_of e.1) es
+pub record AreLinks (es : Entries) (shown next : List ℕ) : Type 0 where
+  pub each_shown : AreCodes shown (map (λ e. shown_of e.1) es)
   pub linked : AreLinked (order (content_of_records es)) (keys_of es) next
 
 -- of some pages from the first one on, the node of the first entry

@@ -1,6 +1,7 @@
 //! Elements linked in the order of their text, in one pass over records by rising identifier. Each
 //! element that comes is newer than all before it: so it stands directly behind its parent.
-ghost use Rattle.std.specs.Prelude.{◌≡◌, ◌∷◌, [], ◌++◌, ◌<◌, ◌+◌, length, vec_len, take, slice_set, IfOk, IfErr, OnOk};
+ghost use Rattle.std.specs.Prelude.{◌≡◌, ◌∷◌, [], ◌++◌, ◌<◌, ◌+◌, length, vec_len, take, slice_set, IfOk, IfErr, OnOk, SomeIff};
+ghost use Rattle.std.specs.Char.{IsScalar};
 ghost use Rattle.std.specs.Map.{keys_of};
 ghost use Rattle.rga_pages.specs.Pages.{entries_in, AreFilledPages, Entries};
 ghost use Rattle.rga_records.specs.Links.{shown_of, with_link, AreHeads, AreLinks, AreSoundRecords, IsNodeOf};
@@ -13,11 +14,14 @@ use std::alloc::Global;
 /// In place of a link, where an element is not in the order: its parent is not there either.
 const WAITS: usize = usize::MAX;
 
+/// In place of a character, where none is shown: the number of none.
+const HIDDEN: u32 = u32::MAX;
+
 /// Records by rising identifier, and the links of their elements.
 #[derive(Drop)]
 pub(crate) struct Links {
-    /// The character of each element; none where it is deleted.
-    pub(crate) shown: Vec<Option<char>>,
+    /// The character of each element; where there is none, or it is deleted, no character's number.
+    pub(crate) shown: Vec<u32>,
     /// The node behind each node in the order; 0 where there is none. Node 0 is the root's.
     pub(crate) next: Vec<usize>,
 }
@@ -83,11 +87,7 @@ fn link_page(
 }
 
 /// The element of one more record comes in behind a node, if it has one.
-fn link_entry(
-    links: &mut Links,
-    above: Option<usize>,
-    entry: &(Id, Record),
-) -> Result<(), Refusal>
+fn link_entry(links: &mut Links, above: Option<usize>, entry: &(Id, Record)) -> Result<(), Refusal>
     ensures ok { (es : Entries) → AreSoundRecords (es ++ entry.now ∷ []) →
         AreLinks es links.old.shown.items links.old.next.items →
         IsNodeOf entry.now.1.parent (keys_of es) above →
@@ -96,22 +96,25 @@ fn link_entry(
 {
     if entry.1.ch.is_none() {
         push_link(&mut links.next, WAITS)?;
-        push_one(&mut links.shown, shown(&entry.1))?;
+        push_one(&mut links.shown, code_of(&entry.1))?;
         return Ok(());
     }
     link(&mut links.next, above)?;
-    push_one(&mut links.shown, shown(&entry.1))?;
+    push_one(&mut links.shown, code_of(&entry.1))?;
     Ok(())
 }
 
-/// The character of an element that is not deleted.
-fn shown(known: &Record) -> Option<char>
-    ensures { result ≡ shown_of known.now }
+/// The character of an element that is not deleted, as a number; else no character's.
+fn code_of(known: &Record) -> u32
+    ensures { SomeIff (shown_of known.now) (IsScalar result) result }
 {
     if known.deleted {
-        return None;
+        return HIDDEN;
     }
-    known.ch
+    match known.ch {
+        Some(ch) => ch as u32,
+        None => HIDDEN,
+    }
 }
 
 /// One more element is linked in directly behind a node, if there is one that does not wait; else

@@ -1,8 +1,8 @@
-use Rattle.std.proofs.Common.{◌≡◌, ◌≤◌, ◌<◌, ◌+◌, ◌-◌, ℕ, [], ◌∷◌, ◌++◌, List, length, take, slice_index_or, sym, ap, ◌∙◌, subst, arith}
+use Rattle.std.proofs.Common.{◌≡◌, ◌≤◌, ◌<◌, ◌+◌, ◌-◌, ℕ, [], ◌∷◌, ◌++◌, List, length, slice_index_or, sym, ap, ◌∙◌, subst, arith}
 use Rattle.std.specs.Map.{keys_of}
 use Rattle.rga_ops.specs.Identifier.{Identifier}
 use Rattle.rga_pages.specs.declared.entry.Record.{Record}
-use Rattle.rga_pages.specs.Pages.{Entries, entries_in, entries_before, entries_behind}
+use Rattle.rga_pages.specs.Pages.{Entries, entries_before, entries_behind}
 use Rattle.rga_pages.proofs.PlaceLaws.{parted}
 use Rattle.rga_records.specs.Links.{AreLinks, AreSoundRecords, IsNodeOf}
 use Rattle.rga_records.proofs.LinkedRecordLaws.{sound_before}
