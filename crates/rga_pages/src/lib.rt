@@ -21,3 +21,5 @@ mod spot;
 pub use entry::Record;
 pub use page::Page;
 pub use pages::Pages;
+pub use search::find;
+pub use spot::Spot;

@@ -4,7 +4,7 @@ ghost use Rattle.std.specs.BTreeMap.{insert_entry};
 ghost use Rattle.std.specs.Map.{remove_entry, set_value};
 ghost use Rattle.std.specs.Ordering.{eq_by_cmp};
 ghost use Rattle.rga_ops.specs.Identifier.{id_cmp};
-ghost use Rattle.rga_pages.specs.Pages.{entries_in, record_of, marked, noted, AreOrdered, Updates};
+ghost use Rattle.rga_pages.specs.Pages.{entries_in, record_of, marked, noted, AreFilledPages, AreOrdered, Updates};
 
 use crate::appending::{append, can_follow, end_of};
 use crate::entry::Record;
@@ -202,6 +202,7 @@ impl Pages {
     pub fn pages(&self) -> &Vec<Page>
         ensures pages { entries_in result.now.items ≡ self.now }
         ensures ordered { AreOrdered self.now }
+        ensures filled { AreFilledPages result.now.items }
     {
         &self.pages
     }

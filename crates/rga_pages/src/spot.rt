@@ -2,9 +2,9 @@
 
 /// Where an identifier is, or where it would come in.
 #[derive(Clone, Copy)]
-pub(crate) struct Spot {
-    pub(crate) page: usize,
-    pub(crate) index: usize,
+pub struct Spot {
+    pub page: usize,
+    pub index: usize,
     /// Whether it is there.
-    pub(crate) found: bool,
+    pub found: bool,
 }

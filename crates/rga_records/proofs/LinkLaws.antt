@@ -196,7 +196,7 @@ module _ (order ids : List Identifier) (next : List ℕ) (l : AreLinked order id
       each (i ∷ js) h = (omega (arith, h.0, l.counted), each js h.1)
 
   -- an element that waits
-  step_waiting : (id : Identifier) (put : List Identifier) → put ≡ order → AreLinked put (ids ++ id ∷ []) (next ++ WAITS ∷ [])
+  pub step_waiting : (id : Identifier) (put : List Identifier) → put ≡ order → AreLinked put (ids ++ id ∷ []) (next ++ WAITS ∷ [])
   step_waiting id put same =
       let links : List ℕ = next ++ WAITS ∷ [] in
       let old : (n : ℕ) → n < length next → get_or links n 0 ≡ get_or next n 0 = λ n w. get_or_append_left next (WAITS ∷ []) 0 n w in

@@ -1,30 +1,29 @@
 -- How the links of records' elements grow record by record, and that what is read along them is the text.
-use Rattle.std.proofs.Common.{◌≡◌, ◌≤◌, ◌<◌, ℕ, true, false, cond, ◌||◌, List, [], ◌∷◌, ◌++◌, map, length, get_or, is_some, refl, sym, ap, ◌∙◌, subst, true≢false, arith}
-use Rattle.std.specs.Prelude.{Option, Some, None}
+use Rattle.std.proofs.Common.{◌≡◌, ◌≤◌, ◌<◌, ℕ, suc, true, false, cond, ◌||◌, List, [], ◌∷◌, ◌++◌, map, length, get_or, is_some, refl, sym, ap, ◌∙◌, subst, true≢false, arith}
+use Rattle.std.specs.Prelude.{Option, Some, None, SomeIff}
+use Rattle.std.specs.Char.{IsScalar}
 use Rattle.std.specs.Option.{option_map}
 use Rattle.std.specs.List.{list_any, filter_map, cons_option, AllByRecursion}
 use Rattle.std.specs.List.Sorted.{IsStrictlySortedBy}
 use Rattle.std.specs.Map.{keys_of, lookup}
 use Rattle.std.proofs.lemmas.Option.{none-some}
-use Rattle.std.proofs.lemmas.List.{append-nil, map-append, length-map, get_or-map}
-use Rattle.std.proofs.lemmas.List.Elements.{filter-append}
+use Rattle.std.proofs.lemmas.List.{map-append, length-map, get_or-map}
 use Rattle.std.proofs.lemmas.Map.Keys.{IsDistinct-from_sorted, IsDistinct-head, IsDistinct-tail}
 use Rattle.rga_ops.specs.Identifier.{Identifier, id_cmp, root}
 use Rattle.rga_ops.specs.Content.{Element, element, Content}
 use Rattle.rga_ops.specs.RootPath.{is_complete}
 use Rattle.rga_ops.specs.Order.{order, text, shown}
 use Rattle.rga_ops.proofs.IdentifierLaws.{is, is_itself, is_swap}
-use Rattle.rga_ops.proofs.MemberLaws.{all_map, all_filter}
+use Rattle.rga_ops.proofs.MemberLaws.{all_map}
 use Rattle.rga_ops.proofs.OrderLaws.{order_distinct, order_list}
 use Rattle.rga_ops.proofs.PathLaws.{inserted_if_complete}
 use Rattle.rga_pages.specs.declared.entry.Record.{Record}
 use Rattle.rga_pages.proofs.EntryLaws.{ordered_front}
 use Rattle.rga_records.specs.Records.{Entries, AreOrdered, element_of_record, content_of_records}
-use Rattle.rga_records.specs.Links.{elements_in, shown_of, chars_along, IsNodeOf, AreLinked, AreLinks, AreSoundRecords, with_link}
+use Rattle.rga_records.specs.Links.{shown_of, chars_along, AreCodes, IsNodeOf, AreLinked, AreLinks, AreSoundRecords, with_link}
 use Rattle.rga_records.proofs.RecordLaws.{AreApart, apart_of, element_of, mark_of, inserted_at, deleted_at}
-use Rattle.rga_records.proofs.SortedRecordLaws.{ids_rise}
 use Rattle.rga_records.proofs.LinkOrderLaws.{sound_front, order_linked, order_unlinked}
-use Rattle.rga_records.proofs.LinkLaws.{step, named_within}
+use Rattle.rga_records.proofs.LinkLaws.{step, step_waiting, named_within}
 use Rattle.rga_records.specs.declared.linking.TheConstants.{WAITS}
 
 -- ---- beginnings
@@ -33,12 +32,6 @@ pub sound_before : (es rest : Entries) → AreSoundRecords (es ++ rest) → AreS
 sound_before es rest s = record { ordered = ordered_front es rest s.ordered; sound = sound_front es rest s.ordered s.sound }
 
 -- ---- a record more
-
-last_element : (es : Entries) (e : Identifier × Record) → is_some e.1.ch ≡ true → elements_in (es ++ e ∷ []) ≡ elements_in es ++ e ∷ []
-last_element es e some = filter-append (λ d. is_some d.1.ch) es (e ∷ []) ∙ ap (λ b. elements_in es ++ cond b (e ∷ []) []) some
-
-no_element : (es : Entries) (e : Identifier × Record) → is_some e.1.ch ≡ false → elements_in (es ++ e ∷ []) ≡ elements_in es
-no_element es e none = filter-append (λ d. is_some d.1.ch) es (e ∷ []) ∙ ap (λ b. elements_in es ++ cond b (e ∷ []) []) none ∙ append-nil (elements_in es)
 
 -- what a record with a character has as its element
 has_element : (v : Record) → is_some v.ch ≡ true → (x : Element) × (element_of_record v ≡ Some x) × (x.parent ≡ v.parent)
@@ -55,48 +48,57 @@ has_none v none = of v.ch none
     of None none = refl
     of (Some ch) none = absurd (true≢false none)
 
-module _ (es : Entries) (ids : List Identifier) (kept : List (Option ℕ)) (next : List ℕ) (l : AreLinks es ids kept next) where
-  pub links_rise : AreOrdered es → IsStrictlySortedBy id_cmp ids
-  links_rise ordered = subst (IsStrictlySortedBy id_cmp) (sym l.each_id) (ids_rise (λ v. is_some v.ch) es ordered)
+-- a number more
+codes_push : (xs : List ℕ) (os : List (Option ℕ)) (x : ℕ) (o : Option ℕ) → AreCodes xs os → SomeIff o (IsScalar x) x → AreCodes (xs ++ x ∷ []) (os ++ o ∷ [])
+codes_push [] [] x o h last = (last, tt)
+codes_push [] (p ∷ os) x o h last = absurd h
+codes_push (y ∷ xs) [] x o h last = absurd h
+codes_push (y ∷ xs) (p ∷ os) x o h last = (h.0, codes_push xs os x o h.1 last)
+
+-- there is a link for each, and one for the root
+pub links_counted : (es : Entries) (shown next : List ℕ) → AreLinks es shown next → length next ≡ suc (length es)
+links_counted es shown next l = omega (arith, l.linked.counted, length-map es (λ e. e.0))
+
+module _ (es : Entries) (codes next : List ℕ) (l : AreLinks es codes next) (e : Identifier × Record) (code : ℕ) (of : SomeIff (shown_of e.1) (IsScalar code) code) (s : AreSoundRecords (es ++ e ∷ [])) where
+  abbrev codes_more : AreCodes (codes ++ code ∷ []) (map (λ d. shown_of d.1) (es ++ e ∷ []))
+  codes_more = subst (AreCodes (codes ++ code ∷ [])) (sym (map-append (λ d. shown_of d.1) es (e ∷ []))) (codes_push codes (map (λ d. shown_of d.1) es) code (shown_of e.1) l.each_shown of)
 
   -- its element is linked in
-  pub links_more : (e : Identifier × Record) (above : Option ℕ) → AreSoundRecords (es ++ e ∷ []) → is_some e.1.ch ≡ true → IsNodeOf e.1.parent ids above → length next < WAITS
-      → AreLinks (es ++ e ∷ []) (ids ++ e.0 ∷ []) (kept ++ shown_of e.1 ∷ []) (with_link above next)
-  links_more e above s some node room =
+  pub links_more : (above : Option ℕ) → is_some e.1.ch ≡ true → IsNodeOf e.1.parent (keys_of es) above → length next < WAITS
+      → AreLinks (es ++ e ∷ []) (codes ++ code ∷ []) (with_link above next)
+  links_more above some node room =
       let before : AreSoundRecords es = sound_before es (e ∷ []) s in
       let c : Content = content_of_records es in
       let has : (x : Element) × (element_of_record e.1 ≡ Some x) × (x.parent ≡ e.1.parent) = has_element e.1 some in
       record {
-        each_id = ap (λ xs. xs ++ e.0 ∷ []) l.each_id ∙ sym (ap keys_of (last_element es e some) ∙ map-append (λ d. d.0) (elements_in es) (e ∷ []));
-        each_shown = ap (λ xs. xs ++ shown_of e.1 ∷ []) l.each_shown ∙ sym (ap (map (λ d. shown_of d.1)) (last_element es e some) ∙ map-append (λ d. shown_of d.1) (elements_in es) (e ∷ []));
-        linked = subst (λ xs. AreLinked xs (ids ++ e.0 ∷ []) (with_link above next)) (sym (order_linked es e has.0 s.ordered s.sound has.1))
-            (step (order c) ids next l.linked has.0.parent e.0 (IsDistinct-from_sorted id_cmp ids (links_rise before.ordered)) (order_distinct c (order c) (order_list c).in_order) room above
-            (subst (λ p. IsNodeOf p ids above) (sym has.2) node));
+        each_shown = codes_more;
+        linked = subst (λ ks. AreLinked (order (content_of_records (es ++ e ∷ []))) ks (with_link above next)) (sym (map-append (λ d. d.0) es (e ∷ [])))
+            (subst (λ xs. AreLinked xs (keys_of es ++ e.0 ∷ []) (with_link above next)) (sym (order_linked es e has.0 s.ordered s.sound has.1))
+            (step (order c) (keys_of es) next l.linked has.0.parent e.0 (IsDistinct-from_sorted id_cmp (keys_of es) before.ordered) (order_distinct c (order c) (order_list c).in_order) room above
+            (subst (λ p. IsNodeOf p (keys_of es) above) (sym has.2) node)));
       }
 
-  -- nothing is, where it has none
-  pub links_same : (e : Identifier × Record) → AreSoundRecords (es ++ e ∷ []) → is_some e.1.ch ≡ false → AreLinks (es ++ e ∷ []) ids kept next
-  links_same e s none = record {
-    each_id = l.each_id ∙ sym (ap keys_of (no_element es e none));
-    each_shown = l.each_shown ∙ sym (ap (map (λ d. shown_of d.1)) (no_element es e none));
-    linked = subst (λ xs. AreLinked xs ids next) (sym (order_unlinked es e s.ordered (has_none e.1 none))) l.linked;
+  -- it waits, where it has none
+  pub links_same : is_some e.1.ch ≡ false → AreLinks (es ++ e ∷ []) (codes ++ code ∷ []) (next ++ WAITS ∷ [])
+  links_same none = record {
+    each_shown = codes_more;
+    linked = subst (λ ks. AreLinked (order (content_of_records (es ++ e ∷ []))) ks (next ++ WAITS ∷ [])) (sym (map-append (λ d. d.0) es (e ∷ [])))
+        (step_waiting (order (content_of_records es)) (keys_of es) next l.linked e.0 (order (content_of_records (es ++ e ∷ []))) (order_unlinked es e s.ordered (has_none e.1 none)));
   }
 
 -- the same under other names
-pub links_as : (es : Entries) (ids ids_now : List Identifier) (kept kept_now : List (Option ℕ)) (next next_now : List ℕ) → ids_now ≡ ids → kept_now ≡ kept → next_now ≡ next → AreLinks es ids kept next → AreLinks es ids_now kept_now next_now
-links_as es ids ids_now kept kept_now next next_now same_ids same_kept same_next l = record {
-  each_id = same_ids ∙ l.each_id;
-  each_shown = same_kept ∙ l.each_shown;
-  linked = subst (λ xs. AreLinked (order (content_of_records es)) xs next_now) (sym same_ids) (subst (AreLinked (order (content_of_records es)) ids) (sym same_next) l.linked);
+pub links_as : (es : Entries) (codes codes_now next next_now : List ℕ) → codes_now ≡ codes → next_now ≡ next → AreLinks es codes next → AreLinks es codes_now next_now
+links_as es codes codes_now next next_now same_codes same_next l = record {
+  each_shown = subst (λ xs. AreCodes xs (map (λ e. shown_of e.1) es)) (sym same_codes) l.each_shown;
+  linked = subst (AreLinked (order (content_of_records es)) (keys_of es)) (sym same_next) l.linked;
 }
 
 -- ---- nothing
 
-pub links_nothing : AreLinks [] [] [] (0 ∷ [])
+pub links_nothing : AreLinks [] [] (0 ∷ [])
 unfolding IsStrictlySortedBy
 links_nothing = record {
-  each_id = refl;
-  each_shown = refl;
+  each_shown = tt;
   linked = record {
     chain = [];
     counted = refl;
@@ -146,32 +148,29 @@ shown_own es ordered = all_map (λ (e : Identifier × Record). lookup (is e.0) e
     back parent None = refl
     back parent (Some ch) = refl
 
-module _ (es : Entries) (ids : List Identifier) (kept : List (Option ℕ)) (next : List ℕ) (ordered : AreOrdered es) (l : AreLinks es ids kept next) where
+-- what is shown of the records
+abbrev pub kept_of : Entries → List (Option ℕ)
+kept_of es = map (λ e. shown_of e.1) es
+
+module _ (es : Entries) (codes next : List ℕ) (ordered : AreOrdered es) (l : AreLinks es codes next) where
   abbrev c : Content
   c = content_of_records es
 
-  each_kept : (fs : Entries) → AllByRecursion (λ e. shown c e.0 ≡ shown_of e.1) fs → map (shown c) (keys_of fs) ≡ map (λ e. shown_of e.1) fs
+  each_kept : (fs : Entries) → AllByRecursion (λ e. shown c e.0 ≡ shown_of e.1) fs → map (shown c) (keys_of fs) ≡ kept_of fs
   each_kept [] h = refl
   each_kept (f ∷ fs) h = λ k. h.0 k ∷ each_kept fs h.1 k
 
-  all_kept : map (shown c) ids ≡ kept
-  all_kept =
-      ap (map (shown c)) l.each_id
-      ∙ each_kept (elements_in es) (all_filter (λ (e : Identifier × Record). shown c e.0 ≡ shown_of e.1) (λ e. is_some e.1.ch) es (shown_own es ordered))
-      ∙ sym l.each_shown
+  kept_at : (i : ℕ) → i < length (keys_of es) → get_or (kept_of es) i None ≡ shown c (get_or (keys_of es) i root)
+  kept_at i w = ap (λ xs. get_or xs i None) (sym (each_kept es (shown_own es ordered))) ∙ get_or-map (shown c) (keys_of es) i root None w
 
-  kept_at : (i : ℕ) → i < length ids → get_or kept i None ≡ shown c (get_or ids i root)
-  kept_at i w = ap (λ xs. get_or xs i None) (sym all_kept) ∙ get_or-map (shown c) ids i root None w
-
-  read_along : (chain : List ℕ) → AllByRecursion (λ i. i < length ids) chain → chars_along kept chain ≡ filter_map (shown c) (map (λ i. get_or ids i root) chain)
+  read_along : (chain : List ℕ) → AllByRecursion (λ i. i < length (keys_of es)) chain → chars_along (kept_of es) chain ≡ filter_map (shown c) (map (λ i. get_or (keys_of es) i root) chain)
   read_along [] h = refl
   read_along (i ∷ js) h = λ k. cons_option (kept_at i h.0 k) (read_along js h.1 k)
 
   -- what is shown along the links
-  pub links_text : chars_along kept l.linked.chain ≡ text c
-  links_text = read_along l.linked.chain (named_within (order c) ids next l.linked) ∙ ap (filter_map (shown c)) l.linked.ordered
+  pub links_text : chars_along (kept_of es) l.linked.chain ≡ text c
+  links_text = read_along l.linked.chain (named_within (order c) (keys_of es) next l.linked) ∙ ap (filter_map (shown c)) l.linked.ordered
 
--- there are no more of them than are kept
-pub links_few : (es : Entries) (ids : List Identifier) (kept : List (Option ℕ)) (next : List ℕ) → (l : AreLinks es ids kept next) → length l.linked.chain ≤ length kept
-links_few es ids kept next l =
-    omega (arith, l.linked.few, ap length l.each_id, length-map (elements_in es) (λ e. e.0), ap length l.each_shown, length-map (elements_in es) (λ e. shown_of e.1))
+  -- there are no more of them than are kept
+  pub links_few : length l.linked.chain ≤ length (kept_of es)
+  links_few = omega (arith, l.linked.few, length-map es (λ e. e.0), length-map es (λ e. shown_of e.1))

@@ -1,9 +1,10 @@
 -- What is left to be read along links.
-use Rattle.std.proofs.Common.{◌≡◌, ◌≤◌, ◌+◌, ◌-◌, ◌++◌, ℕ, List, [], ◌∷◌, length, get_or, refl, sym, ap, ◌∙◌, subst, append_assoc, arith, encode_utf8, encode_utf8_all}
-use Rattle.std.specs.Prelude.{◌≢◌, Option, Some, None}
+use Rattle.std.proofs.Common.{◌≡◌, ◌≤◌, ◌+◌, ◌<◌, ◌-◌, ◌++◌, ℕ, zero, suc, List, [], ◌∷◌, length, get_or, refl, sym, ap, ◌∙◌, subst, append_assoc, arith, encode_utf8, encode_utf8_all}
+use Rattle.std.specs.Prelude.{◌≢◌, Option, Some, None, SomeIff}
+use Rattle.std.specs.Char.{IsScalar}
 use Rattle.std.specs.List.{cons_option}
 use Rattle.std.proofs.lemmas.List.{append-nil}
-use Rattle.rga_records.specs.Links.{IsLinkChain, chars_along}
+use Rattle.rga_records.specs.Links.{AreCodes, IsLinkChain, chars_along}
 
 -- after so many elements of a chain, of which the bytes are read, those from a node on are left
 pub record IsLeft (next : List ℕ) (shown : List (Option ℕ)) (chain : List ℕ) (node count : ℕ) (bytes : List ℕ) : Type 0 where
@@ -11,6 +12,36 @@ pub record IsLeft (next : List ℕ) (shown : List (Option ℕ)) (chain : List �
   pub linked : IsLinkChain next node left
   pub few : length left + count ≤ length shown
   pub read : bytes ++ encode_utf8_all (chars_along shown left) ≡ encode_utf8_all (chars_along shown chain)
+
+-- ---- numbers in place of characters
+
+-- two that the same number stands for are the same
+one_code : (x : ℕ) (o p : Option ℕ) → SomeIff o (IsScalar x) x → SomeIff p (IsScalar x) x → o ≡ p
+one_code x None None h k = refl
+one_code x None (Some d) h k = absurd (h k.0)
+one_code x (Some c) None h k = absurd (k h.0)
+one_code x (Some c) (Some d) h k = ap Some (h.1 ∙ sym k.1)
+
+pub code_at : (codes : List ℕ) (kept : List (Option ℕ)) (i d : ℕ) (o : Option ℕ) → AreCodes codes kept → i < length codes → SomeIff o (IsScalar (get_or codes i d)) (get_or codes i d) → get_or kept i None ≡ o
+code_at [] kept i d o h w is = absurd (omega (arith, w))
+code_at (x ∷ codes) [] i d o h w is = absurd h
+code_at (x ∷ codes) (p ∷ kept) zero d o h w is = one_code x p o h.0 is
+code_at (x ∷ codes) (p ∷ kept) (suc i) d o h w is = code_at codes kept i d o h.1 (omega (arith, w)) is
+
+pub code_past : (codes : List ℕ) (kept : List (Option ℕ)) (i : ℕ) → AreCodes codes kept → length codes ≤ i → get_or kept i None ≡ None
+code_past [] [] i h w = refl
+code_past [] (p ∷ kept) i h w = absurd h
+code_past (x ∷ codes) [] i h w = absurd h
+code_past (x ∷ codes) (p ∷ kept) zero h w = absurd (omega (arith, w))
+code_past (x ∷ codes) (p ∷ kept) (suc i) h w = code_past codes kept i h.1 (omega (arith, w))
+
+pub codes_length : (codes : List ℕ) (kept : List (Option ℕ)) → AreCodes codes kept → length kept ≡ length codes
+codes_length [] [] h = refl
+codes_length [] (p ∷ kept) h = absurd h
+codes_length (x ∷ codes) [] h = absurd h
+codes_length (x ∷ codes) (p ∷ kept) h = ap suc (codes_length codes kept h.1)
+
+-- ---- chains
 
 module _ (next : List ℕ) (shown : List (Option ℕ)) (chain : List ℕ) where
   -- nothing is left at the root
@@ -20,6 +51,14 @@ module _ (next : List ℕ) (shown : List (Option ℕ)) (chain : List ℕ) where
       none : (left : List ℕ) → IsLinkChain next node left → [] ≡ left
       none [] h = refl
       none (i ∷ js) h = absurd (omega (arith, h.0, root))
+
+  -- nothing is left when as many as are shown are read
+  pub read_end : (node count : ℕ) (bytes : List ℕ) → IsLeft next shown chain node count bytes → length shown ≤ count → bytes ≡ encode_utf8_all (chars_along shown chain)
+  read_end node count bytes l all = read_all node count bytes l (root l.left l.linked l.few)
+    where
+      root : (left : List ℕ) → IsLinkChain next node left → length left + count ≤ length shown → node ≡ 0
+      root [] h few = h
+      root (i ∷ js) h few = absurd (omega (arith, few, all))
 
   first_apart : (i : ℕ) (left : List ℕ) → encode_utf8_all (chars_along shown (i ∷ left)) ≡ encode_utf8_all (chars_along shown (i ∷ [])) ++ encode_utf8_all (chars_along shown left)
   first_apart i left = of (get_or shown i None)

@@ -1,24 +1,29 @@
--- Elements as a linked list, in the order of their text. A node is 0 for the root, and for an element one more than its
--- index among the identifiers, which rise.
-use Rattle.std.specs.Prelude.{◌≡◌, ◌≤◌, ◌<◌, ◌==◌, ℕ, zero, suc, true, false, not, List, [], ◌∷◌, ◌++◌, map, filter, length, is_some, slice_index, slice_index_or, slice_set, Option, Some, None, if◌then◌else◌}
+-- Elements as a linked list, in the order of their text. A node is 0 for the root, and for a record one more than its
+-- index among all, which rise by identifier.
+use Rattle.std.specs.Prelude.{◌≡◌, ◌≤◌, ◌<◌, ◌==◌, ℕ, zero, suc, true, false, not, List, [], ◌∷◌, ◌++◌, map, length, take, slice_index, slice_index_or, slice_set, Option, Some, None, SomeIff, if◌then◌else◌}
+use Rattle.std.specs.Char.{IsScalar}
 use Rattle.std.specs.List.{filter_map, list_any}
 use Rattle.std.specs.Map.{keys_of}
 use Rattle.rga_ops.specs.Identifier.{Identifier, is_id, is_root, root}
 use Rattle.rga_ops.specs.Content.{IsSound}
 use Rattle.rga_ops.specs.Order.{order}
 use Rattle.rga_pages.specs.declared.entry.Record.{Record}
+use Rattle.rga_pages.specs.Pages.{entries_in}
 use Rattle.rga_records.specs.Records.{Entries, AreOrdered, content_of_records}
 use Rattle.rga_records.specs.declared.linking.TheConstants.{WAITS}
 
 -- ---- elements
 
--- the records that have elements
-abbrev pub elements_in : Entries → Entries
-elements_in es = filter (λ e. is_some e.1.ch) es
-
 -- the character of an element that is not deleted
 abbrev pub shown_of : Record → Option ℕ
 shown_of v = if v.deleted then None else v.ch
+
+-- each number stands for a character, which may be none: its own, or one that is no character's
+abbrev pub AreCodes : List ℕ → List (Option ℕ) → Type 0
+AreCodes [] [] = Unit {0}
+AreCodes [] (o ∷ os) = ⊥
+AreCodes (x ∷ xs) [] = ⊥
+AreCodes (x ∷ xs) (o ∷ os) = SomeIff o (IsScalar x) x × AreCodes xs os
 
 -- ---- links
 
@@ -60,8 +65,11 @@ pub record AreSoundRecords (es : Entries) : Type 0 where
   pub ordered : AreOrdered es
   pub sound : IsSound (content_of_records es)
 
--- the elements of the records are kept and linked in their order
-pub record AreLinks (es : Entries) (ids : List Identifier) (shown : List (Option ℕ)) (next : List ℕ) : Type 0 where
-  pub each_id : ids ≡ keys_of (elements_in es)
-  pub each_shown : shown ≡ map (λ e. shown_of e.1) (elements_in es)
-  pub linked : AreLinked (order (content_of_records es)) ids next
+-- the elements of the records are kept and linked in their order; a record without one waits, and nothing is shown of it
+pub record AreLinks (es : Entries) (shown next : List ℕ) : Type 0 where
+  pub each_shown : AreCodes shown (map (λ e. shown_of e.1) es)
+  pub linked : AreLinked (order (content_of_records es)) (keys_of es) next
+
+-- of some pages from the first one on, the node of the first entry
+abbrev pub AreHeads : List Entries → List ℕ → Type 0
+AreHeads pages heads = (p : ℕ) → p < length heads → slice_index heads p ≡ suc (length (entries_in (take p pages)))

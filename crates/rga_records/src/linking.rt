@@ -1,8 +1,10 @@
 //! Elements linked in the order of their text, in one pass over records by rising identifier. Each
 //! element that comes is newer than all before it: so it stands directly behind its parent.
-ghost use Rattle.std.specs.Prelude.{◌≡◌, ◌∷◌, [], ◌++◌, ◌<◌, length, slice_set, IfOk, IfErr, OnOk};
-ghost use Rattle.rga_pages.specs.Pages.{entries_in, Entries};
-ghost use Rattle.rga_records.specs.Links.{shown_of, with_link, AreLinks, AreSoundRecords};
+ghost use Rattle.std.specs.Prelude.{◌≡◌, ◌∷◌, [], ◌++◌, ◌<◌, ◌+◌, length, vec_len, take, slice_set, IfOk, IfErr, OnOk, SomeIff};
+ghost use Rattle.std.specs.Char.{IsScalar};
+ghost use Rattle.std.specs.Map.{keys_of};
+ghost use Rattle.rga_pages.specs.Pages.{entries_in, AreFilledPages, Entries};
+ghost use Rattle.rga_records.specs.Links.{shown_of, with_link, AreHeads, AreLinks, AreSoundRecords, IsNodeOf};
 
 use crate::nodes::{link_at, node_of};
 use rga_ops::{Id, Refusal};
@@ -12,12 +14,14 @@ use std::alloc::Global;
 /// In place of a link, where an element is not in the order: its parent is not there either.
 const WAITS: usize = usize::MAX;
 
-/// Elements by rising identifier, and their links.
+/// In place of a character, where none is shown: the number of none.
+const HIDDEN: u32 = u32::MAX;
+
+/// Records by rising identifier, and the links of their elements.
 #[derive(Drop)]
 pub(crate) struct Links {
-    pub(crate) ids: Vec<Id>,
-    /// The character of each element; none where it is deleted.
-    pub(crate) shown: Vec<Option<char>>,
+    /// The character of each element; where there is none, or it is deleted, no character's number.
+    pub(crate) shown: Vec<u32>,
     /// The node behind each node in the order; 0 where there is none. Node 0 is the root's.
     pub(crate) next: Vec<usize>,
 }
@@ -25,13 +29,12 @@ pub(crate) struct Links {
 impl Links {
     /// The links of no elements, in room for so many. `Memory` alone.
     fn new(alloc: Global, room: usize) -> Result<Links, Refusal>
-        ensures ok { IfOk result (λ l. AreLinks [] l.ids.items l.shown.items l.next.items) }
+        ensures ok { IfOk result (λ l. AreLinks [] l.shown.items l.next.items) }
         ensures memory { IfErr result (λ e. e ≡ Refusal.Memory) }
     {
         let mut next = Vec::with_capacity(alloc, room.saturating_add(1))?;
         next.push(0usize)?;
         Ok(Links {
-            ids: Vec::with_capacity(alloc, room)?,
             shown: Vec::with_capacity(alloc, room)?,
             next,
         })
@@ -40,58 +43,78 @@ impl Links {
 
 /// The links of the elements in pages, which are about so many. `Memory` alone.
 pub(crate) fn links_of(alloc: Global, pages: &Vec<Page>, room: usize) -> Result<Links, Refusal>
-    requires { AreSoundRecords (entries_in pages.now.items) }
+    requires sound { AreSoundRecords (entries_in pages.now.items) }
+    requires filled { AreFilledPages pages.now.items }
     ensures ok { IfOk result (λ l.
-        AreLinks (entries_in pages.now.items) l.ids.items l.shown.items l.next.items) }
+        AreLinks (entries_in pages.now.items) l.shown.items l.next.items) }
     ensures memory { IfErr result (λ e. e ≡ Refusal.Memory) }
 {
     let mut links = Links::new(alloc, room)?;
-    for page in pages {
-        link_entries(&mut links, page.entries())?;
+    let mut heads = Vec::with_capacity(alloc, pages.as_slice().len())?;
+    for page in 0..pages.as_slice().len() {
+        heads.push(links.next.as_slice().len())?;
+        link_page(&mut links, pages, heads.as_slice(), page)?;
     }
     Ok(links)
 }
 
-/// The elements of more records come in.
-fn link_entries(links: &mut Links, entries: &[(Id, Record)]) -> Result<(), Refusal>
-    ensures ok { (es : Entries) → AreSoundRecords (es ++ entries.now) →
-        AreLinks es links.old.ids.items links.old.shown.items links.old.next.items →
-        OnOk result (AreLinks (es ++ entries.now)
-        links.new.ids.items links.new.shown.items links.new.next.items) }
+/// The elements of one more page come in. The first node of each page up to that one is told.
+fn link_page(
+    links: &mut Links,
+    pages: &Vec<Page>,
+    heads: &[usize],
+    page: usize,
+) -> Result<(), Refusal>
+    requires sound { AreSoundRecords (entries_in pages.now.items) }
+    requires filled { AreFilledPages pages.now.items }
+    requires within { page < vec_len pages.now }
+    requires counted { length heads.now ≡ page + 1 }
+    requires heads { AreHeads pages.now.items heads.now }
+    requires links { AreLinks (entries_in (take page pages.now.items))
+        links.old.shown.items links.old.next.items }
+    ensures ok { OnOk result (AreLinks (entries_in (take (page + 1) pages.now.items))
+        links.new.shown.items links.new.next.items) }
     ensures memory { IfErr result (λ e. e ≡ Refusal.Memory) }
 {
-    for entry in entries {
-        link_entry(links, entry)?;
+    let entries = pages[page].entries();
+    for index in 0..entries.len() {
+        let entry = &entries[index];
+        let count = links.next.as_slice().len();
+        let above = node_of(pages, heads, index, count, entry.1.parent);
+        link_entry(links, above, entry)?;
     }
     Ok(())
 }
 
-/// The element of one more record comes in, if it has one.
-fn link_entry(links: &mut Links, entry: &(Id, Record)) -> Result<(), Refusal>
+/// The element of one more record comes in behind a node, if it has one.
+fn link_entry(links: &mut Links, above: Option<usize>, entry: &(Id, Record)) -> Result<(), Refusal>
     ensures ok { (es : Entries) → AreSoundRecords (es ++ entry.now ∷ []) →
-        AreLinks es links.old.ids.items links.old.shown.items links.old.next.items →
-        OnOk result (AreLinks (es ++ entry.now ∷ [])
-        links.new.ids.items links.new.shown.items links.new.next.items) }
+        AreLinks es links.old.shown.items links.old.next.items →
+        IsNodeOf entry.now.1.parent (keys_of es) above →
+        OnOk result (AreLinks (es ++ entry.now ∷ []) links.new.shown.items links.new.next.items) }
     ensures memory { IfErr result (λ e. e ≡ Refusal.Memory) }
 {
     if entry.1.ch.is_none() {
+        push_link(&mut links.next, WAITS)?;
+        push_one(&mut links.shown, code_of(&entry.1))?;
         return Ok(());
     }
-    let above = node_of(links.ids.as_slice(), entry.1.parent);
     link(&mut links.next, above)?;
-    push_one(&mut links.ids, entry.0)?;
-    push_one(&mut links.shown, shown(&entry.1))?;
+    push_one(&mut links.shown, code_of(&entry.1))?;
     Ok(())
 }
 
-/// The character of an element that is not deleted.
-fn shown(known: &Record) -> Option<char>
-    ensures { result ≡ shown_of known.now }
+/// The character of an element that is not deleted, as a number; else no character's.
+fn code_of(known: &Record) -> u32
+    ensures { SomeIff (shown_of known.now) (IsScalar result) result }
 {
     if known.deleted {
-        return None;
+        return HIDDEN;
     }
-    known.ch
+    match known.ch {
+        Some(ch) => ch as u32,
+        None => HIDDEN,
+    }
 }
 
 /// One more element is linked in directly behind a node, if there is one that does not wait; else

@@ -1,8 +1,8 @@
 //! The text of records, read off the links of their elements.
-ghost use Rattle.std.specs.Prelude.{◌≡◌, ◌≤◌, ◌∷◌, [], ◌++◌, ℕ, List, length, slice_index, IfOk, IfErr, OnOk, string_bytes, encode_utf8_all};
+ghost use Rattle.std.specs.Prelude.{◌≡◌, ◌≤◌, ◌∷◌, [], ◌++◌, ℕ, List, length, slice_index, Option, IfOk, IfErr, OnOk, string_bytes, encode_utf8_all};
 ghost use Rattle.rga_ops.specs.Prelude.{text, IsSound};
 ghost use Rattle.rga_records.specs.Records.{content_of_records};
-ghost use Rattle.rga_records.specs.Links.{IsLinkChain, chars_along};
+ghost use Rattle.rga_records.specs.Links.{AreCodes, IsLinkChain, chars_along};
 
 use crate::linking::links_of;
 use crate::nodes::link_at;
@@ -22,11 +22,11 @@ pub(crate) fn text_of(alloc: Global, entries: &Pages, inserted: usize) -> Result
 }
 
 /// The characters that are shown of the elements along the links from the root, in UTF-8.
-fn read_along(alloc: Global, next: &[usize], shown: &[Option<char>]) -> Result<String, Refusal>
-    ensures ok { (chain : List ℕ) → IsLinkChain next.now (slice_index next.now 0) chain →
-        length chain ≤ length shown.now →
+fn read_along(alloc: Global, next: &[usize], shown: &[u32]) -> Result<String, Refusal>
+    ensures ok { (chain : List ℕ) → (kept : List (Option ℕ)) → AreCodes shown.now kept →
+        IsLinkChain next.now (slice_index next.now 0) chain → length chain ≤ length kept →
         IfOk result (λ string.
-        string_bytes string ≡ encode_utf8_all (chars_along shown.now chain)) }
+        string_bytes string ≡ encode_utf8_all (chars_along kept chain)) }
     ensures memory { IfErr result (λ e. e ≡ Refusal.Memory) }
 {
     let mut string = String::with_capacity(alloc, shown.len())?;
@@ -42,16 +42,16 @@ fn read_along(alloc: Global, next: &[usize], shown: &[Option<char>]) -> Result<S
 }
 
 /// The character that is shown of an element, if there is one, comes behind others.
-fn push_shown(string: &mut String, shown: &[Option<char>], index: usize) -> Result<(), Refusal>
-    ensures ok { OnOk result
+fn push_shown(string: &mut String, shown: &[u32], index: usize) -> Result<(), Refusal>
+    ensures ok { (kept : List (Option ℕ)) → AreCodes shown.now kept → OnOk result
         (string_bytes string.new ≡ string_bytes string.old
-        ++ encode_utf8_all (chars_along shown.now (index ∷ []))) }
+        ++ encode_utf8_all (chars_along kept (index ∷ []))) }
     ensures memory { IfErr result (λ e. e ≡ Refusal.Memory) }
 {
     if index >= shown.len() {
         return Ok(());
     }
-    if let Some(ch) = shown[index] {
+    if let Some(ch) = char::from_u32(shown[index]) {
         string.push(ch)?;
     }
     Ok(())

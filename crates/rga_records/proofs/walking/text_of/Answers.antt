@@ -1,22 +1,21 @@
-use Rattle.std.proofs.Common.{◌≡◌, ◌≤◌, ℕ, List, length, get_or, sym, ap, ◌∙◌, subst}
-use Rattle.std.specs.Prelude.{Option, string_bytes, encode_utf8_all}
+use Rattle.std.proofs.Common.{◌≡◌, ℕ, List, get_or, sym, ap, ◌∙◌, subst}
+use Rattle.std.specs.Prelude.{string_bytes, encode_utf8_all}
 use Rattle.std.proofs.lemmas.Result.{IfOk-weaker}
 use Rattle.rga_ops.specs.Order.{text}
 use Rattle.rga_records.specs.Records.{Entries, content_of_records}
-use Rattle.rga_records.specs.Links.{AreLinks, IsLinkChain, chars_along}
-use Rattle.rga_records.proofs.LinkedRecordLaws.{links_few, links_text}
+use Rattle.rga_records.specs.Links.{AreCodes, AreLinks, IsLinkChain}
+use Rattle.rga_records.proofs.LinkedRecordLaws.{kept_of, links_few, links_text}
 use Rattle.rga_records.proofs.walking.text_of.Goals as goal
 
 pub returns-clause-ok : goal.returns-clause-ok
 returns-clause-ok c =
     let es : Entries = c.args.entries.now in
-    let kept : List (Option ℕ) = c.in_ok-links.links.shown.items in
+    let codes : List ℕ = c.in_ok-links.links.shown.items in
     let next : List ℕ = c.in_ok-links.links.next.items in
-    let l : AreLinks es c.in_ok-links.links.ids.items kept next = subst (λ fs. AreLinks fs c.in_ok-links.links.ids.items kept next) c.pages.ensures.pages c.in_ok-links.ensures.ok in
+    let l : AreLinks es codes next = subst (λ fs. AreLinks fs codes next) c.pages.ensures.pages c.in_ok-links.ensures.ok in
     let linked : IsLinkChain c.as_slice.result.now (get_or c.as_slice.result.now 0 0) l.linked.chain =
     subst (λ ns. IsLinkChain ns (get_or ns 0 0) l.linked.chain) (sym c.as_slice.ensures.value) l.linked.linked in
-    let few : length l.linked.chain ≤ length c.as_slice-2.result.now =
-    subst (λ ks. length l.linked.chain ≤ length ks) (sym c.as_slice-2.ensures.value) (links_few es c.in_ok-links.links.ids.items kept next l) in
+    let are : AreCodes c.as_slice-2.result.now (kept_of es) = subst (λ xs. AreCodes xs (kept_of es)) (sym c.as_slice-2.ensures.value) l.each_shown in
     IfOk-weaker c.read_along.result _ (λ string. string_bytes string ≡ encode_utf8_all (text (content_of_records es)))
-    (λ string same. same ∙ ap encode_utf8_all (ap (λ ks. chars_along ks l.linked.chain) c.as_slice-2.ensures.value ∙ links_text es c.in_ok-links.links.ids.items kept next c.pages.ensures.ordered l))
-    (c.read_along.ensures.ok l.linked.chain linked few)
+    (λ string same. same ∙ ap encode_utf8_all (links_text es codes next c.pages.ensures.ordered l))
+    (c.read_along.ensures.ok l.linked.chain (kept_of es) are linked (links_few es codes next c.pages.ensures.ordered l))

@@ -4,7 +4,7 @@ use Rattle.rga_records.proofs.linking.Links.new.Goals as goal
 
 pub returns-clause-ok : goal.returns-clause-ok
 returns-clause-ok c =
-    links_as [] [] c.in_ok-with_capacity.field-0.items [] c.in_ok-with_capacity-2.field-0.items (0 ∷ []) c.push.new.self.items
-    c.in_ok-with_capacity.ensures.items c.in_ok-with_capacity-2.ensures.items
+    links_as [] [] c.in_ok-with_capacity.field-0.items (0 ∷ []) c.push.new.self.items
+    c.in_ok-with_capacity.ensures.items
     (c.in_ok-push.ensures.items ∙ ap (λ xs. xs ++ 0 ∷ []) c.in_ok-next.ensures.items)
     links_nothing
