@@ -1,5 +1,5 @@
 //! Records by identifier.
-ghost use Rattle.std.specs.Prelude.{◌≡◌, ◌++◌, [], is_some, true, None, Some, IfErr, OnOk, OnErr};
+ghost use Rattle.std.specs.Prelude.{◌≡◌, ◌++◌, [], is_some, false, true, None, Some, Ok, IfErr, OnOk, OnErr};
 ghost use Rattle.std.specs.BTreeMap.{insert_entry};
 ghost use Rattle.std.specs.Map.{remove_entry, set_value};
 ghost use Rattle.std.specs.Ordering.{eq_by_cmp};
@@ -9,7 +9,7 @@ ghost use Rattle.rga_pages.specs.Pages.{entries_in, record_of, marked, noted, Ar
 use crate::appending::{append, can_follow, end_of};
 use crate::entry::Record;
 use crate::page::Page;
-use crate::putting::{insert, overwrite, write};
+use crate::putting::{has_room, insert, insert_in_full, overwrite, write};
 use crate::removing::remove_at;
 use crate::search::{end_for, find, record_at};
 use crate::spot::Spot;
@@ -99,6 +99,36 @@ impl Pages {
         let spot = insert(self.alloc, &mut self.pages, self.last, id, value)?;
         self.last = spot;
         Ok(())
+    }
+
+    /// An identifier that has no record gets one, if others have some. Says whether it got it.
+    /// `Memory` alone, which changes nothing, and only where it had none.
+    #[inline(always)]
+    pub fn insert_absent(&mut self, id: Id, value: Record) -> Result<bool, Refusal>
+        ensures updates { result ≡ Ok true → Updates self.old self.new id (Some value) }
+        ensures absent { result ≡ Ok true → record_of id self.old ≡ None }
+        ensures refused { OnErr result (record_of id self.old ≡ None) }
+        ensures same { result ≡ Ok false → self.new ≡ self.old }
+        ensures err { OnErr result (self.new ≡ self.old) }
+        ensures ordered { AreOrdered self.new }
+        ensures was_ordered { AreOrdered self.old }
+        ensures memory { IfErr result (λ e. e ≡ Refusal.Memory) }
+    {
+        if self.pages.as_slice().len() == 0 {
+            return Ok(false);
+        }
+        let spot = find(&self.pages, self.last, id);
+        self.last = spot;
+        if spot.found {
+            return Ok(false);
+        }
+        if has_room(&self.pages, spot) {
+            write(&mut self.pages, spot, id, value)?;
+            return Ok(true);
+        }
+        let put = insert_in_full(self.alloc, &mut self.pages, spot, id, value)?;
+        self.last = put;
+        Ok(true)
     }
 
     /// Entries come in behind all others, some few: what the last page has no room for begins one

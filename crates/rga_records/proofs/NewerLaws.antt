@@ -56,17 +56,20 @@ rises a b h = grind (arith, nat_tests)
 proper : (id : Identifier) (n : ℕ) → n < id.counter → is_root id ≡ false
 proper id n h = ap (λ b. b && (id.replica == 0)) (ne_eqb id.counter 0 (λ z. omega (arith, z, h)))
 
--- where there is room, it is new
-pub newer_is_new : (limit : ℕ) (c : Content) (id parent : Identifier) (ch : ℕ) → clock_of c < id.counter → parent.counter < id.counter → known_count c < limit → answer limit c (Insert id parent ch) ≡ Ok New
-newer_is_new limit c id parent ch newer rise room =
+-- where there is room, what is not inserted is new
+pub absent_is_new : (limit : ℕ) (c : Content) (id parent : Identifier) (ch : ℕ) → finite_map.get c.inserted id ≡ None → parent.counter < id.counter → known_count c < limit → answer limit c (Insert id parent ch) ≡ Ok New
+absent_is_new limit c id parent ch absent rise room =
     (new-iff limit c (Insert id parent ch)).1 (record {
       well_formed =
-          ap (λ b. cond b (bad BadId) (cond (nat_le id.counter parent.counter) (bad BadOrder) passed)) (proper id (clock_of c) newer)
+          ap (λ b. cond b (bad BadId) (cond (nat_le id.counter parent.counter) (bad BadOrder) passed)) (proper id parent.counter rise)
           ∙ ap (λ b. cond b (bad BadOrder) passed) (rises id.counter parent.counter rise);
-      not_held = λ h. none-some _ (sym (newer_absent c id newer) ∙ h);
-      no_other = λ (x, h, other). none-some _ (sym (newer_absent c id newer) ∙ h);
+      not_held = λ h. none-some _ (sym absent ∙ h);
+      no_other = λ (x, h, other). none-some _ (sym absent ∙ h);
       room = inr (λ e. omega (arith, e, room));
     })
+
+pub newer_is_new : (limit : ℕ) (c : Content) (id parent : Identifier) (ch : ℕ) → clock_of c < id.counter → parent.counter < id.counter → known_count c < limit → answer limit c (Insert id parent ch) ≡ Ok New
+newer_is_new limit c id parent ch newer rise room = absent_is_new limit c id parent ch (newer_absent c id newer) rise room
 
 -- and then it is the clock
 newer_clock : (c : Content) (id parent : Identifier) (ch : ℕ) → clock_of c < id.counter → parent.counter < id.counter → id.counter ≤ clock_of (join c (single (Insert id parent ch)))

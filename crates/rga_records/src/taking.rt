@@ -31,6 +31,9 @@ pub(crate) fn take_op(records: &mut Records, op: &Op) -> Result<Taken, Refusal>
             records.insert_newer(*id, *parent, *ch)?;
             return Ok(Taken::New);
         }
+        if records.has_room_for(*id, *parent) && records.insert_absent(*id, *parent, *ch)? {
+            return Ok(Taken::New);
+        }
     }
     take_found(records, op)
 }
