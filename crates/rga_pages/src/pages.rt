@@ -4,7 +4,7 @@ ghost use Rattle.std.specs.BTreeMap.{insert_entry};
 ghost use Rattle.std.specs.Map.{remove_entry, set_value};
 ghost use Rattle.std.specs.Ordering.{eq_by_cmp};
 ghost use Rattle.rga_ops.specs.Identifier.{id_cmp};
-ghost use Rattle.rga_pages.specs.Pages.{entries_in, record_of, marked, noted, AreOrdered, Updates};
+ghost use Rattle.rga_pages.specs.Pages.{entries_in, record_of, marked, noted, AreOrdered, IsUnmarked, Updates};
 
 use crate::appending::{append, can_follow, end_of};
 use crate::entry::Record;
@@ -210,6 +210,39 @@ impl Pages {
                 Some(record)
             }
             None => None,
+        }
+    }
+
+    /// The record of an identifier gets a mark, if there is one with an element and without a mark. Says
+    /// whether it got it. Takes no memory.
+    pub fn mark_inserted(&mut self, id: Id) -> bool
+        ensures found { result ≡ true → IsUnmarked (record_of id self.old) }
+        ensures updates { result ≡ true →
+            Updates self.old self.new id (marked (record_of id self.old)) }
+        ensures kept { result ≡ false → self.new ≡ self.old }
+        ensures ordered { AreOrdered self.new }
+        ensures was_ordered { AreOrdered self.old }
+    {
+        if self.pages.as_slice().len() == 0 {
+            return false;
+        }
+        let spot = find(&self.pages, self.last, id);
+        self.last = spot;
+        if !spot.found {
+            return false;
+        }
+        match record_at(&self.pages, spot, id) {
+            Some(record) => {
+                if record.deleted {
+                    return false;
+                }
+                if record.ch.is_none() {
+                    return false;
+                }
+                overwrite(&mut self.pages, spot, id, record.marked());
+                true
+            }
+            None => false,
         }
     }
 

@@ -165,6 +165,22 @@ pub(crate) fn mark(entries: &mut Pages, id: Id) -> Result<bool, Refusal>
     }
 }
 
+/// An identifier gets its mark, if it is inserted and not deleted. Says whether it got it.
+#[inline(always)]
+pub(crate) fn mark_inserted(entries: &mut Pages, id: Id) -> bool
+    ensures inserted { let content = content_of_records entries.old in
+        result ≡ true → finite_map.contains_key content.inserted id ≡ true }
+    ensures unmarked { let content = content_of_records entries.old in
+        result ≡ true → finite_set.contains content.deleted id ≡ false }
+    ensures content { result ≡ true → content_of_records entries.new
+        ≡ join (content_of_records entries.old) (single (Delete id)) }
+    ensures kept { result ≡ false →
+        content_of_records entries.new ≡ content_of_records entries.old }
+    ensures ordered { AreOrdered entries.new }
+{
+    entries.mark_inserted(id)
+}
+
 /// Where the element of a record that has one may stand.
 fn near_if_inserted(known: Record) -> Option<Near>
     ensures { is_some result ≡ is_some (element_of_record known) }

@@ -17,8 +17,8 @@ ghost use Rattle.rga_records.specs.Chains.{grown, AreNewer};
 use crate::chains::{append_chain, latest};
 use crate::counts::{count_unless, raise, uncount_unless};
 use crate::entries::{
-    add_element, clear_element, clear_mark, find_element, is_known, is_marked, mark, near_of,
-    set_element, set_near,
+    add_element, clear_element, clear_mark, find_element, is_known, is_marked, mark, mark_inserted,
+    near_of, set_element, set_near,
 };
 use crate::list_answer::answer_to_list;
 use crate::merging::{count_unknown, least_conflict};
@@ -375,6 +375,25 @@ impl Records {
         count_unless(inserted, &mut self.known);
         raise(&mut self.clock, id.counter());
         Ok(())
+    }
+
+    /// Takes a deletion, if its identifier is inserted and not deleted. Says whether it took it. Takes
+    /// no memory.
+    #[inline(never)]
+    pub(crate) fn delete_inserted(&mut self, id: Id) -> bool
+        requires { 0 < id.counter }
+        ensures answered { result ≡ true →
+            answer self.old.limit self.old.content (Op.Delete id) ≡ Ok New }
+        ensures new { result ≡ true →
+            self.new.content ≡ join self.old.content (single (Op.Delete id)) }
+        ensures kept { result ≡ false → self.new.content ≡ self.old.content }
+        ensures limit { self.new.limit ≡ self.old.limit }
+    {
+        if !mark_inserted(&mut self.entries, id) {
+            return false;
+        }
+        raise(&mut self.clock, id.counter());
+        true
     }
 
     /// Removes an operation, to the clock from before it. Takes no memory.

@@ -35,6 +35,11 @@ pub(crate) fn take_op(records: &mut Records, op: &Op) -> Result<Taken, Refusal>
             return Ok(Taken::New);
         }
     }
+    if let Op::Delete { id } = op {
+        if id.counter() > 0 && records.delete_inserted(*id) {
+            return Ok(Taken::New);
+        }
+    }
     take_found(records, op)
 }
 
