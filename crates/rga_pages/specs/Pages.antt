@@ -1,5 +1,5 @@
 -- Entries in pages, and the places in these.
-use Rattle.std.specs.Prelude.{◌≡◌, ◌≤◌, ◌<◌, ℕ, Bool, true, false, cond, zero, suc, List, [], ◌∷◌, ◌++◌, length, take, drop, slice_index_or, Option, Some, None}
+use Rattle.std.specs.Prelude.{◌≡◌, ◌≤◌, ◌<◌, ℕ, Bool, true, false, cond, is_some, zero, suc, List, [], ◌∷◌, ◌++◌, length, take, drop, slice_index_or, Option, Some, None}
 use Rattle.std.specs.Ordering.{is_gt, is_lt, eq_by_cmp}
 use Rattle.std.specs.List.{AllByRecursion}
 use Rattle.std.specs.List.Sorted.{IsStrictlySortedBy}
@@ -32,6 +32,11 @@ noted block index (Some r) = Some (record r { block = block; index = index })
 abbrev pub marked : Option Record → Option Record
 marked None = None
 marked (Some r) = Some (record r { deleted = true })
+
+-- there is a record, with an element and without a mark
+abbrev pub IsUnmarked : Option Record → Type 0
+IsUnmarked None = ⊥
+IsUnmarked (Some r) = (is_some r.ch ≡ true) × (r.deleted ≡ false)
 
 -- the pages one after another
 abbrev pub entries_in : List Entries → Entries

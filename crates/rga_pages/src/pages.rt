@@ -1,15 +1,15 @@
 //! Records by identifier.
-ghost use Rattle.std.specs.Prelude.{◌≡◌, ◌++◌, [], is_some, true, None, Some, IfErr, OnOk, OnErr};
+ghost use Rattle.std.specs.Prelude.{◌≡◌, ◌++◌, [], is_some, false, true, None, Some, Ok, IfErr, OnOk, OnErr};
 ghost use Rattle.std.specs.BTreeMap.{insert_entry};
 ghost use Rattle.std.specs.Map.{remove_entry, set_value};
 ghost use Rattle.std.specs.Ordering.{eq_by_cmp};
 ghost use Rattle.rga_ops.specs.Identifier.{id_cmp};
-ghost use Rattle.rga_pages.specs.Pages.{entries_in, record_of, marked, noted, AreFilledPages, AreOrdered, Updates};
+ghost use Rattle.rga_pages.specs.Pages.{entries_in, record_of, marked, noted, AreFilledPages, AreOrdered, IsUnmarked, Updates};
 
 use crate::appending::{append, can_follow, end_of};
 use crate::entry::Record;
 use crate::page::Page;
-use crate::putting::{insert, overwrite, write};
+use crate::putting::{has_room, insert, insert_in_full, overwrite, write};
 use crate::removing::remove_at;
 use crate::search::{end_for, find, record_at};
 use crate::spot::Spot;
@@ -101,6 +101,36 @@ impl Pages {
         Ok(())
     }
 
+    /// An identifier that has no record gets one, if others have some. Says whether it got it.
+    /// `Memory` alone, which changes nothing, and only where it had none.
+    #[inline(always)]
+    pub fn insert_absent(&mut self, id: Id, value: Record) -> Result<bool, Refusal>
+        ensures updates { result ≡ Ok true → Updates self.old self.new id (Some value) }
+        ensures absent { result ≡ Ok true → record_of id self.old ≡ None }
+        ensures refused { OnErr result (record_of id self.old ≡ None) }
+        ensures same { result ≡ Ok false → self.new ≡ self.old }
+        ensures err { OnErr result (self.new ≡ self.old) }
+        ensures ordered { AreOrdered self.new }
+        ensures was_ordered { AreOrdered self.old }
+        ensures memory { IfErr result (λ e. e ≡ Refusal.Memory) }
+    {
+        if self.pages.as_slice().len() == 0 {
+            return Ok(false);
+        }
+        let spot = find(&self.pages, self.last, id);
+        self.last = spot;
+        if spot.found {
+            return Ok(false);
+        }
+        if has_room(&self.pages, spot) {
+            write(&mut self.pages, spot, id, value)?;
+            return Ok(true);
+        }
+        let put = insert_in_full(self.alloc, &mut self.pages, spot, id, value)?;
+        self.last = put;
+        Ok(true)
+    }
+
     /// Entries come in behind all others, some few: what the last page has no room for begins one
     /// more. `Memory` alone, which changes nothing; it is answered too where the first of them is
     /// not above all others.
@@ -180,6 +210,39 @@ impl Pages {
                 Some(record)
             }
             None => None,
+        }
+    }
+
+    /// The record of an identifier gets a mark, if there is one with an element and without a mark. Says
+    /// whether it got it. Takes no memory.
+    pub fn mark_inserted(&mut self, id: Id) -> bool
+        ensures found { result ≡ true → IsUnmarked (record_of id self.old) }
+        ensures updates { result ≡ true →
+            Updates self.old self.new id (marked (record_of id self.old)) }
+        ensures kept { result ≡ false → self.new ≡ self.old }
+        ensures ordered { AreOrdered self.new }
+        ensures was_ordered { AreOrdered self.old }
+    {
+        if self.pages.as_slice().len() == 0 {
+            return false;
+        }
+        let spot = find(&self.pages, self.last, id);
+        self.last = spot;
+        if !spot.found {
+            return false;
+        }
+        match record_at(&self.pages, spot, id) {
+            Some(record) => {
+                if record.deleted {
+                    return false;
+                }
+                if record.ch.is_none() {
+                    return false;
+                }
+                overwrite(&mut self.pages, spot, id, record.marked());
+                true
+            }
+            None => false,
         }
     }
 

@@ -63,7 +63,8 @@ fn put_first(alloc: Global, pages: &mut Vec<Page>, id: Id, value: Record) -> Res
 }
 
 /// Whether an identifier can get its record in the page of its spot.
-fn has_room(pages: &Vec<Page>, at: Spot) -> bool
+#[inline(always)]
+pub(crate) fn has_room(pages: &Vec<Page>, at: Spot) -> bool
     requires { at.page < vec_len pages.now }
     ensures absent { result ≡ false → at.found ≡ false }
     ensures full { result ≡ false → MOST ≤ length (slice_index_or pages.now.items at.page []) }
@@ -111,7 +112,8 @@ pub(crate) fn overwrite(pages: &mut Vec<Page>, at: Spot, id: Id, value: Record)
 /// An identifier gets its record, where the page of its spot is full and it is absent. At the end
 /// of that page nothing moves, and the entry begins a new one; elsewhere the page is cut in two, at
 /// the entry's place if both parts have enough then: so what comes next to it has room.
-fn insert_in_full(
+#[inline(never)]
+pub(crate) fn insert_in_full(
     alloc: Global,
     pages: &mut Vec<Page>,
     at: Spot,

@@ -11,6 +11,7 @@ use rga_ops::Id;
 
 /// Where an identifier is, or where it would come in. It is looked for first from the place that was
 /// used last on.
+#[inline(always)]
 pub fn find(pages: &Vec<Page>, last: Spot, id: Id) -> Spot
     requires ordered { AreOrdered (entries_in pages.now.items) }
     requires filled { AreFilledPages pages.now.items }

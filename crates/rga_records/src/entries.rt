@@ -1,5 +1,5 @@
 //! Records under their identifiers: look-ups, and changes of one record.
-ghost use Rattle.std.specs.Prelude.{◌≡◌, is_some, IfOk, OnOk, OnErr, IfErr, None, Some, false};
+ghost use Rattle.std.specs.Prelude.{◌≡◌, is_some, IfOk, OnOk, OnErr, IfErr, None, Some, Ok, false, true};
 ghost use Rattle.std.specs.Option.{option_and_then, option_map_or};
 ghost use Rattle.std.specs.FinMap as finite_map;
 ghost use Rattle.std.specs.FinSet as finite_set;
@@ -107,6 +107,42 @@ pub(crate) fn set_element(
     Ok(())
 }
 
+/// An identifier of which nothing is known gets its element, if something is known of others. Says
+/// whether it got it.
+#[inline(always)]
+pub(crate) fn add_element(
+    entries: &mut Pages,
+    id: Id,
+    parent: Id,
+    ch: char,
+) -> Result<bool, Refusal>
+    ensures absent { let content = content_of_records entries.old in
+        result ≡ Ok true → finite_map.get content.inserted id ≡ None }
+    ensures unmarked { let content = content_of_records entries.old in
+        result ≡ Ok true → finite_set.contains content.deleted id ≡ false }
+    ensures refused { let content = content_of_records entries.old in
+        OnErr result (finite_map.get content.inserted id ≡ None) }
+    ensures content { result ≡ Ok true → content_of_records entries.new
+        ≡ join (content_of_records entries.old) (single (Insert id parent ch)) }
+    ensures known { result ≡ Ok false →
+        content_of_records entries.new ≡ content_of_records entries.old }
+    ensures same { OnErr result
+        (content_of_records entries.new ≡ content_of_records entries.old) }
+    ensures ordered { AreOrdered entries.new }
+    ensures memory { IfErr result (λ e. e ≡ Refusal.Memory) }
+{
+    let deleted = false;
+    let record = Record {
+        parent,
+        ch: Some(ch),
+        block: 0,
+        index: 0,
+        deleted,
+    };
+    let added = entries.insert_absent(id, record)?;
+    Ok(added)
+}
+
 /// An identifier gets its mark. Says whether it is inserted already. `Memory` only where it is not.
 pub(crate) fn mark(entries: &mut Pages, id: Id) -> Result<bool, Refusal>
     ensures inserted { let content = content_of_records entries.old in
@@ -127,6 +163,22 @@ pub(crate) fn mark(entries: &mut Pages, id: Id) -> Result<bool, Refusal>
             Ok(false)
         }
     }
+}
+
+/// An identifier gets its mark, if it is inserted and not deleted. Says whether it got it.
+#[inline(always)]
+pub(crate) fn mark_inserted(entries: &mut Pages, id: Id) -> bool
+    ensures inserted { let content = content_of_records entries.old in
+        result ≡ true → finite_map.contains_key content.inserted id ≡ true }
+    ensures unmarked { let content = content_of_records entries.old in
+        result ≡ true → finite_set.contains content.deleted id ≡ false }
+    ensures content { result ≡ true → content_of_records entries.new
+        ≡ join (content_of_records entries.old) (single (Delete id)) }
+    ensures kept { result ≡ false →
+        content_of_records entries.new ≡ content_of_records entries.old }
+    ensures ordered { AreOrdered entries.new }
+{
+    entries.mark_inserted(id)
 }
 
 /// Where the element of a record that has one may stand.

@@ -17,8 +17,8 @@ ghost use Rattle.rga_records.specs.Chains.{grown, AreNewer};
 use crate::chains::{append_chain, latest};
 use crate::counts::{count_unless, raise, uncount_unless};
 use crate::entries::{
-    clear_element, clear_mark, find_element, is_known, is_marked, mark, near_of,
-    set_element, set_near,
+    add_element, clear_element, clear_mark, find_element, is_known, is_marked, mark, mark_inserted,
+    near_of, set_element, set_near,
 };
 use crate::list_answer::answer_to_list;
 use crate::merging::{count_unknown, least_conflict};
@@ -269,6 +269,18 @@ impl Records {
         self.known < self.limit
     }
 
+    /// Whether an insertion is newer than its parent, and has room. Takes no memory.
+    #[inline(always)]
+    pub(crate) fn has_room_for(&self, id: Id, parent: Id) -> bool
+        ensures rises { result ≡ true → parent.counter < id.counter }
+        ensures room { result ≡ true → known_count self.now.content < self.now.limit }
+    {
+        if id.counter() <= parent.counter() {
+            return false;
+        }
+        self.known < self.limit
+    }
+
     /// Takes an insertion that is newer than all that is known and than its parent, where there is
     /// room. `Memory` alone, which changes nothing.
     #[inline(always)]
@@ -282,11 +294,45 @@ impl Records {
         ensures memory { IfErr result (λ e. e ≡ Refusal.Memory) }
         ensures limit { self.new.limit ≡ self.old.limit }
     {
-        set_element(&mut self.entries, id, parent, ch, Near { block: 0, index: 0 }, false)?;
+        set_element(
+            &mut self.entries,
+            id,
+            parent,
+            ch,
+            Near { block: 0, index: 0 },
+            false,
+        )?;
         self.inserted += 1;
         self.known += 1;
         self.clock = id.counter();
         Ok(())
+    }
+
+    /// Takes an insertion that is newer than its parent, where there is room, if nothing is known of
+    /// its identifier and something of others. Says whether it took it. `Memory` alone, which changes
+    /// nothing.
+    #[inline(never)]
+    pub(crate) fn insert_absent(&mut self, id: Id, parent: Id, ch: char) -> Result<bool, Refusal>
+        requires rises { parent.counter < id.counter }
+        requires room { known_count self.old.content < self.old.limit }
+        ensures answered { result ≡ Ok true →
+            answer self.old.limit self.old.content (Op.Insert id parent ch) ≡ Ok New }
+        ensures refused { OnErr result
+            (answer self.old.limit self.old.content (Op.Insert id parent ch) ≡ Ok New) }
+        ensures new { result ≡ Ok true →
+            self.new.content ≡ join self.old.content (single (Op.Insert id parent ch)) }
+        ensures known { result ≡ Ok false → self.new.content ≡ self.old.content }
+        ensures same { OnErr result (self.new.content ≡ self.old.content) }
+        ensures memory { IfErr result (λ e. e ≡ Refusal.Memory) }
+        ensures limit { self.new.limit ≡ self.old.limit }
+    {
+        if !add_element(&mut self.entries, id, parent, ch)? {
+            return Ok(false);
+        }
+        self.inserted += 1;
+        self.known += 1;
+        raise(&mut self.clock, id.counter());
+        Ok(true)
     }
 
     /// Takes insertions that are newer than all that is known, the first behind a parent and each
@@ -329,6 +375,25 @@ impl Records {
         count_unless(inserted, &mut self.known);
         raise(&mut self.clock, id.counter());
         Ok(())
+    }
+
+    /// Takes a deletion, if its identifier is inserted and not deleted. Says whether it took it. Takes
+    /// no memory.
+    #[inline(never)]
+    pub(crate) fn delete_inserted(&mut self, id: Id) -> bool
+        requires { 0 < id.counter }
+        ensures answered { result ≡ true →
+            answer self.old.limit self.old.content (Op.Delete id) ≡ Ok New }
+        ensures new { result ≡ true →
+            self.new.content ≡ join self.old.content (single (Op.Delete id)) }
+        ensures kept { result ≡ false → self.new.content ≡ self.old.content }
+        ensures limit { self.new.limit ≡ self.old.limit }
+    {
+        if !mark_inserted(&mut self.entries, id) {
+            return false;
+        }
+        raise(&mut self.clock, id.counter());
+        true
     }
 
     /// Removes an operation, to the clock from before it. Takes no memory.

@@ -31,6 +31,14 @@ pub(crate) fn take_op(records: &mut Records, op: &Op) -> Result<Taken, Refusal>
             records.insert_newer(*id, *parent, *ch)?;
             return Ok(Taken::New);
         }
+        if records.has_room_for(*id, *parent) && records.insert_absent(*id, *parent, *ch)? {
+            return Ok(Taken::New);
+        }
+    }
+    if let Op::Delete { id } = op {
+        if id.counter() > 0 && records.delete_inserted(*id) {
+            return Ok(Taken::New);
+        }
     }
     take_found(records, op)
 }
