@@ -17,7 +17,9 @@ ghost use Rattle.rga_exchange.specs.declared.fault.LogFault.TheVariants.{Memory,
 use crate::block::BLOCK;
 use crate::fault::LogFault;
 use rga_devices::Counted;
-use rga_lines::{DeletionRun, Line, LineFault, Run, Splitter, read_any, read_insertions};
+use rga_lines::{
+    DeletionRun, Line, LineFault, Run, Splitter, read_any, read_deletion, read_insertions,
+};
 use rga_ops::{Op, Refusal};
 use rga_store::Taker;
 use std::alloc::Global;
@@ -209,6 +211,11 @@ fn take_line<T: Taker>(
     ensures same_count { result ≢ Ok None → operations.new ≡ operations.old }
     ensures few { operations.new ≤ operations.old + MAX_RUN }
 {
+    if let Some(deletion) = read_deletion(line) {
+        take(taker, number, deletion)?;
+        *operations += 1;
+        return Ok(None);
+    }
     match read_insertions(ops, line) {
         Ok(true) => {
             let inserted = take_all(taker, number, ops)?;

@@ -1,14 +1,16 @@
-//! The insertions of a run, read with no list of its characters in between.
-ghost use Rattle.std.specs.Prelude.{◌≡◌, ◌++◌, codes, true, IfOk, IfErr, IfSome};
+//! Deletions, and the insertions of a run, read with no `Line` in between.
+ghost use Rattle.std.specs.Prelude.{◌≡◌, ◌++◌, codes, true, Ok, IfOk, IfErr, IfSome};
 ghost use Rattle.std.specs.Bool.{OnTrue};
 ghost use Rattle.rga_lines.specs.Log.{SaysRun};
-ghost use Rattle.rga_lines.specs.Spelling.{run_from, ReadsInsertions, IsElement, IsElementOrRoot};
+ghost use Rattle.rga_lines.specs.Spelling.{element_from, run_from, ReadsInsertions, IsElement, IsElementOrRoot};
+ghost use Rattle.rga_lines.specs.Table.{any_line_at};
+ghost use Rattle.rga_lines.specs.declared.reading.Line.TheVariants.{One};
 ghost use Rattle.rga_lines.specs.declared.fault.LineFault.TheVariants.{Memory};
 
 use crate::fault::LineFault;
 use crate::parts::{after_literal, character};
 use crate::run::MAX_RUN;
-use crate::spelled::element_front;
+use crate::spelled::{element_front, is_end_of_deletion};
 use crate::spelled_run::run_parent;
 use rga_ops::{Id, Op};
 
@@ -20,10 +22,6 @@ pub fn read_insertions(ops: &mut Vec<Op>, bytes: &[u8]) -> Result<bool, LineFaul
     ensures said { IfOk result (λ read. read ≡ true → SaysRun bytes.now ops.new.items) }
     ensures memory { IfErr result (λ e. e ≡ Memory) }
 {
-    // The line of a deletion begins as that of a run does.
-    if bytes.ends_with(b":\"del\"}") {
-        return Ok(false);
-    }
     let Some((id, rest)) = element_front(bytes) else {
         return Ok(false);
     };
@@ -100,4 +98,31 @@ fn characters<'a>(
         rest = behind;
     }
     Ok(Some(rest))
+}
+
+/// The deletion that the bytes of a line say, where they are spelled as `write_line` spells it. `None`
+/// says nothing of the line.
+pub fn read_deletion(bytes: &[u8]) -> Option<Op>
+    ensures { IfSome result (λ op. any_line_at bytes.now ≡ Ok (One op)) }
+{
+    // The line of a run begins as that of a deletion does.
+    if !bytes.ends_with(b":\"del\"}") {
+        return None;
+    }
+    let Some((id, rest)) = element_front(bytes) else {
+        return None;
+    };
+    deletion_of(id, rest)
+}
+
+/// The same by the identifier, and what stands behind it.
+fn deletion_of(id: Id, rest: &[u8]) -> Option<Op>
+    requires { IsElement id }
+    ensures { IfSome result (λ op. any_line_at (element_from id rest.now) ≡ Ok (One op)) }
+{
+    if is_end_of_deletion(rest) {
+        Some(Op::Delete { id })
+    } else {
+        None
+    }
 }

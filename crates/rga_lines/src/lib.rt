@@ -3,11 +3,11 @@
 //! A log or an exchange is a stream of bytes with an operation, or a run of them, a line, each a
 //! JSON object (RFC 8259) of a few members; an exchange has a line more in front, its head, which
 //! may be absent, and one that ends it. This crate says what a line means (`read_any`,
-//! `read_line`, and `read_insertions` of the line of a run), writes lines (`Speller`, `write_line`, `write_run`, `write_deletion_run`,
-//! `write_head`, `write_end`), puts bytes among others (`bytes`), and cuts a stream into its lines
-//! in whatever pieces it comes (`Splitter`). It stands on `rga_ops` for the operations, on
-//! `serde_json` and `json` for the JSON, on `itoa` for the digits and on `memchr` for the ends of
-//! lines.
+//! `read_line`; `read_insertions` and `read_deletion` of what a log has most), writes lines
+//! (`Speller`, `write_line`, `write_run`, `write_deletion_run`, `write_head`, `write_end`), puts
+//! bytes among others (`bytes`), and cuts a stream into its lines in whatever pieces it comes
+//! (`Splitter`). It stands on `rga_ops` for the operations, on `serde_json` and `json` for the
+//! JSON, on `itoa` for the digits and on `memchr` for the ends of lines.
 //!
 //! The layer above may rest on the table of `specs/Table.antt`, which each line meets or is at
 //! fault by; on the one spelling of what is written, in `specs/Spelling.antt`; on the lines and the
@@ -36,7 +36,7 @@ mod writing;
 
 pub use deletion_run::DeletionRun;
 pub use fault::LineFault;
-pub use insertions::read_insertions;
+pub use insertions::{read_deletion, read_insertions};
 pub use reading::{Line, MAX_LINE, read_any, read_line};
 pub use run::{MAX_RUN, Run};
 pub use speller::{LINE_ROOM, Speller};

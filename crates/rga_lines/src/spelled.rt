@@ -58,7 +58,7 @@ pub(crate) fn element_front(bytes: &[u8]) -> Option<(Id, &[u8])>
 }
 
 /// Whether the bytes are what stands behind the identifier of a deletion.
-fn is_end_of_deletion(bytes: &[u8]) -> bool
+pub(crate) fn is_end_of_deletion(bytes: &[u8]) -> bool
     ensures { OnTrue result (bytes.now ≡ codes ",\"op\":\"del\"}") }
 {
     let Some(rest) = after_literal(bytes, b",\"op\":\"del\"}") else {
@@ -180,6 +180,7 @@ pub(crate) fn pair_after<'a, const N: usize>(
 }
 
 /// Two numbers between brackets, with which the bytes begin, and what stands behind them.
+#[inline(always)]
 fn pair(bytes: &[u8]) -> Option<(u64, u16, &[u8])>
     ensures { IfSome result (λ p.
         bytes.now ≡ pair_text (identifier p.0 p.1) ++ p.2.now) }

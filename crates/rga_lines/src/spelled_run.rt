@@ -51,6 +51,7 @@ fn run_with(alloc: Global, id: Id, parent: Id, rest: &[u8]) -> Result<Option<Lin
 
 /// The parent of the run with this identifier, and what stands behind the quote that opens its
 /// text.
+#[inline(always)]
 pub(crate) fn run_parent(id: Id, bytes: &[u8]) -> Option<(Id, &[u8])>
     ensures { IfSome result (λ p. (element_from id bytes.now ≡ run_from id p.0 p.1.now)
         × IsElementOrRoot p.0) }
