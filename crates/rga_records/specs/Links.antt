@@ -1,6 +1,6 @@
 -- Elements as a linked list, in the order of their text. A node is 0 for the root, and for a record one more than its
 -- index among all, which rise by identifier.
-use Rattle.std.specs.Prelude.{◌≡◌, ◌≤◌, ◌<◌, ◌==◌, ℕ, zero, suc, true, false, not, List, [], ◌∷◌, ◌++◌, map, length, take, slice_index, slice_index_or, slice_set, Option, Some, None, SomeIff, if◌then◌else◌}
+use Rattle.std.specs.Prelude.{◌≡◌, ◌≤◌, ◌<◌, ◌==◌, ℕ, zero, suc, Bool, true, false, not, List, [], ◌∷◌, ◌++◌, map, length, take, slice_index, slice_index_or, slice_set, Option, Some, None, SomeIff, if◌then◌else◌}
 use Rattle.std.specs.Char.{IsScalar}
 use Rattle.std.specs.List.{filter_map, list_any}
 use Rattle.std.specs.Map.{keys_of}
@@ -13,6 +13,10 @@ use Rattle.rga_records.specs.Records.{Entries, AreOrdered, content_of_records}
 use Rattle.rga_records.specs.declared.linking.TheConstants.{WAITS}
 
 -- ---- elements
+
+-- a character that is not hidden
+abbrev pub shown_if : Bool → ℕ → Option ℕ
+shown_if hidden ch = if hidden then None else Some ch
 
 -- the character of an element that is not deleted
 abbrev pub shown_of : Record → Option ℕ

@@ -4,7 +4,7 @@ ghost use Rattle.std.specs.Prelude.{◌≡◌, ◌∷◌, [], ◌++◌, ◌<◌,
 ghost use Rattle.std.specs.Char.{IsScalar};
 ghost use Rattle.std.specs.Map.{keys_of};
 ghost use Rattle.rga_pages.specs.Pages.{entries_in, AreFilledPages, Entries};
-ghost use Rattle.rga_records.specs.Links.{shown_of, with_link, AreHeads, AreLinks, AreSoundRecords, IsNodeOf};
+ghost use Rattle.rga_records.specs.Links.{shown_if, with_link, AreHeads, AreLinks, AreSoundRecords, IsNodeOf};
 
 use crate::nodes::{link_at, node_of};
 use rga_ops::{Id, Refusal};
@@ -94,27 +94,24 @@ fn link_entry(links: &mut Links, above: Option<usize>, entry: &(Id, Record)) -> 
         OnOk result (AreLinks (es ++ entry.now ∷ []) links.new.shown.items links.new.next.items) }
     ensures memory { IfErr result (λ e. e ≡ Refusal.Memory) }
 {
-    if entry.1.ch.is_none() {
+    let Some(ch) = entry.1.ch else {
         push_link(&mut links.next, WAITS)?;
-        push_one(&mut links.shown, code_of(&entry.1))?;
+        push_one(&mut links.shown, HIDDEN)?;
         return Ok(());
-    }
+    };
     link(&mut links.next, above)?;
-    push_one(&mut links.shown, code_of(&entry.1))?;
+    push_one(&mut links.shown, code_of(ch, entry.1.deleted))?;
     Ok(())
 }
 
-/// The character of an element that is not deleted, as a number; else no character's.
-fn code_of(known: &Record) -> u32
-    ensures { SomeIff (shown_of known.now) (IsScalar result) result }
+/// The number of a character that is not hidden; else that of none.
+fn code_of(ch: char, hidden: bool) -> u32
+    ensures { SomeIff (shown_if hidden ch) (IsScalar result) result }
 {
-    if known.deleted {
+    if hidden {
         return HIDDEN;
     }
-    match known.ch {
-        Some(ch) => ch as u32,
-        None => HIDDEN,
-    }
+    ch as u32
 }
 
 /// One more element is linked in directly behind a node, if there is one that does not wait; else

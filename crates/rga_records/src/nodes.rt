@@ -69,10 +69,7 @@ pub(crate) fn node_of(
 fn is_root(id: Id) -> bool
     ensures { result ≡ is_root id }
 {
-    if id.counter() == 0 {
-        return id == Id::ROOT;
-    }
-    false
+    id.counter() == 0
 }
 
 /// Where an identifier is, or would come in. It is looked for first at the end of the page before
@@ -103,9 +100,31 @@ fn spot_of(pages: &Vec<Page>, page: usize, index: usize, id: Id) -> Spot
     find(pages, last, id)
 }
 
-/// The index of an identifier, if it is one of the last few before an index.
+/// The index of an identifier, if it is one of the last few before an index. The last three are
+/// looked at without a loop.
 #[inline(always)]
 fn index_near(entries: &[(Id, Record)], before: usize, id: Id) -> Option<usize>
+    requires { before ≤ length entries.now }
+    ensures within { IfSome result (λ i. i < before) }
+    ensures there { (e : Identifier × Record) →
+        IfSome result (λ i. (slice_index_or entries.now i e).0 ≡ id) }
+{
+    if before >= 3 {
+        if is_same(&entries[before - 1], id) {
+            return Some(before - 1);
+        }
+        if is_same(&entries[before - 2], id) {
+            return Some(before - 2);
+        }
+        if is_same(&entries[before - 3], id) {
+            return Some(before - 3);
+        }
+    }
+    index_among_last(entries, before, id)
+}
+
+/// The index of an identifier, if it is one of the last few before an index.
+fn index_among_last(entries: &[(Id, Record)], before: usize, id: Id) -> Option<usize>
     requires { before ≤ length entries.now }
     ensures within { IfSome result (λ i. i < before) }
     ensures there { (e : Identifier × Record) →

@@ -51,7 +51,12 @@ fn push_shown(string: &mut String, shown: &[u32], index: usize) -> Result<(), Re
     if index >= shown.len() {
         return Ok(());
     }
-    if let Some(ch) = char::from_u32(shown[index]) {
+    let code = shown[index];
+    if code < 128 {
+        string.push(code as u8 as char)?;
+        return Ok(());
+    }
+    if let Some(ch) = char::from_u32(code) {
         string.push(ch)?;
     }
     Ok(())
