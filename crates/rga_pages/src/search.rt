@@ -165,6 +165,13 @@ fn guess(pages: &Vec<Page>, page: usize, id: Id) -> usize
 fn is_below(entry: &(Id, Record), id: Id) -> bool
     ensures { result ≡ is_gt (id_cmp id entry.now.0) }
 {
+    // Most counters differ, so that they alone are compared.
+    if entry.0.counter() < id.counter() {
+        return true;
+    }
+    if id.counter() < entry.0.counter() {
+        return false;
+    }
     id > entry.0
 }
 
@@ -172,6 +179,12 @@ fn is_below(entry: &(Id, Record), id: Id) -> bool
 fn is_less(id: Id, other: Id) -> bool
     ensures { result ≡ is_lt (id_cmp id other) }
 {
+    if id.counter() < other.counter() {
+        return true;
+    }
+    if other.counter() < id.counter() {
+        return false;
+    }
     id < other
 }
 

@@ -1,4 +1,4 @@
-use Rattle.std.proofs.Common.{◌≡◌, ◌<◌, ◌++◌, false, List, length, take, drop, slice_index_or, sym, ap, ◌∙◌, subst, arith}
+use Rattle.std.proofs.Common.{◌≡◌, ◌<◌, ◌++◌, false, List, length, take, drop, slice_index_or, sym, ◌∙◌, subst, arith}
 use Rattle.std.specs.Ordering.{is_lt}
 use Rattle.rga_ops.specs.Identifier.{id_cmp}
 use Rattle.rga_pages.specs.Pages.{Entries, entries_in, AreOrdered, AreBelow, StartsAbove, StartsAt}
