@@ -1,5 +1,5 @@
 //! Deletions, and the insertions of a run, read with no `Line` in between.
-ghost use Rattle.std.specs.Prelude.{◌≡◌, ◌++◌, codes, true, Ok, IfOk, IfErr, IfSome};
+ghost use Rattle.std.specs.Prelude.{◌≡◌, codes, true, Ok, IfOk, IfErr, IfSome};
 ghost use Rattle.std.specs.Bool.{OnTrue};
 ghost use Rattle.rga_lines.specs.Log.{SaysRun};
 ghost use Rattle.rga_lines.specs.Spelling.{element_from, run_from, ReadsInsertions, IsElement, IsElementOrRoot};
@@ -100,8 +100,8 @@ fn characters<'a>(
     Ok(Some(rest))
 }
 
-/// The deletion that the bytes of a line say, where they are spelled as `write_line` spells it. `None`
-/// says nothing of the line.
+/// The deletion that the bytes of a line say, where they are spelled as `write_line` spells it.
+/// `None` says nothing of the line.
 pub fn read_deletion(bytes: &[u8]) -> Option<Op>
     ensures { IfSome result (λ op. any_line_at bytes.now ≡ Ok (One op)) }
 {
