@@ -8,9 +8,9 @@ ghost use Rattle.rga_records.specs.Links.{AreHeads, IsNodeOf};
 use rga_ops::Id;
 use rga_pages::{Page, Record, Spot, find};
 
-/// How many of the last identifiers are looked at first: what an element stands behind is mostly
-/// not much older.
-const NEAR: usize = 8;
+/// How many identifiers are looked at before a search: what an element stands behind is mostly not
+/// much older.
+const NEAR: usize = 5;
 
 /// The link of a node; 0 where there is no such node.
 pub(crate) fn link_at(next: &[usize], node: usize) -> usize
@@ -100,8 +100,8 @@ fn spot_of(pages: &Vec<Page>, page: usize, index: usize, id: Id) -> Spot
     find(pages, last, id)
 }
 
-/// The index of an identifier, if it is one of the last few before an index. The last three are
-/// looked at without a loop.
+/// The index of an identifier, if it is one of the last few before an index. The last three, where
+/// it mostly is, are looked at without a loop.
 #[inline(always)]
 fn index_near(entries: &[(Id, Record)], before: usize, id: Id) -> Option<usize>
     requires { before ≤ length entries.now }
@@ -109,18 +109,20 @@ fn index_near(entries: &[(Id, Record)], before: usize, id: Id) -> Option<usize>
     ensures there { (e : Identifier × Record) →
         IfSome result (λ i. (slice_index_or entries.now i e).0 ≡ id) }
 {
-    if before >= 3 {
-        if is_same(&entries[before - 1], id) {
-            return Some(before - 1);
-        }
-        if is_same(&entries[before - 2], id) {
-            return Some(before - 2);
-        }
-        if is_same(&entries[before - 3], id) {
-            return Some(before - 3);
-        }
+    if before < 3 {
+        return index_among_last(entries, before, id);
     }
-    index_among_last(entries, before, id)
+    let last = &entries[before - 3..before];
+    if is_same(&last[2], id) {
+        return Some(before - 1);
+    }
+    if is_same(&last[1], id) {
+        return Some(before - 2);
+    }
+    if is_same(&last[0], id) {
+        return Some(before - 3);
+    }
+    index_among_last(entries, before - 3, id)
 }
 
 /// The index of an identifier, if it is one of the last few before an index.
