@@ -93,7 +93,8 @@ impl Pages {
     {
         if let Some(end) = end_for(&self.pages, id) {
             write(&mut self.pages, end, id, value)?;
-            self.last = end;
+            self.last.page = end.page;
+            self.last.index = end.index;
             return Ok(());
         }
         let spot = insert(self.alloc, &mut self.pages, self.last, id, value)?;
@@ -118,7 +119,8 @@ impl Pages {
             return Ok(false);
         }
         let spot = find(&self.pages, self.last, id);
-        self.last = spot;
+        self.last.page = spot.page;
+        self.last.index = spot.index;
         if spot.found {
             return Ok(false);
         }
@@ -227,7 +229,8 @@ impl Pages {
             return false;
         }
         let spot = find(&self.pages, self.last, id);
-        self.last = spot;
+        self.last.page = spot.page;
+        self.last.index = spot.index;
         if !spot.found {
             return false;
         }

@@ -43,9 +43,9 @@ pub(crate) fn take_op(records: &mut Records, op: &Op) -> Result<Taken, Refusal>
     take_found(records, op)
 }
 
-/// The same, where nothing is known of the operation.
+/// The same, by what is found of the operation's identifier.
 #[inline(always)]
-pub(crate) fn take_found(records: &mut Records, op: &Op) -> Result<Taken, Refusal>
+fn take_found(records: &mut Records, op: &Op) -> Result<Taken, Refusal>
     ensures exact { result ≢ Err Refusal.Memory →
         result ≡ answer records.old.limit records.old.content op.now }
     ensures memory { result ≡ Err Refusal.Memory →
