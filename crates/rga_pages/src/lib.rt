@@ -4,9 +4,10 @@
 //! its end stays full and a new one begins, what is above all others comes in there without a
 //! search, and what is looked for is tried first behind the place that was used last, and beside it
 //! in its page. A search ends after a binary search for the page and a walk through it, whatever
-//! identifiers are chosen. The crate stands on rga_ops. The layer above may rest on the contracts,
-//! which see `Pages` as the list of their entries, whose identifiers rise; the place that was used
-//! last serves speed alone and is no part of that value.
+//! identifiers are chosen. Whoever goes through the pages finds places in them by `find`. The crate
+//! stands on rga_ops. The layer above may rest on the contracts, which see `Pages` as the list of
+//! their entries, whose identifiers rise; the place that was used last serves speed alone and is no
+//! part of that value.
 #![tactic(auto)]
 
 mod appending;
