@@ -264,7 +264,7 @@ impl Pages {
         }
     }
 
-    /// The entries, page by page.
+    /// The entries, page by page; no page is empty.
     pub fn pages(&self) -> &Vec<Page>
         ensures pages { entries_in result.now.items ≡ self.now }
         ensures ordered { AreOrdered self.now }

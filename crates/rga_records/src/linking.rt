@@ -11,7 +11,8 @@ use rga_ops::{Id, Refusal};
 use rga_pages::{Page, Record};
 use std::alloc::Global;
 
-/// In place of a link, where an element is not in the order: its parent is not there either.
+/// In place of a link, where a record has no element, or this is not in the order: its parent is not
+/// there either.
 const WAITS: usize = usize::MAX;
 
 /// In place of a character, where none is shown: the number of none.
@@ -41,7 +42,7 @@ impl Links {
     }
 }
 
-/// The links of the elements in pages, which are about so many. `Memory` alone.
+/// The links of the elements in pages, of which there are about so many records. `Memory` alone.
 pub(crate) fn links_of(alloc: Global, pages: &Vec<Page>, room: usize) -> Result<Links, Refusal>
     requires sound { AreSoundRecords (entries_in pages.now.items) }
     requires filled { AreFilledPages pages.now.items }

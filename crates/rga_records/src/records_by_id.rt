@@ -462,7 +462,7 @@ impl Records {
         ensures memory { IfErr result (λ e. e ≡ Refusal.Memory) }
     {
         let _known = self.known();
-        text_of(alloc, &self.entries, self.inserted)
+        text_of(alloc, &self.entries, self.known)
     }
 
     /// Tells the insertions by rising identifier, without a list of them. `Memory` where the listener

@@ -10,14 +10,14 @@ use rga_ops::Refusal;
 use rga_pages::Pages;
 use std::alloc::Global;
 
-/// The characters of the visible elements, in order, in UTF-8. About so many are inserted.
-pub(crate) fn text_of(alloc: Global, entries: &Pages, inserted: usize) -> Result<String, Refusal>
+/// The characters of the visible elements, in order, in UTF-8. About so many identifiers are known.
+pub(crate) fn text_of(alloc: Global, entries: &Pages, known: usize) -> Result<String, Refusal>
     requires { IsSound (content_of_records entries.now) }
     ensures ok { IfOk result (λ string.
         string_bytes string ≡ encode_utf8_all (text (content_of_records entries.now))) }
     ensures memory { IfErr result (λ e. e ≡ Refusal.Memory) }
 {
-    let links = links_of(alloc, entries.pages(), inserted)?;
+    let links = links_of(alloc, entries.pages(), known)?;
     read_along(alloc, links.next.as_slice(), links.shown.as_slice())
 }
 
