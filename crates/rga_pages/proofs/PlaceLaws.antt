@@ -251,6 +251,16 @@ halved [] p cut d e w = absurd (omega arith)
 halved (x ∷ xs) zero cut d e w = sym (append_assoc (take cut x) (drop cut x) (entries_in xs)) ∙ ap (λ y. y ++ entries_in xs) (take_drop cut x)
 halved (x ∷ xs) (suc p) cut d e w = ap (λ r. x ++ r) (halved xs p cut d e (omega arith))
 
+-- what stands in a page from an index on is in front of the page behind it
+pub spilled : (ps : List Entries) (p cut : ℕ) (d e f : Entries) → suc p < length ps → entries_in (slice_set (slice_set ps (suc p) (drop cut (slice_index_or ps p d) ++ slice_index_or ps (suc p) e)) p (take cut (slice_index_or (slice_set ps (suc p) (drop cut (slice_index_or ps p d) ++ slice_index_or ps (suc p) e)) p f))) ≡ entries_in ps
+spilled [] p cut d e f w = absurd (omega arith)
+spilled (x ∷ []) p cut d e f w = absurd (omega arith)
+spilled (x ∷ y ∷ xs) zero cut d e f w =
+    ap (λ r. take cut x ++ r) (append_assoc (drop cut x) y (entries_in xs))
+    ∙ sym (append_assoc (take cut x) (drop cut x) (y ++ entries_in xs))
+    ∙ ap (λ r. r ++ (y ++ entries_in xs)) (take_drop cut x)
+spilled (x ∷ y ∷ xs) (suc p) cut d e f w = ap (λ r. x ++ r) (spilled (y ∷ xs) p cut d e f (omega arith))
+
 -- ---- no page is empty
 
 pub filled_set : (ps : List Entries) (p : ℕ) (y : Entries) → AreFilledPages ps → 0 < length y → AreFilledPages (slice_set ps p y)
@@ -269,7 +279,7 @@ filled_remove [] (suc p) f = tt
 filled_remove (x ∷ xs) zero f = f.1
 filled_remove (x ∷ xs) (suc p) f = (f.0, filled_remove xs p f.1)
 
-pub length_set : (xs : Entries) (i : ℕ) (e : Identifier × Record) → length (slice_set xs i e) ≡ length xs
+pub length_set : {A : Type 0} → (xs : List A) (i : ℕ) (e : A) → length (slice_set xs i e) ≡ length xs
 length_set [] i e = refl
 length_set (x ∷ xs) zero e = refl
 length_set (x ∷ xs) (suc i) e = ap (λ n. suc n) (length_set xs i e)

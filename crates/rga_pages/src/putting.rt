@@ -181,8 +181,58 @@ fn cut_for(index: usize) -> usize
     index
 }
 
-/// A full page becomes two.
+/// A full page loses what stands from an index on: to the page behind it if that has room, and else
+/// to one of its own.
 fn cut_page(alloc: Global, pages: &mut Vec<Page>, page: usize, cut: usize) -> Result<(), Refusal>
+    requires filled { AreFilledPages pages.old.items }
+    requires page { page < vec_len pages.old }
+    requires full { MOST ≤ length (slice_index_or pages.old.items page []) }
+    requires first { 0 < cut }
+    requires second { cut < MOST }
+    ensures flat { entries_in pages.new.items ≡ entries_in pages.old.items }
+    ensures filled { AreFilledPages pages.new.items }
+    ensures some { 0 < vec_len pages.new }
+    ensures memory { IfErr result (λ e. e ≡ Refusal.Memory) }
+{
+    if has_room_behind(pages, page, cut) {
+        return spill(alloc, pages, page, cut);
+    }
+    halve(alloc, pages, page, cut)
+}
+
+/// Whether the page behind one has room for what stands in that from an index on.
+fn has_room_behind(pages: &Vec<Page>, page: usize, cut: usize) -> bool
+    requires { page < vec_len pages.now }
+    ensures { result ≡ true → page + 1 < vec_len pages.now }
+{
+    if page + 1 >= pages.len() {
+        return false;
+    }
+    let more = pages[page].entries().len().saturating_sub(cut);
+    pages[page + 1].entries().len().saturating_add(more) <= MOST
+}
+
+/// What stands in a full page from an index on goes to the front of the page behind it.
+fn spill(alloc: Global, pages: &mut Vec<Page>, page: usize, cut: usize) -> Result<(), Refusal>
+    requires filled { AreFilledPages pages.old.items }
+    requires page { page + 1 < vec_len pages.old }
+    requires full { MOST ≤ length (slice_index_or pages.old.items page []) }
+    requires first { 0 < cut }
+    requires second { cut < MOST }
+    ensures flat { entries_in pages.new.items ≡ entries_in pages.old.items }
+    ensures filled { AreFilledPages pages.new.items }
+    ensures some { 0 < vec_len pages.new }
+    ensures memory { IfErr result (λ e. e ≡ Refusal.Memory) }
+{
+    let mut tail = pages[page].tail(alloc, cut)?;
+    tail.extend(pages[page + 1].entries())?;
+    pages[page + 1] = tail;
+    pages[page].cut(cut);
+    Ok(())
+}
+
+/// A full page becomes two.
+fn halve(alloc: Global, pages: &mut Vec<Page>, page: usize, cut: usize) -> Result<(), Refusal>
     requires filled { AreFilledPages pages.old.items }
     requires page { page < vec_len pages.old }
     requires full { MOST ≤ length (slice_index_or pages.old.items page []) }

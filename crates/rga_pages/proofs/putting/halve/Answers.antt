@@ -3,7 +3,7 @@ use Rattle.std.specs.Prelude.{insert}
 use Rattle.rga_pages.specs.declared.page.TheConstants.{MOST}
 use Rattle.rga_pages.specs.Pages.{Entries, entries_in, AreFilledPages}
 use Rattle.rga_pages.proofs.PlaceLaws.{one_up, page_at, halved, filled_set, filled_insert, filled_at, take_some, drop_some}
-use Rattle.rga_pages.proofs.putting.cut_page.Goals as goal
+use Rattle.rga_pages.proofs.putting.halve.Goals as goal
 
 -- the pages with the second part of one behind it
 put : (c : goal.After-pages-1) → c.put_page.new.pages.items ≡ insert c.args.pages.now.items (c.args.page + 1) (drop c.args.cut (slice_index_or c.args.pages.now.items c.args.page c.index.result.now))
