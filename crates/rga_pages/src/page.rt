@@ -8,7 +8,7 @@ use std::alloc::Global;
 use std::marker::Model;
 
 /// How many entries a page has at most.
-pub(crate) const MOST: usize = 64;
+pub(crate) const MOST: usize = 256;
 
 /// Some entries in a row: identifiers with their records.
 #[derive(Drop)]
