@@ -3,11 +3,13 @@
 
 Prints a row for each log, without `--dels` and with it: its operations; its bytes and those of the
 compacted log, and how many times fewer these are; the microseconds that an operation takes in `mgr show`
-of the log, in `mgr compact`, and in `mgr show` of what that wrote; and both over the first. Times are of
-user and system together, the least of three. That text and size are right is tested first: `mgr show` has
-to write the same of both.
+of the log, in `mgr compact`, and in `mgr show` of what that wrote; and both over the first. With
+`--before PROGRAM` the first is what `PROGRAM show` of the log takes, say an mgr from before there were
+runs. Times are of user and system together, the least of three. That text and size are right is tested
+first: `mgr show` has to write the same of both.
 """
 
+import argparse
 import os
 import resource
 import shutil
@@ -39,8 +41,8 @@ def seconds_of(words, log=os.devnull):
     return after.ru_utime - before.ru_utime + after.ru_stime - before.ru_stime
 
 
-def shown(log):
-    return min(seconds_of([MGR, "show"], log) for _ in range(MEASUREMENTS))
+def shown(log, program=MGR):
+    return min(seconds_of([program, "show"], log) for _ in range(MEASUREMENTS))
 
 
 def compacted(log, *switches):
@@ -61,19 +63,22 @@ def text_of(log):
 
 
 def main():
+    parser = argparse.ArgumentParser(description="Measures what mgr compact makes of logs, and what it costs.")
+    parser.add_argument("--before", metavar="PROGRAM", type=os.path.abspath, default=MGR)
+    before = parser.parse_args().before
     print("                                          bytes of:           fewer     us/op of:                   over show:")
     print("log               operations         log   compacted      times    show  compact    again   compact    again")
     for shape, count in ROWS:
         log = generated(shape, count)
         for switches in ((), ("--dels",)):
-            print_row(shape, count, log, switches)
+            print_row(shape, count, log, switches, before)
 
 
-def print_row(shape, count, log, switches):
+def print_row(shape, count, log, switches, before):
     times = [compacted(log, *switches)]
     if text_of(log) != text_of(NOTE):
         sys.exit(f"{log} and {NOTE} differ in their texts")
-    times = [shown(log), *times, shown(NOTE)]
+    times = [shown(log, before), *times, shown(NOTE)]
     sizes = os.path.getsize(log), os.path.getsize(NOTE)
     each = " ".join(f"{seconds * 1e6 / count:>8.2f}" for seconds in times)
     ratios = " ".join(f"{seconds / times[0]:>8.2f}" for seconds in times[1:])
