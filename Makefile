@@ -141,7 +141,7 @@ help:
 	@echo "make try-sharing"
 	@echo "               shares a note by git, by a sync tool and from one plain text, and shows what two edits of one"
 	@echo "               word become (needs python3 and git); examples/git/two-clones.sh says how to share by git"
-	@echo "make test      looks up each name in the documents, proves what this machine has not proved yet, runs every"
+	@echo "make test      looks up each name in the documents, proves all that the kit does not have as proved, runs every"
 	@echo "               test and plays every scene; the last line counts all (needs python3)"
 	@echo "make scenes    plays the scenes with the mgr that make built; those of one file: make scenes FILE=scenes/.."
 	@echo "               (needs python3)"

@@ -110,8 +110,8 @@ pub(crate) fn overwrite(pages: &mut Vec<Page>, at: Spot, id: Id, value: Record)
 }
 
 /// An identifier gets its record, where the page of its spot is full and it is absent. At the end
-/// of that page nothing moves, and the entry begins a new one; elsewhere the page is cut in two, at
-/// the entry's place if both parts have enough then: so what comes next to it has room.
+/// of that page nothing moves, and the entry begins a new one; elsewhere the page loses what stands
+/// behind the entry's place, if both parts have enough then: so what comes next to it has room.
 #[inline(never)]
 pub(crate) fn insert_in_full(
     alloc: Global,
