@@ -56,13 +56,7 @@ fn inserted(parent: Id, ch: char, block: u32, index: u8) -> Record
     ensures element { element_of_record result ≡ Some (element parent ch) }
     ensures unmarked { result.deleted ≡ false }
 {
-    Record {
-        parent,
-        ch: Some(ch),
-        block,
-        index,
-        deleted: false,
-    }
+    Record::inserted(parent, ch, block, index, false)
 }
 
 /// The counter of the last element of a chain; another where there is none.

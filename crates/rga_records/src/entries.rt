@@ -96,13 +96,9 @@ pub(crate) fn set_element(
     ensures ordered { AreOrdered entries.new }
     ensures memory { IfErr result (λ e. e ≡ Refusal.Memory) }
 {
-    let record = Record {
-        parent,
-        ch: Some(ch),
-        block: short_name(near.block),
-        index: short_index(near.index),
-        deleted,
-    };
+    let block = short_name(near.block);
+    let index = short_index(near.index);
+    let record = Record::inserted(parent, ch, block, index, deleted);
     entries.insert(id, record)?;
     Ok(())
 }
@@ -131,14 +127,7 @@ pub(crate) fn add_element(
     ensures ordered { AreOrdered entries.new }
     ensures memory { IfErr result (λ e. e ≡ Refusal.Memory) }
 {
-    let deleted = false;
-    let record = Record {
-        parent,
-        ch: Some(ch),
-        block: 0,
-        index: 0,
-        deleted,
-    };
+    let record = Record::inserted(parent, ch, 0, 0, false);
     let added = entries.insert_absent(id, record)?;
     Ok(added)
 }
@@ -208,14 +197,7 @@ pub(crate) fn clear_element(entries: &mut Pages, id: Id) -> bool
         entries.remove(id);
         return false;
     }
-    let cleared = Record {
-        parent: record.parent,
-        ch: None,
-        block: record.block,
-        index: record.index,
-        deleted: true,
-    };
-    entries.set(id, cleared);
+    entries.set(id, Record::new().marked());
     true
 }
 
@@ -233,14 +215,7 @@ pub(crate) fn clear_mark(entries: &mut Pages, id: Id) -> bool
         entries.remove(id);
         return false;
     }
-    let cleared = Record {
-        parent: record.parent,
-        ch: record.ch,
-        block: record.block,
-        index: record.index,
-        deleted: false,
-    };
-    entries.set(id, cleared);
+    entries.set(id, record.unmarked());
     true
 }
 

@@ -81,7 +81,7 @@ fn link_page(
     for index in 0..entries.len() {
         let entry = &entries[index];
         let count = links.next.as_slice().len();
-        let above = node_of(pages, heads, index, count, entry.1.parent);
+        let above = node_of(pages, heads, index, count, entry.1.parent());
         link_entry(links, above, entry)?;
     }
     Ok(())
@@ -95,13 +95,14 @@ fn link_entry(links: &mut Links, above: Option<usize>, entry: &(Id, Record)) -> 
         OnOk result (AreLinks (es ++ entry.now ∷ []) links.new.shown.items links.new.next.items) }
     ensures memory { IfErr result (λ e. e ≡ Refusal.Memory) }
 {
-    let Some(ch) = entry.1.ch else {
+    let record = entry.1;
+    let Some(ch) = record.ch else {
         push_link(&mut links.next, WAITS)?;
         push_one(&mut links.shown, HIDDEN)?;
         return Ok(());
     };
     link(&mut links.next, above)?;
-    push_one(&mut links.shown, code_of(ch, entry.1.deleted))?;
+    push_one(&mut links.shown, code_of(ch, record.deleted))?;
     Ok(())
 }
 

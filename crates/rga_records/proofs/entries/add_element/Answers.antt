@@ -2,7 +2,7 @@ use Rattle.std.proofs.Common.{◌≡◌, false, refl, sym, ap, ◌∙◌}
 use Rattle.std.specs.Prelude.{Some, None, Result, Ok, Err, OnErr}
 use Rattle.rga_pages.specs.declared.entry.Record.{Record}
 use Rattle.rga_pages.specs.Pages.{record_of}
-use Rattle.rga_records.specs.Records.{Entries}
+use Rattle.rga_records.specs.Records.{Entries, element_of_record}
 use Rattle.rga_records.proofs.RecordLaws.{element_of, mark_of, inserted_at, deleted_at, content_inserted}
 use Rattle.rga_records.proofs.entries.add_element.Goals as goal
 
@@ -27,7 +27,7 @@ returns-clause-unmarked c = λ t.
 pub returns-clause-content : goal.returns-clause-content
 returns-clause-content c = λ t.
     let es : Entries = c.args.entries.now in
-    let written : Record = record { parent = c.args.parent; ch = Some c.args.ch; block = 0; index = 0; deleted = false } in
+    let written : Record = c.inserted-record.result in
     let absent : record_of c.args.id es ≡ None = c.insert_absent.ensures.absent (c.in_ok-added.was ∙ t) in
     content_inserted es c.insert_absent.new.self c.args.id (Some written) c.insert_absent.ensures.was_ordered c.insert_absent.ensures.ordered (c.insert_absent.ensures.updates (c.in_ok-added.was ∙ t))
-    c.args.parent c.args.ch refl (ap mark_of (sym absent)) (inserted_at es c.insert_absent.ensures.was_ordered c.args.id ∙ ap element_of absent)
+    c.args.parent c.args.ch (ap element_of_record c.inserted-record.ensures) (ap (λ (r : Record). r.deleted) c.inserted-record.ensures ∙ ap mark_of (sym absent)) (inserted_at es c.insert_absent.ensures.was_ordered c.args.id ∙ ap element_of absent)

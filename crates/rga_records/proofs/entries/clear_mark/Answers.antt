@@ -14,7 +14,7 @@ none_there (Some x) h = absurd (true≢false h)
 
 absent : (c : goal.After-remove) → None ≡ element_of (record_of c.args.id c.args.entries.now)
 absent c =
-    none_there (element_of_record c.found_or_new-record.result) (is_some-char c.found_or_new-record.result ∙ c.if-is_none.ensures)
+    none_there (element_of_record c.found_or_new-record.result) (is_some-char c.found_or_new-record.result ∙ ap (λ (r : Record). is_some r.ch) (sym c.record.view_is) ∙ c.if-is_none.ensures)
     ∙ c.found_or_new-record.ensures.element ∙ ap element_of c.look_up.ensures.value
 
 pub returns-then-is_none-clause-inserted : goal.returns-then-is_none-clause-inserted
@@ -27,7 +27,7 @@ returns-then-is_none-clause-content c =
 
 is_inserted : (c : goal.After-set) → true ≡ is_some (element_of (record_of c.args.id c.args.entries.now))
 is_inserted c =
-    sym (is_some-char c.found_or_new-record.result ∙ c.if-is_none.ensures)
+    sym (is_some-char c.found_or_new-record.result ∙ ap (λ (r : Record). is_some r.ch) (sym c.record.view_is) ∙ c.if-is_none.ensures)
     ∙ ap is_some (c.found_or_new-record.ensures.element ∙ ap element_of c.look_up.ensures.value)
 
 pub returns-clause-inserted : goal.returns-clause-inserted
@@ -35,9 +35,9 @@ returns-clause-inserted c = is_inserted c ∙ sym (ap is_some (inserted_at c.arg
 
 pub returns-clause-content : goal.returns-clause-content
 returns-clause-content c =
-    let old : Record = c.found_or_new-record.result in
-    let written : Record = record { parent = old.parent; ch = old.ch; block = old.block; index = old.index; deleted = false } in
+    let written : Record = c.unmarked.result in
     content_undeleted c.args.entries.now c.set.new.self c.args.id (Some written) c.look_up.ensures.ordered c.set.ensures.ordered
     (subst (λ es. Updates es c.set.new.self c.args.id (Some written)) c.look_up.ensures.same
     (c.set.ensures.updates (ap (λ es. is_some (record_of c.args.id es)) c.look_up.ensures.same ∙ some_inserted (record_of c.args.id c.args.entries.now) (sym (is_inserted c)))))
-    (c.found_or_new-record.ensures.element ∙ ap element_of c.look_up.ensures.value) refl
+    (ap element_of_record c.unmarked.ensures ∙ c.found_or_new-record.ensures.element ∙ ap element_of c.look_up.ensures.value)
+    (ap (λ (r : Record). r.deleted) c.unmarked.ensures)

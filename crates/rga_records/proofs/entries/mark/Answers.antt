@@ -19,7 +19,7 @@ same_element (Some r) = refl
 
 pub returns-in-Some-clause-inserted : goal.returns-in-Some-clause-inserted
 returns-in-Some-clause-inserted c =
-    c.is_some.ensures ∙ sym (is_some-char c.in-Some.record)
+    c.is_some.ensures ∙ ap (λ (r : Record). is_some r.ch) c.record.view_is ∙ sym (is_some-char c.in-Some.record)
     ∙ ap is_some (ap element_of (sym c.in-Some.is ∙ c.mark.ensures.value) ∙ sym (inserted_at c.args.entries.now c.mark.ensures.was_ordered c.args.id))
 
 pub returns-in-Some-clause-content : goal.returns-in-Some-clause-content

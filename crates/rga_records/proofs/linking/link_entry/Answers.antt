@@ -1,4 +1,4 @@
-use Rattle.std.proofs.Common.{◌≡◌, true, false, cond, ◌++◌, ◌∷◌, [], is_some, sym, ap, subst, true≢false}
+use Rattle.std.proofs.Common.{◌≡◌, true, false, cond, ◌++◌, ◌∷◌, [], is_some, sym, ap, ◌∙◌, subst, true≢false}
 use Rattle.std.specs.Prelude.{Some, None, SomeIff}
 use Rattle.std.specs.Char.{IsScalar}
 use Rattle.rga_pages.specs.declared.entry.Record.{Record}
@@ -12,7 +12,7 @@ no_character v none = subst (λ o. SomeIff (cond v.deleted None o) (IsScalar HID
 
 pub returns-in_default-clause-ok : goal.returns-in_default-clause-ok
 returns-in_default-clause-ok c = λ es s l node.
-    let none : c.args.entry.now.1.ch ≡ None = c.in_default.is in
+    let none : c.args.entry.now.1.ch ≡ None = ap (λ (r : Record). r.ch) (sym c.record.view_is) ∙ c.in_default.is in
     links_as (es ++ c.args.entry.now ∷ []) (c.args.links.now.shown.items ++ HIDDEN ∷ []) c.push_one.new.list.items
     (c.args.links.now.next.items ++ WAITS ∷ []) c.push_link.new.next.items
     c.in_ok-push_one.ensures.ok
@@ -21,8 +21,10 @@ returns-in_default-clause-ok c = λ es s l node.
 
 pub returns-clause-ok : goal.returns-clause-ok
 returns-clause-ok c = λ es s l node.
-    let some : c.args.entry.now.1.ch ≡ Some c.in-Some.ch = c.in-Some.is in
-    let code : SomeIff (shown_of c.args.entry.now.1) (IsScalar c.code_of.result) c.code_of.result = subst (λ o. SomeIff (cond c.args.entry.now.1.deleted None o) (IsScalar c.code_of.result) c.code_of.result) (sym some) c.code_of.ensures in
+    let some : c.args.entry.now.1.ch ≡ Some c.in-Some.ch = ap (λ (r : Record). r.ch) (sym c.record.view_is) ∙ c.in-Some.is in
+    let code : SomeIff (shown_of c.args.entry.now.1) (IsScalar c.code_of.result) c.code_of.result = 
+    subst (λ b. SomeIff (cond b None c.args.entry.now.1.ch) (IsScalar c.code_of.result) c.code_of.result) (ap (λ (r : Record). r.deleted) c.record.view_is)
+    (subst (λ o. SomeIff (cond c.record.inside.deleted None o) (IsScalar c.code_of.result) c.code_of.result) (sym some) c.code_of.ensures) in
     links_as (es ++ c.args.entry.now ∷ []) (c.args.links.now.shown.items ++ c.code_of.result ∷ []) c.push_one-2.new.list.items
     (with_link c.args.above c.args.links.now.next.items) c.link.new.next.items
     c.in_ok-push_one-2.ensures.ok

@@ -3,6 +3,7 @@ use Rattle.std.specs.Option.{option_map}
 use Rattle.std.specs.FinMap as finite_map
 use Rattle.std.specs.FinSet as finite_set
 use Rattle.rga_ops.specs.Content.{element, known_ids}
+use Rattle.rga_pages.specs.declared.entry.Record.{Record}
 use Rattle.rga_store.specs.Kept.{Kept}
 use Rattle.rga_records.proofs.RecordLaws.{element_of, mark_of, element_back, inserted_at, deleted_at}
 use Rattle.rga_records.proofs.records_by_id.Records.look_up.Goals as goal
@@ -13,7 +14,7 @@ returns-in-Some-clause-facts c = λ k. record {
       ∙ ap element_of (sym c.in-Some.is ∙ c.look_up.ensures.value)
       ∙ sym (inserted_at c.self.inside.entries c.self.invariant.ordered c.args.id)
       ∙ ap (λ (v : Kept). finite_map.get v.content.inserted c.args.id) c.self.view_is) k;
-  deleted = (ap mark_of (sym c.in-Some.is ∙ c.look_up.ensures.value)
+  deleted = (ap (λ (r : Record). r.deleted) c.record.view_is ∙ ap mark_of (sym c.in-Some.is ∙ c.look_up.ensures.value)
       ∙ sym (deleted_at c.self.inside.entries c.self.invariant.ordered c.args.id)
       ∙ ap (λ (v : Kept). finite_set.contains v.content.deleted c.args.id) c.self.view_is) k;
   known = (c.self.invariant.counted.known ∙ ap (λ (v : Kept). finite_set.len (known_ids v.content)) c.self.view_is) k;
