@@ -61,14 +61,14 @@ pub(crate) fn take_whole(
 
 /// Takes a chain at the front of a list, if there is one, and the operation behind it, and answers
 /// how many these are. Notes those that were new.
-fn take_next<'a>(
+fn take_next(
     alloc: Global,
     records: &mut Records,
     sequence: &mut Sequence,
     waiting: &mut BTreeMap<Id, Vec<Id>>,
     done: &mut BTreeSet<Id>,
-    ops: &'a [Op],
-    steps: &mut Vec<Step<'a>>,
+    ops: &[Op],
+    steps: &mut Vec<Step>,
 ) -> Result<usize, Refusal>
     requires some { 0 < length ops.now }
     requires back { CanTakeBack steps.old.items records.old.content }
@@ -111,14 +111,14 @@ fn take_next<'a>(
 }
 
 /// Takes an operation, and notes it if it was new.
-fn take_noted<'a>(
+fn take_noted(
     alloc: Global,
     records: &mut Records,
     sequence: &mut Sequence,
     waiting: &mut BTreeMap<Id, Vec<Id>>,
     done: &mut BTreeSet<Id>,
-    op: &'a Op,
-    steps: &mut Vec<Step<'a>>,
+    op: &Op,
+    steps: &mut Vec<Step>,
 ) -> Result<(), Refusal>
     requires back { CanTakeBack steps.old.items records.old.content }
     requires inserted { (p : Identifier) → contains id_cmp done.old p ≡ true →

@@ -69,7 +69,12 @@ impl Record {
     #[inline(always)]
     pub fn inserted(parent: Id, ch: char, block: u32, index: u8, deleted: bool) -> Record
         ensures { result ≡ record {
-            parent = parent; ch = Some ch; block = block; index = index; deleted = deleted } }
+          parent = parent;
+          ch = Some ch;
+          block = block;
+          index = index;
+          deleted = deleted;
+        } }
     {
         Record {
             parent_counter: parent.counter(),

@@ -12,6 +12,9 @@ use rga_ops::{Id, Refusal};
 use rga_pages::{Pages, Record};
 use rga_sequence::Near;
 
+/// Nothing is noted of where an element may stand.
+pub(crate) const NOWHERE: Near = Near { block: 0, index: 0 };
+
 /// Whether a record means anything.
 pub(crate) fn is_record_known(known: &Record) -> bool
     ensures { result ≡ is_meaningful known.now }
@@ -127,9 +130,7 @@ pub(crate) fn add_element(
     ensures ordered { AreOrdered entries.new }
     ensures memory { IfErr result (λ e. e ≡ Refusal.Memory) }
 {
-    let record = Record::inserted(parent, ch, 0, 0, false);
-    let added = entries.insert_absent(id, record)?;
-    Ok(added)
+    entries.insert_absent(id, Record::inserted(parent, ch, 0, 0, false))
 }
 
 /// An identifier gets its mark. Says whether it is inserted already. `Memory` only where it is not.

@@ -5,13 +5,10 @@ ghost use Rattle.rga_ops.specs.Answer.{answer, taken, taken_one_by_one};
 ghost use Rattle.rga_store.specs.Growth.{NeedsRoom};
 ghost use Rattle.rga_records.specs.Back.{without_noted, CanTakeBack};
 
+use crate::entries::NOWHERE;
 use crate::records_by_id::Records;
 use crate::steps::{Step, note};
 use rga_ops::{Op, Refusal, Taken, answer_to};
-use rga_sequence::Near;
-
-/// Nothing is noted of where an element may stand.
-const NOWHERE: Near = Near { block: 0, index: 0 };
 
 /// Takes an operation. `Memory` alone beside what is answered to it, and then nothing is changed.
 #[inline(always)]
@@ -75,11 +72,7 @@ fn take_found(records: &mut Records, op: &Op) -> Result<Taken, Refusal>
 }
 
 /// Takes an operation, and notes it if it was new.
-fn take_noted<'a>(
-    records: &mut Records,
-    op: &'a Op,
-    steps: &mut Vec<Step<'a>>,
-) -> Result<(), Refusal>
+fn take_noted(records: &mut Records, op: &Op, steps: &mut Vec<Step>) -> Result<(), Refusal>
     requires { CanTakeBack steps.old.items records.old.content }
     ensures ok { OnOk result
         (taken records.old.limit records.old.content op.now ≡ Ok records.new.content) }
@@ -100,10 +93,10 @@ fn take_noted<'a>(
 }
 
 /// Takes operations one by one, up to the first that is refused, and notes those that were new.
-pub(crate) fn take_each<'a>(
+pub(crate) fn take_each(
     records: &mut Records,
-    ops: &'a [Op],
-    steps: &mut Vec<Step<'a>>,
+    ops: &[Op],
+    steps: &mut Vec<Step>,
 ) -> Result<(), Refusal>
     requires { CanTakeBack steps.old.items records.old.content }
     ensures ok { OnOk result (taken_one_by_one records.old.limit records.old.content ops.now
@@ -120,7 +113,7 @@ pub(crate) fn take_each<'a>(
 }
 
 /// The operations of the steps from one on leave the records, the last first. Takes no memory.
-pub(crate) fn remove_from(records: &mut Records, steps: &mut Vec<Step<'_>>, from: usize)
+pub(crate) fn remove_from(records: &mut Records, steps: &mut Vec<Step>, from: usize)
     requires { CanTakeBack steps.old.items records.old.content }
     ensures content { records.new.content
         ≡ without_noted (drop from steps.old.items) records.old.content }
@@ -129,7 +122,7 @@ pub(crate) fn remove_from(records: &mut Records, steps: &mut Vec<Step<'_>>, from
 {
     while steps.as_slice().len() > from {
         match steps.pop() {
-            Some(step) => records.remove(step.op, step.clock),
+            Some(step) => records.remove(&step.op, step.clock),
             None => unreachable!(),
         }
     }

@@ -1,26 +1,19 @@
-use Rattle.std.proofs.Common.{◌≡◌, ℕ, sym, ap, ◌∙◌, subst, inl, inr}
+use Rattle.std.proofs.Common.{◌≡◌, sym, ap, ◌∙◌, subst, inl, inr}
 use Rattle.rga_ops.specs.Content.{Content, IsWithin, single}
-use Rattle.rga_ops.specs.Answer.{answer}
-use Rattle.rga_ops.proofs.AnswerLaws.{Answer, ok, err}
+use Rattle.rga_ops.proofs.AnswerLaws.{ok}
 use Rattle.rga_ops.proofs.ContentLaws.{within_join}
-use Rattle.rga_ops.specs.declared.op.Op.{Op}
 use Rattle.rga_ops.specs.declared.refusal.Taken.TheVariants.{New}
-use Rattle.rga_ops.specs.declared.refusal.Refusal.TheVariants.{Memory}
 use Rattle.rga_records.specs.Back.{without_noted, CanTakeBack}
-use Rattle.rga_records.proofs.BackLaws.{without_noted-push, one_step_more, without_taken, last_taken}
+use Rattle.rga_records.proofs.BackLaws.{was_new, without_noted-push, one_step_more, without_taken, last_taken}
 use Rattle.rga_flat.proofs.BackLaws.{inserted_later}
 use Rattle.rga_flat.proofs.whole_list.take_noted.Goals as goal
-
--- what is answered, unless memory is wanting, was that it is new
-was_new : (limit : ℕ) (c : Content) (op : Op) (r : Answer) → r ≡ ok New → ((r ≡ err Memory → ⊥) → r ≡ answer limit c op) → answer limit c op ≡ ok New
-was_new limit c op r new exact = sym (exact (λ k. let clash : ok New ≡ err Memory = sym new ∙ k in cc)) ∙ new
 
 pub returns-in-New-clause-steps : goal.returns-in-New-clause-steps
 returns-in-New-clause-steps c =
     let is_new : c.take.result ≡ ok New = c.in_ok-take.was ∙ ap ok c.in-New.is in
     let answered = was_new c.args.records.now.limit c.args.records.now.content c.args.op.now c.take.result is_new c.take.ensures.exact in
     subst (λ ss. CanTakeBack ss c.take.new.records.content) (sym c.note.ensures.noted)
-    (one_step_more c.reserve.new.self.items (record { op = c.args.op; clock = c.clock-clock.result }) c.take.new.records.content
+    (one_step_more c.reserve.new.self.items (record { op = c.args.op.now; clock = c.clock-clock.result }) c.take.new.records.content
     (last_taken c.args.records.now.limit c.args.records.now.content c.take.new.records.content c.args.op.now answered (c.take.ensures.new is_new) c.reserve.new.self.items c.clock-clock.result c.clock-clock.ensures
     (subst (λ ss. CanTakeBack ss c.args.records.now.content) (sym c.in_ok-reserve.ensures.items) c.requires.back)))
 
@@ -29,7 +22,7 @@ returns-in-New-clause-start c =
     let is_new : c.take.result ≡ ok New = c.in_ok-take.was ∙ ap ok c.in-New.is in
     let answered = was_new c.args.records.now.limit c.args.records.now.content c.args.op.now c.take.result is_new c.take.ensures.exact in
     ap (λ ss. without_noted ss c.take.new.records.content) c.note.ensures.noted
-    ∙ without_noted-push c.reserve.new.self.items (record { op = c.args.op; clock = c.clock-clock.result }) c.take.new.records.content
+    ∙ without_noted-push c.reserve.new.self.items (record { op = c.args.op.now; clock = c.clock-clock.result }) c.take.new.records.content
     ∙ ap (without_noted c.reserve.new.self.items) (without_taken c.args.records.now.limit c.args.records.now.content c.take.new.records.content c.args.op.now answered (c.take.ensures.new is_new))
     ∙ ap (λ ss. without_noted ss c.args.records.now.content) c.in_ok-reserve.ensures.items
 

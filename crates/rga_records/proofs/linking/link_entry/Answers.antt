@@ -22,7 +22,7 @@ returns-in_default-clause-ok c = λ es s l node.
 pub returns-clause-ok : goal.returns-clause-ok
 returns-clause-ok c = λ es s l node.
     let some : c.args.entry.now.1.ch ≡ Some c.in-Some.ch = ap (λ (r : Record). r.ch) (sym c.record.view_is) ∙ c.in-Some.is in
-    let code : SomeIff (shown_of c.args.entry.now.1) (IsScalar c.code_of.result) c.code_of.result = 
+    let code : SomeIff (shown_of c.args.entry.now.1) (IsScalar c.code_of.result) c.code_of.result =
     subst (λ b. SomeIff (cond b None c.args.entry.now.1.ch) (IsScalar c.code_of.result) c.code_of.result) (ap (λ (r : Record). r.deleted) c.record.view_is)
     (subst (λ o. SomeIff (cond c.record.inside.deleted None o) (IsScalar c.code_of.result) c.code_of.result) (sym some) c.code_of.ensures) in
     links_as (es ++ c.args.entry.now ∷ []) (c.args.links.now.shown.items ++ c.code_of.result ∷ []) c.push_one-2.new.list.items

@@ -28,7 +28,7 @@ loop-index-preserved c =
     ap (λ x. entries_before ps p i ++ x ∷ []) (c.index-entries-index.is ∙ ap (λ y. slice_index_or y i e) page) ∙ one_more_before ps p i c.index.result.now e w within in
     let sound : AreSoundRecords (entries_before ps p (i + 1)) = sound_before (entries_before ps p (i + 1)) (entries_behind ps p (i + 1)) (subst AreSoundRecords (parted ps p (i + 1)) c.requires.sound) in
     let last : length c.args.heads.now - 1 ≡ p = omega (arith, c.requires.counted) in
-    let node : IsNodeOf e.1.parent (keys_of (entries_before ps p i)) c.node_of-above.result = 
+    let node : IsNodeOf e.1.parent (keys_of (entries_before ps p i)) c.node_of-above.result =
     subst (λ q. IsNodeOf q (keys_of (entries_before ps p i)) c.node_of-above.result) c.parent.ensures
     (subst (λ n. IsNodeOf c.parent.result (keys_of (entries_before ps n i)) c.node_of-above.result) last c.node_of-above.ensures) in
     subst (λ es. AreLinks es c.link_entry.new.links.shown.items c.link_entry.new.links.next.items) more

@@ -2,18 +2,13 @@ use Rattle.std.proofs.Common.{◌≡◌, ◌≤◌, sym, ap, ◌∙◌, subst}
 use Rattle.std.specs.FinSet as finite_set
 use Rattle.rga_ops.specs.Content.{known_ids, join, content_of}
 use Rattle.rga_ops.specs.ListAnswer.{list_answer, early_conflict}
-use Rattle.rga_ops.proofs.AnswerLaws.{passed, bad}
 use Rattle.rga_ops.proofs.ListAnswerLaws.{one_by_one_list}
 use Rattle.rga_ops.proofs.EarlyLaws.{no_early_if_taken}
 use Rattle.rga_ops.proofs.TakenLaws.{taken_list_is}
-use Rattle.rga_ops.specs.declared.refusal.Refusal.TheVariants.{Memory}
 use Rattle.rga_store.specs.Kept.{Kept}
+use Rattle.rga_records.proofs.BackLaws.{not_refused}
 use Rattle.rga_flat.proofs.EntryLaws.{from_is_ok, from_not_ok}
 use Rattle.rga_flat.proofs.flat_store.FlatStoreTaker.apply_all.Goals as goal
-
--- Ok is no want of memory
-not_refused : passed ≡ bad Memory → ⊥
-not_refused h = absurd (cc)
 
 pub returns-then-is_ok-clause-exact : goal.returns-then-is_ok-clause-exact
 returns-then-is_ok-clause-exact c = λ _.

@@ -1,17 +1,12 @@
-use Rattle.std.proofs.Common.{◌≡◌, ◌≤◌, sym, ap, ◌∙◌, subst}
+use Rattle.std.proofs.Common.{◌≤◌, sym, ap, ◌∙◌, subst}
 use Rattle.std.specs.FinSet as finite_set
 use Rattle.rga_ops.specs.Content.{known_ids}
 use Rattle.rga_ops.specs.ListAnswer.{list_answer}
-use Rattle.rga_ops.proofs.AnswerLaws.{passed, bad}
 use Rattle.rga_ops.proofs.ListAnswerLaws.{one_by_one_list}
 use Rattle.rga_ops.proofs.EarlyLaws.{no_early_if_taken}
 use Rattle.rga_ops.proofs.TakenLaws.{taken_list_is}
-use Rattle.rga_ops.specs.declared.refusal.Refusal.TheVariants.{Memory}
+use Rattle.rga_records.proofs.BackLaws.{not_refused}
 use Rattle.rga_records.proofs.taker.RecordsTaker.apply_all.Goals as goal
-
--- Ok is no want of memory
-not_refused : passed ≡ bad Memory → ⊥
-not_refused h = absurd (cc)
 
 pub returns-in-Ok-clause-exact : goal.returns-in-Ok-clause-exact
 returns-in-Ok-clause-exact c = λ _.
