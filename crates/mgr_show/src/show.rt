@@ -42,7 +42,7 @@ pub fn show_ops<R: Read, W: Write>(
         ⊎ BeginsToShow W.contents writer.old writer.new bytes)) }
     ensures flushed { OnOk result (writer.new.flushed ≡ true) }
 
-    // Of what was taken the content alone is told: the store is made and dropped here.
+    // Of what was taken the content alone is told: the records are made and dropped here.
     ensures whole_lines { result ≡ Err ShowFault.Read → (c : Content) × HasTakenWholeLines Log
         R.remaining reader.old reader.new (content_intake MAX_LIMIT nothing c) }
     // A call that failed is told as such, and not as something else.

@@ -9,13 +9,14 @@ use rga_ops::Refusal;
 /// A store that tells its operations one by one. Whether it makes a list of them first is its own
 /// affair.
 pub trait Teller: TextStore {
-    /// Tells the insertions by rising identifier. `Memory` where the listener answers it.
+    /// Tells the insertions by rising identifier. `Memory` alone, where the listener answers it or a
+    /// list has no room.
     fn tell_insertions<L: Listener>(&self, listener: &mut L) -> Result<(), Refusal>
         ensures ok { OnOk result
             (L.hears listener.old (insertions (Self.content self.now)) listener.new) }
         ensures memory { IfErr result (λ e. e ≡ Refusal.Memory) };
 
-    /// Tells the deletions by rising identifier. `Memory` where the listener answers it.
+    /// Tells the deletions by rising identifier. `Memory` alone, as of insertions.
     fn tell_deletions<L: Listener>(&self, listener: &mut L) -> Result<(), Refusal>
         ensures ok { OnOk result
             (L.hears listener.old (deletions (Self.content self.now)) listener.new) }
