@@ -2,22 +2,13 @@
 use rga_brief::{Claim, claims_of, read_claim, summary_from, write_claim};
 use rga_digest::{Block, missing, summary_of};
 use rga_ops::{Op, Refusal};
-use rga_store::{Taker, TextStore};
 use rga_tree::TreeStore;
 use std::alloc::Global;
-use test_fixtures::ops_of;
-
-/// A store that took the operations that words say.
-fn store_of(alloc: Global, words: &str) -> Result<TreeStore, Refusal> {
-    let mut store = TreeStore::new(alloc, 99)?;
-    let ops = ops_of(alloc, words)?;
-    store.apply_all(&ops)?;
-    Ok(store)
-}
+use test_fixtures::{ops_of, store_of};
 
 /// The claims of the summary of a store, each written and read.
 fn claims_over(alloc: Global, words: &str) -> Result<Vec<Claim>, Refusal> {
-    let store = store_of(alloc, words)?;
+    let store = store_of::<TreeStore>(alloc, 99, words)?;
     let mut claims = Vec::new(alloc);
     for claim in &claims_of(alloc, &summary_of(alloc, &store)?)? {
         let line = write_claim(alloc, *claim)?;
@@ -30,7 +21,7 @@ fn claims_over(alloc: Global, words: &str) -> Result<Vec<Claim>, Refusal> {
 
 /// What of the own operations is missing at another store, by its claims.
 fn missing_at(alloc: Global, own: &str, other: &str) -> Result<Vec<Op>, Refusal> {
-    let own = store_of(alloc, own)?;
+    let own = store_of::<TreeStore>(alloc, 99, own)?;
     let claims = claims_over(alloc, other)?;
     match summary_from(alloc, &claims)? {
         Some(summary) => missing(alloc, &own, &summary),

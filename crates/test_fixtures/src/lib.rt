@@ -6,11 +6,13 @@
 #![tactic(auto)]
 
 mod devices;
+mod lists;
 mod operations;
 mod random;
 mod stores;
 
 pub use devices::Narrow;
+pub use lists::{is, same};
 pub use operations::{are_ops_of, chain, deletion, id, insertion, op_of, ops_of, prints, spells};
 pub use random::Random;
 pub use stores::{store_of, store_shows, take};
