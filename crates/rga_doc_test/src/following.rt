@@ -41,18 +41,17 @@ fn follows<S: TextStore>(alloc: Global, doc: &mut Doc<S>, row: &Row) -> Result<b
     Ok(shown && shows(doc, edited) && store_shows(alloc, doc.store(), edited))
 }
 
-/// Whether a document of three elements follows so.
-fn is_followed<S: TextStore>(alloc: Global, row: &Row) -> bool {
-    match document::<S>(alloc, (1, 100, ABC)) {
-        Ok(mut doc) => follows(alloc, &mut doc, row) == Ok(true),
-        Err(_) => false,
-    }
+/// The same of a document of three elements.
+fn is_followed<S: TextStore>(alloc: Global, row: &Row) -> Result<bool, Refusal> {
+    let mut doc = document::<S>(alloc, (1, 100, ABC))?;
+    follows(alloc, &mut doc, row)
 }
 
 #[test]
 fn listed_document_follows_operations(rt: HostRuntime) {
     for row in FOLLOWED {
-        assert!(rt; is_followed::<TreeStore>(rt.alloc(), row), "{row:?}");
+        let followed = is_followed::<TreeStore>(rt.alloc(), row);
+        assert!(rt; followed == Ok(true), "{row:?}");
     }
 }
 
@@ -76,16 +75,15 @@ fn follows_many<S: TextStore>(
 }
 
 /// The same of a document of three elements.
-fn are_followed<S: TextStore>(alloc: Global, count: u64) -> bool {
-    match document::<S>(alloc, (1, 1000, ABC)) {
-        Ok(mut doc) => follows_many(alloc, &mut doc, count) == Ok(true),
-        Err(_) => false,
-    }
+fn are_followed<S: TextStore>(alloc: Global, count: u64) -> Result<bool, Refusal> {
+    let mut doc = document::<S>(alloc, (1, 1000, ABC))?;
+    follows_many(alloc, &mut doc, count)
 }
 
 #[test]
 fn long_exchange_is_listed_anew(rt: HostRuntime) {
     for count in 66..71 {
-        assert!(rt; are_followed::<TreeStore>(rt.alloc(), count), "{count}");
+        let followed = are_followed::<TreeStore>(rt.alloc(), count);
+        assert!(rt; followed == Ok(true), "{count}");
     }
 }

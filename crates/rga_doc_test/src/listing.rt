@@ -115,19 +115,16 @@ fn stays_true<S: TextStore>(alloc: Global, doc: &mut Doc<S>, seed: u64) -> Resul
     Ok(true)
 }
 
-fn starts_and_stays_true<S: TextStore>(alloc: Global, seed: u64) -> bool {
-    match document::<S>(alloc, (1, 1000, AB)) {
-        Ok(mut doc) => stays_true(alloc, &mut doc, seed) == Ok(true),
-        Err(_) => false,
-    }
+/// The same of a new document.
+fn starts_and_stays_true<S: TextStore>(alloc: Global, seed: u64) -> Result<bool, Refusal> {
+    let mut doc = document::<S>(alloc, (1, 1000, AB))?;
+    stays_true(alloc, &mut doc, seed)
 }
 
 #[test]
 fn list_stays_the_text_of_the_store(rt: HostRuntime) {
     for seed in 1..4 {
-        assert!(rt;
-            starts_and_stays_true::<TreeStore>(rt.alloc(), seed),
-            "{seed}"
-        );
+        let stays = starts_and_stays_true::<TreeStore>(rt.alloc(), seed);
+        assert!(rt; stays == Ok(true), "{seed}");
     }
 }

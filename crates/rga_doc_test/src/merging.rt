@@ -16,12 +16,8 @@ fn two_people_write<S: TextStore>(alloc: Global, alice: &mut Doc<S>, text: &str)
 }
 
 fn edit_apart<S: TextStore>(alloc: Global, alice: &mut Doc<S>) -> Result<(), Refusal> {
-    let mut bob = copy_for(alloc, alice, 2)?;
+    let mut bob = Doc::new(alloc, alice.store().copy()?, 2)?;
     edit_both(alice, &mut bob)
-}
-
-fn copy_for<S: TextStore>(alloc: Global, doc: &Doc<S>, replica: u16) -> Result<Doc<S>, Refusal> {
-    Doc::new(alloc, doc.store().copy()?, replica)
 }
 
 fn edit_both<S: TextStore>(alice: &mut Doc<S>, bob: &mut Doc<S>) -> Result<(), Refusal> {
