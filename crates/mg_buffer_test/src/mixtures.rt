@@ -2,28 +2,14 @@
 use crate::sessions::{FILL, Session, open_session};
 use mg_buffer::{BufferFault, Memo};
 use mg_plain::{Command, Notice, View, plan};
-use rga_ops::Refusal;
-use rga_store::Taker;
-use std::alloc::{AllocError, Global};
-
-/// Numbers that look random, the same in each run (the multiplier of Knuth's MMIX).
-#[derive(Drop)]
-struct Dice {
-    state: u64,
-}
-
-impl Dice {
-    fn roll(&mut self, sides: u64) -> u64 {
-        self.state = self
-            .state
-            .wrapping_mul(6364136223846793005)
-            .wrapping_add(1442695040888963407);
-        (self.state >> 33) % sides.max(1)
-    }
-}
+use rga_ops::{Refusal, Splice};
+use rga_store::{Taker, TextStore};
+use rga_tree::TreeStore;
+use std::alloc::Global;
+use test_fixtures::Random;
 
 /// A text with two places, which the plans of commands edit.
-#[derive(Drop)]
+#[derive(PartialEq, Drop)]
 struct Plain {
     text: Vec<char>,
     point: usize,
@@ -31,7 +17,7 @@ struct Plain {
 }
 
 /// What a buffer shows.
-fn shown(s: &mut Session) -> Result<Plain, Refusal> {
+fn shown<S: TextStore>(s: &mut Session<S>) -> Result<Plain, Refusal> {
     s.buffer.list()?;
     let Some(view) = s.buffer.view(&s.memo) else {
         return Err(Refusal::Memory);
@@ -43,21 +29,26 @@ fn shown(s: &mut Session) -> Result<Plain, Refusal> {
     })
 }
 
-fn same(a: &Plain, b: &Plain) -> bool {
-    a.text.as_slice() == b.text.as_slice() && a.point == b.point && a.mark == b.mark
-}
-
 /// The text with one part replaced.
 fn spliced(
     alloc: Global,
     text: &[char],
     (lo, hi): (usize, usize),
     put: &[char],
-) -> Result<Vec<char>, AllocError> {
+) -> Result<Vec<char>, Refusal> {
     let mut new = Vec::new(alloc);
     new.extend_from_slice(&text[..lo.min(text.len())])?;
     new.extend_from_slice(put)?;
     new.extend_from_slice(&text[hi.min(text.len())..])?;
+    Ok(new)
+}
+
+/// The text with the parts of all splices replaced, in turn.
+fn spliced_each(alloc: Global, text: &[char], splices: &[Splice]) -> Result<Vec<char>, Refusal> {
+    let mut new = Vec::from_slice(alloc, text)?;
+    for splice in splices {
+        new = spliced(alloc, &new, (splice.lo, splice.hi), &splice.put)?;
+    }
     Ok(new)
 }
 
@@ -69,34 +60,24 @@ fn edited(
     command: &Command,
 ) -> Result<Plain, BufferFault> {
     let length = before.text.as_slice().len();
-    let mark = match before.mark {
-        Some(mark) => Some(mark.min(length)),
-        None => None,
-    };
     let view = View {
         text: &before.text,
         point: before.point.min(length),
-        mark,
+        mark: before.mark.map(|mark| mark.min(length)),
         kill: &memo.kill,
         goal: memo.goal,
         last: memo.kind,
     };
     let plan = plan(alloc, command, 1, &view, FILL)?;
-    let mut text = Vec::from_slice(alloc, &before.text).map_err(|_| Refusal::Memory)?;
-    for splice in &plan.splices {
-        text = spliced(alloc, &text, (splice.lo, splice.hi), &splice.put).map_err(
-            |_| Refusal::Memory,
-        )?;
-    }
     Ok(Plain {
-        text,
+        text: spliced_each(alloc, &before.text, &plan.splices)?,
         point: plan.point,
         mark: plan.mark,
     })
 }
 
 /// The command of a number.
-fn command_of(number: u64) -> Command {
+fn command_of(number: usize) -> Command {
     match number {
         0 => Command::Newline,
         1 => Command::Insert(' '),
@@ -122,22 +103,22 @@ fn command_of(number: u64) -> Command {
 
 /// Runs a command, and tells whether the buffer then shows what the plan makes of the text, or
 /// refuses as the plan does.
-fn runs(s: &mut Session, command: &Command) -> Result<bool, BufferFault> {
+fn runs<S: TextStore>(s: &mut Session<S>, command: &Command) -> Result<bool, BufferFault> {
     let before = shown(s)?;
     let expected = edited(s.alloc, &before, &s.memo, command);
     let answer = s.run(command);
     let after = shown(s)?;
     Ok(match (expected, answer) {
-        (Ok(plain), Ok(())) => same(&plain, &after),
-        (Err(fault), Err(answer)) => fault == answer && same(&before, &after),
+        (Ok(plain), Ok(())) => plain == after,
+        (Err(fault), Err(answer)) => fault == answer && before == after,
         _ => false,
     })
 }
 
 /// Runs a command or an undo that is rolled, and tells whether that went well.
-fn steps(s: &mut Session, dice: &mut Dice) -> Result<bool, BufferFault> {
-    if dice.roll(6) > 0 {
-        return runs(s, &command_of(dice.roll(30)));
+fn steps<S: TextStore>(s: &mut Session<S>, random: &mut Random) -> Result<bool, BufferFault> {
+    if random.below(6) > 0 {
+        return runs(s, &command_of(random.below(30)));
     }
     match s.buffer.undo(&mut s.memo) {
         Ok(()) | Err(BufferFault::Notice(Notice::NothingToUndo)) => Ok(true),
@@ -146,10 +127,14 @@ fn steps(s: &mut Session, dice: &mut Dice) -> Result<bool, BufferFault> {
 }
 
 /// Types, moves or deletes in the other session, and passes all operations on, both ways.
-fn exchanges(s: &mut Session, other: &mut Session, dice: &mut Dice) -> Result<(), BufferFault> {
+fn exchanges<S: TextStore>(
+    s: &mut Session<S>,
+    other: &mut Session<S>,
+    random: &mut Random,
+) -> Result<(), BufferFault> {
     other.buffer.apply_all(s.buffer.unsaved())?;
     s.buffer.mark_saved();
-    let _ = match dice.roll(4) {
+    let _ = match random.below(4) {
         0 => other.run(&Command::DeleteChar),
         1 => other.run(&Command::BackwardWord),
         2 => other.run(&Command::EndOfBuffer),
@@ -161,7 +146,7 @@ fn exchanges(s: &mut Session, other: &mut Session, dice: &mut Dice) -> Result<()
 }
 
 /// Undoes all, and tells whether nothing but what the other session typed is left.
-fn goes_back(s: &mut Session) -> Result<bool, BufferFault> {
+fn goes_back<S: TextStore>(s: &mut Session<S>) -> Result<bool, BufferFault> {
     s.buffer.idle(&mut s.memo);
     for _ in 0..10000u32 {
         match s.buffer.undo(&mut s.memo) {
@@ -177,50 +162,51 @@ fn goes_back(s: &mut Session) -> Result<bool, BufferFault> {
 
 /// A turn: a step, and now and then an exchange behind it, unless the sessions stay apart. Tells
 /// whether it went well.
-fn turn(
-    s: &mut Session,
-    other: &mut Session,
-    dice: &mut Dice,
+fn turn<S: TextStore>(
+    s: &mut Session<S>,
+    other: &mut Session<S>,
+    random: &mut Random,
     apart: bool,
 ) -> Result<bool, BufferFault> {
-    let answer = steps(s, dice);
-    if answer != Ok(true) || apart || dice.roll(4) > 0 {
+    let answer = steps(s, random);
+    if answer != Ok(true) || apart || random.below(4) > 0 {
         return answer;
     }
-    match exchanges(s, other, dice) {
-        Ok(()) => Ok(true),
-        Err(fault) => Err(fault),
-    }
+    exchanges(s, other, random)?;
+    Ok(true)
 }
 
 /// Many turns, up to one that does not go well.
-fn turns(
-    s: &mut Session,
-    other: &mut Session,
+fn turns<S: TextStore>(
+    s: &mut Session<S>,
+    other: &mut Session<S>,
     seed: u64,
     apart: bool,
 ) -> Result<bool, BufferFault> {
-    let mut dice = Dice { state: seed };
+    let mut random = Random::new(seed);
     for _ in 0..100u32 {
-        let answer = turn(s, other, &mut dice, apart);
-        if answer != Ok(true) {
-            return answer;
+        if !turn(s, other, &mut random, apart)? {
+            return Ok(false);
         }
     }
     Ok(true)
 }
 
 /// Whether two sessions show the same once they exchanged what they have.
-fn show_the_same(s: &mut Session, other: &mut Session, seed: u64) -> Result<bool, BufferFault> {
-    exchanges(s, other, &mut Dice { state: seed })?;
+fn show_the_same<S: TextStore>(
+    s: &mut Session<S>,
+    other: &mut Session<S>,
+    seed: u64,
+) -> Result<bool, BufferFault> {
+    exchanges(s, other, &mut Random::new(seed))?;
     let text = shown(s)?.text;
     Ok(shown(other)?.text.as_slice() == text.as_slice())
 }
 
 /// Whether the turns go well and all can be undone, which leaves nothing, or what both show.
-fn mixes_together(
-    s: &mut Session,
-    other: &mut Session,
+fn mixes_together<S: TextStore>(
+    s: &mut Session<S>,
+    other: &mut Session<S>,
     seed: u64,
     apart: bool,
 ) -> Result<bool, BufferFault> {
@@ -234,19 +220,19 @@ fn mixes_together(
 }
 
 /// The same beside a new session of another replica.
-fn mixes_beside(
+fn mixes_beside<S: TextStore>(
     alloc: Global,
-    s: &mut Session,
+    s: &mut Session<S>,
     seed: u64,
     apart: bool,
 ) -> Result<bool, BufferFault> {
-    let mut other = open_session(alloc, 2, 20000)?;
+    let mut other = open_session::<S>(alloc, 2, 20000)?;
     mixes_together(s, &mut other, seed, apart)
 }
 
 /// The same of a new session. Each function owns one session at most, which is proved far sooner.
-fn mixes(alloc: Global, seed: u64, apart: bool) -> Result<bool, BufferFault> {
-    let mut s = open_session(alloc, 1, 20000)?;
+fn mixes<S: TextStore>(alloc: Global, seed: u64, apart: bool) -> Result<bool, BufferFault> {
+    let mut s = open_session::<S>(alloc, 1, 20000)?;
     mixes_beside(alloc, &mut s, seed, apart)
 }
 
@@ -254,7 +240,10 @@ fn mixes(alloc: Global, seed: u64, apart: bool) -> Result<bool, BufferFault> {
 fn commands_do_what_their_plans_do_to_a_plain_text(rt: HostRuntime) {
     for seed in 0..4u64 {
         for apart in [true, false] {
-            assert!(rt; mixes(rt.alloc(), seed, apart) == Ok(true), "{seed}");
+            assert!(rt;
+                mixes::<TreeStore>(rt.alloc(), seed, apart) == Ok(true),
+                "{seed}"
+            );
         }
     }
 }

@@ -1,17 +1,16 @@
 //! Stores and logs that are compacted, to devices that fail, and logs that are written anew by a
 //! disk of which a step fails.
 use crate::disks::has_made;
-use crate::runs::holding;
 use crate::sending::{device, is_filled};
 use mgr_compact::compact_note;
 use mgr_show::{ShowFault, compact_log};
 use rga_devices::Counted;
 use rga_exchange::{SendFault, compact};
 use rga_ops::Refusal;
-use rga_store::{Taker, TextStore};
+use rga_store::TextStore;
 use rga_tree::TreeStore;
 use std::alloc::Global;
-use test_fixtures::{id, insertion};
+use test_fixtures::{chain, id, store_of};
 use test_ports::MemoryLogs;
 
 /// Two runs and a deletion.
@@ -27,15 +26,16 @@ const ALONE: &str = r#"{"char":"a","id":[1,1],"op":"ins","parent":[0,0]}
 "#;
 
 /// Whether a store of these operations is compacted to so many lines, of this text.
-fn compacts(alloc: Global, words: &str, lines: u64, text: &str) -> bool {
-    match holding(alloc, 10000, words) {
-        Ok(store) => {
-            let mut writer = Counted::new(Vec::new(alloc));
-            let answer = compact(alloc, &store, &mut writer);
-            answer == Ok(lines) && writer.into_inner().as_slice() == text.as_bytes()
-        }
-        Err(_) => false,
-    }
+fn compacts<S: TextStore>(
+    alloc: Global,
+    words: &str,
+    lines: u64,
+    text: &str,
+) -> Result<bool, Refusal> {
+    let store = store_of::<S>(alloc, 10000, words)?;
+    let mut writer = Counted::new(Vec::new(alloc));
+    let answer = compact(alloc, &store, &mut writer);
+    Ok(answer == Ok(lines) && writer.into_inner().as_slice() == text.as_bytes())
 }
 
 /// The operations of the two runs and the deletion.
@@ -43,7 +43,7 @@ const WORDS: &str = "a1.1<0.0 b2.1<1.1 c3.1<2.1 x1.2<0.0 y2.2<1.2 -2.1";
 
 #[test]
 fn a_store_is_compacted_to_runs_and_deletions(rt: HostRuntime) {
-    for (words, lines, text) in [
+    const ROWS: &[(&str, u64, &str)] = &[
         ("", 0, ""),
         (WORDS, 3, THREE),
         (
@@ -52,50 +52,48 @@ fn a_store_is_compacted_to_runs_and_deletions(rt: HostRuntime) {
             THREE,
         ),
         ("a1.1<0.0 b3.1<1.1 c4.2<3.1", 3, ALONE),
-    ] {
-        assert!(rt; compacts(rt.alloc(), words, lines, text), "{words}");
+    ];
+    for (words, lines, text) in ROWS {
+        let compacted = compacts::<TreeStore>(rt.alloc(), words, *lines, text);
+        assert!(rt; compacted == Ok(true), "{words}");
     }
 }
 
-/// A store of so many insertions, each behind the last.
-fn chain(alloc: Global, count: u64) -> Result<TreeStore, Refusal> {
-    let mut store = TreeStore::new(alloc, 10000)?;
-    for k in 0..count {
-        store.apply(insertion((k.saturating_add(1), 7), (k, 7), 'z')?)?;
-    }
-    Ok(store)
-}
-
-/// Whether a chain of so many is compacted to so many lines and bytes.
-fn has_sizes(alloc: Global, count: u64, lines: u64, bytes: usize) -> bool {
-    match chain(alloc, count) {
-        Ok(store) => {
-            let mut writer = Counted::new(Vec::new(alloc));
-            let answer = compact(alloc, &store, &mut writer);
-            answer == Ok(lines) && writer.into_inner().len() == bytes
-        }
-        Err(_) => false,
-    }
+/// Whether a store of so many insertions, each behind the last, is compacted to so many lines and
+/// bytes.
+fn has_sizes<S: TextStore>(
+    alloc: Global,
+    count: u64,
+    lines: u64,
+    bytes: usize,
+) -> Result<bool, Refusal> {
+    let mut store = S::new(alloc, 10000)?;
+    store.apply_all(&chain(alloc, (1, 7), (0, 0), count, 'z')?)?;
+    let mut writer = Counted::new(Vec::new(alloc));
+    let answer = compact(alloc, &store, &mut writer);
+    Ok(answer == Ok(lines) && writer.into_inner().len() == bytes)
 }
 
 #[test]
 fn a_run_has_4096_characters_at_most(rt: HostRuntime) {
     for (count, lines, bytes) in [(1, 1, 50), (4096, 1, 4145), (4097, 2, 4201)] {
-        assert!(rt; has_sizes(rt.alloc(), count, lines, bytes), "{count}");
+        let compacted = has_sizes::<TreeStore>(rt.alloc(), count, lines, bytes);
+        assert!(rt; compacted == Ok(true), "{count}");
     }
 }
 
 /// Whether this is answered where the store is compacted to a device that has room for so many
 /// bytes, and takes few of them in a write.
-fn fills(alloc: Global, room: usize, flushes: bool, expected: Result<u64, SendFault>) -> bool {
-    match holding(alloc, 10000, WORDS) {
-        Ok(store) => {
-            let mut writer = Counted::new(device(alloc, room, 7, flushes));
-            let answer = compact(alloc, &store, &mut writer);
-            is_filled(writer, room, answer, expected, THREE)
-        }
-        Err(_) => false,
-    }
+fn fills<S: TextStore>(
+    alloc: Global,
+    room: usize,
+    flushes: bool,
+    expected: Result<u64, SendFault>,
+) -> Result<bool, Refusal> {
+    let store = store_of::<S>(alloc, 10000, WORDS)?;
+    let mut writer = Counted::new(device(alloc, room, 7, flushes));
+    let answer = compact(alloc, &store, &mut writer);
+    Ok(is_filled(writer, room, answer, expected, THREE))
 }
 
 #[test]
@@ -107,7 +105,8 @@ fn devices_that_fail_have_a_beginning_of_the_lines(rt: HostRuntime) {
         (all.saturating_sub(1), true, Err(SendFault::Write)),
         (0, true, Err(SendFault::Write)),
     ] {
-        assert!(rt; fills(rt.alloc(), room, flushes, answer), "{room}");
+        let filled = fills::<TreeStore>(rt.alloc(), room, flushes, answer);
+        assert!(rt; filled == Ok(true), "{room}");
     }
 }
 
@@ -125,6 +124,14 @@ const REFUSED: &str = r#"{"char":"a","id":[1,1],"op":"ins","parent":[0,0]}
 {"id":[1,1],"op":"run","parent":[0,0],"text":"bc"}
 "#;
 
+/// What is answered to it.
+fn conflict() -> Result<(), ShowFault> {
+    match id(1, 1) {
+        Ok(id) => Err(ShowFault::Refused(2, Refusal::Conflict(id))),
+        Err(_) => Ok(()),
+    }
+}
+
 /// Whether this is answered to a log, and this written.
 fn log_compacts(alloc: Global, log: &str, answer: Result<(), ShowFault>, text: &str) -> bool {
     let mut reader = Counted::new(log.as_bytes());
@@ -135,24 +142,13 @@ fn log_compacts(alloc: Global, log: &str, answer: Result<(), ShowFault>, text: &
 
 #[test]
 fn a_log_is_compacted_where_it_is_accepted(rt: HostRuntime) {
-    for (log, answer, text) in [
-        ("", Ok(()), ""),
-        (LOG, Ok(()), THREE),
-        (THREE, Ok(()), THREE),
-        (ALONE, Ok(()), ALONE),
-        (REFUSED, conflict(), ""),
-        (&LOG[..20], Err(ShowFault::Torn(1)), ""),
-    ] {
-        assert!(rt; log_compacts(rt.alloc(), log, answer, text), "{log}");
+    let alloc = rt.alloc();
+    for (log, text) in [("", ""), (LOG, THREE), (THREE, THREE), (ALONE, ALONE)] {
+        assert!(rt; log_compacts(alloc, log, Ok(()), text), "{log}");
     }
-}
-
-/// What is answered to the log that is refused.
-fn conflict() -> Result<(), ShowFault> {
-    match id(1, 1) {
-        Ok(id) => Err(ShowFault::Refused(2, Refusal::Conflict(id))),
-        Err(_) => Ok(()),
-    }
+    assert!(rt; log_compacts(alloc, REFUSED, conflict(), ""), "refused");
+    let torn = Err(ShowFault::Torn(1));
+    assert!(rt; log_compacts(alloc, &LOG[..20], torn, ""), "torn");
 }
 
 /// Whether this is answered where a log is written anew by a disk that makes so many steps, which
@@ -176,25 +172,28 @@ fn rewrites(
     }
 }
 
+/// How many steps are made before one fails, these steps, and the log then.
+const STEPS: &[(usize, &str, &str)] = &[
+    (0, "", LOG),
+    (1, " empty", LOG),
+    (2, " empty write", LOG),
+    (3, " empty write sync", LOG),
+    (4, " empty write sync keep", LOG),
+    (5, " empty write sync keep name", THREE),
+];
+
+const ALL_STEPS: &str = " empty write sync keep name folder";
+
 #[test]
 fn a_log_that_is_written_anew_is_the_old_one_or_the_new_one(rt: HostRuntime) {
-    for (log, left, answer, line, text) in [
-        (LOG, 0, Err(ShowFault::Write), "", LOG),
-        (LOG, 1, Err(ShowFault::Write), " empty", LOG),
-        (LOG, 2, Err(ShowFault::Write), " empty write", LOG),
-        (LOG, 3, Err(ShowFault::Write), " empty write sync", LOG),
-        (LOG, 4, Err(ShowFault::Write), " empty write sync keep", LOG),
-        (
-            LOG,
-            5,
-            Err(ShowFault::Write),
-            " empty write sync keep name",
-            THREE,
-        ),
-        (LOG, 6, Ok(()), " empty write sync keep name folder", THREE),
-        (REFUSED, 6, conflict(), "", REFUSED),
-    ] {
-        let alloc = rt.alloc();
-        assert!(rt; rewrites(alloc, log, left, answer, line, text), "{left}");
+    let alloc = rt.alloc();
+    for (left, steps, text) in STEPS {
+        let answer = Err(ShowFault::Write);
+        assert!(rt; rewrites(alloc, LOG, *left, answer, steps, text), "{left}");
     }
+    assert!(rt; rewrites(alloc, LOG, 6, Ok(()), ALL_STEPS, THREE), "all");
+    assert!(rt;
+        rewrites(alloc, REFUSED, 6, conflict(), "", REFUSED),
+        "refused"
+    );
 }

@@ -1,11 +1,12 @@
 //! Exchanges that a device cuts off, and received again from the start.
 use rga_devices::{Counted, Fuse};
 use rga_exchange::{ReceiveFault, receive};
+use rga_ops::Refusal;
 use rga_store::TextStore;
 use rga_tree::TreeStore;
 use std::alloc::Global;
 use std::io::{Read, Result as IoResult};
-use test_fixtures::spells;
+use test_fixtures::store_shows;
 
 /// An exchange of three insertions: three lines of 50 bytes, and the end line of 23.
 const ABC: &str = r#"{"char":"a","id":[1,1],"op":"ins","parent":[0,0]}
@@ -36,9 +37,9 @@ impl Read for Pieces {
 }
 
 /// What is answered to the exchange by a reader that fails behind so many reads.
-fn answered(
+fn answered<S: TextStore>(
     alloc: Global,
-    store: &mut TreeStore,
+    store: &mut S,
     bytes: &'static [u8],
     reads: u64,
 ) -> Result<u64, ReceiveFault> {
@@ -46,23 +47,20 @@ fn answered(
     receive(alloc, store, &mut reader)
 }
 
-pub(crate) fn shows(alloc: Global, store: &TreeStore, text: &str) -> bool {
-    match store.text(alloc) {
-        Ok(chars) => spells(&chars, text),
-        Err(_) => false,
-    }
-}
-
 /// Whether so many reads lead to this text and, if not all is read, to a fault of the device; and
 /// then the same bytes from the start to the whole text.
-fn goes_on(alloc: Global, exchange: &'static str, reads: u64, text: &str) -> bool {
+fn goes_on<S: TextStore>(
+    alloc: Global,
+    exchange: &'static str,
+    reads: u64,
+    text: &str,
+) -> Result<bool, Refusal> {
     let bytes = exchange.as_bytes();
-    let Ok(mut store) = TreeStore::new(alloc, 10) else {
-        return false;
-    };
+    let mut store = S::new(alloc, 10)?;
     let first = answered(alloc, &mut store, bytes, reads);
-    let begun = first == Err(ReceiveFault::Read) && shows(alloc, &store, text);
-    begun && answered(alloc, &mut store, bytes, 5) == Ok(3) && shows(alloc, &store, "abc")
+    let begun = first == Err(ReceiveFault::Read) && store_shows(alloc, &store, text);
+    let again = answered(alloc, &mut store, bytes, 5);
+    Ok(begun && again == Ok(3) && store_shows(alloc, &store, "abc"))
 }
 
 #[test]
@@ -80,6 +78,7 @@ fn what_is_received_again_changes_nothing(rt: HostRuntime) {
         (HEAD_ABC, 4, "ab"),
     ];
     for (exchange, reads, text) in ROWS {
-        assert!(rt; goes_on(rt.alloc(), exchange, *reads, text), "{reads}");
+        let gone_on = goes_on::<TreeStore>(rt.alloc(), exchange, *reads, text);
+        assert!(rt; gone_on == Ok(true), "{reads}");
     }
 }

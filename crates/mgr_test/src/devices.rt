@@ -134,35 +134,31 @@ impl Write for Recording {
     }
 }
 
-fn counted(fault: Option<ErrorKind>) -> Counted<Recording> {
-    Counted::new(Recording { calls: 0, fault })
+/// What is asked of a device.
+#[derive(Clone, Copy, Debug)]
+enum Request {
+    Read,
+    Write,
+    Flush,
 }
 
-/// How many calls a read makes of a device that answers so.
-fn calls_of_a_read(fault: Option<ErrorKind>) -> u64 {
-    let mut reader = counted(fault);
-    drop(reader.read(&mut [0u8; 2]));
-    reader.into_inner().calls
-}
-
-fn calls_of_a_write(fault: Option<ErrorKind>) -> u64 {
-    let mut writer = counted(fault);
-    drop(writer.write(b"ab"));
-    writer.into_inner().calls
-}
-
-fn calls_of_a_flush(fault: Option<ErrorKind>) -> u64 {
-    let mut writer = counted(fault);
-    drop(writer.flush());
-    writer.into_inner().calls
+/// How many calls a request makes of a device that answers so.
+fn calls_of(request: Request, fault: Option<ErrorKind>) -> u64 {
+    let mut device = Counted::new(Recording { calls: 0, fault });
+    match request {
+        Request::Read => drop(device.read(&mut [0u8; 2])),
+        Request::Write => drop(device.write(b"ab")),
+        Request::Flush => drop(device.flush()),
+    }
+    device.into_inner().calls
 }
 
 #[test]
 fn a_call_is_one_call_of_the_device(rt: HostRuntime) {
     for fault in [None, Some(ErrorKind::Interrupted), Some(ErrorKind::Other)] {
-        let read = calls_of_a_read(fault);
-        let written = calls_of_a_write(fault);
-        let flushed = calls_of_a_flush(fault);
-        assert!(rt; (read, written, flushed) == (1, 1, 1), "{fault:?}");
+        for request in [Request::Read, Request::Write, Request::Flush] {
+            let calls = calls_of(request, fault);
+            assert!(rt; calls == 1, "{request:?} {fault:?}");
+        }
     }
 }

@@ -1,5 +1,6 @@
 //! Lines that are lent, and what no line says.
 use rga_lines::{Line, LineFault, MAX_LINE, Splitter, read_any, write_end, write_head, write_line};
+use rga_ops::Refusal;
 use std::alloc::Global;
 use test_fixtures::op_of;
 
@@ -68,12 +69,17 @@ fn a_long_line_ends_the_lines(rt: HostRuntime) {
     assert!(rt; ends_with_a_long_line(splitter));
 }
 
-/// Whether this is the line of the operation that the word says.
-fn is_line_of(alloc: Global, line: &str, word: &str) -> bool {
-    match op_of(word) {
-        Ok(op) => write_line(alloc, &op).is_ok_and(|written| written.as_str() == line),
+/// Whether this line was written.
+fn is_line(written: Result<String, LineFault>, line: &str) -> bool {
+    match written {
+        Ok(written) => written.as_str() == line,
         Err(_) => false,
     }
+}
+
+/// Whether this is the line of the operation that the word says.
+fn is_line_of(alloc: Global, line: &str, word: &str) -> Result<bool, Refusal> {
+    Ok(is_line(write_line(alloc, &op_of(word)?), line))
 }
 
 #[test]
@@ -85,15 +91,7 @@ fn operations_that_no_line_says_are_written(rt: HostRuntime) {
             r#"{"char":"a","id":[1,1],"op":"ins","parent":[1,1]}"#,
         ),
     ] {
-        assert!(rt; is_line_of(rt.alloc(), line, word), "{line}");
-    }
-}
-
-/// Whether this is the line of the end of an exchange of so many operations.
-fn is_end_of(alloc: Global, count: u64, line: &str) -> bool {
-    match write_end(alloc, count) {
-        Ok(written) => written.as_str() == line,
-        Err(_) => false,
+        assert!(rt; is_line_of(rt.alloc(), line, word) == Ok(true), "{line}");
     }
 }
 
@@ -103,18 +101,13 @@ fn ends_of_more_operations_than_a_note_has_are_written(rt: HostRuntime) {
         (1000000, r#"{"count":1000000,"op":"end"}"#),
         (u64::MAX, r#"{"count":18446744073709551615,"op":"end"}"#),
     ] {
-        assert!(rt; is_end_of(rt.alloc(), count, line), "{line}");
+        assert!(rt; is_line(write_end(rt.alloc(), count), line), "{line}");
     }
 }
 
 /// Whether this is the line that begins an exchange, and is read as that.
 fn is_head(alloc: Global, line: &str) -> bool {
-    match write_head(alloc) {
-        Ok(written) => {
-            written.as_str() == line && matches!(read_any(alloc, line.as_bytes()), Ok(Line::Head))
-        }
-        Err(_) => false,
-    }
+    is_line(write_head(alloc), line) && matches!(read_any(alloc, line.as_bytes()), Ok(Line::Head))
 }
 
 #[test]

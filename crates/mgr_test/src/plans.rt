@@ -20,53 +20,46 @@ fn is_refused(alloc: Global, text: &[char], command: &Command) -> bool {
     plan(alloc, command, 1, &view, 70).err() == Some(Notice::SearchFailed)
 }
 
+/// A search from behind a text of eleven characters, or a replacement by an `x`.
+#[derive(Clone, Copy, Debug)]
+enum Attempt {
+    SearchForward,
+    SearchBackward,
+    ReplaceOne,
+    ReplaceAll,
+}
+
+/// The command of an attempt.
+fn command_of(alloc: Global, attempt: Attempt, pattern: &str) -> Result<Command, AllocError> {
+    let pattern = copied(alloc, pattern)?;
+    let put = copied(alloc, "x")?;
+    match attempt {
+        Attempt::SearchForward => Ok(Command::SearchForward { pattern, start: 12 }),
+        Attempt::SearchBackward => Ok(Command::SearchBackward { pattern, start: 12 }),
+        Attempt::ReplaceOne => Ok(Command::ReplaceOne { pattern, put }),
+        Attempt::ReplaceAll => Ok(Command::ReplaceAll { pattern, put }),
+    }
+}
+
 /// Whether there is the command, and its search fails so.
-fn fails(alloc: Global, text: &str, command: Result<Command, AllocError>) -> bool {
-    match (chars_of(alloc, text), command) {
+fn fails(alloc: Global, text: &str, attempt: Attempt, pattern: &str) -> bool {
+    match (chars_of(alloc, text), command_of(alloc, attempt, pattern)) {
         (Ok(text), Ok(command)) => is_refused(alloc, &text, &command),
         _ => false,
     }
 }
 
-fn search(
-    alloc: Global,
-    direction: Direction,
-    pattern: &str,
-    start: usize,
-) -> Result<Command, AllocError> {
-    let pattern = chars_of(alloc, pattern)?.into();
-    match direction {
-        Direction::Forward => Ok(Command::SearchForward { pattern, start }),
-        Direction::Backward => Ok(Command::SearchBackward { pattern, start }),
+#[test]
+fn searches_behind_the_text_and_replacements_without_a_match_fail(rt: HostRuntime) {
+    const ROWS: &[(&str, Attempt, &str)] = &[
+        ("Foo bar foo", Attempt::SearchForward, ""),
+        ("Foo bar foo", Attempt::SearchBackward, "foo"),
+        ("a-a-a", Attempt::ReplaceOne, "a"),
+        ("a-a-a", Attempt::ReplaceAll, "a"),
+    ];
+    for (text, attempt, pattern) in ROWS {
+        assert!(rt; fails(rt.alloc(), text, *attempt, pattern), "{attempt:?}");
     }
-}
-
-#[test]
-fn searches_behind_the_text_fail(rt: HostRuntime) {
-    let forward = search(rt.alloc(), Direction::Forward, "", 12);
-    assert!(rt; fails(rt.alloc(), "Foo bar foo", forward), "forward");
-    let backward = search(rt.alloc(), Direction::Backward, "foo", 12);
-    assert!(rt; fails(rt.alloc(), "Foo bar foo", backward), "backward");
-}
-
-fn replace_one(alloc: Global, pattern: &str, put: &str) -> Result<Command, AllocError> {
-    let pattern = chars_of(alloc, pattern)?.into();
-    let put = chars_of(alloc, put)?.into();
-    Ok(Command::ReplaceOne { pattern, put })
-}
-
-fn replace_all(alloc: Global, pattern: &str, put: &str) -> Result<Command, AllocError> {
-    let pattern = chars_of(alloc, pattern)?.into();
-    let put = chars_of(alloc, put)?.into();
-    Ok(Command::ReplaceAll { pattern, put })
-}
-
-#[test]
-fn replacements_without_a_match_at_point_fail(rt: HostRuntime) {
-    let one = replace_one(rt.alloc(), "a", "x");
-    assert!(rt; fails(rt.alloc(), "a-a-a", one), "one");
-    let all = replace_all(rt.alloc(), "a", "x");
-    assert!(rt; fails(rt.alloc(), "a-a-a", all), "all");
 }
 
 /// Whether nothing is found of a pattern from behind a text on.
@@ -98,11 +91,10 @@ fn collected(alloc: Global, text: &str) -> Result<Chars, AllocError> {
 }
 
 /// Whether the characters of two texts are equal, of which one is copied and one collected.
-fn are_alike(alloc: Global, a: &str, b: &str) -> Option<bool> {
-    match (copied(alloc, a), collected(alloc, b)) {
-        (Ok(a), Ok(b)) => Some(a.as_slice() == b.as_slice()),
-        _ => None,
-    }
+fn are_alike(alloc: Global, a: &str, b: &str) -> Result<bool, AllocError> {
+    let copied = copied(alloc, a)?;
+    let collected = collected(alloc, b)?;
+    Ok(copied.as_slice() == collected.as_slice())
 }
 
 #[test]
@@ -115,6 +107,6 @@ fn characters_are_compared(rt: HostRuntime) {
         ("", "f", false),
         ("é漢", "é漢", true),
     ] {
-        assert!(rt; are_alike(rt.alloc(), a, b) == Some(*expected), "{a} {b}");
+        assert!(rt; are_alike(rt.alloc(), a, b) == Ok(*expected), "{a} {b}");
     }
 }

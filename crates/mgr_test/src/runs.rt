@@ -1,39 +1,36 @@
 //! Runs of insertions, which a store that is nearly full takes whole or not at all.
-use crate::cuts::shows;
 use rga_devices::Counted;
 use rga_exchange::read_log;
 use rga_ops::Refusal;
 use rga_store::{Taker, TextStore};
 use rga_tree::TreeStore;
 use std::alloc::Global;
-use test_fixtures::{ops_of, prints};
+use test_fixtures::{prints, store_of, store_shows};
 
 const HELLO: &str = r#"{"id":[1,2],"op":"run","parent":[0,0],"text":"hello"}"#;
 
-/// A store of this limit that took these operations.
-pub(crate) fn holding(alloc: Global, limit: usize, words: &str) -> Result<TreeStore, Refusal> {
-    let mut store = TreeStore::new(alloc, limit)?;
-    store.apply_all(&ops_of(alloc, words)?)?;
-    Ok(store)
-}
-
 /// Whether this is answered to a log of the run `hello` alone, whose line ends without a newline.
-fn answers(alloc: Global, store: &mut TreeStore, answer: &str) -> bool {
+fn answers<T: Taker>(alloc: Global, taker: &mut T, answer: &str) -> bool {
     let mut reader = Counted::new(HELLO.as_bytes());
-    prints(alloc, &read_log(alloc, store, &mut reader), answer)
+    prints(alloc, &read_log(alloc, taker, &mut reader), answer)
 }
 
 /// Whether a store of this limit that took these operations answers so, and then shows this text and
 /// knows so many identifiers.
-fn takes(alloc: Global, limit: usize, words: &str, answer: &str, text: &str, known: usize) -> bool {
-    match holding(alloc, limit, words) {
-        Ok(mut store) => {
-            answers(alloc, &mut store, answer)
-                && shows(alloc, &store, text)
-                && store.known() == known
-        }
-        Err(_) => false,
-    }
+fn takes<S: TextStore>(
+    alloc: Global,
+    limit: usize,
+    words: &str,
+    answer: &str,
+    text: &str,
+    known: usize,
+) -> Result<bool, Refusal> {
+    let mut store = store_of::<S>(alloc, limit, words)?;
+    Ok(
+        answers(alloc, &mut store, answer)
+            && store_shows(alloc, &store, text)
+            && store.known() == known,
+    )
 }
 
 /// What is answered where the third element of the run is another one.
@@ -47,9 +44,7 @@ fn a_run_is_taken_whole_or_not_at_all(rt: HostRuntime) {
         (4, "h1.2<0.0 e2.2<1.2", "Err(Refused(1, Full))", "he", 2),
         (3, "z3.2<0.0", CONFLICT, "z", 1),
     ] {
-        assert!(rt;
-            takes(rt.alloc(), *limit, words, answer, text, *known),
-            "{answer}"
-        );
+        let taken = takes::<TreeStore>(rt.alloc(), *limit, words, answer, text, *known);
+        assert!(rt; taken == Ok(true), "{answer}");
     }
 }

@@ -1,12 +1,13 @@
 //! Saves over a port whose calls are refused in turn.
-use mg_buffer::Memo;
+use mg_buffer::{BufferFault, Memo};
 use mg_files::{CallKind, Found, VisitedBuffer};
 use mg_plain::Command;
+use rga_store::TextStore;
 use rga_tree::TreeStore;
 use std::alloc::Global;
 use test_ports::MemoryPort;
 
-fn empty(alloc: Global) -> Option<VisitedBuffer<TreeStore>> {
+fn empty<S: TextStore>(alloc: Global) -> Option<VisitedBuffer<S>> {
     let found = Found {
         log: None,
         text: None,
@@ -16,9 +17,17 @@ fn empty(alloc: Global) -> Option<VisitedBuffer<TreeStore>> {
     Some(opened)
 }
 
+fn type_letter<S: TextStore>(
+    alloc: Global,
+    opened: &mut VisitedBuffer<S>,
+) -> Result<(), BufferFault> {
+    let mut memo = Memo::new(alloc);
+    opened.buffer.run(&Command::Insert('a'), 1, &mut memo, 70)
+}
+
 /// Saves once for each letter, where the call that it stands for is refused: the append, the whole
 /// log, the text, or none.
-fn save_each(opened: &mut VisitedBuffer<TreeStore>, port: &mut MemoryPort, letters: &str) {
+fn save_each<S: TextStore>(opened: &mut VisitedBuffer<S>, port: &mut MemoryPort, letters: &str) {
     for letter in letters.chars() {
         port.refused = match letter {
             'a' => Some(CallKind::Append),
@@ -31,9 +40,9 @@ fn save_each(opened: &mut VisitedBuffer<TreeStore>, port: &mut MemoryPort, lette
 }
 
 /// Whether these are the calls of the saves, in words, and whether something is still unsaved then.
-fn saves(
+fn saves<S: TextStore>(
     alloc: Global,
-    opened: &mut VisitedBuffer<TreeStore>,
+    opened: &mut VisitedBuffer<S>,
     letters: &str,
     calls: &str,
     unsaved: bool,
@@ -45,18 +54,10 @@ fn saves(
 }
 
 /// The same of a note in which `a` was typed.
-fn tells(alloc: Global, letters: &str, calls: &str, unsaved: bool) -> bool {
-    match empty(alloc) {
-        Some(mut opened) => {
-            let mut memo = Memo::new(alloc);
-            opened
-                .buffer
-                .run(&Command::Insert('a'), 1, &mut memo, 70)
-                .is_ok()
-                && saves(alloc, &mut opened, letters, calls, unsaved)
-        }
-        None => false,
-    }
+fn tells<S: TextStore>(alloc: Global, letters: &str, calls: &str, unsaved: bool) -> Option<bool> {
+    let mut opened = empty::<S>(alloc)?;
+    let typed = type_letter(alloc, &mut opened) == Ok(());
+    Some(typed && saves(alloc, &mut opened, letters, calls, unsaved))
 }
 
 #[test]
@@ -77,6 +78,7 @@ fn what_a_refused_save_left_is_saved_by_the_next(rt: HostRuntime) {
         ("tt-", " append 50 text 1! text 1! text 1", false),
     ];
     for (letters, calls, unsaved) in ROWS {
-        assert!(rt; tells(rt.alloc(), letters, calls, *unsaved), "{letters}");
+        let told = tells::<TreeStore>(rt.alloc(), letters, calls, *unsaved);
+        assert!(rt; told == Some(true), "{letters}");
     }
 }

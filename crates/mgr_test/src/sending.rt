@@ -5,15 +5,11 @@ use rga_lines::{LineFault, write_line};
 use rga_ops::{Op, Refusal};
 use std::alloc::Global;
 use std::process::Abort;
-use test_fixtures::{Narrow, insertion};
+use test_fixtures::{Narrow, chain};
 
 /// So many insertions, each behind the last.
-fn chain(alloc: Global, count: u64) -> Result<Vec<Op>, Refusal> {
-    let mut ops = Vec::new(alloc);
-    for k in 0..count {
-        ops.push(insertion((k.saturating_add(1), 7), (k, 7), '\u{e9}')?)?;
-    }
-    Ok(ops)
+fn chained(alloc: Global, count: u64) -> Result<Vec<Op>, Refusal> {
+    chain(alloc, (1, 7), (0, 0), count, '\u{e9}')
 }
 
 /// The lines of these operations, each written alone.
@@ -42,28 +38,20 @@ pub(crate) fn device(alloc: Global, room: usize, most: usize, flushes: bool) -> 
     }
 }
 
-/// Whether these operations are appended as this text, in blocks of 65536 bytes.
-fn is_written_in_blocks(alloc: Global, ops: &[Op], text: &str) -> bool {
+/// Whether these operations are appended as their lines, in blocks of 65536 bytes.
+fn are_written_in_blocks(alloc: Global, ops: &[Op]) -> Result<bool, LineFault> {
+    let text = lines_of(alloc, ops)?;
     let mut writer = Counted::new(device(alloc, 1000000, 1000000, true));
     let answer = append_log(alloc, ops, &mut writer);
     let Narrow { taken, writes, .. } = writer.into_inner();
-    answer == Ok(5000)
-        && taken.as_slice() == text.as_bytes()
-        && writes == text.len().div_ceil(65536)
-}
-
-/// Whether there are lines of these operations, which are appended so.
-fn are_written_in_blocks(alloc: Global, ops: &[Op]) -> bool {
-    match lines_of(alloc, ops) {
-        Ok(text) => is_written_in_blocks(alloc, ops, &text),
-        Err(_) => false,
-    }
+    let blocks = text.len().div_ceil(65536);
+    Ok(answer == Ok(5000) && taken.as_slice() == text.as_bytes() && writes == blocks)
 }
 
 #[test]
 fn many_lines_are_written_in_few_blocks(rt: HostRuntime) {
-    let ops = chain(rt.alloc(), 5000).expect(&rt, "a chain");
-    assert!(rt; are_written_in_blocks(rt.alloc(), &ops));
+    let ops = chained(rt.alloc(), 5000).expect(&rt, "a chain");
+    assert!(rt; are_written_in_blocks(rt.alloc(), &ops) == Ok(true));
 }
 
 /// Whether lines are answered as expected, the device counts as failed where that is a fault, and it
@@ -112,7 +100,7 @@ fn fill(rt: &impl Abort, alloc: Global, ops: &[Op], text: &str) {
 
 #[test]
 fn devices_that_take_part_of_the_bytes_or_fail(rt: HostRuntime) {
-    let ops = chain(rt.alloc(), 3000).expect(&rt, "a chain");
+    let ops = chained(rt.alloc(), 3000).expect(&rt, "a chain");
     let text = lines_of(rt.alloc(), &ops).expect(&rt, "its lines");
     fill(&rt, rt.alloc(), &ops, &text);
 }

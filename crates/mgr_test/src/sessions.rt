@@ -8,9 +8,9 @@ use std::alloc::{AllocError, Global};
 use test_fixtures::Narrow;
 use test_ports::MemoryPort;
 
-/// Values of a screen of four rows and forty columns.
-fn values(alloc: Global, trace: bool) -> Result<Values, AllocError> {
-    Ok(Values {
+/// Settings of a screen of four rows and forty columns.
+fn settings(alloc: Global, trace: bool) -> Result<Option<Settings>, AllocError> {
+    Ok(Settings::new(Values {
         name: String::from_str(alloc, "notes")?,
         replica: 1,
         rows: 4,
@@ -24,7 +24,7 @@ fn values(alloc: Global, trace: bool) -> Result<Values, AllocError> {
         runs: false,
         brief: false,
         limit: 1000,
-    })
+    }))
 }
 
 /// Whether a session of these settings ends where its screen fails at a flush, and the screen then
@@ -45,12 +45,9 @@ fn ends(alloc: Global, settings: &Settings, taken: usize) -> bool {
 
 /// Whether a session ends so, behind its first frame.
 fn ends_with(alloc: Global, trace: bool, taken: usize) -> bool {
-    match values(alloc, trace) {
-        Ok(values) => match Settings::new(values) {
-            Some(settings) => ends(alloc, &settings, taken),
-            None => false,
-        },
-        Err(_) => false,
+    match settings(alloc, trace) {
+        Ok(Some(settings)) => ends(alloc, &settings, taken),
+        _ => false,
     }
 }
 

@@ -2,36 +2,38 @@
 use rga_brief::{Claim, claims_of, read_claim, summary_from, write_claim};
 use rga_digest::{Block, missing, summary_of};
 use rga_ops::{Op, Refusal};
-use rga_store::{Taker, TextStore};
+use rga_store::{Teller, TextStore};
 use rga_tree::TreeStore;
 use std::alloc::Global;
-use test_fixtures::ops_of;
+use test_fixtures::{ops_of, store_of};
 
-/// A store that took the operations that words say.
-fn store_of(alloc: Global, words: &str) -> Result<TreeStore, Refusal> {
-    let mut store = TreeStore::new(alloc, 99)?;
-    let ops = ops_of(alloc, words)?;
-    store.apply_all(&ops)?;
-    Ok(store)
+/// The claims, each written and read again.
+fn read_again(alloc: Global, claims: &[Claim]) -> Result<Vec<Claim>, Refusal> {
+    let mut found = Vec::new(alloc);
+    for claim in claims {
+        let line = write_claim(alloc, *claim)?;
+        if let Some(said) = read_claim(alloc, line.as_str())? {
+            found.push(said)?;
+        }
+    }
+    Ok(found)
 }
 
 /// The claims of the summary of a store, each written and read.
-fn claims_over(alloc: Global, words: &str) -> Result<Vec<Claim>, Refusal> {
-    let store = store_of(alloc, words)?;
-    let mut claims = Vec::new(alloc);
-    for claim in &claims_of(alloc, &summary_of(alloc, &store)?)? {
-        let line = write_claim(alloc, *claim)?;
-        if let Some(said) = read_claim(alloc, line.as_str())? {
-            claims.push(said)?;
-        }
-    }
-    Ok(claims)
+fn claims_over<S: TextStore + Teller>(alloc: Global, words: &str) -> Result<Vec<Claim>, Refusal> {
+    let store = store_of::<S>(alloc, 99, words)?;
+    let summary = summary_of(alloc, &store)?;
+    read_again(alloc, &claims_of(alloc, &summary)?)
 }
 
 /// What of the own operations is missing at another store, by its claims.
-fn missing_at(alloc: Global, own: &str, other: &str) -> Result<Vec<Op>, Refusal> {
-    let own = store_of(alloc, own)?;
-    let claims = claims_over(alloc, other)?;
+fn missing_at<S: TextStore + Teller>(
+    alloc: Global,
+    own: &str,
+    other: &str,
+) -> Result<Vec<Op>, Refusal> {
+    let own = store_of::<S>(alloc, 99, own)?;
+    let claims = claims_over::<S>(alloc, other)?;
     match summary_from(alloc, &claims)? {
         Some(summary) => missing(alloc, &own, &summary),
         None => Err(Refusal::Range),
@@ -58,7 +60,7 @@ const MISSING: &[(&str, &str, &str)] = &[
 fn what_the_other_lacks_is_missing(rt: HostRuntime) -> Result<(), std::test::Fail> {
     let alloc = rt.alloc();
     for (own, other, expected) in MISSING {
-        let found = missing_at(alloc, own, other)?;
+        let found = missing_at::<TreeStore>(alloc, own, other)?;
         assert!(rt; found == ops_of(alloc, expected)?, "{own} without {other}");
     }
     Ok(())
@@ -75,7 +77,7 @@ const DIGEST: Claim = Claim::Deleted(
 
 #[test]
 fn digests_are_those_of_fnv_1a(rt: HostRuntime) -> Result<(), std::test::Fail> {
-    let claims = claims_over(rt.alloc(), "-111.1 -102.1")?;
+    let claims = claims_over::<TreeStore>(rt.alloc(), "-111.1 -102.1")?;
     assert!(rt; claims.as_slice() == [DIGEST].as_slice(), "a digest");
     Ok(())
 }

@@ -1,9 +1,11 @@
 //! Operations of another replica, taken one by one by a listed document.
-use crate::documents::{ABC, Document, document, shows, splice};
+use crate::documents::{ABC, document, shows, splice};
+use rga_doc::Doc;
 use rga_ops::{Op, Refusal};
 use rga_store::{Taker, TextStore};
+use rga_tree::TreeStore;
 use std::alloc::Global;
-use test_fixtures::{insertion, ops_of, spells};
+use test_fixtures::{insertion, ops_of, store_shows};
 
 /// What another replica sends, the text then, a place in it, and the text with a `z` there.
 type Row = (&'static str, &'static str, usize, &'static str);
@@ -21,7 +23,7 @@ const FOLLOWED: &[Row] = &[
 ];
 
 /// Has a document that is listed take the operations one by one.
-fn take_each(doc: &mut Document, ops: &[Op]) -> Result<(), Refusal> {
+fn take_each<S: TextStore>(doc: &mut Doc<S>, ops: &[Op]) -> Result<(), Refusal> {
     doc.list()?;
     for op in ops {
         let _taken = doc.apply(*op)?;
@@ -29,34 +31,32 @@ fn take_each(doc: &mut Document, ops: &[Op]) -> Result<(), Refusal> {
     Ok(())
 }
 
-/// Whether the store shows this text.
-fn stores(alloc: Global, doc: &Document, text: &str) -> bool {
-    match doc.store().text(alloc) {
-        Ok(chars) => spells(&chars, text),
-        Err(_) => false,
-    }
-}
-
 /// Whether a document shows this once it took what is sent, and that once a `z` was put in, as its
 /// store does.
-fn follows(alloc: Global, doc: &mut Document, row: &Row) -> Result<bool, Refusal> {
+fn follows<S: TextStore>(alloc: Global, doc: &mut Doc<S>, row: &Row) -> Result<bool, Refusal> {
     let (words, text, place, edited) = row;
     take_each(doc, &ops_of(alloc, words)?)?;
     let shown = shows(doc, text);
     drop(splice(alloc, doc, (*place, *place), "z")?);
-    Ok(shown && shows(doc, edited) && stores(alloc, doc, edited))
+    Ok(shown && shows(doc, edited) && store_shows(alloc, doc.store(), edited))
+}
+
+/// The same of a document of three elements.
+fn is_followed<S: TextStore>(alloc: Global, row: &Row) -> Result<bool, Refusal> {
+    let mut doc = document::<S>(alloc, (1, 100, ABC))?;
+    follows(alloc, &mut doc, row)
 }
 
 #[test]
 fn listed_document_follows_operations(rt: HostRuntime) {
     for row in FOLLOWED {
-        let mut doc = document(rt.alloc(), (1, 100, ABC)).expect(&rt, "a document");
-        assert!(rt; follows(rt.alloc(), &mut doc, row) == Ok(true), "{row:?}");
+        let followed = is_followed::<TreeStore>(rt.alloc(), row);
+        assert!(rt; followed == Ok(true), "{row:?}");
     }
 }
 
 /// Has a document that is listed take insertions in a row, up to this counter.
-fn take_many(doc: &mut Document, count: u64) -> Result<(), Refusal> {
+fn take_many<S: TextStore>(doc: &mut Doc<S>, count: u64) -> Result<(), Refusal> {
     doc.list()?;
     for counter in 4..count {
         let _taken = doc.apply(insertion((counter, 2), (2, 1), 'r')?)?;
@@ -65,18 +65,25 @@ fn take_many(doc: &mut Document, count: u64) -> Result<(), Refusal> {
 }
 
 /// Whether the text is the store's where so many insertions come in a row.
-fn follows_many(alloc: Global, doc: &mut Document, count: u64) -> Result<bool, Refusal> {
+fn follows_many<S: TextStore>(
+    alloc: Global,
+    doc: &mut Doc<S>,
+    count: u64,
+) -> Result<bool, Refusal> {
     take_many(doc, count)?;
     Ok(doc.text()? == doc.store().text(alloc)?)
+}
+
+/// The same of a document of three elements.
+fn are_followed<S: TextStore>(alloc: Global, count: u64) -> Result<bool, Refusal> {
+    let mut doc = document::<S>(alloc, (1, 1000, ABC))?;
+    follows_many(alloc, &mut doc, count)
 }
 
 #[test]
 fn long_exchange_is_listed_anew(rt: HostRuntime) {
     for count in 66..71 {
-        let mut doc = document(rt.alloc(), (1, 1000, ABC)).expect(&rt, "a document");
-        assert!(rt;
-            follows_many(rt.alloc(), &mut doc, count) == Ok(true),
-            "{count}"
-        );
+        let followed = are_followed::<TreeStore>(rt.alloc(), count);
+        assert!(rt; followed == Ok(true), "{count}");
     }
 }

@@ -1,28 +1,21 @@
 //! The listed elements and characters of a document, and what is asked of them.
-use crate::anchors::{is_anchored, place_of};
-use crate::documents::{AB, ABC, Document, document, shows};
-use crate::local_edits::letters;
+use crate::documents::{AB, document};
+use crate::local_edits::take_letters;
+use rga_doc::Doc;
 use rga_ops::{Id, Op, Refusal};
 use rga_store::{Taker, TextStore};
+use rga_tree::TreeStore;
 use std::alloc::Global;
-use test_fixtures::{id, spells};
 
 /// Whether the characters that a document lists are the store's own text.
-fn lists_its_text(alloc: Global, doc: &mut Document) -> Result<bool, Refusal> {
+fn lists_its_text<S: TextStore>(alloc: Global, doc: &mut Doc<S>) -> Result<bool, Refusal> {
     doc.list()?;
     let own = doc.store().text(alloc)?;
     Ok(doc.characters() == own.as_slice())
 }
 
-/// Two letters put in by a draft that is then taken.
-fn put_two(alloc: Global, doc: &mut Document, lo: usize, hi: usize) -> Result<(), Refusal> {
-    let splices = letters(alloc, [(hi, 'd'), (lo, 'c')])?;
-    let ops = doc.draft(&splices)?;
-    doc.take(&splices, &ops)
-}
-
 /// An insertion of another replica behind the element left of a place, taken twice.
-fn insert_remotely(doc: &mut Document, place: usize) -> Result<(), Refusal> {
+fn insert_remotely<S: TextStore>(doc: &mut Doc<S>, place: usize) -> Result<(), Refusal> {
     let id = Id::new(doc.store().clock().saturating_add(1), 2)?;
     let parent = doc.anchor_at(place)?.element;
     let op = Op::Insert {
@@ -36,9 +29,9 @@ fn insert_remotely(doc: &mut Document, place: usize) -> Result<(), Refusal> {
 }
 
 /// The elements behind places of the text, each with its character.
-fn elements_between(
+fn elements_between<S: TextStore>(
     alloc: Global,
-    doc: &Document,
+    doc: &Doc<S>,
     lo: usize,
     hi: usize,
 ) -> Result<Vec<(Id, char)>, Refusal> {
@@ -53,9 +46,9 @@ fn elements_between(
 }
 
 /// What stands between two places deleted, and brought back behind another replica's insertion.
-fn delete_and_restore(
+fn delete_and_restore<S: TextStore>(
     alloc: Global,
-    doc: &mut Document,
+    doc: &mut Doc<S>,
     lo: usize,
     hi: usize,
 ) -> Result<(), Refusal> {
@@ -68,9 +61,9 @@ fn delete_and_restore(
 }
 
 /// What stands between two places deleted, and brought back by a draft.
-fn delete_and_draft(
+fn delete_and_draft<S: TextStore>(
     alloc: Global,
-    doc: &mut Document,
+    doc: &mut Doc<S>,
     lo: usize,
     hi: usize,
 ) -> Result<(), Refusal> {
@@ -82,7 +75,7 @@ fn delete_and_draft(
 }
 
 /// An edit that the number chooses.
-fn edit(alloc: Global, doc: &mut Document, number: u64) -> Result<(), Refusal> {
+fn edit<S: TextStore>(alloc: Global, doc: &mut Doc<S>, number: u64) -> Result<(), Refusal> {
     doc.list()?;
     let len = doc.characters().len();
     let lo = ((number >> 20) as usize & 15).min(len);
@@ -94,7 +87,7 @@ fn edit(alloc: Global, doc: &mut Document, number: u64) -> Result<(), Refusal> {
             let _refused_at_the_front = doc.apply(Op::Delete { id });
             Ok(())
         }
-        3 => put_two(alloc, doc, lo, hi),
+        3 => take_letters(alloc, doc, [(hi, 'd'), (lo, 'c')]),
         4 => {
             delete_and_restore(alloc, doc, lo, hi)?;
             delete_and_draft(alloc, doc, lo, hi)
@@ -108,7 +101,7 @@ fn edit(alloc: Global, doc: &mut Document, number: u64) -> Result<(), Refusal> {
 
 /// Whether the listed text is the store's own after each of many edits, of this replica and of
 /// another in turn.
-fn stays_true(alloc: Global, doc: &mut Document, seed: u64) -> Result<bool, Refusal> {
+fn stays_true<S: TextStore>(alloc: Global, doc: &mut Doc<S>, seed: u64) -> Result<bool, Refusal> {
     let mut number = seed;
     for _ in 0..100 {
         number = number
@@ -122,56 +115,16 @@ fn stays_true(alloc: Global, doc: &mut Document, seed: u64) -> Result<bool, Refu
     Ok(true)
 }
 
-fn starts_and_stays_true(alloc: Global, seed: u64) -> bool {
-    match document(alloc, (1, 1000, AB)) {
-        Ok(mut doc) => stays_true(alloc, &mut doc, seed) == Ok(true),
-        Err(_) => false,
-    }
+/// The same of a new document.
+fn starts_and_stays_true<S: TextStore>(alloc: Global, seed: u64) -> Result<bool, Refusal> {
+    let mut doc = document::<S>(alloc, (1, 1000, AB))?;
+    stays_true(alloc, &mut doc, seed)
 }
 
 #[test]
 fn list_stays_the_text_of_the_store(rt: HostRuntime) {
     for seed in 1..4 {
-        assert!(rt; starts_and_stays_true(rt.alloc(), seed), "{seed}");
+        let stays = starts_and_stays_true::<TreeStore>(rt.alloc(), seed);
+        assert!(rt; stays == Ok(true), "{seed}");
     }
-}
-
-/// The element that a place of the listed text is behind; the root where the text is shorter.
-fn element_at(doc: &mut Document, place: usize) -> Result<Id, Refusal> {
-    doc.list()?;
-    if place > doc.characters().len() {
-        return Ok(Id::ROOT);
-    }
-    Ok(doc.anchor_within(place).element)
-}
-
-fn agrees_with_the_list(doc: &mut Document) -> bool {
-    element_at(doc, 2) == id(2, 1)
-        && place_of(doc, 2, 1) == Ok(2)
-        && is_anchored(doc, 4, Err(Refusal::Range))
-        && shows(doc, "abc")
-}
-
-#[test]
-fn anchors_by_the_list(rt: HostRuntime) {
-    let mut doc = document(rt.alloc(), (1, 100, ABC)).expect(&rt, "a document");
-    assert!(rt; agrees_with_the_list(&mut doc));
-}
-
-/// Whether a document lists these characters once two letters were put in.
-fn lists(alloc: Global, doc: &mut Document, expected: &str) -> Result<bool, Refusal> {
-    put_two(alloc, doc, 1, 2)?;
-    doc.list()?;
-    Ok(spells(doc.characters(), expected))
-}
-
-/// Whether two letters are put in, and no two more.
-fn takes_one_draft(alloc: Global, doc: &mut Document) -> bool {
-    lists(alloc, doc, "acbd") == Ok(true) && lists(alloc, doc, "") == Err(Refusal::Full)
-}
-
-#[test]
-fn draft_is_taken(rt: HostRuntime) {
-    let mut doc = document(rt.alloc(), (1, 4, AB)).expect(&rt, "a document");
-    assert!(rt; takes_one_draft(rt.alloc(), &mut doc));
 }

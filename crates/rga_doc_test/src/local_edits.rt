@@ -1,6 +1,7 @@
 //! Splices by place, as a user meets them: the operations that they answer, and the text then.
-use crate::documents::{AB, ABC, Document, document, shows, splice};
-use crate::steps::{Row, Step, answers, walk};
+use crate::documents::{AB, ABC};
+use crate::steps::{Row, Step, walk};
+use rga_doc::Doc;
 use rga_ops::{Op, Refusal, Splice};
 use rga_store::TextStore;
 use std::alloc::Global;
@@ -21,7 +22,7 @@ fn clock_goes_on_from_a_deletion(rt: HostRuntime) {
 }
 
 /// One letter at each of the places.
-pub fn letters(alloc: Global, places: [(usize, char); 2]) -> Result<Vec<Splice>, Refusal> {
+fn letters(alloc: Global, places: [(usize, char); 2]) -> Result<Vec<Splice>, Refusal> {
     let mut splices = Vec::new(alloc);
     for (place, letter) in places {
         let mut put = Vec::new(alloc);
@@ -36,13 +37,24 @@ pub fn letters(alloc: Global, places: [(usize, char); 2]) -> Result<Vec<Splice>,
 }
 
 /// What a document answers to one letter at each of the places.
-pub fn put_letters(
+pub fn put_letters<S: TextStore>(
     alloc: Global,
-    doc: &mut Document,
+    doc: &mut Doc<S>,
     places: [(usize, char); 2],
 ) -> Result<Vec<Op>, Refusal> {
     let splices = letters(alloc, places)?;
     doc.splices(&splices)
+}
+
+/// The same of a draft that is then taken.
+pub fn take_letters<S: TextStore>(
+    alloc: Global,
+    doc: &mut Doc<S>,
+    places: [(usize, char); 2],
+) -> Result<(), Refusal> {
+    let splices = letters(alloc, places)?;
+    let ops = doc.draft(&splices)?;
+    doc.take(&splices, &ops)
 }
 
 #[test]
@@ -68,15 +80,22 @@ fn splices_that_are_refused(rt: HostRuntime) {
     walk(&rt, rt.alloc(), (2, 5, ABC), STEPS);
 }
 
-fn replaces(alloc: Global, doc: &mut Document) -> bool {
-    let answer = splice(alloc, doc, (1, 2), "xy");
-    answers(alloc, answer, "-2.1 x4.2<1.1 y5.2<4.2")
-        && shows(doc, "axyc")
-        && (doc.replica(), doc.store().known()) == (2, 5)
+#[test]
+fn splice_replaces_what_stands_between(rt: HostRuntime) {
+    const STEPS: &[Row] = &[
+        (Step::Splice((1, 2), "xy"), "-2.1 x4.2<1.1 y5.2<4.2", "axyc"),
+        (Step::Numbers, "(2, 5, 5)", "axyc"),
+    ];
+    walk(&rt, rt.alloc(), (2, 5, ABC), STEPS);
 }
 
 #[test]
-fn splice_replaces_what_stands_between(rt: HostRuntime) {
-    let mut doc = document(rt.alloc(), (2, 5, ABC)).expect(&rt, "a document");
-    assert!(rt; replaces(rt.alloc(), &mut doc));
+fn draft_is_taken(rt: HostRuntime) {
+    const LETTERS: [(usize, char); 2] = [(2, 'd'), (1, 'c')];
+    const STEPS: &[Row] = &[
+        (Step::DraftLetters(LETTERS), "Ok(())", "acbd"),
+        (Step::List, "acbd", "acbd"),
+        (Step::DraftLetters(LETTERS), "Err(Full)", "acbd"),
+    ];
+    walk(&rt, rt.alloc(), (1, 4, AB), STEPS);
 }

@@ -1,29 +1,26 @@
 //! Merges of documents: two people who edit apart, both ways round, and refusals.
-use crate::documents::{AB, Document, Held, document, merges, shows, splice};
+use crate::documents::{AB, Held, document, shows, splice};
+use crate::steps::{Row, Step, walk, walk_copy};
 use rga_doc::Doc;
 use rga_ops::Refusal;
 use rga_store::TextStore;
+use rga_tree::TreeStore;
 use std::alloc::Global;
-use test_fixtures::id;
 
 /// Whether a note that Alice writes is this text, once Bob edited a copy of it apart, and each took
 /// the other's changes.
-fn two_people_write(alloc: Global, alice: &mut Document, text: &str) -> bool {
+fn two_people_write<S: TextStore>(alloc: Global, alice: &mut Doc<S>, text: &str) -> bool {
     splice(alloc, alice, (0, 0), "oats").is_ok()
         && edit_apart(alloc, alice) == Ok(())
         && shows(alice, text)
 }
 
-fn edit_apart(alloc: Global, alice: &mut Document) -> Result<(), Refusal> {
-    let mut bob = copy_for(alloc, alice, 2)?;
+fn edit_apart<S: TextStore>(alloc: Global, alice: &mut Doc<S>) -> Result<(), Refusal> {
+    let mut bob = Doc::new(alloc, alice.store().copy()?, 2)?;
     edit_both(alice, &mut bob)
 }
 
-fn copy_for(alloc: Global, doc: &Document, replica: u16) -> Result<Document, Refusal> {
-    Doc::new(alloc, doc.store().copy()?, replica)
-}
-
-fn edit_both(alice: &mut Document, bob: &mut Document) -> Result<(), Refusal> {
+fn edit_both<S: TextStore>(alice: &mut Doc<S>, bob: &mut Doc<S>) -> Result<(), Refusal> {
     drop(alice.splice(0, 1, &['O'])?);
     drop(bob.splice(4, 4, &['!'])?);
     alice.merge(bob)?;
@@ -32,55 +29,37 @@ fn edit_both(alice: &mut Document, bob: &mut Document) -> Result<(), Refusal> {
 
 #[test]
 fn what_two_people_wrote_apart(rt: HostRuntime) {
-    let mut alice = document(rt.alloc(), (1, 1000, "")).expect(&rt, "a document");
+    let mut alice = document::<TreeStore>(rt.alloc(), (1, 1000, "")).expect(&rt, "a document");
     assert!(rt; two_people_write(rt.alloc(), &mut alice, "Oats!"));
 }
 
-/// The copy of a document that holds this.
-fn copied(alloc: Global, held: Held) -> Result<Document, Refusal> {
-    document(alloc, held)?.copy()
-}
+/// What two documents hold, of which the second may know three identifiers.
+const FIRST: Held = (1, 100, AB);
 
-/// Whether a document takes another, shows this text then, and has its limit and its replica still.
-fn takes(alloc: Global, doc: &mut Document, own: Held, other: Held, text: &str) -> bool {
-    merges(alloc, doc, other, Ok(()))
-        && shows(doc, text)
-        && (doc.replica(), doc.store().limit()) == (own.0, own.1)
-}
-
-/// The same of the copy of one that holds this.
-fn takes_other(alloc: Global, own: Held, other: Held, text: &str) -> bool {
-    match copied(alloc, own) {
-        Ok(mut doc) => takes(alloc, &mut doc, own, other, text),
-        Err(_) => false,
-    }
-}
+const SECOND: Held = (2, 3, "x1.2<0.0 -2.1");
 
 #[test]
 fn documents_merged_both_ways(rt: HostRuntime) {
-    let first = (1, 100, AB);
-    let second = (2, 3, "x1.2<0.0 -2.1");
-    assert!(rt; takes_other(rt.alloc(), first, second, "xa"));
-    assert!(rt; takes_other(rt.alloc(), second, first, "xa"));
+    const THERE: &[Row] = &[
+        (Step::Merge(SECOND), "Ok(())", "xa"),
+        (Step::Numbers, "(1, 3, 100)", "xa"),
+    ];
+    const BACK: &[Row] = &[
+        (Step::Merge(FIRST), "Ok(())", "xa"),
+        (Step::Numbers, "(2, 3, 3)", "xa"),
+    ];
+    walk_copy(&rt, rt.alloc(), FIRST, THERE);
+    walk_copy(&rt, rt.alloc(), SECOND, BACK);
 }
 
-/// Whether the document refuses so to take another, which took the operations of the words, and
-/// its text stays.
-fn refuses(alloc: Global, doc: &mut Document, words: &'static str, refusal: Refusal) -> bool {
-    merges(alloc, doc, (2, 100, words), Err(refusal)) && shows(doc, "ab")
-}
-
-/// Whether a document that has no room refuses another, and one whose insertions are others.
-fn refuses_both(alloc: Global, doc: &mut Document) -> Result<bool, Refusal> {
-    let taken = id(1, 1)?;
-    Ok(
-        refuses(alloc, doc, "x1.2<0.0 -2.1", Refusal::Full)
-            && refuses(alloc, doc, "z2.1<0.0 q1.1<0.0", Refusal::Conflict(taken)),
-    )
-}
+/// What is answered where the element (1, 1) is another one.
+const CONFLICT: &str = "Err(Conflict(Id { counter: 1, replica: 1 }))";
 
 #[test]
 fn merge_that_is_refused_changes_nothing(rt: HostRuntime) {
-    let mut doc = document(rt.alloc(), (1, 2, AB)).expect(&rt, "a document");
-    assert!(rt; refuses_both(rt.alloc(), &mut doc) == Ok(true));
+    const STEPS: &[Row] = &[
+        (Step::Merge((2, 100, "x1.2<0.0 -2.1")), "Err(Full)", "ab"),
+        (Step::Merge((2, 100, "z2.1<0.0 q1.1<0.0")), CONFLICT, "ab"),
+    ];
+    walk(&rt, rt.alloc(), (1, 2, AB), STEPS);
 }

@@ -1,7 +1,9 @@
 //! Reverts, as a user meets them: the operations that they answer, and the text then.
-use crate::documents::{ABC, Document};
+use crate::documents::ABC;
 use crate::steps::{Row, Step, walk};
+use rga_doc::Doc;
 use rga_ops::{Id, Op, Refusal};
+use rga_store::TextStore;
 use std::alloc::Global;
 use test_fixtures::ops_of;
 
@@ -26,23 +28,20 @@ fn pairs_of(alloc: Global, ops: &[Op]) -> Result<Vec<(Id, char)>, Refusal> {
 }
 
 /// What a document answers to the revert of an edit that inserted the elements of the first
-/// insertions and deleted those of the second ones.
-pub fn revert(
+/// insertions and deleted those of the second ones, or to a draft of that.
+pub fn revert<S: TextStore>(
     alloc: Global,
-    doc: &mut Document,
-    gone: &str,
-    back: &str,
+    doc: &mut Doc<S>,
+    (gone, back): (&str, &str),
+    is_draft: bool,
 ) -> Result<Vec<Op>, Refusal> {
     let gone = elements_of(alloc, &ops_of(alloc, gone)?)?;
     let back = pairs_of(alloc, &ops_of(alloc, back)?)?;
-    doc.revert(&gone, &back)
-}
-
-/// The same of a draft.
-pub fn draft(alloc: Global, doc: &Document, gone: &str, back: &str) -> Result<Vec<Op>, Refusal> {
-    let gone = elements_of(alloc, &ops_of(alloc, gone)?)?;
-    let back = pairs_of(alloc, &ops_of(alloc, back)?)?;
-    doc.draft_revert(&gone, &back)
+    if is_draft {
+        doc.draft_revert(&gone, &back)
+    } else {
+        doc.revert(&gone, &back)
+    }
 }
 
 #[test]
@@ -50,7 +49,7 @@ fn deleted_elements_come_back_around_what_others_put_between(rt: HostRuntime) {
     const STEPS: &[Row] = &[
         (Step::Splice((0, 0), "abc"), ABC, "abc"),
         (Step::Splice((0, 3), ""), "-1.1 -2.1 -3.1", ""),
-        (Step::Take("x4.2<2.1"), "", "x"),
+        (Step::Take("x4.2<2.1"), "Ok(())", "x"),
         (Step::Revert("", ABC), "a5.1<1.1 b6.1<2.1 c7.1<3.1", "abxc"),
     ];
     walk(&rt, rt.alloc(), (1, 100, ""), STEPS);
@@ -62,7 +61,7 @@ const GONE: &str = "c3.1<2.1 a1.1<0.0 b2.1<1.1 c3.1<2.1 z9.2<8.2";
 #[test]
 fn inserted_elements_go_once_where_they_are_visible(rt: HostRuntime) {
     const STEPS: &[Row] = &[
-        (Step::Take("-2.1 z9.2<8.2"), "", "ac"),
+        (Step::Take("-2.1 z9.2<8.2"), "Ok(())", "ac"),
         (Step::Draft(GONE, "b2.1<1.1"), "-3.1 -1.1 b10.1<2.1", "ac"),
         (Step::Revert(GONE, "b2.1<1.1"), "-3.1 -1.1 b10.1<2.1", "b"),
     ];
@@ -76,7 +75,7 @@ const VISIBLE: &str = "a1.1<0.0 a1.1<0.0";
 #[test]
 fn reverts_that_are_refused(rt: HostRuntime) {
     const STEPS: &[Row] = &[
-        (Step::Take("z9.2<8.2"), "", "abc"),
+        (Step::Take("z9.2<8.2"), "Ok(())", "abc"),
         (Step::Draft("", TOO_MANY), "Full", "abc"),
         (Step::Revert("", TOO_MANY), "Full", "abc"),
         (Step::Draft("", VISIBLE), "Range", "abc"),

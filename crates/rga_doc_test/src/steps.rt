@@ -1,76 +1,110 @@
 //! Steps of a document, as a user meets them: what each answers, and the text then.
-use crate::documents::{Document, Held, document, shows, splice, take};
-use crate::local_edits::put_letters;
-use crate::reverts::{draft, revert};
-use rga_ops::{Op, Refusal};
+use crate::anchors::{element_at, listed_element, place_of};
+use crate::documents::{Held, document, merge, shows, splice};
+use crate::local_edits::{put_letters, take_letters};
+use crate::reverts::revert;
+use rga_doc::Doc;
+use rga_ops::{Op, Refusal, Taken};
+use rga_store::{Taker, TextStore};
+use rga_tree::TreeStore;
 use std::alloc::Global;
 use std::process::Abort;
-use test_fixtures::ops_of;
+use test_fixtures::{are_ops_of, op_of, prints, spells, take};
 
-/// What is done with a document.
+/// What is done with a document, or asked of it.
 #[derive(Clone, Copy)]
 pub enum Step {
     /// It takes the operations that the words say, as one list.
     Take(&'static str),
+    /// It takes the operation that the word says.
+    Apply(&'static str),
+    /// It takes what another document holds.
+    Merge(Held),
     /// The characters between two places are replaced by the text.
     Splice((usize, usize), &'static str),
     /// A letter is put at each of two places.
     Letters([(usize, char); 2]),
+    /// That is drafted, and the draft taken.
+    DraftLetters([(usize, char); 2]),
     /// An edit is reverted that inserted the elements of the first insertions, and deleted those of
     /// the second ones.
     Revert(&'static str, &'static str),
     /// That is drafted.
     Draft(&'static str, &'static str),
+    /// The element that the anchor of a place is.
+    Anchor(usize),
+    /// The same by the list.
+    ListedAnchor(usize),
+    /// The place of the anchor that is the element with this counter and replica.
+    Place((u64, u16)),
+    /// The characters of the list.
+    List,
+    /// The replica, how many identifiers are known, and the limit.
+    Numbers,
 }
 
 /// A step, what it answers, and the text then.
 pub type Row = (Step, &'static str, &'static str);
 
-fn answer_to(alloc: Global, doc: &mut Document, step: Step) -> Result<Vec<Op>, Refusal> {
-    match step {
-        Step::Take(words) => take(alloc, doc, words).map(|_| Vec::new(alloc)),
-        Step::Splice(range, put) => splice(alloc, doc, range, put),
-        Step::Letters(places) => put_letters(alloc, doc, places),
-        Step::Revert(gone, back) => revert(alloc, doc, gone, back),
-        Step::Draft(gone, back) => draft(alloc, doc, gone, back),
-    }
+fn apply<S: TextStore>(doc: &mut Doc<S>, word: &str) -> Result<Taken, Refusal> {
+    doc.apply(op_of(word)?)
 }
 
-/// Whether these are the operations that the words say.
-pub fn are(alloc: Global, ops: &[Op], words: &str) -> bool {
-    match ops_of(alloc, words) {
-        Ok(expected) => ops == expected.as_slice(),
-        Err(_) => false,
-    }
+fn lists<S: TextStore>(doc: &mut Doc<S>, text: &str) -> bool {
+    doc.list() == Ok(()) && spells(doc.characters(), text)
 }
 
-/// Whether the refusal is printed so.
-fn is_printed(alloc: Global, refusal: Refusal, text: &str) -> bool {
-    match format!(in alloc; "{refusal:?}") {
-        Ok(printed) => printed.as_str() == text,
-        Err(_) => false,
-    }
+fn numbers<S: TextStore>(doc: &Doc<S>) -> (u16, usize, usize) {
+    (doc.replica(), doc.store().known(), doc.store().limit())
 }
 
 /// Whether the answer is the operations that the words say, or the refusal that they print.
-pub fn answers(alloc: Global, answer: Result<Vec<Op>, Refusal>, words: &str) -> bool {
+fn says(alloc: Global, answer: Result<Vec<Op>, Refusal>, words: &str) -> bool {
     match answer {
-        Ok(ops) => are(alloc, &ops, words),
-        Err(refusal) => is_printed(alloc, refusal, words),
+        Ok(ops) => are_ops_of(alloc, &ops, words),
+        Err(refusal) => prints(alloc, &refusal, words),
+    }
+}
+
+/// Whether this is answered to a step: operations, in words, or else what is printed.
+fn answers<S: TextStore>(alloc: Global, doc: &mut Doc<S>, step: Step, answer: &str) -> bool {
+    match step {
+        Step::Take(words) => prints(alloc, &take(alloc, doc, words), answer),
+        Step::Apply(word) => prints(alloc, &apply(doc, word), answer),
+        Step::Merge(held) => prints(alloc, &merge(alloc, doc, held), answer),
+        Step::Splice(range, put) => says(alloc, splice(alloc, doc, range, put), answer),
+        Step::Letters(places) => says(alloc, put_letters(alloc, doc, places), answer),
+        Step::DraftLetters(places) => prints(alloc, &take_letters(alloc, doc, places), answer),
+        Step::Revert(gone, back) => says(alloc, revert(alloc, doc, (gone, back), false), answer),
+        Step::Draft(gone, back) => says(alloc, revert(alloc, doc, (gone, back), true), answer),
+        Step::Anchor(place) => prints(alloc, &element_at(doc, place), answer),
+        Step::ListedAnchor(place) => prints(alloc, &listed_element(doc, place), answer),
+        Step::Place(element) => prints(alloc, &place_of(doc, element), answer),
+        Step::List => lists(doc, answer),
+        Step::Numbers => prints(alloc, &numbers(doc), answer),
     }
 }
 
 /// Does the steps; each has its answer, and behind it the text is this.
-fn go(rt: &impl Abort, alloc: Global, doc: &mut Document, steps: &[Row]) {
+fn go<S: TextStore>(rt: &impl Abort, alloc: Global, doc: &mut Doc<S>, steps: &[Row]) {
     for (step, answer, text) in steps {
-        let answered = answer_to(alloc, doc, *step);
-        assert!(rt; answers(alloc, answered, answer), "{answer}");
+        assert!(rt; answers(alloc, doc, *step, answer), "{answer}");
         assert!(rt; shows(doc, text), "{text}");
     }
 }
 
 /// Does the steps with a document that holds this.
 pub fn walk(rt: &impl Abort, alloc: Global, held: Held, steps: &[Row]) {
-    let mut doc = document(alloc, held).expect(rt, "a document");
+    let mut doc = document::<TreeStore>(alloc, held).expect(rt, "a document");
     go(rt, alloc, &mut doc, steps);
+}
+
+/// Does the steps with the copy of a document that holds this.
+pub fn walk_copy(rt: &impl Abort, alloc: Global, held: Held, steps: &[Row]) {
+    let mut doc = copied::<TreeStore>(alloc, held).expect(rt, "a copy");
+    go(rt, alloc, &mut doc, steps);
+}
+
+fn copied<S: TextStore>(alloc: Global, held: Held) -> Result<Doc<S>, Refusal> {
+    document::<S>(alloc, held)?.copy()
 }

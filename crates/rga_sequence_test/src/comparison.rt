@@ -3,7 +3,7 @@ use crate::plain_list::PlainList;
 use rga_ops::{Id, Refusal};
 use rga_sequence::{Entry, Near, Put, Sequence};
 use std::alloc::Global;
-use test_fixtures::Random;
+use test_fixtures::{Random, same};
 
 /// How many steps a run has; a block has at most 256 entries.
 const STEPS: u64 = 900;
@@ -61,14 +61,6 @@ fn rename(sequence: &Sequence, list: &mut PlainList, name: usize) {
     }
 }
 
-fn replica(random: &mut Random) -> u16 {
-    match random.below(3) {
-        0 => 1,
-        1 => 2,
-        _ => 3,
-    }
-}
-
 /// An entry goes behind a row, or to the front. It is larger than its parent, and mostly than all.
 fn put(both: &mut Both, random: &mut Random, step: u64, typing: bool) -> Result<(), Refusal> {
     let mut behind = both.list.rows.len();
@@ -80,7 +72,7 @@ fn put(both: &mut Both, random: &mut Random, step: u64, typing: bool) -> Result<
     if random.below(3) == 0 {
         counter = parent.counter().saturating_add(1);
     }
-    let id = Id::new(counter, replica(random))?;
+    let id = Id::new(counter, random.replica())?;
     if both.list.has(id) {
         return Ok(());
     }
@@ -136,59 +128,50 @@ fn is_part(part: &[Id], all: &[Id], lo: usize) -> bool {
     true
 }
 
-/// Whether there are both lists, and they are the same.
-fn same<T: PartialEq + Drop>(a: Result<Vec<T>, Refusal>, b: Result<Vec<T>, Refusal>) -> bool {
-    match (a, b) {
-        (Ok(a), Ok(b)) => a.as_slice() == b.as_slice(),
-        _ => false,
-    }
-}
-
 /// Whether both show the same.
-fn agree(alloc: Global, both: &Both, random: &mut Random) -> bool {
-    same(both.sequence.ids(alloc), both.list.ids(alloc, true))
-        && copy_agrees(alloc, both)
-        && same(both.sequence.text(alloc), both.list.text(alloc))
-        && parts_agree(alloc, both, random)
-        && rows_agree(both)
+fn agree(alloc: Global, both: &Both, random: &mut Random) -> Result<bool, Refusal> {
+    Ok(
+        same(both.sequence.ids(alloc), both.list.ids(alloc, true))
+            && copy_agrees(alloc, both)?
+            && same(both.sequence.text(alloc), both.list.text(alloc))
+            && parts_agree(alloc, both, random)?
+            && rows_agree(both),
+    )
 }
 
 /// Whether a copy of the sequence has the same entries.
-fn copy_agrees(alloc: Global, both: &Both) -> bool {
-    match both.sequence.copy(alloc) {
-        Ok(copy) => same(copy.ids(alloc), both.list.ids(alloc, true)),
-        Err(_) => false,
-    }
+fn copy_agrees(alloc: Global, both: &Both) -> Result<bool, Refusal> {
+    let copy = both.sequence.copy(alloc)?;
+    Ok(same(copy.ids(alloc), both.list.ids(alloc, true)))
 }
 
 /// Whether a part of the visible entries is the same.
-fn parts_agree(alloc: Global, both: &Both, random: &mut Random) -> bool {
-    match both.list.ids(alloc, false) {
-        Ok(visible) => part_agrees(alloc, &both.sequence, &visible, random),
-        Err(_) => false,
-    }
+fn parts_agree(alloc: Global, both: &Both, random: &mut Random) -> Result<bool, Refusal> {
+    let visible = both.list.ids(alloc, false)?;
+    part_agrees(alloc, &both.sequence, &visible, random)
 }
 
-fn part_agrees(alloc: Global, sequence: &Sequence, visible: &[Id], random: &mut Random) -> bool {
+fn part_agrees(
+    alloc: Global,
+    sequence: &Sequence,
+    visible: &[Id],
+    random: &mut Random,
+) -> Result<bool, Refusal> {
     let lo = random.below(visible.len().saturating_add(1));
     let hi = lo.saturating_add(random.below(300)).min(visible.len());
-    match sequence.elements(alloc, lo, hi) {
-        Ok(part) => {
-            part.len() == hi.saturating_sub(lo)
-                && is_part(&part, visible, lo)
-                && sequence.element_at(lo) == visible.get(lo).copied()
-        }
-        Err(_) => false,
-    }
+    let part = sequence.elements(alloc, lo, hi)?;
+    Ok(
+        part.len() == hi.saturating_sub(lo)
+            && is_part(&part, visible, lo)
+            && sequence.element_at(lo) == visible.get(lo).copied(),
+    )
 }
 
 /// Whether each row is found, in the block that its name leads to.
 fn rows_agree(both: &Both) -> bool {
     for row in &both.list.rows {
-        if both.sequence.find(row.entry.id, near(row.name)) != Some(row.entry) {
-            return false;
-        }
-        if !is_named(&both.sequence, row.name, row.entry.id) {
+        let found = both.sequence.find(row.entry.id, near(row.name));
+        if found != Some(row.entry) || !is_named(&both.sequence, row.name, row.entry.id) {
             return false;
         }
     }
@@ -203,21 +186,19 @@ fn is_named(sequence: &Sequence, name: usize, id: Id) -> bool {
 }
 
 /// Whether all steps go well, and both show the same behind them.
-fn stay_alike(alloc: Global, both: &mut Both, mixture: Mixture) -> bool {
+fn stay_alike(alloc: Global, both: &mut Both, mixture: Mixture) -> Result<bool, Refusal> {
     let mut random = Random::new(mixture.seed);
     for number in 0..STEPS {
-        if step(both, &mut random, number, mixture).is_err() {
-            return false;
-        }
-        if number.checked_rem(BETWEEN) == Some(0) && !agree(alloc, both, &mut random) {
-            return false;
+        step(both, &mut random, number, mixture)?;
+        if number.checked_rem(BETWEEN) == Some(0) && !agree(alloc, both, &mut random)? {
+            return Ok(false);
         }
     }
-    true
+    Ok(true)
 }
 
 /// Whether a sequence and a plain list never differ.
-fn is_alike(alloc: Global, mixture: Mixture) -> bool {
+fn is_alike(alloc: Global, mixture: Mixture) -> Result<bool, Refusal> {
     let mut both = Both {
         sequence: Sequence::new(alloc),
         list: PlainList::new(alloc),
@@ -239,6 +220,7 @@ fn a_sequence_is_the_plain_list(rt: HostRuntime) {
             deletions: *deletions,
             typing: *typing,
         };
-        assert!(rt; is_alike(rt.alloc(), mixture), "{name}");
+        let alike = is_alike(rt.alloc(), mixture);
+        assert!(rt; alike == Ok(true), "{name}");
     }
 }

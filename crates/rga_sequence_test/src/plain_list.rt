@@ -56,19 +56,8 @@ impl PlainList {
     /// An entry goes behind the first `behind` rows and the larger ones that stand there.
     pub fn put(&mut self, behind: usize, entry: &Entry, name: usize) -> Result<(), Refusal> {
         let index = self.index_for(behind, entry.id).min(self.rows.len());
-        if self
-            .rows
-            .insert(
-                index,
-                Named {
-                    entry: *entry,
-                    name,
-                },
-            )
-            .is_err()
-        {
-            return Err(Refusal::Memory);
-        }
+        let entry = *entry;
+        self.rows.insert(index, Named { entry, name })?;
         Ok(())
     }
 

@@ -1,12 +1,12 @@
 //! Each store answers and shows as the plain list does.
 use crate::list_store::{ListStore, Shown};
-use crate::random::Random;
-use crate::words::{is, places};
+use crate::random::random_op;
+use crate::words::places;
 use rga_ops::{Op, Refusal};
 use rga_store::TextStore;
 use std::alloc::Global;
 use std::process::Abort;
-use test_fixtures::insertion;
+use test_fixtures::{Random, chain, is};
 
 /// Whether both answer the operation alike.
 fn answer_alike<S: TextStore>(store: &mut S, list: &mut ListStore, op: Op) -> bool {
@@ -16,18 +16,15 @@ fn answer_alike<S: TextStore>(store: &mut S, list: &mut ListStore, op: Op) -> bo
 }
 
 /// Whether the store shows what the plain list does.
-fn show_alike<S: TextStore>(alloc: Global, store: &S, list: &ListStore) -> bool {
-    match list.shown() {
-        Ok(shown) => shows(alloc, store, &shown),
-        Err(_) => false,
-    }
+fn show_alike<S: TextStore>(alloc: Global, store: &S, list: &ListStore) -> Result<bool, Refusal> {
+    Ok(shows(alloc, store, &list.shown()?))
 }
 
 /// Whether the store shows this.
 fn shows<S: TextStore>(alloc: Global, store: &S, shown: &Shown) -> bool {
     is(store.order(), &shown.order)
         && is(store.text(alloc), &shown.text)
-        && lists(alloc, store, shown)
+        && lists(alloc, store, shown) == Ok(true)
         && store.visible_len() == shown.visible.len()
         && is(
             store.elements(alloc, 0, shown.visible.len()),
@@ -37,13 +34,9 @@ fn shows<S: TextStore>(alloc: Global, store: &S, shown: &Shown) -> bool {
 }
 
 /// Whether the store lists these visible elements, and their text.
-fn lists<S: TextStore>(alloc: Global, store: &S, shown: &Shown) -> bool {
-    match store.visible(alloc) {
-        Ok((ids, chars)) => {
-            ids.as_slice() == shown.visible.as_slice() && chars.as_slice() == shown.text.as_slice()
-        }
-        Err(_) => false,
-    }
+fn lists<S: TextStore>(alloc: Global, store: &S, shown: &Shown) -> Result<bool, Refusal> {
+    let (ids, chars) = store.visible(alloc)?;
+    Ok(ids.as_slice() == shown.visible.as_slice() && chars.as_slice() == shown.text.as_slice())
 }
 
 /// Whether both take 80 operations alike, and show the same behind each.
@@ -52,53 +45,31 @@ fn take_each_alike<S: TextStore>(
     store: &mut S,
     list: &mut ListStore,
     random: &mut Random,
-) -> bool {
+) -> Result<bool, Refusal> {
     for _ in 0..80 {
-        let Ok(op) = random.op() else {
-            return false;
-        };
-        if !answer_alike(store, list, op) || !show_alike(alloc, store, list) {
-            return false;
+        let op = random_op(random)?;
+        if !answer_alike(store, list, op) || !show_alike(alloc, store, list)? {
+            return Ok(false);
         }
     }
-    true
+    Ok(true)
 }
 
 /// Whether both with this limit take the operations of this seed alike.
-fn are_alike<S: TextStore>(alloc: Global, limit: usize, seed: u64) -> bool {
-    match S::new(alloc, limit) {
-        Ok(mut store) => {
-            let mut list = ListStore::new(alloc, limit);
-            take_each_alike(alloc, &mut store, &mut list, &mut Random::new(seed))
-        }
-        Err(_) => false,
-    }
+fn are_alike<S: TextStore>(alloc: Global, limit: usize, seed: u64) -> Result<bool, Refusal> {
+    let mut store = S::new(alloc, limit)?;
+    let mut list = ListStore::new(alloc, limit);
+    take_each_alike(alloc, &mut store, &mut list, &mut Random::new(seed))
 }
 
 /// The store answers as the plain list does.
 pub fn check_beside_a_list<S: TextStore, R: Abort>(rt: &R, alloc: Global) {
     for limit in &[3usize, 8, 20, 100] {
         for seed in 0..5 {
-            assert!(rt; are_alike::<S>(alloc, *limit, seed), "{limit} {seed}");
+            let alike = are_alike::<S>(alloc, *limit, seed);
+            assert!(rt; alike == Ok(true), "{limit} {seed}");
         }
     }
-}
-
-/// The insertions of a chain, each the parent of the next.
-fn chain_of(
-    alloc: Global,
-    first: (u64, u16),
-    parent: (u64, u16),
-    count: u64,
-) -> Result<Vec<Op>, Refusal> {
-    let mut ops = Vec::new(alloc);
-    let mut above = parent;
-    for index in 0..count {
-        let id = (first.0.saturating_add(index), first.1);
-        ops.push(insertion(id, above, 'a')?)?;
-        above = id;
-    }
-    Ok(ops)
 }
 
 /// Whether the plain list takes the operations, or knows them.
@@ -112,15 +83,8 @@ fn takes_each(list: &mut ListStore, ops: &[Op]) -> bool {
 }
 
 /// Whether both take the operations, the store as one list.
-fn take_list_alike<S: TextStore>(
-    store: &mut S,
-    list: &mut ListStore,
-    ops: Result<Vec<Op>, Refusal>,
-) -> bool {
-    match ops {
-        Ok(ops) => store.apply_all(&ops).is_ok() && takes_each(list, &ops),
-        Err(_) => false,
-    }
+fn take_list_alike<S: TextStore>(store: &mut S, list: &mut ListStore, ops: &[Op]) -> bool {
+    store.apply_all(ops).is_ok() && takes_each(list, ops)
 }
 
 /// The store takes chains as the plain list takes their insertions. A block has at most 256 entries.
@@ -136,14 +100,11 @@ pub fn check_chains<S: TextStore, R: Abort>(rt: &R, alloc: Global) {
         ("waited for in the middle", (645, 1), (20, 1), 10),
         ("known", (1, 1), (0, 0), 270),
     ];
-    let made = S::new(alloc, 1000);
-    assert!(rt; made.is_ok());
-    if let Ok(mut store) = made {
-        let mut list = ListStore::new(alloc, 1000);
-        for (name, first, parent, count) in ROWS {
-            let ops = chain_of(alloc, *first, *parent, *count);
-            assert!(rt; take_list_alike(&mut store, &mut list, ops), "{name}");
-        }
-        assert!(rt; show_alike(alloc, &store, &list));
+    let mut store = S::new(alloc, 1000).expect(rt, "a store");
+    let mut list = ListStore::new(alloc, 1000);
+    for (name, first, parent, count) in ROWS {
+        let ops = chain(alloc, *first, *parent, *count, 'a').expect(rt, "a chain");
+        assert!(rt; take_list_alike(&mut store, &mut list, &ops), "{name}");
     }
+    assert!(rt; show_alike(alloc, &store, &list) == Ok(true));
 }

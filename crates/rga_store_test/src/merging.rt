@@ -1,5 +1,6 @@
 //! Merges of small stores: answers, contents and orders.
 use crate::words::{alike, store_of};
+use rga_ops::Refusal;
 use rga_store::TextStore;
 use std::alloc::Global;
 use std::process::Abort;
@@ -15,19 +16,19 @@ const THERE: &str = "x1.2<0.0 -2.1";
 const BOTH: &str = "a1.1<0.0 b2.1<1.1 x1.2<0.0 -2.1";
 
 /// Whether the store has the answer to a merge with one that took these operations.
-fn answers<S: TextStore>(alloc: Global, store: &mut S, other: &str, answer: &str) -> bool {
-    match store_of::<S>(alloc, 10, other) {
-        Ok(other) => prints(alloc, &store.merge(&other), answer),
-        Err(_) => false,
-    }
+fn answers<S: TextStore>(
+    alloc: Global,
+    store: &mut S,
+    other: &str,
+    answer: &str,
+) -> Result<bool, Refusal> {
+    let other = store_of::<S>(alloc, 10, other)?;
+    Ok(prints(alloc, &store.merge(&other), answer))
 }
 
 /// Whether the store has the operations and the order of one that took these.
-fn is_like<S: TextStore>(alloc: Global, store: &S, words: &str) -> bool {
-    match store_of::<S>(alloc, 10, words) {
-        Ok(other) => alike(store, &other),
-        Err(_) => false,
-    }
+fn is_like<S: TextStore>(alloc: Global, store: &S, words: &str) -> Result<bool, Refusal> {
+    Ok(alike(store, &store_of::<S>(alloc, 10, words)?))
 }
 
 /// Whether a merge of two stores has the answer, keeps the limit, and leaves what stands last.
@@ -38,15 +39,13 @@ fn merges<S: TextStore>(
     other: &str,
     answer: &str,
     after: &str,
-) -> bool {
-    match store_of::<S>(alloc, limit, own) {
-        Ok(mut store) => {
-            answers(alloc, &mut store, other, answer)
-                && store.limit() == limit
-                && is_like(alloc, &store, after)
-        }
-        Err(_) => false,
-    }
+) -> Result<bool, Refusal> {
+    let mut store = store_of::<S>(alloc, limit, own)?;
+    Ok(
+        answers(alloc, &mut store, other, answer)?
+            && store.limit() == limit
+            && is_like(alloc, &store, after)?,
+    )
 }
 
 /// Each merge has its answer, and joins either way round.
@@ -68,24 +67,15 @@ pub fn check_merges<S: TextStore, R: Abort>(rt: &R, alloc: Global) {
     ];
     for (limit, own, other, answer, after) in ROWS {
         assert!(rt;
-            merges::<S>(alloc, *limit, own, other, answer, after),
+            merges::<S>(alloc, *limit, own, other, answer, after) == Ok(true),
             "{limit} {other}"
         );
     }
 }
 
-/// Whether the store stays as it is when it is merged with its copy.
-fn keeps_itself<S: TextStore>(store: &mut S) -> bool {
-    match store.copy() {
-        Ok(copy) => store.merge(&copy) == Ok(()) && alike(store, &copy),
-        Err(_) => false,
-    }
-}
-
 /// Whether a merge of a store with its own copy changes nothing.
-pub fn takes_its_copy<S: TextStore>(alloc: Global) -> bool {
-    match store_of::<S>(alloc, 2, HERE) {
-        Ok(mut store) => keeps_itself(&mut store),
-        Err(_) => false,
-    }
+pub fn takes_its_copy<S: TextStore>(alloc: Global) -> Result<bool, Refusal> {
+    let mut store = store_of::<S>(alloc, 2, HERE)?;
+    let copy = store.copy()?;
+    Ok(store.merge(&copy) == Ok(()) && alike(&store, &copy))
 }

@@ -1,24 +1,21 @@
 //! Lists of operations, and those of them that are new to a store.
-use crate::words::{same, store_of};
-use rga_store::new_operations_at;
+use crate::words::store_of;
+use rga_ops::Refusal;
+use rga_store::{TextStore, new_operations_at};
 use rga_tree::TreeStore;
 use std::alloc::Global;
-use test_fixtures::ops_of;
-
-/// Whether these operations of the list are new to the store.
-fn are_new_to(alloc: Global, store: &TreeStore, list: &str, new: &str) -> bool {
-    match ops_of(alloc, list) {
-        Ok(ops) => same(new_operations_at(alloc, store, &ops), ops_of(alloc, new)),
-        Err(_) => false,
-    }
-}
+use test_fixtures::{are_ops_of, ops_of};
 
 /// Whether these operations of the list are new to a store that took the operations before.
-fn has_new(alloc: Global, before: &str, list: &str, new: &str) -> bool {
-    match store_of::<TreeStore>(alloc, 9, before) {
-        Ok(store) => are_new_to(alloc, &store, list, new),
-        Err(_) => false,
-    }
+fn has_new<S: TextStore>(
+    alloc: Global,
+    before: &str,
+    list: &str,
+    new: &str,
+) -> Result<bool, Refusal> {
+    let store = store_of::<S>(alloc, 9, before)?;
+    let found = new_operations_at(alloc, &store, &ops_of(alloc, list)?)?;
+    Ok(are_ops_of(alloc, &found, new))
 }
 
 #[test]
@@ -31,6 +28,7 @@ fn what_is_held_and_repeats_are_not_new(rt: HostRuntime) {
         ("a1.1<0.0", "b1.1<0.0", "b1.1<0.0"), // A conflict.
     ];
     for (before, list, new) in ROWS {
-        assert!(rt; has_new(rt.alloc(), before, list, new), "{list}");
+        let found = has_new::<TreeStore>(rt.alloc(), before, list, new);
+        assert!(rt; found == Ok(true), "{list}");
     }
 }

@@ -28,11 +28,8 @@ fn identifiers_are_within_their_ranges(rt: HostRuntime) {
 }
 
 /// Whether the first of two identifiers is the smaller one.
-fn rises(smaller: (u64, u16), larger: (u64, u16)) -> bool {
-    match (id(smaller.0, smaller.1), id(larger.0, larger.1)) {
-        (Ok(smaller), Ok(larger)) => smaller < larger,
-        _ => false,
-    }
+fn rises(smaller: (u64, u16), larger: (u64, u16)) -> Result<bool, Refusal> {
+    Ok(id(smaller.0, smaller.1)? < id(larger.0, larger.1)?)
 }
 
 #[test]
@@ -42,7 +39,8 @@ fn identifiers_are_ordered_by_counter_and_then_by_replica(rt: HostRuntime) {
         ((1, 65535), (2, 1)),
         ((2, 1), (2, 2)),
     ] {
-        assert!(rt; rises(*smaller, *larger), "{smaller:?} {larger:?}");
+        let rises = rises(*smaller, *larger);
+        assert!(rt; rises == Ok(true), "{smaller:?} {larger:?}");
     }
 }
 

@@ -17,16 +17,14 @@ const ELEMENTS: &str = "Ok([Id { counter: 1, replica: 1 }, Id { counter: 4, repl
     Id { counter: 2, replica: 2 }])";
 
 /// Whether a store has these elements, and by index too.
-pub fn has_elements<S: TextStore>(alloc: Global) -> bool {
-    match store_of::<S>(alloc, 100, LEFT) {
-        Ok(store) => {
-            prints(alloc, &visible_elements(&store), ELEMENTS)
-                && element_at(&store, 2) == id(2, 2)
-                && element_at(&store, 3) == Err(Refusal::Range)
-                && store.elements(alloc, 1, 9).map(|ids| ids.len()) == Ok(2)
-        }
-        Err(_) => false,
-    }
+pub fn has_elements<S: TextStore>(alloc: Global) -> Result<bool, Refusal> {
+    let store = store_of::<S>(alloc, 100, LEFT)?;
+    Ok(
+        prints(alloc, &visible_elements(&store), ELEMENTS)
+            && element_at(&store, 2) == id(2, 2)
+            && element_at(&store, 3) == Err(Refusal::Range)
+            && store.elements(alloc, 1, 9)?.len() == 2,
+    )
 }
 
 /// Whether the element has this place and this index.
@@ -35,15 +33,11 @@ fn stands_at<S: TextStore>(
     words: &str,
     (counter, replica): (u64, u16),
     answers: &str,
-) -> bool {
-    match (store_of::<S>(alloc, 100, words), id(counter, replica)) {
-        (Ok(store), Ok(id)) => prints(
-            alloc,
-            &(place_of(&store, id), position_of(&store, id)),
-            answers,
-        ),
-        _ => false,
-    }
+) -> Result<bool, Refusal> {
+    let store = store_of::<S>(alloc, 100, words)?;
+    let id = id(counter, replica)?;
+    let answered = (place_of(&store, id), position_of(&store, id));
+    Ok(prints(alloc, &answered, answers))
 }
 
 /// Each element has its place, and its index where it is visible.
@@ -58,7 +52,7 @@ pub fn check_places<S: TextStore, R: Abort>(rt: &R, alloc: Global) {
         ("a1.1<0.0 w9.1<8.1", (9, 1), "(Err(Range), Ok(None))"),
     ] {
         assert!(rt;
-            stands_at::<S>(alloc, words, *element, answers),
+            stands_at::<S>(alloc, words, *element, answers) == Ok(true),
             "{words} {element:?}"
         );
     }

@@ -1,5 +1,6 @@
 //! Lists of operations that a store takes whole or not at all.
 use crate::words::{holds, store_of};
+use rga_ops::Refusal;
 use rga_store::TextStore;
 use std::alloc::Global;
 use std::process::Abort;
@@ -14,14 +15,6 @@ const AB: &str = "a1.1<0.0 b2.1<1.1";
 /// The answer to another insertion of (1, 1).
 const CONFLICT: &str = "Err(Conflict(Id { counter: 1, replica: 1 }))";
 
-/// Whether the store has the answer to a list of operations.
-fn answers<S: TextStore>(alloc: Global, store: &mut S, list: &str, answer: &str) -> bool {
-    match ops_of(alloc, list) {
-        Ok(ops) => prints(alloc, &store.apply_all(&ops), answer),
-        Err(_) => false,
-    }
-}
-
 /// Whether a store that took the operations before has the answer to the list, and then holds those
 /// after.
 fn takes<S: TextStore>(
@@ -31,11 +24,10 @@ fn takes<S: TextStore>(
     list: &str,
     answer: &str,
     after: &str,
-) -> bool {
-    match store_of::<S>(alloc, limit, before) {
-        Ok(mut store) => { answers(alloc, &mut store, list, answer) && holds(alloc, &store, after) }
-        Err(_) => false,
-    }
+) -> Result<bool, Refusal> {
+    let mut store = store_of::<S>(alloc, limit, before)?;
+    let answered = store.apply_all(&ops_of(alloc, list)?);
+    Ok(prints(alloc, &answered, answer) && holds(alloc, &store, after))
 }
 
 /// A list is taken whole, or it is refused and changes nothing.
@@ -78,7 +70,7 @@ pub fn check_lists<S: TextStore, R: Abort>(rt: &R, alloc: Global) {
     ];
     for (limit, before, list, answer, after) in ROWS {
         assert!(rt;
-            takes::<S>(alloc, *limit, before, list, answer, after),
+            takes::<S>(alloc, *limit, before, list, answer, after) == Ok(true),
             "{limit} {list}"
         );
     }

@@ -2,7 +2,7 @@
 use rga_ops::Refusal;
 use rga_store::TextStore;
 use std::alloc::Global;
-use test_fixtures::{op_of, ops_of, spells};
+use test_fixtures::{op_of, ops_of, same};
 
 /// A store that took the operations of these words one by one.
 pub fn store_of<S: TextStore>(alloc: Global, limit: usize, words: &str) -> Result<S, Refusal> {
@@ -16,19 +16,6 @@ fn apply_each<S: TextStore>(store: &mut S, words: &str) -> Result<(), Refusal> {
         let _taken = store.apply(op_of(word)?)?;
     }
     Ok(())
-}
-
-/// Whether there are characters, and they are those of the text.
-pub fn spell(chars: Result<Vec<char>, Refusal>, text: &str) -> bool {
-    match chars {
-        Ok(chars) => spells(&chars, text),
-        Err(_) => false,
-    }
-}
-
-/// Whether the text of the store is this one.
-pub fn shows<S: TextStore>(alloc: Global, store: &S, text: &str) -> bool {
-    spell(store.text(alloc), text)
 }
 
 /// Whether these are the operations of the store, in their order.
@@ -48,20 +35,4 @@ pub fn places<S: TextStore>(alloc: Global, store: &S) -> Result<Vec<Option<usize
 /// Whether both stores hold the same operations, and have the same order.
 pub fn alike<S: TextStore>(a: &S, b: &S) -> bool {
     same(a.ops(), b.ops()) && same(a.order(), b.order())
-}
-
-/// Whether there are both lists, and they are the same.
-pub fn same<T: PartialEq + Drop>(a: Result<Vec<T>, Refusal>, b: Result<Vec<T>, Refusal>) -> bool {
-    match b {
-        Ok(b) => is(a, &b),
-        Err(_) => false,
-    }
-}
-
-/// Whether there is a list, and it is this one.
-pub fn is<T: PartialEq + Drop>(found: Result<Vec<T>, Refusal>, list: &[T]) -> bool {
-    match found {
-        Ok(found) => found.as_slice() == list,
-        Err(_) => false,
-    }
 }

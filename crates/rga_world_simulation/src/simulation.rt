@@ -8,7 +8,7 @@ use rga_world::{World, WorldRefusal};
 use std::alloc::Global;
 use test_fixtures::Random;
 
-#[derive(Clone, Copy)]
+#[derive(Clone, Copy, Default)]
 pub struct Counts {
     pub done: usize,
     pub refused: usize,
@@ -36,12 +36,7 @@ impl Simulation {
             random: Random::new(seed),
             next: FIRST,
             saved: Vec::new(alloc),
-            counts: Counts {
-                done: 0,
-                refused: 0,
-                looks: 0,
-                differences: 0,
-            },
+            counts: Counts::default(),
         })
     }
 

@@ -27,6 +27,25 @@ pub fn deletion(counter: u64, replica: u16) -> Result<Op, Refusal> {
     })
 }
 
+/// So many insertions, each the parent of the next: the first has this identifier and this parent,
+/// and the counter rises.
+pub fn chain(
+    alloc: Global,
+    first: (u64, u16),
+    parent: (u64, u16),
+    count: u64,
+    ch: char,
+) -> Result<Vec<Op>, Refusal> {
+    let mut ops = Vec::new(alloc);
+    let mut above = parent;
+    for index in 0..count {
+        let element = (first.0.saturating_add(index), first.1);
+        ops.push(insertion(element, above, ch)?)?;
+        above = element;
+    }
+    Ok(ops)
+}
+
 /// The operations that the words say. `BadId` where a word says none, and `Memory`.
 pub fn ops_of(alloc: Global, words: &str) -> Result<Vec<Op>, Refusal> {
     let mut ops = Vec::new(alloc);
@@ -63,6 +82,14 @@ fn id_of(text: &str) -> Result<Id, Refusal> {
     match (counter.parse::<u64>(), replica.parse::<u16>()) {
         (Ok(counter), Ok(replica)) => id(counter, replica),
         _ => Err(Refusal::BadId),
+    }
+}
+
+/// Whether these are the operations that the words say.
+pub fn are_ops_of(alloc: Global, ops: &[Op], words: &str) -> bool {
+    match ops_of(alloc, words) {
+        Ok(expected) => ops == expected.as_slice(),
+        Err(_) => false,
     }
 }
 

@@ -21,4 +21,13 @@ impl Random {
             .checked_rem(bound)
             .unwrap_or(0)
     }
+
+    /// One of the replicas 1, 2 and 3.
+    pub fn replica(&mut self) -> u16 {
+        match self.below(3) {
+            0 => 1,
+            1 => 2,
+            _ => 3,
+        }
+    }
 }
