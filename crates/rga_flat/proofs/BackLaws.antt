@@ -42,7 +42,7 @@ without_within (Delete id) c = record {
 
 pub gone_within : (ss : List Step) (c : Content) → IsWithin (without_noted ss c) c
 gone_within [] c = record { inserted = λ k x g. g; deleted = λ k h. h }
-gone_within (s ∷ ss) c = within_chain (without_operation s.op (without_noted ss c)) (without_noted ss c) c (without_within s.op (without_noted ss c)) (gone_within ss c)
+gone_within (s ∷ ss) c = within_chain (without_operation s.op.now (without_noted ss c)) (without_noted ss c) c (without_within s.op.now (without_noted ss c)) (gone_within ss c)
 
 -- ---- an operation goes
 

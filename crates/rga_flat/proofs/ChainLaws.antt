@@ -40,10 +40,10 @@ pub without_noted-both : (xs ys : List Step) (c : Content) → without_noted (xs
 without_noted-both [] ys c = refl
 without_noted-both (x ∷ xs) ys c = ap (without_noted (x ∷ [])) (without_noted-both xs ys c)
 
-pub gathered_more : (limit : ℕ) (base c d : Content) (step : Step) (ops : List Op) (before steps : List Step) → IsGathered limit base c ops before steps → answer limit c step.op ≡ Ok New → d ≡ join c (single step.op) → step.clock ≡ clock_of c
-    → IsGathered limit base d (ops ++ step.op ∷ []) before (steps ++ step ∷ [])
+pub gathered_more : (limit : ℕ) (base c d : Content) (step : Step) (ops : List Op) (before steps : List Step) → IsGathered limit base c ops before steps → answer limit c step.op.now ≡ Ok New → d ≡ join c (single step.op.now) → step.clock ≡ clock_of c
+    → IsGathered limit base d (ops ++ step.op.now ∷ []) before (steps ++ step ∷ [])
 gathered_more limit base c d step ops before steps g answered joined clocked =
-    let op = step.op in
+    let op = step.op.now in
     record {
       taken = taken_on limit base c ops (op ∷ []) g.taken ∙ ap (λ r. and_take (after_answer c op r) (λ e. Ok e)) answered ∙ ap (λ e. Ok e) (sym joined);
       within = within_chain base c d g.within (subst (λ e. IsWithin c e) (sym joined) (within_join c (single op)));
@@ -53,8 +53,8 @@ gathered_more limit base c d step ops before steps g answered joined clocked =
       gone = without_noted-push g.own step d ∙ ap (without_noted g.own) (without_taken limit c d op answered joined) ∙ g.gone;
     }
 
-pub gathered_next : (limit : ℕ) (base c d : Content) (step : Step) (item : Op) (ops : List Op) (i : ℕ) (before steps later : List Step) → later ≡ steps ++ step ∷ [] → IsGathered limit base c (take i ops) before steps → i < length ops → item ≡ slice_index_or ops i item → item ≡ step.op
-    → answer limit c step.op ≡ Ok New → d ≡ join c (single step.op) → step.clock ≡ clock_of c → IsGathered limit base d (take (i + 1) ops) before later
+pub gathered_next : (limit : ℕ) (base c d : Content) (step : Step) (item : Op) (ops : List Op) (i : ℕ) (before steps later : List Step) → later ≡ steps ++ step ∷ [] → IsGathered limit base c (take i ops) before steps → i < length ops → item ≡ slice_index_or ops i item → item ≡ step.op.now
+    → answer limit c step.op.now ≡ Ok New → d ≡ join c (single step.op.now) → step.clock ≡ clock_of c → IsGathered limit base d (take (i + 1) ops) before later
 gathered_next limit base c d step item ops i before steps later noted g w is same answered joined clocked =
     subst (λ ss. IsGathered limit base d (take (i + 1) ops) before ss) (sym noted)
     (subst (λ xs. IsGathered limit base d xs before (steps ++ step ∷ [])) (sym (take_more ops i item w ∙ ap (λ x. take i ops ++ x ∷ []) (sym is ∙ same)))

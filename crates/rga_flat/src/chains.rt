@@ -24,14 +24,14 @@ use std::collections::{BTreeMap, BTreeSet};
 /// they are new, wait for nothing and nothing waits for them, and answers how many: none where it
 /// does not begin with two such, and not more than may be put at once. `Memory` alone, which changes
 /// nothing.
-pub(crate) fn take_chain(
+pub(crate) fn take_chain<'a>(
     alloc: Global,
     records: &mut Records,
     sequence: &mut Sequence,
     waiting: &BTreeMap<Id, Vec<Id>>,
     done: &BTreeSet<Id>,
-    ops: &[Op],
-    steps: &mut Vec<Step>,
+    ops: &'a [Op],
+    steps: &mut Vec<Step<'a>>,
 ) -> Result<usize, Refusal>
     requires back { CanTakeBack steps.old.items records.old.content }
     requires flat { IsFlat records.old.content sequence.old
@@ -100,14 +100,14 @@ fn parent_of_chain(ops: &[Op]) -> Option<Id> {
 
 /// Takes insertions into the records, the first behind a parent and each other behind the one before
 /// it, and notes them, for which there is room. `Memory` alone; those before stay.
-fn gather(
+fn gather<'a>(
     alloc: Global,
     records: &mut Records,
     waiting: &BTreeMap<Id, Vec<Id>>,
     parent: Id,
     near: Near,
-    ops: &[Op],
-    steps: &mut Vec<Step>,
+    ops: &'a [Op],
+    steps: &mut Vec<Step<'a>>,
     entries: &mut Vec<Entry>,
 ) -> Result<(), Refusal>
     requires back { CanTakeBack steps.old.items records.old.content }
@@ -132,13 +132,13 @@ fn gather(
 }
 
 /// The same, one insertion after another.
-fn gather_each(
+fn gather_each<'a>(
     records: &mut Records,
     waiting: &BTreeMap<Id, Vec<Id>>,
     parent: Id,
     near: Near,
-    ops: &[Op],
-    steps: &mut Vec<Step>,
+    ops: &'a [Op],
+    steps: &mut Vec<Step<'a>>,
     entries: &mut Vec<Entry>,
 ) -> Result<(), Refusal>
     requires back { CanTakeBack steps.old.items records.old.content }
@@ -215,13 +215,13 @@ fn next_entry(
 /// Takes an insertion that is new into the records, and notes it, for which there is room. `Memory`
 /// alone, which changes nothing.
 #[inline(always)]
-fn add(
+fn add<'a>(
     records: &mut Records,
     parent: Id,
     near: Near,
-    op: &Op,
+    op: &'a Op,
     entry: &Entry,
-    steps: &mut Vec<Step>,
+    steps: &mut Vec<Step<'a>>,
     entries: &mut Vec<Entry>,
 ) -> Result<(), Refusal>
     requires op { op.now ≡ Op.Insert entry.now.id parent entry.now.ch }
@@ -234,7 +234,7 @@ fn add(
     ensures ok { OnOk result (records.new.content
         ≡ join records.old.content (single (Op.Insert entry.now.id parent entry.now.ch))) }
     ensures steps { OnOk result (steps.new.items ≡ steps.old.items ++ record {
-      op = op.now;
+      op = op.entry;
       clock = clock_of records.old.content;
     } ∷ []) }
     ensures entries { OnOk result (entries.new.items ≡ entries.old.items ++ entry.now ∷ []) }

@@ -26,14 +26,14 @@ pub(crate) fn is_newer(ops: &[Op], clock: u64) -> bool {
 /// Takes insertions that are newer than all that is known into the records, the first behind a parent
 /// and each other behind the one before it, and notes them, for which there is room. `Memory` alone,
 /// and then none is taken.
-pub(crate) fn gather_newer(
+pub(crate) fn gather_newer<'a>(
     alloc: Global,
     records: &mut Records,
     waiting: &BTreeMap<Id, Vec<Id>>,
     parent: Id,
     near: Near,
-    ops: &[Op],
-    steps: &mut Vec<Step>,
+    ops: &'a [Op],
+    steps: &mut Vec<Step<'a>>,
     entries: &mut Vec<Entry>,
 ) -> Result<(), Refusal>
     requires back { CanTakeBack steps.old.items records.old.content }
@@ -65,12 +65,12 @@ pub(crate) fn gather_newer(
 /// Notes the insertions at the front of a list that are newer than all that is known, the first
 /// behind a parent and each other behind the one before it, and makes their entries, for which there
 /// is room. Takes no memory.
-fn scan(
+fn scan<'a>(
     records: &Records,
     waiting: &BTreeMap<Id, Vec<Id>>,
     parent: Id,
-    ops: &[Op],
-    steps: &mut Vec<Step>,
+    ops: &'a [Op],
+    steps: &mut Vec<Step<'a>>,
     entries: &mut Vec<Entry>,
 )
     requires back { CanTakeBack steps.old.items records.now.content }

@@ -21,19 +21,19 @@ pub(crate) fn go_back(
     sequence: &mut Sequence,
     waiting: &mut BTreeMap<Id, Vec<Id>>,
     done: &BTreeSet<Id>,
-    mut steps: Vec<Step>,
+    mut steps: Vec<Step<'_>>,
 )
     requires back { CanTakeBack steps.items records.old.content }
     requires returnable { IsReturnable records.old.content
         (without_noted steps.items records.old.content) sequence.old waiting.old done.now }
-    ensures content { records.new.content ≡ without_noted steps.items records.old.content }
+    ensures content { records.new.content ≡ without_noted steps.entry.items records.old.content }
     ensures flat { IsFlat records.new.content sequence.new
         (under waiting.new) (has_list waiting.new) }
     ensures limit { records.new.limit ≡ records.old.limit }
 {
     take_out_all(records, sequence, done);
     while let Some(step) = steps.pop() {
-        undo(records, sequence, waiting, &step.op, step.clock);
+        undo(records, sequence, waiting, step.op, step.clock);
     }
 }
 

@@ -61,14 +61,14 @@ pub(crate) fn take_whole(
 
 /// Takes a chain at the front of a list, if there is one, and the operation behind it, and answers
 /// how many these are. Notes those that were new.
-fn take_next(
+fn take_next<'a>(
     alloc: Global,
     records: &mut Records,
     sequence: &mut Sequence,
     waiting: &mut BTreeMap<Id, Vec<Id>>,
     done: &mut BTreeSet<Id>,
-    ops: &[Op],
-    steps: &mut Vec<Step>,
+    ops: &'a [Op],
+    steps: &mut Vec<Step<'a>>,
 ) -> Result<usize, Refusal>
     requires some { 0 < length ops.now }
     requires back { CanTakeBack steps.old.items records.old.content }
@@ -111,14 +111,14 @@ fn take_next(
 }
 
 /// Takes an operation, and notes it if it was new.
-fn take_noted(
+fn take_noted<'a>(
     alloc: Global,
     records: &mut Records,
     sequence: &mut Sequence,
     waiting: &mut BTreeMap<Id, Vec<Id>>,
     done: &mut BTreeSet<Id>,
-    op: &Op,
-    steps: &mut Vec<Step>,
+    op: &'a Op,
+    steps: &mut Vec<Step<'a>>,
 ) -> Result<(), Refusal>
     requires back { CanTakeBack steps.old.items records.old.content }
     requires inserted { (p : Identifier) → contains id_cmp done.old p ≡ true →

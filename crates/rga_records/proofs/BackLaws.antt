@@ -15,25 +15,25 @@ use Rattle.rga_records.specs.Back.{without_noted, CanTakeBack, IsLastNoted}
 
 -- ---- steps
 
-pub without_noted-push : (ss : List Step) (s : Step) (c : Content) → without_noted (ss ++ s ∷ []) c ≡ without_noted ss (without_operation s.op c)
+pub without_noted-push : (ss : List Step) (s : Step) (c : Content) → without_noted (ss ++ s ∷ []) c ≡ without_noted ss (without_operation s.op.now c)
 without_noted-push [] s c = refl
-without_noted-push (t ∷ ss) s c = ap (without_operation t.op) (without_noted-push ss s c)
+without_noted-push (t ∷ ss) s c = ap (without_operation t.op.now) (without_noted-push ss s c)
 
-pub last_step : (ss : List Step) (s : Step) (c : Content) → CanTakeBack (ss ++ s ∷ []) c → IsLastNoted ss s.op s.clock c
+pub last_step : (ss : List Step) (s : Step) (c : Content) → CanTakeBack (ss ++ s ∷ []) c → IsLastNoted ss s.op.now s.clock c
 last_step [] s c h = record { held = h.1.0; clocked = h.1.1; rest = tt }
 last_step (t ∷ ss) s c h =
-    let last : IsLastNoted ss s.op s.clock c = last_step ss s c h.0 in
+    let last : IsLastNoted ss s.op.now s.clock c = last_step ss s c h.0 in
     record {
       held = last.held;
       clocked = last.clocked;
-      rest = (last.rest, subst (λ d. Holds d t.op × (t.clock ≡ clock_of (without_operation t.op d))) (without_noted-push ss s c) h.1);
+      rest = (last.rest, subst (λ d. Holds d t.op.now × (t.clock ≡ clock_of (without_operation t.op.now d))) (without_noted-push ss s c) h.1);
     }
 
-pub one_step_more : (ss : List Step) (s : Step) (c : Content) → IsLastNoted ss s.op s.clock c → CanTakeBack (ss ++ s ∷ []) c
+pub one_step_more : (ss : List Step) (s : Step) (c : Content) → IsLastNoted ss s.op.now s.clock c → CanTakeBack (ss ++ s ∷ []) c
 one_step_more [] s c last = (tt, (last.held, last.clocked))
 one_step_more (t ∷ ss) s c last = (
   one_step_more ss s c (record { held = last.held; clocked = last.clocked; rest = last.rest.0 }),
-  subst (λ d. Holds d t.op × (t.clock ≡ clock_of (without_operation t.op d))) (sym (without_noted-push ss s c)) last.rest.1,
+  subst (λ d. Holds d t.op.now × (t.clock ≡ clock_of (without_operation t.op.now d))) (sym (without_noted-push ss s c)) last.rest.1,
 )
 
 module _ (limit : ℕ) (n m : Content) (op : Op) (answered : answer limit n op ≡ Ok New) (joined : m ≡ join n (single op)) where
@@ -48,7 +48,7 @@ module _ (limit : ℕ) (n m : Content) (op : Op) (answered : answer limit n op �
   }
 
 -- one step less behind those that stay
-pub left_gone : (from : ℕ) (ss : List Step) (s : Step) (c : Content) → from < length (ss ++ s ∷ []) → without_noted (drop from ss) (without_operation s.op c) ≡ without_noted (drop from (ss ++ s ∷ [])) c
+pub left_gone : (from : ℕ) (ss : List Step) (s : Step) (c : Content) → from < length (ss ++ s ∷ []) → without_noted (drop from ss) (without_operation s.op.now c) ≡ without_noted (drop from (ss ++ s ∷ [])) c
 left_gone from ss s c w =
     let many : length (ss ++ s ∷ []) ≡ length ss + 1 = length-append ss (s ∷ []) in
     sym (ap (λ ts. without_noted ts c) (drop-append-le from ss (s ∷ []) (omega (arith, many, w))) ∙ without_noted-push (drop from ss) s c)

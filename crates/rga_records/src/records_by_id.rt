@@ -1,5 +1,5 @@
 //! Records by identifier, with the clock and the counts of their content.
-ghost use Rattle.std.specs.Prelude.{◌≡◌, ◌≢◌, ◌≤◌, ◌<◌, ◌+◌, ◌↔◌, [], length, take, drop, None, Ok, Err, OnOk, OnErr, IfOk, IfErr, is_some, string_bytes, encode_utf8_all, true, false};
+ghost use Rattle.std.specs.Prelude.{◌≡◌, ◌≢◌, ◌≤◌, ◌<◌, ◌+◌, ◌↔◌, length, take, drop, None, Ok, Err, OnOk, OnErr, IfOk, IfErr, is_some, string_bytes, encode_utf8_all, true, false};
 ghost use Rattle.std.specs.FinMap as finite_map;
 ghost use Rattle.std.specs.FinSet as finite_set;
 ghost use Rattle.rga_ops.specs.Prelude.{all_checked, answer, clock_of, element_at, join, known_count, known_ids, list_answer, nothing, operations, single, text, IsSound};
@@ -33,7 +33,6 @@ use rga_sequence::{Entry, Near};
 use rga_store::{Listener, MAX_LIMIT};
 use std::alloc::Global;
 use std::marker::Model;
-use std::mem::replace;
 
 /// What is known of each identifier: a record for each that is inserted, deleted or both, and how
 /// many there may be. Callers see the content that the records stand for, and the limit.
@@ -47,9 +46,6 @@ pub struct Records {
     /// How many identifiers are inserted, deleted or both.
     known: usize,
     limit: usize,
-    /// A list to note steps in, which the next list of operations uses again: what stands there counts
-    /// for nothing.
-    steps: Vec<Step>,
 }
 
 impl Model for Records {
@@ -87,30 +83,12 @@ impl Records {
             inserted: 0,
             known: 0,
             limit,
-            steps: Vec::new(alloc),
         })
     }
 
     /// Where memory is taken from.
     pub(crate) fn alloc(&self) -> Global {
         self.alloc
-    }
-
-    /// No steps, in the room of those that were noted last. Takes no memory.
-    pub(crate) fn lend_steps(&mut self) -> Vec<Step>
-        ensures none { result.items ≡ [] }
-        ensures same { self.new ≡ self.old }
-    {
-        let mut steps = replace(&mut self.steps, Vec::new(self.alloc));
-        steps.clear();
-        steps
-    }
-
-    /// Takes back the room in which steps were noted. Takes no memory.
-    pub(crate) fn keep_steps(&mut self, steps: Vec<Step>)
-        ensures { self.new ≡ self.old }
-    {
-        self.steps = steps;
     }
 
     /// What is known of an identifier, and of the room that is left. The next calls for the same
@@ -425,7 +403,7 @@ impl Records {
     }
 
     /// Removes the operations of the steps from one on, the last first. Takes no memory.
-    pub fn remove_steps(&mut self, steps: &mut Vec<Step>, from: usize)
+    pub fn remove_steps(&mut self, steps: &mut Vec<Step<'_>>, from: usize)
         requires { CanTakeBack steps.old.items self.old.content }
         ensures content { self.new.content
             ≡ without_noted (drop from steps.old.items) self.old.content }

@@ -3,6 +3,7 @@ ghost use Rattle.std.specs.Prelude.{◌≡◌, Ok, OnOk, OnErr};
 ghost use Rattle.rga_ops.specs.Answer.{taken_one_by_one};
 
 use crate::records_by_id::Records;
+use crate::steps::Step;
 use crate::taking::{remove_from, take_each, take_op};
 use rga_ops::{Op, Refusal, Taken};
 use rga_store::Taker;
@@ -47,11 +48,12 @@ fn take_whole(records: &mut Records, ops: &[Op]) -> Result<(), Refusal>
     ensures same { OnErr result (records.new.content ≡ records.old.content) }
     ensures limit { records.new.limit ≡ records.old.limit }
 {
-    let mut steps = records.lend_steps();
-    let answer = take_each(records, ops, &mut steps);
-    if answer.is_err() {
-        remove_from(records, &mut steps, 0);
+    let mut steps: Vec<Step<'_>> = Vec::with_capacity(records.alloc(), ops.len())?;
+    match take_each(records, ops, &mut steps) {
+        Ok(()) => Ok(()),
+        Err(refusal) => {
+            remove_from(records, &mut steps, 0);
+            Err(refusal)
+        }
     }
-    records.keep_steps(steps);
-    answer
 }

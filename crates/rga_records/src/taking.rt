@@ -72,7 +72,11 @@ fn take_found(records: &mut Records, op: &Op) -> Result<Taken, Refusal>
 }
 
 /// Takes an operation, and notes it if it was new.
-fn take_noted(records: &mut Records, op: &Op, steps: &mut Vec<Step>) -> Result<(), Refusal>
+fn take_noted<'a>(
+    records: &mut Records,
+    op: &'a Op,
+    steps: &mut Vec<Step<'a>>,
+) -> Result<(), Refusal>
     requires { CanTakeBack steps.old.items records.old.content }
     ensures ok { OnOk result
         (taken records.old.limit records.old.content op.now ≡ Ok records.new.content) }
@@ -93,10 +97,10 @@ fn take_noted(records: &mut Records, op: &Op, steps: &mut Vec<Step>) -> Result<(
 }
 
 /// Takes operations one by one, up to the first that is refused, and notes those that were new.
-pub(crate) fn take_each(
+pub(crate) fn take_each<'a>(
     records: &mut Records,
-    ops: &[Op],
-    steps: &mut Vec<Step>,
+    ops: &'a [Op],
+    steps: &mut Vec<Step<'a>>,
 ) -> Result<(), Refusal>
     requires { CanTakeBack steps.old.items records.old.content }
     ensures ok { OnOk result (taken_one_by_one records.old.limit records.old.content ops.now
@@ -113,7 +117,7 @@ pub(crate) fn take_each(
 }
 
 /// The operations of the steps from one on leave the records, the last first. Takes no memory.
-pub(crate) fn remove_from(records: &mut Records, steps: &mut Vec<Step>, from: usize)
+pub(crate) fn remove_from(records: &mut Records, steps: &mut Vec<Step<'_>>, from: usize)
     requires { CanTakeBack steps.old.items records.old.content }
     ensures content { records.new.content
         ≡ without_noted (drop from steps.old.items) records.old.content }
@@ -122,7 +126,7 @@ pub(crate) fn remove_from(records: &mut Records, steps: &mut Vec<Step>, from: us
 {
     while steps.as_slice().len() > from {
         match steps.pop() {
-            Some(step) => records.remove(&step.op, step.clock),
+            Some(step) => records.remove(step.op, step.clock),
             None => unreachable!(),
         }
     }

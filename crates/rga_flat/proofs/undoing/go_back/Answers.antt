@@ -33,10 +33,10 @@ undo-requires-clause-clock c =
 
 pub loop-step-preserved : goal.loop-step-preserved
 loop-step-preserved c =
-    let was_last : IsLastNoted c.pop.new.self.items c.in-Some.step.op c.in-Some.step.clock c.loop-step.records.content =
+    let was_last : IsLastNoted c.pop.new.self.items c.in-Some.step.op.now c.in-Some.step.clock c.loop-step.records.content =
     last_step c.pop.new.self.items c.in-Some.step c.loop-step.records.content (subst (λ ss. CanTakeBack ss c.loop-step.records.content) c.in-Some.ensures.items c.loop-step.invariant.left) in
     let base : Content = without_noted c.args.steps.items c.args.records.now.content in
-    let then : without_noted c.pop.new.self.items (without_operation c.in-Some.step.op c.loop-step.records.content) ≡ base =
+    let then : without_noted c.pop.new.self.items (without_operation c.in-Some.step.op.now c.loop-step.records.content) ≡ base =
     sym (without_noted-push c.pop.new.self.items c.in-Some.step c.loop-step.records.content)
     ∙ ap (λ ss. without_noted ss c.loop-step.records.content) (sym c.in-Some.ensures.items) ∙ c.loop-step.invariant.start in
     record {
@@ -44,10 +44,10 @@ loop-step-preserved c =
       left = subst (λ d. CanTakeBack c.pop.new.self.items d) (sym c.undo.ensures.content) was_last.rest;
       start = ap (without_noted c.pop.new.self.items) c.undo.ensures.content ∙ then;
       going = subst (λ d. IsGoingBack c.args.records.now.content base d c.undo.new.sequence c.undo.new.waiting (contains id_cmp c.args.done.now)) (sym c.undo.ensures.content)
-          (subst (λ es. IsGoingBack c.args.records.now.content base (without_operation c.in-Some.step.op c.loop-step.records.content) es c.undo.new.waiting (contains id_cmp c.args.done.now)) (sym c.undo.ensures.entries)
-          (going_undone c.in-Some.step.op c.args.records.now.content base c.loop-step.records.content c.loop-step.sequence c.loop-step.waiting c.undo.new.waiting (contains id_cmp c.args.done.now)
+          (subst (λ es. IsGoingBack c.args.records.now.content base (without_operation c.in-Some.step.op.now c.loop-step.records.content) es c.undo.new.waiting (contains id_cmp c.args.done.now)) (sym c.undo.ensures.entries)
+          (going_undone c.in-Some.step.op.now c.args.records.now.content base c.loop-step.records.content c.loop-step.sequence c.loop-step.waiting c.undo.new.waiting (contains id_cmp c.args.done.now)
           c.loop-step.invariant.going was_last.held
-          (subst (λ d. IsWithin d (without_operation c.in-Some.step.op c.loop-step.records.content)) then (gone_within c.pop.new.self.items (without_operation c.in-Some.step.op c.loop-step.records.content)))
+          (subst (λ d. IsWithin d (without_operation c.in-Some.step.op.now c.loop-step.records.content)) then (gone_within c.pop.new.self.items (without_operation c.in-Some.step.op.now c.loop-step.records.content)))
           c.undo.ensures.under c.undo.ensures.lists));
     }
 

@@ -13,7 +13,7 @@ returns-in-New-clause-steps c =
     let is_new : c.take.result ≡ ok New = c.in_ok-take.was ∙ ap ok c.in-New.is in
     let answered = was_new c.args.records.now.limit c.args.records.now.content c.args.op.now c.take.result is_new c.take.ensures.exact in
     subst (λ ss. CanTakeBack ss c.take.new.records.content) (sym c.note.ensures.noted)
-    (one_step_more c.reserve.new.self.items (record { op = c.args.op.now; clock = c.clock-clock.result }) c.take.new.records.content
+    (one_step_more c.reserve.new.self.items (record { op = c.args.op; clock = c.clock-clock.result }) c.take.new.records.content
     (last_taken c.args.records.now.limit c.args.records.now.content c.take.new.records.content c.args.op.now answered (c.take.ensures.new is_new) c.reserve.new.self.items c.clock-clock.result c.clock-clock.ensures
     (subst (λ ss. CanTakeBack ss c.args.records.now.content) (sym c.in_ok-reserve.ensures.items) c.requires.back)))
 
@@ -22,7 +22,7 @@ returns-in-New-clause-start c =
     let is_new : c.take.result ≡ ok New = c.in_ok-take.was ∙ ap ok c.in-New.is in
     let answered = was_new c.args.records.now.limit c.args.records.now.content c.args.op.now c.take.result is_new c.take.ensures.exact in
     ap (λ ss. without_noted ss c.take.new.records.content) c.note.ensures.noted
-    ∙ without_noted-push c.reserve.new.self.items (record { op = c.args.op.now; clock = c.clock-clock.result }) c.take.new.records.content
+    ∙ without_noted-push c.reserve.new.self.items (record { op = c.args.op; clock = c.clock-clock.result }) c.take.new.records.content
     ∙ ap (without_noted c.reserve.new.self.items) (without_taken c.args.records.now.limit c.args.records.now.content c.take.new.records.content c.args.op.now answered (c.take.ensures.new is_new))
     ∙ ap (λ ss. without_noted ss c.args.records.now.content) c.in_ok-reserve.ensures.items
 

@@ -13,7 +13,7 @@ remove-requires-clause-clock c =
 
 pub loop-steps-preserved : goal.loop-steps-preserved
 loop-steps-preserved c =
-    let last : IsLastNoted c.pop.new.self.items c.in-Some.step.op c.in-Some.step.clock c.loop-steps.records.content =
+    let last : IsLastNoted c.pop.new.self.items c.in-Some.step.op.now c.in-Some.step.clock c.loop-steps.records.content =
     last_step c.pop.new.self.items c.in-Some.step c.loop-steps.records.content (subst (λ ss. CanTakeBack ss c.loop-steps.records.content) c.in-Some.ensures.items c.loop-steps.invariant.back) in
     let more : c.args.from < length (c.pop.new.self.items ++ c.in-Some.step ∷ []) =
     subst (λ ss. c.args.from < length ss) (c.as_slice.ensures.value ∙ c.in-Some.ensures.items) c.loop-steps-test.true in
