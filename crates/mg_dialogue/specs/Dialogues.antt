@@ -1,14 +1,12 @@
 -- What is talked with the user.
 use Rattle.std.specs.Prelude.{◌≡◌, ℕ, List, [], ◌∷◌, ◌++◌, Option, Some, None}
-use Rattle.mg_keys.specs.Begun.{KeyState, HasBegun, Answers}
+use Rattle.std.specs.Option.{option_map_or}
+use Rattle.mg_keys.specs.Begun.{KeyState, HasBegun, Answers, fresh}
 use Rattle.mg_keys.specs.Meaning.{meaning}
 use Rattle.mg_keys.specs.declared.step.Mode.{Mode}
 use Rattle.mg_keys.specs.declared.step.Mode.TheVariants as modes
 use Rattle.mg_keys.specs.declared.step.Step.{Step}
-use Rattle.mg_minibuffer.specs.PromptStep.{prompt_step}
 use Rattle.mg_minibuffer.specs.Prompts.{mode}
-use Rattle.mg_minibuffer.specs.Scenes as scenes
-use Rattle.mg_minibuffer.specs.declared.ending.Reaction.{Reaction}
 use Rattle.mg_minibuffer.specs.declared.ending.Next as prompt_behind
 use Rattle.mg_minibuffer.specs.declared.ending.Next.TheVariants.{Same, Closed, Open}
 use Rattle.mg_minibuffer.specs.declared.message.Message.{Message}
@@ -30,15 +28,9 @@ abbrev pub mode_of : Option Prompt → Mode
 mode_of None = modes.Plain
 mode_of (Some p) = mode p
 
--- no key sequence has begun, and bytes are read by this mode
-pub record IsFresh (keys : KeyState) (m : Mode) : Type 0 where
-  pub mode : keys.mode ≡ m
-  pub begun : HasBegun keys []
-
--- no prompt is open, and this is said
-pub record Begins (said : Message) (d : Dialogue) : Type 0 where
-  pub keys : IsFresh d.keys modes.Plain
-  pub rest : d ≡ record { keys = d.keys; prompt = None; message = said; last = [] }
+-- where nothing was pressed yet: this is said
+abbrev pub dialogue : Message → Dialogue
+dialogue said = record { keys = fresh modes.Plain; prompt = None; message = said; last = [] }
 
 -- The byte led to the step, behind those since the last whole sequence. Bytes are read as before.
 pub record Fed (byte : ℕ) (step : Step) (old new : Dialogue) : Type 0 where
@@ -53,15 +45,17 @@ prompt_after Same prompt = prompt
 prompt_after Closed prompt = None
 prompt_after (Open p) prompt = Some p
 
--- the prompt and the message are those of a step, and the key sequence begun is forgotten
-pub record Shown (next : prompt_behind.Next) (said : Message) (old new : Dialogue) : Type 0 where
-  pub keys : IsFresh new.keys (mode_of new.prompt)
-  pub rest : new ≡ record old { keys = new.keys; prompt = prompt_after next old.prompt; message = said }
+-- at that prompt, or at none, and the key sequence begun is forgotten
+abbrev pub at_prompt : Option Prompt → Dialogue → Dialogue
+at_prompt prompt d = record d { keys = fresh (mode_of prompt); prompt = prompt }
+
+-- with the prompt and the message behind a step
+abbrev pub shown : prompt_behind.Next → Message → Dialogue → Dialogue
+shown next said d = record (at_prompt (prompt_after next d.prompt) d) { message = said }
 
 -- the key sequence begun is forgotten
-pub record Forgot (old new : Dialogue) : Type 0 where
-  pub keys : IsFresh new.keys (mode_of new.prompt)
-  pub rest : new ≡ record old { keys = new.keys }
+abbrev pub forgotten : Dialogue → Dialogue
+forgotten d = at_prompt d.prompt d
 
 -- the search that is open
 abbrev pub search_of : Option Prompt → Option Search
@@ -72,18 +66,9 @@ search_of (Some (Searching s)) = Some s
 search_of (Some (Replacing pattern put count)) = None
 search_of (Some Quitting) = None
 
--- no prompt is open, and no key sequence has begun
-pub record Closes (old new : Dialogue) : Type 0 where
-  pub keys : IsFresh new.keys modes.Plain
-  pub rest : new ≡ record old { keys = new.keys; prompt = None }
-
-abbrev pub TookSearch : Option Search → Dialogue → Dialogue → Type 0
-TookSearch None old new = (search_of old.prompt ≡ None) × (new ≡ old)
-TookSearch (Some s) old new = (search_of old.prompt ≡ Some s) × Closes old new
-
-pub record Reopened (s : Search) (old new : Dialogue) : Type 0 where
-  pub keys : IsFresh new.keys modes.Search
-  pub rest : new ≡ record old { keys = new.keys; prompt = Some (Searching s) }
+-- without the search that is open, if one is
+abbrev pub without_search : Dialogue → Dialogue
+without_search d = option_map_or (λ s. at_prompt None d) (search_of d.prompt) d
 
 -- the pattern that is the last one accepted, once an open search is
 abbrev pub last_after : Option Search → List ℕ → List ℕ
@@ -91,10 +76,5 @@ last_after None last = last
 last_after (Some s) last = or_last s.pattern last
 
 -- the prompt closes, and the pattern of a search is accepted
-pub record AcceptedSearch (old new : Dialogue) : Type 0 where
-  pub keys : IsFresh new.keys modes.Plain
-  pub rest : new ≡ record old { keys = new.keys; prompt = None; message = message.Nothing; last = last_after (search_of old.prompt) old.last }
-
--- that is the reaction of the open prompt, if there is one
-abbrev pub IsReaction : Reaction → Step → scenes.Scene → Dialogue → Type 0
-IsReaction reaction step scene d = (p : Prompt) → d.prompt ≡ Some p → reaction ≡ prompt_step p step scene d.last
+abbrev pub accepted_search : Dialogue → Dialogue
+accepted_search d = record (shown Closed message.Nothing d) { last = last_after (search_of d.prompt) d.last }

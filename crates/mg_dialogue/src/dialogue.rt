@@ -1,6 +1,8 @@
 //! What is talked with the user: the keys, the open prompt, the message.
-ghost use Rattle.std.specs.Prelude.{◌≡◌, ◌↔◌, [], false, IfOk, is_some};
+ghost use Rattle.std.specs.Prelude.{◌≡◌, ◌↔◌, [], false, IfOk, Some, is_some};
 ghost use Rattle.mg_keys.specs.Begun.{HasBegun};
+ghost use Rattle.mg_minibuffer.specs.PromptStep.{prompt_step};
+ghost use Rattle.mg_minibuffer.specs.declared.prompt.Prompt.{Prompt};
 ghost use Rattle.mg_dialogue.specs.Dialogues as spec;
 
 use mg_keys::{Keys, Mode, Step};
@@ -47,7 +49,7 @@ fn mode_of(prompt: &Option<Prompt>) -> Mode
 impl Dialogue {
     /// No prompt is open, and this is said. Takes no memory.
     pub fn new(alloc: Global, message: Message) -> Dialogue
-        ensures { spec.Begins message result }
+        ensures { result ≡ spec.dialogue message }
     {
         Dialogue {
             keys: Keys::new(),
@@ -67,7 +69,7 @@ impl Dialogue {
     /// The prompt and the message behind a step. The key sequence begun is forgotten. Takes no
     /// memory.
     pub fn show(&mut self, next: Next, message: Message)
-        ensures { spec.Shown next message self.old self.new }
+        ensures { self.new ≡ spec.shown next message self.old }
     {
         match next {
             Next::Same => {}
@@ -80,7 +82,7 @@ impl Dialogue {
 
     /// The key sequence begun is forgotten. Takes no memory.
     pub fn forget(&mut self)
-        ensures { spec.Forgot self.old self.new }
+        ensures { self.new ≡ spec.forgotten self.old }
     {
         let mode = mode_of(&self.prompt);
         self.keys.enter(mode);
@@ -88,7 +90,8 @@ impl Dialogue {
 
     /// An open search is closed, and given back. Takes no memory.
     pub fn take_search(&mut self) -> Option<Search>
-        ensures { spec.TookSearch result self.old self.new }
+        ensures found { result ≡ spec.search_of self.old.prompt }
+        ensures closed { self.new ≡ spec.without_search self.old }
     {
         match self.prompt.take() {
             Some(Prompt::Searching(search)) => {
@@ -104,7 +107,7 @@ impl Dialogue {
 
     /// The search is open again. Takes no memory.
     pub fn reopen(&mut self, search: Search)
-        ensures { spec.Reopened search self.old self.new }
+        ensures { self.new ≡ spec.at_prompt (Some (Prompt.Searching search)) self.old }
     {
         self.prompt = Some(Prompt::Searching(search));
         self.keys.enter(Mode::Search);
@@ -143,7 +146,7 @@ impl Dialogue {
 
     /// The prompt closes, and an open search is accepted. Takes no memory.
     pub fn accept_search(&mut self)
-        ensures { spec.AcceptedSearch self.old self.new }
+        ensures { self.new ≡ spec.accepted_search self.old }
     {
         match self.take_search() {
             Some(search) => {
@@ -168,7 +171,8 @@ impl Dialogue {
         step: &Step,
         scene: &Scene<'_>,
     ) -> Result<Reaction, AllocError>
-        ensures { IfOk result (λ reaction. spec.IsReaction reaction step.now scene.now self.now) }
+        ensures { (prompt : Prompt) → self.now.prompt ≡ Some prompt → IfOk result
+            (λ reaction. reaction ≡ prompt_step prompt step.now scene.now self.now.last) }
     {
         match &self.prompt {
             Some(prompt) => prompt_step(alloc, prompt, step, scene, self.last.as_slice()),

@@ -1,5 +1,5 @@
 -- The editor that opens, and its text.
-use Rattle.std.specs.Prelude.{◌≡◌, ℕ, List, Result, Ok, Err, MatchResult}
+use Rattle.std.specs.Prelude.{ℕ, List, Result, Ok, Err}
 use Rattle.rga_ops.specs.Order.{text}
 use Rattle.rga_exchange.specs.declared.log.LogEnd.{LogEnd}
 use Rattle.rga_exchange.specs.declared.log.LogEnd.TheVariants.{Whole, Bare, Torn}
@@ -8,7 +8,7 @@ use Rattle.mg_files.specs.Loading.{load_outcome}
 use Rattle.mg_files.specs.declared.fault.LoadFault.{LoadFault}
 use Rattle.mg_minibuffer.specs.declared.message.Message.{Message}
 use Rattle.mg_minibuffer.specs.declared.message.Message.TheVariants.{Nothing, TornLog}
-use Rattle.mg_dialogue.specs.Dialogues.{Begins}
+use Rattle.mg_dialogue.specs.Dialogues.{dialogue}
 use Rattle.mg_editor.specs.Editors.{Editor}
 use Rattle.mg_settings.specs.Settings.{Values}
 use Rattle.mg_workspace.specs.Opening.{workspace}
@@ -20,12 +20,12 @@ message_of_end Whole = Nothing
 message_of_end Bare = Nothing
 message_of_end (Torn bytes) = TornLog bytes
 
--- as what was found is loaded, or its fault: the editor with that buffer, whose log ended so
-abbrev pub OpensEditor : Values → Files → Result Editor LoadFault → Type 0
-OpensEditor v found r =
-    MatchResult (load_outcome v.name v.replica v.limit found)
-    (λ l. (e : Editor) × (r ≡ Ok e) × (e.work ≡ workspace v l.0) × Begins (message_of_end l.1) e.talk)
-    (λ fault. r ≡ Err fault)
+-- the editor with the buffer that was found so, or why that is not loaded
+abbrev pub opened_editor : Values → Files → Result Editor LoadFault
+opened_editor v found = elim (load_outcome v.name v.replica v.limit found) [
+  | Ok l ↦ Ok (record { work = workspace v l.0; talk = dialogue (message_of_end l.1) })
+  | Err fault ↦ Err fault
+]
 
 -- the text of the buffer that is current
 abbrev pub current_text : Editor → List ℕ

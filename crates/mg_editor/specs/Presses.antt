@@ -24,7 +24,7 @@ use Rattle.mg_minibuffer.specs.PromptStep.{prompt_step}
 use Rattle.mg_minibuffer.specs.ReplacementStep.{asks_at_next_match, sum}
 use Rattle.mg_minibuffer.specs.Scenes.{Scene}
 use Rattle.mg_minibuffer.specs.SearchStep.{or_last}
-use Rattle.mg_dialogue.specs.Dialogues.{Dialogue, Fed, Shown, Forgot, search_of, AcceptedSearch}
+use Rattle.mg_dialogue.specs.Dialogues.{Dialogue, Fed, shown, forgotten, search_of, accepted_search}
 use Rattle.mg_workspace.specs.Actions.{Done}
 use Rattle.mg_workspace.specs.Workspaces.{scene_of}
 use Rattle.mg_workspace.specs.declared.fault.ActionFault.TheVariants.{Refused}
@@ -34,22 +34,21 @@ use Rattle.mg_editor.specs.declared.fault.Fault.{Fault}
 abbrev pub PressAnswer : Type 0
 PressAnswer = Result Request Fault
 
--- memory was wanting: nothing changed, but that the key sequence begun is forgotten
-pub record RanOut (old new : Editor) : Type 0 where
-  pub work : new.work ≡ old.work
-  pub talk : Forgot old.talk new.talk
+-- where memory was wanting: nothing changed, but that the key sequence begun is forgotten
+abbrev pub ran_out : Editor → Editor
+ran_out e = record e { talk = forgotten e.talk }
 
 -- ---- a step
 
 -- an action was refused: why is said, this is the prompt then, and nothing is requested
 abbrev pub Refuses : Action → prompt_behind.Next → Editor → Editor → Request → Type 0
 Refuses action next old new request =
-    (said : Message) × Done action old.work (new.work, Err (Refused said)) × Shown next said old.talk new.talk × (request ≡ Idle)
+    (said : Message) × Done action old.work (new.work, Err (Refused said)) × (new.talk ≡ shown next said old.talk) × (request ≡ Idle)
 
 -- the action of an ending was done, and its prompt, its message and its request follow; or it was refused
 abbrev pub Ended : Ending → Editor → Editor → Request → Type 0
 Ended e old new request =
-    (Done e.action old.work (new.work, Ok tt) × Shown e.next e.message old.talk new.talk × (request ≡ e.request))
+    (Done e.action old.work (new.work, Ok tt) × (new.talk ≡ shown e.next e.message old.talk) × (request ≡ e.request))
     ⊎ Refuses e.action e.refused old new request
 
 -- query-replace ends where memory is wanting for the search of the next match
@@ -64,7 +63,7 @@ FollowsReaction (Replaces pattern put count) old new request =
     ((mid : Editor) × (e : Ending) × Done (Run (ReplaceOne pattern put) 1) old.work (mid.work, Ok tt) × (mid.talk ≡ old.talk)
     × ((e ≡ asks_at_next_match pattern put (sum count 1) (scene_of mid.work)) ⊎ (e ≡ ending_without_memory)) × Ended e mid new request)
     ⊎ Refuses (Run (ReplaceOne pattern put) 1) Same old new request
-FollowsReaction Accepts old new request = (new.work ≡ old.work) × AcceptedSearch old.talk new.talk × (request ≡ Idle)
+FollowsReaction Accepts old new request = (new ≡ record old { talk = accepted_search old.talk }) × (request ≡ Idle)
 
 -- the reaction to a step, at that prompt or without one
 abbrev pub reaction_to : Option Prompt → Step → Scene → List ℕ → Reaction
@@ -79,7 +78,7 @@ editor_reaction step e = reaction_to e.talk.prompt step (scene_of e.work) e.talk
 -- changes nothing.
 abbrev pub StepTaken : Step → Editor → Editor → Editor → PressAnswer → Type 0
 StepTaken Pending before old new r = (new ≡ old) × (r ≡ Ok Idle)
-StepTaken step before old new r = MatchResult r (FollowsReaction (editor_reaction step old) old new) (λ _. RanOut before new)
+StepTaken step before old new r = MatchResult r (FollowsReaction (editor_reaction step old) old new) (λ _. new ≡ ran_out before)
 
 -- ---- a byte
 
@@ -88,7 +87,7 @@ StepTaken step before old new r = MatchResult r (FollowsReaction (editor_reactio
 abbrev pub IsRead : ℕ → Step → Dialogue → Step → Dialogue → Type 0
 IsRead byte Leave fed step read = elim (search_of fed.prompt) [
   | None ↦ (step ≡ Unbound) × (read ≡ fed)
-  | Some s ↦ (closed : Dialogue) × AcceptedSearch fed closed × Fed byte step closed read
+  | Some s ↦ Fed byte step (accepted_search fed) read
 ]
 IsRead byte first fed step read = (step ≡ first) × (read ≡ fed)
 

@@ -46,7 +46,7 @@ impl<S: TextStore> Editor<S> {
     ///
     /// Faults: those of `VisitedBuffer::load`.
     pub fn new(alloc: Global, settings: &Settings, found: Found) -> Result<Editor<S>, LoadFault>
-        ensures { result ≢ Err Memory → spec.OpensEditor settings.now found result }
+        ensures { result ≢ Err Memory → result ≡ spec.opened_editor settings.now found }
     {
         let (opened, end) = load(alloc, settings.values(), found)?;
         Ok(Editor {

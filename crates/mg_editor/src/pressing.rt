@@ -1,6 +1,6 @@
 //! The editor, pressed byte by byte.
 ghost use Rattle.std.specs.Prelude.{◌≡◌, ◌≢◌, ◌⊎◌, true, is_some, None, Err, IfOk, OnErr};
-ghost use Rattle.mg_dialogue.specs.Dialogues.{Dialogue, Shown};
+ghost use Rattle.mg_dialogue.specs.Dialogues.{Dialogue, shown};
 ghost use Rattle.mg_minibuffer.specs.PlainStep as plain;
 ghost use Rattle.mg_minibuffer.specs.ReplacementStep as queries;
 ghost use Rattle.mg_minibuffer.specs.declared.ending.Action.TheVariants.{Run};
@@ -23,7 +23,7 @@ impl<S: TextStore> Editor<S> {
     fn take_plain(&mut self, step: Step) -> Result<Request, Fault>
         ensures plainly { IfOk result
             (spec.Ended (plain.plain_step step (scene_of self.old.work)) self.old self.new) }
-        ensures refused { OnErr result (spec.RanOut self.old self.new) }
+        ensures refused { OnErr result (self.new ≡ spec.ran_out self.old) }
     {
         let Ok(()) = self.work.list() else {
             return self.run_out();
@@ -37,7 +37,7 @@ impl<S: TextStore> Editor<S> {
 
     /// Want of memory: the key sequence begun is forgotten.
     fn run_out(&mut self) -> Result<Request, Fault>
-        ensures ran_out { spec.RanOut self.old self.new }
+        ensures ran_out { self.new ≡ spec.ran_out self.old }
         ensures answer { result ≡ Err Memory }
     {
         self.talk.forget();
@@ -47,7 +47,7 @@ impl<S: TextStore> Editor<S> {
     /// Does the action of an ending, and tells what came of it.
     fn end(&mut self, ending: Ending) -> Result<Request, Fault>
         ensures ended { IfOk result (spec.Ended ending self.old self.new) }
-        ensures refused { OnErr result (spec.RanOut self.old self.new) }
+        ensures refused { OnErr result (self.new ≡ spec.ran_out self.old) }
     {
         let Ending {
             action,
@@ -64,7 +64,7 @@ impl<S: TextStore> Editor<S> {
 
     /// Tells what was done.
     fn show(&mut self, next: Next, message: Message, request: Request) -> Result<Request, Fault>
-        ensures told { Shown next message self.old.talk self.new.talk }
+        ensures told { self.new.talk ≡ shown next message self.old.talk }
         ensures answer { result ≡ Ok request }
         ensures work { self.new.work ≡ self.old.work }
     {
@@ -75,9 +75,9 @@ impl<S: TextStore> Editor<S> {
     /// Tells why an action was refused. Want of memory leaves prompt and message as they are.
     fn refuse(&mut self, fault: ActionFault, refused: Next) -> Result<Request, Fault>
         ensures told { IfOk result (λ request. (said : Message) × (fault ≡ ActionFault.Refused said)
-            × Shown refused said self.old.talk self.new.talk × (request ≡ Request.Idle)) }
+            × (self.new.talk ≡ shown refused said self.old.talk) × (request ≡ Request.Idle)) }
         ensures memory { OnErr result (fault ≡ ActionFault.Memory) }
-        ensures refused { OnErr result (spec.RanOut self.old self.new) }
+        ensures refused { OnErr result (self.new ≡ spec.ran_out self.old) }
         ensures work { self.new.work ≡ self.old.work }
     {
         match fault {
@@ -90,7 +90,7 @@ impl<S: TextStore> Editor<S> {
     fn take_prompted(&mut self, step: &Step) -> Result<Request, Fault>
         ensures prompted { is_some self.old.talk.prompt ≡ true → IfOk result
             (spec.FollowsReaction (spec.editor_reaction step.now self.old) self.old self.new) }
-        ensures refused { OnErr result (spec.RanOut self.old self.new) }
+        ensures refused { OnErr result (self.new ≡ spec.ran_out self.old) }
     {
         let Ok(()) = self.work.list() else {
             return self.run_out();
@@ -107,7 +107,7 @@ impl<S: TextStore> Editor<S> {
     /// What a reaction asks for.
     fn follow(&mut self, reaction: Reaction) -> Result<Request, Fault>
         ensures follows { IfOk result (spec.FollowsReaction reaction self.old self.new) }
-        ensures refused { OnErr result (spec.RanOut self.old self.new) }
+        ensures refused { OnErr result (self.new ≡ spec.ran_out self.old) }
     {
         match reaction {
             Reaction::Ends(ending) => self.end(ending),
@@ -132,7 +132,7 @@ impl<S: TextStore> Editor<S> {
     fn replace(&mut self, pattern: &[char], put: &[char], count: usize) -> Result<Request, Fault>
         ensures replaced { let reaction = Reaction.Replaces pattern.now put.now count in
             IfOk result (spec.FollowsReaction reaction self.old self.new) }
-        ensures refused { OnErr result (spec.RanOut self.old self.new) }
+        ensures refused { OnErr result (self.new ≡ spec.ran_out self.old) }
     {
         match self.replace_one(pattern, put) {
             Ok(()) => Ok(self.go_on(pattern, put, count.saturating_add(1))),
@@ -173,7 +173,7 @@ impl<S: TextStore> Editor<S> {
         ensures found { let scene = scene_of self.old.work in IfOk result
             (spec.Ended (queries.asks_at_next_match pattern.now put.now count scene)
             self.old self.new) }
-        ensures refused { OnErr result (spec.RanOut self.old self.new) }
+        ensures refused { OnErr result (self.new ≡ spec.ran_out self.old) }
     {
         let Ok(()) = self.work.list() else {
             return self.run_out();
@@ -191,7 +191,7 @@ impl<S: TextStore> Editor<S> {
     fn do_step(&mut self, step: Step) -> Result<Request, Fault>
         ensures stepped { IfOk result
             (spec.FollowsReaction (spec.editor_reaction step self.old) self.old self.new) }
-        ensures refused { OnErr result (spec.RanOut self.old self.new) }
+        ensures refused { OnErr result (self.new ≡ spec.ran_out self.old) }
     {
         if self.talk.has_prompt() {
             self.take_prompted(&step)
@@ -247,7 +247,7 @@ impl<S: TextStore> Editor<S> {
         requires { self.old.talk.prompt ≡ None }
         ensures left { let old = spec.with_search_accepted search self.old in
             IfOk result (spec.Ended (plain.plain_step step (scene_of old.work)) old self.new) }
-        ensures refused { OnErr result (spec.RanOut (spec.with_search search self.old) self.new) }
+        ensures refused { OnErr result (self.new ≡ spec.ran_out (spec.with_search search self.old)) }
     {
         match self.take_plain(step) {
             Ok(request) => {
@@ -269,7 +269,7 @@ impl<S: TextStore> Editor<S> {
     /// forgotten.
     pub fn press(&mut self, byte: u8) -> Result<Request, Fault>
         ensures pressed { spec.Pressed byte self.old self.new result }
-        ensures refused { OnErr result (spec.RanOut self.old self.new) }
+        ensures refused { OnErr result (self.new ≡ spec.ran_out self.old) }
     {
         let step = self.talk.feed(byte);
         match step {

@@ -19,6 +19,10 @@ pub record KeyState : Type 0 where
   pub argument : Argument
   pub sequence : Sequence
 
+-- no sequence has begun, and bytes are read by that mode
+abbrev pub fresh : Mode → KeyState
+fresh m = record { mode = m; argument = Absent; sequence = Start }
+
 -- what further bytes mean, in mode Plain, behind an argument and the beginning of a sequence
 abbrev pub plain_rest : Argument → Sequence → List ℕ → Meaning
 plain_rest a Start rest = plain_meaning a rest

@@ -33,8 +33,7 @@ impl Model for Keys {
 impl Keys {
     /// Keys that are commands; no sequence has begun.
     pub fn new() -> Keys
-        ensures mode { result.mode ≡ Mode.Plain }
-        ensures begun { HasBegun result [] }
+        ensures fresh { result ≡ spec.fresh Mode.Plain }
     {
         fresh(Mode::Plain)
     }
@@ -55,7 +54,7 @@ impl Keys {
 
     /// The next byte is read by this mode. What had begun of a sequence is forgotten.
     pub fn enter(&mut self, mode: Mode)
-        ensures mode { self.new.mode ≡ mode }
+        ensures fresh { self.new ≡ spec.fresh mode }
         ensures begun { HasBegun self.new [] }
     {
         *self = fresh(mode);
@@ -113,7 +112,7 @@ fn is_character(sequence: Sequence) -> bool
 
 /// Keys of a mode, behind a whole sequence.
 fn fresh(mode: Mode) -> Keys
-    ensures mode { result.mode ≡ mode }
+    ensures fresh { result ≡ spec.fresh mode }
     ensures begun { HasBegun result [] }
 {
     Keys {

@@ -13,7 +13,7 @@ use Rattle.mg_screen.specs.declared.size.TheConstants.{MIN_ROWS, MAX_ROWS, MIN_C
 use Rattle.mg_settings.specs.Settings.{Values}
 use Rattle.mg_workspace.specs.Actions.{resized_work}
 use Rattle.mg_editor.specs.Editors.{Editor}
-use Rattle.mg_editor.specs.Opening.{OpensEditor}
+use Rattle.mg_editor.specs.Opening.{opened_editor}
 use Rattle.mg_reports.specs.Reports.{Event, key, size, block_end, Reports, fresh, read_events, all_events}
 use Rattle.mg_session.specs.Courses.{is_on, SessionAnswer, course_answer}
 use Rattle.mg_session.specs.Display.{Displays, follows_step, follows_key, follows_block, follows_session, manner_of}
@@ -66,9 +66,9 @@ pub data ReadsKeys (how : Manner) (held : Reports) (before behind : Moment) (key
 
 -- This editor opens by what the first call answered, or none does, for this fault, or the call was refused.
 abbrev pub LoadsTo : Values → ToldCalls → ToldCalls → Result Editor SessionFault → Type 0
-LoadsTo v calls told (Ok first) = (found : Files) × Adds calls told (found_call v.name found ∷ []) × OpensEditor v found (Ok first)
+LoadsTo v calls told (Ok first) = (found : Files) × Adds calls told (found_call v.name found ∷ []) × (opened_editor v found ≡ Ok first)
 LoadsTo v calls told (Err (Load e)) =
-    (found : Files) × Adds calls told (found_call v.name found ∷ []) × (load_outcome v.name v.replica v.limit found ≡ Err e) × (e ≢ load.Memory)
+    (found : Files) × Adds calls told (found_call v.name found ∷ []) × (opened_editor v found ≡ Err e) × (e ≢ load.Memory)
 LoadsTo v calls told (Err File) = Adds calls told (refused (load_call v.name) ∷ [])
 LoadsTo v calls told (Err Memory) = ⊤
 LoadsTo v calls told (Err fault) = ⊥

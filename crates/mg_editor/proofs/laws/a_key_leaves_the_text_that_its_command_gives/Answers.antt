@@ -40,5 +40,5 @@ returns c = λ byte n bytes command old new request none begun key there p.
           let ran = done _ old.work new.work _ t.0 in
           let now = ap (λ (w : Workspace). text (current_state w).content) ran.3 ∙ ap (λ (x : OpenState). text x.buffer.content) (get_or-set_same bs.all bs.current _ _ there) in
           inl (ran.2.plan, ran.2.due, now ∙ ran.2.edited.text)
-      | inr t ↦ let why = refused _ old.work new.work t.0 _ t.1 in inr (why.0, λ is. why.1 (sym (ap (λ (t : Dialogue). t.message) t.2.rest) ∙ is))
+      | inr t ↦ let why = refused _ old.work new.work t.0 _ t.1 in inr (why.0, λ is. why.1 (sym (ap (λ (t : Dialogue). t.message) t.2) ∙ is))
     ]
