@@ -6,7 +6,6 @@ use Rattle.std.specs.List.{concat}
 use Rattle.rga_devices.specs.Counting.{Calls, one_more}
 use Rattle.mg_files.specs.Calls.{Adds, load_call, found_call, refused}
 use Rattle.mg_files.specs.Files.{Files}
-use Rattle.mg_files.specs.Loading.{load_outcome}
 use Rattle.mg_files.specs.declared.fault.LoadFault.TheVariants as load
 use Rattle.mg_keys.specs.Begun.{HasBegun}
 use Rattle.mg_screen.specs.declared.size.TheConstants.{MIN_ROWS, MAX_ROWS, MIN_COLUMNS, MAX_COLUMNS}
