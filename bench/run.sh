@@ -25,8 +25,6 @@ done
 make build build/generate build/native
 (cd crates/bench_tasks && rt run -- edits order 1 1 </dev/null >/dev/null)
 cp crates/bench_tasks/out/bench_tasks build/bench_tasks
-(cd crates/rga_world_simulation && rt run -- 1 1 </dev/null >/dev/null)
-cp crates/rga_world_simulation/out/rga_world_simulation build/rga_world_simulation
 
 python3 bench/measure.py "$@"
 echo

@@ -7,14 +7,14 @@ every thousand events. Of several measurements the least counts.
 
 import timing
 
-PROGRAM = timing.BUILD / "rga_world_simulation"
 EVENTS = (5_000, 20_000, 40_000)
 
 
 def main():
     print("events    events/s")
     for count in EVENTS:
-        print(f"{count:>6,} {count / timing.seconds_of(PROGRAM, 1, count):>11,.0f}", flush=True)
+        seconds = timing.seconds("worlds", 1, count)
+        print(f"{count:>6,} {count / seconds:>11,.0f}", flush=True)
 
 
 if __name__ == "__main__":

@@ -14,6 +14,8 @@ pub enum Fault {
     Words,
     #[error("standard input failed")]
     Read,
+    #[error("standard output failed")]
+    Write,
     #[error("out of memory")]
     Memory(#[from(alloc)] AllocError),
     #[error("refused")]

@@ -1,9 +1,9 @@
 //! Work to be timed, by the scripts of `bench/`.
 //!
 //! The first word says of what: `edits` of a document, `commands` on a text, commands on `buffers`,
-//! `frames` of a screen, or `logs` and exchanges; the words behind it are said at the head of the
-//! module of that name. A number is printed that follows from the work. The program stands on the
-//! crates that it times, and nothing stands on it.
+//! `frames` of a screen, `logs` and exchanges, or `worlds` of sites; the words behind it are said at
+//! the head of the module of that name. What is printed follows from the work: a number, or what a
+//! task of its own writes. The program stands on the crates that it times, and nothing stands on it.
 #![tactic(auto)]
 
 mod buffers;
@@ -13,6 +13,7 @@ mod fault;
 mod frames;
 mod logs;
 mod text;
+mod worlds;
 
 use fault::Fault;
 use std::alloc::Global;
@@ -45,11 +46,11 @@ fn outcome(rt: &HostRuntime, words: &[String]) -> Result<Option<u64>, Fault> {
     let Some(part) = words.get(1) else {
         return Err(Fault::Words);
     };
-    if part.as_str() == "logs" {
-        return logs::outcome(rt, words);
+    match part.as_str() {
+        "logs" => logs::outcome(rt, words),
+        "worlds" => worlds::outcome(rt, words),
+        part => Ok(Some(counted(rt.alloc(), part, words)? as u64)),
     }
-    let count = counted(rt.alloc(), part.as_str(), words)?;
-    Ok(Some(count as u64))
 }
 
 fn counted(alloc: Global, part: &str, words: &[String]) -> Result<usize, Fault> {

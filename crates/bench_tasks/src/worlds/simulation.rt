@@ -1,6 +1,6 @@
 //! A world, and what was seen of it.
-use crate::events::{FIRST, SITES, event};
-use crate::looks::{is_part, joined, places, rises};
+use crate::worlds::events::{FIRST, SITES, event};
+use crate::worlds::looks::{is_part, joined, places, rises};
 use rga_ops::{Id, Refusal};
 use rga_store::{MAX_LIMIT, TextStore};
 use rga_tree::TreeStore;

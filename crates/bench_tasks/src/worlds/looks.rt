@@ -1,5 +1,5 @@
 //! What is looked at.
-use crate::events::{FIRST, SITES};
+use crate::worlds::events::{FIRST, SITES};
 use rga_ops::{Id, Refusal};
 use rga_store::{MAX_LIMIT, Taker, TextStore};
 use rga_tree::TreeStore;
