@@ -13,8 +13,7 @@ use Rattle.mg_editor.specs.Presses.{PressAnswer, FollowsReaction, IsRead, Presse
 
 -- a step that does not wait for more bytes was taken, or memory was wanting
 pub taken : (step : Step) (before old new : Editor) (r : PressAnswer)
-    → step ≢ Pending → IfOk r (FollowsReaction (editor_reaction step old) old new) → OnErr r (new ≡ ran_out before)
-    → StepTaken step before old new r
+    → step ≢ Pending → IfOk r (FollowsReaction (editor_reaction step old) old new) → OnErr r (new ≡ ran_out before) → StepTaken step before old new r
 taken step before old new r other follows lacks = grind arith
 
 -- want of memory, told of another editor before
@@ -29,8 +28,7 @@ open_search p s is = grind arith
 
 -- a byte left a search, and its step was taken
 pub left : (byte : ℕ) (s : Search) (step : Step) (old new : Editor) (closed read : Dialogue) (r : PressAnswer)
-    → search_of old.talk.prompt ≡ Some s → closed ≡ at_prompt None old.talk → Fed byte step closed read
-    → StepTaken step (with_search s (record old { talk = read })) (with_search_accepted s (record old { talk = read })) new r
+    → search_of old.talk.prompt ≡ Some s → closed ≡ at_prompt None old.talk → Fed byte step closed read → StepTaken step (with_search s (record old { talk = read })) (with_search_accepted s (record old { talk = read })) new r
     → (step : Step) × (read : Dialogue) × IsRead byte Leave old.talk step read × StepTaken step old (record old { talk = read }) new r
 left byte s step old new closed read r is closes feeds it =
     let left : Editor = record old { talk = read } in
@@ -38,7 +36,7 @@ left byte s step old new closed read r is closes feeds it =
     let accepted = λ (l : List ℕ). record read { prompt = None; message = Nothing; last = l } in
     let last : read.last ≡ old.talk.last = ap (λ (t : Dialogue). t.last) fed.rest in
     let reads : IsRead byte Leave old.talk step (with_search_accepted s left).talk = rw (is, IsRead)
-      (record { answers = fed.answers; mode = fed.mode; rest = ap (λ l. accepted (or_last s.pattern l)) last ∙ ap (λ o. accepted (last_after o old.talk.last)) (sym is) }) in
+    (record { answers = fed.answers; mode = fed.mode; rest = ap (λ l. accepted (or_last s.pattern l)) last ∙ ap (λ o. accepted (last_after o old.talk.last)) (sym is) }) in
     let reopened = λ (t : Dialogue). record old { talk = at_prompt (Some (Searching s)) t } in
     let same = ap reopened fed.rest ∙ ap (λ p. record old { talk = at_prompt p old.talk }) (sym (open_search old.talk.prompt s is)) in
     (step, (with_search_accepted s left).talk, reads, taken_from step (with_search s left) old (with_search_accepted s left) new r same it)

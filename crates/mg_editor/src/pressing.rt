@@ -271,8 +271,8 @@ impl<S: TextStore> Editor<S> {
         ensures pressed { spec.Pressed byte self.old self.new result }
         ensures refused { OnErr result (self.new ≡ spec.ran_out self.old) }
     {
-        let step = self.talk.feed(byte);
-        match step {
+        let first = self.talk.feed(byte);
+        match first {
             Step::Leave => self.leave(byte),
             step => self.take_step(step),
         }

@@ -6,6 +6,5 @@ use Rattle.mg_editor.proofs.editor.Editor.find_next.Goals as goal
 
 pub returns-in-Ok-next_match-clause-found : goal.returns-in-Ok-next_match-clause-found
 returns-in-Ok-next_match-clause-found g c =
-    let old = c.args.self.now in
-    let found : c.in-Ok-next_match.ending ≡ asks_at_next_match c.args.pattern.now c.args.put.now c.args.count (scene_of old.work) = search rules in
-    subst (λ e. IfOk c.end.result (Ended e old c.end.new.self)) found (search rules)
+    let found : c.in-Ok-next_match.ending ≡ asks_at_next_match c.args.pattern.now c.args.put.now c.args.count (scene_of c.args.self.now.work) = search rules in
+    subst (λ e. IfOk c.end.result (Ended e c.args.self.now c.end.new.self)) found (search rules)

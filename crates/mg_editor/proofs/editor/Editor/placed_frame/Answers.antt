@@ -8,8 +8,7 @@ use Rattle.mg_editor.proofs.editor.Editor.placed_frame.Goals as goal
 
 pub frame-requires-clause-whole : goal.frame-requires-clause-whole
 frame-requires-clause-whole g c =
-    let work = c.args.self.now.work in
-    screen_filled work.buffers.all work.windows c.rows-rows.result c.in_ok-screen.screen (ap (λ (s : Screen). s.panes) c.in_ok-screen.ensures) (search rules)
+    screen_filled c.args.self.now.work.buffers.all c.args.self.now.work.windows c.rows-rows.result c.in_ok-screen.screen (ap (λ (s : Screen). s.panes) c.in_ok-screen.ensures) (search rules)
 
 pub frame-requires-clause-rows_from : goal.frame-requires-clause-rows_from
 frame-requires-clause-rows_from g c = rows_from _ _ c.rows-rows.ensures.filled
