@@ -17,6 +17,9 @@ HOST = "127.0.0.1"
 SECONDS = 60
 LISTENING = "0A"
 
+# How long one that breaks off waits for what it does not hear, which is sent at once or not at all.
+MOMENT = 2
+
 # The file of a socket that no program has.
 CLOSED = "0"
 
@@ -237,7 +240,7 @@ class Peer:
             self.heard += taken
         if self.hears is not None:
             # What is not heard has to be there before.
-            select.select([link], [], [], SECONDS)
+            select.select([link], [], [], MOMENT)
             link.setsockopt(socket.SOL_SOCKET, socket.SO_LINGER, BREAK)
 
     def _look(self):
