@@ -264,10 +264,13 @@ fn keep_as<R: Files<File = File> + AllocGlobal>(
     copy_as(rt, path, kept)
 }
 
+/// Copies what stands under a path. The copy is on the device under its name, so that the bytes that
+/// it keeps may go.
 fn copy_as<R: Files<File = File> + AllocGlobal>(rt: &R, path: &str, kept: &str) -> io::Result<()> {
     let bytes = fs::read(rt, path)?;
     let mut options = OpenOptions::new();
     options.write(true).create_new(true).mode(OWN);
     let mut copy = options.open(rt, kept)?;
-    fill(&mut copy, bytes.as_slice())
+    fill(&mut copy, bytes.as_slice())?;
+    sync_folder(rt, kept)
 }
