@@ -2,11 +2,11 @@
 //!
 //! `show_ops` reads operation lines to the end of a reader and writes their text; `compact_log`
 //! reads them so, and writes a log that stands for the same content. The crate stands on
-//! rga_exchange for the reading and the writing of logs, and on rga_records for what takes the
-//! operations, lists them and gives their text. The program above may rest on the contracts, for
-//! any reader and writer that tell their bytes: what is written is the text of the operations of an
-//! accepted log, or its lines, or a beginning of these where a device fails, and nothing where the
-//! input is refused.
+//! rga_exchange for the reading of logs, on rga_compaction for the writing of them, and on
+//! rga_records for what takes the operations, lists them and gives their text. The program above
+//! may rest on the contracts, for any reader and writer that tell their bytes: what is written is
+//! the text of the operations of an accepted log, or its lines, or a beginning of these where a
+//! device fails, and nothing where the input is refused.
 #![tactic(auto)]
 
 mod compact;

@@ -13,8 +13,4 @@ pub mod WritableLaws
 pub mod BegunLogLaws
 pub mod FirstLinesLemmas
 pub mod AgainLaws
-pub mod CompactLaws
-pub mod GoingOnLemmas
-pub mod TurnLaws
-pub mod FindingLaws
 pub mod RunLineLaws

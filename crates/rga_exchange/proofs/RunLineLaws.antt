@@ -23,8 +23,7 @@ use Rattle.rga_lines.specs.Stream.{newline, bytes_of_lines, rest_of}
 use Rattle.rga_lines.proofs.NewlineLemmas.{run_has_none}
 use Rattle.rga_lines.proofs.ReadBack.{within}
 use Rattle.rga_lines.proofs.StandLemmas.{run_stands, run_beginning_stands}
-use Rattle.rga_exchange.specs.Compacting.{stretch_line}
-use Rattle.rga_exchange.specs.RunLines.{going_behind, front_characters, front_line, front_count, run_lines_behind, run_lines, runs_text}
+use Rattle.rga_exchange.specs.RunLines.{stretch_line, going_behind, front_characters, front_line, front_count, run_lines_behind, run_lines, runs_text}
 use Rattle.rga_exchange.specs.Sending.{AreWritable, StandsFor, GainsFirst, AppendsFirst}
 use Rattle.rga_exchange.proofs.AppendedLaws.{later_writable, later_well_formed}
 use Rattle.rga_exchange.proofs.BegunLemmas.{begun_next}

@@ -4,7 +4,4 @@ pub mod Log
 pub mod Receiving
 pub mod Sending
 pub mod Stops
-pub mod Compacting
-pub mod Turns
 pub mod RunLines
-pub mod Finding

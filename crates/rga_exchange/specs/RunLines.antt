@@ -6,9 +6,17 @@ use Rattle.rga_ops.specs.declared.op.Op.{Op}
 use Rattle.rga_ops.specs.declared.op.Op.TheVariants.{Insert, Delete}
 use Rattle.rga_lines.specs.declared.run.TheConstants.{MAX_RUN}
 use Rattle.rga_lines.specs.Runs.{Stretch, stretch, next}
-use Rattle.rga_lines.specs.Spelling.{line}
+use Rattle.rga_lines.specs.Spelling.{line, run_line}
 use Rattle.rga_lines.specs.Stream.{bytes_of_lines}
-use Rattle.rga_exchange.specs.Compacting.{stretch_line}
+
+-- the line of a run; one of a single insertion is written as that
+abbrev pub shortest_line : Identifier → Identifier → List ℕ → List ℕ
+shortest_line id parent [] = []
+shortest_line id parent (ch ∷ []) = line (Insert id parent ch)
+shortest_line id parent (ch ∷ d ∷ chars) = run_line (stretch id parent (ch ∷ d ∷ chars))
+
+abbrev pub stretch_line : Stretch → List ℕ
+stretch_line r = shortest_line r.id r.parent r.chars
 
 -- what an insertion that goes on behind an identifier has, its own identifier and its character: it has the next counter
 -- and the same replica, and that identifier as its parent

@@ -18,7 +18,7 @@ const END: usize = 128;
 
 /// Lines that are not yet written, each with the newline that ends it.
 #[derive(Drop)]
-pub(crate) struct Block {
+pub struct Block {
     /// All that there is room for; the lines stand in front.
     bytes: Vec<u8>,
     /// Where the lines end.
@@ -39,15 +39,15 @@ impl Model for Block {
 }
 
 impl Block {
-    ghost use Rattle.std.specs.Prelude.{◌≡◌, ◌≤◌, ◌<◌, ◌+◌, ◌++◌, ◌∷◌, [], length, Ok, IfOk, IsOk, OnOk, IfErr};
+    ghost use Rattle.std.specs.Prelude.{◌≡◌, ◌≤◌, ◌<◌, ◌+◌, ◌++◌, ◌∷◌, [], length, true, Ok, IfOk, IsOk, OnOk, IfErr};
     ghost use Rattle.rga_ops.specs.Prelude.{checked};
     ghost use Rattle.rga_lines.specs.Spelling.{line as line_of, IsWritable};
     ghost use Rattle.rga_exchange.specs.declared.block.TheConstants.{BLOCK, END};
     ghost use Rattle.rga_devices.specs.Counting.{Writes, WritesFront, WritesAllBut, CountsAs};
     ghost use Rattle.rga_lines.specs.Stream.{newline};
 
-    /// An empty block.
-    pub(crate) fn new(alloc: Global) -> Result<Self, AllocError>
+    /// An empty block, with room for some 64 KiB.
+    pub fn new(alloc: Global) -> Result<Self, AllocError>
         ensures { IfOk result (λ block. block ≡ []) }
     {
         let mut bytes = Vec::new(alloc);
@@ -71,7 +71,9 @@ impl Block {
     }
 
     /// Takes a line, of any length: where there is no room for it, what it has is written before.
-    pub(crate) fn take_line<W: Write>(
+    /// `Write` comes exactly where a call failed, and `Memory` for no line of less than 128 bytes.
+    /// What it then has is not told.
+    pub fn take_line<W: Write>(
         &mut self,
         line: &[u8],
         writer: &mut Counted<W>,
@@ -147,7 +149,7 @@ impl Block {
     }
 
     /// Writes its lines, and has none then.
-    pub(crate) fn write_to<W: Write>(&mut self, writer: &mut Counted<W>) -> Result<(), SendFault>
+    fn write_to<W: Write>(&mut self, writer: &mut Counted<W>) -> Result<(), SendFault>
         ensures written { OnOk result (Writes W.contents writer.old writer.new self.old) }
         ensures empty { OnOk result (self.new ≡ []) }
         ensures begun { WritesFront W.contents writer.old writer.new self.old }
@@ -158,6 +160,21 @@ impl Block {
             return Err(SendFault::Write);
         };
         self.end = 0;
+        Ok(())
+    }
+
+    /// Writes the lines that are left, and flushes the device. `Write` is the only refusal.
+    pub fn finish<W: Write>(mut self, writer: &mut Counted<W>) -> Result<(), SendFault>
+        ensures ok { OnOk result (Writes W.contents writer.old writer.new self) }
+        ensures begun { WritesFront W.contents writer.old writer.new self }
+        ensures flushed { OnOk result (writer.new.flushed ≡ true) }
+        ensures fault { IfErr result (λ e. e ≡ SendFault.Write) }
+        ensures device { CountsAs SendFault.Write result writer.old writer.new }
+    {
+        self.write_to(writer)?;
+        let Ok(()) = writer.flush() else {
+            return Err(SendFault::Write);
+        };
         Ok(())
     }
 }

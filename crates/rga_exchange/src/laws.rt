@@ -1,5 +1,5 @@
 //! Theorems about logs and exchanges. Each function does nothing: its contract is the theorem.
-ghost use Rattle.std.specs.Prelude.{◌≡◌, ◌↔◌, ℕ, ◌+◌, ◌<◌, ◌≤◌, ◌^◌, Bool, true, false, List, [], ◌∷◌, ◌++◌, length, Ok};
+ghost use Rattle.std.specs.Prelude.{◌≡◌, ◌↔◌, ℕ, ◌+◌, ◌<◌, ◌≤◌, ◌^◌, true, false, List, [], ◌∷◌, ◌++◌, length, Ok};
 ghost use Rattle.rga_ops.specs.Content.{Content, Agree, join, content_of, known_count, IsSound};
 ghost use Rattle.rga_ops.specs.ListAnswer.{AreWellFormed, IsJoinable};
 ghost use Rattle.rga_ops.specs.Operations.{operations};
@@ -11,7 +11,6 @@ ghost use Rattle.rga_lines.specs.declared.reading.Line.TheVariants.{Head};
 ghost use Rattle.rga_lines.specs.declared.fault.LineFault.TheVariants.{Kind};
 ghost use Rattle.rga_exchange.specs.Sending.{log_text, exchange_lines, stream_text};
 ghost use Rattle.rga_exchange.specs.Sending.{AreWritable, StandsFor, GainsFirst};
-ghost use Rattle.rga_exchange.specs.Compacting.{compact_text};
 ghost use Rattle.rga_exchange.specs.RunLines.{runs_text};
 ghost use Rattle.rga_exchange.specs.Taking.{may_be_head, AtFault, Progress, progress, lines_taken, stream_taken, AreTaken};
 ghost use Rattle.rga_exchange.specs.Log.{log_outcome};
@@ -64,13 +63,6 @@ pub fn cut_runs_stand_for_their_first_operations()
     ensures { (bytes : List ℕ) (c : Content) (ops : List Operation) (front rest : List ℕ)
         → StandsFor bytes c → rest_of bytes ≡ [] → AreWritable ops → AreWellFormed ops
         → IsJoinable c ops → front ++ rest ≡ runs_text ops → GainsFirst bytes front c ops }
-{}
-
-/// The compacted lines of a content whose operations are well-formed and can be written stand for
-/// that content, and end in a newline, so that further lines may follow.
-pub fn compacted_lines_stand_for_the_content()
-    ensures { (c : Content) (dels : Bool) → IsSound c → AreWritable (operations c)
-        → StandsFor (compact_text dels c) c × (rest_of (compact_text dels c) ≡ []) }
 {}
 
 /// What is sent of a content is cut into the lines that were written, with nothing behind them; the

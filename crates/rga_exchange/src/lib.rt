@@ -3,22 +3,22 @@
 //!
 //! A log is a stream of lines with an operation each, or a run of them; an exchange has one line
 //! more in front, its head, which may be absent, and one that ends it and names the number of
-//! operations. `append_log` and `send` write them, `send_list` an exchange of some; `read_log` and
-//! `receive` take them into whatever takes operations, and `take_log` is the reader of logs within,
-//! which also tells how many lines there were. The crate stands on rga_lines for the lines, on
-//! rga_devices for the devices, on the traits of rga_store for what takes operations (`Taker`) and
-//! what has them (`TextStore`), and on rga_ops for what they mean. The layer above may rest on the
-//! contracts, for any taker, any store and any device that tells its bytes: however the reads cut
-//! the bytes, what is held afterwards is what was held joined with the operations of the lines
-//! before the first fault, or before the end; what is written is exactly the lines of the
-//! operations, or a beginning of them where a call fails; and bytes that stand for a content still
-//! do so, for the joined one, once operations were appended (`laws`).
+//! operations. `append_log` and `send` write them, `append_runs` a log with runs, and `send_list`
+//! an exchange of some operations; `read_log` and `receive` take them into whatever takes
+//! operations, and `take_log` is the reader of logs within, which also tells how many lines there
+//! were. Lines that are made elsewhere, as those of runs by `shortest_line`, are written by a
+//! `Block`. The crate stands on rga_lines for the lines, on rga_devices for the devices, on the
+//! traits of rga_store for what takes operations (`Taker`) and what has them (`TextStore`), and on
+//! rga_ops for what they mean. The layer above may rest on the contracts, for any taker, any store
+//! and any device that tells its bytes: however the reads cut the bytes, what is held afterwards is
+//! what was held joined with the operations of the lines before the first fault, or before the end;
+//! what is written is exactly the lines of the operations, or a beginning of them where a call
+//! fails; and bytes that stand for a content still do so, for the joined one, once operations were
+//! appended (`laws`).
 #![tactic(auto)]
 
 mod block;
-mod compacting;
 mod fault;
-mod finding;
 pub mod laws;
 mod log;
 mod receiving;
@@ -26,10 +26,10 @@ mod runs;
 mod sending;
 mod taking;
 
-pub use compacting::{compact, compact_ops, compact_with};
+pub use block::Block;
 pub use fault::{LogFault, ReceiveFault, SendFault};
 pub use log::{LogEnd, LogRead, read_log, take_log};
 pub use receiving::receive;
-pub use runs::append_runs;
+pub use runs::{append_runs, shortest_line};
 pub use sending::{append_log, send, send_list};
 pub use taking::Form;

@@ -1,5 +1,5 @@
 //! Operations appended to a log in runs.
-ghost use Rattle.std.specs.Prelude.{◌≡◌, ℕ, ◌≤◌, ◌++◌, ◌∷◌, List, [], length, true, Ok, IfOk, IfErr, OnOk, string_bytes};
+ghost use Rattle.std.specs.Prelude.{◌≡◌, ℕ, ◌≤◌, ◌<◌, ◌++◌, ◌∷◌, List, [], length, true, Ok, IfOk, IfErr, OnOk, string_bytes};
 ghost use Rattle.rga_ops.specs.Prelude.{checked, is_id, join, content_of, Content};
 ghost use Rattle.rga_ops.specs.ListAnswer.{AreWellFormed, IsJoinable};
 ghost use Rattle.rga_ops.specs.declared.op.Op.TheVariants.{Insert, Delete};
@@ -7,16 +7,14 @@ ghost use Rattle.rga_devices.specs.Counting.{CountsAs, Writes, WritesFront, Writ
 ghost use Rattle.rga_lines.specs.Runs.{next};
 ghost use Rattle.rga_lines.specs.Spelling.{IsWritable};
 ghost use Rattle.rga_lines.specs.Stream.{newline, rest_of};
-ghost use Rattle.rga_exchange.specs.RunLines.{going_behind, front_run, front_line, front_count};
-ghost use Rattle.rga_exchange.specs.RunLines.{runs_text};
+ghost use Rattle.rga_exchange.specs.RunLines.{stretch_line, going_behind, front_run};
+ghost use Rattle.rga_exchange.specs.RunLines.{front_line, front_count, runs_text};
 ghost use Rattle.rga_exchange.specs.Sending.{AppendsFirst, AreWritable, StandsFor};
 
 use crate::block::Block;
-use crate::compacting::shortest_line;
 use crate::fault::SendFault;
-use crate::sending::finish;
 use rga_devices::Counted;
-use rga_lines::{MAX_RUN, Run, write_line};
+use rga_lines::{LineFault, MAX_RUN, Run, write_line, write_run};
 use rga_ops::{Id, Op};
 use std::alloc::{AllocError, Global};
 use std::io::Write;
@@ -48,7 +46,7 @@ pub fn append_runs<W: Write>(
     may_be_written(ops);
     let mut block = Block::new(alloc)?;
     push_runs(alloc, ops, &mut block, writer)?;
-    finish(block, writer)?;
+    block.finish(writer)?;
     Ok(ops.len() as u64)
 }
 
@@ -163,6 +161,26 @@ fn line_of_run(
         return Err(SendFault::Memory);
     };
     Ok((line, run.chars.len() - 1))
+}
+
+/// The line of a run without its newline, or of an insertion where it is a run of one. `Memory` is
+/// the only refusal.
+pub fn shortest_line(alloc: Global, run: &Run) -> Result<String, LineFault>
+    requires { 0 < length run.now.chars }
+    ensures ok { IfOk result (λ s. string_bytes s ≡ stretch_line run.now) }
+    ensures memory { IfErr result (λ e. e ≡ LineFault.Memory) }
+{
+    let chars = run.chars.as_slice();
+    if chars.len() == 1 {
+        let op = Op::Insert {
+            id: run.id,
+            parent: run.parent,
+            ch: chars[0],
+        };
+        write_line(alloc, &op)
+    } else {
+        write_run(alloc, run)
+    }
 }
 
 /// The run that begins with an insertion before operations, up to `MAX_RUN` characters.

@@ -77,7 +77,7 @@ pub fn send_list<W: Write>(
     let mut block = begin_exchange(alloc)?;
     push_lines(list, &mut block, writer)?;
     block.push(end.as_bytes())?;
-    finish(block, writer)?;
+    block.finish(writer)?;
     Ok(number)
 }
 
@@ -123,7 +123,7 @@ pub fn append_log<W: Write>(
 {
     let mut block = Block::new(alloc)?;
     push_lines(ops, &mut block, writer)?;
-    finish(block, writer)?;
+    block.finish(writer)?;
     Ok(ops.len() as u64)
 }
 
@@ -144,20 +144,5 @@ fn push_lines<W: Write>(
     for op in ops {
         block.take_operation(op, writer)?;
     }
-    Ok(())
-}
-
-/// Writes the lines that are left, and flushes the device.
-pub(crate) fn finish<W: Write>(mut rest: Block, writer: &mut Counted<W>) -> Result<(), SendFault>
-    ensures ok { OnOk result (Writes W.contents writer.old writer.new rest) }
-    ensures begun { WritesFront W.contents writer.old writer.new rest }
-    ensures flushed { OnOk result (writer.new.flushed ≡ true) }
-    ensures fault { IfErr result (λ e. e ≡ SendFault.Write) }
-    ensures device { CountsAs SendFault.Write result writer.old writer.new }
-{
-    rest.write_to(writer)?;
-    let Ok(()) = writer.flush() else {
-        return Err(SendFault::Write);
-    };
     Ok(())
 }

@@ -1,0 +1,4 @@
+pub mod CompactLaws
+pub mod GoingOnLemmas
+pub mod TurnLaws
+pub mod FindingLaws

@@ -1,0 +1,62 @@
+use Rattle.std.proofs.Common.{◌≡◌, List, ℕ, ◌++◌, ◌∙◌, length, slice_index, refl, sym, ap, subst, true≢false, arith, None}
+use Rattle.std.specs.Result.{is_ok}
+use Rattle.rga_ops.specs.declared.op.Op.{Op}
+use Rattle.rga_ops.specs.Content.{content_of}
+use Rattle.rga_devices.specs.Counting.{WritesAllBut}
+use Rattle.rga_lines.specs.Stream.{bytes_of_lines}
+use Rattle.rga_devices.proofs.WrittenLemmas.{begun_start}
+use Rattle.rga_exchange.proofs.BegunLemmas.{begun_part}
+use Rattle.rga_exchange.proofs.WritableLaws.{writable_next, writable_all}
+use Rattle.rga_compaction.specs.Turns.{lines_from}
+use Rattle.rga_compaction.specs.Compacting.{compact_lines, compact_text}
+use Rattle.rga_compaction.proofs.TurnLaws.{all_in_turn, one_at_most, Leaves, begun_turn, begun_last, fewer_left, none_left, operation_well_formed, operations_well_formed}
+use Rattle.rga_compaction.proofs.compacting.push_compacted.Goals as goal
+
+pub loop-index-init : goal.loop-index-init
+loop-index-init g c =
+    let turns : lines_from c.args.dels (content_of c.args.ops.now) (slice_index c.in_ok-ends.ends) None c.args.ops.now ≡ compact_lines c.args.dels (content_of c.args.ops.now) =
+    ap (λ (ops : List Op). lines_from c.args.dels (content_of c.args.ops.now) (slice_index c.in_ok-ends.ends) None ops) c.requires.all ∙ all_in_turn (content_of c.args.ops.now) c.args.dels (slice_index c.in_ok-ends.ends) c.in_ok-ends.ensures in
+    record {
+      begun = subst (λ (ls : List (List ℕ)). WritesAllBut g.W.Write.contents c.args.writer.now c.args.writer.now (c.args.block.now ++ compact_text c.args.dels (content_of c.args.ops.now)) (c.args.block.now ++ bytes_of_lines ls)) (sym turns)
+          (begun_start g.W.Write.contents c.args.writer.now (c.args.block.now ++ compact_text c.args.dels (content_of c.args.ops.now)));
+      number = omega (arith, ap length turns);
+      few = omega arith;
+      writable = λ j op below. absurd (omega (arith, below));
+      unfailed = refl;
+    }
+
+pub push_operation-requires-clause-checked : goal.push_operation-requires-clause-checked
+push_operation-requires-clause-checked g c = operation_well_formed (content_of c.args.ops.now) c.args.ops.now c.loop-index.index c.index-ops-index.result c.requires.sound c.requires.all c.loop-index-test.true c.index-ops-index.is
+
+pub loop-index-preserved : goal.loop-index-preserved
+loop-index-preserved g c =
+    let one = one_at_most c.args.dels (content_of c.args.ops.now) (slice_index c.loop-index.ends) c.loop-index.last c.index-ops-index.result in
+    let leaves : Leaves c.args.dels (content_of c.args.ops.now) (slice_index c.loop-index.ends) (slice_index c.push_operation.new.ends) c.loop-index.last c.push_operation.new.last c.index-ops-index.result =
+    record { next_is = c.in_ok-lines.ensures.ends; later_is = c.in_ok-lines.ensures.last } in
+    record {
+      begun = begun_turn _ _ _ _ _ _ _ c.args.dels (content_of c.args.ops.now) (slice_index c.loop-index.ends) (slice_index c.push_operation.new.ends) c.loop-index.last c.push_operation.new.last c.args.ops.now c.loop-index.index c.index-ops-index.result c.loop-index-test.true c.index-ops-index.is leaves c.loop-index.invariant.begun c.in_ok-lines.ensures.ok;
+      number = fewer_left c.args.dels (content_of c.args.ops.now) (slice_index c.loop-index.ends) (slice_index c.push_operation.new.ends) c.loop-index.last c.push_operation.new.last c.args.ops.now c.loop-index.index c.index-ops-index.result c.loop-index.lines c.in_ok-lines.field-0 _ c.loop-index-test.true c.index-ops-index.is leaves c.in_ok-lines.ensures.number c.loop-index.invariant.number;
+      few = omega (arith, one, c.in_ok-lines.ensures.number, c.loop-index.invariant.few);
+      writable = writable_next c.args.ops.now c.loop-index.index c.index-ops-index.result c.loop-index-test.true c.index-ops-index.is c.loop-index.invariant.writable (λ _. c.in_ok-lines.ensures.writable);
+      unfailed = c.in_ok-lines.ensures.device.unfailed (λ e. true≢false (ap is_ok e)) ∙ c.loop-index.invariant.unfailed;
+    }
+
+pub returns-in_err-lines-clause-begun : goal.returns-in_err-lines-clause-begun
+returns-in_err-lines-clause-begun g c = begun_part _ _ _ _ _ _ _ c.loop-index.invariant.begun c.in_err-lines.ensures.begun
+
+pub returns-clause-writable : goal.returns-clause-writable
+returns-clause-writable g c = writable_all c.args.ops.now c.loop-index.index (omega arith) c.loop-index.invariant.writable (operations_well_formed (content_of c.args.ops.now) c.args.ops.now c.requires.sound c.requires.all)
+
+pub returns-in_err-rest-clause-begun : goal.returns-in_err-rest-clause-begun
+returns-in_err-rest-clause-begun g c = begun_part _ _ _ _ _ _ _ c.loop-index.invariant.begun c.in_err-rest.ensures.begun
+
+pub returns-clause-begun : goal.returns-clause-begun
+returns-clause-begun g c = begun_part _ _ _ _ _ _ _ c.loop-index.invariant.begun c.in_ok-rest.ensures.begun
+
+pub returns-clause-ok : goal.returns-clause-ok
+returns-clause-ok g c =
+    begun_last _ _ _ _ _ _ _ c.args.dels (content_of c.args.ops.now) (slice_index c.loop-index.ends) c.loop-index.last c.args.ops.now c.loop-index.index (omega arith) c.loop-index.invariant.begun c.in_ok-rest.ensures.ok
+
+pub returns-clause-number : goal.returns-clause-number
+returns-clause-number g c =
+    none_left c.args.dels (content_of c.args.ops.now) (slice_index c.loop-index.ends) c.loop-index.last c.args.ops.now c.loop-index.index c.loop-index.lines c.in_ok-rest.rest _ (omega arith) c.in_ok-rest.ensures.number c.loop-index.invariant.number

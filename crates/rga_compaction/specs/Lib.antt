@@ -1,0 +1,3 @@
+pub mod Compacting
+pub mod Turns
+pub mod Finding
