@@ -21,7 +21,7 @@ use Rattle.rga_ops.specs.Operation.{checked}
 use Rattle.rga_ops.specs.ListAnswer.{AreWellFormed}
 use Rattle.rga_ops.proofs.OperationsLaws.{operations_hold}
 use Rattle.rga_ops.proofs.SortedLaws.{both_so}
-use Rattle.rga_lines.specs.declared.deletion_run.DeletionRun.{DeletionRun}
+use Rattle.rga_lines.specs.DeletionRun.{DeletionRun}
 use Rattle.rga_lines.specs.Runs.{Stretch, deletion_run}
 use Rattle.rga_lines.specs.Spelling.{line}
 use Rattle.rga_devices.specs.Counting.{Calls, WritesAllBut}

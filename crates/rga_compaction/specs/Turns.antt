@@ -4,7 +4,7 @@ use Rattle.rga_ops.specs.Identifier.{Identifier}
 use Rattle.rga_ops.specs.Content.{element, Content}
 use Rattle.rga_ops.specs.declared.op.Op.{Op}
 use Rattle.rga_ops.specs.declared.op.Op.TheVariants.{Insert, Delete}
-use Rattle.rga_lines.specs.declared.deletion_run.DeletionRun.{DeletionRun}
+use Rattle.rga_lines.specs.DeletionRun.{DeletionRun}
 use Rattle.rga_lines.specs.Runs.{Stretch, deletion_run}
 use Rattle.rga_lines.specs.Spelling.{line}
 use Rattle.rga_exchange.specs.RunLines.{stretch_line}

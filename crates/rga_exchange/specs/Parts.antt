@@ -5,7 +5,7 @@ use Rattle.rga_devices.specs.Counting.{Calls, IsReadToEnd}
 use Rattle.rga_lines.specs.Log.{operations_of}
 use Rattle.rga_lines.specs.Stream.{lines_of, rest_of}
 use Rattle.rga_lines.specs.Table.{any_line_at}
-use Rattle.rga_lines.specs.declared.reading.TheConstants.{MAX_LINE}
+use Rattle.rga_lines.specs.LineConstants.{MAX_LINE}
 use Rattle.rga_exchange.specs.Receiving.{EndsWithLastRead}
 use Rattle.rga_exchange.specs.Taking.{body_behind, body, Stop, AllTaken, AtEnd, progress, after_line, lines_taken, bytes_taken, stream_taken, Intake}
 use Rattle.rga_exchange.specs.declared.taking.Form.{Form}

@@ -1,5 +1,5 @@
 -- The deletions of a run, one after another.
-use Rattle.std.proofs.Common.{◌≡◌, ℕ, zero, suc, ◌+◌, ◌-◌, ◌<◌, ◌≤◌, ◌&&◌, nat_le, Ok, ne_eqb, List, [], ◌∷◌, ◌++◌, length, refl, sym, ap, ◌∙◌, arith, append_assoc, true}
+use Rattle.std.proofs.Common.{◌≡◌, ℕ, zero, suc, ◌+◌, ◌<◌, ◌≤◌, ◌&&◌, nat_le, Ok, ne_eqb, List, [], ◌∷◌, ◌++◌, length, refl, ap, ◌∙◌, arith, true}
 use Rattle.std.specs.List.{AllByRecursion}
 use Rattle.std.proofs.lemmas.Bool.{and_parts, leb-true}
 use Rattle.rga_ops.specs.Identifier.{Identifier, identifier, is_in_range}
@@ -7,20 +7,12 @@ use Rattle.rga_ops.specs.Operation.{checked}
 use Rattle.rga_ops.specs.declared.id.TheConstants.Id.{MAX_COUNTER}
 use Rattle.rga_ops.specs.declared.op.Op.{Op}
 use Rattle.rga_ops.specs.declared.op.Op.TheVariants.{Delete}
-use Rattle.rga_lines.specs.declared.deletion_run.DeletionRun.{DeletionRun}
-use Rattle.rga_lines.specs.Runs.{next, deletions_from, run_deletions, IsDeletionRun}
+use Rattle.rga_table.specs.declared.deletion_run.DeletionRun.{DeletionRun}
+use Rattle.rga_table.specs.Runs.{next, deletions_from, run_deletions, IsDeletionRun}
 
 pub deletions_from-length : (id : Identifier) (count : ℕ) → length (deletions_from id count) ≡ count
 deletions_from-length id zero = refl
 deletions_from-length id (suc count) = omega (arith, deletions_from-length (next id) count)
-
--- one deletion more behind those before it
-pub next_deletion : (before : List Op) (id : Identifier) (count : ℕ) → 0 < count → before ++ deletions_from id count ≡ (before ++ Delete id ∷ []) ++ deletions_from (next id) (count - 1)
-next_deletion before id zero some = absurd (omega (arith, some))
-next_deletion before id (suc count) some =
-    let same : count ≡ suc count - 1 = omega arith in
-    sym (append_assoc before (Delete id ∷ []) (deletions_from (next id) count))
-    ∙ ap (λ n. (before ++ Delete id ∷ []) ++ deletions_from (next id) n) same
 
 -- one deletion more at the end
 pub one_more : (id : Identifier) (count : ℕ) → deletions_from id (suc count) ≡ deletions_from id count ++ Delete (identifier (id.counter + count) id.replica) ∷ []

@@ -30,9 +30,9 @@ use Rattle.rga_ops.specs.Operation.{checked}
 use Rattle.rga_ops.specs.declared.op.Op.{Op}
 use Rattle.rga_ops.specs.declared.op.Op.TheVariants.{Insert, Delete}
 use Rattle.rga_ops.proofs.AnswerLaws.{well_formed_insertion}
-use Rattle.rga_lines.specs.declared.reading.TheConstants.{MAX_LINE}
-use Rattle.rga_lines.specs.Table.{value_line, any_line_at}
-use Rattle.rga_lines.specs.declared.reading.Line.TheVariants.{One}
+use Rattle.rga_table.specs.declared.line.TheConstants.{MAX_LINE}
+use Rattle.rga_table.specs.Table.{value_line, any_line_at}
+use Rattle.rga_table.specs.declared.line.Line.TheVariants.{One}
 use Rattle.rga_lines.specs.declared.members.Kind.TheVariants.{Insertion, Deletion}
 use Rattle.rga_lines.proofs.ReadBack.{within, in_bounds, pair-json, read_tokens, chars-one}
 use Rattle.rga_lines.proofs.ReadingLemmas.{accepted}

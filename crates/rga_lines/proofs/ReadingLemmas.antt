@@ -1,55 +1,26 @@
--- What the parts of a line say.
-use Rattle.std.proofs.Common.{◌≡◌, ◌≢◌, ℕ, ◌<◌, ◌≤◌, ◌+◌, zero, suc, ◌&&◌, ◌||◌, ◌==◌, Bool, true, false, cond, nat_le, nat_lt, List, [], ◌∷◌, ◌++◌, length, Option, Some, None, Result, Ok, Err, option_and_then, refl, sym, ap, ◌∙◌, arith, lt-ltb, le-ltb, ne_eqb}
+-- What the bytes of a line say by their value, and that what is read is well-formed.
+use Rattle.std.proofs.Common.{◌≡◌, ◌≢◌, ℕ, ◌<◌, ◌≤◌, ◌+◌, zero, suc, ◌&&◌, ◌||◌, ◌==◌, Bool, true, false, cond, nat_le, nat_lt, List, length, Option, Some, None, Result, Ok, Err, option_and_then, refl, sym, ap, ◌∙◌, arith, lt-ltb, le-ltb, ne_eqb}
 use Rattle.std.proofs.lemmas.Bool.{and_left, leb-false, ltb-false}
 use Rattle.std.specs.Prelude.{⊤, codes}
 use Rattle.std.specs.Str.{IsUtf8, is_utf8, chars, bytes_eq}
-use Rattle.std.specs.Char.{encode_utf8}
-use Rattle.std.proofs.lemmas.Str.{chars-nil, chars_past_char, IsUtf8-past_char, is_utf8-from_IsUtf8, IsUtf8-from_is_utf8}
-use Rattle.std.proofs.lemmas.List.{nil_from_length}
-use Rattle.serde_json.specs.declared.value.Value.{Value}
+use Rattle.std.proofs.lemmas.Str.{is_utf8-from_IsUtf8, IsUtf8-from_is_utf8}
 use Rattle.serde_json.specs.Data.{Data, Items}
 use Rattle.serde_json.specs.Read.{read}
 use Rattle.serde_json.specs.Find.{get, as_str}
-use Rattle.serde_json.specs.View.{items_view}
 use Rattle.rga_ops.specs.Identifier.{Identifier, identifier, is_root, is_in_range}
 use Rattle.rga_ops.specs.declared.id.TheConstants.Id.{MAX_COUNTER}
 use Rattle.rga_ops.specs.Operation.{checked}
 use Rattle.rga_ops.specs.declared.op.Op.{Op}
 use Rattle.rga_ops.specs.declared.op.Op.TheVariants.{Insert}
-use Rattle.rga_lines.specs.declared.reading.Line.TheVariants.{One, Run, Deletions, Head, Last}
-use Rattle.rga_lines.specs.declared.deletion_run.DeletionRun.{DeletionRun}
-use Rattle.rga_lines.specs.Runs.{Stretch, stretch, IsRun, deletion_run, IsDeletionRun}
-use Rattle.rga_lines.specs.declared.run.TheConstants.{MAX_RUN}
-use Rattle.rga_lines.specs.declared.fault.LineFault.{LineFault}
-use Rattle.rga_lines.specs.declared.reading.TheConstants.{MAX_LINE}
-use Rattle.rga_lines.specs.Table.{Reading, AnyReading, only_char, two_numbers, if_in_range, element_of, parent_of, with_order, with_char, with_identifiers, with_types, insertion, with_identifier, with_type, deletion, with_run_order, with_run_chars, with_run_end, with_run_identifiers, with_run_types, run, with_deletion_count, with_deletion_end, with_deletion_identifier, with_deletion_types, deletions_reading, with_version, heading, number_at, ending, single_reading, run_of_deletions, last, of_kind, with_name, with_op, with_count, count_of, text_at, array_at, has_member, value_line, text_line, any_line_at, operation_alone, line_at}
-use Rattle.rga_lines.specs.declared.fault.LineFault.TheVariants as fault
+use Rattle.rga_table.specs.declared.line.Line.TheVariants.{One, Run, Deletions, Head, Last}
+use Rattle.rga_table.specs.declared.deletion_run.DeletionRun.{DeletionRun}
+use Rattle.rga_table.specs.Runs.{Stretch, stretch, IsRun, deletion_run, IsDeletionRun}
+use Rattle.rga_table.specs.declared.run.TheConstants.{MAX_RUN}
+use Rattle.rga_table.specs.declared.fault.LineFault.{LineFault}
+use Rattle.rga_table.specs.declared.line.TheConstants.{MAX_LINE}
+use Rattle.rga_table.specs.Table.{Reading, AnyReading, only_char, two_numbers, if_in_range, element_of, parent_of, with_order, with_char, with_identifiers, with_types, insertion, with_identifier, with_type, deletion, with_run_order, with_run_chars, with_run_end, with_run_identifiers, with_run_types, run, with_deletion_count, with_deletion_end, with_deletion_identifier, with_deletion_types, deletions_reading, with_version, heading, number_at, ending, single_reading, run_of_deletions, last, of_kind, with_name, with_op, with_count, count_of, text_at, array_at, has_member, value_line, text_line, any_line_at, operation_alone, line_at}
+use Rattle.rga_table.specs.declared.fault.LineFault.TheVariants as fault
 use Rattle.rga_lines.proofs.DeletionLemmas.{above_root}
-
--- ---- one character
-
-pub one_char : (bytes rest : List ℕ) (c : ℕ) → IsUtf8 bytes → bytes ≡ encode_utf8 c ++ rest → length rest ≡ 0 → only_char (chars bytes) ≡ Some c
-one_char bytes rest c text front last =
-    let e : chars bytes ≡ c ∷ [] = chars_past_char bytes rest c text front ∙ ap (λ (r : List ℕ). c ∷ chars r) (nil_from_length rest last) ∙ ap (λ (cs : List ℕ). c ∷ cs) chars-nil in
-    ap only_char e
-
-pub more_chars : (bytes rest more : List ℕ) (c d : ℕ) → IsUtf8 bytes → bytes ≡ encode_utf8 c ++ rest → rest ≡ encode_utf8 d ++ more → only_char (chars bytes) ≡ None
-more_chars bytes rest more c d text front next =
-    let e : chars bytes ≡ c ∷ d ∷ chars more = chars_past_char bytes rest c text front ∙ ap (λ (cs : List ℕ). c ∷ cs) (chars_past_char rest more d (IsUtf8-past_char bytes rest c text front) next) in
-    ap only_char e
-
--- ---- two numbers
-
-pub too_few : (values : List Value) → length values < 2 → two_numbers (items_view values) ≡ None
-too_few [] h = refl
-too_few (v ∷ []) h = refl
-too_few (v ∷ w ∷ values) h = absurd (omega arith)
-
-pub too_many : (values : List Value) → 3 ≤ length values → two_numbers (items_view values) ≡ None
-too_many [] h = absurd (omega arith)
-too_many (v ∷ []) h = absurd (omega arith)
-too_many (v ∷ w ∷ []) h = absurd (omega arith)
-too_many (v ∷ w ∷ u ∷ values) h = refl
 
 -- ---- the whole
 

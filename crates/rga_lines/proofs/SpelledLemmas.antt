@@ -2,7 +2,7 @@
 use Rattle.std.proofs.Common.{◌≡◌, ℕ, List, [], ◌++◌, codes, decimal, ap, ◌∙◌}
 use Rattle.rga_ops.specs.Identifier.{Identifier}
 use Rattle.rga_ops.specs.declared.op.Op.TheVariants.{Insert}
-use Rattle.rga_lines.specs.Runs.{deletion_run}
+use Rattle.rga_table.specs.Runs.{deletion_run}
 use Rattle.rga_lines.specs.Spelling.{escaped, pair_text, line, element_from, run_from, deletion_run_line, BeginsWithCharacter, IsElement, IsElementOrRoot, IsLineOf}
 
 -- these bytes, an identifier and then the rest

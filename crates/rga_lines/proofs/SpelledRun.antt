@@ -3,13 +3,13 @@ use Rattle.std.proofs.Common.{◌≡◌, ℕ, ◌+◌, ◌<◌, ◌≤◌, List,
 use Rattle.rga_ops.specs.Identifier.{Identifier, is_root, is_in_range}
 use Rattle.rga_ops.specs.declared.op.Op.{Op}
 use Rattle.rga_ops.specs.declared.op.Op.TheVariants.{Delete}
-use Rattle.rga_lines.specs.declared.reading.Line.TheVariants.{One, Run}
+use Rattle.rga_table.specs.declared.line.Line.TheVariants.{One, Run}
 use Rattle.rga_ops.specs.declared.id.TheConstants.Id.{MAX_COUNTER}
-use Rattle.rga_lines.specs.declared.run.TheConstants.{MAX_RUN}
-use Rattle.rga_lines.specs.Runs.{stretch}
+use Rattle.rga_table.specs.declared.run.TheConstants.{MAX_RUN}
+use Rattle.rga_table.specs.Runs.{stretch}
 use Rattle.rga_lines.specs.Log.{SaysRun}
 use Rattle.rga_lines.specs.Spelling.{line, element_from, run_from, run_line, BeginsWithCharacters, ReadsInsertions}
-use Rattle.rga_lines.specs.Table.{any_line_at}
+use Rattle.rga_table.specs.Table.{any_line_at}
 use Rattle.rga_lines.proofs.ReadBack.{delete_back}
 use Rattle.rga_lines.proofs.RunBack.{run_back}
 use Rattle.rga_lines.proofs.RunLemmas.{run_operations-length}

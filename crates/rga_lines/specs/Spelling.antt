@@ -1,13 +1,14 @@
 -- How an operation, a run, or the head or the end of an exchange is spelled where nothing is left open: no blanks, and
 -- the members by their names.
-use Rattle.std.specs.Prelude.{◌≡◌, ℕ, ◌/◌, ◌%◌, true, List, [], ◌∷◌, ◌++◌, ◌||◌, ◌==◌, nat_lt, if◌then◌else◌, codes, decimal}
+use Rattle.std.specs.Prelude.{◌≡◌, ℕ, ◌/◌, ◌%◌, List, [], ◌∷◌, ◌++◌, ◌||◌, ◌==◌, nat_lt, if◌then◌else◌, codes, decimal}
 use Rattle.std.specs.Char.{digit_char, encode_utf8, IsScalar}
 use Rattle.std.specs.List.{flat_map, AllByRecursion}
-use Rattle.rga_ops.specs.Identifier.{Identifier, is_root, is_in_range}
+use Rattle.rga_ops.specs.Identifier.{Identifier}
 use Rattle.rga_ops.specs.declared.op.Op.{Op}
 use Rattle.rga_ops.specs.declared.op.Op.TheVariants.{Insert, Delete}
-use Rattle.rga_lines.specs.Runs.{Stretch, IsRun, run_operations}
-use Rattle.rga_lines.specs.declared.deletion_run.DeletionRun.{DeletionRun}
+pub use Rattle.rga_table.specs.Table.{IsElement, IsElementOrRoot}
+use Rattle.rga_table.specs.Runs.{Stretch, IsRun, run_operations}
+use Rattle.rga_table.specs.declared.deletion_run.DeletionRun.{DeletionRun}
 
 -- a character below a space by four hexadecimal digits
 abbrev pub code_escape : ℕ → List ℕ
@@ -29,12 +30,6 @@ escaped c =
 -- the bytes begin with a character as it stands between quotes, and then the rest
 abbrev pub BeginsWithCharacter : List ℕ → ℕ → List ℕ → Type 0
 BeginsWithCharacter bytes ch rest = (bytes ≡ escaped ch ++ rest) × IsScalar ch
-
-abbrev pub IsElement : Identifier → Type 0
-IsElement id = is_in_range id.counter id.replica ≡ true
-
-abbrev pub IsElementOrRoot : Identifier → Type 0
-IsElementOrRoot id = is_root id || is_in_range id.counter id.replica ≡ true
 
 abbrev pub pair_text : Identifier → List ℕ
 pair_text id = codes "[" ++ (decimal id.counter ++ (codes "," ++ (decimal id.replica ++ codes "]")))

@@ -3,16 +3,15 @@ ghost use Rattle.std.specs.Prelude.{◌≡◌, codes, true, Ok, IfOk, IfErr, IfS
 ghost use Rattle.std.specs.Bool.{OnTrue};
 ghost use Rattle.rga_lines.specs.Log.{SaysRun};
 ghost use Rattle.rga_lines.specs.Spelling.{element_from, run_from, ReadsInsertions, IsElement, IsElementOrRoot};
-ghost use Rattle.rga_lines.specs.Table.{any_line_at};
-ghost use Rattle.rga_lines.specs.declared.reading.Line.TheVariants.{One};
-ghost use Rattle.rga_lines.specs.declared.fault.LineFault.TheVariants.{Memory};
+ghost use Rattle.rga_table.specs.Table.{any_line_at};
+ghost use Rattle.rga_table.specs.declared.line.Line.TheVariants.{One};
+ghost use Rattle.rga_table.specs.declared.fault.LineFault.TheVariants.{Memory};
 
-use crate::fault::LineFault;
 use crate::parts::{after_literal, character};
-use crate::run::MAX_RUN;
 use crate::spelled::{element_front, is_end_of_deletion};
 use crate::spelled_run::run_parent;
 use rga_ops::{Id, Op};
+use rga_table::{LineFault, MAX_RUN};
 
 /// Reads the insertions of a run into the list, in place of what stood there, where the bytes of
 /// its line are spelled as `write_run` spells them. `false` says nothing of the line, whatever then

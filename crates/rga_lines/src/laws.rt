@@ -3,16 +3,16 @@
 ghost use Rattle.std.specs.Prelude.{◌≡◌, ℕ, ◌<◌, ◌^◌, ◌++◌, [], ◌∷◌, List, true, false, Ok, Err};
 ghost use Rattle.rga_ops.specs.Operation.{checked};
 ghost use Rattle.rga_ops.specs.declared.op.Op.{Op};
-ghost use Rattle.rga_lines.specs.Table.{any_line_at, line_at};
-ghost use Rattle.rga_lines.specs.Runs.{Stretch, IsRun, IsDeletionRun};
-ghost use Rattle.rga_lines.specs.declared.deletion_run.DeletionRun.{DeletionRun};
+ghost use Rattle.rga_table.specs.Table.{any_line_at, line_at};
+ghost use Rattle.rga_table.specs.Runs.{Stretch, IsRun, IsDeletionRun};
+ghost use Rattle.rga_table.specs.declared.deletion_run.DeletionRun.{DeletionRun};
 ghost use Rattle.rga_lines.specs.Spelling.{line, end_line, head_line, run_line, deletion_run_line};
 ghost use Rattle.rga_lines.specs.Spelling.{IsWritable, IsWritableRun};
 ghost use Rattle.rga_lines.specs.Stream.{HasNoNewline, lines_of, rest_of, IsCut, BeginsLong};
 ghost use Rattle.rga_lines.specs.Stream.{StreamCall, splitting_with, after_calls, lines_given, bytes_fed};
-ghost use Rattle.rga_lines.specs.declared.reading.Line.TheVariants.{One, Run as RunLine, Deletions, Head, Last};
-ghost use Rattle.rga_lines.specs.declared.fault.LineFault.{LineFault};
-ghost use Rattle.rga_lines.specs.declared.fault.LineFault.TheVariants.{Kind};
+ghost use Rattle.rga_table.specs.declared.line.Line.TheVariants.{One, Run as RunLine, Deletions, Head, Last};
+ghost use Rattle.rga_table.specs.declared.fault.LineFault.{LineFault};
+ghost use Rattle.rga_table.specs.declared.fault.LineFault.TheVariants.{Kind};
 
 /// The operation that a line says is well-formed, where the line may also be the end of an
 /// exchange and where it may not.

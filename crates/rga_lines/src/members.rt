@@ -10,13 +10,13 @@ ghost use Rattle.rga_lines.specs.Members.{name_of_kind, text_lexemes, number_lex
 ghost use Rattle.rga_lines.specs.Members.{BeginsWithLexemes, BeginsWithMember, ListsMembers};
 ghost use Rattle.rga_lines.specs.Members.{IsSoundMember, HasExactly};
 ghost use Rattle.rga_lines.specs.Spelling.{IsElement, IsElementOrRoot};
-ghost use Rattle.rga_lines.specs.Table.{value_line, any_line_at};
-ghost use Rattle.rga_lines.specs.declared.reading.Line.TheVariants.{One};
-ghost use Rattle.rga_lines.specs.declared.reading.TheConstants.{MAX_LINE};
+ghost use Rattle.rga_table.specs.Table.{value_line, any_line_at};
+ghost use Rattle.rga_table.specs.declared.line.Line.TheVariants.{One};
+ghost use Rattle.rga_table.specs.declared.line.TheConstants.{MAX_LINE};
 
 use crate::lexed::{after_blanks, after_name, after_operator, after_text, number, only_character};
-use crate::parts::{element, element_or_root};
 use rga_ops::{Id, Op};
+use rga_table::parts::{element, element_or_root};
 
 /// A member of the line of an operation.
 #[derive(Clone, Copy)]

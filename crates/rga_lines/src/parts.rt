@@ -1,14 +1,11 @@
-//! The parts of a line that more than one of its readers knows: literals, characters, numbers and
-//! identifiers.
+//! The parts of a line that more than one of its readers knows: literals, characters and numbers.
 ghost use Rattle.std.specs.Prelude.{◌≡◌, ◌≢◌, ◌+◌, ◌<◌, ◌≤◌, ◌++◌, ◌∷◌, [], decimal, IfSome};
 ghost use Rattle.std.specs.Bool.{OnTrue};
-ghost use Rattle.std.specs.Str.{chars};
-ghost use Rattle.rga_ops.specs.Identifier.{identifier};
 ghost use Rattle.std.specs.Char.{IsScalar};
-ghost use Rattle.rga_lines.specs.Spelling.{escaped, BeginsWithCharacter, IsElement, IsElementOrRoot};
-ghost use Rattle.rga_lines.specs.Table.{only_char, if_in_range, if_root_or_in_range};
+ghost use Rattle.rga_lines.specs.Spelling.{escaped, BeginsWithCharacter};
 
 use rga_ops::Id;
+use rga_table::parts::only_char;
 
 /// What stands behind the literal, with which the bytes begin.
 pub(crate) fn after<'a>(bytes: &'a [u8], literal: &[u8]) -> Option<&'a [u8]>
@@ -153,18 +150,6 @@ fn wide_character(bytes: &[u8]) -> Option<(char, &[u8])>
     }
 }
 
-/// The text's only character.
-pub(crate) fn only_char(text: &str) -> Option<char>
-    ensures { result ≡ only_char (chars text.now) }
-{
-    let mut chars = text.chars();
-    let first = chars.next()?;
-    match chars.next() {
-        None => Some(first),
-        Some(_) => None,
-    }
-}
-
 /// A number without leading zeros, and what stands behind it.
 #[inline(always)]
 pub(crate) fn number(bytes: &[u8]) -> Option<(u64, &[u8])>
@@ -209,23 +194,4 @@ fn is_digit(byte: u8) -> bool
     ensures { OnTrue result ((48 ≤ byte) × (byte < 58)) }
 {
     byte >= b'0' && byte <= b'9'
-}
-
-/// The identifier of an element that has this counter and this replica.
-pub(crate) fn element(counter: u64, replica: u16) -> Option<Id>
-    ensures exact { result ≡ if_in_range (counter, replica) }
-    ensures ok { IfSome result (λ id. (id ≡ identifier counter replica) × IsElement id) }
-{
-    Id::new(counter, replica).ok()
-}
-
-/// The identifier of an element, or the root, that has this counter and this replica.
-pub(crate) fn element_or_root(counter: u64, replica: u16) -> Option<Id>
-    ensures exact { result ≡ if_root_or_in_range (counter, replica) }
-    ensures ok { IfSome result (λ id. (id ≡ identifier counter replica) × IsElementOrRoot id) }
-{
-    if counter == 0 && replica == 0 {
-        return Some(Id::ROOT);
-    }
-    element(counter, replica)
 }

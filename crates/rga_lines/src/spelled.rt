@@ -3,19 +3,15 @@ ghost use Rattle.std.specs.Prelude.{◌≡◌, ◌++◌, codes, IfOk, IfErr, IfS
 ghost use Rattle.std.specs.Bool.{OnTrue};
 ghost use Rattle.rga_ops.specs.Identifier.{identifier};
 ghost use Rattle.rga_lines.specs.Spelling.{pair_text, element_from, deletion_run_line, IsElement, IsLineOf};
-ghost use Rattle.rga_lines.specs.Table.{any_line_at};
-ghost use Rattle.rga_lines.specs.declared.reading.Line.TheVariants.{One, Deletions};
-ghost use Rattle.rga_lines.specs.declared.fault.LineFault.TheVariants.{Memory};
+ghost use Rattle.rga_table.specs.Table.{any_line_at};
+ghost use Rattle.rga_table.specs.declared.line.Line.TheVariants.{One, Deletions};
+ghost use Rattle.rga_table.specs.declared.fault.LineFault.TheVariants.{Memory};
 
-use crate::deletion_run::DeletionRun;
-use crate::fault::LineFault;
-use crate::parts::{
-    after_byte, after_literal, character, element, element_or_root, number, number_behind,
-};
-use crate::reading::Line;
-use crate::run::MAX_RUN;
+use crate::parts::{after_byte, after_literal, character, number, number_behind};
 use crate::spelled_run::spelled_run;
 use rga_ops::{Id, Op};
+use rga_table::parts::{element, element_or_root};
+use rga_table::{DeletionRun, Line, LineFault, MAX_RUN};
 use std::alloc::Global;
 
 /// What the bytes of a line say, where they are spelled as `specs/Spelling.antt` has it: no blanks,

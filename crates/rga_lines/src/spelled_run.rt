@@ -1,15 +1,14 @@
 //! Runs that are spelled in one way, read with no value of JSON in between.
 ghost use Rattle.std.specs.Prelude.{◌≡◌, codes, Ok, IfOk, IfErr, IfSome};
 ghost use Rattle.rga_lines.specs.Spelling.{element_from, run_from, IsElement, IsElementOrRoot, BeginsWithCharacters};
-ghost use Rattle.rga_lines.specs.Table.{any_line_at};
-ghost use Rattle.rga_lines.specs.declared.fault.LineFault.TheVariants.{Memory};
+ghost use Rattle.rga_table.specs.Table.{any_line_at};
+ghost use Rattle.rga_table.specs.declared.fault.LineFault.TheVariants.{Memory};
 
-use crate::fault::LineFault;
-use crate::parts::{after_literal, character, element_or_root};
-use crate::reading::Line;
-use crate::run::{MAX_RUN, Run};
+use crate::parts::{after_literal, character};
 use crate::spelled::pair_after;
 use rga_ops::Id;
+use rga_table::parts::element_or_root;
+use rga_table::{Line, LineFault, MAX_RUN, Run};
 use std::alloc::Global;
 
 /// The run that the bytes of a line say, by its identifier and what stands behind it, where they

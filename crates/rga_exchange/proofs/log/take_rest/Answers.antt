@@ -5,7 +5,7 @@ use Rattle.rga_lines.specs.Log.{then_operations, operations_of}
 use Rattle.rga_lines.proofs.StandLemmas.{nothing_stands}
 use Rattle.std.proofs.lemmas.Result.{err_from_is_err_and}
 use Rattle.rga_ops.specs.Answer.{taken}
-use Rattle.rga_lines.specs.declared.reading.Line.TheVariants.{One, Run, Deletions}
+use Rattle.rga_lines.specs.Line.TheVariants.{One, Run, Deletions}
 use Rattle.rga_lines.proofs.ReadingLemmas.{any_run, any_deletions}
 use Rattle.rga_lines.specs.Runs.{stretch_operations, run_deletions}
 use Rattle.rga_exchange.specs.Taking.{taken_whole}

@@ -1,5 +1,5 @@
 use Rattle.std.proofs.Common.{rules, ap, ◌∙◌}
-use Rattle.rga_lines.specs.Table.{any_line_at}
+use Rattle.rga_table.specs.Table.{any_line_at}
 use Rattle.rga_lines.proofs.DeletionBack.{deletions_back}
 use Rattle.rga_lines.proofs.spelled.spelled_deletions.Goals as goal
 

@@ -1,7 +1,7 @@
 //! Runs of insertions.
 ghost use Rattle.std.specs.Prelude.{◌≡◌, IfOk, IfErr};
-ghost use Rattle.rga_lines.specs.Runs.{Stretch, stretch, stretch_code, stretch_operations, IsRun};
-ghost use Rattle.rga_lines.specs.declared.fault.LineFault.TheVariants.{Memory};
+ghost use Rattle.rga_table.specs.Runs.{Stretch, stretch, stretch_code, stretch_operations, IsRun};
+ghost use Rattle.rga_table.specs.declared.fault.LineFault.TheVariants.{Memory};
 
 use crate::fault::LineFault;
 use rga_ops::{Id, Op};
@@ -31,7 +31,7 @@ impl Model for Run {
 impl Run {
     /// The insertions that it stands for. The caller sees to it that it has 1 to `MAX_RUN`
     /// characters, that the last one's counter is in range, and that its own counter is above its
-    /// parent's; `read_any` gives no other. `Memory` is the only refusal.
+    /// parent's; `line_of` gives no other. `Memory` is the only refusal.
     pub fn ops(&self, alloc: Global) -> Result<Vec<Op>, LineFault>
         requires { IsRun self.now }
         ensures ok { IfOk result (λ ops. ops.items ≡ stretch_operations self.now) }

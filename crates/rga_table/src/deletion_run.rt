@@ -1,7 +1,7 @@
 //! Runs of deletions.
 ghost use Rattle.std.specs.Prelude.{◌≡◌, IfOk, IfErr};
-ghost use Rattle.rga_lines.specs.Runs.{run_deletions, IsDeletionRun};
-ghost use Rattle.rga_lines.specs.declared.fault.LineFault.TheVariants.{Memory};
+ghost use Rattle.rga_table.specs.Runs.{run_deletions, IsDeletionRun};
+ghost use Rattle.rga_table.specs.declared.fault.LineFault.TheVariants.{Memory};
 
 use crate::fault::LineFault;
 use rga_ops::{Id, Op};
@@ -17,7 +17,7 @@ pub struct DeletionRun {
 
 impl DeletionRun {
     /// The deletions that it stands for. The caller sees to it that these are 1 to `MAX_RUN`, of
-    /// elements whose last one's counter is in range; `read_any` gives no other. `Memory` is the
+    /// elements whose last one's counter is in range; `line_of` gives no other. `Memory` is the
     /// only refusal.
     pub fn ops(&self, alloc: Global) -> Result<Vec<Op>, LineFault>
         requires { IsDeletionRun self.now }

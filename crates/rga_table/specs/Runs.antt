@@ -6,8 +6,8 @@ use Rattle.rga_ops.specs.Identifier.{Identifier, identifier, identifier_code, is
 use Rattle.rga_ops.specs.declared.id.TheConstants.Id.{MAX_COUNTER}
 use Rattle.rga_ops.specs.declared.op.Op.{Op}
 use Rattle.rga_ops.specs.declared.op.Op.TheVariants.{Insert, Delete}
-use Rattle.rga_lines.specs.declared.run.TheConstants.{MAX_RUN}
-use Rattle.rga_lines.specs.declared.deletion_run.DeletionRun.{DeletionRun}
+use Rattle.rga_table.specs.declared.run.TheConstants.{MAX_RUN}
+use Rattle.rga_table.specs.declared.deletion_run.DeletionRun.{DeletionRun}
 
 -- what contracts see of a run: the identifier and the parent of its first character, and the characters
 pub record Stretch : Type 0 where

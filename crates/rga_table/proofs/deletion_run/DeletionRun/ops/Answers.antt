@@ -1,9 +1,9 @@
 use Rattle.std.proofs.Common.{rules, ◌≡◌, ◌+◌, ◌-◌, [], ◌∷◌, ◌++◌, sym, ap, ◌∙◌}
 use Rattle.rga_ops.specs.Identifier.{identifier}
 use Rattle.rga_ops.specs.declared.op.Op.TheVariants.{Delete}
-use Rattle.rga_lines.specs.Runs.{deletions_from}
-use Rattle.rga_lines.proofs.DeletionLemmas.{next_deletion}
-use Rattle.rga_lines.proofs.deletion_run.DeletionRun.ops.Goals as goal
+use Rattle.rga_table.specs.Runs.{deletions_from}
+use Rattle.rga_table.proofs.NextDeletion.{next_deletion}
+use Rattle.rga_table.proofs.deletion_run.DeletionRun.ops.Goals as goal
 
 pub deletions-preserved : goal.deletions-preserved
 deletions-preserved c =

@@ -1,7 +1,7 @@
 -- The names of faults of lines, as they are printed.
 use Rattle.std.specs.Prelude.{ℕ, List, codes}
-use Rattle.rga_lines.specs.declared.fault.LineFault.{LineFault}
-use Rattle.rga_lines.specs.declared.fault.LineFault.TheVariants.{Long, Json, Member, Kind, Id, Char, Order, Memory}
+use Rattle.rga_table.specs.declared.fault.LineFault.{LineFault}
+use Rattle.rga_table.specs.declared.fault.LineFault.TheVariants.{Long, Json, Member, Kind, Id, Char, Order, Memory}
 
 abbrev pub fault_name : LineFault → List ℕ
 fault_name Long = codes "Long"

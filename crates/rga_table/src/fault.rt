@@ -1,7 +1,7 @@
 //! What can be wrong with a line.
 ghost use Rattle.std.specs.Prelude.{◌≡◌};
-ghost use Rattle.rga_lines.specs.declared.fault.LineFault.TheVariants.{Memory};
-ghost use Rattle.rga_lines.specs.FaultName.{fault_name};
+ghost use Rattle.rga_table.specs.declared.fault.LineFault.TheVariants.{Memory};
+ghost use Rattle.rga_table.specs.FaultName.{fault_name};
 
 use std::alloc::AllocError;
 

@@ -1,5 +1,5 @@
 -- What a line says, or its fault: the first one of this table that holds.
-use Rattle.std.specs.Prelude.{ℕ, ◌+◌, Bool, true, false, ◌&&◌, ◌||◌, ◌==◌, nat_le, nat_lt, if◌then◌else◌, List, [], ◌∷◌, length, codes, Option, Some, None, is_some, option_map, option_and_then, Result, Ok, Err, ok_or}
+use Rattle.std.specs.Prelude.{◌≡◌, ℕ, ◌+◌, Bool, true, false, ◌&&◌, ◌||◌, ◌==◌, nat_le, nat_lt, if◌then◌else◌, List, [], ◌∷◌, length, codes, Option, Some, None, is_some, option_map, option_and_then, Result, Ok, Err, ok_or}
 use Rattle.std.specs.Str.{is_utf8, chars, bytes_eq}
 use Rattle.serde_json.specs.Data.{Data, Items, no_items, item}
 use Rattle.serde_json.specs.Events.{members_len}
@@ -9,14 +9,15 @@ use Rattle.rga_ops.specs.Identifier.{Identifier, identifier, is_root, is_in_rang
 use Rattle.rga_ops.specs.declared.id.TheConstants.Id.{MAX_COUNTER}
 use Rattle.rga_ops.specs.declared.op.Op.{Op}
 use Rattle.rga_ops.specs.declared.op.Op.TheVariants.{Insert, Delete}
-use Rattle.rga_lines.specs.declared.reading.TheConstants.{MAX_LINE, VERSION}
-use Rattle.rga_lines.specs.declared.reading.Line.{Line}
-use Rattle.rga_lines.specs.declared.reading.Line.TheVariants.{One, Run, Deletions, Head, Last}
-use Rattle.rga_lines.specs.declared.run.TheConstants.{MAX_RUN}
-use Rattle.rga_lines.specs.declared.deletion_run.DeletionRun.{DeletionRun}
-use Rattle.rga_lines.specs.Runs.{stretch, deletion_run}
-use Rattle.rga_lines.specs.declared.fault.LineFault.{LineFault}
-use Rattle.rga_lines.specs.declared.fault.LineFault.TheVariants as fault
+use Rattle.rga_table.specs.declared.line.TheConstants.{MAX_LINE}
+use Rattle.rga_table.specs.declared.reading.TheConstants.{VERSION}
+use Rattle.rga_table.specs.declared.line.Line.{Line}
+use Rattle.rga_table.specs.declared.line.Line.TheVariants.{One, Run, Deletions, Head, Last}
+use Rattle.rga_table.specs.declared.run.TheConstants.{MAX_RUN}
+use Rattle.rga_table.specs.declared.deletion_run.DeletionRun.{DeletionRun}
+use Rattle.rga_table.specs.Runs.{stretch, deletion_run}
+use Rattle.rga_table.specs.declared.fault.LineFault.{LineFault}
+use Rattle.rga_table.specs.declared.fault.LineFault.TheVariants as fault
 
 -- an operation, or what is wrong
 abbrev pub Reading : Type 0
@@ -60,6 +61,12 @@ two_numbers no_items = None
 two_numbers (item counter no_items) = None
 two_numbers (item counter (item replica no_items)) = pair (number_of counter) (number_of replica)
 two_numbers (item counter (item replica (item d ds))) = None
+
+abbrev pub IsElement : Identifier → Type 0
+IsElement id = is_in_range id.counter id.replica ≡ true
+
+abbrev pub IsElementOrRoot : Identifier → Type 0
+IsElementOrRoot id = is_root id || is_in_range id.counter id.replica ≡ true
 
 abbrev pub if_in_range : ℕ × ℕ → Option Identifier
 if_in_range p = if is_in_range p.0 p.1 then Some (identifier p.0 p.1) else None

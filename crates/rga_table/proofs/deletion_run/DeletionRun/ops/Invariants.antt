@@ -1,7 +1,7 @@
 use Rattle.std.proofs.Common.{◌≡◌, ◌++◌}
 use Rattle.rga_ops.specs.Identifier.{identifier}
-use Rattle.rga_lines.specs.Runs.{deletions_from, run_deletions}
-use Rattle.rga_lines.proofs.deletion_run.DeletionRun.ops.Given as goal
+use Rattle.rga_table.specs.Runs.{deletions_from, run_deletions}
+use Rattle.rga_table.proofs.deletion_run.DeletionRun.ops.Given as goal
 
 abbrev pub invariant-deletions : goal.invariant-deletions
 invariant-deletions l = l.ops.items ++ deletions_from (identifier l.counter l.replica) l.left ≡ run_deletions l.fn.self

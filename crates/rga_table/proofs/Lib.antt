@@ -1,0 +1,2 @@
+mod ValueLemmas
+mod NextDeletion
