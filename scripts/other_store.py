@@ -16,7 +16,7 @@ import sys
 import tempfile
 
 TOP = pathlib.Path(__file__).resolve().parent.parent
-TESTS = ("rga_doc_test", "rga_world_test", "mg_buffer_test")
+TESTS = ("mg_buffer_test",)
 LEFT_OUT = shutil.ignore_patterns("out", "must-fail", "wrong", "proofs")
 
 

@@ -7,12 +7,12 @@
 //! sixty lines in each; `make` only makes it. `kill-all` marks the whole text and kills it,
 //! `undo-all` undoes that too; `take` has the buffer take an operation of another replica, and
 //! `store` its store alone. The number is how many identifiers are known in the end.
-use crate::fault::Fault;
-use crate::text::{document, named, number_at, paragraph};
+use crate::command_kind::{CommandKind, command_of};
+use crate::fault::{Fault, REFUSED, WORDS};
+use crate::text::{Task, document, paragraph, task_of};
 use mg_buffer::{Buffer, BufferFault, Memo};
 use mg_plain::{Chars, Command};
 use rga_doc::Doc;
-use rga_flat::FlatStore;
 use rga_ops::{Id, Op, Refusal};
 use rga_store::{Taker, TextStore};
 use std::alloc::Global;
@@ -22,6 +22,15 @@ const FILL: u16 = 70;
 
 /// So many lines are killed in each buffer.
 const KILLS: usize = 60;
+
+#[derive(Clone, Copy)]
+enum Step {
+    Run(CommandKind),
+    /// The text is listed, and the view looked at.
+    Look,
+    Undo,
+    Idle,
+}
 
 /// What is done again and again.
 #[derive(Clone, Copy)]
@@ -39,14 +48,6 @@ enum Work {
     Store,
 }
 
-#[derive(Clone, Copy)]
-struct Task {
-    work: Work,
-    /// How many characters the text has.
-    size: usize,
-    times: usize,
-}
-
 /// The names of work.
 const WORKS: [(&str, Work); 11] = [
     ("insert", Work::Insert),
@@ -62,127 +63,172 @@ const WORKS: [(&str, Work); 11] = [
     ("store", Work::Store),
 ];
 
-pub fn outcome(alloc: Global, words: &[String]) -> Result<usize, Fault> {
-    let Some(work) = named(words, &WORKS) else {
-        return Err(Fault::Words);
-    };
-    let task = Task {
-        work,
-        size: number_at(words, 3)?,
-        times: number_at(words, 4)?,
-    };
-    Ok(done_all(alloc, &task)?)
+/// What is done once; of what is done otherwise, nothing.
+fn steps_of(work: Work) -> &'static [Step] {
+    match work {
+        Work::Insert => INSERT,
+        Work::Motion => MOTION,
+        Work::KillLine => KILL_LINE,
+        Work::Kill | Work::Make => KILL,
+        Work::UndoLine => UNDO_LINE,
+        Work::UndoInsert => UNDO_INSERT,
+        Work::KillAll => KILL_ALL,
+        Work::UndoAll => UNDO_ALL,
+        Work::Take | Work::Store => &[],
+    }
 }
 
-fn done_all(alloc: Global, task: &Task) -> Result<usize, BufferFault> {
+const INSERT: &[Step] = &[Step::Run(CommandKind::Insert), Step::Look];
+
+const MOTION: &[Step] = &[
+    Step::Run(CommandKind::ForwardChar),
+    Step::Look,
+    Step::Run(CommandKind::BackwardChar),
+    Step::Look,
+];
+
+const KILL_LINE: &[Step] = &[
+    Step::Run(CommandKind::KillLine),
+    Step::Look,
+    Step::Run(CommandKind::Yank),
+    Step::Look,
+    Step::Run(CommandKind::BeginningOfLine),
+    Step::Look,
+];
+
+/// A line killed in front, and the motion to the next.
+const KILL: &[Step] = &[
+    Step::Run(CommandKind::KillLine),
+    Step::Look,
+    Step::Run(CommandKind::NextLine),
+    Step::Look,
+];
+
+const UNDO_LINE: &[Step] = &[
+    Step::Run(CommandKind::KillLine),
+    Step::Look,
+    Step::Undo,
+    Step::Look,
+    Step::Idle,
+];
+
+const UNDO_INSERT: &[Step] = &[
+    Step::Run(CommandKind::Insert),
+    Step::Look,
+    Step::Undo,
+    Step::Look,
+    Step::Idle,
+];
+
+const KILL_ALL: &[Step] = &[
+    Step::Run(CommandKind::MarkWholeBuffer),
+    Step::Run(CommandKind::KillRegion),
+];
+
+const UNDO_ALL: &[Step] = &[
+    Step::Run(CommandKind::MarkWholeBuffer),
+    Step::Run(CommandKind::KillRegion),
+    Step::Undo,
+];
+
+pub fn outcome<S: TextStore>(alloc: Global, words: &[String]) -> Result<usize, Fault> {
+    let Some(task) = task_of(words, &WORKS) else {
+        return Err(WORDS);
+    };
+    done_all::<S>(alloc, &task).ok().ok_or(REFUSED)
+}
+
+fn done_all<S: TextStore>(alloc: Global, task: &Task<Work>) -> Result<usize, BufferFault> {
     match task.work {
-        Work::Kill | Work::Make => made_again(alloc, task),
-        Work::Store => taken_again(alloc, task),
-        _ => done(alloc, task),
+        Work::Kill => made_again::<S>(alloc, task, KILLS),
+        Work::Make => made_again::<S>(alloc, task, 0),
+        Work::Store => taken_again::<S>(alloc, task),
+        _ => done::<S>(alloc, task, task.size / 2),
     }
 }
 
-/// A document of so many characters.
-fn document_of(alloc: Global, size: usize) -> Result<Doc<FlatStore>, Refusal> {
-    document(alloc, &paragraph(alloc, size)?)
-}
-
-/// A buffer of so many characters.
-fn buffer_of(alloc: Global, size: usize) -> Result<Buffer<FlatStore>, BufferFault> {
-    match document_of(alloc, size) {
-        Ok(doc) => Ok(Buffer::new(alloc, doc, String::new(alloc), Vec::new(alloc))),
-        Err(refusal) => Err(BufferFault::Store(refusal)),
-    }
-}
-
-/// Does the work so many times, each in a buffer of its own.
-fn made_again(alloc: Global, task: &Task) -> Result<usize, BufferFault> {
+/// Kills so many lines in so many buffers.
+fn made_again<S: TextStore>(
+    alloc: Global,
+    task: &Task<Work>,
+    kills: usize,
+) -> Result<usize, BufferFault> {
     let mut known = 0;
     for _ in 0..task.times {
-        match done(alloc, task) {
-            Ok(count) => known = count,
-            Err(fault) => return Err(fault),
-        }
+        let times = kills;
+        known = done::<S>(alloc, &Task { times, ..*task }, 0)?;
     }
     Ok(known)
 }
 
-/// Makes a buffer, and does the work in it.
-fn done(alloc: Global, task: &Task) -> Result<usize, BufferFault> {
-    match buffer_of(alloc, task.size) {
-        Ok(mut buffer) => done_in(alloc, &mut buffer, task),
-        Err(fault) => Err(fault),
-    }
+/// A buffer of so many characters.
+fn buffer_of<S: TextStore>(alloc: Global, size: usize) -> Result<Buffer<S>, BufferFault> {
+    let doc = document_of(alloc, size)?;
+    Ok(Buffer::new(alloc, doc, String::new(alloc), Vec::new(alloc)))
 }
 
-fn done_in(
-    alloc: Global,
-    buffer: &mut Buffer<FlatStore>,
-    task: &Task,
-) -> Result<usize, BufferFault> {
-    let mut memo = Memo::new(alloc);
-    match task.work {
-        Work::Kill => kill_lines(buffer, &mut memo, KILLS),
-        Work::Make => kill_lines(buffer, &mut memo, 0),
-        _ => do_again(alloc, buffer, &mut memo, task),
-    }
-}
-
-fn kill_lines(
-    buffer: &mut Buffer<FlatStore>,
-    memo: &mut Memo,
-    kills: usize,
-) -> Result<usize, BufferFault> {
-    buffer.list()?;
-    for _ in 0..kills {
-        run(buffer, memo, &Command::KillLine)?;
-        run(buffer, memo, &Command::NextLine)?;
-    }
-    Ok(buffer.store().known())
+/// A document of so many characters.
+fn document_of<S: TextStore>(alloc: Global, size: usize) -> Result<Doc<S>, Refusal> {
+    document(alloc, &paragraph(alloc, size)?)
 }
 
 /// Has a store of so many characters take so many insertions.
-fn taken_again(alloc: Global, task: &Task) -> Result<usize, BufferFault> {
-    match store_of(alloc, task.size) {
-        Ok(mut store) => taken(&mut store, task.times),
-        Err(refusal) => Err(BufferFault::Store(refusal)),
-    }
+fn taken_again<S: TextStore>(alloc: Global, task: &Task<Work>) -> Result<usize, BufferFault> {
+    let mut store = store_of::<S>(alloc, task.size)?;
+    take(&mut store, task.times)?;
+    Ok(store.known())
 }
 
-fn store_of(alloc: Global, size: usize) -> Result<FlatStore, Refusal> {
-    match document_of(alloc, size) {
+fn store_of<S: TextStore>(alloc: Global, size: usize) -> Result<S, Refusal> {
+    match document_of::<S>(alloc, size) {
         Ok(doc) => doc.store().copy(),
         Err(refusal) => Err(refusal),
     }
 }
 
-fn taken(store: &mut FlatStore, times: usize) -> Result<usize, BufferFault> {
-    take(store, times)?;
-    Ok(store.known())
+/// Makes a buffer, and does the work in it with point at a place.
+fn done<S: TextStore>(
+    alloc: Global,
+    task: &Task<Work>,
+    start: usize,
+) -> Result<usize, BufferFault> {
+    let mut buffer = buffer_of::<S>(alloc, task.size)?;
+    do_again(alloc, &mut buffer, task, start)
 }
 
-/// Does the work in a buffer again and again, with point in the middle.
-fn do_again(
+/// Does the work in a buffer again and again, from point at a place on.
+fn do_again<S: TextStore>(
     alloc: Global,
-    buffer: &mut Buffer<FlatStore>,
-    memo: &mut Memo,
-    task: &Task,
+    buffer: &mut Buffer<S>,
+    task: &Task<Work>,
+    start: usize,
 ) -> Result<usize, BufferFault> {
-    go_to(alloc, buffer, memo, task.size / 2)?;
-    if let Work::Take = task.work {
-        take(buffer, task.times)?;
-    } else {
-        for _ in 0..task.times {
-            do_once(task.work, buffer, memo)?;
-        }
-    }
+    let mut memo = Memo::new(alloc);
+    go_to(alloc, buffer, &mut memo, start)?;
+    do_work(alloc, buffer, &mut memo, task)?;
     Ok(buffer.store().known())
 }
 
-/// Point goes to a place: there an empty pattern is found.
-fn go_to(
+fn do_work<S: TextStore>(
     alloc: Global,
-    buffer: &mut Buffer<FlatStore>,
+    buffer: &mut Buffer<S>,
+    memo: &mut Memo,
+    task: &Task<Work>,
+) -> Result<(), BufferFault> {
+    if let Work::Take = task.work {
+        return Ok(take(buffer, task.times)?);
+    }
+    let steps = steps_of(task.work);
+    for _ in 0..task.times {
+        do_each(alloc, buffer, memo, steps)?;
+    }
+    Ok(())
+}
+
+/// Point goes to a place: there an empty pattern is found.
+fn go_to<S: TextStore>(
+    alloc: Global,
+    buffer: &mut Buffer<S>,
     memo: &mut Memo,
     start: usize,
 ) -> Result<(), BufferFault> {
@@ -190,60 +236,51 @@ fn go_to(
     buffer.run(&Command::SearchForward { pattern, start }, 1, memo, FILL)
 }
 
-fn do_once(work: Work, buffer: &mut Buffer<FlatStore>, memo: &mut Memo) -> Result<(), BufferFault> {
+fn do_each<S: TextStore>(
+    alloc: Global,
+    buffer: &mut Buffer<S>,
+    memo: &mut Memo,
+    steps: &[Step],
+) -> Result<(), BufferFault> {
     buffer.list()?;
-    match work {
-        Work::Insert => run(buffer, memo, &Command::Insert('a')),
-        Work::Motion => {
-            run(buffer, memo, &Command::ForwardChar)?;
-            run(buffer, memo, &Command::BackwardChar)
+    for step in steps {
+        go(alloc, buffer, memo, *step)?;
+    }
+    Ok(())
+}
+
+fn go<S: TextStore>(
+    alloc: Global,
+    buffer: &mut Buffer<S>,
+    memo: &mut Memo,
+    step: Step,
+) -> Result<(), BufferFault> {
+    match step {
+        Step::Run(kind) => run(alloc, buffer, memo, kind),
+        Step::Undo => buffer.undo(memo),
+        Step::Look => look(buffer, memo),
+        Step::Idle => {
+            buffer.idle(memo);
+            Ok(())
         }
-        Work::KillLine => {
-            run(buffer, memo, &Command::KillLine)?;
-            run(buffer, memo, &Command::Yank)?;
-            run(buffer, memo, &Command::BeginningOfLine)
-        }
-        Work::UndoLine => run_and_undo(buffer, memo, &Command::KillLine),
-        Work::UndoInsert => run_and_undo(buffer, memo, &Command::Insert('a')),
-        Work::KillAll => kill_all(buffer, memo),
-        Work::UndoAll => {
-            kill_all(buffer, memo)?;
-            buffer.undo(memo)
-        }
-        Work::Take | Work::Store | Work::Kill | Work::Make => Ok(()),
     }
 }
 
-/// Runs a command, and looks at the view.
-fn run(
-    buffer: &mut Buffer<FlatStore>,
+fn run<S: TextStore>(
+    alloc: Global,
+    buffer: &mut Buffer<S>,
     memo: &mut Memo,
-    command: &Command,
+    kind: CommandKind,
 ) -> Result<(), BufferFault> {
-    buffer.run(command, 1, memo, FILL)?;
-    buffer.list()?;
-    let _view = buffer.view(memo);
-    Ok(())
+    match command_of(alloc, kind) {
+        Ok(command) => buffer.run(&command, 1, memo, FILL),
+        Err(_) => Err(BufferFault::Store(Refusal::Memory)),
+    }
 }
 
-/// Runs a command and undoes it, and looks at the view behind each.
-fn run_and_undo(
-    buffer: &mut Buffer<FlatStore>,
-    memo: &mut Memo,
-    command: &Command,
-) -> Result<(), BufferFault> {
-    run(buffer, memo, command)?;
-    buffer.undo(memo)?;
+fn look<S: TextStore>(buffer: &mut Buffer<S>, memo: &Memo) -> Result<(), BufferFault> {
     buffer.list()?;
     let _view = buffer.view(memo);
-    buffer.idle(memo);
-    Ok(())
-}
-
-fn kill_all(buffer: &mut Buffer<FlatStore>, memo: &mut Memo) -> Result<(), BufferFault> {
-    buffer.list()?;
-    buffer.run(&Command::MarkWholeBuffer, 1, memo, FILL)?;
-    buffer.run(&Command::KillRegion, 1, memo, FILL)?;
     Ok(())
 }
 

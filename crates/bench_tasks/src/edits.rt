@@ -5,15 +5,12 @@
 //! for the text; `remote` does so behind an insertion of another replica; `change` makes a thousand
 //! changes in one edit; `revert` deletes all of the text and reverts that. The number is how many
 //! elements there are in the end.
-use crate::fault::Fault;
-use crate::text::{document, named, number_at};
+use crate::fault::{Fault, REFUSED, WORDS};
+use crate::text::{Task, document, task_of};
 use rga_doc::{Doc, Splice};
-use rga_flat::FlatStore;
 use rga_ops::{Id, Op, Refusal};
 use rga_store::{Taker, TextStore};
 use std::alloc::Global;
-
-type Document = Doc<FlatStore>;
 
 /// How many changes an edit of many makes.
 const CHANGES: usize = 1000;
@@ -37,31 +34,32 @@ const WORKS: [(&str, Work); 5] = [
     ("revert", Work::Revert),
 ];
 
-pub fn outcome(alloc: Global, words: &[String]) -> Result<usize, Fault> {
-    let Some(work) = named(words, &WORKS) else {
-        return Err(Fault::Words);
+pub fn outcome<S: TextStore>(alloc: Global, words: &[String]) -> Result<usize, Fault> {
+    let Some(task) = task_of(words, &WORKS) else {
+        return Err(WORDS);
     };
-    let (size, times) = (number_at(words, 3)?, number_at(words, 4)?);
-    Ok(done_again(alloc, work, size, times)?)
+    done::<S>(alloc, &task).ok().ok_or(REFUSED)
 }
 
 /// Makes a document, and does the work with it again and again.
-fn done_again(alloc: Global, work: Work, size: usize, times: usize) -> Result<usize, Refusal> {
-    match document_of(alloc, size) {
-        Ok(mut doc) => do_again(alloc, &mut doc, work, times),
-        Err(refusal) => Err(refusal),
-    }
+fn done<S: TextStore>(alloc: Global, task: &Task<Work>) -> Result<usize, Refusal> {
+    let mut doc = document_of::<S>(alloc, task.size)?;
+    do_again(alloc, &mut doc, task)
 }
 
-fn do_again(alloc: Global, doc: &mut Document, work: Work, times: usize) -> Result<usize, Refusal> {
+fn do_again<S: TextStore>(
+    alloc: Global,
+    doc: &mut Doc<S>,
+    task: &Task<Work>,
+) -> Result<usize, Refusal> {
     doc.list()?;
-    for _ in 0..times {
-        do_once(alloc, doc, work)?;
+    for _ in 0..task.times {
+        do_once(alloc, doc, task.work)?;
     }
     Ok(doc.store().known())
 }
 
-fn do_once(alloc: Global, doc: &mut Document, work: Work) -> Result<(), Refusal> {
+fn do_once<S: TextStore>(alloc: Global, doc: &mut Doc<S>, work: Work) -> Result<(), Refusal> {
     match work {
         Work::Order => {
             let _order = doc.store().order()?;
@@ -78,17 +76,20 @@ fn do_once(alloc: Global, doc: &mut Document, work: Work) -> Result<(), Refusal>
 }
 
 /// A document of so many characters.
-fn document_of(alloc: Global, size: usize) -> Result<Document, Refusal> {
-    let mut chars = Vec::new(alloc);
-    chars.resize(size, 'a')?;
-    document(alloc, &chars)
+fn document_of<S: TextStore>(alloc: Global, size: usize) -> Result<Doc<S>, Refusal> {
+    document(alloc, &vec![in alloc; 'a'; size]?)
 }
 
 /// Puts a letter in the middle, and asks for the anchor behind it and for the text.
-fn type_letter(doc: &mut Document) -> Result<(), Refusal> {
+fn type_letter<S: TextStore>(doc: &mut Doc<S>) -> Result<(), Refusal> {
     doc.list()?;
     let middle = doc.characters().len() / 2;
     let _ops = doc.splice(middle, middle, &['b'])?;
+    look(doc)
+}
+
+/// Asks for the text, and for the anchor of its middle.
+fn look<S: TextStore>(doc: &mut Doc<S>) -> Result<(), Refusal> {
     doc.list()?;
     let place = doc.characters().len() / 2;
     let _anchor = doc.anchor_within(place);
@@ -96,19 +97,18 @@ fn type_letter(doc: &mut Document) -> Result<(), Refusal> {
 }
 
 /// Takes an insertion of another replica, at the front.
-fn insert_remotely(doc: &mut Document) -> Result<(), Refusal> {
+fn insert_remotely<S: TextStore>(doc: &mut Doc<S>) -> Result<(), Refusal> {
     let id = Id::new(doc.store().clock().saturating_add(1), 2)?;
-    let op = Op::Insert {
+    let _taken = doc.apply(Op::Insert {
         id,
         parent: Id::ROOT,
         ch: 'c',
-    };
-    let _taken = doc.apply(op)?;
+    })?;
     Ok(())
 }
 
 /// Puts another letter in the place of one, at many places in one edit.
-fn change(alloc: Global, doc: &mut Document) -> Result<(), Refusal> {
+fn change<S: TextStore>(alloc: Global, doc: &mut Doc<S>) -> Result<(), Refusal> {
     doc.list()?;
     let splices = changes(alloc, doc.characters().len() / CHANGES)?;
     let _ops = doc.splices(&splices)?;
@@ -126,34 +126,32 @@ fn changes(alloc: Global, apart: usize) -> Result<Vec<Splice>, Refusal> {
 
 /// Another letter in the place of the one there.
 fn change_at(alloc: Global, lo: usize) -> Result<Splice, Refusal> {
-    let mut put = Vec::new(alloc);
-    put.push('c')?;
     Ok(Splice {
         lo,
         hi: lo.saturating_add(1),
-        put,
+        put: vec![in alloc; 'c']?,
     })
 }
 
 /// Deletes all of the text, and reverts that.
-fn revert(alloc: Global, doc: &mut Document) -> Result<(), Refusal> {
+fn revert<S: TextStore>(alloc: Global, doc: &mut Doc<S>) -> Result<(), Refusal> {
     let back = deleted(alloc, doc)?;
     let _ops = doc.revert(&[], &back)?;
     doc.list()
 }
 
 /// Deletes all of the text. What was deleted.
-fn deleted(alloc: Global, doc: &mut Document) -> Result<Vec<(Id, char)>, Refusal> {
-    let text = doc.text()?;
-    let deletions = doc.splice(0, text.as_slice().len(), &[])?;
-    pairs(alloc, &deletions, &text)
+fn deleted<S: TextStore>(alloc: Global, doc: &mut Doc<S>) -> Result<Vec<(Id, char)>, Refusal> {
+    doc.list()?;
+    let size = doc.characters().len();
+    pairs(alloc, &doc.splice(0, size, &[])?)
 }
 
-/// The identifiers of the operations, each with its character.
-fn pairs(alloc: Global, ops: &[Op], text: &[char]) -> Result<Vec<(Id, char)>, Refusal> {
-    let mut pairs = Vec::with_capacity(alloc, text.len())?;
-    for (op, ch) in ops.iter().zip(text) {
-        pairs.push((op.id(), *ch))?;
+/// The identifiers of the operations, each with the character of such a text.
+fn pairs(alloc: Global, ops: &[Op]) -> Result<Vec<(Id, char)>, Refusal> {
+    let mut pairs = Vec::with_capacity(alloc, ops.len())?;
+    for op in ops {
+        pairs.push((op.id(), 'a'))?;
     }
     Ok(pairs)
 }

@@ -4,12 +4,12 @@
 //! end: `first-line` places the window, `frame` makes the rows, `cursor` finds the cursor,
 //! `all` does the three, and `split` splits a window and takes one away again. The number is a sum
 //! over what comes of it.
-ghost use Rattle.std.specs.Prelude.{◌≡◌, ◌≤◌, length, IfOk};
+ghost use Rattle.std.specs.Prelude.{◌≡◌, length, IfOk};
 ghost use Rattle.mg_screen.specs.Frame.{screen_rows};
 ghost use Rattle.mg_screen.specs.Lines as spec;
 
-use crate::fault::Fault;
-use crate::text::{lines, named, number_at};
+use crate::fault::{FRAME, Fault, MEMORY, WINDOWS, WORDS};
+use crate::text::{Task, number_at, task_of};
 use mg_buffer::line_of;
 use mg_screen::{FrameFault, Pane, Screen, WindowFault, Windows, cursor, first_line, frame};
 use std::alloc::{AllocError, Global};
@@ -39,62 +39,68 @@ const WORKS: [(&str, Work); 5] = [
 ];
 
 pub fn outcome(alloc: Global, words: &[String]) -> Result<usize, Fault> {
-    let Some(work) = named(words, &WORKS) else {
-        return Err(Fault::Words);
+    let (Some(task), Some(line)) = (task_of(words, &WORKS), number_at(words, 3)) else {
+        return Err(WORDS);
     };
-    let (line, size) = (number_at(words, 3)?, number_at(words, 4)?);
-    let times = number_at(words, 5)?;
-    match work {
-        Work::Split => Ok(splits(alloc, times)?),
-        _ => Ok(shown_of(alloc, work, line, size, times)?),
+    match task.work {
+        Work::Split => splits(alloc, task.times).ok().ok_or(WINDOWS),
+        _ => shown_of(alloc, line, &task),
     }
 }
 
-/// The work on a text of so many characters in lines of so many letters.
-fn shown_of(
-    alloc: Global,
-    work: Work,
-    line: usize,
-    size: usize,
-    times: usize,
-) -> Result<usize, FrameFault> {
-    let text = lines(alloc, line, size)?;
-    shown(alloc, work, text.as_slice(), times)
+/// The work on a text in lines of so many letters.
+fn shown_of(alloc: Global, line: usize, task: &Task<Work>) -> Result<usize, Fault> {
+    match lines(alloc, line, task.size) {
+        Ok(text) => shown(alloc, &text, task).ok().ok_or(FRAME),
+        Err(_) => Err(MEMORY),
+    }
 }
 
-fn shown(alloc: Global, work: Work, text: &[char], times: usize) -> Result<usize, FrameFault> {
-    let point = text.len();
-    let line = line_of(text, point);
+/// So many characters, in lines of so many letters.
+fn lines(alloc: Global, line: usize, size: usize) -> Result<Vec<char>, AllocError> {
+    let mut text = Vec::new(alloc);
+    let mut column = 0;
+    for _ in 0..size {
+        if column < line {
+            text.push('a')?;
+            column += 1;
+        } else {
+            text.push('\n')?;
+            column = 0;
+        }
+    }
+    Ok(text)
+}
+
+fn shown(alloc: Global, text: &[char], task: &Task<Work>) -> Result<usize, FrameFault> {
+    let line = line_of(text, text.len());
     let first = first_line(line, 0, HEIGHT);
     let mut sum: usize = 0;
-    for i in 0..times {
+    for i in 0..task.times {
         let old = first.saturating_sub(i % 8);
-        sum = sum.wrapping_add(work_at(alloc, work, text, point, line, old)?);
+        sum = sum.wrapping_add(work_at(alloc, task.work, text, line, old)?);
     }
     Ok(sum)
 }
 
-/// The work with point at one place. The window begins at the line `old`, or where it is placed.
+/// The work with point at the end. The window begins at the line `old`, or where it is placed.
 fn work_at(
     alloc: Global,
     work: Work,
     text: &[char],
-    point: usize,
     line: usize,
     old: usize,
 ) -> Result<usize, FrameFault>
-    requires within { point ≤ length text.now }
-    requires line { line ≡ spec.line_index text.now point }
+    requires { line ≡ spec.line_index text.now (length text.now) }
 {
     let first = match work {
         Work::FirstLine | Work::All => first_line(line, old, HEIGHT),
         _ => old,
     };
-    if let Work::FirstLine = work {
-        return Ok(first);
+    match work {
+        Work::FirstLine => Ok(first),
+        _ => Ok(first.wrapping_add(look(alloc, work, &screen_over(alloc, text, line, first)?)?)),
     }
-    let screen = screen_over(alloc, text, point, line, first)?;
-    Ok(first.wrapping_add(look(alloc, work, &screen)?))
 }
 
 /// A sum over the rows, the place of the cursor, or both.
@@ -129,21 +135,19 @@ fn cursor_sum(screen: &Screen<'_>) -> usize
     }
 }
 
-/// A screen of one window.
+/// A screen of one window, with point at the end of the text.
 fn screen_over<'a>(
     alloc: Global,
     text: &'a [char],
-    point: usize,
     line: usize,
     first: usize,
 ) -> Result<Screen<'a>, FrameFault>
-    requires within { point ≤ length text.now }
-    requires line { line ≡ spec.line_index text.now point }
+    requires { line ≡ spec.line_index text.now (length text.now) }
     ensures { IfOk result (λ s. screen_rows s ≡ 24) }
 {
     let pane = Pane {
         text,
-        point,
+        point: text.len(),
         line,
         first,
         height: HEIGHT,
@@ -164,11 +168,23 @@ fn splits(alloc: Global, times: usize) -> Result<usize, WindowFault> {
     let mut windows = Windows::new(alloc, ROWS, 'a')?;
     let mut sum: usize = 0;
     for _ in 0..times {
-        windows.split()?;
-        for height in windows.heights() {
-            sum = sum.wrapping_add(*height);
-        }
-        windows.remove()?;
+        sum = sum.wrapping_add(split(&mut windows)?);
     }
     Ok(sum)
+}
+
+fn split(windows: &mut Windows<char>) -> Result<usize, WindowFault> {
+    windows.split()?;
+    let sum = heights(windows);
+    windows.remove()?;
+    Ok(sum)
+}
+
+/// How high the windows are together.
+fn heights(windows: &Windows<char>) -> usize {
+    let mut sum: usize = 0;
+    for height in windows.heights() {
+        sum = sum.wrapping_add(*height);
+    }
+    sum
 }

@@ -5,11 +5,11 @@
 //! takes a log from standard input into a store, and `receive` an exchange. The number is what was
 //! counted. `write` reads a log as `read` does, and writes the operations that its store lists so
 //! many times to standard output, as a log; `send` sends the store so many times.
-use crate::fault::Fault;
-use crate::text::number_at;
+use crate::fault::{Fault, NOT_READ, NOT_WRITTEN, READ, REFUSED, WORDS};
+use crate::text::{named, number_at};
 use rga_devices::{Counted, MAX_CALLS};
 use rga_exchange::{append_log, read_log, receive, send};
-use rga_flat::FlatStore;
+use rga_ops::Op;
 use rga_store::{MAX_LIMIT, TextStore};
 use std::alloc::Global;
 use std::io::{Read, Write, writer};
@@ -17,35 +17,78 @@ use std::io::{Read, Write, writer};
 /// The most bytes that are asked for at once.
 const BLOCK: usize = 65536;
 
+#[derive(Clone, Copy)]
+enum Work {
+    Bytes,
+    Read,
+    Receive,
+    Write,
+    Send,
+}
+
+/// The names of work.
+const WORKS: [(&str, Work); 5] = [
+    ("bytes", Work::Bytes),
+    ("read", Work::Read),
+    ("receive", Work::Receive),
+    ("write", Work::Write),
+    ("send", Work::Send),
+];
+
 /// What was counted, where the task writes nothing.
-pub fn outcome(rt: &HostRuntime, words: &[String]) -> Result<Option<u64>, Fault> {
-    let Some(work) = words.get(2) else {
-        return Err(Fault::Words);
+pub fn outcome<S: TextStore>(rt: &HostRuntime, words: &[String]) -> Result<Option<u64>, Fault> {
+    let Some(work) = named(words, &WORKS) else {
+        return Err(WORDS);
     };
-    match work.as_str() {
-        "write" => written(rt, false, number_at(words, 3)?),
-        "send" => written(rt, true, number_at(words, 3)?),
-        work => Ok(Some(counted(rt, work)?)),
+    match work {
+        Work::Write | Work::Send => match number_at(words, 3) {
+            Some(times) => written::<S>(rt, work, times),
+            None => Err(WORDS),
+        },
+        _ => counted::<S>(rt, work),
     }
+}
+
+fn counted<S: TextStore>(rt: &HostRuntime, work: Work) -> Result<Option<u64>, Fault> {
+    let mut reader = Counted::new(rt.reader());
+    let count = match work {
+        Work::Bytes => bytes(&mut reader),
+        _ => taken::<S, _>(rt.alloc(), work, &mut reader),
+    };
+    count.map(Some)
 }
 
 /// Writes or sends so many times, and counts nothing.
-fn written(rt: &HostRuntime, sends: bool, times: usize) -> Result<Option<u64>, Fault> {
+fn written<S: TextStore>(rt: &HostRuntime, work: Work, times: usize) -> Result<Option<u64>, Fault> {
     let mut reader = Counted::new(rt.reader());
     let mut writer = Counted::new(writer(rt));
-    match write_again(rt.alloc(), sends, times, &mut reader, &mut writer) {
-        Ok(()) => Ok(None),
-        Err(fault) => Err(fault),
-    }
+    put::<S, _, _>(rt.alloc(), work, times, &mut reader, &mut writer)
 }
 
-fn counted(rt: &HostRuntime, work: &str) -> Result<u64, Fault> {
-    let mut reader = Counted::new(rt.reader());
-    match work {
-        "bytes" => bytes(&mut reader),
-        "read" => known(rt.alloc(), &mut reader),
-        "receive" => received(rt.alloc(), &mut reader),
-        _ => Err(Fault::Words),
+/// How many operations an exchange has, or how many of a log differ.
+fn taken<S: TextStore, R: Read>(
+    alloc: Global,
+    work: Work,
+    reader: &mut Counted<R>,
+) -> Result<u64, Fault> {
+    let Ok(mut store) = S::new(alloc, MAX_LIMIT) else {
+        return Err(REFUSED);
+    };
+    take(alloc, &mut store, work, reader)
+}
+
+fn take<S: TextStore, R: Read>(
+    alloc: Global,
+    store: &mut S,
+    work: Work,
+    reader: &mut Counted<R>,
+) -> Result<u64, Fault> {
+    if let Work::Receive = work {
+        return receive(alloc, store, reader).ok().ok_or(NOT_READ);
+    }
+    match read_log(alloc, store, reader) {
+        Ok(_) => Ok(store.known() as u64),
+        Err(_) => Err(NOT_READ),
     }
 }
 
@@ -57,102 +100,71 @@ fn bytes<R: Read>(reader: &mut Counted<R>) -> Result<u64, Fault> {
         match reader.read(&mut block) {
             Ok(0) => break,
             Ok(count) => total = total.saturating_add(count as u64),
-            Err(_) => return Err(Fault::Read),
+            Err(_) => return Err(READ),
         }
     }
     Ok(total)
 }
 
-/// How many operations the log has that differ.
-fn known<R: Read>(alloc: Global, reader: &mut Counted<R>) -> Result<u64, Fault> {
-    match store_of(alloc, reader) {
-        Ok(store) => Ok(store.known() as u64),
-        Err(fault) => Err(fault),
-    }
-}
-
-/// The store of a log.
-fn store_of<R: Read>(alloc: Global, reader: &mut Counted<R>) -> Result<FlatStore, Fault> {
-    let mut store = FlatStore::new(alloc, MAX_LIMIT)?;
-    read(alloc, &mut store, reader)?;
-    Ok(store)
-}
-
-fn read<R: Read>(
+/// Writes or sends the store of a log so many times.
+fn put<S: TextStore, R: Read, W: Write>(
     alloc: Global,
-    store: &mut FlatStore,
-    reader: &mut Counted<R>,
-) -> Result<(), Fault> {
-    let _end = read_log(alloc, store, reader)?;
-    Ok(())
-}
-
-/// How many operations the exchange has.
-fn received<R: Read>(alloc: Global, reader: &mut Counted<R>) -> Result<u64, Fault> {
-    match FlatStore::new(alloc, MAX_LIMIT) {
-        Ok(mut store) => received_by(alloc, &mut store, reader),
-        Err(refusal) => Err(Fault::Refused(refusal)),
-    }
-}
-
-fn received_by<R: Read>(
-    alloc: Global,
-    store: &mut FlatStore,
-    reader: &mut Counted<R>,
-) -> Result<u64, Fault> {
-    Ok(receive(alloc, store, reader)?)
-}
-
-/// Sends or writes the store of a log so many times.
-fn write_again<R: Read, W: Write>(
-    alloc: Global,
-    sends: bool,
+    work: Work,
     times: usize,
     reader: &mut Counted<R>,
     writer: &mut Counted<W>,
-) -> Result<(), Fault> {
-    match store_of(alloc, reader) {
-        Ok(store) => put_again(alloc, sends, times, &store, writer),
-        Err(fault) => Err(fault),
+) -> Result<Option<u64>, Fault> {
+    let Ok(mut store) = S::new(alloc, MAX_LIMIT) else {
+        return Err(REFUSED);
+    };
+    if read_log(alloc, &mut store, reader).is_err() {
+        return Err(NOT_READ);
+    }
+    put_again(alloc, &store, work, times, writer)
+}
+
+fn put_again<S: TextStore, W: Write>(
+    alloc: Global,
+    store: &S,
+    work: Work,
+    times: usize,
+    writer: &mut Counted<W>,
+) -> Result<Option<u64>, Fault> {
+    if let Work::Send = work {
+        return send_again(alloc, store, times, writer);
+    }
+    match store.ops() {
+        Ok(ops) => write_again(alloc, &ops, times, writer),
+        Err(_) => Err(REFUSED),
     }
 }
 
-fn put_again<W: Write>(
+/// Writes the operations so many times.
+fn write_again<W: Write>(
     alloc: Global,
-    sends: bool,
-    times: usize,
-    store: &FlatStore,
-    writer: &mut Counted<W>,
-) -> Result<(), Fault> {
-    if sends {
-        return send_store(alloc, store, times, writer);
-    }
-    write(alloc, store, times, writer)
-}
-
-/// Writes the operations of the store so many times.
-fn write<W: Write>(
-    alloc: Global,
-    store: &FlatStore,
+    ops: &[Op],
     times: usize,
     writer: &mut Counted<W>,
-) -> Result<(), Fault> {
-    let ops = store.ops()?;
+) -> Result<Option<u64>, Fault> {
     for _ in 0..times {
-        let _count = append_log(alloc, &ops, writer)?;
+        if append_log(alloc, ops, writer).is_err() {
+            return Err(NOT_WRITTEN);
+        }
     }
-    Ok(())
+    Ok(None)
 }
 
 /// Sends the store so many times.
-fn send_store<W: Write>(
+fn send_again<S: TextStore, W: Write>(
     alloc: Global,
-    store: &FlatStore,
+    store: &S,
     times: usize,
     writer: &mut Counted<W>,
-) -> Result<(), Fault> {
+) -> Result<Option<u64>, Fault> {
     for _ in 0..times {
-        let _count = send(alloc, store, writer)?;
+        if send(alloc, store, writer).is_err() {
+            return Err(NOT_WRITTEN);
+        }
     }
-    Ok(())
+    Ok(None)
 }

@@ -7,6 +7,7 @@
 #![tactic(auto)]
 
 mod buffers;
+mod command_kind;
 mod commands;
 mod edits;
 mod fault;
@@ -15,7 +16,10 @@ mod logs;
 mod text;
 mod worlds;
 
-use fault::Fault;
+use fault::{Fault, WORDS};
+use rga_flat::FlatStore;
+use rga_store::TextStore;
+use rga_tree::TreeStore;
 use std::alloc::Global;
 use std::io;
 use std::process::ExitCode;
@@ -25,7 +29,7 @@ fn main(rt: HostRuntime) -> io::Result<ExitCode> {
         eprintln!(rt; "out of memory")?;
         return Ok(ExitCode::FAILURE);
     };
-    print(&rt, outcome(&rt, &words))
+    print(&rt, outcome::<FlatStore, TreeStore>(&rt, &words))
 }
 
 fn print(rt: &HostRuntime, outcome: Result<Option<u64>, Fault>) -> io::Result<ExitCode> {
@@ -33,7 +37,7 @@ fn print(rt: &HostRuntime, outcome: Result<Option<u64>, Fault>) -> io::Result<Ex
         Ok(Some(count)) => println!(rt; "{count}")?,
         Ok(None) => {}
         Err(fault) => {
-            eprintln!(rt; "{fault}")?;
+            eprintln!(rt; "{}", fault.message)?;
             return Ok(ExitCode::FAILURE);
         }
     }
@@ -41,24 +45,30 @@ fn print(rt: &HostRuntime, outcome: Result<Option<u64>, Fault>) -> io::Result<Ex
 }
 
 /// What comes of the task that the words say, of which the first is the program's name. Nothing
-/// where the task writes.
-fn outcome(rt: &HostRuntime, words: &[String]) -> Result<Option<u64>, Fault> {
+/// where the task writes. Worlds have a store of the second kind.
+fn outcome<S: TextStore, T: TextStore>(
+    rt: &HostRuntime,
+    words: &[String],
+) -> Result<Option<u64>, Fault> {
     let Some(part) = words.get(1) else {
-        return Err(Fault::Words);
+        return Err(WORDS);
     };
     match part.as_str() {
-        "logs" => logs::outcome(rt, words),
-        "worlds" => worlds::outcome(rt, words),
-        part => Ok(Some(counted(rt.alloc(), part, words)? as u64)),
+        "logs" => logs::outcome::<S>(rt, words),
+        "worlds" => worlds::outcome::<T>(rt, words),
+        part => match counted::<S>(rt.alloc(), part, words) {
+            Ok(count) => Ok(Some(count as u64)),
+            Err(fault) => Err(fault),
+        },
     }
 }
 
-fn counted(alloc: Global, part: &str, words: &[String]) -> Result<usize, Fault> {
+fn counted<S: TextStore>(alloc: Global, part: &str, words: &[String]) -> Result<usize, Fault> {
     match part {
-        "edits" => edits::outcome(alloc, words),
+        "edits" => edits::outcome::<S>(alloc, words),
         "commands" => commands::outcome(alloc, words),
-        "buffers" => buffers::outcome(alloc, words),
+        "buffers" => buffers::outcome::<S>(alloc, words),
         "frames" => frames::outcome(alloc, words),
-        _ => Err(Fault::Words),
+        _ => Err(WORDS),
     }
 }

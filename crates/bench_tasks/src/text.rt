@@ -1,16 +1,36 @@
-//! The words that say a number, texts, and documents.
-use crate::fault::Fault;
+//! The words that say a task, texts, and documents.
 use rga_doc::Doc;
-use rga_flat::FlatStore;
 use rga_ops::Refusal;
 use rga_store::{MAX_LIMIT, TextStore};
 use std::alloc::{AllocError, Global};
 
-/// What is to be done: what the third word names, by a table of names.
+/// What the words say is to be done, on a text of so many characters, so many times.
+#[derive(Drop)]
+pub struct Task<T: Copy> {
+    pub work: T,
+    pub size: usize,
+    pub times: usize,
+}
+
+/// The task that the words say, of which the last two are numbers: its work is what the third word
+/// names, by a table of names.
+pub fn task_of<T: Copy>(words: &[String], names: &[(&str, T)]) -> Option<Task<T>> {
+    let count = words.len();
+    let (Some(work), Some(size), Some(times)) = (
+        named(words, names),
+        number_at(words, count.saturating_sub(2)),
+        number_at(words, count.saturating_sub(1)),
+    ) else {
+        return None;
+    };
+    Some(Task { work, size, times })
+}
+
+/// What the third word names, by a table of names.
 pub fn named<T: Copy>(words: &[String], names: &[(&str, T)]) -> Option<T> {
-    let word = words.get(2)?;
+    let word = words.get(2)?.as_str();
     for (name, work) in names {
-        if *name == word.as_str() {
+        if *name == word {
             return Some(*work);
         }
     }
@@ -18,13 +38,10 @@ pub fn named<T: Copy>(words: &[String], names: &[(&str, T)]) -> Option<T> {
 }
 
 /// The number that the word at an index says.
-pub fn number_at(words: &[String], index: usize) -> Result<usize, Fault> {
-    let Some(word) = words.get(index) else {
-        return Err(Fault::Words);
-    };
-    match word.parse::<usize>() {
-        Ok(number) => Ok(number),
-        Err(_) => Err(Fault::Words),
+pub fn number_at(words: &[String], index: usize) -> Option<usize> {
+    match words.get(index) {
+        Some(word) => word.parse::<usize>().ok(),
+        None => None,
     }
 }
 
@@ -46,34 +63,16 @@ fn character_at(i: usize) -> char {
     }
 }
 
-/// So many characters, in lines of so many letters.
-pub fn lines(alloc: Global, line: usize, size: usize) -> Result<Vec<char>, AllocError> {
-    let mut text = Vec::new(alloc);
-    let mut column = 0;
-    for _ in 0..size {
-        if column < line {
-            text.push('a')?;
-            column += 1;
-        } else {
-            text.push('\n')?;
-            column = 0;
-        }
-    }
-    Ok(text)
-}
-
 /// A document with this text, put in at once.
-pub fn document(alloc: Global, text: &[char]) -> Result<Doc<FlatStore>, Refusal> {
-    let mut doc = empty(alloc)?;
-    put(&mut doc, text)?;
+pub fn document<S: TextStore>(alloc: Global, text: &[char]) -> Result<Doc<S>, Refusal> {
+    let mut doc = empty::<S>(alloc)?;
+    drop(doc.splice(0, 0, text)?);
     Ok(doc)
 }
 
-fn empty(alloc: Global) -> Result<Doc<FlatStore>, Refusal> {
-    Doc::new(alloc, FlatStore::new(alloc, MAX_LIMIT)?, 1)
-}
-
-fn put(doc: &mut Doc<FlatStore>, text: &[char]) -> Result<(), Refusal> {
-    let _ops = doc.splice(0, 0, text)?;
-    Ok(())
+fn empty<S: TextStore>(alloc: Global) -> Result<Doc<S>, Refusal> {
+    match S::new(alloc, MAX_LIMIT) {
+        Ok(store) => Doc::new(alloc, store, 1),
+        Err(refusal) => Err(refusal),
+    }
 }

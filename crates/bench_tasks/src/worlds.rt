@@ -11,45 +11,60 @@ mod events;
 mod looks;
 mod simulation;
 
-use crate::fault::Fault;
+use crate::fault::{Fault, REFUSED, WORDS, WRITE};
 use crate::text::number_at;
-use rga_ops::Refusal;
-use simulation::Simulation;
+use rga_store::TextStore;
+use rga_world::WorldRefusal;
+use simulation::{Counts, Simulation};
 use std::alloc::Global;
 use std::io;
 
-pub fn outcome(rt: &HostRuntime, words: &[String]) -> Result<Option<u64>, Fault> {
-    let (seed, events) = (number_at(words, 2)?, number_at(words, 3)?);
-    let Some(end) = simulated(rt.alloc(), seed as u64, events) else {
-        return Err(Fault::Refused(Refusal::Memory));
+pub fn outcome<S: TextStore>(rt: &HostRuntime, words: &[String]) -> Result<Option<u64>, Fault> {
+    let (Some(seed), Some(events)) = (number_at(words, 2), number_at(words, 3)) else {
+        return Err(WORDS);
     };
-    match tell(rt, &end) {
-        Ok(()) => Ok(None),
-        Err(_) => Err(Fault::Write),
+    match simulated::<S>(rt.alloc(), seed as u64, events) {
+        Ok(counts) => told(rt, counts),
+        Err(_) => Err(REFUSED),
     }
 }
 
-fn tell(rt: &HostRuntime, end: &Simulation) -> io::Result<()> {
-    let counts = end.counts;
+fn told(rt: &HostRuntime, counts: Counts) -> Result<Option<u64>, Fault> {
+    match tell(rt, counts) {
+        Ok(()) => Ok(None),
+        Err(_) => Err(WRITE),
+    }
+}
+
+fn tell(rt: &HostRuntime, counts: Counts) -> io::Result<()> {
     println!(rt;
-        "{} events were done, {} refused",
-        counts.done, counts.refused
-    )?;
-    println!(rt; "{} elements are saved", end.saved.as_slice().len())?;
-    println!(rt;
-        "{} looks, {} differences",
-        counts.looks, counts.differences
+        "{} events were done, {} refused\n{} elements are saved\n{} looks, {} differences",
+        counts.done, counts.refused, counts.saved, counts.looks, counts.differences
     )
 }
 
-/// The world behind so many events. Nothing where memory is refused.
-fn simulated(alloc: Global, seed: u64, events: usize) -> Option<Simulation> {
-    let mut simulation = Simulation::new(alloc, seed)?;
+/// What was counted in a world over so many events.
+fn simulated<S: TextStore>(
+    alloc: Global,
+    seed: u64,
+    events: usize,
+) -> Result<Counts, WorldRefusal> {
+    match Simulation::<S>::new(alloc, seed) {
+        Ok(mut simulation) => run(alloc, &mut simulation, events),
+        Err(refusal) => Err(refusal),
+    }
+}
+
+fn run<S: TextStore>(
+    alloc: Global,
+    simulation: &mut Simulation<S>,
+    events: usize,
+) -> Result<Counts, WorldRefusal> {
     for number in 0..events {
         simulation.go_on(alloc)?;
         if number % 1000 == 999 {
             simulation.look(alloc)?;
         }
     }
-    Some(simulation)
+    Ok(simulation.counts())
 }

@@ -26,17 +26,31 @@ const ALONE: &str = r#"{"char":"a","id":[1,1],"op":"ins","parent":[0,0]}
 {"char":"c","id":[4,2],"op":"ins","parent":[3,1]}
 "#;
 
-/// Whether a store of these operations is compacted to so many lines, of this text.
-fn compacts<S: TextStore>(
-    alloc: Global,
-    words: &str,
-    lines: u64,
-    text: &str,
-) -> Result<bool, Refusal> {
-    let store = store_of::<S>(alloc, 10000, words)?;
+/// The lines to which a store is compacted, if there are so many.
+fn lines_of<S: TextStore>(alloc: Global, store: &S, lines: u64) -> Option<Vec<u8>> {
     let mut writer = Counted::new(Vec::new(alloc));
-    let answer = compact(alloc, &store, &mut writer);
-    Ok(answer == Ok(lines) && writer.into_inner().as_slice() == text.as_bytes())
+    match compact(alloc, store, &mut writer) {
+        Ok(written) if written == lines => Some(writer.into_inner()),
+        _ => None,
+    }
+}
+
+/// Operations, how many lines a store of them is compacted to, and their text.
+type Row = (&'static str, u64, &'static str);
+
+/// Whether a store is compacted so.
+fn compacts<S: TextStore>(alloc: Global, row: &Row) -> bool {
+    match store_of::<S>(alloc, 10000, row.0) {
+        Ok(store) => compacts_to(alloc, &store, row.1, row.2),
+        Err(_) => false,
+    }
+}
+
+fn compacts_to<S: TextStore>(alloc: Global, store: &S, lines: u64, text: &str) -> bool {
+    match lines_of(alloc, store, lines) {
+        Some(bytes) => bytes.as_slice() == text.as_bytes(),
+        None => false,
+    }
 }
 
 /// The operations of the two runs and the deletion.
@@ -44,7 +58,7 @@ const WORDS: &str = "a1.1<0.0 b2.1<1.1 c3.1<2.1 x1.2<0.0 y2.2<1.2 -2.1";
 
 #[test]
 fn a_store_is_compacted_to_runs_and_deletions(rt: HostRuntime) {
-    const ROWS: &[(&str, u64, &str)] = &[
+    const ROWS: &[Row] = &[
         ("", 0, ""),
         (WORDS, 3, THREE),
         (
@@ -54,60 +68,71 @@ fn a_store_is_compacted_to_runs_and_deletions(rt: HostRuntime) {
         ),
         ("a1.1<0.0 b3.1<1.1 c4.2<3.1", 3, ALONE),
     ];
-    for (words, lines, text) in ROWS {
-        let compacted = compacts::<TreeStore>(rt.alloc(), words, *lines, text);
-        assert!(rt; compacted == Ok(true), "{words}");
+    for row in ROWS {
+        assert!(rt; compacts::<TreeStore>(rt.alloc(), row), "{}", row.0);
     }
 }
 
 /// Whether a store of so many insertions, each behind the last, is compacted to so many lines and
 /// bytes.
-fn has_sizes<S: TextStore>(
-    alloc: Global,
-    count: u64,
-    lines: u64,
-    bytes: usize,
-) -> Result<bool, Refusal> {
+fn has_sizes<S: TextStore>(alloc: Global, count: u64, lines: u64, bytes: usize) -> bool {
+    match chained::<S>(alloc, count) {
+        Ok(store) => has_length(alloc, &store, lines, bytes),
+        Err(_) => false,
+    }
+}
+
+fn chained<S: TextStore>(alloc: Global, count: u64) -> Result<S, Refusal> {
     let mut store = S::new(alloc, 10000)?;
     store.apply_all(&chain(alloc, (1, 7), (0, 0), count, 'z')?)?;
-    let mut writer = Counted::new(Vec::new(alloc));
-    let answer = compact(alloc, &store, &mut writer);
-    Ok(answer == Ok(lines) && writer.into_inner().len() == bytes)
+    Ok(store)
+}
+
+fn has_length<S: TextStore>(alloc: Global, store: &S, lines: u64, length: usize) -> bool {
+    match lines_of(alloc, store, lines) {
+        Some(bytes) => bytes.len() == length,
+        None => false,
+    }
 }
 
 #[test]
 fn a_run_has_4096_characters_at_most(rt: HostRuntime) {
-    for (count, lines, bytes) in [(1, 1, 50), (4096, 1, 4145), (4097, 2, 4201)] {
-        let compacted = has_sizes::<TreeStore>(rt.alloc(), count, lines, bytes);
-        assert!(rt; compacted == Ok(true), "{count}");
+    const ROWS: &[(u64, u64, usize)] = &[(1, 1, 50), (4096, 1, 4145), (4097, 2, 4201)];
+    for (count, lines, bytes) in ROWS {
+        let compacted = has_sizes::<TreeStore>(rt.alloc(), *count, *lines, *bytes);
+        assert!(rt; compacted, "{count}");
     }
 }
 
-/// Whether this is answered where the store is compacted to a device that has room for so many
-/// bytes, and takes few of them in a write.
-fn fills<S: TextStore>(
-    alloc: Global,
-    room: usize,
-    flushes: bool,
-    expected: Result<u64, SendFault>,
-) -> Result<bool, Refusal> {
-    let store = store_of::<S>(alloc, 10000, WORDS)?;
-    let mut writer = Counted::new(device(alloc, room, 7, flushes));
-    let answer = compact(alloc, &store, &mut writer);
-    Ok(is_filled(writer, room, answer, expected, THREE))
+/// How many bytes a device has room for, whether it flushes, and what is answered.
+type Device = (usize, bool, Result<u64, SendFault>);
+
+/// Whether this is answered where the store is compacted to such a device, which takes few bytes in
+/// a write.
+fn fills<S: TextStore>(alloc: Global, row: &Device) -> bool {
+    match store_of::<S>(alloc, 10000, WORDS) {
+        Ok(store) => fills_with(alloc, &store, row),
+        Err(_) => false,
+    }
+}
+
+fn fills_with<S: TextStore>(alloc: Global, store: &S, row: &Device) -> bool {
+    let mut writer = Counted::new(device(alloc, row.0, 7, row.1));
+    let answer = compact(alloc, store, &mut writer);
+    is_filled(writer, row.0, answer, row.2, THREE)
 }
 
 #[test]
 fn devices_that_fail_have_a_beginning_of_the_lines(rt: HostRuntime) {
-    let all = THREE.len();
-    for (room, flushes, answer) in [
-        (all, true, Ok(3)),
-        (all, false, Err(SendFault::Write)),
-        (all.saturating_sub(1), true, Err(SendFault::Write)),
+    const ALL: usize = THREE.len();
+    const ROWS: &[Device] = &[
+        (ALL, true, Ok(3)),
+        (ALL, false, Err(SendFault::Write)),
+        (ALL - 1, true, Err(SendFault::Write)),
         (0, true, Err(SendFault::Write)),
-    ] {
-        let filled = fills::<TreeStore>(rt.alloc(), room, flushes, answer);
-        assert!(rt; filled == Ok(true), "{room}");
+    ];
+    for row in ROWS {
+        assert!(rt; fills::<TreeStore>(rt.alloc(), row), "{}", row.0);
     }
 }
 

@@ -1,7 +1,6 @@
 //! Exchanges that a device cuts off, and received again from the start.
 use rga_devices::{Counted, Fuse};
 use rga_exchange::{ReceiveFault, receive};
-use rga_ops::Refusal;
 use rga_store::TextStore;
 use rga_tree::TreeStore;
 use std::alloc::Global;
@@ -36,6 +35,9 @@ impl Read for Pieces {
     }
 }
 
+/// An exchange, how many reads there are, and the text that they lead to.
+type Row = (&'static str, u64, &'static str);
+
 /// What is answered to the exchange by a reader that fails behind so many reads.
 fn answered<S: TextStore>(
     alloc: Global,
@@ -49,23 +51,29 @@ fn answered<S: TextStore>(
 
 /// Whether so many reads lead to this text and, if not all is read, to a fault of the device; and
 /// then the same bytes from the start to the whole text.
-fn goes_on<S: TextStore>(
+fn goes_on<S: TextStore>(alloc: Global, row: &Row) -> bool {
+    match S::new(alloc, 10) {
+        Ok(mut store) => {
+            leads_to(alloc, &mut store, row, Err(ReceiveFault::Read))
+                && leads_to(alloc, &mut store, &(row.0, 5, "abc"), Ok(3))
+        }
+        Err(_) => false,
+    }
+}
+
+/// Whether this is answered behind so many reads, and the text is this then.
+fn leads_to<S: TextStore>(
     alloc: Global,
-    exchange: &'static str,
-    reads: u64,
-    text: &str,
-) -> Result<bool, Refusal> {
-    let bytes = exchange.as_bytes();
-    let mut store = S::new(alloc, 10)?;
-    let first = answered(alloc, &mut store, bytes, reads);
-    let begun = first == Err(ReceiveFault::Read) && store_shows(alloc, &store, text);
-    let again = answered(alloc, &mut store, bytes, 5);
-    Ok(begun && again == Ok(3) && store_shows(alloc, &store, "abc"))
+    store: &mut S,
+    row: &Row,
+    answer: Result<u64, ReceiveFault>,
+) -> bool {
+    answered(alloc, store, row.0.as_bytes(), row.1) == answer && store_shows(alloc, store, row.2)
 }
 
 #[test]
 fn what_is_received_again_changes_nothing(rt: HostRuntime) {
-    const ROWS: &[(&str, u64, &str)] = &[
+    const ROWS: &[Row] = &[
         (ABC, 0, ""),
         (ABC, 1, ""),
         (ABC, 2, "a"),
@@ -77,8 +85,7 @@ fn what_is_received_again_changes_nothing(rt: HostRuntime) {
         (HEAD_ABC, 3, "a"),
         (HEAD_ABC, 4, "ab"),
     ];
-    for (exchange, reads, text) in ROWS {
-        let gone_on = goes_on::<TreeStore>(rt.alloc(), exchange, *reads, text);
-        assert!(rt; gone_on == Ok(true), "{reads}");
+    for row in ROWS {
+        assert!(rt; goes_on::<TreeStore>(rt.alloc(), row), "{}", row.1);
     }
 }

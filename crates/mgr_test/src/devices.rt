@@ -36,13 +36,14 @@ fn reads(reader: &mut Counted<Stuttering>, byte: Option<u8>, failures: u64) -> b
 
 #[test]
 fn a_reader_that_fails_in_mid_stream(rt: HostRuntime) {
-    let mut reader = Counted::new(Stuttering { interrupts: false });
-    for (byte, failures, call) in [
+    const ROWS: &[(Option<u8>, u64, &str)] = &[
         (Some(b'a'), 0, "before the failure"),
         (None, 1, "an interrupted call failed"),
         (Some(b'a'), 1, "the device is asked again"),
-    ] {
-        assert!(rt; reads(&mut reader, byte, failures), "{call}");
+    ];
+    let mut reader = Counted::new(Stuttering { interrupts: false });
+    for (byte, failures, call) in ROWS {
+        assert!(rt; reads(&mut reader, *byte, *failures), "{call}");
     }
     assert!(rt;
         reader.into_inner().interrupts,
@@ -135,7 +136,7 @@ impl Write for Recording {
 }
 
 /// What is asked of a device.
-#[derive(Clone, Copy, Debug)]
+#[derive(Clone, Copy)]
 enum Request {
     Read,
     Write,
@@ -155,10 +156,14 @@ fn calls_of(request: Request, fault: Option<ErrorKind>) -> u64 {
 
 #[test]
 fn a_call_is_one_call_of_the_device(rt: HostRuntime) {
-    for fault in [None, Some(ErrorKind::Interrupted), Some(ErrorKind::Other)] {
-        for request in [Request::Read, Request::Write, Request::Flush] {
-            let calls = calls_of(request, fault);
-            assert!(rt; calls == 1, "{request:?} {fault:?}");
-        }
+    const FAULTS: &[Option<ErrorKind>] = &[
+        None,
+        Some(ErrorKind::Interrupted),
+        Some(ErrorKind::Other),
+    ];
+    for fault in FAULTS {
+        assert!(rt; calls_of(Request::Read, *fault) == 1, "a read, {fault:?}");
+        assert!(rt; calls_of(Request::Write, *fault) == 1, "a write, {fault:?}");
+        assert!(rt; calls_of(Request::Flush, *fault) == 1, "a flush, {fault:?}");
     }
 }

@@ -9,21 +9,27 @@ pub(crate) fn has_made(alloc: Global, disk: &MemoryDisk, steps: &str) -> bool {
     disk.push_steps(&mut line).is_ok() && line.as_str() == steps
 }
 
-/// Whether these steps are made where there may be so many, and whether the file then has its name,
-/// may have it, or has not: `.`, `?` or `!`.
-fn puts(alloc: Global, left: usize, keeps: bool, steps: &str, end: char) -> bool {
-    let mut disk = MemoryDisk::new(alloc, left);
-    let ended = match put_whole(&mut disk, b"text", keeps) {
+/// How many steps there may be, whether the old file is kept, the steps that are made, and whether
+/// the file then has its name, may have it, or has not: `.`, `?` or `!`.
+type Row = (usize, bool, &'static str, char);
+
+/// Whether a file is written so.
+fn puts(alloc: Global, row: &Row) -> bool {
+    let mut disk = MemoryDisk::new(alloc, row.0);
+    end_of(&mut disk, row.1) == row.3 && has_made(alloc, &disk, row.2)
+}
+
+fn end_of(disk: &mut MemoryDisk, keeps: bool) -> char {
+    match put_whole(disk, b"text", keeps) {
         Ok(Named::Settled) => '.',
         Ok(Named::Unsettled(_)) => '?',
         Err(_) => '!',
-    };
-    ended == end && has_made(alloc, &disk, steps)
+    }
 }
 
 #[test]
 fn a_file_gets_its_name_last(rt: HostRuntime) {
-    for (left, keeps, steps, end) in [
+    const ROWS: &[Row] = &[
         (0, true, "", '!'),
         (1, true, " empty", '!'),
         (2, true, " empty write", '!'),
@@ -34,7 +40,8 @@ fn a_file_gets_its_name_last(rt: HostRuntime) {
         (3, false, " empty write sync", '!'),
         (4, false, " empty write sync name", '?'),
         (5, false, " empty write sync name folder", '.'),
-    ] {
-        assert!(rt; puts(rt.alloc(), left, keeps, steps, end), "{left}");
+    ];
+    for row in ROWS {
+        assert!(rt; puts(rt.alloc(), row), "{}", row.0);
     }
 }

@@ -1,6 +1,5 @@
 //! Lines that are lent, and what no line says.
 use rga_lines::{Line, LineFault, MAX_LINE, Splitter, read_any, write_end, write_head, write_line};
-use rga_ops::Refusal;
 use std::alloc::Global;
 use test_fixtures::op_of;
 
@@ -78,30 +77,35 @@ fn is_line(written: Result<String, LineFault>, line: &str) -> bool {
 }
 
 /// Whether this is the line of the operation that the word says.
-fn is_line_of(alloc: Global, line: &str, word: &str) -> Result<bool, Refusal> {
-    Ok(is_line(write_line(alloc, &op_of(word)?), line))
+fn is_line_of(alloc: Global, line: &str, word: &str) -> bool {
+    match op_of(word) {
+        Ok(op) => is_line(write_line(alloc, &op), line),
+        Err(_) => false,
+    }
 }
 
 #[test]
 fn operations_that_no_line_says_are_written(rt: HostRuntime) {
-    for (word, line) in &[
+    const ROWS: &[(&str, &str)] = &[
         ("-0.0", r#"{"id":[0,0],"op":"del"}"#),
         (
             "a1.1<1.1",
             r#"{"char":"a","id":[1,1],"op":"ins","parent":[1,1]}"#,
         ),
-    ] {
-        assert!(rt; is_line_of(rt.alloc(), line, word) == Ok(true), "{line}");
+    ];
+    for (word, line) in ROWS {
+        assert!(rt; is_line_of(rt.alloc(), line, word), "{line}");
     }
 }
 
 #[test]
 fn ends_of_more_operations_than_a_note_has_are_written(rt: HostRuntime) {
-    for (count, line) in [
+    const ROWS: &[(u64, &str)] = &[
         (1000000, r#"{"count":1000000,"op":"end"}"#),
         (u64::MAX, r#"{"count":18446744073709551615,"op":"end"}"#),
-    ] {
-        assert!(rt; is_line(write_end(rt.alloc(), count), line), "{line}");
+    ];
+    for (count, line) in ROWS {
+        assert!(rt; is_line(write_end(rt.alloc(), *count), line), "{line}");
     }
 }
 

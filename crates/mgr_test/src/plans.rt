@@ -43,9 +43,16 @@ fn command_of(alloc: Global, attempt: Attempt, pattern: &str) -> Result<Command,
 
 /// Whether there is the command, and its search fails so.
 fn fails(alloc: Global, text: &str, attempt: Attempt, pattern: &str) -> bool {
-    match (chars_of(alloc, text), command_of(alloc, attempt, pattern)) {
-        (Ok(text), Ok(command)) => is_refused(alloc, &text, &command),
-        _ => false,
+    match command_of(alloc, attempt, pattern) {
+        Ok(command) => fails_on(alloc, text, &command),
+        Err(_) => false,
+    }
+}
+
+fn fails_on(alloc: Global, text: &str, command: &Command) -> bool {
+    match chars_of(alloc, text) {
+        Ok(text) => is_refused(alloc, &text, command),
+        Err(_) => false,
     }
 }
 
@@ -90,23 +97,33 @@ fn collected(alloc: Global, text: &str) -> Result<Chars, AllocError> {
     Ok(chars)
 }
 
-/// Whether the characters of two texts are equal, of which one is copied and one collected.
-fn are_alike(alloc: Global, a: &str, b: &str) -> Result<bool, AllocError> {
-    let copied = copied(alloc, a)?;
-    let collected = collected(alloc, b)?;
-    Ok(copied.as_slice() == collected.as_slice())
+/// Whether it is known of the characters of two texts, of which one is copied and one collected,
+/// whether they are equal.
+fn are_alike(alloc: Global, a: &str, b: &str, expected: bool) -> bool {
+    match copied(alloc, a) {
+        Ok(a) => is_collected(alloc, &a, b, expected),
+        Err(_) => false,
+    }
+}
+
+fn is_collected(alloc: Global, a: &Chars, b: &str, expected: bool) -> bool {
+    match collected(alloc, b) {
+        Ok(b) => (a.as_slice() == b.as_slice()) == expected,
+        Err(_) => false,
+    }
 }
 
 #[test]
 fn characters_are_compared(rt: HostRuntime) {
-    for (a, b, expected) in &[
+    const ROWS: &[(&str, &str, bool)] = &[
         ("", "", true),
         ("foo", "foo", true),
         ("foo", "Foo", false),
         ("foo", "fo", false),
         ("", "f", false),
         ("é漢", "é漢", true),
-    ] {
-        assert!(rt; are_alike(rt.alloc(), a, b) == Ok(*expected), "{a} {b}");
+    ];
+    for (a, b, expected) in ROWS {
+        assert!(rt; are_alike(rt.alloc(), a, b, *expected), "{a} {b}");
     }
 }

@@ -1,7 +1,6 @@
 //! Runs of insertions, which a store that is nearly full takes whole or not at all.
 use rga_devices::Counted;
 use rga_exchange::read_log;
-use rga_ops::Refusal;
 use rga_store::{Taker, TextStore};
 use rga_tree::TreeStore;
 use std::alloc::Global;
@@ -15,22 +14,20 @@ fn answers<T: Taker>(alloc: Global, taker: &mut T, answer: &str) -> bool {
     prints(alloc, &read_log(alloc, taker, &mut reader), answer)
 }
 
-/// Whether a store of this limit that took these operations answers so, and then shows this text and
-/// knows so many identifiers.
-fn takes<S: TextStore>(
-    alloc: Global,
-    limit: usize,
-    words: &str,
-    answer: &str,
-    text: &str,
-    known: usize,
-) -> Result<bool, Refusal> {
-    let mut store = store_of::<S>(alloc, limit, words)?;
-    Ok(
-        answers(alloc, &mut store, answer)
-            && store_shows(alloc, &store, text)
-            && store.known() == known,
-    )
+/// A limit, the operations that a store of this limit took, what it answers, the text that it then
+/// shows, and how many identifiers it knows.
+type Row = (usize, &'static str, &'static str, &'static str, usize);
+
+/// Whether such a store takes the run so.
+fn takes<S: TextStore>(alloc: Global, row: &Row) -> bool {
+    match store_of::<S>(alloc, row.0, row.1) {
+        Ok(mut store) => {
+            answers(alloc, &mut store, row.2)
+                && store_shows(alloc, &store, row.3)
+                && store.known() == row.4
+        }
+        Err(_) => false,
+    }
 }
 
 /// What is answered where the third element of the run is another one.
@@ -38,13 +35,13 @@ const CONFLICT: &str = "Err(Refused(1, Conflict(Id { counter: 3, replica: 2 })))
 
 #[test]
 fn a_run_is_taken_whole_or_not_at_all(rt: HostRuntime) {
-    for (limit, words, answer, text, known) in &[
-        (5usize, "", "Ok(Bare)", "hello", 5usize),
+    const ROWS: &[Row] = &[
+        (5, "", "Ok(Bare)", "hello", 5),
         (5, "h1.2<0.0 e2.2<1.2", "Ok(Bare)", "hello", 5),
         (4, "h1.2<0.0 e2.2<1.2", "Err(Refused(1, Full))", "he", 2),
         (3, "z3.2<0.0", CONFLICT, "z", 1),
-    ] {
-        let taken = takes::<TreeStore>(rt.alloc(), *limit, words, answer, text, *known);
-        assert!(rt; taken == Ok(true), "{answer}");
+    ];
+    for row in ROWS {
+        assert!(rt; takes::<TreeStore>(rt.alloc(), row), "{}", row.2);
     }
 }

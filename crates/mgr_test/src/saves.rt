@@ -29,13 +29,17 @@ fn type_letter<S: TextStore>(
 /// log, the text, or none.
 fn save_each<S: TextStore>(opened: &mut VisitedBuffer<S>, port: &mut MemoryPort, letters: &str) {
     for letter in letters.chars() {
-        port.refused = match letter {
-            'a' => Some(CallKind::Append),
-            'w' => Some(CallKind::Replace),
-            't' => Some(CallKind::PutText),
-            _ => None,
-        };
+        port.refused = refused_at(letter);
         let _answer = opened.save(port);
+    }
+}
+
+fn refused_at(letter: char) -> Option<CallKind> {
+    match letter {
+        'a' => Some(CallKind::Append),
+        'w' => Some(CallKind::Replace),
+        't' => Some(CallKind::PutText),
+        _ => None,
     }
 }
 
@@ -54,10 +58,14 @@ fn saves<S: TextStore>(
 }
 
 /// The same of a note in which `a` was typed.
-fn tells<S: TextStore>(alloc: Global, letters: &str, calls: &str, unsaved: bool) -> Option<bool> {
-    let mut opened = empty::<S>(alloc)?;
-    let typed = type_letter(alloc, &mut opened) == Ok(());
-    Some(typed && saves(alloc, &mut opened, letters, calls, unsaved))
+fn tells<S: TextStore>(alloc: Global, letters: &str, calls: &str, unsaved: bool) -> bool {
+    match empty::<S>(alloc) {
+        Some(mut opened) => {
+            type_letter(alloc, &mut opened).is_ok()
+                && saves(alloc, &mut opened, letters, calls, unsaved)
+        }
+        None => false,
+    }
 }
 
 #[test]
@@ -79,6 +87,6 @@ fn what_a_refused_save_left_is_saved_by_the_next(rt: HostRuntime) {
     ];
     for (letters, calls, unsaved) in ROWS {
         let told = tells::<TreeStore>(rt.alloc(), letters, calls, *unsaved);
-        assert!(rt; told == Some(true), "{letters}");
+        assert!(rt; told, "{letters}");
     }
 }

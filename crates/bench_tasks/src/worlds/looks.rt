@@ -1,19 +1,22 @@
 //! What is looked at.
 use crate::worlds::events::{FIRST, SITES};
 use rga_ops::{Id, Refusal};
-use rga_store::{MAX_LIMIT, Taker, TextStore};
-use rga_tree::TreeStore;
+use rga_store::{MAX_LIMIT, TextStore};
 use rga_world::{World, WorldRefusal};
 use std::alloc::Global;
 
 /// All that is saved at any site. A conflict is a refusal.
-pub fn joined(alloc: Global, world: &World<TreeStore>) -> Result<TreeStore, WorldRefusal> {
-    let mut store = TreeStore::new(alloc, MAX_LIMIT)?;
-    for site in 0..SITES {
-        let ops = world.saved_ops(site)?;
-        store.apply_all(&ops)?;
-    }
+pub fn joined<S: TextStore>(alloc: Global, world: &World<S>) -> Result<S, WorldRefusal> {
+    let mut store = S::new(alloc, MAX_LIMIT)?;
+    join_all(&mut store, world)?;
     Ok(store)
+}
+
+fn join_all<S: TextStore>(store: &mut S, world: &World<S>) -> Result<(), WorldRefusal> {
+    for site in 0..SITES {
+        store.apply_all(&world.saved_ops(site)?)?;
+    }
+    Ok(())
 }
 
 /// Whether a list is a part of another, in its order.
@@ -29,22 +32,25 @@ pub fn is_part(part: &[Id], whole: &[Id]) -> bool {
 
 /// Of each inserted character, by its number, one more than its place in the order of the store, or
 /// 0 where it is not there.
-pub fn places(
+pub fn places<S: TextStore>(
     alloc: Global,
-    store: &TreeStore,
+    store: &S,
     order: &[Id],
     next: u32,
 ) -> Result<Vec<usize>, Refusal> {
-    let mut places = Vec::new(alloc);
-    places.resize(next.saturating_sub(FIRST) as usize, 0usize)?;
+    let mut places = vec![in alloc; 0usize; next.saturating_sub(FIRST) as usize]?;
     for (place, id) in order.iter().enumerate() {
         if let Some((_, ch)) = store.get(*id) {
-            if let Some(entry) = places.get_mut(number_of(ch)) {
-                *entry = place.saturating_add(1);
-            }
+            enter(&mut places, ch, place);
         }
     }
     Ok(places)
+}
+
+fn enter(places: &mut Vec<usize>, ch: char, place: usize) {
+    if let Some(entry) = places.get_mut(number_of(ch)) {
+        *entry = place.saturating_add(1);
+    }
 }
 
 fn number_of(ch: char) -> usize {

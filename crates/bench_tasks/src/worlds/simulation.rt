@@ -3,81 +3,107 @@ use crate::worlds::events::{FIRST, SITES, event};
 use crate::worlds::looks::{is_part, joined, places, rises};
 use rga_ops::{Id, Refusal};
 use rga_store::{MAX_LIMIT, TextStore};
-use rga_tree::TreeStore;
 use rga_world::{World, WorldRefusal};
 use std::alloc::Global;
 use test_fixtures::Random;
 
-#[derive(Clone, Copy, Default)]
+#[derive(Clone, Copy)]
 pub struct Counts {
     pub done: usize,
     pub refused: usize,
+    /// How many elements were saved at the last look.
+    pub saved: usize,
     pub looks: usize,
     pub differences: usize,
 }
 
 #[derive(Drop)]
-pub struct Simulation {
-    world: World<TreeStore>,
+pub struct Simulation<S: TextStore> {
+    world: World<S>,
     random: Random,
     /// The number of the next character to be inserted.
     next: u32,
     /// The order of all that was saved, at the last look.
-    pub saved: Vec<Id>,
-    pub counts: Counts,
+    saved: Vec<Id>,
+    counts: Counts,
 }
 
-impl Simulation {
-    /// Nothing where memory is refused.
-    pub fn new(alloc: Global, seed: u64) -> Option<Simulation> {
-        let world = World::new(alloc, SITES, MAX_LIMIT).ok()?;
-        Some(Simulation {
-            world,
+const NOTHING: Counts = Counts {
+    done: 0,
+    refused: 0,
+    saved: 0,
+    looks: 0,
+    differences: 0,
+};
+
+impl<S: TextStore> Simulation<S> {
+    pub fn new(alloc: Global, seed: u64) -> Result<Simulation<S>, WorldRefusal> {
+        Ok(Simulation {
+            world: World::new(alloc, SITES, MAX_LIMIT)?,
             random: Random::new(seed),
             next: FIRST,
             saved: Vec::new(alloc),
-            counts: Counts::default(),
+            counts: NOTHING,
         })
     }
 
-    /// One more event. Nothing where memory is refused.
-    pub fn go_on(&mut self, alloc: Global) -> Option<()> {
+    pub fn counts(&self) -> Counts {
+        self.counts
+    }
+
+    /// One more event. Fails where memory is refused.
+    pub fn go_on(&mut self, alloc: Global) -> Result<(), WorldRefusal> {
         let event = event(alloc, &self.world, &mut self.random, &mut self.next)?;
-        match self.world.step(&event) {
+        let stepped = self.world.step(&event);
+        self.count(stepped)
+    }
+
+    fn count(&mut self, stepped: Result<(), WorldRefusal>) -> Result<(), WorldRefusal> {
+        match stepped {
             Ok(()) => self.counts.done = self.counts.done.saturating_add(1),
-            Err(WorldRefusal::Store(Refusal::Memory)) => return None,
+            Err(WorldRefusal::Store(Refusal::Memory)) => return stepped,
             Err(WorldRefusal::Store(Refusal::Conflict(_))) => self.differs(),
             Err(_) => self.counts.refused = self.counts.refused.saturating_add(1),
         }
-        Some(())
+        Ok(())
     }
 
-    /// Looks at all that is saved, and at each text. Nothing where memory is refused.
-    pub fn look(&mut self, alloc: Global) -> Option<()> {
+    /// Looks at all that is saved, and at each text. Fails where memory is refused.
+    pub fn look(&mut self, alloc: Global) -> Result<(), WorldRefusal> {
         self.counts.looks = self.counts.looks.saturating_add(1);
         match joined(alloc, &self.world) {
             Ok(store) => self.compare(alloc, &store),
-            Err(WorldRefusal::Store(Refusal::Memory)) => None,
+            Err(WorldRefusal::Store(Refusal::Memory)) => Err(WorldRefusal::Store(Refusal::Memory)),
             Err(_) => {
                 self.differs();
-                Some(())
+                Ok(())
             }
         }
     }
 
-    fn compare(&mut self, alloc: Global, store: &TreeStore) -> Option<()> {
-        let order = store.order().ok()?;
+    fn compare(&mut self, alloc: Global, store: &S) -> Result<(), WorldRefusal> {
+        let order = store.order()?;
         if !is_part(&self.saved, &order) {
             self.differs();
         }
-        let places = places(alloc, store, &order, self.next).ok()?;
-        for site in 0..SITES {
-            if !rises(&self.world.text(site).ok()?, &places) {
-                self.differs();
-            }
-        }
+        let places = places(alloc, store, &order, self.next)?;
+        self.counts.saved = order.len();
         self.saved = order;
-        Some(())
+        self.compare_texts(&places)
+    }
+
+    fn compare_texts(&mut self, places: &[usize]) -> Result<(), WorldRefusal> {
+        for site in 0..SITES {
+            self.compare_text(site, places)?;
+        }
+        Ok(())
+    }
+
+    fn compare_text(&mut self, site: usize, places: &[usize]) -> Result<(), WorldRefusal> {
+        if !rises(&self.world.text(site)?, places) {
+            self.differs();
+        }
+        Ok(())
     }
 
     fn differs(&mut self) {

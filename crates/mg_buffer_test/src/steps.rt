@@ -77,31 +77,50 @@ fn answers<S: TextStore>(alloc: Global, doc: &mut Doc<S>, step: Step, answer: &s
         Step::DraftLetters(places) => prints(alloc, &take_letters(alloc, doc, places), answer),
         Step::Revert(gone, back) => says(alloc, revert(alloc, doc, (gone, back), false), answer),
         Step::Draft(gone, back) => says(alloc, revert(alloc, doc, (gone, back), true), answer),
+        _ => tells(alloc, doc, step, answer),
+    }
+}
+
+/// The same of a step that asks for something.
+fn tells<S: TextStore>(alloc: Global, doc: &mut Doc<S>, step: Step, answer: &str) -> bool {
+    match step {
         Step::Anchor(place) => prints(alloc, &element_at(doc, place), answer),
         Step::ListedAnchor(place) => prints(alloc, &listed_element(doc, place), answer),
         Step::Place(element) => prints(alloc, &place_of(doc, element), answer),
         Step::List => lists(doc, answer),
-        Step::Numbers => prints(alloc, &numbers(doc), answer),
+        _ => prints(alloc, &numbers(doc), answer),
     }
+}
+
+/// Whether a step has its answer, and behind it the text is this.
+fn goes<S: TextStore>(alloc: Global, doc: &mut Doc<S>, row: &Row) -> bool {
+    answers(alloc, doc, row.0, row.1) && shows(doc, row.2)
 }
 
 /// Does the steps; each has its answer, and behind it the text is this.
 fn go<S: TextStore>(rt: &impl Abort, alloc: Global, doc: &mut Doc<S>, steps: &[Row]) {
-    for (step, answer, text) in steps {
-        assert!(rt; answers(alloc, doc, *step, answer), "{answer}");
-        assert!(rt; shows(doc, text), "{text}");
+    for row in steps {
+        assert!(rt; goes(alloc, doc, row), "{} {}", row.1, row.2);
     }
 }
 
 /// Does the steps with a document that holds this.
 pub fn walk(rt: &impl Abort, alloc: Global, held: Held, steps: &[Row]) {
-    let mut doc = document::<TreeStore>(alloc, held).expect(rt, "a document");
-    go(rt, alloc, &mut doc, steps);
+    walk_over::<TreeStore, _>(rt, alloc, held, steps);
 }
 
 /// Does the steps with the copy of a document that holds this.
 pub fn walk_copy(rt: &impl Abort, alloc: Global, held: Held, steps: &[Row]) {
-    let mut doc = copied::<TreeStore>(alloc, held).expect(rt, "a copy");
+    walk_copy_over::<TreeStore, _>(rt, alloc, held, steps);
+}
+
+fn walk_over<S: TextStore, R: Abort>(rt: &R, alloc: Global, held: Held, steps: &[Row]) {
+    let mut doc = document::<S>(alloc, held).expect(rt, "a document");
+    go(rt, alloc, &mut doc, steps);
+}
+
+fn walk_copy_over<S: TextStore, R: Abort>(rt: &R, alloc: Global, held: Held, steps: &[Row]) {
+    let mut doc = copied::<S>(alloc, held).expect(rt, "a copy");
     go(rt, alloc, &mut doc, steps);
 }
 

@@ -8,18 +8,18 @@ use std::alloc::Global;
 use test_fixtures::ops_of;
 
 /// The elements that the operations insert.
-fn elements_of(alloc: Global, ops: &[Op]) -> Result<Vec<Id>, Refusal> {
+fn elements_of(alloc: Global, words: &str) -> Result<Vec<Id>, Refusal> {
     let mut ids = Vec::new(alloc);
-    for op in ops {
+    for op in &ops_of(alloc, words)? {
         ids.push(op.id())?;
     }
     Ok(ids)
 }
 
 /// The elements that the operations insert, with their characters.
-fn pairs_of(alloc: Global, ops: &[Op]) -> Result<Vec<(Id, char)>, Refusal> {
+fn pairs_of(alloc: Global, words: &str) -> Result<Vec<(Id, char)>, Refusal> {
     let mut pairs = Vec::new(alloc);
-    for op in ops {
+    for op in &ops_of(alloc, words)? {
         if let Op::Insert { id, ch, .. } = op {
             pairs.push((*id, *ch))?;
         }
@@ -35,12 +35,21 @@ pub fn revert<S: TextStore>(
     (gone, back): (&str, &str),
     is_draft: bool,
 ) -> Result<Vec<Op>, Refusal> {
-    let gone = elements_of(alloc, &ops_of(alloc, gone)?)?;
-    let back = pairs_of(alloc, &ops_of(alloc, back)?)?;
+    let gone = elements_of(alloc, gone)?;
+    let back = pairs_of(alloc, back)?;
+    revert_elements(doc, &gone, &back, is_draft)
+}
+
+fn revert_elements<S: TextStore>(
+    doc: &mut Doc<S>,
+    gone: &[Id],
+    back: &[(Id, char)],
+    is_draft: bool,
+) -> Result<Vec<Op>, Refusal> {
     if is_draft {
-        doc.draft_revert(&gone, &back)
+        doc.draft_revert(gone, back)
     } else {
-        doc.revert(&gone, &back)
+        doc.revert(gone, back)
     }
 }
 

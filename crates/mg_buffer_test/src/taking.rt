@@ -1,8 +1,10 @@
 //! What a document answers to operations, and to a replica that is none.
-use crate::documents::{AB, ABC, document};
+use crate::documents::{AB, ABC, Held, document};
 use crate::steps::{Row, Step, walk};
 use rga_ops::Refusal;
+use rga_store::TextStore;
 use rga_tree::TreeStore;
+use std::alloc::Global;
 
 /// What is answered where the element (2, 1) is another one.
 const CONFLICT: &str = "Err(Conflict(Id { counter: 2, replica: 1 }))";
@@ -25,7 +27,12 @@ fn an_operation_is_taken_once(rt: HostRuntime) {
     walk(&rt, rt.alloc(), (2, 4, AB), STEPS);
 }
 
+/// Whether there is no such document, as a number is out of range.
+fn is_refused<S: TextStore>(alloc: Global, held: Held) -> bool {
+    matches!(document::<S>(alloc, held), Err(Refusal::BadId))
+}
+
 #[test]
 fn replica_zero_is_none(rt: HostRuntime) {
-    assert!(rt; document::<TreeStore>(rt.alloc(), (0, 1, "")).err() == Some(Refusal::BadId));
+    assert!(rt; is_refused::<TreeStore>(rt.alloc(), (0, 1, "")));
 }

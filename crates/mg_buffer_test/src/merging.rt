@@ -15,6 +15,14 @@ fn two_people_write<S: TextStore>(alloc: Global, alice: &mut Doc<S>, text: &str)
         && shows(alice, text)
 }
 
+/// The same of a note that is new.
+fn two_people_write_anew<S: TextStore>(alloc: Global, text: &str) -> bool {
+    match document::<S>(alloc, (1, 1000, "")) {
+        Ok(mut alice) => two_people_write(alloc, &mut alice, text),
+        Err(_) => false,
+    }
+}
+
 fn edit_apart<S: TextStore>(alloc: Global, alice: &mut Doc<S>) -> Result<(), Refusal> {
     let mut bob = Doc::new(alloc, alice.store().copy()?, 2)?;
     edit_both(alice, &mut bob)
@@ -29,8 +37,7 @@ fn edit_both<S: TextStore>(alice: &mut Doc<S>, bob: &mut Doc<S>) -> Result<(), R
 
 #[test]
 fn what_two_people_wrote_apart(rt: HostRuntime) {
-    let mut alice = document::<TreeStore>(rt.alloc(), (1, 1000, "")).expect(&rt, "a document");
-    assert!(rt; two_people_write(rt.alloc(), &mut alice, "Oats!"));
+    assert!(rt; two_people_write_anew::<TreeStore>(rt.alloc(), "Oats!"));
 }
 
 /// What two documents hold, of which the second may know three identifiers.
