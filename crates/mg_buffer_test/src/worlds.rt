@@ -10,7 +10,7 @@ use test_fixtures::{are_ops_of, prints, spells};
 type Trees = World<TreeStore>;
 
 /// What is done with a world, or asked of it.
-#[derive(Clone, Copy, Debug)]
+#[derive(Clone, Copy)]
 enum Step {
     /// A site replaces the characters of a range by the text.
     Edit(usize, (usize, usize), &'static str),
@@ -75,9 +75,9 @@ fn answers<S: TextStore>(
 }
 
 fn go<S: TextStore>(rt: &impl Abort, alloc: Global, world: &mut World<S>, rows: &[Row]) {
-    for (step, answer) in rows {
+    for (index, (step, answer)) in rows.iter().enumerate() {
         let answered = answers(alloc, world, *step, answer);
-        assert!(rt; answered == Ok(true), "{step:?}");
+        assert!(rt; answered == Ok(true), "row {index}: {answer}");
     }
 }
 
@@ -134,6 +134,16 @@ fn deliveries_in_any_order_and_repeated(rt: HostRuntime) {
     walk(&rt, rt.alloc(), 3, ROWS);
 }
 
+/// Whether a world of so many sites with this limit is refused so, or made where no refusal is named.
+fn is_refused<S: TextStore>(
+    alloc: Global,
+    sites: usize,
+    limit: usize,
+    refusal: Option<WorldRefusal>,
+) -> bool {
+    World::<S>::new(alloc, sites, limit).err() == refusal
+}
+
 #[test]
 fn worlds_of_no_sites_and_of_too_many(rt: HostRuntime) {
     for (sites, limit, refusal) in [
@@ -142,8 +152,8 @@ fn worlds_of_no_sites_and_of_too_many(rt: HostRuntime) {
         (64, 5, None),
         (2, 0, Some(WorldRefusal::Store(Refusal::Range))),
     ] {
-        let found = Trees::new(rt.alloc(), sites, limit).err();
-        assert!(rt; found == refusal, "{sites} {limit}");
+        let refused = is_refused::<TreeStore>(rt.alloc(), sites, limit, refusal);
+        assert!(rt; refused, "{sites} {limit}");
     }
 }
 
