@@ -9,15 +9,9 @@ use Rattle.rga_ops.specs.Content.{Element, Content}
 use Rattle.rga_ops.specs.Operations.{rising, deletions}
 use Rattle.rga_ops.specs.declared.id.TheConstants.Id.{MAX_COUNTER}
 use Rattle.rga_ops.specs.declared.op.Op.{Op}
-<<<<<<< HEAD:crates/rga_compaction/specs/Compacting.antt
 use Rattle.rga_ops.specs.declared.op.Op.TheVariants.{Delete}
 use Rattle.rga_lines.specs.RunConstants.{MAX_RUN}
 use Rattle.rga_lines.specs.DeletionRun.{DeletionRun}
-=======
-use Rattle.rga_ops.specs.declared.op.Op.TheVariants.{Insert, Delete}
-use Rattle.rga_lines.specs.RunConstants.{MAX_RUN}
-use Rattle.rga_lines.specs.DeletionRun.{DeletionRun}
->>>>>>> 7c2571d4f200700cc0dd2d205da35140c3730cce:crates/rga_exchange/specs/Compacting.antt
 use Rattle.rga_lines.specs.Runs.{Stretch, stretch, next, stretch_operations, deletion_run}
 use Rattle.rga_lines.specs.Spelling.{line, deletion_run_line}
 use Rattle.rga_lines.specs.Stream.{bytes_of_lines}

@@ -1,14 +1,8 @@
 use Rattle.std.proofs.Common.{◌-◌, length}
 use Rattle.rga_ops.specs.Content.{content_of}
-<<<<<<< HEAD:crates/rga_compaction/proofs/compacting/run_from/Invariants.antt
 use Rattle.rga_lines.specs.RunConstants.{MAX_RUN}
 use Rattle.rga_compaction.proofs.GoingOnLemmas.{IsBegun}
 use Rattle.rga_compaction.proofs.compacting.run_from.Given as goal
-=======
-use Rattle.rga_lines.specs.RunConstants.{MAX_RUN}
-use Rattle.rga_exchange.proofs.GoingOnLemmas.{IsBegun}
-use Rattle.rga_exchange.proofs.compacting.run_from.Given as goal
->>>>>>> 7c2571d4f200700cc0dd2d205da35140c3730cce:crates/rga_exchange/proofs/compacting/run_from/Invariants.antt
 
 abbrev pub invariant-chars : goal.invariant-chars
 invariant-chars l = IsBegun (content_of l.ops) MAX_RUN l.id l.fn.ch l.chars.items l.last
