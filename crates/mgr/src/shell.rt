@@ -1,9 +1,9 @@
 //! The job of the command line, done, and what the shell is told of it.
 ghost use Rattle.std.specs.Prelude.{◌≡◌, ◌≤◌, [], ◌∷◌, IfErr, MatchResult};
-ghost use Rattle.mgr_run.specs.Report.{report_text};
-ghost use Rattle.mgr_run.specs.Telling.{TellsMore, line};
-ghost use Rattle.mgr_run.specs.Status as status;
-ghost use Rattle.mgr_run.specs.Peers as spec;
+ghost use Rattle.mgr.specs.Report.{report_text};
+ghost use Rattle.mgr.specs.Telling.{TellsMore, line};
+ghost use Rattle.mgr.specs.Status as status;
+ghost use Rattle.mgr.specs.Peers as spec;
 
 use crate::report::Report;
 use crate::tell::{StandardError, Tell};

@@ -15,8 +15,8 @@ use Rattle.mg_session.specs.declared.fault.SessionFault.{SessionFault}
 use Rattle.mg_session.specs.declared.fault.SessionFault.TheVariants as session
 use Rattle.mgr_show.specs.declared.fault.ShowFault.{ShowFault}
 use Rattle.mgr_show.specs.declared.fault.ShowFault.TheVariants as show
-use Rattle.mgr_run.specs.declared.report.Message.{Message}
-use Rattle.mgr_run.specs.declared.report.Message.TheVariants as message
+use Rattle.mgr.specs.declared.report.Message.{Message}
+use Rattle.mgr.specs.declared.report.Message.TheVariants as message
 
 -- ---- the exit status: 1 where the input is refused, 3 where a device fails, 4 where memory is wanting
 

@@ -8,8 +8,8 @@ use Rattle.rga_exchange.specs.declared.taking.Form.TheVariants.{Log}
 use Rattle.mgr_args.specs.declared.job.JobFault.{JobFault}
 use Rattle.mgr_args.specs.declared.job.JobFault.TheVariants.{Help, Version, Usage, Memory}
 use Rattle.mgr_show.specs.Log.{log_of}
-use Rattle.mgr_run.specs.Report.{edited_status, shown_status}
-use Rattle.mgr_run.specs.Telling.{KnownTelling, TellsMore, line, text, shown_telling, edited_telling}
+use Rattle.mgr.specs.Report.{edited_status, shown_status}
+use Rattle.mgr.specs.Telling.{KnownTelling, TellsMore, line, text, shown_telling, edited_telling}
 use Rattle.mg_session.specs.declared.fault.SessionFault.{SessionFault}
 use Rattle.mg_session.specs.declared.fault.SessionFault.TheVariants as session
 use Rattle.mg_files.specs.Calls.{Call}

@@ -1,5 +1,5 @@
 use Rattle.std.proofs.Common.{◌∙◌, Err}
-use Rattle.mgr_run.proofs.shell.show.Goals as goal
+use Rattle.mgr.proofs.shell.show.Goals as goal
 
 pub returns-in-Err-clause-status : goal.returns-in-Err-clause-status
 returns-in-Err-clause-status g c =

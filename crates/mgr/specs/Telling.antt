@@ -3,7 +3,7 @@ use Rattle.std.specs.Prelude.{◌≡◌, List, [], ◌∷◌, ◌++◌, ℕ, Opt
 use Rattle.mgr_args.specs.declared.job.JobFault.{JobFault}
 use Rattle.mgr_show.specs.declared.fault.ShowFault.{ShowFault}
 use Rattle.mg_session.specs.declared.fault.SessionFault.{SessionFault}
-use Rattle.mgr_run.specs.Report.{show_message, session_message}
+use Rattle.mgr.specs.Report.{show_message, session_message}
 
 -- a line, without its newline, or the text of a fault of the command line
 pub data Telling : Type 0 where

@@ -1,7 +1,7 @@
 //! What is told beside what is written.
 ghost use Rattle.std.specs.Prelude.{[], ◌∷◌};
-ghost use Rattle.mgr_run.specs.Report.{report_text};
-ghost use Rattle.mgr_run.specs.Telling.{KnownTelling, TellsMore, line, text};
+ghost use Rattle.mgr.specs.Report.{report_text};
+ghost use Rattle.mgr.specs.Telling.{KnownTelling, TellsMore, line, text};
 
 use crate::report::Report;
 use mgr_args::JobFault;

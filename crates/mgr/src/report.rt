@@ -1,6 +1,6 @@
 //! What a fault means to the shell.
 ghost use Rattle.std.specs.Prelude.{◌≡◌, Some};
-ghost use Rattle.mgr_run.specs.Report as spec;
+ghost use Rattle.mgr.specs.Report as spec;
 
 use mg_files::LoadFault;
 use mg_session::SessionFault;
