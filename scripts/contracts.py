@@ -55,7 +55,9 @@ def calls_of(crate):
     """Yields of each public call the file, the name, the head as it stands and the clauses."""
     root = crate / "src" / "lib.rt"
     exported = re.findall(r"\w+", " ".join(re.findall(r"^pub use [^;]*", root.read_text(), re.M))) if root.is_file() else []
-    for path in sorted((crate / "src").rglob("*.rt")) if exported or root.is_file() else ():
+    # A program exports nothing: what its parts call of one another is all that is public there.
+    is_program = not root.is_file()
+    for path in sorted((crate / "src").rglob("*.rt")):
         whole = path.read_text()
         text = without_comments(whole, "//")
         for call in CALL.finditer(text):
@@ -63,7 +65,7 @@ def calls_of(crate):
             owner = type_of(headings[-1]) if headings else None
             end, clauses = head_and_clauses(text, call.start())
             meets = headings and (headings[-1]["trait"] or " for " in (headings[-1]["impl"] or "") and clauses)
-            if (call[2] or meets) and (owner in exported or not headings):
+            if (call[2] or meets) and (owner in exported or is_program or not headings):
                 yield path, f"{owner}::{call[3]}" if owner else call[3], whole[call.start():end].rstrip(), clauses
 
 
