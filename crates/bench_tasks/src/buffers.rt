@@ -8,7 +8,7 @@
 //! `undo-all` undoes that too; `take` has the buffer take an operation of another replica, and
 //! `store` its store alone. The number is how many identifiers are known in the end.
 use crate::command_kind::{CommandKind, command_of};
-use crate::fault::{Fault, REFUSED, WORDS};
+use crate::fault::Fault;
 use crate::text::{Task, document, paragraph, task_of};
 use mg_buffer::{Buffer, BufferFault, Memo};
 use mg_plain::{Chars, Command};
@@ -133,9 +133,9 @@ const UNDO_ALL: &[Step] = &[
 
 pub fn outcome<S: TextStore>(alloc: Global, words: &[String]) -> Result<usize, Fault> {
     let Some(task) = task_of(words, &WORKS) else {
-        return Err(WORDS);
+        return Err(Fault::Words);
     };
-    done_all::<S>(alloc, &task).ok().ok_or(REFUSED)
+    done_all::<S>(alloc, &task).ok().ok_or(Fault::Refused)
 }
 
 fn done_all<S: TextStore>(alloc: Global, task: &Task<Work>) -> Result<usize, BufferFault> {

@@ -4,7 +4,7 @@
 //! the middle; to replace all, at the end of the match there. The number is what the places add up
 //! to where point goes in these plans; a search that finds nothing adds nothing.
 use crate::command_kind::{CommandKind, command_of};
-use crate::fault::{Fault, MEMORY, PLAN, WORDS};
+use crate::fault::Fault;
 use crate::text::{Task, paragraph, task_of};
 use mg_plain::{Command, Kind, Notice, View, plan};
 use std::alloc::Global;
@@ -27,11 +27,11 @@ const COMMANDS: [(&str, CommandKind); 9] = [
 
 pub fn outcome(alloc: Global, words: &[String]) -> Result<usize, Fault> {
     let Some(task) = task_of(words, &COMMANDS) else {
-        return Err(WORDS);
+        return Err(Fault::Words);
     };
     match paragraph(alloc, task.size) {
         Ok(text) => planned(alloc, &text, &task),
-        Err(_) => Err(MEMORY),
+        Err(_) => Err(Fault::Memory),
     }
 }
 
@@ -39,7 +39,7 @@ fn planned(alloc: Global, text: &[char], task: &Task<CommandKind>) -> Result<usi
     let view = view_of(text, point_of(task.work, task.size));
     match command_of(alloc, task.work) {
         Ok(command) => plan_again(alloc, &command, task.times, &view),
-        Err(_) => Err(MEMORY),
+        Err(_) => Err(Fault::Memory),
     }
 }
 
@@ -74,7 +74,7 @@ fn plan_again(
         match plan(alloc, command, 1, view, FILL) {
             Ok(plan) => sum = sum.wrapping_add(plan.point),
             Err(Notice::SearchFailed) => {}
-            Err(_) => return Err(PLAN),
+            Err(_) => return Err(Fault::Plan),
         }
     }
     Ok(sum)

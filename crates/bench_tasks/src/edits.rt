@@ -5,7 +5,7 @@
 //! for the text; `remote` does so behind an insertion of another replica; `change` makes a thousand
 //! changes in one edit; `revert` deletes all of the text and reverts that. The number is how many
 //! elements there are in the end.
-use crate::fault::{Fault, REFUSED, WORDS};
+use crate::fault::Fault;
 use crate::text::{Task, document, task_of};
 use rga_doc::{Doc, Splice};
 use rga_ops::{Id, Op, Refusal};
@@ -36,9 +36,9 @@ const WORKS: [(&str, Work); 5] = [
 
 pub fn outcome<S: TextStore>(alloc: Global, words: &[String]) -> Result<usize, Fault> {
     let Some(task) = task_of(words, &WORKS) else {
-        return Err(WORDS);
+        return Err(Fault::Words);
     };
-    done::<S>(alloc, &task).ok().ok_or(REFUSED)
+    done::<S>(alloc, &task).ok().ok_or(Fault::Refused)
 }
 
 /// Makes a document, and does the work with it again and again.

@@ -8,7 +8,7 @@ ghost use Rattle.std.specs.Prelude.{◌≡◌, length, IfOk};
 ghost use Rattle.mg_screen.specs.Frame.{screen_rows};
 ghost use Rattle.mg_screen.specs.Lines as spec;
 
-use crate::fault::{FRAME, Fault, MEMORY, WINDOWS, WORDS};
+use crate::fault::Fault;
 use crate::text::{Task, number_at, task_of};
 use mg_buffer::line_of;
 use mg_screen::{FrameFault, Pane, Screen, WindowFault, Windows, cursor, first_line, frame};
@@ -40,10 +40,10 @@ const WORKS: [(&str, Work); 5] = [
 
 pub fn outcome(alloc: Global, words: &[String]) -> Result<usize, Fault> {
     let (Some(task), Some(line)) = (task_of(words, &WORKS), number_at(words, 3)) else {
-        return Err(WORDS);
+        return Err(Fault::Words);
     };
     match task.work {
-        Work::Split => splits(alloc, task.times).ok().ok_or(WINDOWS),
+        Work::Split => splits(alloc, task.times).ok().ok_or(Fault::Windows),
         _ => shown_of(alloc, line, &task),
     }
 }
@@ -51,8 +51,8 @@ pub fn outcome(alloc: Global, words: &[String]) -> Result<usize, Fault> {
 /// The work on a text in lines of so many letters.
 fn shown_of(alloc: Global, line: usize, task: &Task<Work>) -> Result<usize, Fault> {
     match lines(alloc, line, task.size) {
-        Ok(text) => shown(alloc, &text, task).ok().ok_or(FRAME),
-        Err(_) => Err(MEMORY),
+        Ok(text) => shown(alloc, &text, task).ok().ok_or(Fault::Frame),
+        Err(_) => Err(Fault::Memory),
     }
 }
 

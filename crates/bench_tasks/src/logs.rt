@@ -5,7 +5,7 @@
 //! takes a log from standard input into a store, and `receive` an exchange. The number is what was
 //! counted. `write` reads a log as `read` does, and writes the operations that its store lists so
 //! many times to standard output, as a log; `send` sends the store so many times.
-use crate::fault::{Fault, NOT_READ, NOT_WRITTEN, READ, REFUSED, WORDS};
+use crate::fault::Fault;
 use crate::text::{named, number_at};
 use rga_devices::{Counted, MAX_CALLS};
 use rga_exchange::{append_log, read_log, receive, send};
@@ -38,12 +38,12 @@ const WORKS: [(&str, Work); 5] = [
 /// What was counted, where the task writes nothing.
 pub fn outcome<S: TextStore>(rt: &HostRuntime, words: &[String]) -> Result<Option<u64>, Fault> {
     let Some(work) = named(words, &WORKS) else {
-        return Err(WORDS);
+        return Err(Fault::Words);
     };
     match work {
         Work::Write | Work::Send => match number_at(words, 3) {
             Some(times) => written::<S>(rt, work, times),
-            None => Err(WORDS),
+            None => Err(Fault::Words),
         },
         _ => counted::<S>(rt, work),
     }
@@ -72,7 +72,7 @@ fn taken<S: TextStore, R: Read>(
     reader: &mut Counted<R>,
 ) -> Result<u64, Fault> {
     let Ok(mut store) = S::new(alloc, MAX_LIMIT) else {
-        return Err(REFUSED);
+        return Err(Fault::Refused);
     };
     take(alloc, &mut store, work, reader)
 }
@@ -84,11 +84,11 @@ fn take<S: TextStore, R: Read>(
     reader: &mut Counted<R>,
 ) -> Result<u64, Fault> {
     if let Work::Receive = work {
-        return receive(alloc, store, reader).ok().ok_or(NOT_READ);
+        return receive(alloc, store, reader).ok().ok_or(Fault::NotRead);
     }
     match read_log(alloc, store, reader) {
         Ok(_) => Ok(store.known() as u64),
-        Err(_) => Err(NOT_READ),
+        Err(_) => Err(Fault::NotRead),
     }
 }
 
@@ -100,7 +100,7 @@ fn bytes<R: Read>(reader: &mut Counted<R>) -> Result<u64, Fault> {
         match reader.read(&mut block) {
             Ok(0) => break,
             Ok(count) => total = total.saturating_add(count as u64),
-            Err(_) => return Err(READ),
+            Err(_) => return Err(Fault::Read),
         }
     }
     Ok(total)
@@ -115,10 +115,10 @@ fn put<S: TextStore, R: Read, W: Write>(
     writer: &mut Counted<W>,
 ) -> Result<Option<u64>, Fault> {
     let Ok(mut store) = S::new(alloc, MAX_LIMIT) else {
-        return Err(REFUSED);
+        return Err(Fault::Refused);
     };
     if read_log(alloc, &mut store, reader).is_err() {
-        return Err(NOT_READ);
+        return Err(Fault::NotRead);
     }
     put_again(alloc, &store, work, times, writer)
 }
@@ -135,7 +135,7 @@ fn put_again<S: TextStore, W: Write>(
     }
     match store.ops() {
         Ok(ops) => write_again(alloc, &ops, times, writer),
-        Err(_) => Err(REFUSED),
+        Err(_) => Err(Fault::Refused),
     }
 }
 
@@ -148,7 +148,7 @@ fn write_again<W: Write>(
 ) -> Result<Option<u64>, Fault> {
     for _ in 0..times {
         if append_log(alloc, ops, writer).is_err() {
-            return Err(NOT_WRITTEN);
+            return Err(Fault::NotWritten);
         }
     }
     Ok(None)
@@ -163,7 +163,7 @@ fn send_again<S: TextStore, W: Write>(
 ) -> Result<Option<u64>, Fault> {
     for _ in 0..times {
         if send(alloc, store, writer).is_err() {
-            return Err(NOT_WRITTEN);
+            return Err(Fault::NotWritten);
         }
     }
     Ok(None)

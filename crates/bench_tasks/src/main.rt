@@ -16,7 +16,7 @@ mod logs;
 mod text;
 mod worlds;
 
-use fault::{Fault, WORDS};
+use fault::Fault;
 use rga_flat::FlatStore;
 use rga_store::TextStore;
 use rga_tree::TreeStore;
@@ -37,7 +37,7 @@ fn print(rt: &HostRuntime, outcome: Result<Option<u64>, Fault>) -> io::Result<Ex
         Ok(Some(count)) => println!(rt; "{count}")?,
         Ok(None) => {}
         Err(fault) => {
-            eprintln!(rt; "{}", fault.message)?;
+            eprintln!(rt; "{}", fault)?;
             return Ok(ExitCode::FAILURE);
         }
     }
@@ -51,7 +51,7 @@ fn outcome<S: TextStore, T: TextStore>(
     words: &[String],
 ) -> Result<Option<u64>, Fault> {
     let Some(part) = words.get(1) else {
-        return Err(WORDS);
+        return Err(Fault::Words);
     };
     match part.as_str() {
         "logs" => logs::outcome::<S>(rt, words),
@@ -69,6 +69,6 @@ fn counted<S: TextStore>(alloc: Global, part: &str, words: &[String]) -> Result<
         "commands" => commands::outcome(alloc, words),
         "buffers" => buffers::outcome::<S>(alloc, words),
         "frames" => frames::outcome(alloc, words),
-        _ => Err(WORDS),
+        _ => Err(Fault::Words),
     }
 }

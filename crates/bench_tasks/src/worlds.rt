@@ -11,7 +11,7 @@ mod events;
 mod looks;
 mod simulation;
 
-use crate::fault::{Fault, REFUSED, WORDS, WRITE};
+use crate::fault::Fault;
 use crate::text::number_at;
 use rga_store::TextStore;
 use rga_world::WorldRefusal;
@@ -21,18 +21,18 @@ use std::io;
 
 pub fn outcome<S: TextStore>(rt: &HostRuntime, words: &[String]) -> Result<Option<u64>, Fault> {
     let (Some(seed), Some(events)) = (number_at(words, 2), number_at(words, 3)) else {
-        return Err(WORDS);
+        return Err(Fault::Words);
     };
     match simulated::<S>(rt.alloc(), seed as u64, events) {
         Ok(counts) => told(rt, counts),
-        Err(_) => Err(REFUSED),
+        Err(_) => Err(Fault::Refused),
     }
 }
 
 fn told(rt: &HostRuntime, counts: Counts) -> Result<Option<u64>, Fault> {
     match tell(rt, counts) {
         Ok(()) => Ok(None),
-        Err(_) => Err(WRITE),
+        Err(_) => Err(Fault::Write),
     }
 }
 
