@@ -2,6 +2,7 @@ pub mod Groups
 pub mod Slots
 pub mod Room
 pub mod State
+pub mod OpenState
 pub mod LineNumbers
 pub mod Kept
 pub mod Sight

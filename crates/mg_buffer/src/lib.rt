@@ -2,11 +2,12 @@
 //!
 //! A `Buffer` is a document with a name, a point and a mark that survive others' edits, the groups
 //! by which one's own edits are undone, and the operations that are not saved. It runs the commands
-//! of mg_plain on its text, and is a `Taker`: operations of others go through it. The crate stands
-//! on rga_doc for the document, on mg_plain for what commands do, and on rga_store for what is
-//! found before anything is changed; it is generic over any `TextStore`. The layer above may rest
-//! on three records of facts, one for each way in which a buffer changes: `Ran` of a command,
-//! `Undid` of an undo, `Follows` of operations that were taken. A refusal changes nothing.
+//! of mg_plain on its text, and is a `Taker`: operations of others go through it. A `VisitedBuffer`
+//! is one that visits files, with what is still to be written of it. The crate stands on rga_doc
+//! for the document, on mg_plain for what commands do, and on rga_store for what is found before
+//! anything is changed; it is generic over any `TextStore`. The layer above may rest on three
+//! records of facts, one for each way in which a buffer changes: `Ran` of a command, `Undid` of an
+//! undo, `Follows` of operations that were taken. A refusal changes nothing.
 #![tactic(auto)]
 
 mod buffer;
@@ -25,9 +26,11 @@ mod running;
 mod slots;
 mod taking;
 mod undoing;
+mod visited_buffer;
 
 pub use buffer::Buffer;
 pub use characters::{push_characters, string_of};
 pub use fault::BufferFault;
 pub use line_numbers::line_of;
 pub use memo::Memo;
+pub use visited_buffer::VisitedBuffer;

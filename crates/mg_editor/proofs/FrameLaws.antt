@@ -1,6 +1,6 @@
 -- The frame of the editor, put together.
 use Rattle.std.proofs.Common.{◌≡◌, ℕ, ◌+◌, ◌≤◌, List, sum_by, arith, ap, ◌∙◌}
-use Rattle.mg_files.specs.OpenState.{OpenState}
+use Rattle.mg_buffer.specs.OpenState.{OpenState}
 use Rattle.mg_screen.specs.Frame.{screen_rows}
 use Rattle.mg_screen.specs.Layout.{Layout, FillsRows}
 use Rattle.mg_screen.specs.Screen.{Pane, Screen}

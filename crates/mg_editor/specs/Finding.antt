@@ -1,6 +1,7 @@
 -- What it leads to that a buffer is asked for by its name.
 use Rattle.std.specs.Prelude.{◌≡◌, ◌⊎◌, ℕ, List, [], Option, Some, None, Result, Ok, Err, MatchResult, if◌then◌else◌}
 use Rattle.rga_exchange.specs.declared.log.LogEnd.{LogEnd}
+use Rattle.mg_buffer.specs.OpenState.{OpenState}
 use Rattle.mg_files.specs.Calls.{Call, load_told, Adds}
 use Rattle.mg_files.specs.Files.{Files}
 use Rattle.mg_files.specs.Loading.{load_outcome}
@@ -9,7 +10,7 @@ use Rattle.mg_files.specs.declared.fault.LoadFault.TheVariants.{Memory}
 use Rattle.mg_files.specs.declared.port.PortFault.{PortFault}
 use Rattle.mg_minibuffer.specs.declared.message.Message.TheVariants as message
 use Rattle.mg_workspace.specs.Actions.{gone_to}
-use Rattle.mg_workspace.specs.Opening.{is_full, open_outcome}
+use Rattle.mg_workspace.specs.Opening.{is_full, with_opened}
 use Rattle.mg_workspace.specs.Workspaces.{Workspace}
 use Rattle.mg_editor.specs.Editors.{Editor}
 use Rattle.mg_editor.specs.Opening.{message_of_end}
@@ -26,6 +27,11 @@ Opening = Result LogEnd CarryFault
 abbrev pub opening_outcome : Opening → CarryOutcome
 opening_outcome (Ok end) = Ok (message_of_end end)
 opening_outcome (Err fault) = Err fault
+
+-- with what was loaded, and how its log ends; or the fault
+abbrev pub open_outcome : Result (OpenState × LogEnd) LoadFault → Workspace → Workspace × Result LogEnd LoadFault
+open_outcome (Ok l) w = (with_opened l.0 w, Ok l.1)
+open_outcome (Err fault) w = (w, Err fault)
 
 abbrev pub of_load : Result LogEnd LoadFault → Opening
 of_load (Ok end) = Ok end

@@ -10,9 +10,9 @@ ghost use Rattle.mg_editor.specs.Telling as telling;
 
 use crate::editor::Editor;
 use crate::fault::CarryFault;
-use crate::opening::message_of_end;
+use crate::opening::{message_of_end, open};
 use mg_buffer::string_of;
-use mg_files::{Port, PortFault};
+use mg_files::{Port, PortFault, save};
 use mg_minibuffer::{Message, Request};
 use rga_exchange::LogEnd;
 use rga_store::Teller;
@@ -39,7 +39,7 @@ fn opening_outcome(answer: Result<LogEnd, CarryFault>) -> Result<Message, CarryF
 }
 
 impl<S: Teller> Editor<S> {
-    /// Carries a request to a port. `Save` saves the current buffer, as `VisitedBuffer::save` does,
+    /// Carries a request to a port. `Save` saves the current buffer, as `mg_files::save` does,
     /// and says what came of it: that it was written, that there were no changes, or the fault. `Find`
     /// goes to the buffer of that name, which asks nothing of a port where it is open; else, unless
     /// as many buffers are open as may be, which is said, it is opened by what the port answers to
@@ -49,7 +49,7 @@ impl<S: Teller> Editor<S> {
     /// nothing of a port.
     ///
     /// Faults, which are said already: of `Save` and `Find` `Port` with those of the port, and of
-    /// `Find` `Load` with those of `VisitedBuffer::load`, which leave text, point, mark, groups and
+    /// `Find` `Load` with those of `mg_files::load`, which leave text, point, mark, groups and
     /// all other buffers as they were, and open none; of `Exchange` and `Serve` `Exchange` with
     /// theirs, which leave what was taken before, and all other buffers as they were.
     pub fn carry<P: Port>(&mut self, request: Request, port: &mut P) -> Result<(), CarryFault>
@@ -79,7 +79,7 @@ impl<S: Teller> Editor<S> {
         ensures device { CountsFaults (telling.port_outcome result)
             (P.failures port.old) (P.failures port.new) }
     {
-        let answer = self.work.current_mut().save(port);
+        let answer = save(self.alloc, self.work.current_mut(), port);
         self.conclude(save_outcome(answer))
     }
 
@@ -124,6 +124,6 @@ impl<S: Teller> Editor<S> {
     {
         let text = string_of(self.alloc, name)?;
         let found = port.load(text.as_str())?;
-        Ok(self.work.open(text, found)?)
+        Ok(open(self.alloc, &mut self.work, text, found)?)
     }
 }

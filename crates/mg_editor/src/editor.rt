@@ -22,7 +22,7 @@ pub struct Editor<S: TextStore> {
 
 impl<S: TextStore> Model for Editor<S> {
     ghost use Rattle.std.specs.Coded.{codes, coded_ℕ};
-    ghost use Rattle.mg_files.specs.OpenState.{open_state_code};
+    ghost use Rattle.mg_buffer.specs.OpenState.{open_state_code};
     ghost use Rattle.mg_screen.specs.Layout.{layout_code};
     ghost use Rattle.mg_editor.specs.Editors as spec;
 

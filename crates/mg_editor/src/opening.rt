@@ -1,13 +1,16 @@
 //! An editor that opens.
-ghost use Rattle.std.specs.Prelude.{◌≡◌, ◌≢◌, Err, IfOk, IfErr};
+ghost use Rattle.std.specs.Prelude.{◌≡◌, ◌≢◌, ◌<◌, Err, IfOk, IfErr, OnErr, length, string_bytes};
 ghost use Rattle.rga_ops.specs.Prelude.{text};
 ghost use Rattle.mg_files.specs.Loading.{load_outcome};
 ghost use Rattle.mg_files.specs.declared.fault.LoadFault.TheVariants.{Memory};
+ghost use Rattle.mg_workspace.specs.declared.workspace.TheConstants.{MAX_BUFFERS};
+ghost use Rattle.mg_editor.specs.Finding as finding;
 ghost use Rattle.mg_editor.specs.Opening as spec;
 
 use crate::editor::Editor;
+use mg_buffer::VisitedBuffer;
 use mg_dialogue::Dialogue;
-use mg_files::{Found, LoadFault, VisitedBuffer};
+use mg_files::{Found, LoadFault};
 use mg_minibuffer::Message;
 use mg_settings::{Settings, Values};
 use mg_workspace::Workspace;
@@ -36,7 +39,25 @@ fn load<S: TextStore>(
         result ≢ Err Memory → result ≡ load_outcome v.name v.replica v.limit found }
 {
     let name = String::from_str(alloc, values.name.as_str())?;
-    VisitedBuffer::load(alloc, name, values.replica, values.limit, found)
+    mg_files::load(alloc, name, values.replica, values.limit, found)
+}
+
+/// Opens a buffer by what was found under its name, as `mg_files::load` does, with the replica and
+/// the limit of the workspace. Answers how its log ends. A fault changes nothing.
+pub(crate) fn open<S: TextStore>(
+    alloc: Global,
+    work: &mut Workspace<S>,
+    name: String,
+    found: Found,
+) -> Result<LogEnd, LoadFault>
+    requires { length work.old.buffers.all < MAX_BUFFERS }
+    ensures exact { let w = work.old in result ≢ Err Memory → (work.new, result) ≡
+        finding.open_outcome (load_outcome (string_bytes name) w.replica w.limit found) w }
+    ensures same { OnErr result (work.new ≡ work.old) }
+{
+    let (opened, end) = mg_files::load(alloc, name, work.replica(), work.limit(), found)?;
+    work.open(opened)?;
+    Ok(end)
 }
 
 impl<S: TextStore> Editor<S> {
@@ -44,7 +65,7 @@ impl<S: TextStore> Editor<S> {
     /// operations of its log, nothing unsaved, or else the characters of its text, all unsaved, or
     /// nothing. Point is at the front of it, in one window; a log that was torn is told.
     ///
-    /// Faults: those of `VisitedBuffer::load`.
+    /// Faults: those of `mg_files::load`.
     pub fn new(alloc: Global, settings: &Settings, found: Found) -> Result<Editor<S>, LoadFault>
         ensures { result ≢ Err Memory → result ≡ spec.opened_editor settings.now found }
     {

@@ -1,7 +1,6 @@
 pub mod Calls
 pub mod Links
 pub mod Files
-pub mod OpenState
 pub mod Saving
 pub mod Faults
 pub mod Loading

@@ -12,11 +12,11 @@ use Rattle.rga_exchange.specs.declared.fault.ReceiveFault.{ReceiveFault}
 use Rattle.rga_exchange.specs.declared.log.LogEnd.{LogEnd}
 use Rattle.rga_exchange.specs.declared.log.LogEnd.TheVariants.{Whole, Bare, Torn}
 use Rattle.rga_exchange.specs.Log.{log_outcome, log_end}
+use Rattle.mg_buffer.specs.OpenState.{OpenState}
 use Rattle.mg_buffer.specs.State.{new_state}
 use Rattle.mg_files.specs.declared.fault.LoadFault.{LoadFault}
 use Rattle.mg_files.specs.declared.fault.LoadFault.TheVariants.{Log, NotText, Store}
 use Rattle.mg_files.specs.Files.{Files}
-use Rattle.mg_files.specs.OpenState.{OpenState}
 
 -- what files say: a content, those of its operations that no log has, and how the log ends
 pub record Loaded : Type 0 where

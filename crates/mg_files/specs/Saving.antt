@@ -1,5 +1,5 @@
 -- What a save does and what it leaves.
-use Rattle.std.specs.Prelude.{◌≡◌, ℕ, ◌||◌, ◌&&◌, nat_lt, Bool, true, false, List, [], ◌∷◌, ◌++◌, length, Option, Result, Ok, Err, if◌then◌else◌}
+use Rattle.std.specs.Prelude.{◌≡◌, ℕ, ◌&&◌, nat_lt, Bool, true, false, List, [], ◌∷◌, ◌++◌, length, Option, Result, Ok, Err, if◌then◌else◌}
 use Rattle.rga_ops.specs.Operations.{operations}
 use Rattle.rga_ops.specs.declared.op.Op.{Op}
 use Rattle.rga_exchange.specs.RunLines.{runs_text}
@@ -9,19 +9,7 @@ use Rattle.mg_files.specs.declared.port.CallKind.TheVariants.{Append, Replace, P
 use Rattle.mg_files.specs.declared.port.PortFault.{PortFault}
 use Rattle.mg_files.specs.Calls.{Call, call, refusals, Adds}
 use Rattle.mg_files.specs.Files.{text_bytes}
-use Rattle.mg_files.specs.OpenState.{OpenState}
-
-abbrev are_any : List Op → Bool
-are_any [] = false
-are_any (op ∷ ops) = true
-
--- some operation is not in the log
-abbrev pub has_unsaved : OpenState → Bool
-has_unsaved b = are_any b.buffer.unsaved
-
--- there is something to save
-abbrev pub is_changed : OpenState → Bool
-is_changed b = has_unsaved b || b.text_waits
+use Rattle.mg_buffer.specs.OpenState.{OpenState, has_unsaved, is_changed}
 
 -- ---- the calls of a save that are answered `Ok`
 

@@ -3,15 +3,14 @@ ghost use Rattle.std.specs.Prelude.{◌≡◌, ◌≢◌, [], true, false, None,
 ghost use Rattle.rga_ops.specs.Prelude.{nothing};
 ghost use Rattle.rga_doc.specs.Document.{document};
 ghost use Rattle.mg_files.specs.Files.{Files, text_bytes};
-ghost use Rattle.mg_files.specs.Loading.{load_outcome, opened_and_end, opening_answer, log_loaded, text_loaded, loaded};
+ghost use Rattle.mg_files.specs.Loading.{load_outcome, opened_and_end, opening_answer, ends_open, log_loaded, text_loaded, loaded};
 ghost use Rattle.std.specs.Str.{is_utf8};
 ghost use Rattle.rga_exchange.specs.declared.log.LogEnd.TheVariants.{Whole};
 ghost use Rattle.mg_files.specs.declared.fault.LoadFault.TheVariants.{Memory, NotText};
 
 use crate::fault::LoadFault;
 use crate::port::Found;
-use crate::visited_buffer::VisitedBuffer;
-use mg_buffer::Buffer;
+use mg_buffer::{Buffer, VisitedBuffer};
 use rga_devices::Counted;
 use rga_doc::Doc;
 use rga_exchange::{LogEnd, read_log};
@@ -19,45 +18,43 @@ use rga_ops::Refusal;
 use rga_store::{MAX_LIMIT, TextStore};
 use std::alloc::Global;
 
-impl<S: TextStore> VisitedBuffer<S> {
-    /// Opens the buffer of a name, of a replica that may know `limit` identifiers, by what was
-    /// found under the name, and answers how its log ends.
-    ///
-    /// Where a log is there, be it of no bytes, the text is not looked at: the buffer has the
-    /// operations of the log, and is unchanged however the log ends. Else it has the characters of
-    /// the text, inserted by one splice and all unsaved; else nothing. Point is at the front, there
-    /// is no mark, and nothing to undo.
-    ///
-    /// Faults, in this order: `Store` with `BadId` for replica 0 and with `Range` unless the limit
-    /// is 1 to `MAX_LIMIT`; `Log` with the first fault of the log; `NotText`; `Store` with `Full`
-    /// where the text has more characters than the limit; `Memory`. Only a log and the characters
-    /// of a text ask for memory before a fault.
-    pub fn load(
-        alloc: Global,
-        name: String,
-        replica: u16,
-        limit: usize,
-        found: Found,
-    ) -> Result<(VisitedBuffer<S>, LogEnd), LoadFault>
-        ensures exact { result ≢ Err Memory →
-            result ≡ load_outcome (string_bytes name) replica limit found }
-        // What is loaded of a text shows that text.
-        ensures shown { IfOk result (λ o. found.log ≡ None → IfSome found.text
-            (λ bytes. text_bytes o.0.buffer.content ≡ bytes)) }
-        ensures memory { result ≡ Err Memory →
-            (opening_answer replica limit ≡ Ok tt) × (found.log ≡ None → IfSome found.text
-            (λ bytes. is_utf8 bytes ≡ true)) }
-    {
-        check_opening(replica, limit)?;
-        let Found { log, text } = found;
-        if let Some(log) = log {
-            return load_log(alloc, name, replica, limit, &log);
-        }
-        if let Some(text) = text {
-            return load_text(alloc, name, replica, limit, &text);
-        }
-        load_nothing(alloc, name, replica, limit)
+/// Opens the buffer of a name, of a replica that may know `limit` identifiers, by what was found
+/// under the name, and answers how its log ends.
+///
+/// Where a log is there, be it of no bytes, the text is not looked at: the buffer has the operations
+/// of the log, and is unchanged however the log ends. Else it has the characters of the text,
+/// inserted by one splice and all unsaved; else nothing. Point is at the front, there is no mark,
+/// and nothing to undo.
+///
+/// Faults, in this order: `Store` with `BadId` for replica 0 and with `Range` unless the limit is 1
+/// to `MAX_LIMIT`; `Log` with the first fault of the log; `NotText`; `Store` with `Full` where the
+/// text has more characters than the limit; `Memory`. Only a log and the characters of a text ask
+/// for memory before a fault.
+pub fn load<S: TextStore>(
+    alloc: Global,
+    name: String,
+    replica: u16,
+    limit: usize,
+    found: Found,
+) -> Result<(VisitedBuffer<S>, LogEnd), LoadFault>
+    ensures exact { result ≢ Err Memory →
+        result ≡ load_outcome (string_bytes name) replica limit found }
+    // What is loaded of a text shows that text.
+    ensures shown { IfOk result (λ o. found.log ≡ None → IfSome found.text
+        (λ bytes. text_bytes o.0.buffer.content ≡ bytes)) }
+    ensures memory { result ≡ Err Memory →
+        (opening_answer replica limit ≡ Ok tt) × (found.log ≡ None → IfSome found.text
+        (λ bytes. is_utf8 bytes ≡ true)) }
+{
+    check_opening(replica, limit)?;
+    let Found { log, text } = found;
+    if let Some(log) = log {
+        return load_log(alloc, name, replica, limit, &log);
     }
+    if let Some(text) = text {
+        return load_text(alloc, name, replica, limit, &text);
+    }
+    load_nothing(alloc, name, replica, limit)
 }
 
 /// Whether there are buffers of such a replica with such a limit. Takes no memory.
@@ -83,6 +80,13 @@ fn empty_doc<S: TextStore>(alloc: Global, replica: u16, limit: usize) -> Result<
     Ok(Doc::new(alloc, store, replica)?)
 }
 
+/// Whether a log ends in no newline.
+fn is_open(end: LogEnd) -> bool
+    ensures { result ≡ ends_open end }
+{
+    end != LogEnd::Whole
+}
+
 /// The buffer of a log.
 fn load_log<S: TextStore>(
     alloc: Global,
@@ -99,7 +103,7 @@ fn load_log<S: TextStore>(
     let mut reader = Counted::new(bytes);
     let end = read_log(alloc, &mut doc, &mut reader)?;
     let buffer = Buffer::new(alloc, doc, name, Vec::new(alloc));
-    Ok((VisitedBuffer::new(alloc, buffer, end), end))
+    Ok((VisitedBuffer::new(buffer, is_open(end)), end))
 }
 
 /// The buffer of a text. What is no text is found before memory is asked for.
@@ -120,10 +124,7 @@ fn load_text<S: TextStore>(
     let mut doc = empty_doc(alloc, replica, limit)?;
     let ops = doc.splice(0, 0, &put)?;
     let buffer = Buffer::new(alloc, doc, name, ops);
-    Ok((
-        VisitedBuffer::new(alloc, buffer, LogEnd::Whole),
-        LogEnd::Whole,
-    ))
+    Ok((VisitedBuffer::new(buffer, false), LogEnd::Whole))
 }
 
 /// The characters of a text. What is no text is found before memory is asked for.
@@ -152,8 +153,5 @@ fn load_nothing<S: TextStore>(
 {
     let doc = empty_doc(alloc, replica, limit)?;
     let buffer = Buffer::new(alloc, doc, name, Vec::new(alloc));
-    Ok((
-        VisitedBuffer::new(alloc, buffer, LogEnd::Whole),
-        LogEnd::Whole,
-    ))
+    Ok((VisitedBuffer::new(buffer, false), LogEnd::Whole))
 }

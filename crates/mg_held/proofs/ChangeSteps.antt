@@ -31,7 +31,7 @@ use Rattle.mg_buffer.specs.Undid.{undo_operations}
 use Rattle.mg_buffer.specs.declared.fault.BufferFault.{BufferFault}
 use Rattle.mg_buffer.specs.declared.fault.BufferFault.TheVariants.{Store}
 use Rattle.mg_buffer.proofs.GroupLaws.{past_restorable}
-use Rattle.mg_files.specs.OpenState.{OpenState}
+use Rattle.mg_buffer.specs.OpenState.{OpenState}
 use Rattle.mg_held.specs.Held.{Held}
 use Rattle.mg_held.specs.Kept.{IsLogged}
 use Rattle.mg_held.specs.Run.{ChangesAlone, KeepsOperations, UndoesOne, TakesAll}

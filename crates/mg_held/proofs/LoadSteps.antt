@@ -3,8 +3,8 @@ use Rattle.std.proofs.Common.{◌≡◌, ℕ, Bool, true, false, cond, List, [],
 use Rattle.rga_ops.specs.Content.{Content, content_of, IsWithin}
 use Rattle.rga_ops.proofs.ContentLaws.{within_join, within_itself}
 use Rattle.mg_files.specs.Files.{Files}
-use Rattle.mg_files.specs.OpenState.{OpenState}
-use Rattle.mg_files.specs.Saving.{has_unsaved, unlogged, written, logged, save_calls, log_call, log_calls, text_call}
+use Rattle.mg_buffer.specs.OpenState.{OpenState, has_unsaved}
+use Rattle.mg_files.specs.Saving.{unlogged, written, logged, save_calls, log_call, log_calls, text_call}
 use Rattle.mg_files.specs.Loading.{loaded, either_loaded, files_loaded, opening_answer, after_opening, opened_and_end}
 use Rattle.mg_files.specs.declared.fault.LoadFault.{LoadFault}
 use Rattle.mg_files.specs.Calls.{refusals, found_call}

@@ -24,7 +24,7 @@ use Rattle.rga_exchange.proofs.AppendedLaws.{rest_appended, stands_appended}
 use Rattle.rga_exchange.proofs.BegunLogLaws.{stands_begun}
 use Rattle.rga_exchange.proofs.LogLaws.{log_that_stands}
 use Rattle.rga_exchange.proofs.RunLineLaws.{runs_appended, runs_ended, runs_begun}
-use Rattle.mg_files.specs.OpenState.{OpenState}
+use Rattle.mg_buffer.specs.OpenState.{OpenState}
 use Rattle.mg_files.specs.Saving.{appended_text, unlogged, written}
 use Rattle.mg_files.specs.declared.lines.TheConstants.{MAX_SINGLE}
 use Rattle.mg_files.specs.Loading.{loaded, of_log, log_loaded}

@@ -33,7 +33,7 @@ use Rattle.rga_exchange.proofs.OperationLaws.{IsRead, is_read, no_fault, log_joi
 use Rattle.rga_exchange.proofs.LogLaws.{log_stands}
 use Rattle.mg_files.specs.Files.{Files}
 use Rattle.mg_files.specs.Loading.{Loaded, loaded, of_log, log_loaded, text_insertions, text_loaded, either_loaded, files_loaded, opened, opened_and_end, opening_answer, after_opening, load_outcome, ends_open}
-use Rattle.mg_files.specs.OpenState.{OpenState, with_brief, with_runs}
+use Rattle.mg_buffer.specs.OpenState.{OpenState, with_brief, with_runs}
 use Rattle.mg_files.specs.declared.fault.LoadFault.{LoadFault}
 use Rattle.mg_files.specs.declared.fault.LoadFault.TheVariants.{Log, NotText, Store}
 use Rattle.mg_files.proofs.LoadedLaws.{splice_of_nothing, limit_of}

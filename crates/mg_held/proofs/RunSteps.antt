@@ -5,9 +5,9 @@ use Rattle.std.proofs.lemmas.Option.{same_Some}
 use Rattle.rga_ops.specs.Content.{Content, IsWithin}
 use Rattle.rga_ops.proofs.ContentLaws.{within_itself, within_chain}
 use Rattle.mg_files.specs.Files.{Files}
-use Rattle.mg_files.specs.OpenState.{OpenState}
+use Rattle.mg_buffer.specs.OpenState.{OpenState, has_unsaved}
 use Rattle.mg_files.specs.Calls.{Call, Adds, refusals}
-use Rattle.mg_files.specs.Saving.{has_unsaved, unlogged, written, logged, saved, save_calls, log_call, log_calls, text_call, SaveStep, AtLog, AtText, SaveFailed}
+use Rattle.mg_files.specs.Saving.{unlogged, written, logged, saved, save_calls, log_call, log_calls, text_call, SaveStep, AtLog, AtText, SaveFailed}
 use Rattle.mg_files.specs.declared.port.PortFault.{PortFault}
 use Rattle.mg_buffer.specs.Ran.{operations_of_splices}
 use Rattle.mg_buffer.specs.Undid.{undo_operations}

@@ -10,8 +10,8 @@ use Rattle.mg_files.specs.declared.port.PortFault.{PortFault}
 use Rattle.mg_files.specs.declared.port.PortFault.TheVariants.{File, Memory}
 use Rattle.mg_files.specs.Calls.{call, refused, refusals}
 use Rattle.mg_files.specs.Files.{Files, text_bytes}
-use Rattle.mg_files.specs.OpenState.{OpenState}
-use Rattle.mg_files.specs.Saving.{appended_text, has_unsaved, is_changed, log_call, log_calls, text_call, save_calls, written, logged, saved}
+use Rattle.mg_buffer.specs.OpenState.{OpenState, has_unsaved, is_changed}
+use Rattle.mg_files.specs.Saving.{appended_text, log_call, log_calls, text_call, save_calls, written, logged, saved}
 use Rattle.mg_held.specs.Held.{Held, MayLeave, MayLead}
 use Rattle.mg_held.specs.Kept.{IsLogged}
 use Rattle.mg_held.proofs.LogSteps.{after_append, after_replace, IsFurther, after_refused_append, after_refused_replace, stays}

@@ -9,7 +9,7 @@ use Rattle.mg_files.specs.declared.port.PortFault.{PortFault}
 use Rattle.mg_files.specs.declared.port.PortFault.TheVariants.{File, Memory}
 use Rattle.mg_files.specs.Calls.{call, refused, refusals}
 use Rattle.mg_files.specs.Files.{Files}
-use Rattle.mg_files.specs.OpenState.{OpenState}
+use Rattle.mg_buffer.specs.OpenState.{OpenState}
 use Rattle.mg_files.specs.Saving.{appended_text, log_call, written}
 use Rattle.mg_held.specs.Held.{Held, MayLeave, MayLead, BegunLog, EitherLog, log_bytes}
 use Rattle.mg_held.specs.Kept.{IsLogged}

@@ -9,7 +9,7 @@ use Rattle.rga_exchange.specs.declared.log.LogEnd.{LogEnd}
 use Rattle.rga_exchange.specs.Sending.{StandsFor}
 use Rattle.mg_files.specs.Files.{Files}
 use Rattle.mg_files.specs.Loading.{loaded, opened, load_outcome}
-use Rattle.mg_files.specs.OpenState.{OpenState}
+use Rattle.mg_buffer.specs.OpenState.{OpenState}
 use Rattle.mg_held.specs.Held.{log_bytes}
 
 -- each operation of the content can be written: its numbers and its character are within their ranges, as their types keep

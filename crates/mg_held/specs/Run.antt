@@ -11,7 +11,7 @@ use Rattle.mg_buffer.specs.Sight.{CommandCall, Notes}
 use Rattle.mg_buffer.specs.State.{State}
 use Rattle.mg_buffer.specs.Undid.{Undid}
 use Rattle.mg_files.specs.Calls.{Call}
-use Rattle.mg_files.specs.OpenState.{OpenState}
+use Rattle.mg_buffer.specs.OpenState.{OpenState}
 use Rattle.mg_files.specs.Saving.{SavesTo}
 use Rattle.mg_files.specs.declared.port.PortFault.{PortFault}
 use Rattle.mg_held.specs.Held.{Held, MayLead}

@@ -5,14 +5,14 @@ ghost use Rattle.rga_exchange.specs.declared.log.LogEnd.{LogEnd};
 ghost use Rattle.mg_files.specs.Calls.{refusals, found_call};
 ghost use Rattle.mg_files.specs.Files.{Files, text_bytes};
 ghost use Rattle.mg_files.specs.Loading.{load_outcome, opening_answer};
-ghost use Rattle.mg_files.specs.OpenState.{OpenState, with_brief, with_runs};
-ghost use Rattle.mg_files.specs.Saving.{is_changed, written, saved, save_calls, log_call};
+ghost use Rattle.mg_buffer.specs.OpenState.{OpenState, with_brief, with_runs, is_changed};
+ghost use Rattle.mg_files.specs.Saving.{written, saved, save_calls, log_call};
 ghost use Rattle.mg_files.specs.declared.port.PortFault.{PortFault};
 ghost use Rattle.mg_held.specs.Held.{Held, AnswersLoad, MayLeave, MayLead};
 ghost use Rattle.mg_held.specs.Kept.{IsThere, IsBuffer, IsLogged, IsLoggedBy, OpensSaved};
 ghost use Rattle.mg_held.specs.Run.{BufferStep, SavesOnce, MayStep, MayGo, HoldsMore};
 
-use mg_files::VisitedBuffer;
+use mg_buffer::VisitedBuffer;
 use rga_store::TextStore;
 
 /// Of each buffer that there is the operations are well-formed, and no more than it may know. Takes no

@@ -21,7 +21,7 @@ use Rattle.rga_digest.proofs.SentLaws.{sent_within, missing_suffices_later}
 use Rattle.rga_brief.specs.Told.{TellsSummary, summary_heard, summary_text}
 use Rattle.rga_brief.proofs.SentLaws.{agree_part}
 use Rattle.mg_files.specs.Calls.{Call}
-use Rattle.mg_files.specs.OpenState.{OpenState}
+use Rattle.mg_buffer.specs.OpenState.{OpenState}
 use Rattle.mg_files.specs.Saving.{saved}
 use Rattle.mg_sync.specs.declared.fault.ExchangeFault.TheVariants.{Save, Link, Send, Receive}
 use Rattle.mg_sync.specs.declared.talking.Exchanged.{Exchanged}

@@ -12,8 +12,8 @@ use Rattle.mg_files.specs.declared.port.CallKind.TheVariants.{Connect, Accept, F
 use Rattle.mg_files.specs.declared.port.PortFault.{PortFault}
 use Rattle.mg_files.specs.Calls.{Call, Adds, link_call}
 use Rattle.mg_files.specs.Links.{KeepsBytes}
-use Rattle.mg_files.specs.OpenState.{OpenState}
-use Rattle.mg_files.specs.Saving.{has_unsaved, saved, written, AtLog, AtText, IsSaved, SavesTo}
+use Rattle.mg_buffer.specs.OpenState.{OpenState, has_unsaved}
+use Rattle.mg_files.specs.Saving.{saved, written, AtLog, AtText, IsSaved, SavesTo}
 use Rattle.mg_sync.specs.declared.fault.ExchangeFault.{ExchangeFault}
 use Rattle.mg_sync.specs.declared.fault.ExchangeFault.TheVariants.{Save, Link, Send, Receive}
 use Rattle.mg_sync.specs.declared.talking.Exchanged.{Exchanged}

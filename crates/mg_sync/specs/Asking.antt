@@ -9,7 +9,7 @@ use Rattle.rga_exchange.specs.declared.fault.SendFault.TheVariants as send
 use Rattle.rga_digest.specs.Summary.{Summary, IsSummary}
 use Rattle.rga_brief.specs.Heard.{ReadsToBlock}
 use Rattle.rga_brief.specs.Told.{TellsSummary, summary_heard, summary_text}
-use Rattle.mg_files.specs.OpenState.{OpenState}
+use Rattle.mg_buffer.specs.OpenState.{OpenState}
 use Rattle.mg_sync.specs.declared.fault.ExchangeFault.{ExchangeFault}
 use Rattle.mg_sync.specs.declared.fault.ExchangeFault.TheVariants.{Send, Receive}
 

@@ -8,7 +8,7 @@ use Rattle.rga_exchange.specs.declared.fault.SendFault.{SendFault}
 use Rattle.rga_digest.specs.Summary.{Summary}
 use Rattle.mg_files.specs.Calls.{Call, Adds}
 use Rattle.mg_files.specs.Links.{KeepsBytes}
-use Rattle.mg_files.specs.OpenState.{OpenState}
+use Rattle.mg_buffer.specs.OpenState.{OpenState}
 use Rattle.mg_files.specs.Saving.{saved}
 use Rattle.mg_sync.specs.declared.fault.ExchangeFault.{ExchangeFault}
 use Rattle.mg_sync.specs.declared.talking.Exchanged.{Exchanged}

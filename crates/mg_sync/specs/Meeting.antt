@@ -10,7 +10,7 @@ use Rattle.mg_files.specs.declared.port.CallKind.TheVariants.{Connect, Accept, F
 use Rattle.mg_files.specs.declared.port.LinkFault.{LinkFault}
 use Rattle.mg_files.specs.declared.port.PortFault.{PortFault}
 use Rattle.mg_files.specs.Calls.{Call, link_call, link_refusals, Adds, failures_after, failures_after_link}
-use Rattle.mg_files.specs.OpenState.{OpenState}
+use Rattle.mg_buffer.specs.OpenState.{OpenState}
 use Rattle.mg_files.specs.Saving.{save_calls, saved, SavesTo}
 use Rattle.mg_sync.specs.declared.fault.ExchangeFault.{ExchangeFault}
 use Rattle.mg_sync.specs.declared.fault.ExchangeFault.TheVariants.{Save, Link, Send, Receive}

@@ -16,7 +16,7 @@ use Rattle.rga_exchange.specs.declared.fault.SendFault.TheVariants as send
 use Rattle.rga_digest.specs.Summary.{Summary, missing}
 use Rattle.mg_buffer.specs.Following.{TakesOperations}
 use Rattle.mg_buffer.specs.State.{State}
-use Rattle.mg_files.specs.OpenState.{OpenState}
+use Rattle.mg_buffer.specs.OpenState.{OpenState}
 
 -- ---- what is sent of what is held
 

@@ -5,7 +5,7 @@ ghost use Rattle.rga_brief.specs.Told.{IsTold};
 ghost use Rattle.mg_sync.specs.Asking.{Asks, Connects, LearnsOver, SaysOver, Waits};
 
 use crate::fault::ExchangeFault;
-use mg_files::VisitedBuffer;
+use mg_buffer::VisitedBuffer;
 use rga_brief::{hear_summary, send_lines, summary_lines};
 use rga_devices::Counted;
 use rga_digest::Summary;

@@ -6,7 +6,8 @@ ghost use Rattle.mg_sync.specs.Meeting.{CountsFaults};
 use crate::asking::ask;
 use crate::fault::ExchangeFault;
 use crate::talking::{Exchanged, hear, peer_answer, tell};
-use mg_files::{Port, VisitedBuffer};
+use mg_buffer::VisitedBuffer;
+use mg_files::{Port, save};
 use rga_devices::Counted;
 use rga_store::Teller;
 use std::alloc::Global;
@@ -34,7 +35,7 @@ pub fn exchange<S: Teller, P: Port>(
         opened.old opened.new Connects result }
     ensures device { CountsFaults result (P.failures port.old) (P.failures port.new) }
 {
-    opened.save(port)?;
+    save(alloc, opened, port)?;
     let mut writer = Counted::new(port.connect()?);
     let peer = ask(alloc, opened, &mut writer)?;
     let sent = tell(alloc, opened, &peer, &mut writer)?;
@@ -42,6 +43,6 @@ pub fn exchange<S: Teller, P: Port>(
     port.finish(&mut link)?;
     let mut reader = Counted::new(link);
     let heard = hear(alloc, opened, &mut reader);
-    let received = peer_answer(heard, opened.save(port))?;
+    let received = peer_answer(heard, save(alloc, opened, port))?;
     Ok(Exchanged { sent, received })
 }

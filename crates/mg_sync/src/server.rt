@@ -6,7 +6,8 @@ ghost use Rattle.mg_sync.specs.Meeting.{CountsFaults};
 use crate::asking::answer;
 use crate::fault::ExchangeFault;
 use crate::talking::{Exchanged, hear, peer_answer, tell};
-use mg_files::{Port, VisitedBuffer};
+use mg_buffer::VisitedBuffer;
+use mg_files::{Port, save};
 use rga_devices::Counted;
 use rga_store::Teller;
 use std::alloc::Global;
@@ -34,11 +35,11 @@ pub fn serve<S: Teller, P: Port>(
         opened.old opened.new Waits result }
     ensures device { CountsFaults result (P.failures port.old) (P.failures port.new) }
 {
-    opened.save(port)?;
+    save(alloc, opened, port)?;
     let mut reader = Counted::new(port.accept()?);
     let peer = answer(alloc, opened, &mut reader)?;
     let heard = hear(alloc, opened, &mut reader);
-    let received = peer_answer(heard, opened.save(port))?;
+    let received = peer_answer(heard, save(alloc, opened, port))?;
     let mut writer = Counted::new(reader.into_inner());
     let sent = tell(alloc, opened, &peer, &mut writer)?;
     Ok(Exchanged { sent, received })

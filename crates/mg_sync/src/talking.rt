@@ -5,7 +5,8 @@ ghost use Rattle.mg_sync.specs.Meeting as spec;
 ghost use Rattle.mg_sync.specs.Talking.{SendsOver, HearsOver};
 
 use crate::fault::ExchangeFault;
-use mg_files::{PortFault, VisitedBuffer};
+use mg_buffer::VisitedBuffer;
+use mg_files::PortFault;
 use rga_brief::send_missing;
 use rga_devices::Counted;
 use rga_digest::Summary;

@@ -6,7 +6,7 @@ use Rattle.mg_buffer.specs.declared.fault.BufferFault.TheVariants.{Store}
 use Rattle.mg_buffer.specs.Faults.{FaultVerdict}
 use Rattle.mg_buffer.specs.Sight.{Notes}
 use Rattle.mg_buffer.specs.State.{State}
-use Rattle.mg_files.specs.OpenState.{OpenState}
+use Rattle.mg_buffer.specs.OpenState.{OpenState}
 use Rattle.mg_workspace.specs.Actions.{ActionVerdict, ActionOutcome, of_buffer, current_state, with_state_and_notes, ActsInCurrent}
 use Rattle.mg_workspace.specs.Buffers.{no_buffer, with_current}
 use Rattle.mg_workspace.specs.Workspaces.{Workspace, workspace_buffer}

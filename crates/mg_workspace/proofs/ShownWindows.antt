@@ -5,7 +5,7 @@ use Rattle.std.proofs.lemmas.List.{take_more}
 use Rattle.std.proofs.lemmas.List.Sums.{sum_by-cons}
 use Rattle.std.proofs.lemmas.Option.{slice_get_within, get_or_from_slice_get, slice_get-map, slice_get-get_or, same_Some}
 use Rattle.std.proofs.lemmas.Simd.{map-map}
-use Rattle.mg_files.specs.OpenState.{OpenState}
+use Rattle.mg_buffer.specs.OpenState.{OpenState}
 use Rattle.mg_screen.specs.Cursor.{cursor, pane_cursor, rows_above, shows_point}
 use Rattle.mg_screen.specs.Layout.{Window, window, Layout, layout, all_shown, shown_layout, heights, rows_of, IsTall}
 use Rattle.mg_screen.specs.Screen.{Pane, Screen}

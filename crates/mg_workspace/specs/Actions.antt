@@ -11,8 +11,7 @@ use Rattle.mg_buffer.specs.Ran as buffer_run
 use Rattle.mg_buffer.specs.Undid as buffer_undo
 use Rattle.mg_buffer.specs.Sight.{Notes, command_call, place_of}
 use Rattle.mg_buffer.specs.State.{State}
-use Rattle.mg_files.specs.OpenState.{OpenState}
-use Rattle.mg_files.specs.Saving.{is_changed}
+use Rattle.mg_buffer.specs.OpenState.{OpenState, is_changed}
 use Rattle.mg_minibuffer.specs.declared.ending.Arrangement.{Arrangement}
 use Rattle.mg_minibuffer.specs.declared.ending.Arrangement.TheVariants.{Split, Remove, Only, Other, Recenter}
 use Rattle.mg_minibuffer.specs.declared.ending.Action.{Action}

@@ -4,8 +4,7 @@ use Rattle.std.specs.List.{list_any, remove}
 use Rattle.rga_ops.specs.Content.{nothing}
 use Rattle.rga_ops.specs.Identifier.{root}
 use Rattle.mg_buffer.specs.State.{State}
-use Rattle.mg_files.specs.OpenState.{OpenState}
-use Rattle.mg_files.specs.Saving.{is_changed}
+use Rattle.mg_buffer.specs.OpenState.{OpenState, is_changed}
 use Rattle.mg_workspace.specs.Names.{moved}
 
 -- in the order in which they were opened, of which one is current

@@ -1,7 +1,7 @@
 -- Buffers by their names, and where they stand once one is removed.
 use Rattle.std.specs.Prelude.{ℕ, ◌+◌, ◌-◌, Bool, List, length, Option, Some, position, chars, nat_eq, nat_lt, if◌then◌else◌}
 use Rattle.std.specs.Cmp.Lexicographic.{pointwise}
-use Rattle.mg_files.specs.OpenState.{OpenState}
+use Rattle.mg_buffer.specs.OpenState.{OpenState}
 
 -- the characters are a buffer's name
 abbrev pub is_named : List ℕ → OpenState → Bool

@@ -1,9 +1,7 @@
 -- The workspace of one buffer, and buffers that are opened in it.
-use Rattle.std.specs.Prelude.{◌-◌, Bool, [], ◌∷◌, length, nat_le, Result, Ok, Err}
-use Rattle.rga_exchange.specs.declared.log.LogEnd.{LogEnd}
+use Rattle.std.specs.Prelude.{◌-◌, Bool, [], ◌∷◌, length, nat_le}
 use Rattle.mg_plain.specs.declared.view.Kind.TheVariants.{Plain}
-use Rattle.mg_files.specs.OpenState.{OpenState, with_brief, with_runs}
-use Rattle.mg_files.specs.declared.fault.LoadFault.{LoadFault}
+use Rattle.mg_buffer.specs.OpenState.{OpenState, with_brief, with_runs}
 use Rattle.mg_screen.specs.Layout.{layout, window}
 use Rattle.mg_settings.specs.Settings.{Values}
 use Rattle.mg_workspace.specs.Buffers.{with_buffer}
@@ -33,8 +31,3 @@ is_full w = nat_le MAX_BUFFERS (length w.buffers.all)
 -- current and shown by the current window
 abbrev pub with_opened : OpenState → Workspace → Workspace
 with_opened b w = record w { buffers = with_buffer (with_brief w.brief (with_runs w.runs b)) w.buffers; windows = turned_to_buffer (length w.buffers.all) w.windows }
-
--- with what was loaded, and how its log ends; or the fault
-abbrev pub open_outcome : Result (OpenState × LogEnd) LoadFault → Workspace → Workspace × Result LogEnd LoadFault
-open_outcome (Ok l) w = (with_opened l.0 w, Ok l.1)
-open_outcome (Err fault) w = (w, Err fault)

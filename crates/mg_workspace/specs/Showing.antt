@@ -2,8 +2,7 @@
 use Rattle.std.specs.Prelude.{ℕ, false, List, [], length, map, Option, Some, None, slice_get}
 use Rattle.rga_ops.specs.Order.{text, waiting}
 use Rattle.mg_buffer.specs.Sight.{place_of}
-use Rattle.mg_files.specs.OpenState.{OpenState}
-use Rattle.mg_files.specs.Saving.{is_changed}
+use Rattle.mg_buffer.specs.OpenState.{OpenState, is_changed}
 use Rattle.mg_screen.specs.Layout.{Window, window, Layout, layout}
 use Rattle.mg_screen.specs.Lines.{first_line}
 use Rattle.mg_screen.specs.Screen.{Pane}

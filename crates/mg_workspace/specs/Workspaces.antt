@@ -2,7 +2,7 @@
 use Rattle.std.specs.Prelude.{ℕ, Bool}
 use Rattle.rga_ops.specs.Order.{text}
 use Rattle.mg_buffer.specs.Sight.{Notes, place_of}
-use Rattle.mg_files.specs.OpenState.{OpenState}
+use Rattle.mg_buffer.specs.OpenState.{OpenState}
 use Rattle.mg_screen.specs.Layout.{Layout, current_height}
 use Rattle.mg_workspace.specs.Buffers as buffers
 use Rattle.mg_workspace.specs.Buffers.{are_changed}

@@ -12,7 +12,7 @@ use crate::buffers::Buffers;
 use crate::fault::{ActionFault, of_windows};
 use crate::viewport::Viewport;
 use crate::workspace::Workspace;
-use mg_files::VisitedBuffer;
+use mg_buffer::VisitedBuffer;
 use mg_minibuffer::Arrangement;
 use mg_screen::{WindowFault, Windows, centred_line};
 use rga_store::TextStore;

@@ -5,8 +5,7 @@ ghost use Rattle.mg_plain.specs.declared.view.Kind.TheVariants.{Plain};
 ghost use Rattle.mg_workspace.specs.Buffers as spec;
 ghost use Rattle.mg_workspace.specs.Names as names;
 
-use mg_buffer::Memo;
-use mg_files::VisitedBuffer;
+use mg_buffer::{Memo, VisitedBuffer};
 use rga_ops::Refusal;
 use rga_store::TextStore;
 use std::alloc::{AllocError, Global};
@@ -23,7 +22,7 @@ impl<S: TextStore> Model for Buffers<S> {
     ghost use Rattle.std.specs.Prelude.{◌<◌, length};
     ghost use Rattle.mg_workspace.specs.Buffers as spec;
     ghost use Rattle.std.specs.Coded.{codes};
-    ghost use Rattle.mg_files.specs.OpenState.{open_state_code};
+    ghost use Rattle.mg_buffer.specs.OpenState.{open_state_code};
 
     ghost Value = { spec.Buffers };
 
@@ -36,7 +35,7 @@ impl<S: TextStore> Model for Buffers<S> {
 
 impl<S: TextStore> Buffers<S> {
     ghost use Rattle.std.specs.Borrow.{Lends, sem};
-    ghost use Rattle.mg_files.specs.contracts.visited_buffer.VisitedBuffer.{the_row as of_buffer};
+    ghost use Rattle.mg_buffer.specs.contracts.visited_buffer.VisitedBuffer.{the_row as of_buffer};
     ghost use Rattle.mg_workspace.specs.contracts.buffers.Buffers.{the_row};
 
     /// One buffer, which is current. `AllocError` alone.

@@ -1,7 +1,5 @@
-//! Buffers by their names: gone to, removed, opened.
-ghost use Rattle.std.specs.Prelude.{◌≡◌, ◌≢◌, ◌<◌, ◌≤◌, Err, length, string_bytes, OnErr};
-ghost use Rattle.mg_files.specs.Loading.{load_outcome};
-ghost use Rattle.mg_files.specs.declared.fault.LoadFault.TheVariants as load_fault;
+//! Buffers that are gone to, removed, opened.
+ghost use Rattle.std.specs.Prelude.{◌≡◌, ◌≢◌, ◌<◌, ◌≤◌, Err, length, OnOk, OnErr};
 ghost use Rattle.mg_workspace.specs.declared.fault.ActionFault.TheVariants.{Memory};
 ghost use Rattle.mg_workspace.specs.declared.workspace.TheConstants.{MAX_BUFFERS};
 ghost use Rattle.mg_workspace.specs.Actions as spec;
@@ -13,11 +11,11 @@ use crate::buffers::{Buffers, moved};
 use crate::fault::ActionFault;
 use crate::viewport::Viewport;
 use crate::workspace::{MAX_BUFFERS, Workspace};
-use mg_files::{Found, LoadFault, VisitedBuffer};
+use mg_buffer::VisitedBuffer;
 use mg_minibuffer::Message;
 use mg_screen::Windows;
-use rga_exchange::LogEnd;
 use rga_store::TextStore;
+use std::alloc::AllocError;
 
 /// The current window shows the current buffer, from the same line on.
 fn turn<S: TextStore>(windows: &mut Windows<Viewport>, buffers: &Buffers<S>)
@@ -113,30 +111,18 @@ impl<S: TextStore> Workspace<S> {
         self.buffers.count() >= MAX_BUFFERS
     }
 
-    /// Opens a buffer by what was found under its name, as `VisitedBuffer::load` does, with the
-    /// replica and the limit of the workspace; its saves append runs, and its exchanges are brief,
-    /// where those of the first buffer do and are. Answers how its log ends. It is current then,
-    /// and the current window shows it.
-    ///
-    /// Faults: those of `VisitedBuffer::load`, and nothing changes then.
-    pub fn open(&mut self, name: String, found: Found) -> Result<LogEnd, LoadFault>
+    /// One more buffer is open: its saves append runs, and its exchanges are brief, where those of the
+    /// first buffer do and are. It is current then, and the current window shows it. `AllocError`
+    /// alone, and nothing changes then.
+    pub fn open(&mut self, mut opened: VisitedBuffer<S>) -> Result<(), AllocError>
         requires { length self.old.buffers.all < MAX_BUFFERS }
-        ensures exact { let w = self.old in result ≢ Err load_fault.Memory →
-            (self.new, result) ≡
-            opening.open_outcome (load_outcome (string_bytes name) w.replica w.limit found) w }
+        ensures opened { OnOk result (self.new ≡ opening.with_opened opened self.old) }
         ensures same { OnErr result (self.new ≡ self.old) }
     {
-        let (mut opened, end) = VisitedBuffer::load(
-            self.alloc,
-            name,
-            self.replica,
-            self.limit,
-            found,
-        )?;
         opened.append_runs(self.runs);
         opened.exchange_briefly(self.brief);
         self.buffers.open(opened)?;
         turn(&mut self.windows, &self.buffers);
-        Ok(end)
+        Ok(())
     }
 }

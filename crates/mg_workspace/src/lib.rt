@@ -3,9 +3,9 @@
 //! A `Workspace` does the actions that steps lead to: the current buffer runs a command or undoes,
 //! or the windows change; it lends the current buffer, tells what a step is decided from, and
 //! places and shows the windows for a frame. Why an action is refused it says as a message; keys
-//! and prompts are above, as are files and peers. The crate stands on mg_files and mg_buffer for
-//! buffers, on mg_minibuffer for actions and messages, on mg_screen for windows, and is generic
-//! over any `TextStore`. The layer above may rest on `Done`: what each action leaves of the buffers
+//! and prompts are above, as are files and peers. The crate stands on mg_buffer for buffers, on
+//! mg_minibuffer for actions and messages, on mg_screen for windows, and is generic over any
+//! `TextStore`. The layer above may rest on `Done`: what each action leaves of the buffers
 //! and the windows, and why it is refused; want of memory changes nothing.
 #![tactic(auto)]
 

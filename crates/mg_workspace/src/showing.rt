@@ -2,7 +2,7 @@
 ghost use Rattle.std.specs.Prelude.{◌≡◌, ◌<◌, ◌≤◌, ℕ, List, Some, IfOk, IfSome, OnOk, length, slice_get, ◌++◌, [], ◌∷◌};
 ghost use Rattle.mg_screen.specs.declared.size.TheConstants.{MAX_ROWS};
 ghost use Rattle.mg_screen.specs.Layout.{all_shown, window, FillsRows};
-ghost use Rattle.mg_files.specs.OpenState.{OpenState};
+ghost use Rattle.mg_buffer.specs.OpenState.{OpenState};
 ghost use Rattle.mg_workspace.specs.Viewports.{ShowThese};
 ghost use Rattle.mg_workspace.specs.Showing as spec;
 ghost use Rattle.mg_workspace.specs.Workspaces.{workspace_buffer};
@@ -11,8 +11,7 @@ use crate::arranging::{height_at, viewport_at};
 use crate::buffers::Buffers;
 use crate::viewport::Viewport;
 use crate::workspace::Workspace;
-use mg_buffer::Memo;
-use mg_files::VisitedBuffer;
+use mg_buffer::{Memo, VisitedBuffer};
 use mg_screen::{FrameFault, Pane, Windows, first_line};
 use rga_store::TextStore;
 use std::alloc::{AllocError, Global};

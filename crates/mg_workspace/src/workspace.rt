@@ -1,20 +1,18 @@
 //! What is worked on: the buffers, what commands leave for the next one, and the windows.
 ghost use Rattle.std.specs.Prelude.{◌≡◌, ◌≤◌, IfOk, IfErr, IfSome};
-ghost use Rattle.mg_files.specs.declared.fault.LoadFault.TheVariants.{Memory};
 ghost use Rattle.mg_screen.specs.declared.size.TheConstants.{MIN_COLUMNS, MAX_COLUMNS};
 ghost use Rattle.mg_workspace.specs.Opening.{workspace};
 ghost use Rattle.mg_workspace.specs.Workspaces as spec;
 
 use crate::buffers::Buffers;
 use crate::viewport::Viewport;
-use mg_buffer::Memo;
-use mg_files::{LoadFault, VisitedBuffer};
+use mg_buffer::{Memo, VisitedBuffer};
 use mg_minibuffer::Scene;
 use mg_screen::Windows;
 use mg_settings::Settings;
 use rga_ops::Refusal;
 use rga_store::TextStore;
-use std::alloc::Global;
+use std::alloc::{AllocError, Global};
 use std::marker::Model;
 
 /// How many buffers are open at most.
@@ -24,7 +22,6 @@ pub const MAX_BUFFERS: usize = 64;
 /// buffer from a line on. The current window shows the current buffer.
 #[derive(Drop)]
 pub struct Workspace<S: TextStore> {
-    pub(crate) alloc: Global,
     pub(crate) buffers: Buffers<S>,
     pub(crate) memo: Memo,
     pub(crate) windows: Windows<Viewport>,
@@ -51,7 +48,7 @@ impl<S: TextStore> Model for Workspace<S> {
     ghost use Rattle.mg_screen.specs.declared.size.TheConstants.{MIN_COLUMNS, MAX_COLUMNS};
     ghost use Rattle.mg_workspace.specs.Workspaces as spec;
     ghost use Rattle.std.specs.Coded.{codes};
-    ghost use Rattle.mg_files.specs.OpenState.{open_state_code};
+    ghost use Rattle.mg_buffer.specs.OpenState.{open_state_code};
     ghost use Rattle.mg_screen.specs.Layout.{layout_code};
     ghost use Rattle.mg_workspace.specs.Viewports.{AreShown, viewport_code};
 
@@ -77,27 +74,25 @@ impl<S: TextStore> Model for Workspace<S> {
 
 impl<S: TextStore> Workspace<S> {
     ghost use Rattle.std.specs.Borrow.{Lends, sem};
-    ghost use Rattle.mg_files.specs.contracts.visited_buffer.VisitedBuffer.{the_row as of_buffer};
+    ghost use Rattle.mg_buffer.specs.contracts.visited_buffer.VisitedBuffer.{the_row as of_buffer};
     ghost use Rattle.mg_workspace.specs.contracts.workspace.Workspace.{the_row};
 
-    /// One buffer in one window, from its first line on. `Memory` alone.
+    /// One buffer in one window, from its first line on. `AllocError` alone.
     pub fn new(
         alloc: Global,
         settings: &Settings,
         mut opened: VisitedBuffer<S>,
-    ) -> Result<Workspace<S>, LoadFault>
+    ) -> Result<Workspace<S>, AllocError>
         ensures exact { IfOk result (λ w. w ≡ workspace settings.now opened) }
-        ensures memory { IfErr result (λ e. e ≡ Memory) }
     {
         let values = settings.values();
         opened.append_runs(values.runs);
         opened.exchange_briefly(values.brief);
         let buffers = Buffers::new(alloc, opened)?;
         let Ok(windows) = Windows::new(alloc, settings.rows(), BEGINNING) else {
-            return Err(LoadFault::Memory);
+            return Err(AllocError);
         };
         Ok(Workspace {
-            alloc,
             buffers,
             memo: Memo::new(alloc),
             windows,
@@ -158,6 +153,20 @@ impl<S: TextStore> Workspace<S> {
         ensures to { result ≤ MAX_COLUMNS }
     {
         self.columns
+    }
+
+    /// The replica of buffers that are opened. Takes no memory.
+    pub fn replica(&self) -> u16
+        ensures { result ≡ self.now.replica }
+    {
+        self.replica
+    }
+
+    /// The limit of buffers that are opened. Takes no memory.
+    pub fn limit(&self) -> usize
+        ensures { result ≡ self.now.limit }
+    {
+        self.limit
     }
 
     /// What a step is decided from. `None` where the current buffer is not listed. Takes no memory.

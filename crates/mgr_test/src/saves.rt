@@ -1,6 +1,6 @@
 //! Saves over a port whose calls are refused in turn.
-use mg_buffer::{BufferFault, Memo};
-use mg_files::{CallKind, Found, VisitedBuffer};
+use mg_buffer::{BufferFault, Memo, VisitedBuffer};
+use mg_files::{CallKind, Found, load, save};
 use mg_plain::Command;
 use rga_store::TextStore;
 use rga_tree::TreeStore;
@@ -13,7 +13,7 @@ fn empty<S: TextStore>(alloc: Global) -> Option<VisitedBuffer<S>> {
         text: None,
     };
     let name = String::from_str(alloc, "notes").ok()?;
-    let (opened, _) = VisitedBuffer::load(alloc, name, 1, 100, found).ok()?;
+    let (opened, _) = load(alloc, name, 1, 100, found).ok()?;
     Some(opened)
 }
 
@@ -27,10 +27,15 @@ fn type_letter<S: TextStore>(
 
 /// Saves once for each letter, where the call that it stands for is refused: the append, the whole
 /// log, the text, or none.
-fn save_each<S: TextStore>(opened: &mut VisitedBuffer<S>, port: &mut MemoryPort, letters: &str) {
+fn save_each<S: TextStore>(
+    alloc: Global,
+    opened: &mut VisitedBuffer<S>,
+    port: &mut MemoryPort,
+    letters: &str,
+) {
     for letter in letters.chars() {
         port.refused = refused_at(letter);
-        let _answer = opened.save(port);
+        let _answer = save(alloc, opened, port);
     }
 }
 
@@ -52,7 +57,7 @@ fn saves<S: TextStore>(
     unsaved: bool,
 ) -> bool {
     let mut port = MemoryPort::new(alloc);
-    save_each(opened, &mut port, letters);
+    save_each(alloc, opened, &mut port, letters);
     let mut line = String::new(alloc);
     port.push_calls(&mut line).is_ok() && line.as_str() == calls && opened.is_changed() == unsaved
 }

@@ -4,7 +4,7 @@ use Rattle.rga_ops.specs.Order.{text}
 use Rattle.mg_buffer.specs.Faults.{FaultVerdict}
 use Rattle.mg_buffer.specs.Sight.{Notes}
 use Rattle.mg_buffer.specs.State.{State}
-use Rattle.mg_files.specs.OpenState.{OpenState}
+use Rattle.mg_buffer.specs.OpenState.{OpenState}
 use Rattle.mg_keys.specs.declared.step.Step.TheVariants.{Run}
 use Rattle.mg_keys.specs.Begun.{Answers}
 use Rattle.mg_minibuffer.specs.declared.message.Message.{Message}

@@ -1,5 +1,5 @@
 use Rattle.std.proofs.Common.{refl, subst}
-use Rattle.mg_files.specs.OpenState.{OpenState}
+use Rattle.mg_buffer.specs.OpenState.{OpenState}
 use Rattle.mg_sync.specs.Talking.{HearsOver}
 use Rattle.mg_sync.proofs.talking.hear.Goals as goal
 

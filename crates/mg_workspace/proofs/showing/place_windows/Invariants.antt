@@ -1,5 +1,5 @@
 use Rattle.std.proofs.Common.{◌≡◌, ◌++◌, List, length, map, take, drop}
-use Rattle.mg_files.specs.OpenState.{OpenState}
+use Rattle.mg_buffer.specs.OpenState.{OpenState}
 use Rattle.mg_screen.specs.Layout.{all_shown, layout}
 use Rattle.mg_workspace.specs.Showing.{placed_windows, placed_window}
 use Rattle.mg_workspace.proofs.showing.place_windows.Given as goal

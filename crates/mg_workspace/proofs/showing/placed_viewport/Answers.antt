@@ -1,7 +1,7 @@
 use Rattle.std.proofs.Common.{sym, ap, ◌∙◌, Some}
 use Rattle.rga_ops.specs.Order.{text}
 use Rattle.mg_buffer.specs.Sight.{place_of}
-use Rattle.mg_files.specs.OpenState.{OpenState}
+use Rattle.mg_buffer.specs.OpenState.{OpenState}
 use Rattle.mg_screen.specs.Layout.{Window, window}
 use Rattle.mg_screen.specs.Lines.{first_line}
 use Rattle.mg_workspace.specs.declared.viewport.Viewport.{Viewport}

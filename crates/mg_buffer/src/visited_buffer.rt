@@ -1,34 +1,28 @@
-//! Buffers that are open, with what is still to be written of them.
-ghost use Rattle.std.specs.Prelude.{◌≡◌};
-ghost use Rattle.std.specs.Prelude.{false};
-ghost use Rattle.mg_files.specs.Loading.{ends_open};
-ghost use Rattle.mg_files.specs.OpenState.{with_brief, with_runs};
-ghost use Rattle.mg_files.specs.Saving.{is_changed};
+//! Buffers that visit files, with what is still to be written of them.
+ghost use Rattle.std.specs.Prelude.{◌≡◌, [], true, false};
+ghost use Rattle.mg_buffer.specs.OpenState.{is_changed, with_brief, with_runs};
 
-use mg_buffer::Buffer;
-use rga_exchange::LogEnd;
+use crate::buffer::Buffer;
 use rga_store::TextStore;
-use std::alloc::Global;
 use std::marker::Model;
 
 /// A buffer with what is still to be written of it, beside its unsaved operations.
 #[derive(Drop)]
 pub struct VisitedBuffer<S: TextStore> {
-    pub(crate) alloc: Global,
     pub buffer: Buffer<S>,
     /// The log may not end in a newline: it was loaded so, or writing it failed, and it was not
     /// written whole since. The next writing of it is then a whole one.
-    pub(crate) whole: bool,
+    whole: bool,
     /// The log has operations that were written since the text was put.
-    pub(crate) text_waits: bool,
+    text_waits: bool,
     /// Whether a save of many operations appends them in runs.
-    pub(crate) runs: bool,
+    runs: bool,
     /// Whether an exchange tells first what is known, and sends only what the peer lacks.
-    pub(crate) brief: bool,
+    brief: bool,
 }
 
 impl<S: TextStore> Model for VisitedBuffer<S> {
-    ghost use Rattle.mg_files.specs.OpenState.{OpenState, open_state_code};
+    ghost use Rattle.mg_buffer.specs.OpenState.{OpenState, open_state_code};
 
     ghost Value = { OpenState };
 
@@ -44,33 +38,39 @@ impl<S: TextStore> Model for VisitedBuffer<S> {
 }
 
 impl<S: TextStore> VisitedBuffer<S> {
-    /// A buffer as it was loaded, by how its log ends. A save of it appends a line an operation, and
-    /// an exchange sends all that it holds.
-    pub(crate) fn new(alloc: Global, buffer: Buffer<S>, end: LogEnd) -> VisitedBuffer<S>
+    /// A buffer as it was loaded, and whether the next writing of its log is a whole one. A save of
+    /// it appends a line an operation, and an exchange sends all that it holds. Takes no memory.
+    pub fn new(buffer: Buffer<S>, whole: bool) -> VisitedBuffer<S>
         ensures { result ≡ record {
           buffer = buffer;
-          whole = ends_open end;
+          whole = whole;
           text_waits = false;
           runs = false;
           brief = false;
         } }
     {
         VisitedBuffer {
-            alloc,
             buffer,
-            whole: end != LogEnd::Whole,
+            whole,
             text_waits: false,
             runs: false,
             brief: false,
         }
     }
 
-    /// Whether a save that appends more than `MAX_SINGLE` operations puts those in a row that are a
-    /// run in one line. Takes no memory.
+    /// Whether a save that appends many operations puts those in a row that are a run in one line.
+    /// Takes no memory.
     pub fn append_runs(&mut self, runs: bool)
         ensures { self.new ≡ with_runs runs self.old }
     {
         self.runs = runs;
+    }
+
+    /// Whether `append_runs` asked for that. Takes no memory.
+    pub fn appends_runs(&self) -> bool
+        ensures { result ≡ self.now.runs }
+    {
+        self.runs
     }
 
     /// Whether an exchange tells first what is known, and sends only what the peer lacks. Takes no
@@ -94,5 +94,39 @@ impl<S: TextStore> VisitedBuffer<S> {
         ensures { result ≡ is_changed self.now }
     {
         !self.buffer.unsaved().is_empty() || self.text_waits
+    }
+
+    /// Whether the next writing of the log is a whole one. Takes no memory.
+    pub fn writes_whole(&self) -> bool
+        ensures { result ≡ self.now.whole }
+    {
+        self.whole
+    }
+
+    /// Notes that the log was written: it has all operations, and the text waits. Takes no memory.
+    pub fn mark_logged(&mut self)
+        ensures { self.new ≡ record self.old {
+          buffer = record self.old.buffer { unsaved = [] };
+          whole = false;
+          text_waits = true;
+        } }
+    {
+        self.buffer.mark_saved();
+        self.whole = false;
+        self.text_waits = true;
+    }
+
+    /// Notes that writing the log failed: the next writing of it is a whole one. Takes no memory.
+    pub fn mark_unlogged(&mut self)
+        ensures { self.new ≡ record self.old { whole = true } }
+    {
+        self.whole = true;
+    }
+
+    /// Notes that the text was put: it waits no more. Takes no memory.
+    pub fn mark_put(&mut self)
+        ensures { self.new ≡ record self.old { text_waits = false } }
+    {
+        self.text_waits = false;
     }
 }

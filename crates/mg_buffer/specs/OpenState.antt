@@ -1,6 +1,7 @@
 -- A buffer that is open, as its callers see it.
-use Rattle.std.specs.Prelude.{Bool, refl}
+use Rattle.std.specs.Prelude.{Bool, true, false, ◌||◌, List, [], ◌∷◌, refl}
 use Rattle.std.specs.Coded.{Coded, code_by, coded×, coded_bool}
+use Rattle.rga_ops.specs.declared.op.Op.{Op}
 use Rattle.mg_buffer.specs.State.{State, state_code}
 
 -- the buffer; whether the next writing of its log is a whole one; whether the log has operations that were written since
@@ -27,3 +28,17 @@ with_runs runs b = record b { runs = runs }
 -- the same buffer, of which exchanges are brief or not
 abbrev pub with_brief : Bool → OpenState → OpenState
 with_brief brief b = record b { brief = brief }
+
+-- ---- what is to be saved of it
+
+abbrev are_any : List Op → Bool
+are_any [] = false
+are_any (op ∷ ops) = true
+
+-- some operation is not in the log
+abbrev pub has_unsaved : OpenState → Bool
+has_unsaved b = are_any b.buffer.unsaved
+
+-- there is something to save
+abbrev pub is_changed : OpenState → Bool
+is_changed b = has_unsaved b || b.text_waits
