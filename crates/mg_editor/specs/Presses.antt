@@ -13,7 +13,6 @@ use Rattle.mg_minibuffer.specs.declared.ending.Reaction.{Reaction}
 use Rattle.mg_minibuffer.specs.declared.ending.Reaction.TheVariants.{Ends, Replaces, Accepts}
 use Rattle.mg_minibuffer.specs.declared.ending.Request.{Request}
 use Rattle.mg_minibuffer.specs.declared.ending.Request.TheVariants.{Idle}
-use Rattle.mg_minibuffer.specs.declared.message.Message.{Message}
 use Rattle.mg_minibuffer.specs.declared.message.Message.TheVariants as message
 use Rattle.mg_minibuffer.specs.declared.prompt.Prompt.{Prompt}
 use Rattle.mg_minibuffer.specs.declared.prompt.Prompt.TheVariants.{Searching}
@@ -28,7 +27,9 @@ use Rattle.mg_dialogue.specs.Dialogues.{Dialogue, Fed, shown, forgotten, search_
 use Rattle.mg_workspace.specs.Actions.{Done}
 use Rattle.mg_workspace.specs.Workspaces.{scene_of}
 use Rattle.mg_workspace.specs.declared.fault.ActionFault.TheVariants.{Refused}
+use Rattle.mg_workspace.specs.declared.fault.Cause.{Cause}
 use Rattle.mg_editor.specs.Editors.{Editor}
+use Rattle.mg_editor.specs.Telling.{message_of_cause}
 use Rattle.mg_editor.specs.declared.fault.Fault.{Fault}
 
 abbrev pub PressAnswer : Type 0
@@ -43,7 +44,7 @@ ran_out e = record e { talk = forgotten e.talk }
 -- an action was refused: why is said, this is the prompt then, and nothing is requested
 abbrev pub Refuses : Action → prompt_behind.Next → Editor → Editor → Request → Type 0
 Refuses action next old new request =
-    (said : Message) × Done action old.work (new.work, Err (Refused said)) × (new.talk ≡ shown next said old.talk) × (request ≡ Idle)
+    (cause : Cause) × Done action old.work (new.work, Err (Refused cause)) × (new.talk ≡ shown next (message_of_cause cause) old.talk) × (request ≡ Idle)
 
 -- the action of an ending was done, and its prompt, its message and its request follow; or it was refused
 abbrev pub Ended : Ending → Editor → Editor → Request → Type 0

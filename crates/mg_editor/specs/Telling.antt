@@ -1,4 +1,4 @@
--- What is told of a request, and what is answered to it.
+-- What is told of an action that is refused and of a request, and what is answered to this.
 use Rattle.std.specs.Prelude.{◌≡◌, Result, Ok, Err}
 use Rattle.rga_exchange.specs.declared.fault.ReceiveFault.{ReceiveFault}
 use Rattle.rga_exchange.specs.declared.fault.ReceiveFault.TheVariants as receive
@@ -16,6 +16,8 @@ use Rattle.mg_sync.specs.declared.fault.ExchangeFault.{ExchangeFault}
 use Rattle.mg_sync.specs.declared.fault.ExchangeFault.TheVariants as exchange
 use Rattle.mg_minibuffer.specs.declared.message.Message.{Message}
 use Rattle.mg_minibuffer.specs.declared.message.Message.TheVariants as message
+use Rattle.mg_workspace.specs.declared.fault.Cause.{Cause}
+use Rattle.mg_workspace.specs.declared.fault.Cause.TheVariants as cause
 use Rattle.mg_workspace.specs.Workspaces.{Workspace, workspace_buffer, with_workspace_buffer}
 use Rattle.mg_editor.specs.Editors.{Editor}
 use Rattle.mg_editor.specs.declared.fault.CarryFault.{CarryFault}
@@ -32,6 +34,17 @@ port_outcome (Err (Load fault)) = Ok tt
 port_outcome (Err (Exchange fault)) = Err fault
 
 -- ---- what is said of faults
+
+-- of an action that is refused
+abbrev pub message_of_cause : Cause → Message
+message_of_cause (cause.Notice notice) = message.Refused notice
+message_of_cause cause.BufferFull = message.BufferFull
+message_of_cause cause.IdentifiersUsedUp = message.IdentifiersUsedUp
+message_of_cause cause.WindowTooSmall = message.WindowTooSmall
+message_of_cause cause.OnlyOneWindow = message.OnlyOneWindow
+message_of_cause cause.NoSuchBuffer = message.NoSuchBuffer
+message_of_cause cause.BufferIsChanged = message.BufferIsChanged
+message_of_cause cause.OnlyOneBuffer = message.OnlyOneBuffer
 
 -- of a port that is asked for files
 abbrev pub message_of_port : PortFault → Message

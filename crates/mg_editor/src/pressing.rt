@@ -7,14 +7,16 @@ ghost use Rattle.mg_minibuffer.specs.declared.ending.Action.TheVariants.{Run};
 ghost use Rattle.mg_workspace.specs.Actions.{Done};
 ghost use Rattle.mg_workspace.specs.Workspaces.{scene_of};
 ghost use Rattle.mg_editor.specs.Presses as spec;
+ghost use Rattle.mg_editor.specs.Telling.{message_of_cause};
 ghost use Rattle.mg_editor.specs.declared.fault.Fault.TheVariants.{Memory};
 
 use crate::editor::Editor;
 use crate::fault::Fault;
+use crate::telling::message_of_cause;
 use mg_keys::Step;
 use mg_minibuffer::{Ending, Message, Next, Reaction, Request, Search, next_match, plain_step};
 use mg_plain::{Chars, Command, Notice};
-use mg_workspace::ActionFault;
+use mg_workspace::{ActionFault, Cause};
 use rga_store::TextStore;
 use std::alloc::{AllocError, Global};
 
@@ -74,14 +76,17 @@ impl<S: TextStore> Editor<S> {
 
     /// Tells why an action was refused. Want of memory leaves prompt and message as they are.
     fn refuse(&mut self, fault: ActionFault, refused: Next) -> Result<Request, Fault>
-        ensures told { IfOk result (λ request. (said : Message) × (fault ≡ ActionFault.Refused said)
-            × (self.new.talk ≡ shown refused said self.old.talk) × (request ≡ Request.Idle)) }
+        ensures told { IfOk result (λ request. (cause : Cause) × (fault ≡ ActionFault.Refused cause)
+            × (self.new.talk ≡ shown refused (message_of_cause cause) self.old.talk)
+            × (request ≡ Request.Idle)) }
         ensures memory { OnErr result (fault ≡ ActionFault.Memory) }
         ensures refused { OnErr result (self.new ≡ spec.ran_out self.old) }
         ensures work { self.new.work ≡ self.old.work }
     {
         match fault {
-            ActionFault::Refused(message) => self.show(refused, message, Request::Idle),
+            ActionFault::Refused(cause) => {
+                self.show(refused, message_of_cause(cause), Request::Idle)
+            }
             ActionFault::Memory => self.run_out(),
         }
     }

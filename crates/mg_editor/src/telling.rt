@@ -1,4 +1,4 @@
-//! What is said of requests, and of their faults.
+//! What is said of requests and actions, and of their faults.
 ghost use Rattle.std.specs.Prelude.{◌≡◌};
 ghost use Rattle.mg_editor.specs.Telling as spec;
 
@@ -8,8 +8,25 @@ use mg_files::{LinkFault, LoadFault, PortFault};
 use mg_minibuffer::Message;
 use mg_plain::Notice;
 use mg_sync::ExchangeFault;
+use mg_workspace::Cause;
 use rga_exchange::{ReceiveFault, SendFault};
 use rga_store::TextStore;
+
+/// What is said of an action that is refused.
+pub(crate) fn message_of_cause(cause: Cause) -> Message
+    ensures { result ≡ spec.message_of_cause cause }
+{
+    match cause {
+        Cause::Notice(notice) => Message::Refused(notice),
+        Cause::BufferFull => Message::BufferFull,
+        Cause::IdentifiersUsedUp => Message::IdentifiersUsedUp,
+        Cause::WindowTooSmall => Message::WindowTooSmall,
+        Cause::OnlyOneWindow => Message::OnlyOneWindow,
+        Cause::NoSuchBuffer => Message::NoSuchBuffer,
+        Cause::BufferIsChanged => Message::BufferIsChanged,
+        Cause::OnlyOneBuffer => Message::OnlyOneBuffer,
+    }
+}
 
 /// What is said of a port that is asked for files.
 fn message_of_port(fault: PortFault) -> Message

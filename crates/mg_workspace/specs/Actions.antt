@@ -16,8 +16,6 @@ use Rattle.mg_minibuffer.specs.declared.ending.Arrangement.{Arrangement}
 use Rattle.mg_minibuffer.specs.declared.ending.Arrangement.TheVariants.{Split, Remove, Only, Other, Recenter}
 use Rattle.mg_minibuffer.specs.declared.ending.Action.{Action}
 use Rattle.mg_minibuffer.specs.declared.ending.Action.TheVariants.{Nothing, EndRun, Run, Undo, Arrange, Switch, Kill}
-use Rattle.mg_minibuffer.specs.declared.message.Message.{Message}
-use Rattle.mg_minibuffer.specs.declared.message.Message.TheVariants as message
 use Rattle.mg_screen.specs.declared.size.TheConstants.{MIN_SPLIT_HEIGHT}
 use Rattle.mg_screen.specs.declared.windows.WindowFault.{WindowFault}
 use Rattle.mg_screen.specs.declared.windows.WindowFault.TheVariants as window
@@ -27,20 +25,22 @@ use Rattle.mg_workspace.specs.Buffers as buffers
 use Rattle.mg_workspace.specs.Names.{buffer_named, asked, next_round}
 use Rattle.mg_workspace.specs.declared.fault.ActionFault.{ActionFault}
 use Rattle.mg_workspace.specs.declared.fault.ActionFault.TheVariants.{Refused, Memory}
+use Rattle.mg_workspace.specs.declared.fault.Cause.{Cause}
+use Rattle.mg_workspace.specs.declared.fault.Cause.TheVariants as cause
 use Rattle.mg_workspace.specs.declared.viewport.Viewport.{Viewport}
 use Rattle.mg_workspace.specs.Viewports.{current_viewport, turned_to_buffer, scrolled, layout_without}
 use Rattle.mg_workspace.specs.Workspaces.{Workspace, workspace_buffer}
 
 -- why an action is not done, by what the buffer and the windows say
 abbrev pub action_fault_of : BufferFault → ActionFault
-action_fault_of (Noticed notice) = Refused (message.Refused notice)
-action_fault_of (Store Full) = Refused message.BufferFull
-action_fault_of (Store Clock) = Refused message.IdentifiersUsedUp
+action_fault_of (Noticed notice) = Refused (cause.Notice notice)
+action_fault_of (Store Full) = Refused cause.BufferFull
+action_fault_of (Store Clock) = Refused cause.IdentifiersUsedUp
 action_fault_of (Store _) = Memory
 
 abbrev pub window_fault_of : WindowFault → ActionFault
-window_fault_of window.TooSmall = Refused message.WindowTooSmall
-window_fault_of window.OnlyOne = Refused message.OnlyOneWindow
+window_fault_of window.TooSmall = Refused cause.WindowTooSmall
+window_fault_of window.OnlyOne = Refused cause.OnlyOneWindow
 window_fault_of window.Memory = Memory
 
 abbrev pub ActionVerdict : Type 0
@@ -61,8 +61,8 @@ of_windows (Err e) = Err (window_fault_of e)
 abbrev pub ActionOutcome : Type 0
 ActionOutcome = Workspace × ActionVerdict
 
-abbrev pub refusal_outcome : Message → Workspace → ActionOutcome
-refusal_outcome said w = (w, Err (Refused said))
+abbrev pub refusal_outcome : Cause → Workspace → ActionOutcome
+refusal_outcome why w = (w, Err (Refused why))
 
 -- ---- of the current buffer
 
@@ -123,7 +123,7 @@ visit_outcome name w = option_map_or (λ i. (gone_to i w, true)) (buffer_named n
 
 -- what is done with the buffer at an index, or that there is none of the name
 abbrev pub outcome_at : (ℕ → ActionOutcome) → Option ℕ → Workspace → ActionOutcome
-outcome_at f i w = option_map_or f i (refusal_outcome message.NoSuchBuffer w)
+outcome_at f i w = option_map_or f i (refusal_outcome cause.NoSuchBuffer w)
 
 -- to the buffer of that name, or without a name to the next one in order of opening, round
 abbrev pub switch_outcome : List ℕ → Workspace → ActionOutcome
@@ -138,8 +138,8 @@ removed i w = record w { buffers = buffers.without_buffer i w.buffers; windows =
 -- without it, unless it is changed or the only one
 abbrev pub removal_outcome : ℕ → Workspace → ActionOutcome
 removal_outcome i w =
-    if is_changed (buffers.buffer_at i w.buffers) then refusal_outcome message.BufferIsChanged w
-    else (if nat_le (length w.buffers.all) 1 then refusal_outcome message.OnlyOneBuffer w else (removed i w, Ok tt))
+    if is_changed (buffers.buffer_at i w.buffers) then refusal_outcome cause.BufferIsChanged w
+    else (if nat_le (length w.buffers.all) 1 then refusal_outcome cause.OnlyOneBuffer w else (removed i w, Ok tt))
 
 -- without the buffer of that name, or without a name the current one
 abbrev pub kill_outcome : List ℕ → Workspace → ActionOutcome

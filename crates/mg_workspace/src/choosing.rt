@@ -8,11 +8,10 @@ ghost use Rattle.mg_workspace.specs.Opening as opening;
 
 use crate::arranging::{current_viewport, viewport_at};
 use crate::buffers::{Buffers, moved};
-use crate::fault::ActionFault;
+use crate::fault::{ActionFault, Cause};
 use crate::viewport::Viewport;
 use crate::workspace::{MAX_BUFFERS, Workspace};
 use mg_buffer::VisitedBuffer;
-use mg_minibuffer::Message;
 use mg_screen::Windows;
 use rga_store::TextStore;
 use std::alloc::AllocError;
@@ -57,7 +56,7 @@ impl<S: TextStore> Workspace<S> {
         ensures no_memory { result ≢ Err Memory }
     {
         let Some(index) = self.buffers.asked(name, self.buffers.next()) else {
-            return Err(ActionFault::Refused(Message::NoSuchBuffer));
+            return Err(ActionFault::Refused(Cause::NoSuchBuffer));
         };
         self.go_to(index);
         Ok(())
@@ -69,7 +68,7 @@ impl<S: TextStore> Workspace<S> {
         ensures no_memory { result ≢ Err Memory }
     {
         let Some(index) = self.buffers.asked(name, self.buffers.current_index()) else {
-            return Err(ActionFault::Refused(Message::NoSuchBuffer));
+            return Err(ActionFault::Refused(Cause::NoSuchBuffer));
         };
         self.remove(index)
     }
@@ -82,10 +81,10 @@ impl<S: TextStore> Workspace<S> {
         ensures no_memory { result ≢ Err Memory }
     {
         if self.buffers.at(index).is_changed() {
-            return Err(ActionFault::Refused(Message::BufferIsChanged));
+            return Err(ActionFault::Refused(Cause::BufferIsChanged));
         }
         if self.buffers.count() <= 1 {
-            return Err(ActionFault::Refused(Message::OnlyOneBuffer));
+            return Err(ActionFault::Refused(Cause::OnlyOneBuffer));
         }
         self.buffers.remove(index);
         leave(&mut self.windows, index);

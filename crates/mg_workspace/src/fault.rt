@@ -3,15 +3,31 @@ ghost use Rattle.std.specs.Prelude.{◌≡◌};
 ghost use Rattle.mg_workspace.specs.Actions as spec;
 
 use mg_buffer::BufferFault;
-use mg_minibuffer::Message;
+use mg_plain::Notice;
 use mg_screen::WindowFault;
 use rga_ops::Refusal;
+
+/// What an action is refused for.
+#[derive(Clone, Copy)]
+pub enum Cause {
+    /// What a command or an undo says of itself.
+    Notice(Notice),
+    /// The document has no room for more identifiers.
+    BufferFull,
+    /// No counter is left for a new identifier.
+    IdentifiersUsedUp,
+    WindowTooSmall,
+    OnlyOneWindow,
+    NoSuchBuffer,
+    BufferIsChanged,
+    OnlyOneBuffer,
+}
 
 /// Why an action was not done.
 #[derive(Clone, Copy)]
 pub enum ActionFault {
-    /// It was refused, for the reason that the message gives.
-    Refused(Message),
+    /// It was refused, for that cause.
+    Refused(Cause),
     /// A growth of memory was refused.
     Memory,
 }
@@ -22,10 +38,10 @@ pub(crate) fn of_buffer(answer: Result<(), BufferFault>) -> Result<(), ActionFau
 {
     match answer {
         Ok(()) => Ok(()),
-        Err(BufferFault::Notice(notice)) => Err(ActionFault::Refused(Message::Refused(notice))),
-        Err(BufferFault::Store(Refusal::Full)) => Err(ActionFault::Refused(Message::BufferFull)),
+        Err(BufferFault::Notice(notice)) => Err(ActionFault::Refused(Cause::Notice(notice))),
+        Err(BufferFault::Store(Refusal::Full)) => Err(ActionFault::Refused(Cause::BufferFull)),
         Err(BufferFault::Store(Refusal::Clock)) => {
-            Err(ActionFault::Refused(Message::IdentifiersUsedUp))
+            Err(ActionFault::Refused(Cause::IdentifiersUsedUp))
         }
         Err(BufferFault::Store(_)) => Err(ActionFault::Memory),
     }
@@ -37,8 +53,8 @@ pub(crate) fn of_windows(answer: Result<(), WindowFault>) -> Result<(), ActionFa
 {
     match answer {
         Ok(()) => Ok(()),
-        Err(WindowFault::TooSmall) => Err(ActionFault::Refused(Message::WindowTooSmall)),
-        Err(WindowFault::OnlyOne) => Err(ActionFault::Refused(Message::OnlyOneWindow)),
+        Err(WindowFault::TooSmall) => Err(ActionFault::Refused(Cause::WindowTooSmall)),
+        Err(WindowFault::OnlyOne) => Err(ActionFault::Refused(Cause::OnlyOneWindow)),
         Err(WindowFault::Memory) => Err(ActionFault::Memory),
     }
 }

@@ -2,11 +2,11 @@
 //!
 //! A `Workspace` does the actions that steps lead to: the current buffer runs a command or undoes,
 //! or the windows change; it lends the current buffer, tells what a step is decided from, and
-//! places and shows the windows for a frame. Why an action is refused it says as a message; keys
-//! and prompts are above, as are files and peers. The crate stands on mg_buffer for buffers, on
-//! mg_minibuffer for actions and messages, on mg_screen for windows, and is generic over any
-//! `TextStore`. The layer above may rest on `Done`: what each action leaves of the buffers
-//! and the windows, and why it is refused; want of memory changes nothing.
+//! places and shows the windows for a frame. Of an action that is refused it tells the cause; keys,
+//! prompts and messages are above, as are files and peers. The crate stands on mg_buffer for
+//! buffers, on mg_minibuffer for actions, on mg_screen for windows, and is generic over any
+//! `TextStore`. The layer above may rest on `Done`: what each action leaves of the buffers and the
+//! windows, and why it is refused; want of memory changes nothing.
 #![tactic(auto)]
 
 mod actions;
@@ -18,6 +18,6 @@ mod showing;
 mod viewport;
 mod workspace;
 
-pub use fault::ActionFault;
+pub use fault::{ActionFault, Cause};
 pub use viewport::Viewport;
 pub use workspace::{MAX_BUFFERS, Workspace};

@@ -7,14 +7,15 @@ use Rattle.mg_buffer.specs.State.{State}
 use Rattle.mg_buffer.specs.OpenState.{OpenState}
 use Rattle.mg_keys.specs.declared.step.Step.TheVariants.{Run}
 use Rattle.mg_keys.specs.Begun.{Answers}
-use Rattle.mg_minibuffer.specs.declared.message.Message.{Message}
 use Rattle.mg_minibuffer.specs.declared.message.Message.TheVariants.{Nothing}
 use Rattle.mg_dialogue.specs.Dialogues.{Dialogue}
 use Rattle.mg_workspace.specs.Actions.{ActionOutcome, ActsInCurrent, current_state, with_state_and_notes}
 use Rattle.mg_workspace.specs.Workspaces.{Workspace, scene_of}
 use Rattle.mg_workspace.specs.declared.fault.ActionFault.TheVariants.{Refused}
+use Rattle.mg_workspace.specs.declared.fault.Cause.{Cause}
 use Rattle.mg_editor.specs.Editors.{Editor}
 use Rattle.mg_editor.specs.Presses.{FollowsReaction, IsRead, StepTaken, reaction_to}
+use Rattle.mg_editor.specs.Telling.{message_of_cause}
 use Rattle.mg_editor.proofs.laws.a_key_leaves_the_text_that_its_command_gives.Goals as goal
 
 module _ (Becomes : State → Notes → Type 0) (w v : Workspace) where
@@ -23,8 +24,8 @@ module _ (Becomes : State → Notes → Type 0) (w v : Workspace) where
   done (Ok u) (inr t) = (t.0, t.1, t.2, ap (λ (o : ActionOutcome). o.0) t.3)
   done (Err e) (inr is) = let no = ap (λ (o : ActionOutcome). o.1) is in cc
 
-  refused : (said : Message) (verdict : FaultVerdict) → ActsInCurrent verdict Becomes w (v, Err (Refused said)) → (v ≡ w) × (said ≢ Nothing)
-  refused said verdict acts = grind arith
+  refused : (why : Cause) (verdict : FaultVerdict) → ActsInCurrent verdict Becomes w (v, Err (Refused why)) → (v ≡ w) × (message_of_cause why ≢ Nothing)
+  refused why verdict acts = grind arith
 
 pub returns : goal.returns
 returns c = λ byte n bytes command old new request none begun key there p.
