@@ -1,6 +1,5 @@
 //! Undo.
-ghost use Rattle.std.specs.Prelude.{◌≡◌, ◌⊎◌, ◌<◌, Err, IsSome, length, OnOk, OnErr};
-ghost use Rattle.std.specs.Option.{option_map};
+ghost use Rattle.std.specs.Prelude.{◌≡◌, ◌⊎◌, ◌<◌, Err, None, Some, IsSome, length, IfSome, OnOk, OnErr};
 ghost use Rattle.rga_ops.specs.ListAnswer.{IsAnswer};
 ghost use Rattle.rga_ops.specs.Order.{text};
 ghost use Rattle.mg_buffer.specs.Faults.{growth_answer, undo_answer};
@@ -49,8 +48,10 @@ impl<S: TextStore> Buffer<S> {
 
     /// The index of the group that an undo takes.
     fn index_to_undo(&self) -> Option<usize>
-        ensures { result
-            ≡ option_map (λ p. p.0) (group_to_undo self.now.groups self.now.undone) }
+        ensures within { IfSome result (λ i. i < length self.now.groups) }
+        ensures due { IfSome result (λ i. group_to_undo self.now.groups self.now.undone
+            ≡ Some (i, past_at self.now.groups i)) }
+        ensures none { result ≡ None → group_to_undo self.now.groups self.now.undone ≡ None }
     {
         let count = self.undone.unwrap_or(self.history.count());
         if count == 0 || count > self.history.count() {
