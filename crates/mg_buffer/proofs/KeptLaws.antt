@@ -24,6 +24,11 @@ module _ (d e : Document) (point : Marker) (line : KnownLine) (mark : Option Mar
       kept_joined nothing line listed (content ∙ sym (join_nothing d.content)) (subst (λ c. IsLineOfPlace (text c) line) (sym content) kept.line_known)
       (λ now. subst (λ f. IsAtHand f point line mark) (sym same) (kept.at_hand now))
 
+  -- and where the document holds the same, while nothing is at hand
+  pub kept_unlisted : e.content ≡ d.content → IsKeptBuffer e point line mark i false
+  kept_unlisted content =
+      kept_joined nothing line false (content ∙ sym (join_nothing d.content)) (subst (λ c. IsLineOfPlace (text c) line) (sym content) kept.line_known) (λ never. absurd (true≢false (sym never)))
+
 -- so it is where operations were taken, and the line of the front is known
 pub kept_taken : (d e : Document) (point : Marker) (line front : KnownLine) (mark : Option Marker) (h : PastList) (listed : Bool) (x : Content) → IsKeptBuffer d point line mark h listed
     → e.content ≡ join d.content x → front.place ≡ 0 → front.number ≡ 0 → IsKeptBuffer e point front mark h false

@@ -40,7 +40,7 @@ impl<S: TextStore> Taker for Buffer<S> {
         Ok(Taken::New)
     }
 
-    #[tactic(auto, using(crate::proofs::TakingLaws::refused))]
+    #[tactic(auto, using(crate::proofs::TakingLaws::refused, crate::proofs::TakingLaws::all_are_added))]
     fn apply_all(&mut self, ops: &[Op]) -> Result<(), Refusal> {
         take_all(self.alloc, &mut self.doc, &mut self.unsaved, ops)?;
         if ops.is_empty() {
@@ -66,8 +66,12 @@ fn take_one<S: TextStore>(doc: &mut Doc<S>, unsaved: &mut Vec<Op>, op: Op) -> Re
     if answer_at(doc.store(), op)? == Taken::Known {
         return Ok(Taken::Known);
     }
-    unsaved.reserve(1)?;
-    doc.apply(op)?;
+    if unsaved.reserve(1).is_err() {
+        return Err(Refusal::Memory);
+    }
+    if let Err(refusal) = doc.apply(op) {
+        return Err(refusal);
+    }
     add_all(unsaved, &[op]);
     Ok(Taken::New)
 }
@@ -92,10 +96,16 @@ fn take_all<S: TextStore>(
         ≡ unsaved.old.items ++ new_operations doc.old.content ops.now }
     ensures saved { result ≢ Ok tt → unsaved.new.items ≡ unsaved.old.items }
 {
-    early_answer_at(doc.store(), ops)?;
+    if let Err(refusal) = early_answer_at(doc.store(), ops) {
+        return Err(refusal);
+    }
     let new = new_operations_at(alloc, doc.store(), ops)?;
-    unsaved.reserve(new.len())?;
-    doc.apply_all(ops)?;
+    if unsaved.reserve(new.len()).is_err() {
+        return Err(Refusal::Memory);
+    }
+    if let Err(refusal) = doc.apply_all(ops) {
+        return Err(refusal);
+    }
     add_all(unsaved, &new);
     Ok(())
 }

@@ -2,7 +2,6 @@ use Rattle.mg_buffer.proofs.Prelude.{rules, arith, ◌≡◌, [], refl, ap, ◌�
 use Rattle.std.proofs.lemmas.Grind.{common_steps}
 use Rattle.rga_ops.proofs.ContentLaws.{join_nothing}
 use Rattle.mg_buffer.proofs.KeptLaws.{kept_still, kept_taken}
-use Rattle.mg_buffer.proofs.TakingLaws.{all_are_added}
 use Rattle.mg_buffer.proofs.taking.BufferTaker.apply_all.Goals as goal
 
 -- where there was no operation the document is as it was
@@ -14,12 +13,6 @@ invariant_of-self-then-is_empty g c =
     kept_still doc c.take_all.new.doc c.self.inside.point c.self.inside.line c.self.inside.mark c.self.inside.history c.self.inside.history c.self.inside.listed c.self.invariant refl refl
     (c.in_ok-take_all.ensures.whole refl ∙ (λ k. record doc { content = content k; listed = c.in_ok-take_all.ensures.listed refl none k }))
 
-pub returns-then-is_empty-clause-follows : goal.returns-then-is_empty-clause-follows
-returns-then-is_empty-clause-follows g c = all_are_added c.args.self.now _ c.args.ops.now (search rules)
-
 pub invariant_of-self-2 : goal.invariant_of-self-2
 invariant_of-self-2 g c =
     kept_taken c.self.inside.doc c.take_all.new.doc c.self.inside.point c.self.inside.line _ c.self.inside.mark c.self.inside.history c.self.inside.listed (content_of c.args.ops.now) c.self.invariant (search rules) refl refl
-
-pub returns-clause-follows : goal.returns-clause-follows
-returns-clause-follows g c = all_are_added c.args.self.now _ c.args.ops.now (search rules)
