@@ -1,5 +1,5 @@
 //! Commands that run on a buffer.
-ghost use Rattle.std.specs.Prelude.{◌≡◌, ◌⊎◌, ◌≤◌, ◌++◌, true, Err, IsOk, length, IfSome, IfOk, OnOk, OnErr};
+ghost use Rattle.std.specs.Prelude.{◌≡◌, ◌⊎◌, ◌≤◌, ◌++◌, true, Err, Ok, IsOk, length, IfSome, IfOk, IfErr, OnOk, OnErr};
 ghost use Rattle.rga_ops.specs.Prelude.{text};
 ghost use Rattle.rga_ops.specs.Content.{join, content_of};
 ghost use Rattle.rga_ops.specs.ListAnswer.{IsAnswer};
@@ -10,7 +10,7 @@ ghost use Rattle.mg_buffer.specs.Faults.{run_answer};
 ghost use Rattle.mg_buffer.specs.Groups.{past_of, with_group};
 ghost use Rattle.mg_buffer.specs.Kept.{IsLineOfPlace};
 ghost use Rattle.mg_buffer.specs.Ran.{Edited, Ran};
-ghost use Rattle.mg_buffer.specs.Sight.{command_call, situation_of};
+ghost use Rattle.mg_buffer.specs.Sight.{command_call, effect_of_call, situation_of};
 ghost use Rattle.mg_buffer.specs.Slots.{with_past};
 ghost use Rattle.rga_ops.specs.declared.refusal.Refusal.TheVariants.{Memory};
 ghost use Rattle.mg_buffer.specs.declared.fault.BufferFault.TheVariants.{Store};
@@ -51,11 +51,7 @@ impl<S: TextStore> Buffer<S> {
         ensures same { OnErr result (self.new ≡ self.old) }
         ensures memo { OnErr result (memo.new ≡ memo.old) }
     {
-        self.list()?;
-        let Some(view) = self.view(memo) else {
-            return Err(BufferFault::Store(Refusal::Memory));
-        };
-        let plan = plan(self.alloc, command, arg, &view, fill)?;
+        let plan = self.planned(command, arg, memo, fill)?;
         let Plan {
             splices,
             point,
@@ -70,6 +66,27 @@ impl<S: TextStore> Buffer<S> {
         memo.kind = kind;
         memo.goal = goal;
         Ok(())
+    }
+
+    /// What a command does at what it sees. Faults: the notice that it has; `Memory`.
+    fn planned(
+        &mut self,
+        command: &Command,
+        arg: u16,
+        memo: &Memo,
+        fill: u16,
+    ) -> Result<Plan, BufferFault>
+        ensures due { IfOk result (λ p.
+            effect_of_call (command_call command.now arg fill) self.old memo.now ≡ Ok p) }
+        ensures exact { IfErr result (λ e. (e ≡ Store Memory)
+            ⊎ (Err e ≡ run_answer (command_call command.now arg fill) self.old memo.now)) }
+        ensures same { self.new ≡ self.old }
+    {
+        self.list()?;
+        let Some(view) = self.view(memo) else {
+            return Err(BufferFault::Store(Refusal::Memory));
+        };
+        Ok(plan(self.alloc, command, arg, &view, fill)?)
     }
 
     /// Makes the splices, and puts point and mark at places of the new text. `Full`, `Range`,
@@ -124,19 +141,16 @@ fn take_splices<S: TextStore>(
     ensures text { OnOk result
         (text doc.new.content ≡ text_after (text doc.old.content) splices.now) }
     ensures line { IfOk result (λ known. IsLineOfPlace (text doc.new.content) known) }
-    ensures pasts { let d = doc.old in let ops = splices_operations d.replica d.content splices.now
+    ensures lists { let d = doc.old in let ops = splices_operations d.replica d.content splices.now
         in OnOk result
-        (history.new.pasts ≡ with_group history.old.pasts (past_of d.content ops) ops) }
-    ensures elements { let d = doc.old in OnOk result (history.new.slots.elements
-        ≡ with_past history.old.slots.elements
-        (past_of d.content (splices_operations d.replica d.content splices.now))) }
-    ensures unsaved { OnOk result (unsaved.new.items ≡ unsaved.old.items
-        ++ splices_operations doc.old.replica doc.old.content splices.now) }
+        ((history.new.pasts ≡ with_group history.old.pasts (past_of d.content ops) ops)
+        × (history.new.slots.elements
+        ≡ with_past history.old.slots.elements (past_of d.content ops))
+        × (unsaved.new.items ≡ unsaved.old.items ++ ops)) }
     ensures same { OnErr result (doc.new ≡ record doc.old { listed = doc.new.listed }) }
-    ensures same_pasts { OnErr result (history.new.pasts ≡ history.old.pasts) }
-    ensures same_elements { OnErr result
-        (history.new.slots.elements ≡ history.old.slots.elements) }
-    ensures same_unsaved { OnErr result (unsaved.new.items ≡ unsaved.old.items) }
+    ensures same_lists { OnErr result ((history.new.pasts ≡ history.old.pasts)
+        × (history.new.slots.elements ≡ history.old.slots.elements)
+        × (unsaved.new.items ≡ unsaved.old.items)) }
 {
     let drafted = doc.draft(splices)?;
     let ops = drafted.as_slice();

@@ -170,21 +170,17 @@ fn take_reverted<S: TextStore>(
     ensures point { let d = doc.old in let g = undone.now in
         let ops = revert_operations d.replica d.content g.inserted g.deleted in
         IfOk result (λ p. p.1 ≡ point_after point (past_of d.content ops)) }
-    ensures pasts { let d = doc.old in let g = undone.now in
+    ensures lists { let d = doc.old in let g = undone.now in
         let ops = revert_operations d.replica d.content g.inserted g.deleted in
-        OnOk result (history.new.pasts ≡ all_substituted (stand_in ops)
-        (with_group history.old.pasts (past_of d.content ops) ops)) }
-    ensures elements { let d = doc.old in let g = undone.now in
-        let ops = revert_operations d.replica d.content g.inserted g.deleted in
-        OnOk result (history.new.slots.elements ≡ map (stand_in ops)
-        (with_deleted history.old.slots.elements (past_of d.content ops))) }
-    ensures unsaved { let d = doc.old in let g = undone.now in OnOk result (unsaved.new.items
-        ≡ unsaved.old.items ++ revert_operations d.replica d.content g.inserted g.deleted) }
+        OnOk result ((history.new.pasts ≡ all_substituted (stand_in ops)
+        (with_group history.old.pasts (past_of d.content ops) ops))
+        × (history.new.slots.elements ≡ map (stand_in ops)
+        (with_deleted history.old.slots.elements (past_of d.content ops)))
+        × (unsaved.new.items ≡ unsaved.old.items ++ ops)) }
     ensures same { OnErr result (doc.new ≡ doc.old) }
-    ensures same_pasts { OnErr result (history.new.pasts ≡ history.old.pasts) }
-    ensures same_elements { OnErr result
-        (history.new.slots.elements ≡ history.old.slots.elements) }
-    ensures same_unsaved { OnErr result (unsaved.new.items ≡ unsaved.old.items) }
+    ensures same_lists { OnErr result ((history.new.pasts ≡ history.old.pasts)
+        × (history.new.slots.elements ≡ history.old.slots.elements)
+        × (unsaved.new.items ≡ unsaved.old.items)) }
 {
     let inserted = undone.inserted.as_slice();
     let deleted = undone.deleted.as_slice();

@@ -7,7 +7,7 @@ add_undo-requires-clause-newcomers g c =
     let none = none_repeats c.args.doc.now.replica c.args.doc.now.content c.args.history.now.slots.elements c.args.undone.now c.requires.old c.requires.able in
     search rules
 
-pub returns-clause-pasts : goal.returns-clause-pasts
-returns-clause-pasts g c =
+pub returns-clause-lists : goal.returns-clause-lists
+returns-clause-lists g c =
     let pasts = pasts_after c.args.doc.now.replica c.args.doc.now.content c.args.history.now.slots.elements c.args.undone.now c.requires.old c.requires.able c.args.history.now.pasts in
     search rules
