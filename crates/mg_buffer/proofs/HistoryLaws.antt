@@ -1,5 +1,5 @@
 -- Groups by slots, as groups and elements are added and as others stand for elements.
-use Rattle.mg_buffer.proofs.Prelude.{◌≡◌, ℕ, zero, suc, ◌-◌, ◌<◌, ◌≤◌, Option, Some, None, option_map, List, [], ◌∷◌, map, length, get_or, sym, refl, ap, ◌∙◌, subst, arith, map-append, get_or-map, slice_get-get_or, all_map, all_append, AllByRecursion, Identifier, root, Op, Past, last_group, past_at, with_group, substituted, all_substituted, Slotted, element_at_slot, deleted_at_slot, past_by, pasts_by, IsFilled, deleted_ones}
+use Rattle.mg_buffer.proofs.Prelude.{◌≡◌, ℕ, zero, suc, ◌-◌, ◌<◌, ◌≤◌, Some, option_map, List, [], ◌∷◌, map, length, get_or, sym, refl, ap, ◌∙◌, subst, arith, map-append, get_or-map, slice_get-get_or, all_map, all_append, AllByRecursion, Identifier, root, Op, Past, last_group, past_at, with_group, substituted, all_substituted, Slotted, element_at_slot, deleted_at_slot, past_by, pasts_by, IsFilled, deleted_ones}
 use Rattle.mg_buffer.proofs.SlotLaws.{Grows, longer, same_map, map-map, same_reads}
 
 abbrev AreFilled : ℕ → List Slotted → Type 0
@@ -74,7 +74,3 @@ last_group_at groups zero some within = absurd (omega (arith, some))
 last_group_at groups (suc i) some within =
     let less : i ≡ suc i - 1 = omega arith in
     ap (option_map (λ (g : Past). (i, g))) (slice_get-get_or groups i _ (omega (arith, within))) ∙ ap (λ k. Some (k, past_at groups k)) less
-
-pub none_if : {A B : Type 0} (f : A → B) (o : Option A) → None ≡ option_map f o → o ≡ None
-none_if f None h = refl
-none_if f (Some x) h = let clash : None ≡ Some (f x) = h in cc

@@ -86,8 +86,8 @@ fn take_all<S: TextStore>(
 ) -> Result<(), Refusal>
     ensures exact { result ≢ Err Memory →
         result ≡ list_answer doc.old.limit doc.old.content ops.now }
-    ensures memory { result ≡ Err Memory → all_checked ops.now ≡ Ok tt }
-    ensures early { result ≡ Err Memory → early_conflict doc.old.content ops.now ≡ None }
+    ensures early { result ≡ Err Memory → (all_checked ops.now ≡ Ok tt)
+        × (early_conflict doc.old.content ops.now ≡ None) }
     ensures whole { result ≡ Ok tt → doc.new ≡ record doc.old
         { content = join doc.old.content (content_of ops.now); listed = doc.new.listed } }
     ensures listed { result ≡ Ok tt → ops.now ≡ [] → doc.new.listed ≡ doc.old.listed }

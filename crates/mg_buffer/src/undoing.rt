@@ -1,5 +1,6 @@
 //! Undo.
-ghost use Rattle.std.specs.Prelude.{◌≡◌, ◌⊎◌, ◌<◌, ◌≤◌, ◌++◌, true, Err, None, Some, IsSome, length, map, take, IfSome, IfOk, OnOk, OnErr};
+ghost use Rattle.std.specs.Prelude.{◌≡◌, ◌⊎◌, ◌<◌, ◌≤◌, ◌++◌, true, Err, Some, IsSome, length, map, take, IfSome, IfOk, OnOk, OnErr};
+ghost use Rattle.std.specs.Option.{option_map};
 ghost use Rattle.rga_ops.specs.Content.{clock_of, join, content_of};
 ghost use Rattle.rga_ops.specs.ListAnswer.{IsAnswer};
 ghost use Rattle.rga_ops.specs.Order.{text};
@@ -57,7 +58,8 @@ impl<S: TextStore> Buffer<S> {
         ensures within { IfSome result (λ i. i < length self.now.groups) }
         ensures due { IfSome result (λ i. group_to_undo self.now.groups self.now.undone
             ≡ Some (i, past_at self.now.groups i)) }
-        ensures none { result ≡ None → group_to_undo self.now.groups self.now.undone ≡ None }
+        ensures index { result
+            ≡ option_map (λ p. p.0) (group_to_undo self.now.groups self.now.undone) }
     {
         let count = self.undone.unwrap_or(self.history.count());
         if count == 0 || count > self.history.count() {

@@ -23,9 +23,7 @@ module _ (g : Over) (c : In_ok-front g) where
   whole = search rules
 
 pub take_reverted-requires-clause-able : goal.take_reverted-requires-clause-able
-take_reverted-requires-clause-able g c =
-    let all = past_restorable c.self.inside.doc.content c.self.inside.history.pasts c.args.index c.self.invariant.revertible in
-    search rules
+take_reverted-requires-clause-able g c = let all = past_restorable c.self.inside.doc.content c.self.inside.history.pasts c.args.index c.self.invariant.revertible in search rules
 
 pub invariant_of-self-2 : goal.invariant_of-self-2
 invariant_of-self-2 g c =
