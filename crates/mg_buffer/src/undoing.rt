@@ -163,10 +163,10 @@ fn take_reverted<S: TextStore>(
     requires able { are_restorable doc.old.content undone.now.deleted ≡ true }
     ensures exact { IsAnswer result
         (revert_answer doc.old.limit doc.old.content undone.now.deleted) }
-    ensures document { let d = doc.old in let g = undone.now in OnOk result (doc.new ≡ record d {
-      content = join d.content (content_of (revert_operations d.replica d.content g.inserted g.deleted));
-      listed = doc.new.listed;
-    }) }
+    ensures document { let d = doc.old in let g = undone.now in
+        let ops = revert_operations d.replica d.content g.inserted g.deleted in
+        OnOk result (doc.new ≡ record d
+        { content = join d.content (content_of ops); listed = doc.new.listed }) }
     ensures front { IfOk result
         (λ p. take p.0 (text doc.new.content) ≡ take p.0 (text doc.old.content)) }
     ensures point { let d = doc.old in let g = undone.now in
