@@ -133,22 +133,17 @@ fn take_splices<S: TextStore>(
 ) -> Result<KnownLine, Refusal>
     requires line { IsLineOfPlace (text doc.old.content) line }
     ensures exact { IsAnswer result (splices_answer doc.old.limit doc.old.content splices.now) }
-    ensures document { let d = doc.old in OnOk result (doc.new ≡ record d {
-      content = join d.content
-          (content_of (splices_operations d.replica d.content splices.now));
-      listed = true;
-    }) }
-    ensures text { OnOk result
-        (text doc.new.content ≡ text_after (text doc.old.content) splices.now) }
-    ensures line { IfOk result (λ known. IsLineOfPlace (text doc.new.content) known) }
-    ensures lists { let d = doc.old in let ops = splices_operations d.replica d.content splices.now
+    ensures taken { let d = doc.old in let ops = splices_operations d.replica d.content splices.now
         in OnOk result
-        ((history.new.pasts ≡ with_group history.old.pasts (past_of d.content ops) ops)
+        ((doc.new ≡ record d { content = join d.content (content_of ops); listed = true })
+        × (text doc.new.content ≡ text_after (text d.content) splices.now)
+        × (history.new.pasts ≡ with_group history.old.pasts (past_of d.content ops) ops)
         × (history.new.slots.elements
         ≡ with_past history.old.slots.elements (past_of d.content ops))
         × (unsaved.new.items ≡ unsaved.old.items ++ ops)) }
-    ensures same { OnErr result (doc.new ≡ record doc.old { listed = doc.new.listed }) }
-    ensures same_lists { OnErr result ((history.new.pasts ≡ history.old.pasts)
+    ensures line { IfOk result (λ known. IsLineOfPlace (text doc.new.content) known) }
+    ensures same { OnErr result ((doc.new ≡ record doc.old { listed = doc.new.listed })
+        × (history.new.pasts ≡ history.old.pasts)
         × (history.new.slots.elements ≡ history.old.slots.elements)
         × (unsaved.new.items ≡ unsaved.old.items)) }
 {

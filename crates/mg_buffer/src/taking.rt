@@ -59,9 +59,9 @@ fn take_one<S: TextStore>(doc: &mut Doc<S>, unsaved: &mut Vec<Op>, op: Op) -> Re
     ensures memory { result ≡ Err Memory → answer doc.old.limit doc.old.content op ≡ Ok New }
     ensures new { result ≡ Ok New → doc.new ≡ record doc.old
         { content = join doc.old.content (single op); listed = doc.new.listed } }
-    ensures same { result ≢ Ok New → doc.new ≡ doc.old }
     ensures unsaved { result ≡ Ok New → unsaved.new.items ≡ unsaved.old.items ++ op ∷ [] }
-    ensures saved { result ≢ Ok New → unsaved.new.items ≡ unsaved.old.items }
+    ensures same { result ≢ Ok New →
+        (doc.new ≡ doc.old) × (unsaved.new.items ≡ unsaved.old.items) }
 {
     if answer_at(doc.store(), op)? == Taken::Known {
         return Ok(Taken::Known);
@@ -91,10 +91,10 @@ fn take_all<S: TextStore>(
     ensures whole { result ≡ Ok tt → doc.new ≡ record doc.old
         { content = join doc.old.content (content_of ops.now); listed = doc.new.listed } }
     ensures listed { result ≡ Ok tt → ops.now ≡ [] → doc.new.listed ≡ doc.old.listed }
-    ensures same { result ≢ Ok tt → doc.new ≡ doc.old }
     ensures unsaved { result ≡ Ok tt → unsaved.new.items
         ≡ unsaved.old.items ++ new_operations doc.old.content ops.now }
-    ensures saved { result ≢ Ok tt → unsaved.new.items ≡ unsaved.old.items }
+    ensures same { result ≢ Ok tt →
+        (doc.new ≡ doc.old) × (unsaved.new.items ≡ unsaved.old.items) }
 {
     if let Err(refusal) = early_answer_at(doc.store(), ops) {
         return Err(refusal);

@@ -163,24 +163,21 @@ fn take_reverted<S: TextStore>(
     requires able { are_restorable doc.old.content undone.now.deleted ≡ true }
     ensures exact { IsAnswer result
         (revert_answer doc.old.limit doc.old.content undone.now.deleted) }
-    ensures document { let d = doc.old in let g = undone.now in
-        let ops = revert_operations d.replica d.content g.inserted g.deleted in
-        OnOk result (doc.new ≡ record d
-        { content = join d.content (content_of ops); listed = doc.new.listed }) }
+    ensures taken { let d = doc.old in let g = undone.now in
+        let ops = revert_operations d.replica d.content g.inserted g.deleted in OnOk result
+        ((doc.new ≡ record d { content = join d.content (content_of ops); listed = doc.new.listed })
+        × (history.new.pasts ≡ all_substituted (stand_in ops)
+        (with_group history.old.pasts (past_of d.content ops) ops))
+        × (history.new.slots.elements ≡ map (stand_in ops)
+        (with_deleted history.old.slots.elements (past_of d.content ops)))
+        × (unsaved.new.items ≡ unsaved.old.items ++ ops)) }
     ensures front { IfOk result
         (λ p. take p.0 (text doc.new.content) ≡ take p.0 (text doc.old.content)) }
     ensures point { let d = doc.old in let g = undone.now in
         let ops = revert_operations d.replica d.content g.inserted g.deleted in
         IfOk result (λ p. p.1 ≡ point_after point (past_of d.content ops)) }
-    ensures lists { let d = doc.old in let g = undone.now in
-        let ops = revert_operations d.replica d.content g.inserted g.deleted in
-        OnOk result ((history.new.pasts ≡ all_substituted (stand_in ops)
-        (with_group history.old.pasts (past_of d.content ops) ops))
-        × (history.new.slots.elements ≡ map (stand_in ops)
-        (with_deleted history.old.slots.elements (past_of d.content ops)))
-        × (unsaved.new.items ≡ unsaved.old.items ++ ops)) }
-    ensures same { OnErr result (doc.new ≡ doc.old) }
-    ensures same_lists { OnErr result ((history.new.pasts ≡ history.old.pasts)
+    ensures same { OnErr result ((doc.new ≡ doc.old)
+        × (history.new.pasts ≡ history.old.pasts)
         × (history.new.slots.elements ≡ history.old.slots.elements)
         × (unsaved.new.items ≡ unsaved.old.items)) }
 {
