@@ -1,5 +1,5 @@
 -- Groups by slots, as groups and elements are added and as others stand for elements.
-use Rattle.mg_buffer.proofs.Prelude.{◌≡◌, ℕ, zero, suc, ◌<◌, ◌≤◌, List, [], ◌∷◌, map, length, get_or, sym, refl, ap, ◌∙◌, subst, arith, map-append, get_or-map, all_map, all_append, AllByRecursion, Identifier, root, Op, past_at, with_group, substituted, all_substituted, Slotted, element_at_slot, deleted_at_slot, past_by, pasts_by, IsFilled, deleted_ones}
+use Rattle.mg_buffer.proofs.Prelude.{◌≡◌, ℕ, zero, suc, ◌-◌, ◌<◌, ◌≤◌, Some, option_map, List, [], ◌∷◌, map, length, get_or, sym, refl, ap, ◌∙◌, subst, arith, map-append, get_or-map, slice_get-get_or, all_map, all_append, AllByRecursion, Identifier, root, Op, Past, last_group, past_at, with_group, substituted, all_substituted, Slotted, element_at_slot, deleted_at_slot, past_by, pasts_by, IsFilled, deleted_ones}
 use Rattle.mg_buffer.proofs.SlotLaws.{Grows, longer, same_map, map-map, same_reads}
 
 abbrev AreFilled : ℕ → List Slotted → Type 0
@@ -66,3 +66,11 @@ pub group_at : (elements : List Identifier) (groups : List Slotted) (i : ℕ) (g
 group_at elements [] i g all within is = absurd (omega (arith, within))
 group_at elements (x ∷ groups) zero g all within is = (subst (IsFilled (length elements)) (sym is) all.0, ap (past_by elements) is)
 group_at elements (x ∷ groups) (suc i) g all within is = group_at elements groups i g all.1 (omega (arith, within)) is
+
+-- ---- the last of so many groups
+
+pub last_group_at : (groups : List Past) (n : ℕ) → 0 < n → n ≤ length groups → last_group groups n ≡ Some (n - 1, past_at groups (n - 1))
+last_group_at groups zero some within = absurd (omega (arith, some))
+last_group_at groups (suc i) some within =
+    let less : i ≡ suc i - 1 = omega arith in
+    ap (option_map (λ (g : Past). (i, g))) (slice_get-get_or groups i _ (omega (arith, within))) ∙ ap (λ k. Some (k, past_at groups k)) less

@@ -17,12 +17,15 @@ module _ (d e : Document) (point : Marker) (line : KnownLine) (mark : Option Mar
     at_hand = at_hand;
   }
 
+  same_joined : (now : Bool) → e.content ≡ d.content → (now ≡ true → IsAtHand e point line mark) → IsKeptBuffer e point line mark i now
+  same_joined now same = kept_joined nothing line now (same ∙ sym (join_nothing d.content)) (subst (λ c. IsLineOfPlace (text c) line) (sym same) kept.line_known)
+
   -- so it is where nothing was taken
   pub kept_still : e ≡ d → IsKeptBuffer e point line mark i listed
-  kept_still same =
-      let content : e.content ≡ d.content = ap (λ (f : Document). f.content) same in
-      kept_joined nothing line listed (content ∙ sym (join_nothing d.content)) (subst (λ c. IsLineOfPlace (text c) line) (sym content) kept.line_known)
-      (λ now. subst (λ f. IsAtHand f point line mark) (sym same) (kept.at_hand now))
+  kept_still same = same_joined listed (ap (λ (f : Document). f.content) same) (λ now. subst (λ f. IsAtHand f point line mark) (sym same) (kept.at_hand now))
+
+  pub kept_unlisted : e.content ≡ d.content → IsKeptBuffer e point line mark i false
+  kept_unlisted same = same_joined false same (λ never. absurd (true≢false (sym never)))
 
 -- so it is where operations were taken, and the line of the front is known
 pub kept_taken : (d e : Document) (point : Marker) (line front : KnownLine) (mark : Option Marker) (h : PastList) (listed : Bool) (x : Content) → IsKeptBuffer d point line mark h listed

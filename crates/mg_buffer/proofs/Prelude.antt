@@ -2,7 +2,7 @@
 pub use Rattle.std.proofs.Common.{[], ◌&&◌, ◌++◌, ◌+◌, ◌-◌, ◌<◌, ◌||◌, ◌∙◌, ◌∷◌, ◌≡◌, ◌≢◌, ◌≤◌, Bool, Err, IfSome, List, MatchResult, None, Ok, Option, Result, Some, add-one, ap, append-nil, append_assoc, arith, cond, count_by, drop, drop-drop, encode_utf8_all, false, filter, get_or, if◌then◌else◌, is_err, is_some, length, length-append, map, max, min, nat_le, not, option_map, refl, rules, slice_get, string_bytes, subst, suc, sym, take, take-take, true, true≢false, unwrap_or, vec_capacity, vec_len, zero, ℕ}
 pub use Rattle.std.proofs.lemmas.List.{drop_all, get_or-map, get_or_append_left, length-map, length-take, map-append, map-id, take-append-le}
 pub use Rattle.std.proofs.lemmas.Bool.{and_parts, cond_both, not-true, or_parts, or_right}
-pub use Rattle.std.proofs.lemmas.Option.{get_or_from_slice_get, same_Some, slice_get_within}
+pub use Rattle.std.proofs.lemmas.Option.{get_or_from_slice_get, same_Some, slice_get-get_or, slice_get_within}
 pub use Rattle.std.specs.List.{AllByRecursion, list_all, list_any}
 pub use Rattle.std.specs.Option.{option_map_or, option_or}
 pub use Rattle.std.proofs.Math.Nat.{min-eq_left, min-le_left, min-le_right}

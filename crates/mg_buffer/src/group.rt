@@ -45,9 +45,9 @@ fn elements_in(alloc: Global, elements: &[Id], slots: &[usize]) -> Result<Vec<Id
     ensures ok { IfOk result (λ ids. ids.items ≡ map (element_at_slot elements.now) slots.now) }
     ensures memory { IfErr result (λ e. e ≡ Refusal.Memory) }
 {
-    let mut ids = Vec::new(alloc);
+    let mut ids = Vec::with_capacity(alloc, slots.len())?;
     for slot in slots {
-        ids.push(elements[*slot])?;
+        ids.push_reserved(elements[*slot]);
     }
     Ok(ids)
 }
@@ -63,9 +63,9 @@ fn deleted_in(
         (λ deleted. deleted.items ≡ map (deleted_at_slot elements.now) slots.now) }
     ensures memory { IfErr result (λ e. e ≡ Refusal.Memory) }
 {
-    let mut deleted = Vec::new(alloc);
+    let mut deleted = Vec::with_capacity(alloc, slots.len())?;
     for (slot, ch) in slots {
-        deleted.push((elements[*slot], *ch))?;
+        deleted.push_reserved((elements[*slot], *ch));
     }
     Ok(deleted)
 }

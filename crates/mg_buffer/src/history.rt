@@ -49,6 +49,26 @@ pub(crate) struct Room {
     pub(crate) is_row: bool,
 }
 
+impl Room {
+    /// That of the group of a change. `Memory` alone.
+    fn of(alloc: Global, change: &Change, is_row: bool) -> Result<Room, Refusal>
+        ensures no_inserted { IfOk result (λ room. room.inserted.items ≡ []) }
+        ensures inserted { IfOk result
+            (λ room. length change.now.inserted ≤ vec_capacity room.inserted) }
+        ensures no_deleted { IfOk result (λ room. room.deleted.items ≡ []) }
+        ensures deleted { IfOk result
+            (λ room. length change.now.deleted ≤ vec_capacity room.deleted) }
+        ensures row { IfOk result (λ room. room.is_row ≡ is_row) }
+        ensures memory { IfErr result (λ e. e ≡ Refusal.Memory) }
+    {
+        Ok(Room {
+            inserted: Vec::with_capacity(alloc, change.inserted.as_slice().len())?,
+            deleted: Vec::with_capacity(alloc, change.deleted.as_slice().len())?,
+            is_row,
+        })
+    }
+}
+
 impl History {
     /// No group.
     pub(crate) fn new(alloc: Global) -> History
@@ -94,11 +114,7 @@ impl History {
         let inserted = change.inserted.as_slice().len();
         let deleted = change.deleted.as_slice().len();
         let is_row = !restores && self.elements.takes_row(&change.inserted);
-        let room = Room {
-            inserted: Vec::with_capacity(alloc, inserted)?,
-            deleted: Vec::with_capacity(alloc, deleted)?,
-            is_row,
-        };
+        let room = Room::of(alloc, change, is_row)?;
         let entries = if is_row { deleted } else { inserted + deleted };
         self.groups.reserve(1)?;
         self.elements.reserve(inserted + deleted, entries)?;

@@ -26,9 +26,9 @@ pub(crate) fn prepare<S: TextStore>(
     ensures single { restores ≡ true → IfOk result (λ made. made.1.is_row ≡ false) }
     ensures space { OnOk result
         (vec_len unsaved.new + length ops.now ≤ vec_capacity unsaved.new) }
-    ensures pasts { history.new.pasts ≡ history.old.pasts }
-    ensures elements { history.new.slots.elements ≡ history.old.slots.elements }
-    ensures unsaved { unsaved.new.items ≡ unsaved.old.items }
+    ensures same { (history.new.pasts ≡ history.old.pasts)
+        × (history.new.slots.elements ≡ history.old.slots.elements)
+        × (unsaved.new.items ≡ unsaved.old.items) }
     ensures memory { IfErr result (λ e. e ≡ Refusal.Memory) }
 {
     let change = Change::of(alloc, store, ops)?;

@@ -1,26 +1,33 @@
 //! Commands that run on a buffer.
-ghost use Rattle.std.specs.Prelude.{◌≡◌, ◌⊎◌, ◌≤◌, true, Err, IsOk, length, IfSome, OnOk, OnErr};
+ghost use Rattle.std.specs.Prelude.{◌≡◌, ◌⊎◌, ◌≤◌, ◌++◌, true, Err, Ok, IsOk, length, IfSome, IfOk, IfErr, OnOk, OnErr};
 ghost use Rattle.rga_ops.specs.Prelude.{text};
+ghost use Rattle.rga_ops.specs.Content.{join, content_of};
 ghost use Rattle.rga_ops.specs.ListAnswer.{IsAnswer};
 ghost use Rattle.rga_ops.specs.Splice.{text_after};
-ghost use Rattle.rga_doc.specs.LocalEdit.{splices_answer};
+ghost use Rattle.rga_doc.specs.LocalEdit.{splices_answer, splices_operations};
 ghost use Rattle.mg_plain.specs.Commands.{effect};
 ghost use Rattle.mg_buffer.specs.Faults.{run_answer};
+ghost use Rattle.mg_buffer.specs.Groups.{past_of, with_group};
+ghost use Rattle.mg_buffer.specs.Kept.{IsLineOfPlace};
 ghost use Rattle.mg_buffer.specs.Ran.{Edited, Ran};
-ghost use Rattle.mg_buffer.specs.Sight.{command_call, situation_of};
+ghost use Rattle.mg_buffer.specs.Sight.{command_call, effect_of_call, situation_of};
+ghost use Rattle.mg_buffer.specs.Slots.{with_past};
 ghost use Rattle.rga_ops.specs.declared.refusal.Refusal.TheVariants.{Memory};
 ghost use Rattle.mg_buffer.specs.declared.fault.BufferFault.TheVariants.{Store};
 
 use crate::buffer::Buffer;
 use crate::fault::BufferFault;
+use crate::history::History;
 use crate::kill_buffer::{make_room, put_in};
-use crate::line_numbers::least_begin;
+use crate::line_numbers::{KnownLine, least_begin};
 use crate::marker::{mark_at, marker_at};
 use crate::memo::Memo;
 use crate::room::{add_all, prepare};
 use mg_plain::{Command, Plan, plan};
-use rga_ops::{Refusal, Splice};
+use rga_doc::Doc;
+use rga_ops::{Op, Refusal, Splice};
 use rga_store::TextStore;
+use std::alloc::Global;
 
 impl<S: TextStore> Buffer<S> {
     /// Runs a command with its argument and the fill column: the text, point, mark and the memo
@@ -44,11 +51,7 @@ impl<S: TextStore> Buffer<S> {
         ensures same { OnErr result (self.new ≡ self.old) }
         ensures memo { OnErr result (memo.new ≡ memo.old) }
     {
-        self.list()?;
-        let Some(view) = self.view(memo) else {
-            return Err(BufferFault::Store(Refusal::Memory));
-        };
-        let plan = plan(self.alloc, command, arg, &view, fill)?;
+        let plan = self.planned(command, arg, memo, fill)?;
         let Plan {
             splices,
             point,
@@ -65,9 +68,30 @@ impl<S: TextStore> Buffer<S> {
         Ok(())
     }
 
+    /// What a command does at what it sees. Faults: the notice that it has; `Memory`.
+    fn planned(
+        &mut self,
+        command: &Command,
+        arg: u16,
+        memo: &Memo,
+        fill: u16,
+    ) -> Result<Plan, BufferFault>
+        ensures due { IfOk result (λ p.
+            effect_of_call (command_call command.now arg fill) self.old memo.now ≡ Ok p) }
+        ensures exact { IfErr result (λ e. (e ≡ Store Memory)
+            ⊎ (Err e ≡ run_answer (command_call command.now arg fill) self.old memo.now)) }
+        ensures same { self.new ≡ self.old }
+    {
+        self.list()?;
+        let Some(view) = self.view(memo) else {
+            return Err(BufferFault::Store(Refusal::Memory));
+        };
+        Ok(plan(self.alloc, command, arg, &view, fill)?)
+    }
+
     /// Makes the splices, and puts point and mark at places of the new text. `Full`, `Range`,
     /// `Clock`, `Memory`, as the document has them.
-    #[tactic(auto, using(crate::proofs::LineLaws::least_within))]
+    #[tactic(auto, using(crate::proofs::KeptLaws::kept_unlisted))]
     fn edit(&mut self, splices: &[Splice], point: usize, mark: Option<usize>) -> Result<(), Refusal>
         requires point { point ≤ length (text_after (text self.old.content) splices.now) }
         requires mark { IfSome mark
@@ -78,26 +102,60 @@ impl<S: TextStore> Buffer<S> {
         ensures same { OnErr result (self.new ≡ self.old) }
     {
         self.listed = false;
-        let drafted = self.doc.draft(splices)?;
-        let ops = drafted.as_slice();
-        let (change, room) = prepare(
+        let line = take_splices(
             self.alloc,
-            self.doc.store(),
+            &mut self.doc,
             &mut self.history,
             &mut self.unsaved,
-            ops,
-            false,
+            splices,
+            self.line,
         )?;
-        let stays = least_begin(self.line.place, splices);
-        let line = self.line.moved(self.doc.characters(), stays);
-        self.doc.take(splices, ops)?;
         self.line = line.moved(self.doc.characters(), point);
         self.point = marker_at(&self.doc, point);
         self.mark = mark_at(&self.doc, mark);
-        self.history.add(room, &change, ops);
-        add_all(&mut self.unsaved, ops);
         self.undone = None;
         self.listed = true;
         Ok(())
     }
+}
+
+/// Makes splices in a document, and adds their group, and their operations behind the unsaved ones.
+/// Answers the line of a place in front of them all, by a line that is known. `Full`, `Range`,
+/// `Clock`, `Memory`, as the document has them.
+#[tactic(auto, using(crate::proofs::LineLaws::least_within))]
+fn take_splices<S: TextStore>(
+    alloc: Global,
+    doc: &mut Doc<S>,
+    history: &mut History,
+    unsaved: &mut Vec<Op>,
+    splices: &[Splice],
+    line: KnownLine,
+) -> Result<KnownLine, Refusal>
+    requires line { IsLineOfPlace (text doc.old.content) line }
+    ensures exact { IsAnswer result (splices_answer doc.old.limit doc.old.content splices.now) }
+    ensures taken { let d = doc.old in let ops = splices_operations d.replica d.content splices.now
+        in OnOk result
+        ((doc.new ≡ record d { content = join d.content (content_of ops); listed = true })
+        × (text doc.new.content ≡ text_after (text d.content) splices.now)
+        × (history.new.pasts ≡ with_group history.old.pasts (past_of d.content ops) ops)
+        × (history.new.slots.elements
+        ≡ with_past history.old.slots.elements (past_of d.content ops))
+        × (unsaved.new.items ≡ unsaved.old.items ++ ops)) }
+    ensures line { IfOk result (λ known. IsLineOfPlace (text doc.new.content) known) }
+    ensures same { OnErr result ((doc.new ≡ record doc.old { listed = doc.new.listed })
+        × (history.new.pasts ≡ history.old.pasts)
+        × (history.new.slots.elements ≡ history.old.slots.elements)
+        × (unsaved.new.items ≡ unsaved.old.items)) }
+{
+    let drafted = doc.draft(splices)?;
+    let ops = drafted.as_slice();
+    let (change, room) = prepare(alloc, doc.store(), history, unsaved, ops, false)?;
+    let stays = least_begin(line.place, splices);
+    let front = line.moved(doc.characters(), stays);
+    if let Err(refusal) = doc.take(splices, ops) {
+        return Err(refusal);
+    }
+    history.add(room, &change, ops);
+    add_all(unsaved, ops);
+    Ok(front)
 }

@@ -1,9 +1,19 @@
 //! Operations that a buffer takes from elsewhere.
+ghost use Rattle.std.specs.Prelude.{◌≡◌, ◌≢◌, ◌++◌, [], ◌∷◌, Ok, Err, None};
+ghost use Rattle.rga_ops.specs.Answer.{answer};
+ghost use Rattle.rga_ops.specs.Content.{join, content_of, single};
+ghost use Rattle.rga_ops.specs.ListAnswer.{all_checked, early_conflict, list_answer};
+ghost use Rattle.rga_ops.specs.NewOperations.{new_operations};
+ghost use Rattle.rga_ops.specs.declared.refusal.Refusal.TheVariants.{Memory};
+ghost use Rattle.rga_ops.specs.declared.refusal.Taken.TheVariants.{New};
+
 use crate::buffer::Buffer;
 use crate::line_numbers::KnownLine;
 use crate::room::add_all;
+use rga_doc::Doc;
 use rga_ops::{Op, Refusal, Taken};
 use rga_store::{Taker, TextStore, answer_at, early_answer_at, new_operations_at};
+use std::alloc::Global;
 
 impl<S: TextStore> Taker for Buffer<S> {
     ghost use Rattle.mg_buffer.specs.Following.{TakesOperations, takes_no_operations, takes_more_operations};
@@ -22,29 +32,80 @@ impl<S: TextStore> Taker for Buffer<S> {
 
     #[tactic(auto, using(crate::proofs::TakingLaws::refused))]
     fn apply(&mut self, op: Op) -> Result<Taken, Refusal> {
-        if answer_at(self.doc.store(), op)? == Taken::Known {
+        if take_one(&mut self.doc, &mut self.unsaved, op)? == Taken::Known {
             return Ok(Taken::Known);
         }
-        self.unsaved.reserve(1)?;
-        self.doc.apply(op)?;
         self.listed = false;
         self.line = KnownLine::FIRST;
-        add_all(&mut self.unsaved, &[op]);
         Ok(Taken::New)
     }
 
-    #[tactic(auto, using(crate::proofs::TakingLaws::refused))]
+    #[tactic(auto, using(crate::proofs::TakingLaws::refused, crate::proofs::TakingLaws::all_are_added))]
     fn apply_all(&mut self, ops: &[Op]) -> Result<(), Refusal> {
-        early_answer_at(self.doc.store(), ops)?;
-        let new = new_operations_at(self.alloc, self.doc.store(), ops)?;
-        self.unsaved.reserve(new.len())?;
-        self.doc.apply_all(ops)?;
+        take_all(self.alloc, &mut self.doc, &mut self.unsaved, ops)?;
         if ops.is_empty() {
             return Ok(());
         }
         self.listed = false;
         self.line = KnownLine::FIRST;
-        add_all(&mut self.unsaved, &new);
         Ok(())
     }
+}
+
+/// Takes an operation in a document, and puts it behind the unsaved ones if it is new. Answers as
+/// `Taker::apply` does.
+fn take_one<S: TextStore>(doc: &mut Doc<S>, unsaved: &mut Vec<Op>, op: Op) -> Result<Taken, Refusal>
+    ensures exact { result ≢ Err Memory → result ≡ answer doc.old.limit doc.old.content op }
+    ensures memory { result ≡ Err Memory → answer doc.old.limit doc.old.content op ≡ Ok New }
+    ensures new { result ≡ Ok New → doc.new ≡ record doc.old
+        { content = join doc.old.content (single op); listed = doc.new.listed } }
+    ensures unsaved { result ≡ Ok New → unsaved.new.items ≡ unsaved.old.items ++ op ∷ [] }
+    ensures same { result ≢ Ok New →
+        (doc.new ≡ doc.old) × (unsaved.new.items ≡ unsaved.old.items) }
+{
+    if answer_at(doc.store(), op)? == Taken::Known {
+        return Ok(Taken::Known);
+    }
+    if unsaved.reserve(1).is_err() {
+        return Err(Refusal::Memory);
+    }
+    if let Err(refusal) = doc.apply(op) {
+        return Err(refusal);
+    }
+    add_all(unsaved, &[op]);
+    Ok(Taken::New)
+}
+
+/// Takes all operations of a list in a document, or none, and puts those that are new behind the
+/// unsaved ones. Answers as `Taker::apply_all` does.
+fn take_all<S: TextStore>(
+    alloc: Global,
+    doc: &mut Doc<S>,
+    unsaved: &mut Vec<Op>,
+    ops: &[Op],
+) -> Result<(), Refusal>
+    ensures exact { result ≢ Err Memory →
+        result ≡ list_answer doc.old.limit doc.old.content ops.now }
+    ensures early { result ≡ Err Memory → (all_checked ops.now ≡ Ok tt)
+        × (early_conflict doc.old.content ops.now ≡ None) }
+    ensures whole { result ≡ Ok tt → doc.new ≡ record doc.old
+        { content = join doc.old.content (content_of ops.now); listed = doc.new.listed } }
+    ensures listed { result ≡ Ok tt → ops.now ≡ [] → doc.new.listed ≡ doc.old.listed }
+    ensures unsaved { result ≡ Ok tt → unsaved.new.items
+        ≡ unsaved.old.items ++ new_operations doc.old.content ops.now }
+    ensures same { result ≢ Ok tt →
+        (doc.new ≡ doc.old) × (unsaved.new.items ≡ unsaved.old.items) }
+{
+    if let Err(refusal) = early_answer_at(doc.store(), ops) {
+        return Err(refusal);
+    }
+    let new = new_operations_at(alloc, doc.store(), ops)?;
+    if unsaved.reserve(new.len()).is_err() {
+        return Err(Refusal::Memory);
+    }
+    if let Err(refusal) = doc.apply_all(ops) {
+        return Err(refusal);
+    }
+    add_all(unsaved, &new);
+    Ok(())
 }

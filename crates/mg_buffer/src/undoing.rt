@@ -1,11 +1,14 @@
 //! Undo.
-ghost use Rattle.std.specs.Prelude.{◌≡◌, ◌⊎◌, ◌<◌, Err, IsSome, length, OnOk, OnErr};
+ghost use Rattle.std.specs.Prelude.{◌≡◌, ◌⊎◌, ◌<◌, ◌≤◌, ◌++◌, true, Err, Some, IsSome, length, map, take, IfSome, IfOk, OnOk, OnErr};
 ghost use Rattle.std.specs.Option.{option_map};
+ghost use Rattle.rga_ops.specs.Content.{clock_of, join, content_of};
 ghost use Rattle.rga_ops.specs.ListAnswer.{IsAnswer};
 ghost use Rattle.rga_ops.specs.Order.{text};
+ghost use Rattle.rga_doc.specs.Revert.{are_restorable, revert_answer, revert_operations};
 ghost use Rattle.mg_buffer.specs.Faults.{growth_answer, undo_answer};
-ghost use Rattle.mg_buffer.specs.Groups.{group_to_undo, past_at};
+ghost use Rattle.mg_buffer.specs.Groups.{all_substituted, group_to_undo, past_at, past_of, point_after, stand_in, with_group};
 ghost use Rattle.mg_buffer.specs.Kept.{IsLineOfPlace};
+ghost use Rattle.mg_buffer.specs.Slots.{greatest_counter, with_deleted};
 ghost use Rattle.mg_buffer.specs.Undid.{Reverted, Undid};
 ghost use Rattle.rga_ops.specs.declared.refusal.Refusal.TheVariants.{Memory};
 ghost use Rattle.mg_buffer.specs.declared.fault.BufferFault.TheVariants.{Store};
@@ -13,13 +16,16 @@ ghost use Rattle.mg_buffer.specs.declared.fault.BufferFault.TheVariants.{Store};
 use crate::buffer::Buffer;
 use crate::change::Change;
 use crate::fault::BufferFault;
+use crate::history::History;
 use crate::line_numbers::KnownLine;
 use crate::marker::Marker;
 use crate::memo::Memo;
 use crate::room::{add_all, prepare};
 use mg_plain::{Kind, Notice};
-use rga_ops::{Id, Refusal};
+use rga_doc::Doc;
+use rga_ops::{Id, Op, Refusal};
 use rga_store::TextStore;
+use std::alloc::Global;
 
 impl<S: TextStore> Buffer<S> {
     /// Undoes the newest group, or in a run of undos the group before the one that was undone last:
@@ -49,7 +55,10 @@ impl<S: TextStore> Buffer<S> {
 
     /// The index of the group that an undo takes.
     fn index_to_undo(&self) -> Option<usize>
-        ensures { result
+        ensures within { IfSome result (λ i. i < length self.now.groups) }
+        ensures due { IfSome result (λ i. group_to_undo self.now.groups self.now.undone
+            ≡ Some (i, past_at self.now.groups i)) }
+        ensures index { result
             ≡ option_map (λ p. p.0) (group_to_undo self.now.groups self.now.undone) }
     {
         let count = self.undone.unwrap_or(self.history.count());
@@ -74,7 +83,7 @@ impl<S: TextStore> Buffer<S> {
     }
 
     /// The same by what the group did, and a line that is known.
-    #[tactic(auto, using(rga_doc::proofs::UndoLists::as_many_inserted))]
+    #[tactic(auto, using(crate::proofs::KeptLaws::kept_still))]
     fn revert_change(
         &mut self,
         index: usize,
@@ -88,26 +97,20 @@ impl<S: TextStore> Buffer<S> {
         ensures reverted { OnOk result (Reverted index undone.now self.old self.new) }
         ensures same { OnErr result (self.new ≡ self.old) }
     {
-        let inserted = undone.inserted.as_slice();
-        let deleted = undone.deleted.as_slice();
-        let drafted = self.doc.draft_revert(inserted, deleted)?;
-        let ops = drafted.as_slice();
-        let (done, room) = prepare(
+        let (front, point) = take_reverted(
             self.alloc,
-            self.doc.store(),
+            &mut self.doc,
             &mut self.history,
             &mut self.unsaved,
-            ops,
-            true,
+            index,
+            undone,
+            self.point.element,
         )?;
-        let front = self.doc.take_revert(inserted, deleted, ops)?;
         self.line = line.kept_in(front);
         self.point = Marker {
-            element: done.point_after(self.point.element),
+            element: point,
             place: 0,
         };
-        self.history.add_undo(index, room, &done, ops);
-        add_all(&mut self.unsaved, ops);
         self.undone = Some(index);
         self.listed = false;
         Ok(())
@@ -139,4 +142,53 @@ impl<S: TextStore> Buffer<S> {
             None => usize::MAX,
         }
     }
+}
+
+/// Takes the operations of the revert of a group in a document, and adds the group of that, and the
+/// operations behind the unsaved ones. Answers how many characters at the front stayed, and where
+/// point goes. `Full`, `Clock` and `Memory`, as the document has them.
+#[tactic(auto, using(rga_doc::proofs::UndoLists::as_many_inserted))]
+fn take_reverted<S: TextStore>(
+    alloc: Global,
+    doc: &mut Doc<S>,
+    history: &mut History,
+    unsaved: &mut Vec<Op>,
+    index: usize,
+    undone: &Change,
+    point: Id,
+) -> Result<(usize, Id), Refusal>
+    requires within { index < length history.old.pasts }
+    requires at { undone.now ≡ past_at history.old.pasts index }
+    requires old { greatest_counter history.old.slots.elements ≤ clock_of doc.old.content }
+    requires able { are_restorable doc.old.content undone.now.deleted ≡ true }
+    ensures exact { IsAnswer result
+        (revert_answer doc.old.limit doc.old.content undone.now.deleted) }
+    ensures taken { let d = doc.old in let g = undone.now in
+        let ops = revert_operations d.replica d.content g.inserted g.deleted in OnOk result
+        ((doc.new ≡ record d { content = join d.content (content_of ops); listed = doc.new.listed })
+        × (history.new.pasts ≡ all_substituted (stand_in ops)
+        (with_group history.old.pasts (past_of d.content ops) ops))
+        × (history.new.slots.elements ≡ map (stand_in ops)
+        (with_deleted history.old.slots.elements (past_of d.content ops)))
+        × (unsaved.new.items ≡ unsaved.old.items ++ ops)) }
+    ensures front { IfOk result
+        (λ p. take p.0 (text doc.new.content) ≡ take p.0 (text doc.old.content)) }
+    ensures point { let d = doc.old in let g = undone.now in
+        let ops = revert_operations d.replica d.content g.inserted g.deleted in
+        IfOk result (λ p. p.1 ≡ point_after point (past_of d.content ops)) }
+    ensures same { OnErr result ((doc.new ≡ doc.old)
+        × (history.new.pasts ≡ history.old.pasts)
+        × (history.new.slots.elements ≡ history.old.slots.elements)
+        × (unsaved.new.items ≡ unsaved.old.items)) }
+{
+    let inserted = undone.inserted.as_slice();
+    let deleted = undone.deleted.as_slice();
+    let drafted = doc.draft_revert(inserted, deleted)?;
+    let ops = drafted.as_slice();
+    let (done, room) = prepare(alloc, doc.store(), history, unsaved, ops, true)?;
+    let front = doc.take_revert(inserted, deleted, ops)?;
+    let element = done.point_after(point);
+    history.add_undo(index, room, &done, ops);
+    add_all(unsaved, ops);
+    Ok((front, element))
 }

@@ -1,7 +1,7 @@
 use Rattle.mg_buffer.proofs.Prelude.{rules, ◌≡◌, ◌+◌, ℕ, Some, slice_get, Identifier, true, sym, subst, Ok, identifier, clock_of, join, content_of, order, text, Document, are_restorable, revert_operations, revert_answer, StandsDirectlyBehind, Past}
 use Rattle.rga_doc.proofs.PutBackLaws.{revert_behind}
 use Rattle.mg_buffer.proofs.GroupLaws.{past_restorable, reverted_revertible, point_stands, mark_stands_still}
-use Rattle.mg_buffer.proofs.StandInLaws.{none_repeats, others_old, pasts_after}
+use Rattle.mg_buffer.proofs.StandInLaws.{others_old}
 use Rattle.mg_buffer.proofs.buffer.Buffer.revert_change.Given.{Over}
 use Rattle.mg_buffer.proofs.buffer.Buffer.revert_change.Goals.{In_ok-front}
 use Rattle.mg_buffer.proofs.buffer.Buffer.revert_change.Goals as goal
@@ -19,14 +19,11 @@ module _ (g : Over) (c : In_ok-front g) where
   allowed : revert_answer doc.limit doc.content undone.deleted ≡ Ok tt
   allowed = search rules
 
-  whole : c.take_revert.new.self.content ≡ join doc.content (content_of (revert_operations doc.replica doc.content undone.inserted undone.deleted))
+  whole : c.take_reverted.new.doc.content ≡ join doc.content (content_of (revert_operations doc.replica doc.content undone.inserted undone.deleted))
   whole = search rules
 
-pub add_undo-requires-clause-newcomers : goal.add_undo-requires-clause-newcomers
-add_undo-requires-clause-newcomers g c =
-    let b : In_ok-front g = (goal.at.add_undo-requires-clause-newcomers g c).In_ok-front in
-    let none = none_repeats (doc g b).replica (doc g b).content c.self.inside.history.slots.elements (undone g b) c.self.invariant.old (able g b) in
-    search rules
+pub take_reverted-requires-clause-able : goal.take_reverted-requires-clause-able
+take_reverted-requires-clause-able g c = let all = past_restorable c.self.inside.doc.content c.self.inside.history.pasts c.args.index c.self.invariant.revertible in search rules
 
 pub invariant_of-self-2 : goal.invariant_of-self-2
 invariant_of-self-2 g c =
@@ -35,9 +32,8 @@ invariant_of-self-2 g c =
     let b : In_ok-front g = (goal.at.invariant_of-self-2 g c).In_ok-front in
     let point = point_stands doc.limit doc.replica doc.content undone.inserted undone.deleted (allowed g b) c.self.inside.point.element c.self.invariant.point_stands in
     let mark = mark_stands_still doc.content (content_of (revert_operations doc.replica doc.content undone.inserted undone.deleted)) c.self.inside.mark c.self.invariant.mark_stands in
-    let line = c.kept_in-self-inside.ensures (text doc.content) (text c.take_revert.new.self.content) c.in_ok-front.ensures.front in
+    let line = c.kept_in-self-inside.ensures (text doc.content) (text c.take_reverted.new.doc.content) c.in_ok-front.ensures.front in
     let old = others_old doc.replica doc.content c.self.inside.history.slots.elements undone c.self.invariant.old (able g b) in
-    let pasts = pasts_after doc.replica doc.content c.self.inside.history.slots.elements undone c.self.invariant.old (able g b) c.self.inside.history.pasts in
     let revertible = reverted_revertible doc.limit doc.replica doc.content undone.inserted undone.deleted (allowed g b) c.self.inside.history.pasts c.self.invariant.revertible in
     search rules
 
@@ -46,7 +42,6 @@ returns-clause-reverted g c =
     let doc : Document = c.self.inside.doc in
     let undone : Past = c.args.undone.now in
     let b : In_ok-front g = (goal.at.returns-clause-reverted g c).In_ok-front in
-    let pasts = pasts_after doc.replica doc.content c.self.inside.history.slots.elements undone c.self.invariant.old (able g b) c.self.inside.history.pasts in
     let behind = λ (i : ℕ) (x : Identifier × ℕ) (here : slice_get undone.deleted i ≡ Some x). subst (λ d. StandsDirectlyBehind (order d) x.0 (identifier (clock_of doc.content + (i + 1)) doc.replica)) (sym (whole g b))
     (revert_behind doc.limit doc.replica doc.content undone.inserted undone.deleted i x (allowed g b) here) in
     rw (← c.self.view_is) (search rules)

@@ -18,21 +18,21 @@ module _ (g : Over) (c : In_ok-plan g) where
   abbrev call_of : CommandCall
   call_of = command_call c.args.command.now c.args.arg c.args.fill
 
-  due : effect_of_call call_of c.list.new.self c.args.memo.now ≡ Ok c.in_ok-plan.plan
+  due : effect_of_call call_of c.planned.new.self c.args.memo.now ≡ Ok c.in_ok-plan.plan
   due = search rules
 
-  within : IsWithinText (situation_of c.list.new.self c.args.memo.now) c.in_ok-plan.plan
-  within = within_text call_of c.list.new.self c.args.memo.now c.in_ok-plan.plan due
+  within : IsWithinText (situation_of c.planned.new.self c.args.memo.now) c.in_ok-plan.plan
+  within = within_text call_of c.planned.new.self c.args.memo.now c.in_ok-plan.plan due
 
-  exact : run_answer call_of c.args.self.now c.args.memo.now ≡ stored (splices_answer c.list.new.self.limit c.list.new.self.content c.in_ok-plan.plan.splices)
-  exact = ap (λ b. run_answer call_of b c.args.memo.now) (sym c.list.ensures.same) ∙ answered call_of c.list.new.self c.args.memo.now c.in_ok-plan.plan due
+  exact : run_answer call_of c.args.self.now c.args.memo.now ≡ stored (splices_answer c.planned.new.self.limit c.planned.new.self.content c.in_ok-plan.plan.splices)
+  exact = ap (λ b. run_answer call_of b c.args.memo.now) (sym c.planned.ensures.same) ∙ answered call_of c.planned.new.self c.args.memo.now c.in_ok-plan.plan due
 
 pub edit-requires-clause-point : goal.edit-requires-clause-point
 edit-requires-clause-point g c = let w = (within g (goal.at.edit-requires-clause-point g c).In_ok-plan).point in search rules
 
 pub edit-requires-clause-mark : goal.edit-requires-clause-mark
 edit-requires-clause-mark g c =
-    let w = if_some c.in_ok-plan.plan.mark (length (text_after (text c.list.new.self.content) c.in_ok-plan.plan.splices)) (within g (goal.at.edit-requires-clause-mark g c).In_ok-plan).mark in
+    let w = if_some c.in_ok-plan.plan.mark (length (text_after (text c.planned.new.self.content) c.in_ok-plan.plan.splices)) (within g (goal.at.edit-requires-clause-mark g c).In_ok-plan).mark in
     search rules
 
 pub returns-in_err-edit-clause-exact : goal.returns-in_err-edit-clause-exact

@@ -4,11 +4,11 @@ use Rattle.mg_buffer.proofs.TakingLaws.{known_adds_nothing, new_is_added}
 use Rattle.mg_buffer.proofs.taking.BufferTaker.apply.Goals as goal
 
 pub returns-then-eq-clause-follows : goal.returns-then-eq-clause-follows
-returns-then-eq-clause-follows g c = known_adds_nothing c.args.self.now c.args.op (search rules)
+returns-then-eq-clause-follows g c = known_adds_nothing c.args.self.now _ c.args.op (search rules) (search rules)
 
 pub invariant_of-self-2 : goal.invariant_of-self-2
 invariant_of-self-2 g c =
-    kept_taken c.self.inside.doc c.apply.new.self c.self.inside.point c.self.inside.line _ c.self.inside.mark c.self.inside.history c.self.inside.listed (single c.args.op) c.self.invariant (search rules) refl refl
+    kept_taken c.self.inside.doc c.take_one.new.doc c.self.inside.point c.self.inside.line _ c.self.inside.mark c.self.inside.history c.self.inside.listed (single c.args.op) c.self.invariant (search rules) refl refl
 
 pub returns-clause-follows : goal.returns-clause-follows
 returns-clause-follows g c = new_is_added c.args.self.now _ c.args.op (search rules) (search rules)
