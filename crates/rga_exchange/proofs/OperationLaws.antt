@@ -2,6 +2,7 @@
 use Rattle.std.proofs.Common.{◌≡◌, ◌≢◌, ℕ, ◌+◌, ◌≤◌, Bool, true, false, cond, List, [], ◌∷◌, ◌++◌, length, Option, Some, None, Result, Ok, Err, refl, sym, ap, subst, ◌∙◌, arith, nat_lt, append-nil}
 use Rattle.std.specs.Prelude.{IfSome}
 use Rattle.std.proofs.lemmas.Bool.{ltb-false, eq-eqb, ne_eqb}
+use Rattle.std.proofs.lemmas.List.{nil_from_length}
 use Rattle.rga_ops.specs.Content.{Content, join, content_of}
 use Rattle.rga_ops.specs.Answer.{taken, and_take, taken_one_by_one}
 use Rattle.rga_ops.specs.declared.op.Op.{Op}
@@ -18,11 +19,15 @@ use Rattle.rga_lines.proofs.StandLemmas.{stands, nothing_stands}
 use Rattle.rga_exchange.specs.declared.fault.LogFault.{LogFault}
 use Rattle.rga_exchange.specs.declared.fault.LogFault.TheVariants as fault
 use Rattle.rga_exchange.specs.declared.log.LogEnd.{LogEnd}
+use Rattle.rga_exchange.specs.declared.log.LogEnd.TheVariants.{Whole, Bare, Torn}
+use Rattle.rga_exchange.specs.declared.taking.LineTaken.{LineTaken}
+use Rattle.rga_exchange.specs.declared.taking.LineTaken.TheVariants.{Operations, EndLine}
 use Rattle.rga_exchange.specs.declared.log.LogRead.{LogRead}
 use Rattle.rga_exchange.specs.declared.taking.Form.{Form}
 use Rattle.rga_exchange.specs.declared.taking.Form.TheVariants.{Log, Exchange}
-use Rattle.rga_exchange.specs.Taking.{body_behind, Stop, AllTaken, AtEnd, AtFault, Progress, progress, after_line, taken_whole, refused_at, go_on, lines_taken, stop_at_rest, stream_taken}
-use Rattle.rga_exchange.specs.Log.{LogOutcome, end_outcome, after_bare_operation, after_bare_line, after_rest, after_stop, after_lines, log_outcome}
+use Rattle.rga_exchange.specs.Taking.{body_behind, Stop, AllTaken, AtEnd, AtFault, Progress, progress, after_line, taken_whole, refused_at, go_on, lines_taken, stop_at_rest, stream_taken, Intake, TakesNone}
+use Rattle.rga_exchange.specs.Parts.{TakesAs}
+use Rattle.rga_exchange.specs.Log.{LogOutcome, end_outcome, after_bare_operation, after_bare_line, after_rest, after_stop, after_lines, log_outcome, bare_answer, TakesRest}
 use Rattle.rga_exchange.specs.Receiving.{number_received, exchange_outcome}
 use Rattle.rga_exchange.specs.declared.fault.ReceiveFault.{ReceiveFault}
 use Rattle.rga_exchange.specs.declared.fault.ReceiveFault.TheVariants as exchange_fault
@@ -130,18 +135,63 @@ is_read_to_end read = Ok read
 pub no_fault : {c d : Content} (e : LogFault) (read : LogRead) → ran (Err e) c ≡ ran (Ok read) d → ⊥
 no_fault e read h = let clash : Err e ≡ is_read_to_end read = ap (λ (o : LogOutcome). o.1) h in cc
 
--- a rest that is not empty counts by what it says
-pub rest_says : (limit n : ℕ) (c : Content) (rest : List ℕ) (r : AnyReading) → length rest ≢ 0 → any_line_at rest ≡ r → after_rest limit n c rest ≡ after_bare_line limit n c (length rest) r
-rest_says limit n c [] r some says = absurd (some refl)
-rest_says limit n c (b ∷ bytes) r some says = ap (after_bare_line limit n c (length (b ∷ bytes))) says
+-- what a rest that is not empty leads to, by what it leads to as a line
+abbrev after_bare : ℕ → Content → ℕ → Result Content Stop → LogOutcome
+after_bare n c bytes (Ok d) = end_outcome n d Bare
+after_bare n c bytes (Err AllTaken) = end_outcome n c (Torn bytes)
+after_bare n c bytes (Err (AtEnd number)) = end_outcome n c (Torn bytes)
+after_bare n c bytes (Err (AtFault (fault.Line k e))) = end_outcome n c (Torn bytes)
+after_bare n c bytes (Err (AtFault (fault.Refused k e))) = (c, Err (fault.Refused k e))
+after_bare n c bytes (Err (AtFault fault.Read)) = (c, Err fault.Read)
+after_bare n c bytes (Err (AtFault fault.Memory)) = (c, Err fault.Memory)
 
--- and is refused where that is
-pub bare_refused : (n : ℕ) (c d : Content) (r : Result Content Refusal) (e : LogFault) → refused_at (n + 1) r ≡ Err (AtFault e) → d ≡ c → after_bare_operation n c r ≡ ran (Err e) d
-bare_refused n c d (Ok x) e h same = let clash : on x ≡ halt (AtFault e) = h in absurd cc
-bare_refused n c d (Err x) e h same =
-    let told : halt (AtFault (fault.Refused (n + 1) x)) ≡ halt (AtFault e) = h in
-    let is : fault.Refused (n + 1) x ≡ e = cc in
-    λ k. ran (Err (is k)) (sym same k)
+bare_operation : (n : ℕ) (c : Content) (bytes : ℕ) (r : Result Content Refusal) → after_bare_operation n c r ≡ after_bare n c bytes (refused_at (n + 1) r)
+bare_operation n c bytes (Ok d) = refl
+bare_operation n c bytes (Err e) = refl
+
+bare_line : (limit n : ℕ) (c : Content) (bytes : ℕ) (r : AnyReading) → after_bare_line limit n c bytes r ≡ after_bare n c bytes (after_line Log limit (n + 1) c r)
+bare_line limit n c bytes (Ok (One op)) = bare_operation n c bytes (taken limit c op)
+bare_line limit n c bytes (Ok (Run r)) = bare_operation n c bytes (taken_whole limit c (stretch_operations r))
+bare_line limit n c bytes (Ok (Deletions r)) = bare_operation n c bytes (taken_whole limit c (run_deletions r))
+bare_line limit n c bytes (Ok Head) = refl
+bare_line limit n c bytes (Ok (Last number)) = refl
+bare_line limit n c bytes (Err e) = refl
+
+bare_rest : (limit n : ℕ) (c : Content) (rest : List ℕ) → length rest ≢ 0 → after_rest limit n c rest ≡ after_bare n c (length rest) (after_line Log limit (n + 1) c (any_line_at rest))
+bare_rest limit n c [] some = absurd (some refl)
+bare_rest limit n c (b ∷ bytes) some = bare_line limit n c (length (b ∷ bytes)) (any_line_at (b ∷ bytes))
+
+-- what becomes of the rest
+module _ (took : Intake) (n : ℕ) (rest : List ℕ) where
+  pub rest_empty : length rest ≡ 0 → TakesNone took → TakesRest took n rest (Ok Whole)
+  rest_empty empty none =
+      let is = nil_from_length rest empty in (
+        ap (after_rest took.limit n took.old) is ∙ ap (λ (d : Content). end_outcome n d Whole) (sym none.same),
+        subst took.follows (sym (ap (λ (l : List ℕ). operations_of (l ∷ [])) is ∙ ap (λ r. then_operations r []) nothing_stands)) none.nothing,
+      )
+
+  pub rest_takes : (r : Result LineTaken LogFault) → length rest ≢ 0 → TakesAs took (after_line Log took.limit (n + 1) took.old (any_line_at rest)) (operations_of (rest ∷ [])) r → TakesRest took n rest (bare_answer (length rest) r)
+  rest_takes r some h = by_answer r h
+    where
+      leads : (r : Result Content Stop) → after_line Log took.limit (n + 1) took.old (any_line_at rest) ≡ r → after_rest took.limit n took.old rest ≡ after_bare n took.old (length rest) r
+      leads r is = bare_rest took.limit n took.old rest some ∙ ap (after_bare n took.old (length rest)) is
+
+      torn : TakesNone took → operations_of (rest ∷ []) ≡ [] → after_rest took.limit n took.old rest ≡ end_outcome n took.old (Torn (length rest)) → TakesRest took n rest (Ok (Torn (length rest)))
+      torn none no_operation is = (is ∙ ap (λ (d : Content). end_outcome n d (Torn (length rest))) (sym none.same), subst took.follows (sym no_operation) none.nothing)
+
+      by_answer : (r : Result LineTaken LogFault) → TakesAs took (after_line Log took.limit (n + 1) took.old (any_line_at rest)) (operations_of (rest ∷ [])) r → TakesRest took n rest (bare_answer (length rest) r)
+      by_answer (Ok (Operations count)) h = (leads _ h.0, h.1)
+      by_answer (Ok (EndLine number)) h = torn h.2 h.1 (leads _ h.0)
+      by_answer (Err (fault.Line k e)) h = torn h.2 h.1 (leads _ h.0)
+      by_answer (Err (fault.Refused k e)) h = (leads _ h.0 ∙ ap (λ (d : Content). ran (Err (fault.Refused k e)) d) (sym h.1.same), h.1)
+      by_answer (Err fault.Read) h = absurd h
+      by_answer (Err fault.Memory) h = h
+
+  pub rest_fails : (e : LogFault) → TakesRest took n rest (Err e) → (e ≢ fault.Memory → after_rest took.limit n took.old rest ≡ ran (Err e) took.new) × TakesNone took × (e ≢ fault.Read)
+  rest_fails (fault.Line k x) h = absurd h
+  rest_fails (fault.Refused k x) h = ((λ _. h.0), h.1, (λ is. absurd cc))
+  rest_fails fault.Read h = absurd h
+  rest_fails fault.Memory h = ((λ not_memory. absurd (not_memory refl)), h, (λ is. absurd cc))
 
 -- how the rest of a log ends it, at content c behind n lines
 pub rest_taken : (limit n : ℕ) (c d : Content) (read : LogRead) (rest : List ℕ) → after_rest limit n c rest ≡ (d, Ok read) → taken_one_by_one limit c (operations_of (rest ∷ [])) ≡ Ok d

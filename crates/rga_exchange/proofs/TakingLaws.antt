@@ -15,21 +15,21 @@ use Rattle.rga_lines.specs.DeletionRun.{DeletionRun}
 use Rattle.rga_lines.specs.Table.{AnyReading, any_line_at}
 use Rattle.rga_lines.specs.LineConstants.{MAX_LINE}
 use Rattle.rga_lines.specs.Stream.{lines_of, rest_of, BeginsLong, Splitting}
-use Rattle.rga_lines.specs.RunConstants.{MAX_RUN}
 use Rattle.rga_lines.specs.Log.{SaysRun, operations_of, operations_at, then_operations, IsOperation}
 use Rattle.rga_lines.specs.Line.TheVariants.{One, Run, Deletions, Head, Last}
 use Rattle.rga_lines.specs.LineFault.{LineFault}
 use Rattle.rga_lines.specs.LineFault.TheVariants as line_fault
-use Rattle.rga_lines.proofs.ReadingLemmas.{too_long, any_run}
-use Rattle.rga_lines.proofs.RunLemmas.{run_operations-length}
+use Rattle.rga_lines.proofs.ReadingLemmas.{too_long}
 use Rattle.rga_lines.proofs.StandLemmas.{stands, stands_for, stands_for_none}
 use Rattle.rga_lines.proofs.SplitterLemmas.{GivesLine}
 use Rattle.rga_exchange.specs.declared.fault.LogFault.{LogFault}
 use Rattle.rga_exchange.specs.declared.fault.LogFault.TheVariants as fault
+use Rattle.rga_exchange.specs.declared.taking.LineTaken.{LineTaken}
+use Rattle.rga_exchange.specs.declared.taking.LineTaken.TheVariants.{Operations, EndLine}
 use Rattle.rga_exchange.specs.declared.taking.Form.{Form}
 use Rattle.rga_exchange.specs.declared.taking.Form.TheVariants.{Log}
-use Rattle.rga_exchange.specs.Taking.{may_be_head, body_behind, Stop, AllTaken, AtEnd, AtFault, Progress, progress, refused_at, after_list, taken_whole, after_line, go_on, lines_taken, with_rest, bytes_taken, Intake, AreTaken}
-use Rattle.rga_exchange.specs.Parts.{Stage, stage, TakesUpTo}
+use Rattle.rga_exchange.specs.Taking.{may_be_head, body_behind, Stop, AllTaken, AtEnd, AtFault, Progress, progress, refused_at, after_list, taken_whole, after_head, after_line, go_on, lines_taken, with_rest, bytes_taken, Intake, TakesNone, AreTaken}
+use Rattle.rga_exchange.specs.Parts.{Stage, stage, head_answer, TakesAs, TakesUpTo, TakesFirst, StopsAs, TakesLines}
 use Rattle.rga_exchange.proofs.HeadLaws.{on, halt, through_body, body-nil, body-append, body_alone}
 
 -- ---- what is not a stop behind all lines
@@ -194,11 +194,6 @@ insertions_outcome form limit n c line ops h = ap (after_line form limit n c) h.
 pub insertions_alone : (line : List ℕ) (ops : List Op) → SaysRun line ops → operations_of (line ∷ []) ≡ ops
 insertions_alone line ops h = run_alone line h.0 h.1 ∙ sym h.2
 
-pub insertions_few : (line : List ℕ) (ops : List Op) → SaysRun line ops → length ops ≤ MAX_RUN
-insertions_few line ops h =
-    let run = any_run line h.0 h.1 in
-    omega (arith, run.few, ap length h.2, run_operations-length h.0.id h.0.parent h.0.chars)
-
 pub deletions_alone : (line : List ℕ) (r : DeletionRun) → any_line_at line ≡ Ok (Deletions r) → operations_of (line ∷ []) ≡ run_deletions r
 deletions_alone line r says = ap (λ r. then_operations r []) (stands line (Ok (Deletions r)) says) ∙ append-nil (run_deletions r)
 
@@ -210,6 +205,42 @@ last_alone line number says = ap (λ r. then_operations r []) (stands line (Ok (
 
 pub none_alone : (line : List ℕ) (e : LineFault) → any_line_at line ≡ Err e → operations_of (line ∷ []) ≡ []
 none_alone line e says = ap (λ r. then_operations r []) (stands line (Err e) says)
+
+-- ---- what becomes of a line
+
+takes_as : (took : Intake) (outcome other : Result Content Stop) (ops others : List Op) (r : Result LineTaken LogFault) → outcome ≡ other → ops ≡ others → TakesAs took other others r → TakesAs took outcome ops r
+takes_as took outcome other ops others r is same h =
+    subst (λ (l : List Op). TakesAs took outcome l r) (sym same) (subst (λ (o : Result Content Stop). TakesAs took o others r) (sym is) h)
+
+module _ (form : Form) (took : Intake) (n : ℕ) (line : List ℕ) where
+  abbrev TakesLine : Result LineTaken LogFault → Type 0
+  TakesLine r = TakesAs took (after_line form took.limit n took.old (any_line_at line)) (operations_of (line ∷ [])) r
+
+  pub one_takes : (r : Result LineTaken LogFault) (op : Op) → any_line_at line ≡ Ok (One op) → TakesAs took (refused_at n (taken took.limit took.old op)) (op ∷ []) r → TakesLine r
+  one_takes r op says h = takes_as took _ _ _ _ r (ap (after_line form took.limit n took.old) says) (one_alone line op says) h
+
+  pub run_takes : (r : Result LineTaken LogFault) (run : Stretch) → any_line_at line ≡ Ok (Run run) → TakesAs took (refused_at n (taken_whole took.limit took.old (stretch_operations run))) (stretch_operations run) r → TakesLine r
+  run_takes r run says h = takes_as took _ _ _ _ r (ap (after_line form took.limit n took.old) says) (run_alone line run says) h
+
+  pub deletions_takes : (r : Result LineTaken LogFault) (run : DeletionRun) → any_line_at line ≡ Ok (Deletions run) → TakesAs took (refused_at n (taken_whole took.limit took.old (run_deletions run))) (run_deletions run) r → TakesLine r
+  deletions_takes r run says h = takes_as took _ _ _ _ r (ap (after_line form took.limit n took.old) says) (deletions_alone line run says) h
+
+  pub insertions_takes : (r : Result LineTaken LogFault) (ops : List Op) → SaysRun line ops → TakesAs took (refused_at n (taken_whole took.limit took.old ops)) ops r → TakesLine r
+  insertions_takes r ops says h = takes_as took _ _ _ _ r (insertions_outcome form took.limit n took.old line ops says) (insertions_alone line ops says) h
+
+  pub head_takes : (r : Result LineTaken LogFault) → any_line_at line ≡ Ok Head → TakesNone took → r ≡ head_answer form n → TakesLine r
+  head_takes r says none is =
+      takes_as took _ _ _ _ r (ap (after_line form took.limit n took.old) says) (head_alone line says) (subst (TakesAs took (after_head form n took.old) []) (sym is) (by_place (may_be_head form n)))
+    where
+      by_place : (may : Bool) → TakesAs took (cond may (on took.old) (halt (AtFault (fault.Line n line_fault.Kind)))) [] (cond may (Ok (Operations 0)) (Err (fault.Line n line_fault.Kind)))
+      by_place true = (ap Ok (sym none.same), none.nothing, refl)
+      by_place false = (refl, refl, none)
+
+  pub last_takes : (number : ℕ) → any_line_at line ≡ Ok (Last number) → TakesNone took → TakesLine (Ok (EndLine number))
+  last_takes number says none = (ap (after_line form took.limit n took.old) says, last_alone line number says, none)
+
+  pub none_takes : (e : LineFault) → any_line_at line ≡ Err e → TakesNone took → TakesLine (Err (fault.Line n e))
+  none_takes e says none = (ap (after_line form took.limit n took.old) says, none_alone line e says, none)
 
 -- ---- lines
 
@@ -329,3 +360,31 @@ line_stops {form} {limit} {own} {c} {d} {e} {follows} {p} {n} {j} {s} {x} line s
 -- to take nothing more
 pub then_nothing : (first later all : List Op → Type 0) → ((xs ys : List Op) → first xs → later ys → all (xs ++ ys)) → later [] → (ops : List Op) → first ops → all ops
 then_nothing first later all then none ops h = subst all (append-nil ops) (then ops [] h none)
+
+-- ---- up to a line that stops
+
+module _ {form : Form} {limit own : ℕ} {c d : Content} {first : List Op → Type 0} {p : Stage} {n j : ℕ} {s x : Splitting} (e : Content) (later all : List Op → Type 0) (line : List ℕ) (is : own ≡ limit) (then : (xs ys : List Op) → first xs → later ys → all (xs ++ ys)) (given : GivesLine s x line) (taken : TakesUpTo form (between limit c d first) p (stage n j s.waiting)) where
+  first_taken : TakesNone (between own d e later) → TakesFirst form (between limit c e all) p n j
+  first_taken h = (s.waiting, up_to_chain is then taken (up_to_nothing h.same h.nothing refl))
+
+  pub end_stops : (number : ℕ) → TakesAs (between own d e later) (after_line form own (n + 1) d (any_line_at line)) (operations_of (line ∷ [])) (Ok (EndLine number)) → TakesFirst form (between limit c e all) p n j × StopsAs form (between limit c e all) p n (AtEnd number)
+  end_stops number h = (first_taken h.2, line_stops line (AtEnd number) is taken given h.0 h.2.same)
+
+  pub fault_stops : (y : Splitting) (f : LogFault) → TakesAs (between own d e later) (after_line form own (n + 1) d (any_line_at line)) (operations_of (line ∷ [])) (Err f) → TakesLines form (between limit c e all) p n j y (Err f)
+  fault_stops y (fault.Line k w) h = (first_taken h.2, line_stops line (AtFault (fault.Line k w)) is taken given h.0 h.2.same)
+  fault_stops y (fault.Refused k w) h = (first_taken h.1, line_stops line (AtFault (fault.Refused k w)) is taken given h.0 h.1.same)
+  fault_stops y fault.Read h = absurd h
+  fault_stops y fault.Memory h = first_taken h
+
+module _ (form : Form) (took : Intake) (p : Stage) (n j : ℕ) (s : Splitting) where
+  pub fault_first : (e : LogFault) → TakesLines form took p n j s (Err e) → TakesFirst form took p n j
+  fault_first (fault.Line k x) h = h.0
+  fault_first (fault.Refused k x) h = h.0
+  fault_first fault.Read h = absurd h
+  fault_first fault.Memory h = h
+
+  pub fault_stands : (e : LogFault) → TakesLines form took p n j s (Err e) → (e ≡ fault.Memory → ⊥) → StopsAs form took p n (AtFault e)
+  fault_stands (fault.Line k x) h not_memory = h.1
+  fault_stands (fault.Refused k x) h not_memory = h.1
+  fault_stands fault.Read h not_memory = absurd h
+  fault_stands fault.Memory h not_memory = absurd (not_memory refl)

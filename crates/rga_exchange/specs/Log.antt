@@ -5,7 +5,7 @@ use Rattle.rga_ops.specs.Prelude.{Content, taken, join, content_of}
 use Rattle.rga_ops.specs.Answer.{taken_one_by_one}
 use Rattle.rga_ops.specs.declared.refusal.Refusal.{Refusal}
 use Rattle.rga_devices.specs.Counting.{Calls, IsReadToEnd, OnBytes}
-use Rattle.rga_lines.specs.Log.{log_operations}
+use Rattle.rga_lines.specs.Log.{log_operations, operations_of}
 use Rattle.rga_lines.specs.Runs.{stretch_operations, run_deletions}
 use Rattle.rga_lines.specs.Table.{AnyReading, any_line_at}
 use Rattle.rga_lines.specs.Line.TheVariants.{One, Run, Deletions, Head, Last}
@@ -17,9 +17,11 @@ use Rattle.rga_exchange.specs.declared.fault.LogFault.TheVariants as fault
 use Rattle.rga_exchange.specs.declared.log.LogEnd.{LogEnd}
 use Rattle.rga_exchange.specs.declared.log.LogEnd.TheVariants.{Whole, Bare, Torn}
 use Rattle.rga_exchange.specs.declared.log.LogRead.{LogRead}
+use Rattle.rga_exchange.specs.declared.taking.LineTaken.{LineTaken}
+use Rattle.rga_exchange.specs.declared.taking.LineTaken.TheVariants.{Operations, EndLine}
 use Rattle.rga_exchange.specs.declared.fault.ReceiveFault.{ReceiveFault}
 use Rattle.rga_exchange.specs.Receiving.{receive_fault}
-use Rattle.rga_exchange.specs.Taking.{Stop, AllTaken, AtEnd, AtFault, Progress, taken_whole, stream_taken, Intake, HasTakenLines, HasTakenWholeLines}
+use Rattle.rga_exchange.specs.Taking.{Stop, AllTaken, AtEnd, AtFault, Progress, taken_whole, stream_taken, Intake, TakesNone, HasTakenLines, HasTakenWholeLines}
 
 -- the content, and the number of lines with how the log ends, or a fault
 abbrev pub LogOutcome : Type 0
@@ -46,9 +48,22 @@ abbrev pub after_rest : ℕ → ℕ → Content → List ℕ → LogOutcome
 after_rest limit n c [] = end_outcome n c Whole
 after_rest limit n c (b ∷ bytes) = after_bare_line limit n c (length (b ∷ bytes)) (any_line_at (b ∷ bytes))
 
--- the same of what a taker holds
-abbrev pub rest_outcome : {T : Type 0} → (T → ℕ) → (T → Content) → T → ℕ → List ℕ → LogOutcome
-rest_outcome limit content t n rest = after_rest (limit t) n (content t) rest
+-- what is answered for a rest of so many bytes, by what is answered for it as a line
+abbrev pub bare_answer : ℕ → Result LineTaken LogFault → Result LogEnd LogFault
+bare_answer bytes (Ok (Operations count)) = Ok Bare
+bare_answer bytes (Ok (EndLine number)) = Ok (Torn bytes)
+bare_answer bytes (Err (fault.Line n e)) = Ok (Torn bytes)
+bare_answer bytes (Err (fault.Refused n e)) = Err (fault.Refused n e)
+bare_answer bytes (Err fault.Read) = Err fault.Read
+bare_answer bytes (Err fault.Memory) = Err fault.Memory
+
+-- what became of the rest behind n lines: an operation or a run is taken, or nothing is
+abbrev pub TakesRest : Intake → ℕ → List ℕ → Result LogEnd LogFault → Type 0
+TakesRest took n rest (Ok end) = (after_rest took.limit n took.old rest ≡ end_outcome n took.new end) × took.follows (operations_of (rest ∷ []))
+TakesRest took n rest (Err (fault.Line k e)) = ⊥
+TakesRest took n rest (Err (fault.Refused k e)) = (after_rest took.limit n took.old rest ≡ (took.new, Err (fault.Refused k e))) × TakesNone took
+TakesRest took n rest (Err fault.Read) = ⊥
+TakesRest took n rest (Err fault.Memory) = TakesNone took
 
 -- the rest comes where all lines were taken; the end of an exchange is no line of a log
 abbrev pub after_stop : ℕ → List ℕ → ℕ → Content → Stop → LogOutcome

@@ -134,6 +134,11 @@ intake limit content follows t u = record { limit = limit t; old = content t; ne
 abbrev pub content_intake : ℕ → Content → Content → Intake
 content_intake limit c d = record { limit = limit; old = c; new = d; follows = λ _. Unit {0} }
 
+-- the taker holds what it held, and took nothing
+pub record TakesNone (took : Intake) : Type 0 where
+  pub same : took.new ≡ took.old
+  pub nothing : took.follows []
+
 -- Between two states of a reader that gives a stream of that form.
 module _ {R : Type 0} (form : Form) (remaining : R → Option (List ℕ)) (r s : Calls R) (took : Intake) where
   -- Of what the reader gave were taken all lines that were whole before the last block, the first ones of those that end

@@ -1,15 +1,13 @@
 //! Logs, read into whatever takes operations.
-ghost use Rattle.std.specs.Prelude.{◌≡◌, ◌≢◌, ◌<◌, ◌^◌, [], ◌∷◌, Err, OnErr, IfOk, IfErr, MatchResult};
+ghost use Rattle.std.specs.Prelude.{◌≡◌, ◌≢◌, ◌<◌, ◌^◌, Err, IfOk};
 ghost use Rattle.rga_devices.specs.Counting.{CountsAs};
-ghost use Rattle.rga_lines.specs.Log.{operations_of};
 ghost use Rattle.rga_exchange.specs.Taking.{intake};
-ghost use Rattle.rga_exchange.specs.Log.{TakesLog, log_end, rest_outcome, end_outcome};
-ghost use Rattle.rga_exchange.specs.declared.fault.LogFault.TheVariants.{Memory as NoMemory, Read as ReadFailed};
+ghost use Rattle.rga_exchange.specs.Log.{TakesLog, log_end, bare_answer, TakesRest};
 
 use crate::fault::{LogFault, ReceiveFault};
-use crate::taking::{Form, Stream, StreamEnd, take, take_deletions, take_run, take_stream};
+use crate::taking::{Form, LineTaken, Stream, StreamEnd, take_other, take_stream};
 use rga_devices::Counted;
-use rga_lines::{Line, LineFault, read_any};
+use rga_lines::LineFault;
 use rga_store::Taker;
 use std::alloc::Global;
 use std::io::Read;
@@ -62,8 +60,10 @@ pub fn take_log<T: Taker, R: Read>(
     match end {
         StreamEnd::EndLine(_) => Err(LogFault::Line(lines + 1, LineFault::Kind)),
         StreamEnd::Input(rest) => {
-            let end = take_rest(alloc, taker, lines, &rest)?;
-            Ok(LogRead { lines, end })
+            match take_rest(alloc, taker, lines, &rest) {
+                Ok(end) => Ok(LogRead { lines, end }),
+                Err(fault) => Err(fault),
+            }
         }
     }
 }
@@ -76,37 +76,26 @@ fn take_rest<T: Taker>(
     rest: &[u8],
 ) -> Result<LogEnd, LogFault>
     requires { lines < 2 ^ 63 }
-    ensures end { IfOk result (λ end. rest_outcome T.limit T.content taker.old lines rest.now
-        ≡ end_outcome lines (T.content taker.new) end) }
-    ensures fault { IfErr result (λ e. e ≢ NoMemory
-        → rest_outcome T.limit T.content taker.old lines rest.now ≡ (T.content taker.new, Err e)) }
-    ensures same { OnErr result (T.content taker.new ≡ T.content taker.old) }
-    ensures device { IfErr result (λ e. e ≢ ReadFailed) }
+    ensures taken { TakesRest (intake T.limit T.content T.follows taker.old taker.new)
+        lines rest.now result }
     ensures limit { T.limit taker.new ≡ T.limit taker.old }
-    ensures follows { MatchResult result
-        (λ _. T.follows taker.old (operations_of (rest.now ∷ [])) taker.new)
-        (λ _. T.follows taker.old [] taker.new) }
 {
     if rest.is_empty() {
         return Ok(LogEnd::Whole);
     }
-    match read_any(alloc, rest) {
-        Ok(Line::One(op)) => {
-            take(taker, lines + 1, op)?;
-            Ok(LogEnd::Bare)
-        }
-        Ok(Line::Run(run)) => {
-            take_run(alloc, taker, lines + 1, &run)?;
-            Ok(LogEnd::Bare)
-        }
-        Ok(Line::Deletions(run)) => {
-            take_deletions(alloc, taker, lines + 1, &run)?;
-            Ok(LogEnd::Bare)
-        }
-        Err(LineFault::Memory) => Err(LogFault::Memory),
-        Ok(Line::Head) => Ok(LogEnd::Torn(rest.len() as u64)),
-        Ok(Line::Last(_)) => Ok(LogEnd::Torn(rest.len() as u64)),
-        Err(_) => Ok(LogEnd::Torn(rest.len() as u64)),
+    let taken = take_other(alloc, Form::Log, taker, lines + 1, rest);
+    end_of(rest.len() as u64, taken)
+}
+
+/// How a rest of so many bytes ends a log, by what became of it as a line.
+fn end_of(bytes: u64, taken: Result<LineTaken, LogFault>) -> Result<LogEnd, LogFault>
+    ensures { result ≡ bare_answer bytes taken }
+{
+    match taken {
+        Ok(LineTaken::Operations(_)) => Ok(LogEnd::Bare),
+        Ok(LineTaken::EndLine(_)) => Ok(LogEnd::Torn(bytes)),
+        Err(LogFault::Line(_, _)) => Ok(LogEnd::Torn(bytes)),
+        Err(fault) => Err(fault),
     }
 }
 

@@ -4,15 +4,14 @@ ghost use Rattle.rga_ops.specs.Prelude.{taken};
 ghost use Rattle.rga_devices.specs.Counting.{CountsAs, OnBytes};
 ghost use Rattle.rga_lines.specs.Log.{operations_of};
 ghost use Rattle.rga_lines.specs.Runs.{stretch_operations, run_deletions, IsRun, IsDeletionRun};
-ghost use Rattle.rga_lines.specs.RunConstants.{MAX_RUN};
 ghost use Rattle.rga_lines.specs.Stream.{lines_of};
 ghost use Rattle.rga_lines.specs.LineConstants.{MAX_LINE};
 ghost use Rattle.rga_lines.specs.LineFault.TheVariants.{Kind};
-ghost use Rattle.rga_exchange.specs.Taking.{AtEnd, AtFault, may_be_head, refused_at, taken_whole};
+ghost use Rattle.rga_exchange.specs.Taking.{AtFault, refused_at, taken_whole};
 ghost use Rattle.rga_exchange.specs.Taking.{intake, HasTakenLines, HasTakenWholeLines};
-ghost use Rattle.rga_exchange.specs.Parts.{stage, left_at, line_outcome, TakesUpTo, StopsAs};
+ghost use Rattle.rga_exchange.specs.Parts.{stage, left_at, line_outcome, head_answer, TakesAs, TakesLines};
 ghost use Rattle.rga_exchange.specs.Parts.{LeadsTo, EndsAs, HasTakenAllBut, StopsReading};
-ghost use Rattle.rga_exchange.specs.declared.fault.LogFault.TheVariants.{Memory, Read as ReadFailed, Line as FaultyLine};
+ghost use Rattle.rga_exchange.specs.declared.fault.LogFault.TheVariants.{Memory, Read as ReadFailed};
 
 use crate::block::BLOCK;
 use crate::fault::LogFault;
@@ -86,7 +85,7 @@ pub(crate) fn take_stream<T: Taker, R: Read>(
     let mut operations = 0u128;
     let mut block = [0u8; BLOCK];
     'reads: loop {
-        if let Some(number) = take_lines(
+        match take_lines(
             alloc,
             form,
             taker,
@@ -94,13 +93,17 @@ pub(crate) fn take_stream<T: Taker, R: Read>(
             &mut ops,
             &mut lines,
             &mut operations,
-        )? {
-            let end = StreamEnd::EndLine(number);
-            return Ok(Stream {
-                lines,
-                operations,
-                end,
-            });
+        ) {
+            Ok(None) => {}
+            Ok(Some(number)) => {
+                let end = StreamEnd::EndLine(number);
+                return Ok(Stream {
+                    lines,
+                    operations,
+                    end,
+                });
+            }
+            Err(fault) => return Err(fault),
         }
         let Ok(count) = reader.read(&mut block) else {
             return Err(LogFault::Read);
@@ -131,31 +134,14 @@ fn take_lines<T: Taker>(
     lines: &mut u64,
     operations: &mut u128,
 ) -> Result<Option<u64>, LogFault>
-    requires few { operations.old ≤ MAX_RUN * lines.old }
+    requires few { operations.old ≤ 2 ^ 64 * lines.old }
     requires whole { splitter.old.broken ≡ false }
     requires room { lines.old + length splitter.old.waiting < 2 ^ 63 }
-    ensures taken { let took = intake T.limit T.content T.follows taker.old taker.new in
-        (waiting : List ℕ) × TakesUpTo form took
+    ensures taken { TakesLines form (intake T.limit T.content T.follows taker.old taker.new)
         (stage lines.old operations.old splitter.old.waiting)
-        (stage lines.new operations.new waiting) }
-    ensures all { let took = intake T.limit T.content T.follows taker.old taker.new in
-        result ≡ Ok None → TakesUpTo form took
-        (stage lines.old operations.old splitter.old.waiting)
-        (stage lines.new operations.new splitter.new.waiting) }
-    ensures few { operations.new ≤ MAX_RUN * lines.new }
-    ensures end { let took = intake T.limit T.content T.follows taker.old taker.new in
-        (number : ℕ) → result ≡ Ok (Some number) → StopsAs form took
-        (stage lines.old operations.old splitter.old.waiting) lines.new (AtEnd number) }
-    ensures fault { let took = intake T.limit T.content T.follows taker.old taker.new in
-        IfErr result (λ e. e ≢ Memory → StopsAs form took
-        (stage lines.old operations.old splitter.old.waiting) lines.new (AtFault e)) }
+        lines.new operations.new splitter.new result }
+    ensures few { operations.new ≤ 2 ^ 64 * lines.new }
     ensures device { IfErr result (λ e. e ≢ ReadFailed) }
-
-    ensures none_left { result ≡ Ok None → (lines_of splitter.new.waiting ≡ [])
-        × (length splitter.new.waiting ≤ MAX_LINE) }
-    ensures whole { result ≡ Ok None → splitter.new.broken ≡ false }
-    ensures room { result ≡ Ok None →
-        lines.new + length splitter.new.waiting ≤ lines.old + length splitter.old.waiting }
     ensures bound { lines.new ≤ lines.old + length splitter.old.waiting }
     ensures limit { T.limit taker.new ≡ T.limit taker.old }
 {
@@ -165,25 +151,27 @@ fn take_lines<T: Taker>(
             Ok(None) => return Ok(None),
             Err(fault) => return Err(LogFault::Line(*lines + 1, fault)),
         };
-        if let Some(number) = take_line(
-            alloc,
-            form,
-            taker,
-            ops,
-            *lines + 1,
-            splitter.line(end),
-            operations,
-        )? {
-            return Ok(Some(number));
+        match take_line(alloc, form, taker, ops, *lines + 1, splitter.line(end)) {
+            Ok(LineTaken::Operations(count)) => *operations += u128::from(count),
+            Ok(LineTaken::EndLine(number)) => return Ok(Some(number)),
+            Err(fault) => return Err(fault),
         }
         splitter.pass_line(end);
         *lines += 1;
     }
 }
 
-/// Takes the operations of a whole line, all or none, and counts them, passes over the head of an
-/// exchange, or answers the number that the end line names. The insertions of a run are read into
-/// the list, in place of what stood there.
+/// What a line is that was taken.
+pub(crate) enum LineTaken {
+    /// So many operations, which all are taken. The head of an exchange has none.
+    Operations(u64),
+    /// The end line, which names so many operations.
+    EndLine(u64),
+}
+
+/// Takes the operations of a whole line, all or none, passes over the head of an exchange, or
+/// answers the number that the end line names. The insertions of a run are read into the list, in
+/// place of what stood there.
 fn take_line<T: Taker>(
     alloc: Global,
     form: Form,
@@ -191,146 +179,81 @@ fn take_line<T: Taker>(
     ops: &mut Vec<Op>,
     number: u64,
     line: &[u8],
-    operations: &mut u128,
-) -> Result<Option<u64>, LogFault>
-    requires { operations.old < 2 ^ 127 }
-    ensures operation { result ≡ Ok None →
-        line_outcome form T.limit T.content taker.old number line.now ≡ Ok (T.content taker.new) }
-    ensures end { (count : ℕ) → result ≡ Ok (Some count) →
-        line_outcome form T.limit T.content taker.old number line.now ≡ Err (AtEnd count) }
-    ensures fault { IfErr result (λ e. e ≢ Memory →
-        line_outcome form T.limit T.content taker.old number line.now ≡ Err (AtFault e)) }
-    ensures device { IfErr result (λ e. e ≢ ReadFailed) }
-    ensures same { result ≢ Ok None → T.content taker.new ≡ T.content taker.old }
+) -> Result<LineTaken, LogFault>
+    ensures taken { TakesAs (intake T.limit T.content T.follows taker.old taker.new)
+        (line_outcome form T.limit T.content taker.old number line.now)
+        (operations_of (line.now ∷ [])) result }
     ensures limit { T.limit taker.new ≡ T.limit taker.old }
-    ensures follows { result ≡ Ok None →
-        T.follows taker.old (operations_of (line.now ∷ [])) taker.new }
-    ensures follows_nothing { result ≢ Ok None → T.follows taker.old [] taker.new }
-    ensures count { result ≡ Ok None →
-        operations.new ≡ operations.old + length (operations_of (line.now ∷ [])) }
-    ensures same_count { result ≢ Ok None → operations.new ≡ operations.old }
-    ensures few { operations.new ≤ operations.old + MAX_RUN }
 {
     if let Some(deletion) = read_deletion(line) {
-        take(taker, number, deletion)?;
-        *operations += 1;
-        return Ok(None);
+        return take(taker, number, deletion);
     }
     match read_insertions(ops, line) {
-        Ok(true) => {
-            let inserted = take_all(taker, number, ops)?;
-            *operations += u128::from(inserted);
-            Ok(None)
-        }
-        Ok(false) => take_other(alloc, form, taker, number, line, operations),
+        Ok(true) => take_all(taker, number, ops),
+        Ok(false) => take_other(alloc, form, taker, number, line),
         Err(_) => Err(LogFault::Memory),
     }
 }
 
 /// The same of any line, whatever it is.
-fn take_other<T: Taker>(
+pub(crate) fn take_other<T: Taker>(
     alloc: Global,
     form: Form,
     taker: &mut T,
     number: u64,
     line: &[u8],
-    operations: &mut u128,
-) -> Result<Option<u64>, LogFault>
-    requires { operations.old < 2 ^ 127 }
-    ensures operation { result ≡ Ok None →
-        line_outcome form T.limit T.content taker.old number line.now ≡ Ok (T.content taker.new) }
-    ensures end { (count : ℕ) → result ≡ Ok (Some count) →
-        line_outcome form T.limit T.content taker.old number line.now ≡ Err (AtEnd count) }
-    ensures fault { IfErr result (λ e. e ≢ Memory →
-        line_outcome form T.limit T.content taker.old number line.now ≡ Err (AtFault e)) }
-    ensures device { IfErr result (λ e. e ≢ ReadFailed) }
-    ensures same { result ≢ Ok None → T.content taker.new ≡ T.content taker.old }
+) -> Result<LineTaken, LogFault>
+    ensures taken { TakesAs (intake T.limit T.content T.follows taker.old taker.new)
+        (line_outcome form T.limit T.content taker.old number line.now)
+        (operations_of (line.now ∷ [])) result }
     ensures limit { T.limit taker.new ≡ T.limit taker.old }
-    ensures follows { result ≡ Ok None →
-        T.follows taker.old (operations_of (line.now ∷ [])) taker.new }
-    ensures follows_nothing { result ≢ Ok None → T.follows taker.old [] taker.new }
-    ensures count { result ≡ Ok None →
-        operations.new ≡ operations.old + length (operations_of (line.now ∷ [])) }
-    ensures same_count { result ≢ Ok None → operations.new ≡ operations.old }
-    ensures few { operations.new ≤ operations.old + MAX_RUN }
 {
     match read_any(alloc, line) {
-        Ok(Line::One(op)) => {
-            take(taker, number, op)?;
-            *operations += 1;
-            Ok(None)
-        }
-        Ok(Line::Run(run)) => {
-            let count = take_run(alloc, taker, number, &run)?;
-            *operations += u128::from(count);
-            Ok(None)
-        }
-        Ok(Line::Deletions(run)) => {
-            let deleted = take_deletions(alloc, taker, number, &run)?;
-            *operations += u128::from(deleted);
-            Ok(None)
-        }
-        Ok(Line::Head) => {
-            pass_head(form, number)?;
-            Ok(None)
-        }
-        Ok(Line::Last(count)) => Ok(Some(count)),
+        Ok(Line::One(op)) => take(taker, number, op),
+        Ok(Line::Run(run)) => take_run(alloc, taker, number, &run),
+        Ok(Line::Deletions(run)) => take_deletions(alloc, taker, number, &run),
+        Ok(Line::Head) => pass_head(form, number),
+        Ok(Line::Last(count)) => Ok(LineTaken::EndLine(count)),
         Err(LineFault::Memory) => Err(LogFault::Memory),
         Err(fault) => Err(LogFault::Line(number, fault)),
     }
 }
 
 /// Passes over a head as the line with this number, where it is the first one of an exchange.
-fn pass_head(form: Form, number: u64) -> Result<(), LogFault>
-    ensures ok { OnOk result (may_be_head form number ≡ true) }
-    ensures fault { IfErr result (λ e. (may_be_head form number ≡ false)
-        × (e ≡ FaultyLine number Kind)) }
+fn pass_head(form: Form, number: u64) -> Result<LineTaken, LogFault>
+    ensures { result ≡ head_answer form number }
 {
     match form {
-        Form::Exchange if number == 1 => Ok(()),
+        Form::Exchange if number == 1 => Ok(LineTaken::Operations(0)),
         _ => Err(LogFault::Line(number, LineFault::Kind)),
     }
 }
 
 /// Takes the operation of the line with this number.
-pub(crate) fn take<T: Taker>(taker: &mut T, number: u64, op: Op) -> Result<(), LogFault>
-    ensures ok { OnOk result
-        (taken (T.limit taker.old) (T.content taker.old) op ≡ Ok (T.content taker.new)) }
-    ensures fault { IfErr result (λ e. e ≢ Memory → refused_at number
-        (taken (T.limit taker.old) (T.content taker.old) op) ≡ Err (AtFault e)) }
-    ensures device { IfErr result (λ e. e ≢ ReadFailed) }
-    ensures same { OnErr result (T.content taker.new ≡ T.content taker.old) }
+pub(crate) fn take<T: Taker>(taker: &mut T, number: u64, op: Op) -> Result<LineTaken, LogFault>
+    ensures taken { TakesAs (intake T.limit T.content T.follows taker.old taker.new)
+        (refused_at number (taken (T.limit taker.old) (T.content taker.old) op)) (op ∷ []) result }
     ensures limit { T.limit taker.new ≡ T.limit taker.old }
-    ensures follows { MatchResult result
-        (λ _. T.follows taker.old (op ∷ []) taker.new) (λ _. T.follows taker.old [] taker.new) }
 {
     match taker.apply(op) {
-        Ok(_) => Ok(()),
+        Ok(_) => Ok(LineTaken::Operations(1)),
         Err(Refusal::Memory) => Err(LogFault::Memory),
         Err(refusal) => Err(LogFault::Refused(number, refusal)),
     }
 }
 
-/// Takes the insertions of the run of the line with this number, all or none, and answers how many
-/// they are.
-pub(crate) fn take_run<T: Taker>(
+/// Takes the insertions of the run of the line with this number, all or none.
+fn take_run<T: Taker>(
     alloc: Global,
     taker: &mut T,
     number: u64,
     run: &Run,
-) -> Result<u64, LogFault>
+) -> Result<LineTaken, LogFault>
     requires { IsRun run.now }
-    ensures count { IfOk result (λ count. count ≡ length (stretch_operations run.now)) }
-    ensures ok { OnOk result (taken_whole (T.limit taker.old) (T.content taker.old)
-        (stretch_operations run.now) ≡ Ok (T.content taker.new)) }
-    ensures fault { IfErr result (λ e. e ≢ Memory → refused_at number (taken_whole
-        (T.limit taker.old) (T.content taker.old) (stretch_operations run.now)) ≡ Err (AtFault e)) }
-    ensures device { IfErr result (λ e. e ≢ ReadFailed) }
-    ensures same { OnErr result (T.content taker.new ≡ T.content taker.old) }
+    ensures taken { TakesAs (intake T.limit T.content T.follows taker.old taker.new)
+        (refused_at number (taken_whole (T.limit taker.old) (T.content taker.old)
+        (stretch_operations run.now))) (stretch_operations run.now) result }
     ensures limit { T.limit taker.new ≡ T.limit taker.old }
-    ensures follows { MatchResult result
-        (λ _. T.follows taker.old (stretch_operations run.now) taker.new)
-        (λ _. T.follows taker.old [] taker.new) }
 {
     let Ok(ops) = run.ops(alloc) else {
         return Err(LogFault::Memory);
@@ -338,26 +261,18 @@ pub(crate) fn take_run<T: Taker>(
     take_all(taker, number, &ops)
 }
 
-/// Takes the deletions of the run of the line with this number, all or none, and answers how many
-/// they are.
-pub(crate) fn take_deletions<T: Taker>(
+/// Takes the deletions of the run of the line with this number, all or none.
+fn take_deletions<T: Taker>(
     alloc: Global,
     taker: &mut T,
     number: u64,
     run: &DeletionRun,
-) -> Result<u64, LogFault>
+) -> Result<LineTaken, LogFault>
     requires { IsDeletionRun run.now }
-    ensures count { IfOk result (λ count. count ≡ length (run_deletions run.now)) }
-    ensures ok { OnOk result (taken_whole (T.limit taker.old) (T.content taker.old)
-        (run_deletions run.now) ≡ Ok (T.content taker.new)) }
-    ensures fault { IfErr result (λ e. e ≢ Memory → refused_at number (taken_whole
-        (T.limit taker.old) (T.content taker.old) (run_deletions run.now)) ≡ Err (AtFault e)) }
-    ensures device { IfErr result (λ e. e ≢ ReadFailed) }
-    ensures same { OnErr result (T.content taker.new ≡ T.content taker.old) }
+    ensures taken { TakesAs (intake T.limit T.content T.follows taker.old taker.new)
+        (refused_at number (taken_whole (T.limit taker.old) (T.content taker.old)
+        (run_deletions run.now))) (run_deletions run.now) result }
     ensures limit { T.limit taker.new ≡ T.limit taker.old }
-    ensures follows { MatchResult result
-        (λ _. T.follows taker.old (run_deletions run.now) taker.new)
-        (λ _. T.follows taker.old [] taker.new) }
 {
     let Ok(ops) = run.ops(alloc) else {
         return Err(LogFault::Memory);
@@ -365,22 +280,15 @@ pub(crate) fn take_deletions<T: Taker>(
     take_all(taker, number, &ops)
 }
 
-/// Takes the operations that the line with this number stands for, all or none, and answers how
-/// many they are.
-fn take_all<T: Taker>(taker: &mut T, number: u64, ops: &[Op]) -> Result<u64, LogFault>
-    ensures count { IfOk result (λ count. count ≡ length ops.now) }
-    ensures ok { OnOk result (taken_whole (T.limit taker.old) (T.content taker.old) ops.now
-        ≡ Ok (T.content taker.new)) }
-    ensures fault { IfErr result (λ e. e ≢ Memory → refused_at number (taken_whole
-        (T.limit taker.old) (T.content taker.old) ops.now) ≡ Err (AtFault e)) }
-    ensures device { IfErr result (λ e. e ≢ ReadFailed) }
-    ensures same { OnErr result (T.content taker.new ≡ T.content taker.old) }
+/// Takes the operations that the line with this number stands for, all or none.
+fn take_all<T: Taker>(taker: &mut T, number: u64, ops: &[Op]) -> Result<LineTaken, LogFault>
+    ensures taken { TakesAs (intake T.limit T.content T.follows taker.old taker.new)
+        (refused_at number (taken_whole (T.limit taker.old) (T.content taker.old) ops.now))
+        ops.now result }
     ensures limit { T.limit taker.new ≡ T.limit taker.old }
-    ensures follows { MatchResult result
-        (λ _. T.follows taker.old ops.now taker.new) (λ _. T.follows taker.old [] taker.new) }
 {
     match taker.apply_all(ops) {
-        Ok(()) => Ok(ops.len() as u64),
+        Ok(()) => Ok(LineTaken::Operations(ops.len() as u64)),
         Err(Refusal::Memory) => Err(LogFault::Memory),
         Err(fault) => Err(LogFault::Refused(number, fault)),
     }

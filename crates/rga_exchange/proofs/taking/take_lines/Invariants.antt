@@ -1,5 +1,4 @@
-use Rattle.std.proofs.Common.{◌≡◌, ◌+◌, ◌*◌, ◌≤◌, length, false}
-use Rattle.rga_lines.specs.RunConstants.{MAX_RUN}
+use Rattle.std.proofs.Common.{◌≡◌, ◌+◌, ◌*◌, ◌^◌, ◌≤◌, length, false}
 use Rattle.rga_exchange.specs.Taking.{intake}
 use Rattle.rga_exchange.specs.Parts.{stage, TakesUpTo}
 use Rattle.rga_exchange.proofs.taking.take_lines.Given as goal
@@ -9,7 +8,7 @@ invariant-lines g l = record {
   whole : l.splitter.broken ≡ false;
   room : l.lines + length l.splitter.waiting ≤ l.fn.lines + length l.fn.splitter.waiting;
   limit : g.T.Taker.limit l.taker ≡ g.T.Taker.limit l.fn.taker;
-  few : l.operations ≤ MAX_RUN * l.lines;
+  few : l.operations ≤ 2 ^ 64 * l.lines;
   up_to : TakesUpTo l.fn.form (intake g.T.Taker.limit g.T.Taker.content g.T.Taker.follows l.fn.taker l.taker) (stage l.fn.lines l.fn.operations l.fn.splitter.waiting) (stage l.lines l.operations l.splitter.waiting);
 }
 

@@ -1,5 +1,4 @@
-use Rattle.std.proofs.Common.{◌≡◌, ◌+◌, ◌*◌, ◌≤◌, min, length, false}
-use Rattle.rga_lines.specs.RunConstants.{MAX_RUN}
+use Rattle.std.proofs.Common.{◌≡◌, ◌+◌, ◌*◌, ◌^◌, ◌≤◌, min, length, false}
 use Rattle.rga_devices.specs.declared.counted.TheConstants.{MAX_CALLS}
 use Rattle.rga_exchange.specs.declared.block.TheConstants.{BLOCK}
 use Rattle.rga_exchange.specs.Taking.{intake}
@@ -13,7 +12,7 @@ invariant-reads g l = record {
   limit : g.T.Taker.limit l.taker ≡ g.T.Taker.limit l.fn.taker;
   same_failures : l.reader.failures ≡ l.fn.reader.failures;
   read : HasTakenOfRead l.fn.form g.R.Read.remaining l.fn.reader l.reader (intake g.T.Taker.limit g.T.Taker.content g.T.Taker.follows l.fn.taker l.taker) (stage l.lines l.operations l.splitter.waiting);
-  few : l.operations ≤ MAX_RUN * l.lines;
+  few : l.operations ≤ 2 ^ 64 * l.lines;
 }
 
 abbrev pub decreases-reads : goal.decreases-reads
