@@ -1,12 +1,9 @@
 //! The lines of a stream, taken in turn into whatever takes operations.
-ghost use Rattle.std.specs.Prelude.{◌≡◌, ◌≢◌, ◌+◌, ◌*◌, ◌^◌, ◌<◌, ◌≤◌, ℕ, List, length, [], ◌∷◌, true, false, Ok, Err, Some, None, OnOk, IfOk, OnErr, IfErr, IfSome, MatchResult};
+ghost use Rattle.std.specs.Prelude.{◌≡◌, ◌≢◌, ◌+◌, ◌*◌, ◌^◌, ◌<◌, ◌≤◌, ℕ, length, [], ◌∷◌, false, IfOk, IfErr, IfSome};
 ghost use Rattle.rga_ops.specs.Prelude.{taken};
 ghost use Rattle.rga_devices.specs.Counting.{CountsAs, OnBytes};
 ghost use Rattle.rga_lines.specs.Log.{operations_of};
 ghost use Rattle.rga_lines.specs.Runs.{stretch_operations, run_deletions, IsRun, IsDeletionRun};
-ghost use Rattle.rga_lines.specs.Stream.{lines_of};
-ghost use Rattle.rga_lines.specs.LineConstants.{MAX_LINE};
-ghost use Rattle.rga_lines.specs.LineFault.TheVariants.{Kind};
 ghost use Rattle.rga_exchange.specs.Taking.{AtFault, refused_at, taken_whole};
 ghost use Rattle.rga_exchange.specs.Taking.{intake, HasTakenLines, HasTakenWholeLines};
 ghost use Rattle.rga_exchange.specs.Parts.{stage, left_at, line_outcome, head_answer, TakesAs, TakesLines};
