@@ -4,7 +4,8 @@ ghost use Rattle.rga_ops.specs.Prelude.{content_of, join, order, text, IsAnswer}
 ghost use Rattle.rga_ops.specs.Splice.{spliced, text_after, are_falling, end_of, new_characters};
 ghost use Rattle.rga_store.specs.Limit.{is_limit};
 ghost use Rattle.rga_doc.specs.Excerpt.{begin_of};
-ghost use Rattle.rga_doc.specs.LocalEdit.{splice_operations, splices_operations, splice_answer, splices_answer, edit_answer, room_answer, counter_answer, order_after};
+ghost use Rattle.rga_doc.specs.LocalEdit.{splice_operations, splices_operations, splice_answer, splices_answer, edit_answer, room_answer, place_answer, counter_answer, order_after};
+ghost use Rattle.rga_ops.specs.ListAnswer.{and_check};
 ghost use Rattle.rga_ops.specs.declared.refusal.Refusal.TheVariants.{Memory};
 
 use crate::doc::Doc;
@@ -47,7 +48,8 @@ impl<S: TextStore> Doc<S> {
         ensures ordered { result ≡ Err Memory → lo ≤ hi }
     {
         self.check_edit(lo <= hi, hi, put.len())?;
-        self.splice_listed(lo, hi, put)
+        let ops = self.write_splice(lo, hi, put)?;
+        self.take_splice(lo, hi, put, ops)
     }
 
     /// What refuses an edit whose places are in order or not, that ends at a place and puts so many
@@ -69,35 +71,31 @@ impl<S: TextStore> Doc<S> {
             return Err(Refusal::Range);
         }
         self.list()?;
+        self.check_listed(end, new)
+    }
+
+    /// The same for a listed document where there is room and the places are in order.
+    fn check_listed(&self, end: usize, new: usize) -> Result<(), Refusal>
+        requires { self.now.listed ≡ true }
+        ensures { result ≡ and_check (place_answer (nat_le end (length (text self.now.content))))
+            (counter_answer self.now.content new) }
+    {
         if end > self.characters().len() {
             return Err(Refusal::Range);
         }
         check_counters(&self.store, new)
     }
 
-    /// The same for a splice that is allowed and a listed document. `Memory` alone; then nothing
-    /// changes, but that the document may not be listed.
-    fn splice_listed(&mut self, lo: usize, hi: usize, put: &[char]) -> Result<Vec<Op>, Refusal>
-        requires listed { self.old.listed ≡ true }
-        requires allowed { splice_answer self.old.limit self.old.content lo hi put.now ≡ Ok tt }
+    /// The operations of a splice that is allowed. `Memory` alone.
+    fn write_splice(&self, lo: usize, hi: usize, put: &[char]) -> Result<Vec<Op>, Refusal>
+        requires allowed { splice_answer self.now.limit self.now.content lo hi put.now ≡ Ok tt }
         ensures operations { IfOk result (λ ops. ops.items
-            ≡ splice_operations self.old.replica self.old.content lo hi put.now) }
-        ensures content { IfOk result (λ ops. self.new
-            ≡ record self.old
-            { content = join self.old.content (content_of ops.items); listed = self.new.listed }) }
-        ensures text { OnOk result
-            (text self.new.content ≡ spliced (text self.old.content) lo hi put.now) }
-        ensures place { OnOk result
-            (order self.new.content ≡ order_after self.old.replica self.old.content lo put.now) }
+            ≡ splice_operations self.now.replica self.now.content lo hi put.now) }
         ensures memory { IfErr result (λ e. e ≡ Refusal.Memory) }
-        ensures same { OnErr result (self.new ≡ record self.old { listed = self.new.listed }) }
     {
         let elements = Excerpt::of(self.alloc, &self.store, lo, hi)?;
         let mut draft = Draft::new(self.alloc, self.replica, self.store.clock());
         draft.splice(&elements, lo, hi, put)?;
-        self.listing.make_room(self.alloc, put.len());
-        self.store.apply_all(&draft.ops)?;
-        self.listing.splice(lo, hi, put);
         Ok(draft.ops)
     }
 
@@ -128,8 +126,7 @@ impl<S: TextStore> Doc<S> {
             are_falling (end_of splices.now) splices.now ≡ true }
     {
         let ops = self.draft(splices)?;
-        self.take_or_forget(splices, &ops)?;
-        Ok(ops)
+        self.take_or_forget(splices, ops)
     }
 
     /// The operations of several splices, which are not taken yet: `take` does that, and what
@@ -165,9 +162,8 @@ impl<S: TextStore> Doc<S> {
     {
         let (lo, hi) = (begin_of(splices), end_of(splices));
         let elements = Excerpt::of(self.alloc, &self.store, lo, hi)?;
-        let mut draft = Draft::new(self.alloc, self.replica, self.store.clock());
-        draft.splices(&elements, splices)?;
-        Ok(draft.ops)
+        let draft = Draft::new(self.alloc, self.replica, self.store.clock());
+        draft.splices(&elements, splices)
     }
 }
 

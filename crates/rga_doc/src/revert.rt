@@ -13,6 +13,7 @@ use crate::doc::Doc;
 use crate::draft::Draft;
 use crate::edit::{check_counters, check_room};
 use crate::element_sets::{Complete, put_in};
+use crate::taking::take_all;
 use indexmap::IndexSet;
 use rga_ops::{Id, Op, Refusal};
 use rga_store::{Taker, TextStore};
@@ -75,7 +76,9 @@ impl<S: TextStore> Doc<S> {
         let margins = self
             .listing
             .margins(&self.store, deletions, insertions.len());
-        self.store.apply_all(ops)?;
+        if !take_all(&mut self.store, ops) {
+            return Err(Refusal::Memory);
+        }
         let front = self
             .listing
             .follow(self.alloc, &self.store, margins, insertions);
