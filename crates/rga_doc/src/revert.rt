@@ -109,8 +109,9 @@ impl<S: TextStore> Doc<S> {
         ensures memory { IfErr result (λ e. e ≡ Refusal.Memory) }
     {
         let mut draft = Draft::new(self.alloc, self.replica, self.store.clock());
-        draft.delete(visible)?;
-        draft.restore(back)?;
+        if draft.delete(visible).is_err() || draft.restore(back).is_err() {
+            return Err(Refusal::Memory);
+        }
         Ok(draft.ops)
     }
 }

@@ -46,8 +46,7 @@ impl<S: TextStore> Doc<S> {
         ensures same { OnErr result (self.new ≡ self.old) }
     {
         let new = count_characters(splices).min(self.store.limit());
-        self.listing.characters.make_room(new)?;
-        if !take_all(&mut self.store, ops) {
+        if self.listing.characters.make_room(new).is_err() || !take_all(&mut self.store, ops) {
             return Err(Refusal::Memory);
         }
         self.listing.replace_all(splices);
