@@ -1,5 +1,5 @@
 //! Edits by place.
-ghost use Rattle.std.specs.Prelude.{◌≡◌, ◌≤◌, ◌&&◌, ℕ, min, nat_le, true, length, Ok, Err, IfOk, IfErr, OnOk, OnErr};
+ghost use Rattle.std.specs.Prelude.{◌≡◌, ◌≤◌, ◌&&◌, ℕ, min, nat_le, true, length, Ok, Err, IfOk, IfErr, OnOk, OnErr, if◌then◌else◌};
 ghost use Rattle.rga_ops.specs.Prelude.{content_of, join, order, text, IsAnswer};
 ghost use Rattle.rga_ops.specs.Splice.{spliced, text_after, are_falling, end_of, new_characters};
 ghost use Rattle.rga_store.specs.Limit.{is_limit};
@@ -66,7 +66,9 @@ impl<S: TextStore> Doc<S> {
         ensures in_order { OnOk result (is_ordered ≡ true) }
         ensures ordered { result ≡ Err Memory → is_ordered ≡ true }
     {
-        check_room(&self.store, new)?;
+        if !has_room(&self.store, new) {
+            return Err(Refusal::Full);
+        }
         if !is_ordered {
             return Err(Refusal::Range);
         }
@@ -167,16 +169,14 @@ impl<S: TextStore> Doc<S> {
     }
 }
 
-/// `Full` unless the limit leaves room for so many more. The store says with its limit that this is
-/// in range.
-pub(crate) fn check_room<S: TextStore>(store: &S, new: usize) -> Result<(), Refusal>
-    ensures answer { result ≡ room_answer (S.limit store.now) (S.content store.now) new }
+/// Whether the limit leaves room for so many more. The store says with its limit that this is in
+/// range.
+pub(crate) fn has_room<S: TextStore>(store: &S, new: usize) -> bool
+    ensures answer { room_answer (S.limit store.now) (S.content store.now) new
+        ≡ (if result then Ok tt else Err Refusal.Full) }
     ensures limited { is_limit (S.limit store.now) ≡ true }
 {
-    if new > store.limit() - store.known() {
-        return Err(Refusal::Full);
-    }
-    Ok(())
+    new <= store.limit() - store.known()
 }
 
 /// `Clock` where there are new characters and not that many counters above the clock.

@@ -11,7 +11,7 @@ ghost use Rattle.rga_doc.specs.Revert.{distinct_elements, restorations, revert_o
 
 use crate::doc::Doc;
 use crate::draft::Draft;
-use crate::edit::{check_counters, check_room};
+use crate::edit::{check_counters, has_room};
 use crate::element_sets::{Complete, put_in};
 use crate::taking::take_all;
 use indexmap::IndexSet;
@@ -96,7 +96,9 @@ impl<S: TextStore> Doc<S> {
         ensures room { result ≡ Err Memory →
             room_answer self.now.limit self.now.content (length back.now) ≡ Ok tt }
     {
-        check_room(&self.store, back.len())?;
+        if !has_room(&self.store, back.len()) {
+            return Err(Refusal::Full);
+        }
         let visible = check_revert(self.alloc, &self.store, gone, back)?;
         self.write_revert(&visible, back)
     }
