@@ -95,10 +95,13 @@ impl<S: TextStore> Doc<S> {
             ≡ splice_operations self.now.replica self.now.content lo hi put.now) }
         ensures memory { IfErr result (λ e. e ≡ Refusal.Memory) }
     {
-        let elements = Excerpt::of(self.alloc, &self.store, lo, hi)?;
-        let mut draft = Draft::new(self.alloc, self.replica, self.store.clock());
-        draft.splice(&elements, lo, hi, put)?;
-        Ok(draft.ops)
+        if let Ok(elements) = Excerpt::of(self.alloc, &self.store, lo, hi) {
+            let mut draft = Draft::new(self.alloc, self.replica, self.store.clock());
+            if draft.splice(&elements, lo, hi, put).is_ok() {
+                return Ok(draft.ops);
+            }
+        }
+        Err(Refusal::Memory)
     }
 
     /// Several splices at once, of places that fall and do not overlap: each ends at or before the

@@ -65,12 +65,13 @@ impl<S: TextStore> Doc<S> {
         ensures same { OnErr result (self.new ≡ self.old) }
     {
         let new = count_characters(splices);
-        let characters = self.listing.characters.spliced(self.alloc, splices, new)?;
-        if !take_all(&mut self.store, ops) {
-            return Err(Refusal::Memory);
+        if let Ok(characters) = self.listing.characters.spliced(self.alloc, splices, new) {
+            if take_all(&mut self.store, ops) {
+                self.listing.characters = characters;
+                return Ok(());
+            }
         }
-        self.listing.characters = characters;
-        Ok(())
+        Err(Refusal::Memory)
     }
 
     /// Takes the operations of a splice that is allowed, in a listed document, and answers them.

@@ -27,8 +27,8 @@ spliced-requires g c =
     ∙ (allowed limit content (are_falling (length (text content)) splices) (new_characters splices) allowed_here).1
 
 -- the characters are spliced with the text
-pub invariant_of-self-2 : goal.invariant_of-self-2
-invariant_of-self-2 g c =
+pub invariant_of-self : goal.invariant_of-self
+invariant_of-self g c =
     let content : Content = g.S.Taker.content c.self.inside.store in
     let limit : ℕ = g.S.Taker.limit c.self.inside.store in
     let replica : ℕ = c.self.inside.replica in
@@ -37,7 +37,7 @@ invariant_of-self-2 g c =
     let allowed_here : splices_answer limit content splices ≡ Ok tt = ap (λ (d : Document). splices_answer d.limit d.content splices) c.self.view_is ∙ c.requires.allowed in
     let ops : c.args.ops.now ≡ splices_operations replica content splices = c.requires.operations ∙ sym (ap (λ (d : Document). splices_operations d.replica d.content splices) c.self.view_is) in
     let joined : g.S.Taker.content c.take_all.new.store ≡ join content (content_of (splices_operations replica content splices)) =
-    c.take_all.ensures.content c.if-not-take_all.false ∙ ap (λ done. join content (content_of done)) ops in (
+    c.take_all.ensures.content c.if-take_all.true ∙ ap (λ done. join content (content_of done)) ops in (
       c.self.invariant.0,
-      λ listed. c.in_ok-characters.ensures.ok ∙ ap (λ xs. text_after xs splices) all ∙ sym (splices_text limit replica content splices allowed_here) ∙ ap text (sym joined),
+      λ listed. c.in-Ok.ensures.ok ∙ ap (λ xs. text_after xs splices) all ∙ sym (splices_text limit replica content splices allowed_here) ∙ ap text (sym joined),
     )
