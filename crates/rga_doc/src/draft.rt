@@ -1,5 +1,5 @@
 //! The operations of an edit that is not taken yet.
-ghost use Rattle.std.specs.Prelude.{◌≡◌, ◌<◌, ◌≤◌, ◌+◌, ◌++◌, [], true, map, length, OnOk, IfErr};
+ghost use Rattle.std.specs.Prelude.{◌≡◌, ◌<◌, ◌≤◌, ◌+◌, ◌++◌, [], true, map, length, OnOk, IfOk, IfErr};
 ghost use Rattle.rga_ops.specs.Splice.{are_falling, new_characters};
 ghost use Rattle.rga_doc.specs.Excerpt.{begin_of};
 ghost use Rattle.rga_doc.specs.LocalEdit.{chain, splice_operations_at, draft_operations};
@@ -57,20 +57,21 @@ impl Draft {
         self.insert(elements.left_of(lo), put)
     }
 
-    /// The operations of several splices whose places are meant in the same text.
-    pub(crate) fn splices(&mut self, elements: &Excerpt, splices: &[Splice]) -> Result<(), Refusal>
+    /// All operations, with those of several splices whose places are meant in the same text.
+    pub(crate) fn splices(self, elements: &Excerpt, splices: &[Splice]) -> Result<Vec<Op>, Refusal>
         requires begin { elements.now.start ≤ begin_of splices.now }
         requires falling { are_falling (length elements.now.items) splices.now ≡ true }
         requires counters { 0 < new_characters splices.now
-            → self.old.last + new_characters splices.now ≤ Id.MAX_COUNTER }
-        ensures ops { OnOk result (self.new.ops.items ≡ self.old.ops.items
-            ++ draft_operations self.old.replica elements.now.items self.old.last splices.now) }
+            → self.last + new_characters splices.now ≤ Id.MAX_COUNTER }
+        ensures ops { IfOk result (λ ops. ops.items ≡ self.ops.items
+            ++ draft_operations self.replica elements.now.items self.last splices.now) }
         ensures memory { IfErr result (λ e. e ≡ Refusal.Memory) }
     {
+        let mut draft = self;
         for splice in splices {
-            self.splice(elements, splice.lo, splice.hi, &splice.put)?;
+            draft.splice(elements, splice.lo, splice.hi, &splice.put)?;
         }
-        Ok(())
+        Ok(draft.ops)
     }
 
     /// A deletion of each element.

@@ -1,10 +1,11 @@
 //! Edits by place.
-ghost use Rattle.std.specs.Prelude.{◌≡◌, ◌≤◌, ◌&&◌, ℕ, min, nat_le, true, length, Ok, Err, IfOk, IfErr, OnOk, OnErr};
+ghost use Rattle.std.specs.Prelude.{◌≡◌, ◌≤◌, ◌&&◌, ℕ, min, nat_le, true, length, Ok, Err, IfOk, IfErr, OnOk, OnErr, if◌then◌else◌};
 ghost use Rattle.rga_ops.specs.Prelude.{content_of, join, order, text, IsAnswer};
+ghost use Rattle.rga_ops.specs.ListAnswer.{and_check};
 ghost use Rattle.rga_ops.specs.Splice.{spliced, text_after, are_falling, end_of, new_characters};
 ghost use Rattle.rga_store.specs.Limit.{is_limit};
 ghost use Rattle.rga_doc.specs.Excerpt.{begin_of};
-ghost use Rattle.rga_doc.specs.LocalEdit.{splice_operations, splices_operations, splice_answer, splices_answer, edit_answer, room_answer, counter_answer, order_after};
+ghost use Rattle.rga_doc.specs.LocalEdit.{splice_operations, splices_operations, splice_answer, splices_answer, edit_answer, room_answer, place_answer, counter_answer, order_after};
 ghost use Rattle.rga_ops.specs.declared.refusal.Refusal.TheVariants.{Memory};
 
 use crate::doc::Doc;
@@ -47,7 +48,8 @@ impl<S: TextStore> Doc<S> {
         ensures ordered { result ≡ Err Memory → lo ≤ hi }
     {
         self.check_edit(lo <= hi, hi, put.len())?;
-        self.splice_listed(lo, hi, put)
+        let ops = self.write_splice(lo, hi, put)?;
+        self.take_splice(lo, hi, put, ops)
     }
 
     /// What refuses an edit whose places are in order or not, that ends at a place and puts so many
@@ -64,41 +66,42 @@ impl<S: TextStore> Doc<S> {
         ensures in_order { OnOk result (is_ordered ≡ true) }
         ensures ordered { result ≡ Err Memory → is_ordered ≡ true }
     {
-        check_room(&self.store, new)?;
+        if !has_room(&self.store, new) {
+            return Err(Refusal::Full);
+        }
         if !is_ordered {
             return Err(Refusal::Range);
         }
         self.list()?;
+        self.check_listed(end, new)
+    }
+
+    /// The same for a listed document where there is room and the places are in order.
+    fn check_listed(&self, end: usize, new: usize) -> Result<(), Refusal>
+        requires { self.now.listed ≡ true }
+        ensures { result ≡ and_check (place_answer (nat_le end (length (text self.now.content))))
+            (counter_answer self.now.content new) }
+    {
         if end > self.characters().len() {
             return Err(Refusal::Range);
         }
         check_counters(&self.store, new)
     }
 
-    /// The same for a splice that is allowed and a listed document. `Memory` alone; then nothing
-    /// changes, but that the document may not be listed.
-    fn splice_listed(&mut self, lo: usize, hi: usize, put: &[char]) -> Result<Vec<Op>, Refusal>
-        requires listed { self.old.listed ≡ true }
-        requires allowed { splice_answer self.old.limit self.old.content lo hi put.now ≡ Ok tt }
+    /// The operations of a splice that is allowed. `Memory` alone.
+    fn write_splice(&self, lo: usize, hi: usize, put: &[char]) -> Result<Vec<Op>, Refusal>
+        requires allowed { splice_answer self.now.limit self.now.content lo hi put.now ≡ Ok tt }
         ensures operations { IfOk result (λ ops. ops.items
-            ≡ splice_operations self.old.replica self.old.content lo hi put.now) }
-        ensures content { IfOk result (λ ops. self.new
-            ≡ record self.old
-            { content = join self.old.content (content_of ops.items); listed = self.new.listed }) }
-        ensures text { OnOk result
-            (text self.new.content ≡ spliced (text self.old.content) lo hi put.now) }
-        ensures place { OnOk result
-            (order self.new.content ≡ order_after self.old.replica self.old.content lo put.now) }
+            ≡ splice_operations self.now.replica self.now.content lo hi put.now) }
         ensures memory { IfErr result (λ e. e ≡ Refusal.Memory) }
-        ensures same { OnErr result (self.new ≡ record self.old { listed = self.new.listed }) }
     {
-        let elements = Excerpt::of(self.alloc, &self.store, lo, hi)?;
-        let mut draft = Draft::new(self.alloc, self.replica, self.store.clock());
-        draft.splice(&elements, lo, hi, put)?;
-        self.listing.make_room(self.alloc, put.len());
-        self.store.apply_all(&draft.ops)?;
-        self.listing.splice(lo, hi, put);
-        Ok(draft.ops)
+        if let Ok(elements) = Excerpt::of(self.alloc, &self.store, lo, hi) {
+            let mut draft = Draft::new(self.alloc, self.replica, self.store.clock());
+            if draft.splice(&elements, lo, hi, put).is_ok() {
+                return Ok(draft.ops);
+            }
+        }
+        Err(Refusal::Memory)
     }
 
     /// Several splices at once, of places that fall and do not overlap: each ends at or before the
@@ -128,8 +131,7 @@ impl<S: TextStore> Doc<S> {
             are_falling (end_of splices.now) splices.now ≡ true }
     {
         let ops = self.draft(splices)?;
-        self.take_or_forget(splices, &ops)?;
-        Ok(ops)
+        self.take_or_forget(splices, ops)
     }
 
     /// The operations of several splices, which are not taken yet: `take` does that, and what
@@ -165,22 +167,19 @@ impl<S: TextStore> Doc<S> {
     {
         let (lo, hi) = (begin_of(splices), end_of(splices));
         let elements = Excerpt::of(self.alloc, &self.store, lo, hi)?;
-        let mut draft = Draft::new(self.alloc, self.replica, self.store.clock());
-        draft.splices(&elements, splices)?;
-        Ok(draft.ops)
+        let draft = Draft::new(self.alloc, self.replica, self.store.clock());
+        draft.splices(&elements, splices)
     }
 }
 
-/// `Full` unless the limit leaves room for so many more. The store says with its limit that this is
-/// in range.
-pub(crate) fn check_room<S: TextStore>(store: &S, new: usize) -> Result<(), Refusal>
-    ensures answer { result ≡ room_answer (S.limit store.now) (S.content store.now) new }
+/// Whether the limit leaves room for so many more. The store says with its limit that this is in
+/// range.
+pub(crate) fn has_room<S: TextStore>(store: &S, new: usize) -> bool
+    ensures answer { room_answer (S.limit store.now) (S.content store.now) new
+        ≡ (if result then Ok tt else Err Refusal.Full) }
     ensures limited { is_limit (S.limit store.now) ≡ true }
 {
-    if new > store.limit() - store.known() {
-        return Err(Refusal::Full);
-    }
-    Ok(())
+    new <= store.limit() - store.known()
 }
 
 /// `Clock` where there are new characters and not that many counters above the clock.

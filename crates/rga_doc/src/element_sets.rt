@@ -2,7 +2,7 @@
 ghost use Rattle.std.specs.Prelude.{◌≡◌, ◌||◌, not, IfOk, IfErr, OnOk};
 ghost use Rattle.std.specs.List.{list_any};
 ghost use Rattle.indexmap.specs.IndexSet.{contains};
-ghost use Rattle.rga_ops.specs.Prelude.{Identifier, is_id};
+ghost use Rattle.rga_ops.specs.Prelude.{Content, Identifier, is_id};
 ghost use Rattle.rga_doc.specs.Complete.{is_one_of, AreTheComplete};
 
 use indexmap::IndexSet;
@@ -29,7 +29,20 @@ impl Complete {
             return Ok(Complete::Inserted);
         }
         let order = store.order()?;
-        Ok(Complete::Among(collect_set(alloc, &order)?))
+        Complete::among(alloc, &order)
+    }
+
+    /// Those of a list. `Memory` alone.
+    fn among(alloc: Global, ids: &[Id]) -> Result<Complete, Refusal>
+        ensures ok { IfOk result (λ complete. (c : Content) (q : Identifier) →
+            is_one_of complete c q ≡ list_any (is_id q) ids.now) }
+        ensures memory { IfErr result (λ e. e ≡ Refusal.Memory) }
+    {
+        let mut set = IndexSet::new(alloc);
+        for id in ids {
+            put_in(&mut set, *id)?;
+        }
+        Ok(Complete::Among(set))
     }
 
     /// Whether an element is one of them.
@@ -41,19 +54,6 @@ impl Complete {
             Complete::Among(set) => set.contains(&id),
         }
     }
-}
-
-/// The set of the elements. `Memory` alone.
-pub(crate) fn collect_set(alloc: Global, ids: &[Id]) -> Result<IndexSet<Id>, Refusal>
-    ensures ok { IfOk result (λ set. (q : Identifier) →
-        contains is_id set q ≡ list_any (is_id q) ids.now) }
-    ensures memory { IfErr result (λ e. e ≡ Refusal.Memory) }
-{
-    let mut set = IndexSet::new(alloc);
-    for id in ids {
-        put_in(&mut set, *id)?;
-    }
-    Ok(set)
 }
 
 /// Puts an element in, and tells whether it is new. `Memory` alone.

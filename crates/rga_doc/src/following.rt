@@ -104,11 +104,7 @@ impl Listing {
         let Some(place) = place_of_visible(store, id) else {
             return false;
         };
-        if self.characters.make_room(1).is_err() {
-            return false;
-        }
-        self.characters.replace(place - 1, place - 1, &[ch]);
-        true
+        self.replace(place - 1, place - 1, &[ch])
     }
 }
 

@@ -71,6 +71,21 @@ impl Listing {
         }
     }
 
+    /// Replaces the characters `lo` to `hi - 1` by others, where there is memory.
+    pub(crate) fn replace(&mut self, lo: usize, hi: usize, put: &[char]) -> bool
+        requires ordered { lo ≤ hi }
+        requires in_list { hi ≤ length self.old.characters.items }
+        ensures { result ≡ true → self.new.characters.items
+            ≡ spliced self.old.characters.items lo hi put.now }
+    {
+        if self.characters.make_room(put.len()).is_err() {
+            return false;
+        }
+        self.characters.replace(lo, hi, put);
+        self.characters.give_back();
+        true
+    }
+
     /// Replaces the characters `lo` to `hi - 1` by others, if any are listed.
     pub(crate) fn splice(&mut self, lo: usize, hi: usize, put: &[char])
         requires ordered { lo ≤ hi }

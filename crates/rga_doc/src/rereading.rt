@@ -1,5 +1,5 @@
 //! What is listed, read anew where a revert has changed the text.
-ghost use Rattle.std.specs.Prelude.{◌≡◌, ◌≤◌, true, length, take, drop, None, IfSome, Option};
+ghost use Rattle.std.specs.Prelude.{◌≡◌, ◌≤◌, ◌+◌, nat_le, true, length, take, drop, None, IfSome, Option};
 ghost use Rattle.std.specs.List.{AllByRecursion};
 ghost use Rattle.rga_ops.specs.Order.{text};
 ghost use Rattle.rga_doc.specs.Relisting.{AgreeOutside, AllBetween, WillAgreeOutside};
@@ -25,6 +25,13 @@ pub(crate) struct Margins {
 }
 
 impl Margins {
+    /// Whether a text of so many characters has both.
+    fn are_in(self, count: usize) -> bool
+        ensures { result ≡ nat_le (self.front + self.back) count }
+    {
+        self.back <= count && self.front <= count - self.back
+    }
+
     /// The margins made so narrow that the elements of operations stand between them, in the text
     /// that a store shows. None where one has no place in it.
     fn round<S: TextStore>(self, store: &S, ops: &[Op]) -> Option<Margins>
@@ -108,26 +115,19 @@ impl Listing {
             (text (S.content store.now)) }
         ensures { result ≡ true → self.new.characters.items ≡ text (S.content store.now) }
     {
-        let front = margins.front;
-        let Some(old_end) = self.characters.len().checked_sub(margins.back) else {
+        let (old, new) = (self.characters.len(), store.visible_len());
+        if !margins.are_in(old) || !margins.are_in(new) {
             return false;
-        };
-        let Some(end) = store.visible_len().checked_sub(margins.back) else {
-            return false;
-        };
-        if front > old_end || front > end || end - front > MOST_REREAD {
+        }
+        let (front, end) = (margins.front, new - margins.back);
+        if end - front > MOST_REREAD {
             return false;
         }
         let Some(between) = characters_between(alloc, store, front, end) else {
             return false;
         };
-        if self.characters.make_room(between.len()).is_err() {
-            return false;
-        }
-        self.characters.replace(front, old_end, &between);
-        self.characters.give_back();
         self.followed = 0;
-        true
+        self.replace(front, old - margins.back, &between)
     }
 }
 

@@ -11,8 +11,9 @@ ghost use Rattle.rga_doc.specs.Revert.{distinct_elements, restorations, revert_o
 
 use crate::doc::Doc;
 use crate::draft::Draft;
-use crate::edit::{check_counters, check_room};
+use crate::edit::{check_counters, has_room};
 use crate::element_sets::{Complete, put_in};
+use crate::taking::take_all;
 use indexmap::IndexSet;
 use rga_ops::{Id, Op, Refusal};
 use rga_store::{Taker, TextStore};
@@ -75,7 +76,9 @@ impl<S: TextStore> Doc<S> {
         let margins = self
             .listing
             .margins(&self.store, deletions, insertions.len());
-        self.store.apply_all(ops)?;
+        if !take_all(&mut self.store, ops) {
+            return Err(Refusal::Memory);
+        }
         let front = self
             .listing
             .follow(self.alloc, &self.store, margins, insertions);
@@ -93,7 +96,9 @@ impl<S: TextStore> Doc<S> {
         ensures room { result ≡ Err Memory →
             room_answer self.now.limit self.now.content (length back.now) ≡ Ok tt }
     {
-        check_room(&self.store, back.len())?;
+        if !has_room(&self.store, back.len()) {
+            return Err(Refusal::Full);
+        }
         let visible = check_revert(self.alloc, &self.store, gone, back)?;
         self.write_revert(&visible, back)
     }
@@ -106,8 +111,9 @@ impl<S: TextStore> Doc<S> {
         ensures memory { IfErr result (λ e. e ≡ Refusal.Memory) }
     {
         let mut draft = Draft::new(self.alloc, self.replica, self.store.clock());
-        draft.delete(visible)?;
-        draft.restore(back)?;
+        if draft.delete(visible).is_err() || draft.restore(back).is_err() {
+            return Err(Refusal::Memory);
+        }
         Ok(draft.ops)
     }
 }

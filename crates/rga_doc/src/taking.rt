@@ -1,8 +1,8 @@
 //! What was drafted, taken.
-ghost use Rattle.std.specs.Prelude.{◌≡◌, true, false, Ok, IfErr, OnOk, OnErr};
-ghost use Rattle.rga_ops.specs.Prelude.{content_of, join, list_answer, text};
-ghost use Rattle.rga_ops.specs.Splice.{text_after};
-ghost use Rattle.rga_doc.specs.LocalEdit.{splices_operations, splices_answer};
+ghost use Rattle.std.specs.Prelude.{◌≡◌, true, false, Ok, IfOk, IfErr, OnOk, OnErr};
+ghost use Rattle.rga_ops.specs.Prelude.{content_of, join, list_answer, order, text};
+ghost use Rattle.rga_ops.specs.Splice.{spliced, text_after};
+ghost use Rattle.rga_doc.specs.LocalEdit.{splice_operations, splices_operations, splice_answer, splices_answer, order_after};
 
 use crate::doc::Doc;
 use crate::edit::count_characters;
@@ -46,8 +46,9 @@ impl<S: TextStore> Doc<S> {
         ensures same { OnErr result (self.new ≡ self.old) }
     {
         let new = count_characters(splices).min(self.store.limit());
-        self.listing.characters.make_room(new)?;
-        self.store.apply_all(ops)?;
+        if self.listing.characters.make_room(new).is_err() || !take_all(&mut self.store, ops) {
+            return Err(Refusal::Memory);
+        }
         self.listing.replace_all(splices);
         Ok(())
     }
@@ -64,40 +65,89 @@ impl<S: TextStore> Doc<S> {
         ensures same { OnErr result (self.new ≡ self.old) }
     {
         let new = count_characters(splices);
-        let characters = self.listing.characters.spliced(self.alloc, splices, new)?;
-        self.store.apply_all(ops)?;
-        self.listing.characters = characters;
-        Ok(())
+        if let Ok(characters) = self.listing.characters.spliced(self.alloc, splices, new) {
+            if take_all(&mut self.store, ops) {
+                self.listing.characters = characters;
+                return Ok(());
+            }
+        }
+        Err(Refusal::Memory)
     }
 
-    /// Takes operations that the store takes, and gives up what is listed. `Memory` alone; then
-    /// nothing else changes.
-    fn take_unlisted(&mut self, ops: &[Op]) -> Result<(), Refusal>
-        requires { list_answer self.old.limit self.old.content ops.now ≡ Ok tt }
-        ensures content { OnOk result (self.new ≡ record self.old
-            { content = join self.old.content (content_of ops.now); listed = false }) }
-        ensures memory { IfErr result (λ e. e ≡ Refusal.Memory) }
-        ensures same { OnErr result (self.new ≡ record self.old { listed = false }) }
-    {
-        self.listing.forget(self.alloc);
-        self.store.apply_all(ops)
-    }
-
-    /// Takes what was drafted, and gives up what is listed where that alone wants memory. `Memory`
-    /// alone; then nothing changes, but that the document may not be listed.
-    pub(crate) fn take_or_forget(&mut self, splices: &[Splice], ops: &[Op]) -> Result<(), Refusal>
+    /// Takes the operations of a splice that is allowed, in a listed document, and answers them.
+    /// `Memory` alone; then nothing changes, but that the document may not be listed.
+    pub(crate) fn take_splice(
+        &mut self,
+        lo: usize,
+        hi: usize,
+        put: &[char],
+        ops: Vec<Op>,
+    ) -> Result<Vec<Op>, Refusal>
         requires listed { self.old.listed ≡ true }
-        requires allowed { splices_answer self.old.limit self.old.content splices.now ≡ Ok tt }
-        requires operations { ops.now
-            ≡ splices_operations self.old.replica self.old.content splices.now }
+        requires allowed { splice_answer self.old.limit self.old.content lo hi put.now ≡ Ok tt }
+        requires operations { ops.items
+            ≡ splice_operations self.old.replica self.old.content lo hi put.now }
+        ensures ok { IfOk result (λ taken. taken.items ≡ ops.items) }
         ensures content { OnOk result (self.new ≡ record self.old
-            { content = join self.old.content (content_of ops.now); listed = self.new.listed }) }
+            { content = join self.old.content (content_of ops.items); listed = self.new.listed }) }
+        ensures text { OnOk result
+            (text self.new.content ≡ spliced (text self.old.content) lo hi put.now) }
+        ensures place { OnOk result
+            (order self.new.content ≡ order_after self.old.replica self.old.content lo put.now) }
         ensures memory { IfErr result (λ e. e ≡ Refusal.Memory) }
         ensures same { OnErr result (self.new ≡ record self.old { listed = self.new.listed }) }
     {
-        match self.take(splices, ops) {
-            Ok(()) => Ok(()),
-            Err(_) => self.take_unlisted(ops),
+        self.listing.make_room(self.alloc, put.len());
+        if !take_all(&mut self.store, &ops) {
+            return Err(Refusal::Memory);
         }
+        self.listing.splice(lo, hi, put);
+        Ok(ops)
     }
+
+    /// Takes operations that the store takes, and gives up what is listed. Whether there was memory;
+    /// else nothing else changes.
+    fn take_unlisted(&mut self, ops: &[Op]) -> bool
+        requires { list_answer self.old.limit self.old.content ops.now ≡ Ok tt }
+        ensures content { result ≡ true → self.new ≡ record self.old
+            { content = join self.old.content (content_of ops.now); listed = false } }
+        ensures same { result ≡ false → self.new ≡ record self.old { listed = false } }
+    {
+        self.listing.forget(self.alloc);
+        take_all(&mut self.store, ops)
+    }
+
+    /// Takes what was drafted and answers it, and gives up what is listed where that alone wants
+    /// memory. `Memory` alone; then nothing changes, but that the document may not be listed.
+    pub(crate) fn take_or_forget(
+        &mut self,
+        splices: &[Splice],
+        ops: Vec<Op>,
+    ) -> Result<Vec<Op>, Refusal>
+        requires listed { self.old.listed ≡ true }
+        requires allowed { splices_answer self.old.limit self.old.content splices.now ≡ Ok tt }
+        requires operations { ops.items
+            ≡ splices_operations self.old.replica self.old.content splices.now }
+        ensures ok { IfOk result (λ taken. taken.items ≡ ops.items) }
+        ensures content { OnOk result (self.new ≡ record self.old
+            { content = join self.old.content (content_of ops.items); listed = self.new.listed }) }
+        ensures memory { IfErr result (λ e. e ≡ Refusal.Memory) }
+        ensures same { OnErr result (self.new ≡ record self.old { listed = self.new.listed }) }
+    {
+        if self.take(splices, &ops).is_err() && !self.take_unlisted(&ops) {
+            return Err(Refusal::Memory);
+        }
+        Ok(ops)
+    }
+}
+
+/// Takes operations that the store takes. Whether there was memory; else nothing changes.
+pub(crate) fn take_all<S: TextStore>(store: &mut S, ops: &[Op]) -> bool
+    requires { list_answer (S.limit store.old) (S.content store.old) ops.now ≡ Ok tt }
+    ensures content { result ≡ true →
+        S.content store.new ≡ join (S.content store.old) (content_of ops.now) }
+    ensures same { result ≡ false → S.content store.new ≡ S.content store.old }
+    ensures limit { S.limit store.new ≡ S.limit store.old }
+{
+    store.apply_all(ops).is_ok()
 }

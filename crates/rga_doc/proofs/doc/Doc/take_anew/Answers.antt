@@ -1,32 +1,20 @@
-use Rattle.std.proofs.Common.{◌≡◌, ℕ, List, length, refl, sym, ap, ◌∙◌}
-use Rattle.std.specs.Prelude.{Ok, Err}
-use Rattle.std.proofs.lemmas.Result.{err_from_is_err_and}
+use Rattle.std.proofs.Common.{◌≡◌, ℕ, List, length, sym, ap, ◌∙◌}
+use Rattle.std.specs.Prelude.{Ok}
 use Rattle.rga_ops.specs.Content.{Content, join, content_of}
 use Rattle.rga_ops.specs.ListAnswer.{list_answer}
 use Rattle.rga_ops.specs.Order.{text}
 use Rattle.rga_ops.specs.Splice.{Splice, text_after, are_falling, new_characters}
-use Rattle.rga_ops.specs.declared.refusal.Refusal.{Refusal}
-use Rattle.rga_ops.specs.declared.refusal.Refusal.TheVariants.{Memory}
 use Rattle.rga_doc.specs.Document.{Document}
 use Rattle.rga_doc.specs.LocalEdit.{splices_answer, splices_operations}
 use Rattle.rga_doc.proofs.EditLaws.{allowed, splices_taken, splices_text}
-use Rattle.rga_doc.proofs.EditAnswers.{memory_alone}
 use Rattle.rga_doc.proofs.doc.Doc.take_anew.Goals as goal
 
--- the store takes the operations of splices that are allowed, but for want of memory
-pub returns-in_err-apply_all-clause-memory : goal.returns-in_err-apply_all-clause-memory
-returns-in_err-apply_all-clause-memory g c =
-    let content : Content = g.S.Taker.content c.self.inside.store in
-    let limit : ℕ = g.S.Taker.limit c.self.inside.store in
-    let replica : ℕ = c.self.inside.replica in
-    let splices : List Splice = c.args.splices.now in
-    let allowed_here : splices_answer limit content splices ≡ Ok tt = ap (λ (d : Document). splices_answer d.limit d.content splices) c.self.view_is ∙ c.requires.allowed in
-    let ops : c.args.ops.now ≡ splices_operations replica content splices = c.requires.operations ∙ sym (ap (λ (d : Document). splices_operations d.replica d.content splices) c.self.view_is) in
-    let taken : list_answer limit content c.args.ops.now ≡ Ok tt = ap (list_answer limit content) ops ∙ splices_taken limit replica content splices allowed_here in
-    let p = err_from_is_err_and c.from_residual-in_err-apply_all.result c.from_residual-in_err-apply_all.ensures.1 in
-    let e : Refusal = c.in_err-apply_all.field-0.0 in
-    let memory : e ≡ Memory = memory_alone e (λ other. let clash : Err e ≡ Ok tt = c.in_err-apply_all.ensures.exact other ∙ taken in cc) in
-    rw (p.1, p.2) memory
+-- the store takes the operations of splices that are allowed
+pub take_all-requires : goal.take_all-requires
+take_all-requires g c =
+    ap (λ (d : Document). list_answer d.limit d.content c.args.ops.now) c.self.view_is
+    ∙ ap (list_answer c.args.self.now.limit c.args.self.now.content) c.requires.operations
+    ∙ splices_taken c.args.self.now.limit c.args.self.now.replica c.args.self.now.content c.args.splices.now c.requires.allowed
 
 pub spliced-requires : goal.spliced-requires
 spliced-requires g c =
@@ -39,8 +27,8 @@ spliced-requires g c =
     ∙ (allowed limit content (are_falling (length (text content)) splices) (new_characters splices) allowed_here).1
 
 -- the characters are spliced with the text
-pub invariant_of-self-2 : goal.invariant_of-self-2
-invariant_of-self-2 g c =
+pub invariant_of-self : goal.invariant_of-self
+invariant_of-self g c =
     let content : Content = g.S.Taker.content c.self.inside.store in
     let limit : ℕ = g.S.Taker.limit c.self.inside.store in
     let replica : ℕ = c.self.inside.replica in
@@ -48,8 +36,8 @@ invariant_of-self-2 g c =
     let all : c.self.inside.listing.characters.items ≡ text content = c.self.invariant.1 (ap (λ (d : Document). d.listed) c.self.view_is ∙ c.requires.listed) in
     let allowed_here : splices_answer limit content splices ≡ Ok tt = ap (λ (d : Document). splices_answer d.limit d.content splices) c.self.view_is ∙ c.requires.allowed in
     let ops : c.args.ops.now ≡ splices_operations replica content splices = c.requires.operations ∙ sym (ap (λ (d : Document). splices_operations d.replica d.content splices) c.self.view_is) in
-    let joined : g.S.Taker.content c.apply_all.new.self ≡ join content (content_of (splices_operations replica content splices)) =
-    c.in_ok-apply_all.ensures.whole refl ∙ ap (λ done. join content (content_of done)) ops in (
+    let joined : g.S.Taker.content c.take_all.new.store ≡ join content (content_of (splices_operations replica content splices)) =
+    c.take_all.ensures.content c.if-take_all.true ∙ ap (λ done. join content (content_of done)) ops in (
       c.self.invariant.0,
-      λ listed. c.in_ok-characters.ensures.ok ∙ ap (λ xs. text_after xs splices) all ∙ sym (splices_text limit replica content splices allowed_here) ∙ ap text (sym joined),
+      λ listed. c.in-Ok.ensures.ok ∙ ap (λ xs. text_after xs splices) all ∙ sym (splices_text limit replica content splices allowed_here) ∙ ap text (sym joined),
     )

@@ -1,4 +1,4 @@
-use Rattle.std.proofs.Common.{ap, ◌∙◌}
+use Rattle.std.proofs.Common.{rules, ◌≡◌, ap, ◌∙◌}
 use Rattle.rga_ops.specs.ListAnswer.{list_answer}
 use Rattle.rga_doc.specs.Document.{Document}
 use Rattle.rga_doc.proofs.EditLaws.{splices_taken}
@@ -8,6 +8,7 @@ use Rattle.rga_doc.proofs.doc.Doc.take_or_forget.Goals as goal
 pub take_unlisted-requires : goal.take_unlisted-requires
 take_unlisted-requires g c =
     let old : Document = c.args.self.now in
-    ap (λ (d : Document). list_answer d.limit d.content c.args.ops.now) c.in-Err.ensures.same
-    ∙ ap (list_answer old.limit old.content) c.requires.operations
+    let same : c.take.new.self ≡ old = search rules in
+    ap (λ (d : Document). list_answer d.limit d.content c.deref-then-is_err.result.now) same
+    ∙ ap (list_answer old.limit old.content) (c.deref-then-is_err.ensures.value ∙ c.requires.operations)
     ∙ splices_taken old.limit old.replica old.content c.args.splices.now c.requires.allowed

@@ -1,5 +1,6 @@
 use Rattle.std.proofs.Common.{◌≡◌, ◌≤◌, ℕ, ◌+◌, List, length, ap, ◌∙◌, arith}
 use Rattle.std.specs.Prelude.{Ok}
+use Rattle.std.proofs.lemmas.Result.{IfOk-weaker}
 use Rattle.rga_ops.specs.Content.{Content, clock_of}
 use Rattle.rga_ops.specs.Order.{text}
 use Rattle.rga_ops.specs.Places.{visible}
@@ -41,7 +42,8 @@ returns-clause-operations g c =
     let limit : ℕ = g.S.Taker.limit c.self.inside.store in
     let splices : List Splice = c.args.splices.now in
     let allowed_here : splices_answer limit content splices ≡ Ok tt = ap (λ (d : Document). splices_answer d.limit d.content splices) c.self.view_is ∙ c.requires.allowed in
-    splices_by_excerpt limit c.self.inside.replica content splices c.splices.new.self.ops.items c.new-draft.result.ops.items c.in_ok-elements.elements c.new-draft.result.replica c.new-draft.result.last
+    IfOk-weaker c.splices.result _ _ (λ ops drafted.
+    splices_by_excerpt limit c.self.inside.replica content splices ops.items c.new-draft.result.ops.items c.in_ok-elements.elements c.new-draft.result.replica c.new-draft.result.last
     allowed_here c.new-draft.ensures.ops c.new-draft.ensures.replica (c.new-draft.ensures.last ∙ c.clock.ensures)
-    (c.in_ok-elements.ensures.ok ∙ (λ k. excerpt (visible content) (c.begin_of-lo.ensures k) (c.end_of-hi.ensures k))) c.in_ok-splices.ensures.ops
-    ∙ ap (λ (d : Document). splices_operations d.replica d.content splices) c.self.view_is
+    (c.in_ok-elements.ensures.ok ∙ (λ k. excerpt (visible content) (c.begin_of-lo.ensures k) (c.end_of-hi.ensures k))) drafted
+    ∙ ap (λ (d : Document). splices_operations d.replica d.content splices) c.self.view_is) c.splices.ensures.ops

@@ -36,5 +36,5 @@ splice-requires-clause-counters c = λ some.
     let put : length c.deref.result.now ≡ length s.put = ap length c.deref.ensures.value ∙ ap (λ (x : Splice). length x.put) c.splice.view_is in
     let step : new_characters (drop i splices) ≡ length s.put + new_characters (drop (i + 1) splices) = characters_left splices i s c.loop-splice-test.true c.splice-item.is in
     let few : new_characters (drop i splices) ≤ new_characters splices = fewer splices i in
-    let most : c.args.self.now.last + new_characters splices ≤ MAX_COUNTER = c.requires.counters (omega (arith, some, put, step, few)) in
+    let most : c.args.self.last + new_characters splices ≤ MAX_COUNTER = c.requires.counters (omega (arith, some, put, step, few)) in
     omega (arith, c.loop-splice.invariant.counters, most, step, put)

@@ -1,4 +1,5 @@
 use Rattle.std.proofs.Common.{◌≡◌, length, sym, ap, ◌∙◌}
+use Rattle.std.proofs.lemmas.Result.{IfOk-weaker}
 use Rattle.std.specs.List.{list_any}
 use Rattle.rga_ops.specs.Identifier.{is_id}
 use Rattle.rga_ops.specs.Content.{Content}
@@ -13,6 +14,7 @@ returns-then-branch-eq0-clause-ok g c =
     inserted_complete content none
 
 pub returns-clause-ok : goal.returns-clause-ok
-returns-clause-ok g c = λ id.
-    c.in_ok-collect_set.ensures.ok id ∙ ap (list_any (is_id id)) (c.deref.ensures.value ∙ c.in_ok-order.ensures.ok)
-    ∙ ordered_complete (g.S.Taker.content c.args.store.now) id
+returns-clause-ok g c =
+    let content : Content = g.S.Taker.content c.args.store.now in
+    IfOk-weaker c.among.result _ _ (λ complete ordered id.
+    ordered content id ∙ ap (list_any (is_id id)) (c.deref.ensures.value ∙ c.in_ok-order.ensures.ok) ∙ ordered_complete content id) c.among.ensures.ok

@@ -1,7 +1,6 @@
-use Rattle.std.proofs.Common.{◌-◌, ◌∷◌, [], length, ap, ◌∙◌, arith}
+use Rattle.std.proofs.Common.{◌-◌, length, arith}
 use Rattle.rga_ops.specs.Content.{Content}
 use Rattle.rga_ops.specs.Places.{visible}
-use Rattle.rga_ops.specs.Splice.{spliced}
 use Rattle.rga_doc.proofs.FollowingLaws.{left_index, index_within, put_is_listed}
 use Rattle.rga_doc.proofs.listing.Listing.put_at_its_place.Goals as goal
 
@@ -14,12 +13,11 @@ pub replace-requires-clause-in_list : goal.replace-requires-clause-in_list
 replace-requires-clause-in_list g c =
     let content : Content = g.S.Taker.content c.args.store.now in
     let left = left_index (visible content) c.args.id c.in-Some.place c.in-Some.ensures in
-    omega (arith, index_within content c.args.id (c.in-Some.place - 1) (length c.args.self.now.characters.items) left.1 c.requires.one_more, ap length c.make_room.ensures.items)
+    omega (arith, index_within content c.args.id (c.in-Some.place - 1) (length c.args.self.now.characters.items) left.1 c.requires.one_more)
 
 pub returns : goal.returns
-returns g c = λ _.
+returns g c = λ done.
     let content : Content = g.S.Taker.content c.args.store.now in
     let index = c.in-Some.place - 1 in
     let left = left_index (visible content) c.args.id c.in-Some.place c.in-Some.ensures in
-    put_is_listed content c.args.id c.requires.before.0 c.args.ch index c.requires.before.1 c.args.self.now.characters.items c.replace.new.self.items c.requires.before.2 left.1 c.requires.one_more
-    (c.replace.ensures.items ∙ ap (λ xs. spliced xs index index (c.args.ch ∷ [])) c.make_room.ensures.items)
+    put_is_listed content c.args.id c.requires.before.0 c.args.ch index c.requires.before.1 c.args.self.now.characters.items c.replace.new.self.characters.items c.requires.before.2 left.1 c.requires.one_more (c.replace.ensures done)

@@ -3,7 +3,7 @@ use Rattle.std.specs.List.{list_any}
 use Rattle.indexmap.specs.IndexSet.{contains}
 use Rattle.rga_ops.specs.Identifier.{Identifier, is_id}
 use Rattle.rga_doc.proofs.RevertSets.{from, id_swap}
-use Rattle.rga_doc.proofs.element_sets.collect_set.Goals as goal
+use Rattle.rga_doc.proofs.element_sets.Complete.among.Goals as goal
 
 put_last : (x seen rest : Bool) → ((x || seen) || rest) ≡ (seen || (x || rest))
 put_last true true rest = refl
