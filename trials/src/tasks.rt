@@ -1,0 +1,45 @@
+//! Work to be timed, by the scripts of `bench/`.
+//!
+//! The first word says of what: `edits` of a document, `commands` on a text, commands on `buffers`,
+//! `frames` of a screen, `logs` and exchanges, or `worlds` of sites; the words behind it are said at
+//! the head of the module of that name. What is printed follows from the work: a number, or what a
+//! task of its own writes.
+mod buffers;
+mod command_kind;
+mod commands;
+mod edits;
+mod fault;
+mod frames;
+mod logs;
+mod text;
+mod worlds;
+
+pub use fault::Fault;
+use rga_store::TextStore;
+use std::alloc::Global;
+
+/// What comes of the task that the words say, of which the first is the program's name. Nothing
+/// where the task writes. Worlds have a store of the second kind.
+pub fn outcome<S: TextStore, T: TextStore>(
+    rt: &HostRuntime,
+    words: &[String],
+) -> Result<Option<u64>, Fault> {
+    let Some(part) = words.get(1) else {
+        return Err(Fault::Words);
+    };
+    match part.as_str() {
+        "logs" => logs::outcome::<S>(rt, words),
+        "worlds" => worlds::outcome::<T>(rt, words),
+        part => Ok(Some(counted::<S>(rt.alloc(), part, words)? as u64)),
+    }
+}
+
+fn counted<S: TextStore>(alloc: Global, part: &str, words: &[String]) -> Result<usize, Fault> {
+    match part {
+        "edits" => edits::outcome::<S>(alloc, words),
+        "commands" => commands::outcome(alloc, words),
+        "buffers" => buffers::outcome::<S>(alloc, words),
+        "frames" => frames::outcome(alloc, words),
+        _ => Err(Fault::Words),
+    }
+}
