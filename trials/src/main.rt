@@ -7,15 +7,14 @@
 //! stands on it.
 #![tactic(auto)]
 
-mod fixtures;
-mod tasks;
-
 #[cfg(test)]
 mod buffers;
 #[cfg(test)]
 mod calls;
+mod fixtures;
 #[cfg(test)]
 mod stores;
+mod tasks;
 
 use rga_flat::FlatStore;
 use rga_tree::TreeStore;

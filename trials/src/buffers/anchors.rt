@@ -1,10 +1,10 @@
 //! Anchors, at the ends of a text and while others edit.
 use crate::buffers::documents::{AB, ABC};
 use crate::buffers::steps::{Row, Step, walk};
+use crate::fixtures::id;
 use rga_doc::{Anchor, Doc};
 use rga_ops::{Id, Refusal};
 use rga_store::TextStore;
-use crate::fixtures::id;
 
 /// The element that the anchor of a place is.
 pub fn element_at<S: TextStore>(doc: &Doc<S>, place: usize) -> Result<Id, Refusal> {

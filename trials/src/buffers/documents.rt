@@ -1,9 +1,9 @@
 //! Small documents, and what they take and show.
+use crate::fixtures::{spells, store_of};
 use rga_doc::Doc;
 use rga_ops::{Op, Refusal};
 use rga_store::TextStore;
 use std::alloc::Global;
-use crate::fixtures::{spells, store_of};
 
 /// A replica with a limit, and the operations that it took.
 pub type Held = (u16, usize, &'static str);

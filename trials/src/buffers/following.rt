@@ -1,11 +1,11 @@
 //! Operations of another replica, taken one by one by a listed document.
 use crate::buffers::documents::{ABC, document, shows, splice};
+use crate::fixtures::{insertion, ops_of, store_shows};
 use rga_doc::Doc;
 use rga_ops::{Op, Refusal};
 use rga_store::{Taker, TextStore};
 use rga_tree::TreeStore;
 use std::alloc::Global;
-use crate::fixtures::{insertion, ops_of, store_shows};
 
 /// What another replica sends, the text then, a place in it, and the text with a `z` there.
 type Row = (&'static str, &'static str, usize, &'static str);

@@ -1,12 +1,12 @@
 //! Lists of another replica's operations, which are taken whole or not at all.
 use crate::buffers::sessions::{Session, open_session};
+use crate::fixtures::{are_ops_of, ops_of, prints};
 use mg_plain::Command;
 use rga_ops::Refusal;
 use rga_store::{Taker, TextStore};
 use rga_tree::TreeStore;
 use std::alloc::Global;
 use std::process::Abort;
-use crate::fixtures::{are_ops_of, ops_of, prints};
 
 /// Operations that are taken as one list, the answer, and those of them that are unsaved behind that.
 const ROWS: &[(&str, &str, &str)] = &[

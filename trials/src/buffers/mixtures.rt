@@ -1,12 +1,12 @@
 //! Long mixtures of commands, undos and operations of others, against a plain text.
 use crate::buffers::sessions::{FILL, Session, open_session};
+use crate::fixtures::Random;
 use mg_buffer::{BufferFault, Memo};
 use mg_plain::{Command, Notice, View, plan};
 use rga_ops::{Refusal, Splice};
 use rga_store::{Taker, TextStore};
 use rga_tree::TreeStore;
 use std::alloc::Global;
-use crate::fixtures::Random;
 
 /// A text with two places, which the plans of commands edit.
 #[derive(PartialEq, Drop)]

@@ -1,11 +1,11 @@
 //! Reverts, as a user meets them: the operations that they answer, and the text then.
 use crate::buffers::documents::ABC;
 use crate::buffers::steps::{Row, Step, walk};
+use crate::fixtures::ops_of;
 use rga_doc::Doc;
 use rga_ops::{Id, Op, Refusal};
 use rga_store::TextStore;
 use std::alloc::Global;
-use crate::fixtures::ops_of;
 
 /// The elements that the operations insert.
 fn elements_of(alloc: Global, words: &str) -> Result<Vec<Id>, Refusal> {

@@ -3,13 +3,13 @@ use crate::buffers::anchors::{element_at, listed_element, place_of};
 use crate::buffers::documents::{Held, document, merge, shows, splice};
 use crate::buffers::local_edits::{put_letters, take_letters};
 use crate::buffers::reverts::revert;
+use crate::fixtures::{are_ops_of, op_of, prints, spells, take};
 use rga_doc::Doc;
 use rga_ops::{Op, Refusal, Taken};
 use rga_store::{Taker, TextStore};
 use rga_tree::TreeStore;
 use std::alloc::Global;
 use std::process::Abort;
-use crate::fixtures::{are_ops_of, op_of, prints, spells, take};
 
 /// What is done with a document, or asked of it.
 #[derive(Clone, Copy)]

@@ -1,11 +1,11 @@
 //! Sites that edit, save, restart and take what others have saved.
+use crate::fixtures::{are_ops_of, prints, spells};
 use rga_ops::Refusal;
 use rga_store::TextStore;
 use rga_tree::TreeStore;
 use rga_world::{Event, World, WorldRefusal};
 use std::alloc::Global;
 use std::process::Abort;
-use crate::fixtures::{are_ops_of, prints, spells};
 
 type Trees = World<TreeStore>;
 

@@ -1,11 +1,11 @@
 //! Exchanges that a device cuts off, and received again from the start.
+use crate::fixtures::store_shows;
 use rga_devices::{Counted, Fuse};
 use rga_exchange::{ReceiveFault, receive};
 use rga_store::TextStore;
 use rga_tree::TreeStore;
 use std::alloc::Global;
 use std::io::{Read, Result as IoResult};
-use crate::fixtures::store_shows;
 
 /// An exchange of three insertions: three lines of 50 bytes, and the end line of 23.
 const ABC: &str = r#"{"char":"a","id":[1,1],"op":"ins","parent":[0,0]}

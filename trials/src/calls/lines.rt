@@ -1,7 +1,7 @@
 //! Lines that are lent, and what no line says.
+use crate::fixtures::op_of;
 use rga_lines::{Line, LineFault, MAX_LINE, Splitter, read_any, write_end, write_head, write_line};
 use std::alloc::Global;
-use crate::fixtures::op_of;
 
 /// Whether the next whole line is this one, also when it is asked for again. Goes on behind it.
 fn lends(splitter: &mut Splitter, line: &[u8]) -> bool {

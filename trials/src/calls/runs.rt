@@ -1,10 +1,10 @@
 //! Runs of insertions, which a store that is nearly full takes whole or not at all.
+use crate::fixtures::{prints, store_of, store_shows};
 use rga_devices::Counted;
 use rga_exchange::read_log;
 use rga_store::{Taker, TextStore};
 use rga_tree::TreeStore;
 use std::alloc::Global;
-use crate::fixtures::{prints, store_of, store_shows};
 
 const HELLO: &str = r#"{"id":[1,2],"op":"run","parent":[0,0],"text":"hello"}"#;
 

@@ -1,11 +1,11 @@
 //! Lines that are appended, to devices that count their writes, take a part of the bytes, or fail.
+use crate::fixtures::{Narrow, chain};
 use rga_devices::Counted;
 use rga_exchange::{SendFault, append_log};
 use rga_lines::{LineFault, write_line};
 use rga_ops::{Op, Refusal};
 use std::alloc::Global;
 use std::process::Abort;
-use crate::fixtures::{Narrow, chain};
 
 /// So many insertions, each behind the last.
 fn chained(alloc: Global, count: u64) -> Result<Vec<Op>, Refusal> {

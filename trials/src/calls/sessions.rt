@@ -1,11 +1,11 @@
 //! Frames that are not flushed.
 use crate::calls::sending::device;
+use crate::fixtures::Narrow;
 use mg_session::{SessionFault, run_keys};
 use mg_settings::{Settings, Values};
 use rga_devices::Counted;
 use rga_tree::TreeStore;
 use std::alloc::{AllocError, Global};
-use crate::fixtures::Narrow;
 use test_ports::MemoryPort;
 
 /// Settings of a screen of four rows and forty columns.

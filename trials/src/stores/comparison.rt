@@ -1,4 +1,5 @@
 //! Each store answers and shows as the plain list does.
+use crate::fixtures::{Random, chain, is};
 use crate::stores::list_store::{ListStore, Shown};
 use crate::stores::random::random_op;
 use crate::stores::words::places;
@@ -6,7 +7,6 @@ use rga_ops::{Op, Refusal};
 use rga_store::TextStore;
 use std::alloc::Global;
 use std::process::Abort;
-use crate::fixtures::{Random, chain, is};
 
 /// Whether both answer the operation alike.
 fn answer_alike<S: TextStore>(store: &mut S, list: &mut ListStore, op: Op) -> bool {

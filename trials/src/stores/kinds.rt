@@ -1,7 +1,9 @@
 //! Each kind of store meets the worked examples, and answers as the plain list does.
 use crate::stores::comparison::{check_beside_a_list, check_chains};
 use crate::stores::merging::{check_merges, takes_its_copy};
-use crate::stores::stores::{check_answers, check_limits, check_siblings, check_texts, tells_small_tree};
+use crate::stores::stores::{
+    check_answers, check_limits, check_siblings, check_texts, tells_small_tree,
+};
 use crate::stores::walks::{check_places, has_elements};
 use crate::stores::whole_lists::check_lists;
 use rga_flat::FlatStore;

@@ -1,10 +1,10 @@
 //! Merges of small stores: answers, contents and orders.
+use crate::fixtures::prints;
 use crate::stores::words::{alike, store_of};
 use rga_ops::Refusal;
 use rga_store::TextStore;
 use std::alloc::Global;
 use std::process::Abort;
-use crate::fixtures::prints;
 
 /// Two elements one behind the other.
 const HERE: &str = "a1.1<0.0 b2.1<1.1";

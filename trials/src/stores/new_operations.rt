@@ -1,10 +1,10 @@
 //! Lists of operations, and those of them that are new to a store.
+use crate::fixtures::{are_ops_of, ops_of};
 use crate::stores::words::store_of;
 use rga_ops::Refusal;
 use rga_store::{TextStore, new_operations_at};
 use rga_tree::TreeStore;
 use std::alloc::Global;
-use crate::fixtures::{are_ops_of, ops_of};
 
 /// Whether these operations of the list are new to a store that took the operations before.
 fn has_new<S: TextStore>(

@@ -1,7 +1,7 @@
 //! Identifiers and operations at the edges of their ranges.
+use crate::fixtures::{id, op_of, prints};
 use rga_ops::{Id, Refusal};
 use std::alloc::Global;
-use crate::fixtures::{id, op_of, prints};
 
 /// Whether an identifier of this counter and replica, which tells both, is made if it fits; and
 /// `BadId` answered if not.

@@ -1,6 +1,6 @@
 //! Operations that look random and are the same at each run.
-use rga_ops::{Op, Refusal};
 use crate::fixtures::{Random, deletion, insertion};
+use rga_ops::{Op, Refusal};
 
 /// An operation of one of three replicas. An identifier mostly has one insertion, which comes
 /// again, before its parent or after its deletion; now and then it is another one.

@@ -1,9 +1,9 @@
 //! A sequence beside a plain list.
+use crate::fixtures::{Random, same};
 use crate::stores::plain_list::PlainList;
 use rga_ops::{Id, Refusal};
 use rga_sequence::{Entry, Near, Put, Sequence};
 use std::alloc::Global;
-use crate::fixtures::{Random, same};
 
 /// How many steps a run has; a block has at most 256 entries.
 const STEPS: u64 = 900;

@@ -1,11 +1,11 @@
 //! Both stores on worked examples.
+use crate::fixtures::{id, insertion, op_of, prints, spells, store_shows};
 use crate::stores::words::{holds, store_of};
 use rga_doc::walk::{text, visible_len};
 use rga_ops::{Id, Refusal};
 use rga_store::{MAX_LIMIT, TextStore, answer_at};
 use std::alloc::Global;
 use std::process::Abort;
-use crate::fixtures::{id, insertion, op_of, prints, spells, store_shows};
 
 /// Whether a store that took these operations shows the text, also to a walk, and so many elements
 /// wait. Each character of the text has one byte.

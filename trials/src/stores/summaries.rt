@@ -1,11 +1,11 @@
 //! What one store has and another lacks, by a summary that goes over in lines.
+use crate::fixtures::{ops_of, store_of};
 use rga_brief::{Claim, claims_of, read_claim, summary_from, write_claim};
 use rga_digest::{Block, missing, summary_of};
 use rga_ops::{Op, Refusal};
 use rga_store::{Teller, TextStore};
 use rga_tree::TreeStore;
 use std::alloc::Global;
-use crate::fixtures::{ops_of, store_of};
 
 /// The claims, each written and read again.
 fn read_again(alloc: Global, claims: &[Claim]) -> Result<Vec<Claim>, Refusal> {

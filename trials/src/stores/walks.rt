@@ -1,11 +1,11 @@
 //! Elements by index and by place: two people write at once, and then one element is deleted.
+use crate::fixtures::{id, prints};
 use crate::stores::words::store_of;
 use rga_doc::walk::{element_at, place_of, position_of, visible_elements};
 use rga_ops::Refusal;
 use rga_store::TextStore;
 use std::alloc::Global;
 use std::process::Abort;
-use crate::fixtures::{id, prints};
 
 /// What both wrote, and the same with the deletion of the `c`.
 const WRITTEN: &str = "a1.1<0.0 c3.1<1.1 d4.1<3.1 b2.2<1.1";

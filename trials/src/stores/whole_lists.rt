@@ -1,10 +1,10 @@
 //! Lists of operations that a store takes whole or not at all.
+use crate::fixtures::{ops_of, prints};
 use crate::stores::words::{holds, store_of};
 use rga_ops::Refusal;
 use rga_store::TextStore;
 use std::alloc::Global;
 use std::process::Abort;
-use crate::fixtures::{ops_of, prints};
 
 /// An insertion.
 const A: &str = "a1.1<0.0";

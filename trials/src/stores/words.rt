@@ -1,8 +1,8 @@
 //! Stores that are made from words, and compared with words and with one another.
+use crate::fixtures::{op_of, ops_of, same};
 use rga_ops::Refusal;
 use rga_store::TextStore;
 use std::alloc::Global;
-use crate::fixtures::{op_of, ops_of, same};
 
 /// A store that took the operations of these words one by one.
 pub fn store_of<S: TextStore>(alloc: Global, limit: usize, words: &str) -> Result<S, Refusal> {

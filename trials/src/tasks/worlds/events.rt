@@ -1,9 +1,9 @@
 //! Random events.
+use crate::fixtures::Random;
 use rga_ops::Refusal;
 use rga_store::TextStore;
 use rga_world::{Event, World};
 use std::alloc::Global;
-use crate::fixtures::Random;
 
 /// How many sites there are.
 pub const SITES: usize = 8;

@@ -1,11 +1,11 @@
 //! A world, and what was seen of it.
+use crate::fixtures::Random;
 use crate::tasks::worlds::events::{FIRST, SITES, event};
 use crate::tasks::worlds::looks::{is_part, joined, places, rises};
 use rga_ops::{Id, Refusal};
 use rga_store::{MAX_LIMIT, TextStore};
 use rga_world::{World, WorldRefusal};
 use std::alloc::Global;
-use crate::fixtures::Random;
 
 #[derive(Clone, Copy)]
 pub struct Counts {
