@@ -81,14 +81,18 @@ def contract_names():
 def faults_of_contracts(cell, heads, members):
     """Yields what is wrong in a cell of a table of contracts."""
     for calls, clauses in PART.findall(cell):
-        texts, names = [], set()
+        asked, stated = re.findall(r"`([\w:]+)`", clauses), set()
         for call in re.findall(r"`([\w:]+)`", calls):
-            texts += heads.get(call, []) + [head for _, head in members.get(call, [])]
-            names |= {name for name, _ in members.get(call, [])}
-            if clauses and call not in heads and call not in members:
+            of_type = members.get(call, [])
+            texts = heads.get(call, []) + [head for _, head in of_type]
+            own = {name for name, _ in of_type} | set(re.findall(r"\bensures (\w+)\b", "\n".join(texts)))
+            if asked and call not in heads and call not in members:
                 yield call, "no public call"
-        for clause in re.findall(r"`([\w:]+)`", clauses):
-            if clause not in names and not any(re.search(rf"\bensures {clause}\b", text) for text in texts):
+            elif asked and not own & set(asked):
+                yield call, f"none of {', '.join(asked)}"
+            stated |= own
+        for clause in asked:
+            if clause not in stated:
                 yield clause, f"no clause of {calls.strip(', ')}"
 
 
