@@ -35,18 +35,21 @@ class Unexpected(Exception):
     """A program did what no line of a scene can be compared with."""
 
 
-def start(command, folder, takes, memory=None, **pipes):
-    """Starts a program in a folder, which is given so many bytes of memory, and may make files of so many."""
-    confine = lambda: _confine(takes, memory)
+def start(command, folder, takes, memory=None, closed=None, **pipes):
+    """Starts a program in a folder, which is given so many bytes of memory, may make files of so many, and
+    has no such standard stream."""
+    confine = lambda: _confine(takes, memory, closed)
     return subprocess.Popen(command, cwd=folder, bufsize=0, preexec_fn=confine, **pipes)
 
 
-def _confine(takes, memory):
+def _confine(takes, memory, closed):
     os.umask(0o022)
     # A writing that goes too far is then refused, and kills nobody.
     signal.signal(signal.SIGXFSZ, signal.SIG_IGN)
     resource.setrlimit(resource.RLIMIT_FSIZE, limits(takes))
     resource.setrlimit(resource.RLIMIT_AS, limits(memory))
+    if closed is not None:
+        os.close(closed)
 
 
 def failing(call, fault):
@@ -55,6 +58,12 @@ def failing(call, fault):
     # The program is the child then, and what traces it stands apart.
     how = "retval" if fault[0].isdigit() else "error"
     return ["strace", "-D", *quiet, "-e", f"inject={call}:{how}={fault}"]
+
+
+def delaying(call, number):
+    """Returns the words of a command under which the call of that number takes a second."""
+    quiet = ["-f", "-qq", "-o", "/dev/null", "-e", f"trace={call}"]
+    return ["strace", "-D", *quiet, "-e", f"inject={call}:delay_enter=1000000:when={number}"]
 
 
 def noting(path):
@@ -152,6 +161,13 @@ class Session:
     def reads_keys(self):
         return self._syscall().startswith(WAITS_FOR_KEYS) and self._has_shown_all()
 
+    def await_delay(self):
+        """Waits until a call is delayed: what is traced stops for moments alone else."""
+        stopped = 0
+        while stopped < 50 and not self.has_ended():
+            stopped = stopped + 1 if self._state() == "t" else 0
+            time.sleep(0.002)
+
     def _sleeps(self):
         return self._state() == "S" and self._has_shown_all()
 
@@ -223,13 +239,14 @@ class Session:
 class Job:
     """A program that reads its input and ends.
 
-    Its output has room for so many bytes, or for any. Or so many are taken out of a pipe at a time.
+    So many bytes of its output are taken out of a pipe at a time, or it goes to a file. Else it is confined
+    as `start` says.
     """
 
-    def __init__(self, command, folder, given, room=None, most=None, memory=None):
+    def __init__(self, command, folder, given, most=None, **confined):
         with tempfile.TemporaryFile() as output:
             pipes = {"stdin": given.reader(), "stdout": subprocess.PIPE if most else output, "stderr": subprocess.PIPE}
-            process = start(command, folder, room, memory, **pipes)
+            process = start(command, folder, **confined, **pipes)
             given.feed(process)
             if most:
                 _take(process, most, output)

@@ -44,14 +44,16 @@ class Person:
         self.under = []
         # Where their calls are noted.
         self.noted = None
+        # What is done while a call of the session is delayed, as a line of a scene.
+        self.meanwhile = None
         self.await_job()
 
     def await_job(self):
         """The next job reads nothing, and nothing confines it."""
         self.input = Whole(b"")
         # How many bytes there is room for of what it writes, how many are taken at a time, and how much
-        # memory it is given.
-        self.room = self.most = self.memory = None
+        # memory it is given; and which of its standard streams is closed.
+        self.room = self.most = self.memory = self.closed = None
 
 
 class Stage:

@@ -11,6 +11,7 @@
 
 mod report;
 mod shell;
+mod streams;
 mod tell;
 
 use std::process::ExitCode;

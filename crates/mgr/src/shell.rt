@@ -6,6 +6,7 @@ ghost use Rattle.mgr.specs.Status as status;
 ghost use Rattle.mgr.specs.Peers as spec;
 
 use crate::report::Report;
+use crate::streams::hold_closed;
 use crate::tell::{StandardError, Tell};
 use mg_files::Port;
 use mg_session::run_keys;
@@ -25,10 +26,12 @@ use std::net::Net;
 use std::rt::{Env, Files};
 
 /// Does the job that the command line asks for, by standard input and output, by files and by
-/// sockets of this machine, and answers the exit status that `do_job` does.
+/// sockets of this machine, and answers the exit status that `do_job` does. No file takes the place of
+/// a standard stream that is closed.
 pub fn run<R: Env + Files<File = File> + Net + AllocGlobal + Input + Print + Eprint>(rt: &R) -> u8
     ensures { result ≤ 4 }
 {
+    let _closed = hold_closed(rt);
     let job = words(rt).and_then(|words| job_of(rt.alloc(), &words));
     let mut reader = Counted::new(rt.reader());
     let mut writer = Counted::new(io::writer(rt));

@@ -1,12 +1,17 @@
 //! The files that take the names of a log and of a text.
 use crate::disk::Disk;
-use crate::files::{Keeping, OWN, keep, set_mode, stands_for, sync_folder, take_mode, write_lines};
+use crate::files::{
+    Keeping, OWN, give_free_name, keep, set_mode, stands_for, sync_folder, take_mode, write_lines,
+};
 use crate::log::Log;
 use crate::rewriting::{OpenLog, keep_as_read, sync_as_read};
+use crate::stamp::LATER;
+use crate::text::NextText;
 use mg_files::LogLines;
 use std::fs::{File, Metadata};
 use std::io::Write;
 use std::rt::Files;
+use std::time::Duration;
 use std::{fs, io};
 
 /// A file beside a log or a text, whose name it is to take.
@@ -22,10 +27,13 @@ pub(crate) struct Beside<'a, R> {
 /// What stands beside.
 #[derive(Clone, Copy)]
 pub(crate) enum Kind<'a> {
-    /// A log, which gets the owner and the rights of a file; with none only its owner may read it.
-    Log(&'a Option<Metadata>),
-    /// A text, which is dated by its log.
-    Text(&'a Option<Log>),
+    /// The first log, which gets the owner and the rights of a file; with none only its owner may read
+    /// it. It takes no name that something else has got meanwhile.
+    First(&'a Option<Metadata>),
+    /// A log in the place of another, whose owner and rights it gets.
+    Log(&'a Metadata),
+    /// A text.
+    Text(NextText<'a>),
     /// A log in the place of one that was read.
     Rewritten(&'a OpenLog),
 }
@@ -38,7 +46,8 @@ impl<'a, R: Files<File = File> + AllocGlobal> Disk for Beside<'a, R> {
     fn empty(&mut self) -> io::Result<()> {
         self.file.set_len(0)?;
         match self.kind {
-            Kind::Log(like) => take_rights(self.file, like),
+            Kind::First(like) => take_rights(self.file, like),
+            Kind::Log(standing) => take_mode(self.file, standing),
             Kind::Text(_) | Kind::Rewritten(_) => Ok(()),
         }
     }
@@ -53,21 +62,26 @@ impl<'a, R: Files<File = File> + AllocGlobal> Disk for Beside<'a, R> {
 
     fn sync(&mut self) -> io::Result<()> {
         match self.kind {
-            Kind::Log(_) => self.file.sync_all(),
-            Kind::Text(log) => sync_dated(self.file, log),
+            Kind::First(_) | Kind::Log(_) => self.file.sync_all(),
+            Kind::Text(text) => sync_dated(self.file, text.log),
             Kind::Rewritten(read) => sync_as_read(self.file, read),
         }
     }
 
     fn keep(&mut self) -> io::Result<()> {
         match self.kind {
+            Kind::First(_) => Ok(()),
+            Kind::Log(_) => keep(self.rt, self.name, Keeping::ByName),
+            Kind::Text(text) => text.keep_what_stands(self.rt, self.name),
             Kind::Rewritten(read) => keep_as_read(self.rt, read, self.name),
-            Kind::Log(_) | Kind::Text(_) => keep(self.rt, self.name, Keeping::ByName),
         }
     }
 
     fn take_name(&mut self) -> io::Result<()> {
-        fs::rename(self.rt, self.path, self.name)
+        match self.kind {
+            Kind::First(_) => give_free_name(self.rt, self.path, self.name),
+            _ => fs::rename(self.rt, self.path, self.name),
+        }
     }
 
     fn sync_folder(&mut self) -> io::Result<()> {
@@ -90,14 +104,20 @@ pub(crate) fn remove_next<R: Files<File = File>>(rt: &R, path: &str, next: &File
     }
 }
 
-/// Gives a text the time of change of its log, and waits until it is on the device. So a later
-/// session knows that it was put beside this very log. A file system that keeps no such times is no
-/// reason to stop.
+/// Dates a text by its log, and waits until it is on the device. So a later session knows that it was
+/// put beside this very log. A file system that keeps no such times is no reason to stop.
 pub(crate) fn sync_dated(text: &File, log: &Option<Log>) -> io::Result<()> {
     if let Some(log) = log {
-        if let Ok(time) = log.changed() {
-            let _ = text.set_modified(time);
-        }
+        date(text, log);
     }
     text.sync_all()
+}
+
+fn date(text: &File, log: &Log) {
+    let Ok(changed) = log.changed() else {
+        return;
+    };
+    if let Some(time) = changed.checked_add(Duration::from_nanos(LATER)) {
+        let _ = text.set_modified(time);
+    }
 }

@@ -27,7 +27,7 @@ pub trait Disk {
     fn sync(&mut self) -> io::Result<()>
         ensures { Does result Syncs (steps self.old) (steps self.new) };
 
-    /// Keeps what stands under the name, beside it.
+    /// Keeps what stands under the name beside it, where anything of it would be lost.
     fn keep(&mut self) -> io::Result<()>
         ensures { Does result Keeps (steps self.old) (steps self.new) };
 

@@ -142,6 +142,28 @@ pub(crate) fn make_beside<R: Files<File = File> + AllocGlobal>(
     options.open(rt, path)
 }
 
+/// Gives a file a name that nothing has, in place of its own. `AlreadyExists` where something has got
+/// it meanwhile; where the file system gives no second name, that is looked at right before.
+pub(crate) fn give_free_name<R: Files<File = File>>(
+    rt: &R,
+    path: &str,
+    name: &str,
+) -> io::Result<()> {
+    match fs::hard_link(rt, path, name) {
+        Ok(()) => fs::remove_file(rt, path),
+        Err(error) if error.kind() == ErrorKind::AlreadyExists => Err(error),
+        Err(_) => rename_to_free(rt, path, name),
+    }
+}
+
+fn rename_to_free<R: Files<File = File>>(rt: &R, path: &str, name: &str) -> io::Result<()> {
+    match fs::symlink_metadata(rt, name) {
+        Ok(_) => Err(io::Error::from(ErrorKind::AlreadyExists)),
+        Err(error) if error.kind() == ErrorKind::NotFound => fs::rename(rt, path, name),
+        Err(error) => Err(error),
+    }
+}
+
 /// Whether a file may be written. Nothing of it changes.
 pub(crate) fn check_writable<R: Files<File = File>>(rt: &R, path: &str) -> io::Result<()> {
     let _file = OpenOptions::new().write(true).open(rt, path)?;

@@ -28,10 +28,17 @@ struct End {
 }
 
 impl Log {
-    /// A log that was read or written up to its length.
+    /// A log that was written up to its length.
     pub(crate) fn new(file: File) -> io::Result<Log> {
-        let stamp = Stamp::of(&file.metadata()?);
-        let end = End::of(&file, stamp.length)?;
+        let length = file.metadata()?.len();
+        Log::read_to(file, length)
+    }
+
+    /// A log that was read up to such a length. What another program put behind it meanwhile was not.
+    pub(crate) fn read_to(file: File, length: u64) -> io::Result<Log> {
+        let mut stamp = Stamp::of(&file.metadata()?);
+        stamp.length = length;
+        let end = End::of(&file, length)?;
         Ok(Log { file, stamp, end })
     }
 
@@ -72,7 +79,7 @@ impl Log {
 
     /// Adds lines at the end, and waits until they are on the device. Nothing is written where the
     /// path stands for another file, or the log is not as it was left and at most something whole
-    /// behind it.
+    /// behind it. It is looked at behind that, too: what became of it meanwhile may have lost the lines.
     pub(crate) fn append<R: Files>(
         &mut self,
         rt: &R,
@@ -83,8 +90,12 @@ impl Log {
             return Err(io::Error::from(ErrorKind::NotFound));
         }
         fill_with(&mut self.file, lines)?;
-        self.stamp = Stamp::of(&self.file.metadata()?);
-        self.end = End::of(&self.file, self.stamp.length)?;
+        let stamp = Stamp::of(&self.file.metadata()?);
+        if stamp.length <= self.stamp.length || !self.only_grew(rt, path)? {
+            return Err(io::Error::from(ErrorKind::NotFound));
+        }
+        self.end = End::of(&self.file, stamp.length)?;
+        self.stamp = stamp;
         Ok(())
     }
 

@@ -1,7 +1,9 @@
 //! The names of a note's files.
 use std::alloc::Global;
-use std::io;
+use std::fs::File;
 use std::io::ErrorKind;
+use std::rt::Files;
+use std::{fs, io};
 
 /// The paths of a note's files. All but the first are made of it.
 #[derive(Drop)]
@@ -17,13 +19,37 @@ pub(crate) struct Paths {
 
 impl Paths {
     /// `OutOfMemory`, and no other error, where a growth of memory was refused.
-    pub(crate) fn new(alloc: Global, name: &str) -> io::Result<Paths> {
+    pub(crate) fn new<R: Files<File = File> + AllocGlobal>(
+        rt: &R,
+        name: &str,
+    ) -> io::Result<Paths> {
+        let log = log_path(rt, name)?;
         Ok(Paths {
-            text: path(alloc, name, "")?,
-            log: path(alloc, name, ".ops")?,
-            next_log: path(alloc, name, ".ops.new")?,
-            next_text: path(alloc, name, ".ops.text")?,
+            text: path(rt.alloc(), name, "")?,
+            next_log: path(rt.alloc(), log.as_str(), ".new")?,
+            next_text: path(rt.alloc(), name, ".ops.text")?,
+            log,
         })
+    }
+}
+
+/// The path of the log of a name. Where a link stands there, it is that of the log behind it: a new
+/// log would take the place of the link alone, and who has the log under its own name would go on
+/// with the old one.
+fn log_path<R: Files<File = File> + AllocGlobal>(rt: &R, name: &str) -> io::Result<String> {
+    let log = path(rt.alloc(), name, ".ops")?;
+    match fs::symlink_metadata(rt, log.as_str()) {
+        Ok(standing) if standing.is_symlink() => followed(rt, log),
+        _ => Ok(log),
+    }
+}
+
+/// The path that a link leads to; its own where it leads to none.
+fn followed<R: Files<File = File> + AllocGlobal>(rt: &R, link: String) -> io::Result<String> {
+    match fs::canonicalize(rt, link.as_str()) {
+        Ok(path) => Ok(path.into_string()),
+        Err(error) if error.kind() == ErrorKind::OutOfMemory => Err(error),
+        Err(_) => Ok(link),
     }
 }
 

@@ -95,7 +95,7 @@ impl NoteFiles {
         mut file: File,
     ) -> io::Result<Found> {
         let bytes = Log::read(rt, &mut file)?;
-        let log = Log::new(file)?;
+        let log = Log::read_to(file, bytes.len() as u64)?;
         self.text.take_beside(rt, paths.text.as_str(), &log)?;
         self.log = Some(log);
         Ok(Found {
@@ -201,6 +201,8 @@ fn try_log<R: Files<File = File> + AllocGlobal>(
 ) -> io::Result<Option<File>> {
     let path = paths.log.as_str();
     if let Some(file) = Log::open(rt, path)? {
+        // One that was killed when it gave the log its name may have left it the other one too.
+        remove_next(rt, paths.next_log.as_str(), &file);
         return Ok(Some(file));
     }
     // In a folder that takes no file, a note can be looked at all the same.
@@ -253,20 +255,19 @@ fn name_next<R: Files<File = File> + AllocGlobal>(
     lines: &LogLines,
     standing: &Option<Metadata>,
 ) -> io::Result<Named> {
-    if standing.is_some() {
-        return name_like(rt, paths, next, lines, standing, true);
+    if let Some(standing) = standing {
+        return name_as(rt, paths, next, lines, Kind::Log(standing), true);
     }
     let text = metadata_if_there(rt, paths.text.as_str())?;
-    name_like(rt, paths, next, lines, &text, false)
+    name_as(rt, paths, next, lines, Kind::First(&text), false)
 }
 
-/// The same with the owner and the rights of a file.
-fn name_like<R: Files<File = File> + AllocGlobal>(
+fn name_as<R: Files<File = File> + AllocGlobal>(
     rt: &R,
     paths: &Paths,
     next: &mut File,
     lines: &LogLines,
-    like: &Option<Metadata>,
+    kind: Kind<'_>,
     keeps: bool,
 ) -> io::Result<Named> {
     let mut disk = Beside {
@@ -274,7 +275,7 @@ fn name_like<R: Files<File = File> + AllocGlobal>(
         file: next,
         path: paths.next_log.as_str(),
         name: paths.log.as_str(),
-        kind: Kind::Log(like),
+        kind,
     };
     put_log(&mut disk, lines, keeps)
 }

@@ -12,7 +12,7 @@ use crate::note::Note;
 use crate::rewriting::{OpenLog, make_next, name_next};
 use crate::sockets::{accept_one, connect_to, listen_at};
 use mg_files::{Found, LinkFault, LogLines, Port, PortFault};
-use std::alloc::{AllocError, Global};
+use std::alloc::AllocError;
 use std::fs::File;
 use std::io;
 use std::io::ErrorKind;
@@ -26,7 +26,8 @@ use std::rt::Files;
 ///
 /// A note that was loaded stays locked for as long as the port is there, under whatever path it is
 /// asked for. What stands under a name when another file takes it, and is nothing that the port read
-/// or wrote, is kept beside it, with `~` behind the name, or `.~1~` and so on.
+/// or wrote, is kept beside it, with `~` behind the name, or `.~1~` and so on. A log that is a link is
+/// the one behind it.
 pub struct FilePort<R: Files<File = File> + Net + AllocGlobal + Drop> {
     rt: R,
     number: Option<u16>,
@@ -108,14 +109,18 @@ fn count_failure(failures: &mut u64)
 }
 
 /// The index of the note of a name, which need not be loaded.
-fn index_of(alloc: Global, notes: &mut Vec<Note>, name: &str) -> Result<usize, PortFault>
+fn index_of<R: Files<File = File> + AllocGlobal>(
+    rt: &R,
+    notes: &mut Vec<Note>,
+    name: &str,
+) -> Result<usize, PortFault>
     ensures found { IfOk result (λ i. i < length notes.new.items) }
     ensures memory { IfErr result (λ e. e ≡ Memory) }
 {
     if let Some(index) = known_index(notes, name) {
         return Ok(index);
     }
-    let Ok(paths) = Paths::new(alloc, name) else {
+    let Ok(paths) = Paths::new(rt, name) else {
         return Err(PortFault::Memory);
     };
     Ok(add_note(notes, paths)?)
@@ -176,7 +181,7 @@ impl<R: Files<File = File> + Net + AllocGlobal + Drop> Port for FilePort<R> {
         ensures device { self.new.failures ≡ failures_after result self.old.failures }
         ensures number { self.new.number ≡ self.old.number }
     {
-        let index = index_of(self.rt.alloc(), &mut self.notes, name)?;
+        let index = index_of(&self.rt, &mut self.notes, name)?;
         let note = &mut self.notes[index];
         let found = note.files.load(&self.rt, &note.paths);
         told(&mut self.failures, found)
@@ -188,7 +193,7 @@ impl<R: Files<File = File> + Net + AllocGlobal + Drop> Port for FilePort<R> {
         ensures device { self.new.failures ≡ failures_after result self.old.failures }
         ensures number { self.new.number ≡ self.old.number }
     {
-        let index = index_of(self.rt.alloc(), &mut self.notes, name)?;
+        let index = index_of(&self.rt, &mut self.notes, name)?;
         let note = &mut self.notes[index];
         let answer = note.files.append(&self.rt, &note.paths, lines);
         told(&mut self.failures, answer)
@@ -200,7 +205,7 @@ impl<R: Files<File = File> + Net + AllocGlobal + Drop> Port for FilePort<R> {
         ensures device { self.new.failures ≡ failures_after result self.old.failures }
         ensures number { self.new.number ≡ self.old.number }
     {
-        let index = index_of(self.rt.alloc(), &mut self.notes, name)?;
+        let index = index_of(&self.rt, &mut self.notes, name)?;
         let note = &mut self.notes[index];
         let answer = note.files.replace(&self.rt, &note.paths, lines);
         told(&mut self.failures, answer)
@@ -212,7 +217,7 @@ impl<R: Files<File = File> + Net + AllocGlobal + Drop> Port for FilePort<R> {
         ensures device { self.new.failures ≡ failures_after result self.old.failures }
         ensures number { self.new.number ≡ self.old.number }
     {
-        let index = index_of(self.rt.alloc(), &mut self.notes, name)?;
+        let index = index_of(&self.rt, &mut self.notes, name)?;
         let note = &mut self.notes[index];
         let answer = note.files.put_text(&self.rt, &note.paths, bytes);
         told(&mut self.failures, answer)
@@ -274,22 +279,22 @@ impl<R: Files<File = File> + Net + AllocGlobal + Drop> Logs for FilePort<R> {
 
     /// A log that may not be written is refused.
     fn open_log(&mut self, name: &str) -> io::Result<OpenLog> {
-        let paths = Paths::new(self.rt.alloc(), name)?;
+        let paths = Paths::new(&self.rt, name)?;
         OpenLog::open(&self.rt, paths.log.as_str())
     }
 
     fn make_next(&mut self, name: &str, log: &OpenLog) -> io::Result<File> {
-        let paths = Paths::new(self.rt.alloc(), name)?;
+        let paths = Paths::new(&self.rt, name)?;
         make_next(&self.rt, paths.next_log.as_str(), log)
     }
 
     fn name_next(&mut self, name: &str, log: &OpenLog, next: File) -> io::Result<Named> {
-        let paths = Paths::new(self.rt.alloc(), name)?;
+        let paths = Paths::new(&self.rt, name)?;
         name_next(&self.rt, &paths, log, next)
     }
 
     fn leave_next(&mut self, name: &str, next: File) {
-        if let Ok(paths) = Paths::new(self.rt.alloc(), name) {
+        if let Ok(paths) = Paths::new(&self.rt, name) {
             remove_next(&self.rt, paths.next_log.as_str(), &next);
         }
     }

@@ -95,6 +95,8 @@ pub(crate) fn make_next<R: Files<File = File> + AllocGlobal>(
     path: &str,
     log: &OpenLog,
 ) -> io::Result<File> {
+    // One that was killed when it gave the log its name may have left it this one too.
+    remove_next(rt, path, &log.file);
     let next = take_beside(rt, path)?;
     take_mode(&next, &log.file.metadata()?)?;
     Ok(next)

@@ -2,6 +2,14 @@
 use std::fs::Metadata;
 use std::os::unix::fs::MetadataExt;
 
+/// By how many nanoseconds a text is dated later than the log that it is put beside: the finest step
+/// of the file systems that keep parts of seconds. What writes both within one tick of the clock, as
+/// a checkout does, gives them one time.
+pub(crate) const LATER: u64 = 100;
+
+/// The nanoseconds of a second.
+const SECOND: i64 = 1_000_000_000;
+
 /// A file as it was when it was last read or written.
 #[derive(Clone, Copy, PartialEq, Eq)]
 pub(crate) struct Stamp {
@@ -36,9 +44,21 @@ impl Stamp {
         self.device == other.device && self.inode == other.inode
     }
 
-    /// Whether both were given one time of change. Whole seconds are no such sign: archives and
-    /// checkouts give them to many files.
-    pub(crate) fn is_as_old_as(&self, other: &Stamp) -> bool {
-        self.changed == other.changed && self.changed.nanos != 0
+    /// Whether this text was dated by that log.
+    pub(crate) fn is_dated_by(&self, log: &Stamp) -> bool {
+        self.changed == log.changed.later()
+    }
+}
+
+impl Time {
+    fn later(self) -> Time {
+        let nanos = self.nanos.saturating_add(LATER as i64);
+        if nanos < SECOND {
+            return Time { nanos, ..self };
+        }
+        Time {
+            seconds: self.seconds.saturating_add(1),
+            nanos: nanos - SECOND,
+        }
     }
 }

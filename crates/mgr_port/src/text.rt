@@ -1,5 +1,5 @@
 //! A text, as this port found and left it.
-use crate::beside::{Beside, Kind, sync_dated};
+use crate::beside::{Beside, Kind, remove_next, sync_dated};
 use crate::disk::{Named, put_whole};
 use crate::files::{
     Keeping, TRIES, check_writable, keep, lock, make_beside, plain_if_there, set_mode, stands_for,
@@ -76,7 +76,7 @@ impl Text {
         }
         if let Some(file) = &self.file {
             let stamp = Stamp::of(&file.metadata()?);
-            if stamp.is_as_old_as(&log.stamp()) {
+            if stamp.is_dated_by(&log.stamp()) {
                 self.own = Some(stamp);
             }
         }
@@ -90,16 +90,17 @@ impl Text {
         path: &str,
     ) -> io::Result<Option<Vec<u8>>> {
         self.take(rt, path)?;
+        // It is looked at before it is read, so that what comes between is not taken for this port's.
+        let stamp = match &self.file {
+            Some(file) => Some(Stamp::of(&file.metadata()?)),
+            None => None,
+        };
         let bytes = match fs::read(rt, path) {
             Ok(bytes) => bytes,
             Err(error) if error.kind() == ErrorKind::NotFound => return Ok(None),
             Err(error) => return Err(error),
         };
-        if let Some(file) = &self.file {
-            let mut stamp = Stamp::of(&file.metadata()?);
-            stamp.length = bytes.len() as u64;
-            self.own = Some(stamp);
-        }
+        self.own = stamp;
         Ok(Some(bytes))
     }
 
@@ -119,89 +120,114 @@ impl Text {
         if there.is_some() {
             check_writable(rt, path)?;
         }
-        let is_safe = self.is_safe(rt, path, &there, bytes)?;
-        match make_next(rt, paths, &there)? {
-            Some(next) => self.put_beside(rt, paths, next, bytes, log, is_safe),
-            None => self.put_in_place(rt, path, bytes, log, is_safe),
-        }
-    }
-
-    /// Whether nothing is lost where the text is written anew.
-    fn is_safe<R: Files<File = File> + AllocGlobal>(
-        &self,
-        rt: &R,
-        path: &str,
-        there: &Option<Metadata>,
-        bytes: &[u8],
-    ) -> io::Result<bool> {
-        let Some(there) = there else {
-            return Ok(true);
+        let text = NextText {
+            bytes,
+            log,
+            own: self.own,
         };
-        if self.own == Some(Stamp::of(there)) {
-            return Ok(true);
+        let Some(next) = make_next(rt, paths, &there)? else {
+            return self.put_in_place(rt, path, text);
+        };
+        match self.put_beside(rt, paths, next, text) {
+            // A file that is mounted by itself does not give up its name.
+            Err(error) if error.kind() == ErrorKind::ResourceBusy => {
+                self.put_in_place(rt, path, text)
+            }
+            answer => answer,
         }
-        if there.len() != bytes.len() as u64 {
-            return Ok(false);
-        }
-        Ok(fs::read(rt, path)?.as_slice() == bytes)
     }
 
-    /// Writes a new file, and gives it the text's name. It is locked before, and what stands there is
-    /// kept unless it is safe.
+    /// Writes a new file, and gives it the text's name. It is locked before. Where that fails, there is
+    /// no file beside any more.
     fn put_beside<R: Files<File = File> + AllocGlobal>(
         &mut self,
         rt: &R,
         paths: &Paths,
         mut next: File,
-        bytes: &[u8],
-        log: &Option<Log>,
-        is_safe: bool,
+        text: NextText<'_>,
     ) -> io::Result<()> {
-        lock(&next)?;
-        let named = name_next(rt, paths, &mut next, bytes, log, !is_safe)?;
+        let named = name_next(rt, paths, &mut next, text);
+        if named.is_err() {
+            remove_next(rt, paths.next_text.as_str(), &next);
+        }
+        let named = named?;
         self.own = Some(Stamp::of(&next.metadata()?));
         self.replaced = self.file.take();
         self.file = Some(next);
         named.settled()
     }
 
-    /// Writes the text where it stands, once that is kept unless it is safe.
+    /// Writes the text where it stands, once that is kept where anything of it would be lost.
     fn put_in_place<R: Files<File = File> + AllocGlobal>(
         &mut self,
         rt: &R,
         path: &str,
-        bytes: &[u8],
-        log: &Option<Log>,
-        is_safe: bool,
+        text: NextText<'_>,
     ) -> io::Result<()> {
-        if !is_safe {
+        if !text.is_safe(rt, path)? {
             keep(rt, path, Keeping::ByCopy)?;
         }
         let mut file = fs::create(rt, path)?;
-        file.write_all(bytes)?;
-        sync_dated(&file, log)?;
+        file.write_all(text.bytes)?;
+        sync_dated(&file, text.log)?;
         self.own = Some(Stamp::of(&file.metadata()?));
         Ok(())
     }
 }
 
-/// Writes all of the next text, and gives it the text's name.
+/// A text that is to take a name, beside a log.
+#[derive(Clone, Copy)]
+pub(crate) struct NextText<'a> {
+    bytes: &'a [u8],
+    pub(crate) log: &'a Option<Log>,
+    /// What stood under the name when this port read it or put it.
+    own: Option<Stamp>,
+}
+
+impl<'a> NextText<'a> {
+    /// Keeps what stands under the name, where anything of it would be lost.
+    pub(crate) fn keep_what_stands<R: Files<File = File> + AllocGlobal>(
+        &self,
+        rt: &R,
+        path: &str,
+    ) -> io::Result<()> {
+        if self.is_safe(rt, path)? {
+            return Ok(());
+        }
+        keep(rt, path, Keeping::ByName)
+    }
+
+    /// Whether nothing is lost where this text takes the name.
+    fn is_safe<R: Files<File = File> + AllocGlobal>(&self, rt: &R, path: &str) -> io::Result<bool> {
+        let Some(there) = plain_if_there(rt, path)? else {
+            return Ok(true);
+        };
+        if self.own == Some(Stamp::of(&there)) {
+            return Ok(true);
+        }
+        if there.len() != self.bytes.len() as u64 {
+            return Ok(false);
+        }
+        Ok(fs::read(rt, path)?.as_slice() == self.bytes)
+    }
+}
+
+/// Locks the next text, writes all of it, and gives it the text's name.
 fn name_next<R: Files<File = File> + AllocGlobal>(
     rt: &R,
     paths: &Paths,
     next: &mut File,
-    bytes: &[u8],
-    log: &Option<Log>,
-    keeps: bool,
+    text: NextText<'_>,
 ) -> io::Result<Named> {
+    lock(next)?;
     let mut disk = Beside {
         rt,
         file: next,
         path: paths.next_text.as_str(),
         name: paths.text.as_str(),
-        kind: Kind::Text(log),
+        kind: Kind::Text(text),
     };
-    put_whole(&mut disk, bytes, keeps)
+    put_whole(&mut disk, text.bytes, true)
 }
 
 /// A new file for a text, with its mode, owner and group; none where the text has to be written in

@@ -1,5 +1,6 @@
 """Files: those that are there before, what other programs do to them, and what they hold."""
 
+import decimal
 import os
 import pathlib
 import shutil
@@ -125,7 +126,8 @@ def pipe(stage, about):
 def dated(stage, about):
     """`dated NAME SECONDS` gives a file the time of its last change."""
     name, seconds = about.split()
-    os.utime(stage.path(name), (int(seconds), int(seconds)))
+    nanoseconds = int(decimal.Decimal(seconds) * 10**9)
+    os.utime(stage.path(name), ns=(nanoseconds, nanoseconds))
 
 
 @word

@@ -67,13 +67,20 @@ def memory(stage, about):
 
 
 @word
+def closed(stage, about):
+    """`closed output`: the next job has no such standard stream."""
+    stage.person.closed = ("input", "output", "error").index(about)
+
+
+@word
 def run(stage, about):
     """Does a job of mgr, to its end."""
     person = stage.person
     words = [text_of(it) for it in about.split()]
     person.has_begun = True
     command = [*person.under, stage.mgr, *words]
-    person.job = Job(command, person.folder, person.input, person.room, person.most, person.memory)
+    confined = {"takes": person.room, "memory": person.memory, "closed": person.closed}
+    person.job = Job(command, person.folder, person.input, person.most, **confined)
     person.await_job()
 
 

@@ -1,14 +1,15 @@
 """Who does something: sessions, their keys, and their ends."""
 
+import concurrent.futures
 import os
 import pathlib
 import resource
 import shutil
 
 from play.notation import Unreadable, keys_of, text_of
-from play.programs import Session, Unexpected, ends_well, failing, limits, makes_calls_fail, noted, noting
+from play.programs import Session, Unexpected, delaying, ends_well, failing, limits, makes_calls_fail, noted, noting
 from play.stage import LeftOut
-from play.words.table import word
+from play.words.table import WORDS, parted, word
 
 # An ordinary user and a group, and the words of a command that are in front of one of hers.
 NOBODY, NOGROUP = "nobody", "nogroup"
@@ -35,7 +36,19 @@ def edit(stage, about):
 
 @word
 def keys(stage, about):
-    session_of(stage).press(keys_of(about))
+    with concurrent.futures.ThreadPoolExecutor() as beside:
+        done = beside.submit(_do_meanwhile, stage)
+        session_of(stage).press(keys_of(about))
+        done.result()
+
+
+def _do_meanwhile(stage):
+    """Does what is to be done while a call is delayed, if anything is."""
+    line, stage.person.meanwhile = stage.person.meanwhile, None
+    if line:
+        session_of(stage).await_delay()
+        name, _, about = line.partition(" ")
+        WORDS[name](stage, about.strip())
 
 
 @word
@@ -57,6 +70,16 @@ def fails(stage, about):
     if not makes_calls_fail():
         raise LeftOut("there is no strace that may trace")
     stage.person.under = failing(*about.split())
+
+
+@word
+def delays(stage, about):
+    """`delays CALL N | LINE`: that call of the session that is begun next takes a second, in which another program does the line."""
+    if not makes_calls_fail():
+        raise LeftOut("there is no strace that may trace")
+    call, line = parted(about)
+    stage.person.under = delaying(*call.split())
+    stage.person.meanwhile = line
 
 
 @word
