@@ -2,6 +2,7 @@
 //! disk of which a step fails.
 use crate::calls::disks::has_made;
 use crate::calls::sending::{device, is_filled};
+use crate::fixtures::{chain, id, store_of};
 use mgr_compact::compact_note;
 use mgr_show::{ShowFault, compact_log};
 use rga_compaction::compact;
@@ -11,7 +12,6 @@ use rga_ops::Refusal;
 use rga_store::TextStore;
 use rga_tree::TreeStore;
 use std::alloc::Global;
-use crate::fixtures::{chain, id, store_of};
 use test_ports::MemoryLogs;
 
 /// Two runs and a deletion.
@@ -162,7 +162,7 @@ fn conflict() -> Result<(), ShowFault> {
 fn log_compacts(alloc: Global, log: &str, answer: Result<(), ShowFault>, text: &str) -> bool {
     let mut reader = Counted::new(log.as_bytes());
     let mut writer = Counted::new(Vec::new(alloc));
-    let answered = compact_log(alloc, &mut reader, &mut writer);
+    let answered = compact_log(alloc, false, &mut reader, &mut writer);
     answered == answer && writer.into_inner().as_slice() == text.as_bytes()
 }
 
