@@ -8,7 +8,7 @@ ghost use Rattle.mgr_show.specs.declared.fault.ShowFault.TheVariants.{Memory};
 ghost use Rattle.mgr_port.specs.Disk.{TellsSteps, StopsBefore, whole_steps};
 
 use mgr_port::{Logs, Named};
-use mgr_show::{ShowFault, compact_log_with};
+use mgr_show::{ShowFault, compact_log};
 use rga_devices::Counted;
 use std::alloc::Global;
 use std::io;
@@ -48,7 +48,7 @@ pub fn compact_note<L: Logs>(
     };
     let mut reader = Counted::new(log);
     let mut writer = Counted::new(next);
-    let answer = compact_log_with(alloc, dels, &mut reader, &mut writer);
+    let answer = compact_log(alloc, dels, &mut reader, &mut writer);
     let next = writer.into_inner();
     match answer {
         Ok(()) => give_name(logs, name, &reader.into_inner(), next),

@@ -23,40 +23,12 @@ use std::alloc::Global;
 use std::io::{Read, Write};
 
 /// Reads operation lines to the end of the input, and writes what they make in as few lines as runs
-/// allow: a log that stands for the same content, and nothing else. A last line without newline
-/// counts where it is an operation.
+/// allow, with `dels` deletions in runs too: a log that stands for the same content, and nothing
+/// else. A last line without newline counts where it is an operation.
 ///
 /// Faults of the input as of `show_ops`. Nothing is written before the whole input was taken. Where
 /// `Write` or `Memory` is answered then, a beginning of the lines was written.
 pub fn compact_log<R: Read, W: Write>(
-    alloc: Global,
-    reader: &mut Counted<R>,
-    writer: &mut Counted<W>,
-) -> Result<(), ShowFault>
-    ensures compacted { OnOk result (OnBytes R.remaining reader.old
-        (λ bytes. Compacts W.contents writer.old writer.new false bytes)) }
-
-    // A fault of the input is the first one of its bytes, however the reads cut them.
-    ensures refused { IfErr result (λ e. IsOfInput e → OnBytes R.remaining reader.old
-        (λ bytes. log_of MAX_LIMIT bytes ≡ Err e)) }
-    ensures unwritten { IfErr result (λ e. e ≢ ShowFault.Write → e ≢ ShowFault.Memory
-        → writer.new ≡ writer.old) }
-    // Whatever fails, nothing was written or a beginning of the lines of an accepted log.
-    ensures begun { OnErr result (OnBytes R.remaining reader.old (λ bytes.
-        WritesNothing W.contents writer.old writer.new
-        ⊎ BeginsToCompact W.contents writer.old writer.new false bytes)) }
-    ensures flushed { OnOk result (writer.new.flushed ≡ true) }
-
-    ensures whole_lines { result ≡ Err ShowFault.Read → (c : Content) × HasTakenWholeLines Log
-        R.remaining reader.old reader.new (content_intake MAX_LIMIT nothing c) }
-    ensures reads { CountsAs ShowFault.Read result reader.old reader.new }
-    ensures writes { CountsAs ShowFault.Write result writer.old writer.new }
-{
-    compact_log_with(alloc, false, reader, writer)
-}
-
-/// Does what `compact_log` does; with `dels` deletions too are written in runs, as by `compact_with`.
-pub fn compact_log_with<R: Read, W: Write>(
     alloc: Global,
     dels: bool,
     reader: &mut Counted<R>,

@@ -14,6 +14,6 @@ mod fault;
 mod show;
 mod text;
 
-pub use compact::{compact_log, compact_log_with};
+pub use compact::compact_log;
 pub use fault::ShowFault;
 pub use show::{show_ops, write_text};

@@ -20,64 +20,19 @@ use rga_devices::Counted;
 use rga_exchange::{Block, SendFault, shortest_line};
 use rga_lines::{DeletionRun, LineFault, MAX_RUN, Run, write_deletion_run, write_line};
 use rga_ops::{Id, Op};
-use rga_store::TextStore;
 use std::alloc::{AllocError, Global};
 use std::io::Write;
 use std::marker::Model;
 
-/// Writes all that a store holds in as few lines as runs allow, each with its newline: the runs by
-/// rising first identifier, a run of one as an insertion, and then the deletions by rising
-/// identifier. Answers how many lines there are.
+/// Writes the operations of a content in as few lines as runs allow, each with its newline: the runs
+/// by rising first identifier, a run of one as an insertion, and then the deletions by rising
+/// identifier. With `dels` deletions that follow one another, of one replica with counters that rise
+/// by one, are written as runs of at most `MAX_RUN`, and a run of one as a deletion. Answers how many
+/// lines there are.
 ///
-/// Beside the list of the operations one block of some 64 KiB is held, one run, and a table of
-/// 512 KiB. The device is used as by `send`.
-pub fn compact<S: TextStore, W: Write>(
-    alloc: Global,
-    store: &S,
-    writer: &mut Counted<W>,
-) -> Result<u64, SendFault>
-    ensures number { IfOk result (λ n. n ≡ length (compact_lines false (S.content store.now))) }
-    ensures written { OnOk result (Writes W.contents writer.old writer.new
-        (compact_text false (S.content store.now))) }
-    // These lines stand for the content, and the last one too ends in a newline.
-    ensures stands { OnOk result (StandsFor (compact_text false (S.content store.now))
-        (S.content store.now)) }
-    ensures ended { OnOk result (rest_of (compact_text false (S.content store.now)) ≡ []) }
-    ensures begun { WritesFront W.contents writer.old writer.new
-        (compact_text false (S.content store.now)) }
-    ensures flushed { OnOk result (writer.new.flushed ≡ true) }
-    ensures device { CountsAs SendFault.Write result writer.old writer.new }
-{
-    compact_with(alloc, store, false, writer)
-}
-
-/// Does what `compact` does; with `dels` deletions that follow one another, of one replica with
-/// counters that rise by one, are written as runs of at most `MAX_RUN`, and a run of one as a
-/// deletion.
-pub fn compact_with<S: TextStore, W: Write>(
-    alloc: Global,
-    store: &S,
-    dels: bool,
-    writer: &mut Counted<W>,
-) -> Result<u64, SendFault>
-    ensures number { IfOk result (λ n. n ≡ length (compact_lines dels (S.content store.now))) }
-    ensures written { OnOk result (Writes W.contents writer.old writer.new
-        (compact_text dels (S.content store.now))) }
-    // These lines stand for the content, and the last one too ends in a newline.
-    ensures stands { OnOk result (StandsFor (compact_text dels (S.content store.now))
-        (S.content store.now)) }
-    ensures ended { OnOk result (rest_of (compact_text dels (S.content store.now)) ≡ []) }
-    ensures begun { WritesFront W.contents writer.old writer.new
-        (compact_text dels (S.content store.now)) }
-    ensures flushed { OnOk result (writer.new.flushed ≡ true) }
-    ensures device { CountsAs SendFault.Write result writer.old writer.new }
-{
-    let ops = sound_ops(store)?;
-    compact_ops(alloc, &ops, dels, writer)
-}
-
-/// Does what `compact_with` does, with the content whose operations these are: the insertions by
-/// rising identifier, and then the deletions by rising identifier, as `TextStore::ops` lists them.
+/// The operations come as a store lists them: the insertions by rising identifier, and then the
+/// deletions by rising identifier. Beside them one block of some 64 KiB is held, one run, and a table
+/// of 512 KiB. The device is used as by `send`.
 pub fn compact_ops<W: Write>(
     alloc: Global,
     ops: &[Op],
@@ -102,20 +57,6 @@ pub fn compact_ops<W: Write>(
     let lines = push_compacted(alloc, ops, dels, &mut block, writer)?;
     block.finish(writer)?;
     Ok(lines)
-}
-
-/// The operations of a store.
-fn sound_ops<S: TextStore>(store: &S) -> Result<Vec<Op>, SendFault>
-    ensures ok { IfOk result (λ ops. ops.items ≡ operations (S.content store.now)) }
-    ensures sound { IsSound (S.content store.now) }
-    ensures memory { IfErr result (λ e. e ≡ SendFault.Memory) }
-{
-    // What is known is told with the fact that each operation is well-formed.
-    let _known = store.known();
-    let Ok(ops) = store.ops() else {
-        return Err(SendFault::Memory);
-    };
-    Ok(ops)
 }
 
 /// Adds the lines of all operations to the block, which is written whenever it is full, and answers

@@ -5,13 +5,14 @@ use crate::calls::sending::{device, is_filled};
 use crate::fixtures::{chain, id, store_of};
 use mgr_compact::compact_note;
 use mgr_show::{ShowFault, compact_log};
-use rga_compaction::compact;
+use rga_compaction::compact_ops;
 use rga_devices::Counted;
 use rga_exchange::SendFault;
 use rga_ops::Refusal;
 use rga_store::TextStore;
 use rga_tree::TreeStore;
 use std::alloc::Global;
+use std::io::Write;
 use test_ports::MemoryLogs;
 
 /// Two runs and a deletion.
@@ -25,6 +26,18 @@ const ALONE: &str = r#"{"char":"a","id":[1,1],"op":"ins","parent":[0,0]}
 {"char":"b","id":[3,1],"op":"ins","parent":[1,1]}
 {"char":"c","id":[4,2],"op":"ins","parent":[3,1]}
 "#;
+
+/// Compacts the operations of a store.
+fn compact<S: TextStore, W: Write>(
+    alloc: Global,
+    store: &S,
+    writer: &mut Counted<W>,
+) -> Result<u64, SendFault> {
+    let Ok(ops) = store.ops() else {
+        return Err(SendFault::Memory);
+    };
+    compact_ops(alloc, &ops, false, writer)
+}
 
 /// The lines to which a store is compacted, if there are so many.
 fn lines_of<S: TextStore>(alloc: Global, store: &S, lines: u64) -> Option<Vec<u8>> {
@@ -162,7 +175,7 @@ fn conflict() -> Result<(), ShowFault> {
 fn log_compacts(alloc: Global, log: &str, answer: Result<(), ShowFault>, text: &str) -> bool {
     let mut reader = Counted::new(log.as_bytes());
     let mut writer = Counted::new(Vec::new(alloc));
-    let answered = compact_log(alloc, &mut reader, &mut writer);
+    let answered = compact_log(alloc, false, &mut reader, &mut writer);
     answered == answer && writer.into_inner().as_slice() == text.as_bytes()
 }
 

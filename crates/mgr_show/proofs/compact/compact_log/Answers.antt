@@ -4,7 +4,7 @@ use Rattle.mgr_show.specs.declared.fault.ShowFault.{ShowFault}
 use Rattle.mgr_show.specs.declared.fault.ShowFault.TheVariants.{Read}
 use Rattle.mgr_show.proofs.ShownLaws.{content_of_input, made_of_nothing, whole_from}
 use Rattle.mgr_show.proofs.CompactedLaws.{compacts, begins_to_compact, on_err}
-use Rattle.mgr_show.proofs.compact.compact_log_with.Goals as goal
+use Rattle.mgr_show.proofs.compact.compact_log.Goals as goal
 
 pub returns-clause-compacted : goal.returns-clause-compacted
 returns-clause-compacted g c =
