@@ -142,15 +142,19 @@ pub(crate) fn make_beside<R: Files<File = File> + AllocGlobal>(
     options.open(rt, path)
 }
 
-/// Gives a file a name that nothing has, in place of its own. `AlreadyExists` where something has got
-/// it meanwhile; where the file system gives no second name, that is looked at right before.
+/// Gives a file a name that nothing has, in place of its own, which it may keep where that cannot be
+/// taken. `AlreadyExists` where something has got the name meanwhile; where the file system gives no
+/// second name, that is looked at right before.
 pub(crate) fn give_free_name<R: Files<File = File>>(
     rt: &R,
     path: &str,
     name: &str,
 ) -> io::Result<()> {
     match fs::hard_link(rt, path, name) {
-        Ok(()) => fs::remove_file(rt, path),
+        Ok(()) => {
+            let _ = fs::remove_file(rt, path);
+            Ok(())
+        }
         Err(error) if error.kind() == ErrorKind::AlreadyExists => Err(error),
         Err(_) => rename_to_free(rt, path, name),
     }

@@ -1,4 +1,5 @@
 //! A log that this port has open.
+use crate::beside::remove_next;
 use crate::files::{fill_with, lock, metadata_if_there, open_to_add, plain_if_there, stands_for};
 use crate::stamp::Stamp;
 use mg_files::LogLines;
@@ -59,6 +60,12 @@ impl Log {
             return Err(io::Error::from(ErrorKind::Interrupted));
         }
         Ok(Some(file))
+    }
+
+    /// Takes another name from it, if it has that: one that was killed when it gave the log its name may
+    /// have left it both.
+    pub(crate) fn give_up<R: Files<File = File>>(&self, rt: &R, path: &str) {
+        remove_next(rt, path, &self.file);
     }
 
     pub(crate) fn stamp(&self) -> Stamp {

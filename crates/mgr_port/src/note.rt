@@ -96,6 +96,7 @@ impl NoteFiles {
     ) -> io::Result<Found> {
         let bytes = Log::read(rt, &mut file)?;
         let log = Log::read_to(file, bytes.len() as u64)?;
+        log.give_up(rt, paths.next_log.as_str());
         self.text.take_beside(rt, paths.text.as_str(), &log)?;
         self.log = Some(log);
         Ok(Found {
@@ -142,6 +143,9 @@ impl NoteFiles {
         lines: &LogLines,
         standing: &Option<Metadata>,
     ) -> io::Result<()> {
+        if let Some(log) = &self.log {
+            log.give_up(rt, paths.next_log.as_str());
+        }
         let mut next = take_next(rt, paths.next_log.as_str(), &mut self.next)?;
         match name_next(rt, paths, &mut next, lines, standing) {
             Ok(named) => {
@@ -201,8 +205,6 @@ fn try_log<R: Files<File = File> + AllocGlobal>(
 ) -> io::Result<Option<File>> {
     let path = paths.log.as_str();
     if let Some(file) = Log::open(rt, path)? {
-        // One that was killed when it gave the log its name may have left it the other one too.
-        remove_next(rt, paths.next_log.as_str(), &file);
         return Ok(Some(file));
     }
     // In a folder that takes no file, a note can be looked at all the same.
