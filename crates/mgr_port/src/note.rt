@@ -175,10 +175,14 @@ impl NoteFiles {
         self.text.close_replaced();
     }
 
-    /// Removes what was only locked in the place of a log that was never made.
+    /// Removes what was only locked in the place of a log that was never made, and a name that the log
+    /// may have kept beside its own.
     pub(crate) fn leave<R: Files<File = File>>(&self, rt: &R, paths: &Paths) {
         if let Some(next) = &self.next {
             remove_next(rt, paths.next_log.as_str(), next);
+        }
+        if let Some(log) = &self.log {
+            log.give_up(rt, paths.next_log.as_str());
         }
     }
 }

@@ -2,9 +2,8 @@
 use std::fs::Metadata;
 use std::os::unix::fs::MetadataExt;
 
-/// By how many nanoseconds a text is dated later than the log that it is put beside: the finest step
-/// of the file systems that keep parts of seconds. What writes both within one tick of the clock, as
-/// a checkout does, gives them one time.
+/// By how many nanoseconds this port dates a text later than its log: the finest step of the file
+/// systems that keep parts of seconds.
 pub(crate) const LATER: u64 = 100;
 
 /// The nanoseconds of a second.
@@ -43,11 +42,22 @@ impl Stamp {
     pub(crate) fn is_of_the_file(&self, other: &Stamp) -> bool {
         self.device == other.device && self.inode == other.inode
     }
+}
 
-    /// Whether this text was dated by that log.
-    pub(crate) fn is_dated_by(&self, log: &Stamp) -> bool {
-        self.changed == log.changed.later()
+/// Whether a text was dated by a log: by this port, or by a script that gave it the log's time
+/// (`touch -r`). A checkout that writes both within a tick of the clock gives them one time too. But
+/// what is dated was changed later than its date says, and whole seconds are no sign: archives give
+/// them to many files.
+pub(crate) fn is_dated_by(text: &Metadata, log: &Stamp) -> bool {
+    let changed = Stamp::of(text).changed;
+    if changed == log.changed.later() {
+        return true;
     }
+    let touched = Time {
+        seconds: text.ctime(),
+        nanos: text.ctime_nsec(),
+    };
+    changed == log.changed && changed.nanos != 0 && touched != changed
 }
 
 impl Time {

@@ -7,7 +7,7 @@ use crate::files::{
 };
 use crate::log::Log;
 use crate::names::Paths;
-use crate::stamp::Stamp;
+use crate::stamp::{Stamp, is_dated_by};
 use std::fs::{File, Metadata};
 use std::io::{ErrorKind, Write};
 use std::os::unix::fs::MetadataExt;
@@ -75,9 +75,9 @@ impl Text {
             Err(_) => return Ok(()),
         }
         if let Some(file) = &self.file {
-            let stamp = Stamp::of(&file.metadata()?);
-            if stamp.is_dated_by(&log.stamp()) {
-                self.own = Some(stamp);
+            let found = file.metadata()?;
+            if is_dated_by(&found, &log.stamp()) {
+                self.own = Some(Stamp::of(&found));
             }
         }
         Ok(())
