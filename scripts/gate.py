@@ -1,6 +1,6 @@
 #!/usr/bin/env python3
-"""Proves, tries and plays all: `rt ci`, the tests of `trials/` beside it, and then the scenes, and refused
-growths, with the mgr that it built.
+"""Proves, tries and plays all: `rt ci`, and then the tests of `trials/`, and beside them the scenes, and
+refused growths, with the mgr that it built.
 
 The last line counts proofs, wrong bodies, tests, scenes and keys at which growths are refused together.
 """
@@ -22,9 +22,10 @@ VERDICT = re.compile(r"(\d+) passed, (\d+) failed$")
 
 
 def main():
+    parts = [proved()]
     with concurrent.futures.ThreadPoolExecutor() as beside:
         tests = beside.submit(trials.tried)
-        parts = [proved(), tested(tests), *played()]
+        parts += [*played(), tested(tests)]
     passed, failed = map(sum, zip(*parts))
     print(f"{passed} passed, {failed} failed")
     return 1 if failed or not passed else 0
