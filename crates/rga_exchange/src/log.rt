@@ -60,10 +60,8 @@ pub fn take_log<T: Taker, R: Read>(
     match end {
         StreamEnd::EndLine(_) => Err(LogFault::Line(lines + 1, LineFault::Kind)),
         StreamEnd::Input(rest) => {
-            match take_rest(alloc, taker, lines, &rest) {
-                Ok(end) => Ok(LogRead { lines, end }),
-                Err(fault) => Err(fault),
-            }
+            let end = take_rest(alloc, taker, lines, &rest)?;
+            Ok(LogRead { lines, end })
         }
     }
 }

@@ -82,7 +82,7 @@ pub(crate) fn take_stream<T: Taker, R: Read>(
     let mut operations = 0u128;
     let mut block = [0u8; BLOCK];
     'reads: loop {
-        match take_lines(
+        if let Some(number) = take_lines(
             alloc,
             form,
             taker,
@@ -90,27 +90,21 @@ pub(crate) fn take_stream<T: Taker, R: Read>(
             &mut ops,
             &mut lines,
             &mut operations,
-        ) {
-            Ok(None) => {}
-            Ok(Some(number)) => {
-                let end = StreamEnd::EndLine(number);
-                return Ok(Stream {
-                    lines,
-                    operations,
-                    end,
-                });
-            }
-            Err(fault) => return Err(fault),
+        )? {
+            return Ok(Stream {
+                lines,
+                operations,
+                end: StreamEnd::EndLine(number),
+            });
         }
         let Ok(count) = reader.read(&mut block) else {
             return Err(LogFault::Read);
         };
         if count == 0 {
-            let end = StreamEnd::Input(splitter.finish());
             return Ok(Stream {
                 lines,
                 operations,
-                end,
+                end: StreamEnd::Input(splitter.finish()),
             });
         }
         let Ok(()) = splitter.feed(&block[..count]) else {
@@ -148,10 +142,9 @@ fn take_lines<T: Taker>(
             Ok(None) => return Ok(None),
             Err(fault) => return Err(LogFault::Line(*lines + 1, fault)),
         };
-        match take_line(alloc, form, taker, ops, *lines + 1, splitter.line(end)) {
-            Ok(LineTaken::Operations(count)) => *operations += u128::from(count),
-            Ok(LineTaken::EndLine(number)) => return Ok(Some(number)),
-            Err(fault) => return Err(fault),
+        match take_line(alloc, form, taker, ops, *lines + 1, splitter.line(end))? {
+            LineTaken::Operations(count) => *operations += u128::from(count),
+            LineTaken::EndLine(number) => return Ok(Some(number)),
         }
         splitter.pass_line(end);
         *lines += 1;

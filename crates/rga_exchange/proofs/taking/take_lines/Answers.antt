@@ -1,4 +1,5 @@
 use Rattle.std.proofs.Common.{rules, Fits, w64, ◌∙◌, ◌+◌, ◌++◌, drop, refl, ap, arith}
+use Rattle.std.proofs.lemmas.Result.{err_from_is_err_and}
 use Rattle.rga_lines.specs.Stream.{Splitting, lines_of, rest_of, splitting_with}
 use Rattle.rga_lines.specs.LineFault.TheVariants as line_fault
 use Rattle.rga_lines.proofs.SplitterLemmas.{GivesLine, passes_line, gives_up}
@@ -16,19 +17,20 @@ returns-in-Err-clause-taken g c =
           ((gives_up c.lines.splitter c.find_line.new.self line_fault.Long c.lines.invariant.whole c.in-Err.ensures.err.1).1 more)),
     )
 
-pub returns-in-Err-take_line-clause-taken : goal.returns-in-Err-take_line-clause-taken
-returns-in-Err-take_line-clause-taken g c =
+pub returns-in_err-count-clause-taken : goal.returns-in_err-count-clause-taken
+returns-in_err-count-clause-taken g c =
     let found = rw c.in-Ok-Some.field-0-is at c.in-Ok-Some.ensures.found in
     let behind : Splitting = splitting_with (drop (c.in-Ok-Some.end + 1) c.find_line.new.self.waiting) in
     let given : GivesLine c.lines.splitter behind c.line.result.now = passes_line c.lines.splitter c.find_line.new.self behind c.line.result.now c.in-Ok-Some.end c.lines.invariant.whole found.0 found.1 c.line.ensures refl in
-    fault_stops (g.T.Taker.content c.take_line.new.taker) _ (λ ops. g.T.Taker.follows c.args.taker.now ops c.take_line.new.taker) c.line.result.now c.lines.invariant.limit (g.T.Taker.follows_on c.args.taker.now c.lines.taker c.take_line.new.taker) given c.lines.invariant.up_to c.find_line.new.self c.in-Err-take_line.fault c.in-Err-take_line.ensures.taken
+    let p = err_from_is_err_and c.from_residual.result c.from_residual.ensures.1 in
+    rw (p.1, p.2) (fault_stops (g.T.Taker.content c.take_line.new.taker) _ (λ ops. g.T.Taker.follows c.args.taker.now ops c.take_line.new.taker) c.line.result.now c.lines.invariant.limit (g.T.Taker.follows_on c.args.taker.now c.lines.taker c.take_line.new.taker) given c.lines.invariant.up_to c.find_line.new.self c.in_err-count.field-0.0 c.in_err-count.ensures.taken)
 
-pub returns-in-Ok-EndLine-clause-taken : goal.returns-in-Ok-EndLine-clause-taken
-returns-in-Ok-EndLine-clause-taken g c =
+pub returns-in-EndLine-clause-taken : goal.returns-in-EndLine-clause-taken
+returns-in-EndLine-clause-taken g c =
     let found = rw c.in-Ok-Some.field-0-is at c.in-Ok-Some.ensures.found in
     let behind : Splitting = splitting_with (drop (c.in-Ok-Some.end + 1) c.find_line.new.self.waiting) in
     let given : GivesLine c.lines.splitter behind c.line.result.now = passes_line c.lines.splitter c.find_line.new.self behind c.line.result.now c.in-Ok-Some.end c.lines.invariant.whole found.0 found.1 c.line.ensures refl in
-    end_stops (g.T.Taker.content c.take_line.new.taker) _ (λ ops. g.T.Taker.follows c.args.taker.now ops c.take_line.new.taker) c.line.result.now c.lines.invariant.limit (g.T.Taker.follows_on c.args.taker.now c.lines.taker c.take_line.new.taker) given c.lines.invariant.up_to c.in-Ok-EndLine.number (rw c.in-Ok-EndLine.field-0-is at c.in-Ok-EndLine.ensures.taken)
+    end_stops (g.T.Taker.content c.take_line.new.taker) _ (λ ops. g.T.Taker.follows c.args.taker.now ops c.take_line.new.taker) c.line.result.now c.lines.invariant.limit (g.T.Taker.follows_on c.args.taker.now c.lines.taker c.take_line.new.taker) given c.lines.invariant.up_to c.in-EndLine.number (rw c.in-EndLine.is at c.in_ok-count.ensures.taken)
 
 pub lines-init : goal.lines-init
 lines-init g c = record {
@@ -43,12 +45,12 @@ pub lines-preserved : goal.lines-preserved
 lines-preserved g c =
     let found = rw c.in-Ok-Some.field-0-is at c.in-Ok-Some.ensures.found in
     let given : GivesLine c.lines.splitter c.pass_line.new.self c.line.result.now = passes_line c.lines.splitter c.find_line.new.self c.pass_line.new.self c.line.result.now c.in-Ok-Some.end c.lines.invariant.whole found.0 found.1 c.line.ensures c.pass_line.ensures in
-    let fits : Fits w64 c.in-Ok-Operations.count = search rules in
-    let took = rw c.in-Ok-Operations.field-0-is at c.in-Ok-Operations.ensures.taken in
+    let fits : Fits w64 c.in-Operations.count = search rules in
+    let took = rw c.in-Operations.is at c.in_ok-count.ensures.taken in
     record {
       whole = given.good;
       room = omega (arith, given.shorter, c.lines.invariant.room);
-      limit = c.in-Ok-Operations.ensures.limit ∙ c.lines.invariant.limit;
+      limit = c.in_ok-count.ensures.limit ∙ c.lines.invariant.limit;
       few = omega (arith, c.lines.invariant.few, c.from.ensures, fits.fits);
       up_to = up_to_chain c.lines.invariant.limit (g.T.Taker.follows_on c.args.taker.now c.lines.taker c.take_line.new.taker) c.lines.invariant.up_to (
           up_to_line c.line.result.now given took.0 took.1 (ap (λ n. c.lines.operations + n) (c.from.ensures ∙ took.2)));

@@ -1,5 +1,6 @@
-use Rattle.std.proofs.Common.{◌≡◌, ◌∙◌, ◌++◌, Ok, take, length, refl, ap, arith, length-append}
+use Rattle.std.proofs.Common.{◌≡◌, ◌∙◌, ◌++◌, take, length, refl, ap, arith, length-append}
 use Rattle.std.proofs.lemmas.Bool.{lt-ltb}
+use Rattle.std.proofs.lemmas.Result.{err_from_is_err_and}
 use Rattle.std.proofs.lemmas.List.{length-take}
 use Rattle.rga_devices.specs.Counting.{IsReadToEnd}
 use Rattle.rga_lines.specs.Stream.{Splitting, splitting_with}
@@ -23,53 +24,56 @@ reads-init g c =
       few = omega arith;
     }
 
-pub returns-in-Err-clause-fault : goal.returns-in-Err-clause-fault
-returns-in-Err-clause-fault g c = λ read memory. read_fault c.in-Err.fault c.reads.invariant.limit c.reads.invariant.read (fault_stands c.args.form (intake g.T.Taker.limit g.T.Taker.content g.T.Taker.follows c.reads.taker c.take_lines.new.taker) (stage c.reads.lines c.reads.operations c.reads.splitter.waiting) c.take_lines.new.lines c.take_lines.new.operations c.take_lines.new.splitter c.in-Err.fault c.in-Err.ensures.taken memory)
+pub returns-in_err-number-clause-fault : goal.returns-in_err-number-clause-fault
+returns-in_err-number-clause-fault g c =
+    let p = err_from_is_err_and c.from_residual.result c.from_residual.ensures.1 in
+    let e = c.in_err-number.field-0.0 in
+    rw (p.1, p.2) (λ read memory. read_fault e c.reads.invariant.limit c.reads.invariant.read (fault_stands c.args.form (intake g.T.Taker.limit g.T.Taker.content g.T.Taker.follows c.reads.taker c.take_lines.new.taker) (stage c.reads.lines c.reads.operations c.reads.splitter.waiting) c.take_lines.new.lines c.take_lines.new.operations c.take_lines.new.splitter e c.in_err-number.ensures.taken memory))
 
-pub returns-in-Err-clause-lines : goal.returns-in-Err-clause-lines
-returns-in-Err-clause-lines g c = first_lines (read_lines c.reads.invariant.limit (g.T.Taker.follows_on c.args.taker.now c.reads.taker c.take_lines.new.taker) c.reads.invariant.read (fault_first c.args.form (intake g.T.Taker.limit g.T.Taker.content g.T.Taker.follows c.reads.taker c.take_lines.new.taker) (stage c.reads.lines c.reads.operations c.reads.splitter.waiting) c.take_lines.new.lines c.take_lines.new.operations c.take_lines.new.splitter c.in-Err.fault c.in-Err.ensures.taken).1)
+pub returns-in_err-number-clause-lines : goal.returns-in_err-number-clause-lines
+returns-in_err-number-clause-lines g c = first_lines (read_lines c.reads.invariant.limit (g.T.Taker.follows_on c.args.taker.now c.reads.taker c.take_lines.new.taker) c.reads.invariant.read (fault_first c.args.form (intake g.T.Taker.limit g.T.Taker.content g.T.Taker.follows c.reads.taker c.take_lines.new.taker) (stage c.reads.lines c.reads.operations c.reads.splitter.waiting) c.take_lines.new.lines c.take_lines.new.operations c.take_lines.new.splitter c.in_err-number.field-0.0 c.in_err-number.ensures.taken).1)
 
-pub returns-in-Ok-Some-clause-end : goal.returns-in-Ok-Some-clause-end
-returns-in-Ok-Some-clause-end g c =
-    let told = rw c.in-Ok-Some.field-0-is at c.in-Ok-Some.ensures.taken in
-    read_end c.in-Ok-Some.number c.reads.invariant.limit c.reads.invariant.read (told.0).1 told.1
+pub returns-in-Some-clause-end : goal.returns-in-Some-clause-end
+returns-in-Some-clause-end g c =
+    let told = rw c.in-Some.is at c.in_ok-number.ensures.taken in
+    read_end c.in-Some.number c.reads.invariant.limit c.reads.invariant.read (told.0).1 told.1
 
-pub returns-in-Ok-Some-clause-lines : goal.returns-in-Ok-Some-clause-lines
-returns-in-Ok-Some-clause-lines g c =
-    let told = rw c.in-Ok-Some.field-0-is at c.in-Ok-Some.ensures.taken in
+pub returns-in-Some-clause-lines : goal.returns-in-Some-clause-lines
+returns-in-Some-clause-lines g c =
+    let told = rw c.in-Some.is at c.in_ok-number.ensures.taken in
     first_lines (read_lines c.reads.invariant.limit (g.T.Taker.follows_on c.args.taker.now c.reads.taker c.take_lines.new.taker) c.reads.invariant.read (told.0).1)
 
-pub returns-in_default-clause-lines : goal.returns-in_default-clause-lines
-returns-in_default-clause-lines g c =
-    let none = rw c.in-Ok-None.field-0-is at c.in-Ok-None.ensures.taken in
-    first_lines (read_failed {next = c.read.new.self} (read_lines c.reads.invariant.limit (g.T.Taker.follows_on c.args.taker.now c.reads.taker c.take_lines.new.taker) c.reads.invariant.read none.up_to) c.in_default.ensures.bytes)
+pub returns-in_default-read-clause-lines : goal.returns-in_default-read-clause-lines
+returns-in_default-read-clause-lines g c =
+    let none = rw c.in_default.is at c.in_ok-number.ensures.taken in
+    first_lines (read_failed {next = c.read.new.self} (read_lines c.reads.invariant.limit (g.T.Taker.follows_on c.args.taker.now c.reads.taker c.take_lines.new.taker) c.reads.invariant.read none.up_to) c.in_default-read.ensures.bytes)
 
-pub returns-in_default-clause-whole_lines : goal.returns-in_default-clause-whole_lines
-returns-in_default-clause-whole_lines g c =
-    let none = rw c.in-Ok-None.field-0-is at c.in-Ok-None.ensures.taken in
-    λ _. whole_lines (read_failed {next = c.read.new.self} (read_lines c.reads.invariant.limit (g.T.Taker.follows_on c.args.taker.now c.reads.taker c.take_lines.new.taker) c.reads.invariant.read none.up_to) c.in_default.ensures.bytes) none.none_left
+pub returns-in_default-read-clause-whole_lines : goal.returns-in_default-read-clause-whole_lines
+returns-in_default-read-clause-whole_lines g c =
+    let none = rw c.in_default.is at c.in_ok-number.ensures.taken in
+    λ _. whole_lines (read_failed {next = c.read.new.self} (read_lines c.reads.invariant.limit (g.T.Taker.follows_on c.args.taker.now c.reads.taker c.take_lines.new.taker) c.reads.invariant.read none.up_to) c.in_default-read.ensures.bytes) none.none_left
 
 pub returns-then-count-eq0-clause-end : goal.returns-then-count-eq0-clause-end
 returns-then-count-eq0-clause-end g c =
-    let none = rw c.in-Ok-None.field-0-is at c.in-Ok-None.ensures.taken in
+    let none = rw c.in_default.is at c.in_ok-number.ensures.taken in
     let read = rw c.if-count-eq0.true at c.in-Ok.ensures.bytes in
     read_all (read_empty {next = c.read.new.self} (read_lines {all = λ ops. g.T.Taker.follows c.args.taker.now ops c.take_lines.new.taker} c.reads.invariant.limit (g.T.Taker.follows_on c.args.taker.now c.reads.taker c.take_lines.new.taker) c.reads.invariant.read none.up_to) read.0) (read.1 refl (omega arith)) none.none_left none.short c.finish.ensures.rest
 
 pub returns-then-count-eq0-clause-rest : goal.returns-then-count-eq0-clause-rest
 returns-then-count-eq0-clause-rest g c =
-    let none = rw c.in-Ok-None.field-0-is at c.in-Ok-None.ensures.taken in
+    let none = rw c.in_default.is at c.in_ok-number.ensures.taken in
     let read = rw c.if-count-eq0.true at c.in-Ok.ensures.bytes in
     let end : IsReadToEnd g.R.Read.remaining c.read.new.self = record { last_read = (rw c.if-count-eq0.true at c.in-Ok.ensures.end) ∙ lt-ltb 0 (length c.read.new.buf) (omega arith); none_left = read.1 refl (omega arith) } in
     rw c.finish.ensures.rest (record { end = end; taken = read_empty {next = c.read.new.self} (read_lines c.reads.invariant.limit (g.T.Taker.follows_on c.args.taker.now c.reads.taker c.take_lines.new.taker) c.reads.invariant.read none.up_to) read.0; no_line = none.none_left; short = none.short })
 
 pub returns-then-count-eq0-clause-lines : goal.returns-then-count-eq0-clause-lines
 returns-then-count-eq0-clause-lines g c =
-    let none = rw c.in-Ok-None.field-0-is at c.in-Ok-None.ensures.taken in
+    let none = rw c.in_default.is at c.in_ok-number.ensures.taken in
     first_lines (read_empty {next = c.read.new.self} (read_lines c.reads.invariant.limit (g.T.Taker.follows_on c.args.taker.now c.reads.taker c.take_lines.new.taker) c.reads.invariant.read none.up_to) (rw c.if-count-eq0.true at c.in-Ok.ensures.bytes).0)
 
 pub reads-preserved : goal.reads-preserved
 reads-preserved g c =
-    let none = rw c.in-Ok-None.field-0-is at c.in-Ok-None.ensures.taken in
+    let none = rw c.in_default.is at c.in_ok-number.ensures.taken in
     let piece = take c.in-Ok.count c.read.new.buf in
     let now : c.feed.new.self ≡ splitting_with (c.take_lines.new.splitter.waiting ++ piece) = fed_holds c.take_lines.new.splitter c.feed.new.self piece none.whole c.in-Ok-feed.ensures.ok in
     let waits = ap (λ (s : Splitting). s.waiting) now in
@@ -78,15 +82,15 @@ reads-preserved g c =
     record {
       whole = ap (λ (s : Splitting). s.broken) now;
       room = rw waits (omega (arith, k, m, c.in-Ok.ensures.bound, c.in-Ok.ensures.calls.0, c.in-Ok.ensures.calls.1, none.room, c.reads.invariant.room));
-      limit = c.in-Ok-None.ensures.limit ∙ c.reads.invariant.limit;
-      few = c.in-Ok-None.ensures.few;
+      limit = c.in_ok-number.ensures.limit ∙ c.reads.invariant.limit;
+      few = c.in_ok-number.ensures.few;
       same_failures = c.in-Ok.ensures.device ∙ c.reads.invariant.same_failures;
       read = rw waits (read_piece {next = c.read.new.self} piece (read_lines c.reads.invariant.limit (g.T.Taker.follows_on c.args.taker.now c.reads.taker c.take_lines.new.taker) c.reads.invariant.read none.up_to) none.none_left c.in-Ok.ensures.bytes.0 (omega (arith, m, c.in-Ok.ensures.bound)));
     }
 
 pub returns-in_default-feed-clause-lines : goal.returns-in_default-feed-clause-lines
 returns-in_default-feed-clause-lines g c =
-    let none = rw c.in-Ok-None.field-0-is at c.in-Ok-None.ensures.taken in
+    let none = rw c.in_default.is at c.in_ok-number.ensures.taken in
     let piece = take c.in-Ok.count c.read.new.buf in
     let m = length-take c.in-Ok.count c.read.new.buf in
     first_lines (read_piece {next = c.read.new.self} piece (read_lines c.reads.invariant.limit (g.T.Taker.follows_on c.args.taker.now c.reads.taker c.take_lines.new.taker) c.reads.invariant.read none.up_to) none.none_left c.in-Ok.ensures.bytes.0 (omega (arith, m, c.in-Ok.ensures.bound)))
