@@ -34,6 +34,31 @@ def ended_by_a_signal(terminal):
     terminal.expect_file("other", "second")
 
 
+def ended_with_its_mgr(terminal):
+    """signals to mgr-live and to its mgr, as at the end of a login"""
+    for number in (signal.SIGTERM, signal.SIGHUP, signal.SIGINT, signal.SIGQUIT):
+        name = number.name
+        terminal.begin(f"{name} --replica 1")
+        terminal.see("start", {8: mode_line("--", "L1 C0", name)}, (0, 0))
+        terminal.write("not saved yet")
+        terminal.see("typed", {0: "not saved yet"})
+        for program in reversed(terminal.programs()):
+            os.kill(program, number)
+        terminal.left(name, f"status {128 + number}")
+        terminal.expect_file(name, "not saved yet")
+
+
+def files_that_may_not_grow(terminal):
+    """a save of more than a file may have"""
+    terminal.shell(f"(ulimit -f 1; exec {terminal.live} notes --replica 1); {BEHIND}")
+    terminal.see("start", {8: mode_line("--", "L1 C0")}, (0, 0))
+    terminal.write("words " * 20)
+    terminal.press("C-x", "C-s")
+    terminal.see("a save", {8: mode_line("**", "L1 C120"), 9: "File fault"})
+    terminal.press("C-x", "C-c", "y")
+    terminal.left("left", "status 0")
+
+
 def mgr_is_killed(terminal):
     """a KILL of mgr, which loses what was not saved"""
     terminal.begin("notes --replica 1")
@@ -141,6 +166,7 @@ def a_silent_peer(terminal):
             os.kill(terminal.programs()[0], signal.SIGTERM)
             said = "mgr-live: mgr did not take the last keys: they are in notes."
             terminal.expect("TERM", lambda: terminal.shown()[:2], [said, "keys"], seconds=30)
+            terminal.expect("its status", lambda: "status 143" in terminal.shown(), True)
     terminal.expect_file("notes", "saved before")
     terminal.expect_file("notes.keys", ", typed\rmeanwhile")
 
@@ -232,3 +258,5 @@ PARTS = (
     saved_by_itself,
     hanging_up,
 )
+    ended_with_its_mgr,
+    files_that_may_not_grow,

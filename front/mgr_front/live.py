@@ -98,10 +98,12 @@ def remember_text(mgr: str, note: Note) -> None:
 
 
 def status_of(status: int, signals: Signals) -> int:
-    """Returns the status for the shell, where mgr ended with this one."""
-    if status:
-        return status if status > 0 else 128 - status
-    return 128 + signals.first if signals.first else 0
+    """Returns the status for the shell, where mgr ended with this one.
+
+    A signal that ended mgr-live counts before one that ended mgr, as mgr-live itself may have sent that.
+    """
+    number = signals.first or -status
+    return status if status > 0 or not number else 128 + number
 
 
 def tunnel_to(options: Options, signals: Signals) -> Tunnel | None:
