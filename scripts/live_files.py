@@ -16,7 +16,7 @@ def made(terminal, text, then=None, name="notes"):
 
 
 OLD = "one\ntwo\nthree\nfour\n"
-NEW = "one\n2\nthree\nfour and a half\nfive\n"
+NEW = "one\n2\nthree\nfour and a half\r\nfive\n"
 
 
 def taking_the_file(terminal):
@@ -35,7 +35,7 @@ def taking_the_file(terminal):
     added = (terminal.folder / "notes.ops").read_text().removeprefix(log).splitlines()
     put, deleted = (sum(f'"op":"{op}"' in line for line in added) for op in ("ins", "del"))
     print(f"    the log has {put} insertions and {deleted} deletions more")
-    terminal.expect("as few as that", lambda: (put, deleted), (1 + len(" and a half\nfive"), 3))
+    terminal.expect("as few as that", lambda: (put, deleted), (1 + len(" and a half\r\nfive"), 3))
     terminal.press("C-x", "C-c")
     terminal.expect("left", lambda: any(row.endswith("status 0") for row in terminal.shown()), True)
     terminal.expect_file("notes", NEW)
