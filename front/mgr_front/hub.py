@@ -11,7 +11,7 @@ from collections.abc import Sequence
 from mgr_front.editor import Editor
 from mgr_front.live_exchange import CONFLICT, SERVE
 from mgr_front.notes import Note, Refused, read
-from mgr_front.numbers import number_of
+from mgr_front.numbers import keep_number, number_of
 from mgr_front.opening import difference
 from mgr_front.options import HubOptions, read_hub
 from mgr_front.program import explained, find
@@ -187,6 +187,8 @@ def main(words: Sequence[str], folder: str) -> int:
         note.check()
         log = read(note.log) if note.has_log else b""
         number = options.replica if options.replica is not None else number_of(note.name, log)
+        if options.replica is None and not note.has_log:
+            keep_number(note.name, number)  # The text is written under it.
         found = difference(mgr, note, number)
         if found:
             tell(f"{note.name} is not what its log says: it is kept as {found.keep_file()}", PROGRAM)

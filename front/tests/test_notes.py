@@ -94,23 +94,47 @@ class TestNumbers(InFolder):
         patch.start()
         self.addCleanup(patch.stop)
 
-    def test_a_number_is_kept(self) -> None:
+    def test_a_number_that_wrote_in_the_log_is_kept(self) -> None:
         first = numbers.number_of(self.note.name, b"")
         self.assertIn(first, range(1000, 65001))
-        self.assertEqual(numbers.number_of(self.note.name, b""), first)
+        numbers.keep_number(self.note.name, first)
+        log = log_of(1, first, 2)
+        self.assertEqual(numbers.number_of(self.note.name, log), first)
         self.assertEqual(os.listdir(self.folder), ["state"])
         (self.folder / "link").symlink_to(self.folder)
-        self.assertEqual(numbers.number_of(str(self.folder / "link" / "note"), b""), first)
+        self.assertEqual(numbers.number_of(str(self.folder / "link" / "note"), log), first)
 
     def test_another_machine_user_and_note_have_others(self) -> None:
-        with mock.patch.object(numbers, "draw", side_effect=[1001, 1002, 1003, 1004]):
-            self.assertEqual(numbers.number_of(self.note.name, b""), 1001)
+        numbers.keep_number(self.note.name, 1001)
+        log = log_of(1001)
+        with mock.patch.object(numbers, "draw", side_effect=[1002, 1003, 1004]):
             with mock.patch.object(numbers, "machine", return_value="another"):
-                self.assertEqual(numbers.number_of(self.note.name, b""), 1002)
+                self.assertEqual(numbers.number_of(self.note.name, log), 1002)
             with mock.patch.object(numbers, "user", return_value="another"):
-                self.assertEqual(numbers.number_of(self.note.name, b""), 1003)
-            self.assertEqual(numbers.number_of(self.note.name + "2", b""), 1004)
-            self.assertEqual(numbers.number_of(self.note.name, b""), 1001)
+                self.assertEqual(numbers.number_of(self.note.name, log), 1003)
+            self.assertEqual(numbers.number_of(self.note.name + "2", log), 1004)
+            self.assertEqual(numbers.number_of(self.note.name, log), 1001)
+
+    def test_no_number_is_had_twice(self) -> None:
+        for number in (1001, 1002):
+            numbers.keep_number(self.note.name, number)
+        for what, log, used in [
+            ("the log is lost", b"", {1001, 1002}),
+            ("it has nothing of the last number", log_of(1001, 7), {1001, 1002, 7}),
+        ]:
+            with self.subTest(what), mock.patch.object(numbers, "draw") as draw:
+                numbers.number_of(self.note.name, log)
+                draw.assert_called_once_with(used)
+
+    def test_a_number_is_kept_once_it_is_said_to_be_used(self) -> None:
+        kept = self.folder / "state" / "mgr" / "replicas"
+        number = numbers.number_of(self.note.name, b"")
+        self.assertEqual(kept.read_text(), "")
+        for _ in range(2):
+            numbers.keep_number(self.note.name, number)
+        self.assertEqual(kept.read_text().count("\n"), 1)
+        kept.write_text("no number")
+        numbers.keep_number(self.note.name, number)
 
     def test_numbers_that_wrote_in_the_log_are_not_drawn(self) -> None:
         log = b'{"char":"a","id":[1,2000],"op":"ins","parent":[0,0]}\n{"id":[1,2000],"op":"del"}\n'
@@ -121,3 +145,8 @@ class TestNumbers(InFolder):
 
 if __name__ == "__main__":
     unittest.main()
+def log_of(*replicas: int) -> bytes:
+    """Returns a log in which these have written."""
+    return b"".join(b'{"char":"a","id":[1,%d],"op":"ins","parent":[0,0]}\n' % number for number in replicas)
+
+

@@ -66,6 +66,15 @@ class TestEnds(unittest.TestCase):
                 self.assertEqual(self.text(), "typed")
                 self.assertEqual(edit.editor.process.returncode, 0)
 
+    def test_the_first_change_is_told_once(self) -> None:
+        for keys, wanted in ((b"\x01", 0), (b"typed\x18\x13typed", 1)):
+            with self.subTest(keys=keys):
+                edit, told = self.begin("note"), mock.Mock()
+                edit.changed.append(told)
+                self.type(edit, keys)
+                ending.finish(edit, self.note)
+                self.assertEqual(told.call_count, wanted)
+
     def test_it_is_too_where_the_front_has_a_fault(self) -> None:
         edit = self.begin("note")
         self.type(edit, b"typed")
