@@ -1,10 +1,12 @@
 """Files of notes, and the numbers that are kept for them."""
 
+import itertools
 import os
 import pathlib
 import stat
 import tempfile
 import unittest
+from collections.abc import Callable
 from unittest import mock
 
 import context  # noqa: F401
@@ -82,9 +84,74 @@ class TestNotes(InFolder):
                 self.assertEqual(os.path.islink(self.note.name), is_link)
                 self.assertFalse(os.path.exists(self.note.next_text))
 
+    def texts(self, meddle: Callable[[str], object]) -> tuple[str, str]:
+        """Puts a text while another program puts two, one each time that something is written to the disk.
+
+        Returns the text of the note, and the one that is kept.
+        """
+        puts = iter(("first", "second"))
+        with mock.patch("os.fsync", lambda _: [meddle(text) for text in itertools.islice(puts, 1)]):
+            kept = put_text(self.note, "new")
+        self.assertEqual(os.stat(kept).st_nlink, 1)
+        return pathlib.Path(self.note.name).read_text(), pathlib.Path(kept).read_text()
+
+    def test_what_another_program_puts_meanwhile_is_kept(self) -> None:
+        note, other = self.folder / "note", self.folder / "other"
+
+        def rename(text: str) -> None:
+            other.write_text(text)
+            other.rename(note)
+
+        for what, meddle, has_two_names, wanted in (
+            ("it is written", note.write_text, False, "first"),
+            ("it is renamed", rename, False, "first"),
+            ("it is written where the file stays", note.write_text, True, "second"),
+        ):
+            with self.subTest(what):
+                for path in self.folder.iterdir():
+                    path.unlink()
+                note.write_text("old")
+                (self.folder / "note.ops").touch()
+                if has_two_names:
+                    os.link(note, self.folder / "name")
+                self.assertEqual(self.texts(meddle), ("new", wanted))
+
+    def test_a_text_that_is_kept_already_is_kept_once(self) -> None:
+        for text, kept in [("one", "note~"), ("two", "note.~1~"), ("two", "note.~1~"), ("one", "note~")]:
+            (self.folder / "note").write_text(text)
+            (self.folder / "note.ops").touch()
+            self.assertEqual(put_text(self.note, "new"), str(self.folder / kept))
+            self.assertEqual((self.folder / kept).read_text(), text)
+        self.assertEqual(sorted(os.listdir(self.folder)), ["note", "note.ops", "note.~1~", "note~"])
+
+    def test_a_second_name_is_no_copy(self) -> None:
+        (self.folder / "note").write_text("old")
+        (self.folder / "note.ops").touch()
+        os.link(self.note.name, self.folder / "note~")
+        kept = put_text(self.note, "new")
+        self.assertEqual(kept, str(self.folder / "note.~1~"))
+        self.assertEqual(pathlib.Path(kept).read_text(), "old")
+
+    def test_where_there_are_no_links_a_copy_is_kept(self) -> None:
+        (self.folder / "note").write_text("old")
+        (self.folder / "note.ops").touch()
+        with mock.patch("os.link", side_effect=PermissionError):
+            kept = put_text(self.note, "new")
+        self.assertEqual((pathlib.Path(kept).read_text(), pathlib.Path(self.note.name).read_text()), ("old", "new"))
+
+    def test_keys_are_for_their_owner_alone(self) -> None:
+        before = os.umask(0)
+        self.addCleanup(os.umask, before)
+        self.assertEqual(stat.S_IMODE(os.stat(keep_keys(self.note, b"a")).st_mode), 0o600)
+
     def test_keys_are_kept_beside_others(self) -> None:
         self.assertEqual(keep_keys(self.note, b"a"), f"{self.note.name}.keys")
         self.assertEqual(keep_keys(self.note, b"b"), f"{self.note.name}.keys.~1~")
+
+
+def log_of(*replicas: int) -> bytes:
+    """Returns a log in which these have written."""
+    return b"".join(b'{"char":"a","id":[1,%d],"op":"ins","parent":[0,0]}\n' % number for number in replicas)
 
 
 class TestNumbers(InFolder):
@@ -145,8 +212,3 @@ class TestNumbers(InFolder):
 
 if __name__ == "__main__":
     unittest.main()
-def log_of(*replicas: int) -> bytes:
-    """Returns a log in which these have written."""
-    return b"".join(b'{"char":"a","id":[1,%d],"op":"ins","parent":[0,0]}\n' % number for number in replicas)
-
-
