@@ -8,7 +8,7 @@ import subprocess
 import time
 
 from session import EXCHANGE, await_listener, free_port
-from terminal import BEHIND, is_gone, mode_line, text_of
+from terminal import BEHIND, is_gone, mode_line, state_of, text_of
 
 
 def edit(terminal, words, keys):
@@ -229,25 +229,38 @@ def exchanging(terminal):
 
 
 def hanging_up(terminal):
-    """the terminal is closed"""
-    terminal.begin("notes --replica 1")
-    terminal.see("start", {8: mode_line("--", "L1 C0")}, (0, 0))
-    terminal.write("typed before the end")
-    terminal.press("C-r", "b")
-    terminal.see("a search", {9: "I-search backward: b"})
-    programs = terminal.programs()
+    """the terminal is closed, in a search, and where mgr-live is suspended"""
+    for name in ("searching", "suspended"):
+        other = terminal.another(name)
+        other.begin(f"{name} --replica 1 2>said")
+        other.see("start", {8: mode_line("--", "L1 C0", name)}, (0, 0))
+        other.write("typed before the end")
+        if name == "searching":
+            other.press("C-r", "b")
+            other.see("a search", {9: "I-search backward: b"})
+        programs = other.programs()
+        if name == "suspended":
+            other.press("C-z")
+            other.expect("C-z", lambda: state_of(programs[0]), "T")
+        _close(other, name, programs)
+
+
+def _close(terminal, name, programs):
+    """Closes a terminal: both programs have to end then, with all saved and nothing said."""
     terminal.server.run("kill-session", "-t", terminal.name)
     end = time.monotonic() + 10
     while not all(map(is_gone, programs)) and time.monotonic() < end:
         time.sleep(0.05)
-    text = (terminal.folder / "notes").read_text()
-    if text != "typed before the end" or text_of(terminal.mgr, terminal.folder / "notes.ops") != text:
-        raise SystemExit(f"NOT AS IT SHOULD BE: the note is {text!r}")
-    print(f"both programs have ended, and the note is {text!r}")
+    text, said = ((terminal.folder / file).read_text() for file in (name, "said"))
+    if text != "typed before the end" or text_of(terminal.mgr, terminal.folder / f"{name}.ops") != text or said:
+        raise SystemExit(f"NOT AS IT SHOULD BE: the note is {text!r}, and mgr-live says {said}")
+    print(f"{name}: both programs have ended, and the note is {text!r}")
 
 
 PARTS = (
     ended_by_a_signal,
+    ended_with_its_mgr,
+    files_that_may_not_grow,
     mgr_is_killed,
     typed_ahead,
     a_fault_of_the_front,
@@ -258,5 +271,3 @@ PARTS = (
     saved_by_itself,
     hanging_up,
 )
-    ended_with_its_mgr,
-    files_that_may_not_grow,
