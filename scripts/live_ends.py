@@ -8,7 +8,7 @@ import subprocess
 import time
 
 from session import EXCHANGE, await_listener, free_port
-from terminal import BEHIND, is_gone, mode_line, text_of
+from terminal import BEHIND, is_gone, mode_line, state_of, text_of
 
 
 def edit(terminal, words, keys):
@@ -32,6 +32,31 @@ def ended_by_a_signal(terminal):
     terminal.left("TERM", "status 143")
     terminal.expect_file("notes", "first")
     terminal.expect_file("other", "second")
+
+
+def ended_with_its_mgr(terminal):
+    """signals to mgr-live and to its mgr, as at the end of a login"""
+    for number in (signal.SIGTERM, signal.SIGHUP, signal.SIGINT, signal.SIGQUIT):
+        name = number.name
+        terminal.begin(f"{name} --replica 1")
+        terminal.see("start", {8: mode_line("--", "L1 C0", name)}, (0, 0))
+        terminal.write("not saved yet")
+        terminal.see("typed", {0: "not saved yet"})
+        for program in reversed(terminal.programs()):
+            os.kill(program, number)
+        terminal.left(name, f"status {128 + number}")
+        terminal.expect_file(name, "not saved yet")
+
+
+def files_that_may_not_grow(terminal):
+    """a save of more than a file may have"""
+    terminal.shell(f"(ulimit -f 1; exec {terminal.live} notes --replica 1); {BEHIND}")
+    terminal.see("start", {8: mode_line("--", "L1 C0")}, (0, 0))
+    terminal.write("words " * 20)
+    terminal.press("C-x", "C-s")
+    terminal.see("a save", {8: mode_line("**", "L1 C120"), 9: "File fault"})
+    terminal.press("C-x", "C-c", "y")
+    terminal.left("left", "status 0")
 
 
 def mgr_is_killed(terminal):
@@ -141,6 +166,7 @@ def a_silent_peer(terminal):
             os.kill(terminal.programs()[0], signal.SIGTERM)
             said = "mgr-live: mgr did not take the last keys: they are in notes."
             terminal.expect("TERM", lambda: terminal.shown()[:2], [said, "keys"], seconds=30)
+            terminal.expect("its status", lambda: "status 143" in terminal.shown(), True)
     terminal.expect_file("notes", "saved before")
     terminal.expect_file("notes.keys", ", typed\rmeanwhile")
 
@@ -203,25 +229,38 @@ def exchanging(terminal):
 
 
 def hanging_up(terminal):
-    """the terminal is closed"""
-    terminal.begin("notes --replica 1")
-    terminal.see("start", {8: mode_line("--", "L1 C0")}, (0, 0))
-    terminal.write("typed before the end")
-    terminal.press("C-r", "b")
-    terminal.see("a search", {9: "I-search backward: b"})
-    programs = terminal.programs()
+    """the terminal is closed, in a search, and where mgr-live is suspended"""
+    for name in ("searching", "suspended"):
+        other = terminal.another(name)
+        other.begin(f"{name} --replica 1 2>said")
+        other.see("start", {8: mode_line("--", "L1 C0", name)}, (0, 0))
+        other.write("typed before the end")
+        if name == "searching":
+            other.press("C-r", "b")
+            other.see("a search", {9: "I-search backward: b"})
+        programs = other.programs()
+        if name == "suspended":
+            other.press("C-z")
+            other.expect("C-z", lambda: state_of(programs[0]), "T")
+        _close(other, name, programs)
+
+
+def _close(terminal, name, programs):
+    """Closes a terminal: both programs have to end then, with all saved and nothing said."""
     terminal.server.run("kill-session", "-t", terminal.name)
     end = time.monotonic() + 10
     while not all(map(is_gone, programs)) and time.monotonic() < end:
         time.sleep(0.05)
-    text = (terminal.folder / "notes").read_text()
-    if text != "typed before the end" or text_of(terminal.mgr, terminal.folder / "notes.ops") != text:
-        raise SystemExit(f"NOT AS IT SHOULD BE: the note is {text!r}")
-    print(f"both programs have ended, and the note is {text!r}")
+    text, said = ((terminal.folder / file).read_text() for file in (name, "said"))
+    if text != "typed before the end" or text_of(terminal.mgr, terminal.folder / f"{name}.ops") != text or said:
+        raise SystemExit(f"NOT AS IT SHOULD BE: the note is {text!r}, and mgr-live says {said}")
+    print(f"{name}: both programs have ended, and the note is {text!r}")
 
 
 PARTS = (
     ended_by_a_signal,
+    ended_with_its_mgr,
+    files_that_may_not_grow,
     mgr_is_killed,
     typed_ahead,
     a_fault_of_the_front,

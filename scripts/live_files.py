@@ -16,7 +16,7 @@ def made(terminal, text, then=None, name="notes"):
 
 
 OLD = "one\ntwo\nthree\nfour\n"
-NEW = "one\n2\nthree\nfour and a half\nfive\n"
+NEW = "one\n2\nthree\nfour and a half\r\nfive\n"
 
 
 def taking_the_file(terminal):
@@ -35,7 +35,7 @@ def taking_the_file(terminal):
     added = (terminal.folder / "notes.ops").read_text().removeprefix(log).splitlines()
     put, deleted = (sum(f'"op":"{op}"' in line for line in added) for op in ("ins", "del"))
     print(f"    the log has {put} insertions and {deleted} deletions more")
-    terminal.expect("as few as that", lambda: (put, deleted), (1 + len(" and a half\nfive"), 3))
+    terminal.expect("as few as that", lambda: (put, deleted), (1 + len(" and a half\r\nfive"), 3))
     terminal.press("C-x", "C-c")
     terminal.expect("left", lambda: any(row.endswith("status 0") for row in terminal.shown()), True)
     terminal.expect_file("notes", NEW)
@@ -97,22 +97,44 @@ def a_missing_part(terminal):
 
 
 def numbers(terminal):
-    """numbers that are drawn and kept"""
-    terminal.begin("notes")
-    terminal.see("without a number", {8: mode_line("--", "L1 C0")}, (0, 0))
-    terminal.write("a")
-    terminal.quit("saved")
-    terminal.begin("notes")
-    terminal.see("once more", {0: "a"}, (0, 0))
-    terminal.write("b")
-    terminal.quit("saved")
-    log = (terminal.folder / "notes.ops").read_text()
-    drawn = set(re.findall(r'"id":\[\d+,(\d+)\]', log))
-    kept = (terminal.folder / "state" / "mgr" / "replicas").read_text()
-    print(f"    {kept.strip()}")
-    terminal.expect("one number", lambda: [len(drawn), all(f", {number}]" in kept for number in drawn)], [1, True])
+    """numbers that are drawn and kept, while the log has them"""
+    log, kept = terminal.folder / "notes.ops", terminal.folder / "state" / "mgr" / "replicas"
+    _write(terminal, "without a number", "", "a")
+    _write(terminal, "once more", "a", "b")
+    first = _numbers_in(log)
+    terminal.expect("one number", lambda: [len(first), _kept_numbers(kept)], [1, first])
     beside = sorted(path.name for path in terminal.folder.glob("notes*"))
     terminal.expect("beside the note", lambda: beside, ["notes", "notes.ops"])
+    log.rename(terminal.folder / "copy.ops")
+    _write(terminal, "the log is lost", "ba", "c")
+    second = _numbers_in(log)
+    terminal.expect("another number", lambda: [len(second), _kept_numbers(kept)], [1, first + second])
+    with open(log, "ab") as both:
+        both.write((terminal.folder / "copy.ops").read_bytes())
+    terminal.expect("both logs together", lambda: sorted(text_of(terminal.mgr, log)), list("aabbc"))
+    (terminal.folder / "copy.ops").rename(log)
+    terminal.begin("notes --keep-file")
+    terminal.see("the old log, which is only read", {0: "ba"}, (0, 0))
+    terminal.press("C-x", "C-c")
+    terminal.left("left", "status 0")
+    terminal.expect("no number more", lambda: _kept_numbers(kept), first + second)
+
+
+def _write(terminal, what, text, more):
+    """Opens the note, which has this text, and saves it with more before that."""
+    terminal.begin("notes")
+    terminal.expect(what, lambda: (terminal.shown()[0], terminal.cursor()), (text, (0, 0)))
+    terminal.expect(what, lambda: terminal.shown()[8][:7], "-**-Mg:" if what == "the log is lost" else "----Mg:")
+    terminal.write(more)
+    terminal.quit(what)
+
+
+def _numbers_in(log):
+    return sorted(set(re.findall(r'"id":\[\d+,(\d+)\]', log.read_text())))
+
+
+def _kept_numbers(kept):
+    return re.findall(r", (\d+)\]$", kept.read_text(), re.M)
 
 
 def refusals(terminal):

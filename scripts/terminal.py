@@ -169,12 +169,16 @@ def children(pid):
     return [int(word) for word in said.split()]
 
 
-def is_gone(pid):
+def state_of(pid):
+    """Returns the letter of a process's state; one that was waited for is like one that was not."""
     try:
-        state = pathlib.Path(f"/proc/{pid}/stat").read_text().rsplit(")", 1)[1].split()[0]
+        return pathlib.Path(f"/proc/{pid}/stat").read_text().rsplit(")", 1)[1].split()[0]
     except FileNotFoundError:
-        return True
-    return state == "Z"
+        return "Z"
+
+
+def is_gone(pid):
+    return state_of(pid) == "Z"
 
 
 def environment(mgr, folder):

@@ -16,10 +16,11 @@ import socket
 import statistics
 import subprocess
 import sys
+import threading
 import time
 
-from session import await_listener, free_port
-from terminal import ROOT, Server, Terminal, environment, text_of
+from session import EXCHANGE, await_listener, free_port
+from terminal import ROOT, Server, Terminal, children, environment, text_of
 
 FOLDER = ROOT / "build" / "try-hub"
 HUB = ROOT / "front" / "mgr-hub"
@@ -68,12 +69,15 @@ class Hub:
         await_listener(self.port)
 
     def end(self):
-        """Ends it by TERM."""
+        """Ends it by TERM, which its mgr gets too, as from a service manager; returns how long that takes."""
         running.remove(self)
-        self.process.send_signal(signal.SIGTERM)
+        begun = time.monotonic()
+        for program in (*children(self.process.pid), self.process.pid):
+            os.kill(program, signal.SIGTERM)
         status = self.process.wait(20)
         if status:
             fail(f"the hub ended with status {status}: {self.printed.read_text()[-300:]}")
+        return time.monotonic() - begun
 
     def lines(self):
         return self.printed.read_text().splitlines()
@@ -227,6 +231,54 @@ def a_silent_hub(server, mgr):
         terminal.left("left", "status 0")
 
 
+class Dripping:
+    """A peer that says something, and then a byte every second."""
+
+    def __init__(self, port, first):
+        self.link = socket.create_connection(("127.0.0.1", port))
+        self.link.sendall(first)
+        self.is_over = threading.Event()
+        self.speaker = threading.Thread(target=self._speak, daemon=True)
+        self.speaker.start()
+
+    def _speak(self):
+        while not self.is_over.wait(1):
+            try:
+                self.link.sendall(b" ")
+            except OSError:
+                return
+
+    def end(self):
+        self.is_over.set()
+        self.speaker.join()
+        self.link.close()
+
+
+def dripping_peers(server, mgr):
+    """peers that never end, one of them with a conflict, and TERM"""
+    folder = folder_of("dripping_peers", "bob")
+    command = [mgr, "edit", "note", "--replica", "2", "--port"]
+    for first in (b'{"char":"x","id":[1,9],"op":"ins","parent":[0,0]}\n', b""):
+        hub = open_hub(mgr, f"dripping_peers/{bool(first)}", "alice: \n")
+        peer = Dripping(hub.port, first)
+        time.sleep(0.5)
+        if first:
+            begun = time.monotonic()
+            subprocess.run([*command, str(hub.port)], input=EXCHANGE, cwd=folder, check=True, capture_output=True)
+            print(f"behind one with a conflict another waits for {time.monotonic() - begun:.0f} seconds")
+            print(f"the hub printed: {[line[20:] for line in hub.lines()]}")
+            if not hub.lines()[-1].endswith("sent 8, received 0"):
+                fail("the other one did not exchange")
+            peer.end()
+            peer = Dripping(hub.port, first)
+            time.sleep(0.5)
+        took = hub.end()
+        peer.end()
+        print(f"TERM ends the hub within {took:.1f} seconds")
+        if took > 4:
+            fail("the hub did not heed TERM")
+
+
 def conflict(server, mgr):
     """two copies that were written in under one number"""
     hub = open_hub(mgr, "conflict", "alice: \n")
@@ -261,7 +313,7 @@ def conflict(server, mgr):
     hub.end()
 
 
-PARTS = {part.__name__: part for part in (small, large, without_a_hub, a_silent_hub, conflict)}
+PARTS = {part.__name__: part for part in (small, large, without_a_hub, a_silent_hub, dripping_peers, conflict)}
 
 
 def main():

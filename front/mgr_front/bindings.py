@@ -48,6 +48,11 @@ def text_keys(data: bytes) -> bytes:
     return CONTROL_SIGN.sub(_sign_keys, data)
 
 
+def exact_keys(data: bytes) -> bytes:
+    """Returns the keys that insert a text of a file, in which CR is a character and ends no line."""
+    return bytes([QUOTE, RETURN]).join(map(text_keys, data.split(b"\r")))
+
+
 def _sign_keys(sign: re.Match[bytes]) -> bytes:
     return bytes([RETURN]) if sign[0] in LINE_ENDS else bytes([QUOTE]) + sign[0]
 

@@ -3,7 +3,7 @@
 import difflib
 from collections.abc import Iterator
 
-from mgr_front.bindings import text_keys
+from mgr_front.bindings import exact_keys
 from mgr_front.errands import ARGUMENT, BUFFER_BEGIN, MOST_ARGUMENT
 
 FORWARD_CHAR, DELETE_CHAR = b"\x06", b"\x04"
@@ -78,6 +78,6 @@ def keys_of(made: list[Change]) -> bytes:
     """Returns the keys that do these changes, wherever point stands."""
     keys, place = [BUFFER_BEGIN], 0
     for begin, deleted, put in made:
-        keys += [repeated(FORWARD_CHAR, begin - place), repeated(DELETE_CHAR, deleted), text_keys(put.encode())]
+        keys += [repeated(FORWARD_CHAR, begin - place), repeated(DELETE_CHAR, deleted), exact_keys(put.encode())]
         place = begin + deleted
     return b"".join(keys)

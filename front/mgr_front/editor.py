@@ -14,6 +14,7 @@ from typing import IO
 from mgr_front.dialogue import Dialogue
 from mgr_front.frames import Frame, Frames
 from mgr_front.modelines import COLUMNS
+from mgr_front.signals import held_back
 
 BLOCK = 65536
 # How many rows the screen of mgr may have.
@@ -30,14 +31,16 @@ class Editor:
         """Begins it; what it says on standard error goes to `said`."""
         size = ["--rows", str(rows), "--cols", str(COLUMNS)]
         # In a session of its own, so that the end of the terminal reaches it as the end of the keys.
-        self.process = subprocess.Popen(
-            [program, "edit", "--trace", "--cursor", "--resizable", *size, *words],
-            bufsize=0,
-            stdin=subprocess.PIPE,
-            stdout=subprocess.PIPE,
-            stderr=said,
-            start_new_session=True,
-        )
+        # What ends a whole login reaches it all the same, and is held back: it has to save first.
+        with held_back():
+            self.process = subprocess.Popen(
+                [program, "edit", "--trace", "--cursor", "--resizable", *size, *words],
+                bufsize=0,
+                stdin=subprocess.PIPE,
+                stdout=subprocess.PIPE,
+                stderr=said,
+                start_new_session=True,
+            )
         assert self.process.stdin is not None and self.process.stdout is not None
         self.keys, self.written = self.process.stdin.fileno(), self.process.stdout.fileno()
         os.set_blocking(self.keys, False)
@@ -104,5 +107,5 @@ class Editor:
         try:
             self.process.communicate(bytes(self.waiting), timeout=seconds)
         except subprocess.TimeoutExpired:
-            self.process.terminate()
+            self.process.kill()
             self.process.communicate()

@@ -11,11 +11,11 @@ from collections.abc import Sequence
 from mgr_front.editor import Editor
 from mgr_front.live_exchange import CONFLICT, SERVE
 from mgr_front.notes import Note, Refused, read
-from mgr_front.numbers import number_of
+from mgr_front.numbers import keep_number, number_of
 from mgr_front.opening import difference
 from mgr_front.options import HubOptions, read_hub
 from mgr_front.program import explained, find
-from mgr_front.relay import HOST, SILENCE, free_port, knock, pump
+from mgr_front.relay import HOST, SILENCE, free_port, hear_out, knock, pump
 from mgr_front.saving import SAVE
 from mgr_front.saying import FAILED, REFUSED, stop, tell
 from mgr_front.signals import Signals
@@ -26,6 +26,8 @@ ROWS = 3
 AGAIN, LAST_SECONDS = 0.005, 10
 # Seconds until mgr is asked once more where it did not come to wait.
 AFTER_FAULT = 1.0
+# Seconds that a peer has for what it still says once mgr has ended the exchange: others wait.
+REST = 20.0
 # How many connections may wait for their turn.
 BACKLOG = 64
 
@@ -89,14 +91,22 @@ class Hub:
         peer.settimeout(SILENCE)
         try:
             with self._reach() as mgr:
-                pump(peer, mgr, heard.append)
+                pump(peer, mgr, heard.append, self.signals.woken)
         except OSError:
             pass  # mgr says what came of it.
         said = self._outcome()
         log(said)
         if CONFLICT.match(said):
             number = int(said.split()[1].rstrip(":"))
-            _tell_peer(peer, conflicting(read(self.note.log), b"".join(heard), number))
+            self._tell_peer(peer, conflicting(read(self.note.log), b"".join(heard), number))
+
+    def _tell_peer(self, peer: socket.socket, line: bytes) -> None:
+        """Sends a peer a line, once it has said all: it hears nothing before."""
+        try:
+            hear_out(peer, self.signals.woken, REST)
+            peer.sendall(line)
+        except OSError:
+            pass  # It is gone, or takes too long.
 
     def _reach(self) -> socket.socket:
         """Returns a connection to mgr, once it waits."""
@@ -141,15 +151,6 @@ def log(said: str) -> None:
     print(time.strftime("%Y-%m-%d %H:%M:%S"), said[:1].lower() + said[1:], flush=True)
 
 
-def _tell_peer(peer: socket.socket, line: bytes) -> None:
-    try:
-        while peer.recv(1 << 18):
-            pass  # It hears nothing before it has said all.
-        peer.sendall(line)
-    except OSError:
-        pass  # It is gone.
-
-
 def serve(mgr: str, note: Note, number: int, options: HubOptions) -> int:
     """Serves a note until a signal comes, and returns the status."""
     try:
@@ -186,6 +187,8 @@ def main(words: Sequence[str], folder: str) -> int:
         note.check()
         log = read(note.log) if note.has_log else b""
         number = options.replica if options.replica is not None else number_of(note.name, log)
+        if options.replica is None and not note.has_log:
+            keep_number(note.name, number)  # The text is written under it.
         found = difference(mgr, note, number)
         if found:
             tell(f"{note.name} is not what its log says: it is kept as {found.keep_file()}", PROGRAM)

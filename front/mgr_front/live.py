@@ -14,7 +14,7 @@ from mgr_front.frames import Frame
 from mgr_front.last_texts import is_merged, remember
 from mgr_front.live_exchange import LiveExchange
 from mgr_front.notes import Note, Refused, read
-from mgr_front.numbers import number_of
+from mgr_front.numbers import keep_number, number_of
 from mgr_front.opening import difference
 from mgr_front.options import Options, read as read_options
 from mgr_front.program import explained, find, text_of_log
@@ -41,13 +41,19 @@ def terminal_rows() -> int:
 
 
 def replica(options: Options, note: Note) -> int:
-    """Returns the number of this copy: the one that is given, else the one that is kept for it."""
+    """Returns the number of this copy: the one that is given, else one that is kept for it or drawn."""
     if options.replica is not None:
         return options.replica
     try:
         return number_of(note.name, read(note.log) if note.has_log else b"")
     except (OSError, ValueError) as error:
         stop(f"no number is kept for this copy, so --replica has to give one: {error}")
+
+
+def keep_drawn(options: Options, note: Note, number: int) -> None:
+    """Keeps the number of this copy, if none is given, as something is written under it."""
+    if options.replica is None:
+        keep_number(note.name, number)
 
 
 def settle(mgr: str, note: Note, number: int, options: Options) -> str | None:
@@ -60,6 +66,7 @@ def settle(mgr: str, note: Note, number: int, options: Options) -> str | None:
     if found is None:
         return None
     if options.takes_file or not keeps_file(note, options) and choice(found.question(), "f", "l") == "f":
+        keep_drawn(options, note, number)
         found.take_file(mgr, number)
         return None
     return found.keep_file()
@@ -98,10 +105,12 @@ def remember_text(mgr: str, note: Note) -> None:
 
 
 def status_of(status: int, signals: Signals) -> int:
-    """Returns the status for the shell, where mgr ended with this one."""
-    if status:
-        return status if status > 0 else 128 - status
-    return 128 + signals.first if signals.first else 0
+    """Returns the status for the shell, where mgr ended with this one.
+
+    A signal that ended mgr-live counts before one that ended mgr, as mgr-live itself may have sent that.
+    """
+    number = signals.first or -status
+    return status if status > 0 or not number else 128 + number
 
 
 def tunnel_to(options: Options, signals: Signals) -> Tunnel | None:
@@ -143,6 +152,7 @@ def edit(mgr: str, note: Note, options: Options, opening: Opening, signals: Sign
         editor = Editor(mgr, words_for_mgr(options, opening.number, port), rows, said)
         session = Session(editor, screen, signals, relay or port)
         session.opened.append(lambda frame: session.remark(first_remark(note, opening.kept, frame)))
+        session.changed.append(lambda: keep_drawn(options, note, opening.number))
         if options.saves:
             session.watches.append(Autosave(session.buffers, lambda name: Note(name).has_log))
         if relay:

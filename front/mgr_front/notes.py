@@ -3,6 +3,7 @@
 import itertools
 import os
 import shutil
+from collections.abc import Iterator
 from dataclasses import dataclass
 
 MOST_CHARACTERS = 1_000_000
@@ -59,54 +60,121 @@ def read(path: str) -> bytes:
         return file.read()
 
 
-def keep(path: str) -> str:
-    """Keeps what stands under a path beside it, and returns under which path.
+def kept_names(path: str) -> Iterator[str]:
+    """Returns under which paths what stands at one may be kept: with `~` behind it, `.~1~` and so on."""
+    yield f"{path}~"
+    for number in itertools.count(1):
+        yield f"{path}.~{number}~"
 
-    That is the path with `~` behind it; where something else stands there `.~1~` and so on.
-    """
+
+def _has(path: str, data: bytes) -> bool:
+    """Whether a file is there with these bytes, that can be read."""
+    try:
+        return os.path.isfile(path) and read(path) == data
+    except OSError:
+        return False
+
+
+def keep(path: str) -> str:
+    """Keeps a copy of what stands under a path beside it, and returns under which path."""
     data = read(path)
-    for number in itertools.count():
-        kept = f"{path}.~{number}~" if number else f"{path}~"
+    for kept in kept_names(path):
         if not os.path.exists(kept):
             write_new(kept, data)
             shutil.copystat(path, kept)
-        if os.path.isfile(kept) and read(kept) == data:
+        # A second name of the file is no copy of it.
+        if _has(kept, data) and not os.path.samefile(kept, path):
             return kept
     raise AssertionError("numbers have no end")
 
 
+def link_aside(path: str) -> str:
+    """Gives a file a second name beside its own, and returns that; it is a copy's where there are no links."""
+    for kept in kept_names(path):
+        try:
+            os.link(path, kept)
+        except FileExistsError:
+            continue
+        except OSError:
+            return keep(path)
+        return kept
+    raise AssertionError("numbers have no end")
+
+
+def only_once(path: str, kept: str) -> str:
+    """Removes what is kept of a path where the same was kept before, and returns where it is kept."""
+    data = read(kept)
+    for other in kept_names(path):
+        if other == kept:
+            return kept
+        if _has(other, data):
+            os.unlink(kept)
+            return other
+    raise AssertionError("numbers have no end")
+
+
 def write_new(path: str, data: bytes) -> None:
-    """Writes a file that is not there yet."""
-    with open(path, "xb") as file:
+    """Writes a file that is not there yet. Nobody but its owner may read it, until its mode says else."""
+    with open(path, "xb", opener=lambda name, flags: os.open(name, flags, 0o600)) as file:
         file.write(data)
         file.flush()
         os.fsync(file.fileno())
 
 
-def put_text(note: Note, text: str) -> None:
-    """Makes this the text of a note, dated as its log: so mgr knows that both are of one save."""
-    old, dates = os.stat(note.name), os.stat(note.log)
-    data = text.encode()
-    if os.path.islink(note.name) or old.st_nlink > 1 or not _put_beside(note, data, old):
-        with open(note.name, "wb") as file:
-            file.write(data)
+def put_text(note: Note, text: str) -> str:
+    """Makes this the text of a note, and returns under which path the one that stood there is kept.
+
+    It is dated as its log: so mgr knows that both are of one save.
+    """
+    data, dates = text.encode(), os.stat(note.log)
+    kept = _put_beside(note, data) or _put_into(note, data)
     os.utime(note.name, ns=(dates.st_atime_ns, dates.st_mtime_ns))
+    return kept
 
 
-def _put_beside(note: Note, data: bytes, old: os.stat_result) -> bool:
-    """Writes a new file that takes the name, and answers whether its owner could be kept."""
+def _put_beside(note: Note, data: bytes) -> str | None:
+    """Writes a new file that takes the name; None where a link or the owner would not stay."""
+    old = os.stat(note.name)
+    if os.path.islink(note.name) or old.st_nlink > 1:
+        return None
     try:
         write_new(note.next_text, data)
     except OSError:
-        return False
+        return None
     try:
         os.chown(note.next_text, old.st_uid, old.st_gid)
         os.chmod(note.next_text, old.st_mode & 0o7777)
-        os.replace(note.next_text, note.name)
+        kept = _replace(note.next_text, note.name)
     except OSError:
         os.unlink(note.next_text)
-        return False
-    return True
+        return None
+    return only_once(note.name, kept)
+
+
+def _replace(new: str, path: str) -> str:
+    """Gives a new file the path of another, and returns under which one that is kept.
+
+    It is kept as the last thing before: so what another program puts there while the new file is
+    written is kept too, and what it writes to that file later.
+    """
+    kept = link_aside(path)
+    try:
+        os.replace(new, path)
+    except OSError:
+        if os.path.samefile(kept, path):
+            os.unlink(kept)
+        raise
+    return kept
+
+
+def _put_into(note: Note, data: bytes) -> str:
+    """Writes a text into the file that has the name, once all that stands there is kept."""
+    kept = keep(note.name)
+    while read(kept) != read(note.name):
+        kept = keep(note.name)
+    with open(note.name, "wb") as file:
+        file.write(data)
+    return kept
 
 
 def keep_keys(note: Note, keys: bytes) -> str:

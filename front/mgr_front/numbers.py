@@ -12,7 +12,9 @@ import os
 import random
 import re
 import socket
-from collections.abc import Callable
+from collections.abc import Callable, Iterator
+from contextlib import contextmanager
+from typing import TextIO
 
 LEAST, MOST = 1000, 65000
 REPLICA = re.compile(rb'"id":\[\d+,(\d+)\]')
@@ -58,21 +60,44 @@ def draw(used: set[int], choose: Callable[[int, int], int] = random.SystemRandom
     return number
 
 
-def number_of(path: str, log: bytes) -> int:
-    """Returns the number for a note on this machine, which is drawn the first time.
-
-    `log` is what stands in the note's log: what wrote there has other numbers.
-    """
-    owner = owner_of(path)
+@contextmanager
+def _drawn() -> Iterator[TextIO]:
+    """The file of the numbers that were drawn, which nobody else reads or writes meanwhile."""
     folder = state_folder()
     os.makedirs(folder, mode=0o700, exist_ok=True)
     with open(os.path.join(folder, "replicas"), "a+", encoding="ascii") as file:
         fcntl.flock(file, fcntl.LOCK_EX)
         file.seek(0)
-        for line in file:
-            *known, number = json.loads(line)
-            if known == owner:
-                return int(number)
-        number = draw(used_in(log))
-        file.write(json.dumps([*owner, number]) + "\n")
-    return number
+        yield file
+
+
+def _numbers_in(file: TextIO, owner: list[str]) -> list[int]:
+    """Returns the numbers that one copy of a note had, the last one at the end."""
+    return [int(number) for *known, number in map(json.loads, file) if known == owner]
+
+
+def number_of(path: str, log: bytes) -> int:
+    """Returns the number for a note on this machine: the last one, where it wrote in the log, else a new one.
+
+    `log` is what stands in the note's log. What was written under a number that is not in it was
+    lost, or never saved, and others may have it: that number names nothing again.
+    """
+    with _drawn() as file:
+        numbers = _numbers_in(file, owner_of(path))
+    used = used_in(log)
+    return numbers[-1] if numbers and numbers[-1] in used else draw(used.union(numbers))
+
+
+def keep_number(path: str, number: int) -> None:
+    """Keeps the number of a note, as something is written under it.
+
+    One that nothing was written under is forgotten: a note that is only read needs none. Where it
+    cannot be kept the next edit has another one.
+    """
+    owner = owner_of(path)
+    try:
+        with _drawn() as file:
+            if number not in _numbers_in(file, owner):
+                file.write(json.dumps([*owner, number]) + "\n")
+    except (OSError, ValueError):
+        pass

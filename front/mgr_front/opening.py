@@ -10,7 +10,7 @@ import tempfile
 import time
 
 from mgr_front.difference import changes, keys_of
-from mgr_front.notes import Note, Refused, keep, put_text, read, read_text
+from mgr_front.notes import Note, Refused, put_text, read, read_text
 from mgr_front.program import edit, text_of_log
 
 SAVE = b"\x18\x13"
@@ -49,10 +49,8 @@ class Difference:
             raise Refused(f"{self.note.log}: did not take the changes of {self.note.name}")
 
     def keep_file(self) -> str:
-        """Keeps the file beside itself, and makes the log's text the note's; returns what is kept."""
-        kept = keep(self.note.name)
-        put_text(self.note, self.text)
-        return kept
+        """Makes the log's text the note's, and returns where the file is kept."""
+        return put_text(self.note, self.text)
 
 
 def difference(mgr: str, note: Note, replica: int) -> Difference | None:

@@ -8,6 +8,7 @@ import random
 import select
 import socket
 import threading
+import time
 from collections.abc import Callable
 
 HOST = "127.0.0.1"
@@ -39,21 +40,41 @@ def knock(port: int) -> None:
         pass  # Nobody waits there yet, or any more.
 
 
-def pump(near: socket.socket, far: socket.socket, note: Callable[[bytes], object]) -> None:
+def pump(
+    near: socket.socket, far: socket.socket, note: Callable[[bytes], object], woken: int | None = None
+) -> None:
     """Passes on what each side says until the far one has ended.
 
-    What the near side says is noted too. One that fails, or is silent for too long, is an `OSError`.
+    What the near side says is noted too. One that fails, or is silent for too long, is an `OSError`,
+    and so is a byte at `woken`.
     """
     speakers = [far, near]
+    others = [] if woken is None else [woken]
     while True:
-        ready, _, _ = select.select(speakers, [], [], SILENCE)
-        if not ready:
+        ready, _, _ = select.select([*speakers, *others], [], [], SILENCE)
+        if not ready or woken in ready:
             raise TimeoutError
         if near in ready and not _pass_on(near, far, note):
             speakers.remove(near)
             far.shutdown(socket.SHUT_WR)
         if far in ready and not _pass_on(far, near, len):
             return
+
+
+def hear_out(peer: socket.socket, woken: int, seconds: float) -> None:
+    """Takes what a peer still says, up to its end.
+
+    One that is silent for too long, or goes on for more seconds than these, is a `TimeoutError`, and
+    so is a byte at `woken`.
+    """
+    end = time.monotonic() + seconds
+    while (left := end - time.monotonic()) > 0:
+        ready, _, _ = select.select([peer, woken], [], [], min(SILENCE, left))
+        if not ready or woken in ready:
+            break
+        if not peer.recv(BLOCK):
+            return
+    raise TimeoutError
 
 
 def _pass_on(one: socket.socket, other: socket.socket, note: Callable[[bytes], object]) -> bool:

@@ -43,7 +43,7 @@ class Screen:
     def __exit__(self, *_: object) -> None:
         try:
             self.close()
-        except (OSError, termios.error):
+        except OSError:
             pass  # The terminal is gone.
 
     def open(self) -> None:
@@ -121,14 +121,17 @@ def _common(one: list[Cell], other: list[Cell]) -> int:
 
 
 def until_done(set_mode: Callable[[], object]) -> None:
-    """Sets a mode of the terminal. In the background that stops this program until it is continued."""
+    """Sets a mode of the terminal. In the background that stops this program until it is continued.
+
+    Where the terminal is gone it is an `OSError`, as by all other calls.
+    """
     while True:
         try:
             set_mode()
             return
         except termios.error as error:
             if error.args[0] != errno.EINTR:
-                raise
+                raise OSError(*error.args) from None
 
 
 def write_all(data: bytes, to: int = 1) -> None:

@@ -61,8 +61,9 @@ class Session:
         self.watches: list[Watch] = []
         # What the mode line says of the front.
         self.status: Callable[[float], str] = lambda now: ""
-        # What takes note of the first frame.
+        # What takes note of the first frame, and of the first change.
         self.opened: list[Callable[[Frame], None]] = []
+        self.changed: list[Callable[[], None]] = []
         self.errand: Errand | None = None
         self.question: Question | None = None
         # The newest frame, what the front says in place of its echo line, and whether both are drawn.
@@ -203,6 +204,8 @@ class Session:
         if not answer.is_size:
             self.said = None
         self.buffers.note(frame)
+        while self.changed and any(self.buffers.changed.values()):
+            self.changed.pop()()
         if self.errand:
             if self.editor.dialogue.is_settled:
                 self._go_on(self.errand, frame)

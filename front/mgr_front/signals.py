@@ -2,8 +2,27 @@
 
 import os
 import signal
+from collections.abc import Iterator
+from contextlib import contextmanager
 
 ENDING = (signal.SIGHUP, signal.SIGINT, signal.SIGQUIT, signal.SIGTERM)
+# What would end a mgr before it has saved. The front, which gets the first of them too, has it save;
+# and that a file may not grow any more the call that writes it says as well.
+HELD = (*ENDING, signal.SIGXFSZ)
+
+
+@contextmanager
+def held_back() -> Iterator[None]:
+    """Whatever program is begun here never gets the signals that would end it before it has saved.
+
+    It begins with what is held back in this thread. Those that come for this program meanwhile do
+    so later, and none is lost; and nothing is called between fork and exec, where threads forbid it.
+    """
+    before = signal.pthread_sigmask(signal.SIG_BLOCK, HELD)
+    try:
+        yield
+    finally:
+        signal.pthread_sigmask(signal.SIG_SETMASK, before)
 
 
 class Signals:

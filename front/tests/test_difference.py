@@ -22,7 +22,7 @@ def press(text: str, keys: bytes) -> str:
         elif match[1]:
             text = text[:place] + text[place + int(match[1]) :]
         else:
-            sign = (match[3] or match[4]).decode("latin-1").replace("\r", "\n")
+            sign = (match[3] or match[4].replace(b"\r", b"\n")).decode("latin-1")
             text = text[:place] + sign + text[place:]
             place += 1
     return text
@@ -36,6 +36,7 @@ PAIRS = [
     ("one\ntwo\nthree\n", "zero\none\nthree\nfour"),
     ("aaa", "aaaa"),
     ("a\tb\x01c\x7f", "a\tb\x02c\x7f\r"),
+    ("a\nb\n", "a\r\nb\r\r\n\rc"),
     ("x" * 30000, "x" * 10000 + "y" + "x" * 10000),
 ]
 
@@ -44,8 +45,7 @@ class TestDifferences(unittest.TestCase):
     def test_keys_make_the_new_text(self) -> None:
         for old, new in PAIRS:
             with self.subTest(old=old[:9], new=new[:9]):
-                wanted = new.replace("\r", "\n")
-                self.assertEqual(press(old, keys_of(changes(old, new))), wanted)
+                self.assertEqual(press(old, keys_of(changes(old, new))), new)
 
     def test_seeded_texts(self) -> None:
         chance = random.Random(7)

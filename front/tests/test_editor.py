@@ -1,11 +1,16 @@
-"""What mgr is given beside the keys: sizes of its screen."""
+"""What mgr is given beside the keys, as sizes of its screen, and what it is not given: signals."""
 
+import os
+import pathlib
+import signal
+import stat
 import tempfile
 import unittest
 
 import context  # noqa: F401
 
 from mgr_front.editor import Editor
+from mgr_front.signals import held_back
 
 SIZE = b"\x1b[8;3;500t"
 
@@ -61,3 +66,27 @@ class TestSizes(unittest.TestCase):
         self.editor.resize(9)
         self.assertEqual(self.given(), b"\x18\x13\x1b[8;9;500t")
         self.assertFalse(self.editor.dialogue.is_settled)
+
+
+class TestSignals(unittest.TestCase):
+    def test_what_comes_for_the_front_meanwhile_is_not_lost(self) -> None:
+        came: list[int] = []
+        before = signal.signal(signal.SIGTERM, lambda number, _: came.append(number))
+        self.addCleanup(signal.signal, signal.SIGTERM, before)
+        with held_back():
+            os.kill(os.getpid(), signal.SIGTERM)
+        self.assertEqual(came, [signal.SIGTERM])
+        self.assertEqual(signal.pthread_sigmask(signal.SIG_BLOCK, []), set())
+
+    def test_one_that_does_not_end_is_ended_all_the_same(self) -> None:
+        with tempfile.TemporaryDirectory() as folder, tempfile.TemporaryFile() as said:
+            program = pathlib.Path(folder, "mgr")
+            program.write_text("#!/bin/sh\nexec sleep 20\n")
+            program.chmod(stat.S_IRWXU)
+            editor = Editor(str(program), ["note"], 3, said)
+            editor.end(0.1)
+        self.assertEqual(editor.process.returncode, -signal.SIGKILL)
+
+
+if __name__ == "__main__":
+    unittest.main()

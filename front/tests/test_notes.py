@@ -1,10 +1,12 @@
 """Files of notes, and the numbers that are kept for them."""
 
+import itertools
 import os
 import pathlib
 import stat
 import tempfile
 import unittest
+from collections.abc import Callable
 from unittest import mock
 
 import context  # noqa: F401
@@ -82,9 +84,74 @@ class TestNotes(InFolder):
                 self.assertEqual(os.path.islink(self.note.name), is_link)
                 self.assertFalse(os.path.exists(self.note.next_text))
 
+    def texts(self, meddle: Callable[[str], object]) -> tuple[str, str]:
+        """Puts a text while another program puts two, one each time that something is written to the disk.
+
+        Returns the text of the note, and the one that is kept.
+        """
+        puts = iter(("first", "second"))
+        with mock.patch("os.fsync", lambda _: [meddle(text) for text in itertools.islice(puts, 1)]):
+            kept = put_text(self.note, "new")
+        self.assertEqual(os.stat(kept).st_nlink, 1)
+        return pathlib.Path(self.note.name).read_text(), pathlib.Path(kept).read_text()
+
+    def test_what_another_program_puts_meanwhile_is_kept(self) -> None:
+        note, other = self.folder / "note", self.folder / "other"
+
+        def rename(text: str) -> None:
+            other.write_text(text)
+            other.rename(note)
+
+        for what, meddle, has_two_names, wanted in (
+            ("it is written", note.write_text, False, "first"),
+            ("it is renamed", rename, False, "first"),
+            ("it is written where the file stays", note.write_text, True, "second"),
+        ):
+            with self.subTest(what):
+                for path in self.folder.iterdir():
+                    path.unlink()
+                note.write_text("old")
+                (self.folder / "note.ops").touch()
+                if has_two_names:
+                    os.link(note, self.folder / "name")
+                self.assertEqual(self.texts(meddle), ("new", wanted))
+
+    def test_a_text_that_is_kept_already_is_kept_once(self) -> None:
+        for text, kept in [("one", "note~"), ("two", "note.~1~"), ("two", "note.~1~"), ("one", "note~")]:
+            (self.folder / "note").write_text(text)
+            (self.folder / "note.ops").touch()
+            self.assertEqual(put_text(self.note, "new"), str(self.folder / kept))
+            self.assertEqual((self.folder / kept).read_text(), text)
+        self.assertEqual(sorted(os.listdir(self.folder)), ["note", "note.ops", "note.~1~", "note~"])
+
+    def test_a_second_name_is_no_copy(self) -> None:
+        (self.folder / "note").write_text("old")
+        (self.folder / "note.ops").touch()
+        os.link(self.note.name, self.folder / "note~")
+        kept = put_text(self.note, "new")
+        self.assertEqual(kept, str(self.folder / "note.~1~"))
+        self.assertEqual(pathlib.Path(kept).read_text(), "old")
+
+    def test_where_there_are_no_links_a_copy_is_kept(self) -> None:
+        (self.folder / "note").write_text("old")
+        (self.folder / "note.ops").touch()
+        with mock.patch("os.link", side_effect=PermissionError):
+            kept = put_text(self.note, "new")
+        self.assertEqual((pathlib.Path(kept).read_text(), pathlib.Path(self.note.name).read_text()), ("old", "new"))
+
+    def test_keys_are_for_their_owner_alone(self) -> None:
+        before = os.umask(0)
+        self.addCleanup(os.umask, before)
+        self.assertEqual(stat.S_IMODE(os.stat(keep_keys(self.note, b"a")).st_mode), 0o600)
+
     def test_keys_are_kept_beside_others(self) -> None:
         self.assertEqual(keep_keys(self.note, b"a"), f"{self.note.name}.keys")
         self.assertEqual(keep_keys(self.note, b"b"), f"{self.note.name}.keys.~1~")
+
+
+def log_of(*replicas: int) -> bytes:
+    """Returns a log in which these have written."""
+    return b"".join(b'{"char":"a","id":[1,%d],"op":"ins","parent":[0,0]}\n' % number for number in replicas)
 
 
 class TestNumbers(InFolder):
@@ -94,23 +161,47 @@ class TestNumbers(InFolder):
         patch.start()
         self.addCleanup(patch.stop)
 
-    def test_a_number_is_kept(self) -> None:
+    def test_a_number_that_wrote_in_the_log_is_kept(self) -> None:
         first = numbers.number_of(self.note.name, b"")
         self.assertIn(first, range(1000, 65001))
-        self.assertEqual(numbers.number_of(self.note.name, b""), first)
+        numbers.keep_number(self.note.name, first)
+        log = log_of(1, first, 2)
+        self.assertEqual(numbers.number_of(self.note.name, log), first)
         self.assertEqual(os.listdir(self.folder), ["state"])
         (self.folder / "link").symlink_to(self.folder)
-        self.assertEqual(numbers.number_of(str(self.folder / "link" / "note"), b""), first)
+        self.assertEqual(numbers.number_of(str(self.folder / "link" / "note"), log), first)
 
     def test_another_machine_user_and_note_have_others(self) -> None:
-        with mock.patch.object(numbers, "draw", side_effect=[1001, 1002, 1003, 1004]):
-            self.assertEqual(numbers.number_of(self.note.name, b""), 1001)
+        numbers.keep_number(self.note.name, 1001)
+        log = log_of(1001)
+        with mock.patch.object(numbers, "draw", side_effect=[1002, 1003, 1004]):
             with mock.patch.object(numbers, "machine", return_value="another"):
-                self.assertEqual(numbers.number_of(self.note.name, b""), 1002)
+                self.assertEqual(numbers.number_of(self.note.name, log), 1002)
             with mock.patch.object(numbers, "user", return_value="another"):
-                self.assertEqual(numbers.number_of(self.note.name, b""), 1003)
-            self.assertEqual(numbers.number_of(self.note.name + "2", b""), 1004)
-            self.assertEqual(numbers.number_of(self.note.name, b""), 1001)
+                self.assertEqual(numbers.number_of(self.note.name, log), 1003)
+            self.assertEqual(numbers.number_of(self.note.name + "2", log), 1004)
+            self.assertEqual(numbers.number_of(self.note.name, log), 1001)
+
+    def test_no_number_is_had_twice(self) -> None:
+        for number in (1001, 1002):
+            numbers.keep_number(self.note.name, number)
+        for what, log, used in [
+            ("the log is lost", b"", {1001, 1002}),
+            ("it has nothing of the last number", log_of(1001, 7), {1001, 1002, 7}),
+        ]:
+            with self.subTest(what), mock.patch.object(numbers, "draw") as draw:
+                numbers.number_of(self.note.name, log)
+                draw.assert_called_once_with(used)
+
+    def test_a_number_is_kept_once_it_is_said_to_be_used(self) -> None:
+        kept = self.folder / "state" / "mgr" / "replicas"
+        number = numbers.number_of(self.note.name, b"")
+        self.assertEqual(kept.read_text(), "")
+        for _ in range(2):
+            numbers.keep_number(self.note.name, number)
+        self.assertEqual(kept.read_text().count("\n"), 1)
+        kept.write_text("no number")
+        numbers.keep_number(self.note.name, number)
 
     def test_numbers_that_wrote_in_the_log_are_not_drawn(self) -> None:
         log = b'{"char":"a","id":[1,2000],"op":"ins","parent":[0,0]}\n{"id":[1,2000],"op":"del"}\n'

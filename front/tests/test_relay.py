@@ -1,12 +1,14 @@
 """Connections that are passed on."""
 
+import os
 import socket
 import threading
+import time
 import unittest
 
 import context  # noqa: F401
 
-from mgr_front.relay import HOST, Relay
+from mgr_front.relay import HOST, SILENCE, Relay, pump
 
 
 def hear(side: socket.socket) -> bytes:
@@ -54,6 +56,21 @@ class TestRelay(unittest.TestCase):
         self.far.close()
         with socket.create_connection((HOST, self.relay.port)) as near:
             self.assertEqual(hear(near), b"")
+
+
+class TestPumps(unittest.TestCase):
+    def test_a_byte_that_wakes_ends_it(self) -> None:
+        (near, peer), (far, mgr) = socket.socketpair(), socket.socketpair()
+        woken, waker = os.pipe()
+        for end in (woken, waker):
+            self.addCleanup(os.close, end)
+        with near, peer, far, mgr:
+            peer.sendall(b"a line that never ends")
+            os.write(waker, b"\x0f")
+            begun = time.monotonic()
+            with self.assertRaises(TimeoutError):
+                pump(near, far, len, woken)
+            self.assertLess(time.monotonic() - begun, SILENCE / 2)
 
 
 if __name__ == "__main__":

@@ -14,6 +14,7 @@ from mgr_front.editor import Editor
 from mgr_front.keys import Keys
 from mgr_front.notes import Note
 from mgr_front.session import Session
+from mgr_front.signals import ENDING
 
 FAKE = pathlib.Path(__file__).with_name("fake_mgr.py")
 
@@ -53,6 +54,26 @@ class TestEnds(unittest.TestCase):
         ending.finish(edit, self.note)
         self.assertEqual(self.text(), "typed " * 100)
         self.assertEqual(edit.editor.process.returncode, 0)
+
+    def test_it_is_too_where_what_ends_a_login_reaches_mgr(self) -> None:
+        for number in ENDING:
+            with self.subTest(number=number):
+                edit = self.begin(f"note-{number}")
+                self.await_frame(edit)
+                self.type(edit, b"typed")
+                edit.editor.process.send_signal(number)
+                ending.finish(edit, self.note)
+                self.assertEqual(self.text(), "typed")
+                self.assertEqual(edit.editor.process.returncode, 0)
+
+    def test_the_first_change_is_told_once(self) -> None:
+        for keys, wanted in ((b"\x01", 0), (b"typed\x18\x13typed", 1)):
+            with self.subTest(keys=keys):
+                edit, told = self.begin("note"), mock.Mock()
+                edit.changed.append(told)
+                self.type(edit, keys)
+                ending.finish(edit, self.note)
+                self.assertEqual(told.call_count, wanted)
 
     def test_it_is_too_where_the_front_has_a_fault(self) -> None:
         edit = self.begin("note")

@@ -1,6 +1,8 @@
 """What a terminal shows of a frame, and what is sent to have it show that."""
 
+import errno
 import re
+import termios
 import unittest
 
 import context  # noqa: F401
@@ -8,7 +10,7 @@ import context  # noqa: F401
 from mgr_front.cells import cells, total_width
 from mgr_front.echo import Echo, echo_line
 from mgr_front.frames import Frame
-from mgr_front.screen import change
+from mgr_front.screen import change, until_done
 from mgr_front.view import Line, Picture, picture
 
 MODE = "----Mg: n (fundamental) L1 C0 W0".ljust(500, "-")
@@ -138,6 +140,16 @@ class TestChanges(unittest.TestCase):
         full = Line(cells("x" * 20))
         self.assertEqual(total_width(full.cells), 20)
         self.assertNotIn("\x1b[K", change(0, Line(cells("y" * 20)), full))
+
+
+class TestModes(unittest.TestCase):
+    def test_a_terminal_that_is_gone_is_told_as_by_other_calls(self) -> None:
+        def set_mode() -> None:
+            raise termios.error(errno.EIO, "Input/output error")
+
+        with self.assertRaises(OSError) as caught:
+            until_done(set_mode)
+        self.assertEqual(caught.exception.errno, errno.EIO)
 
 
 if __name__ == "__main__":
