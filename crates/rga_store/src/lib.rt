@@ -3,7 +3,8 @@
 //! Two traits say what any store does, by the content that it stands for: `Taker` takes operations,
 //! and `TextStore` is a `Taker` of a text, with the order of its elements. What any store would
 //! answer is told before it takes anything (`answers`). A `Teller` is a `TextStore` that tells its
-//! operations one by one, so that who looks at each of them needs no list. No store stands here, so
+//! operations one by one, so that who looks at each of them needs no list. How a store's clock rises
+//! and how it counts the identifiers that it knows is said once (`counts`). No store stands here, so
 //! nothing above the traits waits for one. The crate stands on rga_ops, and on indexmap, which no
 //! public signature names. The layer above rests on the traits' contracts and on nothing that a store
 //! keeps inside: all that a store answers is a function of its content and its limit, so stores of
@@ -11,6 +12,7 @@
 #![tactic(auto)]
 
 mod answers;
+pub mod counts;
 pub mod laws;
 mod taker;
 mod telling;
