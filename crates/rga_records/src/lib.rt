@@ -14,7 +14,6 @@
 #![tactic(auto)]
 
 mod chains;
-mod counts;
 mod entries;
 mod linking;
 mod list_answer;

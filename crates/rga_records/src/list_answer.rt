@@ -1,8 +1,5 @@
 //! The answer to a list of operations that is taken whole or not at all.
 ghost use Rattle.std.specs.Prelude.{◌≡◌, ◌≢◌, ◌+◌, None, Ok, Err, OnErr, IfOk, IfErr};
-ghost use Rattle.std.specs.Option.{option_or};
-ghost use Rattle.std.specs.BTreeMap.{get as get_added};
-ghost use Rattle.rga_ops.specs.Identifier.{id_cmp};
 ghost use Rattle.rga_ops.specs.Prelude.{all_checked, content_of, join, known_count, list_answer};
 ghost use Rattle.rga_ops.specs.ListAnswer.{early_conflict, first_conflict};
 
@@ -42,7 +39,7 @@ fn first_conflict(alloc: Global, records: &Records, ops: &[Op]) -> Result<Option
     let mut added = BTreeMap::new(alloc);
     for op in ops {
         if let Op::Insert { id, parent, ch } = op {
-            match stored_or_added(records.element(*id), &added, *id) {
+            match records.element(*id).or(added.get(id).copied()) {
                 Some(element) if element == (*parent, *ch) => {}
                 Some(_) => return Ok(Some(*id)),
                 None => {
@@ -52,18 +49,6 @@ fn first_conflict(alloc: Global, records: &Records, ops: &[Op]) -> Result<Option
         }
     }
     Ok(None)
-}
-
-/// The parent and the character of an element: those that the records have, or else those that were
-/// added.
-fn stored_or_added(
-    stored: Option<(Id, char)>,
-    added: &BTreeMap<Id, (Id, char)>,
-    id: Id,
-) -> Option<(Id, char)>
-    ensures { result ≡ option_or stored (get_added id_cmp added.now id) }
-{
-    stored.or_else(|| added.get(&id).copied())
 }
 
 /// How many identifiers the list makes known to the records. `Memory` alone.

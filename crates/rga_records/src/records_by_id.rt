@@ -15,7 +15,6 @@ ghost use Rattle.rga_records.specs.Back.{without_noted, CanTakeBack};
 ghost use Rattle.rga_records.specs.Chains.{grown, AreNewer};
 
 use crate::chains::{append_chain, latest};
-use crate::counts::{count_unless, raise, uncount_unless};
 use crate::entries::{
     NOWHERE, add_element, clear_element, clear_mark, find_element, is_known, is_marked, mark,
     mark_inserted, near_of, set_element, set_near,
@@ -30,6 +29,7 @@ use crate::walking::text_of;
 use rga_ops::{Found, Id, Op, Refusal};
 use rga_pages::Pages;
 use rga_sequence::{Entry, Near};
+use rga_store::counts::{count_unless, raise, uncount_unless};
 use rga_store::{Listener, MAX_LIMIT};
 use std::alloc::Global;
 use std::marker::Model;

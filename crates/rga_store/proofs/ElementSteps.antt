@@ -17,9 +17,9 @@ pub found_none : (o : Option Element) → pair_of o ≡ None → o ≡ None
 found_none None h = refl
 found_none (Some x) h = absurd (none-some _ (sym h))
 
--- what is looked up in two places is looked up where the first told what it has
-pub looked_up : {a b : Option (Identifier × ℕ)} (added : Option (Identifier × ℕ)) {o : Option (Identifier × ℕ)} → a ≡ b → o ≡ option_or a added → option_or b added ≡ o
-looked_up added told is = ap (λ x. option_or x added) (sym told) ∙ sym is
+-- what is looked up in two places is looked up where each told what it has
+pub looked_up : {a b x added o : Option (Identifier × ℕ)} → x ≡ added → a ≡ b → o ≡ option_or a x → option_or b added ≡ o
+looked_up {b = b} {x = x} had told is = sym (is ∙ ap (λ y. option_or y x) told ∙ ap (option_or b) had)
 
 -- an element that neither has is added
 pub added_element : (t : Bool) (a b : Option (Identifier × ℕ)) (o : Option Element) (parent : Identifier) (ch : ℕ) → (t ≡ true → a ≡ None) → option_or a b ≡ pair_of o → option_or a (cond t (Some (parent, ch)) b) ≡ pair_of (cond t (Some (element parent ch)) o)

@@ -8,7 +8,7 @@ ghost use Rattle.rga_store.specs.Reached.{ReachesElements};
 use crate::tree_store::TreeStore;
 use indexmap::{IndexMap, IndexSet};
 use rga_ops::{Id, Op, Refusal};
-use rga_store::{TextStore, check_each, stored_or_added};
+use rga_store::{TextStore, check_each};
 use std::alloc::Global;
 
 /// What is answered to a list that is taken whole or not at all. `Memory` where the list's own
@@ -55,7 +55,7 @@ fn find_conflict(
 {
     for op in ops {
         if let Op::Insert { id, parent, ch } = op {
-            match stored_or_added(store.get(*id), added, *id) {
+            match store.get(*id).or(added.get(id).copied()) {
                 Some(element) if element == (*parent, *ch) => {}
                 Some(_) => return Ok(Some(*id)),
                 None => {

@@ -1,11 +1,10 @@
 //! A store as a tree: a node for each identifier, and under it its children.
-ghost use Rattle.std.specs.Prelude.{◌≡◌, ◌≢◌, ◌≤◌, ◌+◌, ◌⊎◌, ◌↔◌, if◌then◌else◌, [], length, Ok, Err, OnOk, OnErr, IfOk, IfErr, true, false, max};
+ghost use Rattle.std.specs.Prelude.{◌≡◌, ◌≢◌, ◌⊎◌, [], Ok, Err, OnOk, OnErr, true, false};
 ghost use Rattle.std.specs.FinMap as finite_map;
 ghost use Rattle.rga_ops.specs.Content.{join, single};
 ghost use Rattle.rga_ops.specs.Answer.{answer, facts};
 ghost use Rattle.rga_ops.specs.Order.{waiting};
 ghost use Rattle.rga_ops.specs.Found.{facts_of};
-ghost use Rattle.rga_store.specs.declared.text_store.TheConstants.{MAX_LIMIT};
 
 mod removal;
 mod whole_list;
@@ -20,6 +19,7 @@ use crate::telling::{tell_deletions, tell_insertions};
 use crate::walk::{walked, walked_text, walked_visible};
 use indexmap::IndexMap;
 use rga_ops::{Found, Id, Op, Refusal, Taken, answer_to};
+use rga_store::counts::{count_unless, raise};
 use rga_store::{Listener, MAX_LIMIT, Taker, Teller, TextStore};
 use std::alloc::Global;
 use std::marker::Model;
@@ -91,24 +91,6 @@ impl Taker for TreeStore {
         // Which refusal comes first depends on the whole list, so it is looked for only now.
         answer_to_list(alloc, self, ops)?;
         Err(Refusal::Memory)
-    }
-}
-
-fn raise(clock: &mut u64, counter: u64)
-    ensures { clock.new ≡ max clock.old counter }
-{
-    if *clock < counter {
-        *clock = counter;
-    }
-}
-
-/// One more, unless it was counted.
-fn count_unless(counted: bool, count: &mut usize)
-    requires { (if counted then count.old else count.old + 1) ≤ MAX_LIMIT }
-    ensures { count.new ≡ (if counted then count.old else count.old + 1) }
-{
-    if !counted {
-        *count += 1;
     }
 }
 

@@ -1,8 +1,6 @@
 //! The operations of a list that are new at a store.
 ghost use Rattle.std.specs.Prelude.{◌≡◌, [], not, IfOk, IfErr, OnOk};
-ghost use Rattle.std.specs.Option.{option_or};
-ghost use Rattle.indexmap.specs.IndexMap.{get as get_added};
-ghost use Rattle.rga_ops.specs.Prelude.{Content, is_id, join, single};
+ghost use Rattle.rga_ops.specs.Prelude.{Content, join, single};
 ghost use Rattle.rga_ops.specs.NewOperations.{holds, new_operations};
 ghost use Rattle.rga_store.specs.Reached.{Reaches, ReachesElements, ReachesDeletions};
 
@@ -88,27 +86,12 @@ fn insertion_is_new<S: TextStore>(
         (join d (single (Op.Insert id element.0 element.1)))) }
     ensures memory { IfErr result (λ e. e ≡ Refusal.Memory) }
 {
-    match stored_or_added(store.get(id), added, id) {
+    match store.get(id).or(added.get(&id).copied()) {
         Some(first) => Ok(first != element),
         None => {
             let _none = added.insert(id, element)?;
             Ok(true)
         }
-    }
-}
-
-/// The parent and the character of an element: those that the store has, or else those that were
-/// added.
-pub fn stored_or_added(
-    stored: Option<(Id, char)>,
-    added: &IndexMap<Id, (Id, char)>,
-    id: Id,
-) -> Option<(Id, char)>
-    ensures { result ≡ option_or stored (get_added is_id added.now id) }
-{
-    match stored {
-        Some(element) => Some(element),
-        None => added.get(&id).copied(),
     }
 }
 

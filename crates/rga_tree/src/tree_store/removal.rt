@@ -1,5 +1,5 @@
 //! Operations that leave a store again. Takes no memory.
-ghost use Rattle.std.specs.Prelude.{◌≡◌, ◌≤◌, ◌-◌, if◌then◌else◌, true};
+ghost use Rattle.std.specs.Prelude.{◌≡◌, true};
 ghost use Rattle.std.specs.FinSet as finite_set;
 ghost use Rattle.rga_ops.specs.Content.{clock_of, Holds};
 ghost use Rattle.rga_store.specs.Child.{is_child};
@@ -8,6 +8,7 @@ ghost use Rattle.rga_store.specs.Without.{without_insertion, without_deletion, w
 use super::TreeStore;
 use crate::nodes::{clear_element, clear_mark, remove_child};
 use rga_ops::{Id, Op};
+use rga_store::counts::uncount_unless;
 
 impl TreeStore {
     /// Removes an operation, to the clock from before it.
@@ -47,15 +48,5 @@ impl TreeStore {
         let inserted = clear_mark(&mut self.nodes, id);
         uncount_unless(inserted, &mut self.known);
         self.clock = clock;
-    }
-}
-
-/// One less, unless it still counts.
-fn uncount_unless(counts: bool, count: &mut usize)
-    requires { (if counts then 0 else 1) ≤ count.old }
-    ensures { count.new ≡ (if counts then count.old else count.old - 1) }
-{
-    if !counts {
-        *count -= 1;
     }
 }

@@ -56,7 +56,7 @@ returns-in-Some-2-clause-ok c =
     let s : Content = c.args.records.now.content in
     let d : Content = join s (content_of (take c.loop-op.op-index c.args.ops.now)) in
     let there : finite_map.get d.inserted c.in-Insert.id ≡ Some (element c.in-Some.element.0 c.in-Some.element.1) =
-    found_element (finite_map.get d.inserted c.in-Insert.id) c.in-Some.element (sym (c.loop-op.invariant.elements c.in-Insert.id) ∙ looked_up (get id_cmp c.loop-op.added c.in-Insert.id) c.element.ensures c.stored_or_added.ensures ∙ c.in-Some.is) in
+    found_element (finite_map.get d.inserted c.in-Insert.id) c.in-Some.element (sym (c.loop-op.invariant.elements c.in-Insert.id) ∙ looked_up (c.copied.ensures ∙ c.get.ensures.value) c.element.ensures c.or.ensures ∙ c.in-Some.is) in
     let conflicts : has_another d c.op-item.result ≡ true =
     ap (has_another d) c.in-Insert.is ∙ ap (λ o. option_map_or (λ x. not (is_element x c.in-Insert.parent c.in-Insert.ch)) o false) there ∙ ap not (sym c.eq.ensures ∙ c.if-eq.false) in
     sym (ap (first_conflict s) (split_at c.args.ops.now c.loop-op.op-index c.op-item.result c.loop-op-test.true c.op-item.is)
@@ -68,7 +68,7 @@ returns-in_err-_none-in-None-clause-early c =
     let s : Content = c.args.records.now.content in
     let d : Content = join s (content_of (take c.loop-op.op-index c.args.ops.now)) in
     let absent : finite_map.get d.inserted c.in-Insert.id ≡ None =
-    found_none (finite_map.get d.inserted c.in-Insert.id) (sym (c.loop-op.invariant.elements c.in-Insert.id) ∙ looked_up (get id_cmp c.loop-op.added c.in-Insert.id) c.element.ensures c.stored_or_added.ensures ∙ c.in-None.is) in
+    found_none (finite_map.get d.inserted c.in-Insert.id) (sym (c.loop-op.invariant.elements c.in-Insert.id) ∙ looked_up (c.copied.ensures ∙ c.get.ensures.value) c.element.ensures c.or.ensures ∙ c.in-None.is) in
     on_err c.from_residual.result
     (ap (early_conflict s) (split_at c.args.ops.now c.loop-op.op-index c.op-item.result c.loop-op-test.true c.op-item.is
     ∙ ap (λ op. take c.loop-op.op-index c.args.ops.now ++ op ∷ drop (c.loop-op.op-index + 1) c.args.ops.now) c.in-Insert.is)
@@ -85,7 +85,7 @@ loop-op-preserved c =
     elim c.match-op.branch [
       | in-Insert+in-Some w ↦
           let there : finite_map.get d.inserted w.in-Insert.id ≡ Some (element w.in-Some.element.0 w.in-Some.element.1) =
-          found_element (finite_map.get d.inserted w.in-Insert.id) w.in-Some.element (sym (c.loop-op.invariant.elements w.in-Insert.id) ∙ looked_up (get id_cmp c.loop-op.added w.in-Insert.id) w.element.ensures w.stored_or_added.ensures ∙ w.in-Some.is) in
+          found_element (finite_map.get d.inserted w.in-Insert.id) w.in-Some.element (sym (c.loop-op.invariant.elements w.in-Insert.id) ∙ looked_up (w.copied.ensures ∙ w.get.ensures.value) w.element.ensures w.or.ensures ∙ w.in-Some.is) in
           let same : is_element (element w.in-Some.element.0 w.in-Some.element.1) w.in-Insert.parent w.in-Insert.ch ≡ true = sym w.eq.ensures ∙ w.if-eq.true in
           let stays : next ≡ d =
           joined ∙ ap (λ o. join d (single o)) w.in-Insert.is
@@ -97,7 +97,7 @@ loop-op-preserved c =
             free = goes_on (ap (has_another d) w.in-Insert.is ∙ ap (λ o. option_map_or (λ x. not (is_element x w.in-Insert.parent w.in-Insert.ch)) o false) there ∙ ap not same);
           }
       | in-Insert+in-None+in_ok-_none-in-None w ↦
-          let neither : option_or (pair_of (finite_map.get s.inserted w.in-Insert.id)) (get id_cmp c.loop-op.added w.in-Insert.id) ≡ None = looked_up (get id_cmp c.loop-op.added w.in-Insert.id) w.element.ensures w.stored_or_added.ensures ∙ w.in-None.is in
+          let neither : option_or (pair_of (finite_map.get s.inserted w.in-Insert.id)) (get id_cmp c.loop-op.added w.in-Insert.id) ≡ None = looked_up (w.copied.ensures ∙ w.get.ensures.value) w.element.ensures w.or.ensures ∙ w.in-None.is in
           let absent : finite_map.get d.inserted w.in-Insert.id ≡ None =
           found_none (finite_map.get d.inserted w.in-Insert.id) (sym (c.loop-op.invariant.elements w.in-Insert.id) ∙ neither) in
           record {

@@ -27,13 +27,13 @@ get-known d id parent ch x q there =
 pub returns-in-Some-clause-added : goal.returns-in-Some-clause-added
 returns-in-Some-clause-added g c = λ d reached q.
     let there : finite_map.get d.inserted c.args.id ≡ Some (element c.in-Some.first.0 c.in-Some.first.1) =
-    found_element (finite_map.get d.inserted c.args.id) c.in-Some.first (sym (reached c.args.id) ∙ looked_up (get is_id c.args.added.now c.args.id) c.get.ensures c.stored_or_added.ensures ∙ c.in-Some.is) in
+    found_element (finite_map.get d.inserted c.args.id) c.in-Some.first (sym (reached c.args.id) ∙ looked_up (c.copied.ensures ∙ c.get-2.ensures.value) c.get.ensures c.or.ensures ∙ c.in-Some.is) in
     reached q ∙ ap pair_of (sym (get-known d c.args.id c.args.element.0 c.args.element.1 (element c.in-Some.first.0 c.in-Some.first.1) q there))
 
 pub returns-in_ok-_none-in-None-clause-added : goal.returns-in_ok-_none-in-None-clause-added
 returns-in_ok-_none-in-None-clause-added g c = λ d reached q.
     let s : Content = g.S.Taker.content c.args.store.now in
-    let neither : option_or (pair_of (finite_map.get s.inserted c.args.id)) (get is_id c.args.added.now c.args.id) ≡ None = looked_up (get is_id c.args.added.now c.args.id) c.get.ensures c.stored_or_added.ensures ∙ c.in-None.is in
+    let neither : option_or (pair_of (finite_map.get s.inserted c.args.id)) (get is_id c.args.added.now c.args.id) ≡ None = looked_up (c.copied.ensures ∙ c.get-2.ensures.value) c.get.ensures c.or.ensures ∙ c.in-None.is in
     let told : option_or (pair_of (finite_map.get s.inserted c.args.id)) (get is_id c.args.added.now c.args.id) ≡ pair_of (finite_map.get d.inserted c.args.id) = reached c.args.id in
     let absent : finite_map.get d.inserted c.args.id ≡ None = found_none (finite_map.get d.inserted c.args.id) (sym told ∙ neither) in
     ap (option_or (pair_of (finite_map.get s.inserted q))) (c.in_ok-_none-in-None.ensures.updates.0 q
