@@ -19,7 +19,7 @@ NEED_RT = command -v rt >/dev/null || { \
 
 NEED_PYTHON = command -v python3 >/dev/null || { echo "python3 is not installed" >&2; exit 1; }
 
-.PHONY: build try scenes trials test-front try-live try-hub try-exchange try-sharing crash hostile files test wrong-bodies other-store contracts bench bench-growth install clean help
+.PHONY: build try scenes test-front try-live try-hub try-exchange try-sharing crash hostile files test wrong-bodies other-store contracts bench bench-growth install clean help
 
 build: build/mgr
 	@echo "build/mgr is up to date"
@@ -86,15 +86,10 @@ wrong-bodies:
 	@$(NEED_RT)
 	@scripts/wrong_bodies.py
 
-# The tests in Rattle, unproved.
-trials:
-	@$(NEED_RT); $(NEED_PYTHON)
-	@scripts/trials.py
-
-# Those that the gate runs over one store, over the other one.
+# The tests that the gate runs over one store, over the other one.
 other-store:
 	@$(NEED_RT); $(NEED_PYTHON)
-	@scripts/trials.py --other-store
+	@scripts/other_store.py
 
 # What each public call promises, from the sources.
 contracts:
@@ -152,7 +147,6 @@ help:
 	@echo "               (needs python3)"
 	@echo "make wrong-bodies"
 	@echo "               tries the wrong bodies that make test leaves out: each must be refused (needs python3)"
-	@echo "make trials    runs the tests in Rattle, unproved (needs python3)"
 	@echo "make other-store"
 	@echo "               runs the tests of documents, buffers and sites over the other store, unproved (needs python3)"
 	@echo "make contracts prints each public call with its clauses, from the sources; of one call, with the definitions that"

@@ -17,7 +17,7 @@ import sys
 
 from measure import BUILD, LOGS, PROGRAMS, REPEATS, generated, least, measured
 
-PROGRAM = [BUILD / "trials", "logs"]
+PROGRAM = [BUILD / "bench_tasks", "logs"]
 
 # How often a log is written in one run. It is read so often in a row as measure.py has it.
 TIMES = {10_000: 200, 100_000: 20, 1_000_000: 4}

@@ -1,11 +1,11 @@
-"""The user time of the program of `trials/`, which stands in build/."""
+"""The user time of the program of `crates/bench_tasks`, which stands in build/."""
 
 import pathlib
 import resource
 import subprocess
 
 MEASUREMENTS = 5
-PROGRAM = pathlib.Path(__file__).parent.parent / "build/trials"
+PROGRAM = pathlib.Path(__file__).parent.parent / "build/bench_tasks"
 
 
 def seconds(*words):

@@ -24,15 +24,10 @@ LEFT_OUT = shutil.ignore_patterns("out", "must-fail", "wrong")
 TOLD = re.compile(r"rt: (\w+ (?:is kept|proved|NOT PROVED))")
 
 
-def read_lines(path):
-    """Returns the lines of such a file as crates.txt, each by its crate."""
-    lines = [line.partition("#")[0].strip() for line in path.read_text().splitlines()]
-    return {line.partition(":")[0].split()[0]: line for line in lines if line}
-
-
 def lines_below(name):
     """Returns the lines of crates.txt of a crate and of those below it, each by its crate."""
-    listed = read_lines(TOP / "crates.txt")
+    lines = [line.partition("#")[0].strip() for line in (TOP / "crates.txt").read_text().splitlines()]
+    listed = {line.partition(":")[0].split()[0]: line for line in lines if line}
     found, left = {}, [name]
     while left:
         crate = left.pop()
@@ -50,8 +45,8 @@ def copy(lines, to):
         shutil.copytree(TOP / "crates" / crate, to / "crates" / crate, ignore=LEFT_OUT)
 
 
-def prove(tree, count, program):
-    """Proves the crates of a copy, and says of each when it is done; ends this program where one fails."""
+def prove(tree, count):
+    """Proves the crates of a copy, and says of each when it is done; ends the program where one fails."""
     how = {"stdin": subprocess.DEVNULL, "stdout": subprocess.PIPE, "stderr": subprocess.STDOUT, "errors": "replace"}
     done = 0
     with LOG.open("w") as kept, subprocess.Popen(["rt", "ci"], cwd=tree, text=True, **how) as gate:
@@ -62,7 +57,7 @@ def prove(tree, count, program):
                 print(f"{done} of {count}: {told[1]}", flush=True)
     if gate.returncode:
         print(*LOG.read_text().splitlines()[-30:], sep="\n", file=sys.stderr)
-        sys.exit(f"{program} is not proved: these are the last lines of {LOG.relative_to(TOP)}")
+        sys.exit(f"{PROGRAM} is not proved: these are the last lines of {LOG.relative_to(TOP)}")
 
 
 def main():
@@ -74,7 +69,7 @@ def main():
     with tempfile.TemporaryDirectory(prefix="mgr-build-") as folder:
         tree = pathlib.Path(folder) / "tree"
         copy(lines, tree)
-        prove(tree, len(lines), PROGRAM)
+        prove(tree, len(lines))
         # Moved into place, so that a program that runs goes on.
         new = BUILD / "mgr.new"
         shutil.copy(tree / "crates" / PROGRAM / "out" / PROGRAM, new)

@@ -1,7 +1,7 @@
 #!/usr/bin/env python3
 """Prints the contracts of the public calls as they stand in the sources.
 
-Without an argument: every call of the crates, in the order of crates.txt, those for tests left out,
+Without an argument: every call of the crates, in the order of crates.txt, tests and benches left out,
 below its file. With names (`run_keys`, `Opened::save`): these calls alone, and below each
 the definitions of specs/ that its clauses reach, and those that these reach, by file, and how many
 they are. They are found by name, so that a variable with the name of a definition counts as the
@@ -173,7 +173,7 @@ def print_texts(definitions, ended):
 
 def listed_crates():
     names = re.findall(r"^(\w+):", (CRATES.parent / "crates.txt").read_text(), re.M)
-    return [name for name in names if not name.startswith("test_")]
+    return [name for name in names if not re.match(r"test_|bench_|\w+_test$", name)]
 
 
 def claimed():

@@ -1,11 +1,9 @@
 #!/usr/bin/env python3
-"""Proves, tries and plays all: `rt ci`, and then the tests of `trials/`, and beside them the scenes, and
-refused growths, with the mgr that it built.
+"""Proves, tests and plays all: `rt ci`, and then the scenes, and refused growths, with the mgr that it built.
 
 The last line counts proofs, wrong bodies, tests, scenes and keys at which growths are refused together.
 """
 
-import concurrent.futures
 import pathlib
 import re
 import subprocess
@@ -13,7 +11,6 @@ import sys
 
 import refused_growths
 import scenes
-import trials
 
 HERE = pathlib.Path(__file__).resolve().parent.parent
 BUILT = HERE / "crates/mgr/out/mgr"
@@ -22,10 +19,7 @@ VERDICT = re.compile(r"(\d+) passed, (\d+) failed$")
 
 
 def main():
-    parts = [proved()]
-    with concurrent.futures.ThreadPoolExecutor() as beside:
-        tests = beside.submit(trials.tried)
-        parts += [*played(), tested(tests)]
+    parts = [proved(), *played()]
     passed, failed = map(sum, zip(*parts))
     print(f"{passed} passed, {failed} failed")
     return 1 if failed or not passed else 0
@@ -43,13 +37,6 @@ def proved():
         print(last, end="")
     passed, failed = map(int, counts.groups()) if counts else (0, 0)
     return passed, failed if gate.wait() == 0 else max(failed, 1)
-
-
-def tested(tests):
-    """Prints what the tests said, and returns how many passed and failed."""
-    said, passed, failed = tests.result()
-    print(said, end="", flush=True)
-    return passed, failed
 
 
 def played():

@@ -1,0 +1,30 @@
+//! Calls of libraries that no program shows: devices that are counted, exchanges that are cut off,
+//! lines that are lent, runs at stores that are nearly full, writes in blocks, plans that no key
+//! leads to, cursors that no window shows, frames and texts that are not flushed, saves over a port
+//! that refuses, files over a disk that fails, and stores and logs that are compacted.
+#![tactic(auto)]
+
+#[cfg(test)]
+mod compactions;
+#[cfg(test)]
+mod cuts;
+#[cfg(test)]
+mod devices;
+#[cfg(test)]
+mod disks;
+#[cfg(test)]
+mod lines;
+#[cfg(test)]
+mod plans;
+#[cfg(test)]
+mod runs;
+#[cfg(test)]
+mod saves;
+#[cfg(test)]
+mod screens;
+#[cfg(test)]
+mod sending;
+#[cfg(test)]
+mod sessions;
+#[cfg(test)]
+mod shows;
