@@ -61,7 +61,7 @@ if [ $# -eq 1 ]; then
     # shellcheck disable=SC2086
     (cd build/try && "$mgr" $edit <cases/keys >keys)
 else
-    echo "compiling mgr, which takes some minutes"
+    echo "compiling mgr, which takes a minute or two"
     run_unproved || { cat build/try/said >&2; exit 1; }
 fi
 
