@@ -33,6 +33,8 @@ fn compact<S: TextStore, W: Write>(
     store: &S,
     writer: &mut Counted<W>,
 ) -> Result<u64, SendFault> {
+    // What is known is told with the fact that each operation is well-formed.
+    let _known = store.known();
     let Ok(ops) = store.ops() else {
         return Err(SendFault::Memory);
     };

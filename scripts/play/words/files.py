@@ -8,6 +8,7 @@ import subprocess
 
 from play.notation import lines_of, text_of, words_of, written_of
 from play.programs import Unexpected
+from play.stage import LeftOut
 from play.words.table import parted, word
 
 
@@ -128,6 +129,27 @@ def dated(stage, about):
     name, seconds = about.split()
     nanoseconds = int(decimal.Decimal(seconds) * 10**9)
     os.utime(stage.path(name), ns=(nanoseconds, nanoseconds))
+
+
+def _write_unseen(path, content):
+    """Writes a new file. A file whose times were asked for, as `open` does, gets finer ones at its next change."""
+    file = os.open(path, os.O_WRONLY | os.O_CREAT | os.O_EXCL, 0o644)
+    os.write(file, content)
+    os.close(file)
+
+
+@word
+def checkout(stage, about):
+    """`checkout NAME OTHER`: another program writes both anew within one tick of the clock, and so gives them one time."""
+    paths = [pathlib.Path(stage.path(name)) for name in about.split()]
+    contents = [path.read_bytes() for path in paths]
+    for _ in range(100):
+        for path, content in zip(paths, contents):
+            path.unlink()
+            _write_unseen(path, content)
+        if len({path.stat().st_mtime_ns for path in paths}) == 1:
+            return
+    raise LeftOut("files that are written one behind the other have different times here")
 
 
 @word
