@@ -163,8 +163,10 @@ class Session:
 
     def await_delay(self):
         """Waits until a call is delayed: what is traced stops for moments alone else."""
-        stopped = 0
-        while stopped < 50 and not self.has_ended():
+        end, stopped = time.monotonic() + SECONDS, 0
+        while stopped < 50:
+            if self.has_ended() or time.monotonic() > end:
+                raise Unexpected("no call of mgr is delayed")
             stopped = stopped + 1 if self._state() == "t" else 0
             time.sleep(0.002)
 

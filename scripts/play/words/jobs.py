@@ -66,10 +66,16 @@ def memory(stage, about):
     stage.person.memory = int(about)
 
 
+# The standard streams, by their descriptors.
+STREAMS = ("input", "output", "error")
+
+
 @word
 def closed(stage, about):
     """`closed output`: the next job has no such standard stream."""
-    stage.person.closed = ("input", "output", "error").index(about)
+    if about not in STREAMS:
+        raise Unreadable(f"no standard stream is {about}")
+    stage.person.closed = STREAMS.index(about)
 
 
 @word
