@@ -2,7 +2,7 @@
 """Prints the contracts of the public calls as they stand in the sources.
 
 Without an argument: every call of the crates, in the order of crates.txt, tests and benches left out,
-below its file. With names (`run_keys`, `Opened::save`): these calls alone, and below each
+below its file. With names (`run_keys`, `Editor::press`): these calls alone, and below each
 the definitions of specs/ that its clauses reach, and those that these reach, by file, and how many
 they are. They are found by name, so that a variable with the name of a definition counts as the
 definition. What the sources declare, types and how these are seen, is not followed. Behind names

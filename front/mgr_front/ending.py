@@ -37,4 +37,6 @@ def _keep_keys(session: Session, note: Note) -> None:
     dialogue = session.editor.dialogue
     keys = dialogue.begun[bool(dialogue.command) :] + session.dispatcher.give_up()
     if keys:
-        tell(f"mgr did not take the last keys: they are in {keep_keys(note, keys)}")
+        # The end of its keys ends mgr without a save, so they end with one.
+        kept = keep_keys(note, keys + bytes([NO_KEY]) + CANCEL + SAVE)
+        tell(f"mgr did not take the last keys: they are in {kept}")

@@ -60,7 +60,7 @@ class Hub:
         self.listener, self.signals = listener, signals
 
     def run(self) -> None:
-        """Serves peers until a signal comes, and saves; `EOFError` where mgr ends before."""
+        """Serves peers until a signal comes, and saves; `EOFError` or `BrokenPipeError` where mgr ends before."""
         while self.signals.first is None:
             self.editor.hand_on(b"\x1bx" + SERVE.encode() + b"\r")
             peer = self._next_peer()
@@ -165,7 +165,7 @@ def serve(mgr: str, note: Note, number: int, options: HubOptions) -> int:
         hub = Hub(editor, note, listener, inner, signals)
         try:
             hub.run()
-        except EOFError:
+        except (EOFError, BrokenPipeError):
             pass  # Its status says why.
         finally:
             editor.end(LAST_SECONDS)
@@ -185,8 +185,8 @@ def main(words: Sequence[str], folder: str) -> int:
         stop(f"the program {os.environ.get('MGR') or 'mgr'} is not there", FAILED, PROGRAM)
     try:
         note.check()
-        log = read(note.log) if note.has_log else b""
-        number = options.replica if options.replica is not None else number_of(note.name, log)
+        logged = read(note.log) if note.has_log else b""
+        number = options.replica if options.replica is not None else number_of(note.name, logged)
         if options.replica is None and not note.has_log:
             keep_number(note.name, number)  # The text is written under it.
         found = difference(mgr, note, number)
@@ -194,6 +194,6 @@ def main(words: Sequence[str], folder: str) -> int:
             tell(f"{note.name} is not what its log says: it is kept as {found.keep_file()}", PROGRAM)
     except Refused as refused:
         stop(str(refused), REFUSED, PROGRAM)
-    except OSError as error:
-        stop(f"{note.name}: {error.strerror}", FAILED, PROGRAM)
+    except (OSError, ValueError) as error:
+        stop(f"{note.name}: {getattr(error, 'strerror', None) or error}", FAILED, PROGRAM)
     return serve(mgr, note, number, options)

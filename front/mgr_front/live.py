@@ -44,9 +44,10 @@ def replica(options: Options, note: Note) -> int:
     """Returns the number of this copy: the one that is given, else one that is kept for it or drawn."""
     if options.replica is not None:
         return options.replica
+    log = read(note.log) if note.has_log else b""
     try:
-        return number_of(note.name, read(note.log) if note.has_log else b"")
-    except (OSError, ValueError) as error:
+        return number_of(note.name, log)
+    except OSError as error:
         stop(f"no number is kept for this copy, so --replica has to give one: {error}")
 
 
@@ -97,11 +98,13 @@ def first_remark(note: Note, kept: str | None, frame: Frame) -> str:
 
 def remember_text(mgr: str, note: Note) -> None:
     """Keeps which text the note has, if it is the one of its log."""
-    if note.has_log and os.path.isfile(note.name):
+    try:
         text, log = read(note.name), read(note.log)
-        shown = text_of_log(mgr, log)
-        if shown is not None and shown.encode() == text:
-            remember(note.name, text, log)
+    except OSError:
+        return  # One of them is not there, or this person may not read it.
+    shown = text_of_log(mgr, log)
+    if shown is not None and shown.encode() == text:
+        remember(note.name, text, log)
 
 
 def status_of(status: int, signals: Signals) -> int:
@@ -189,6 +192,8 @@ def main(words: Sequence[str], folder: str) -> int:
         offer(mgr, note)
     except Refused as refused:
         stop(str(refused), REFUSED)
+    except OSError as error:
+        stop(f"{error.filename or note.name}: {error.strerror}")
     signals = Signals(signal.SIGTSTP, signal.SIGCONT, signal.SIGWINCH)
     tunnel = tunnel_to(options, signals)
     try:

@@ -37,6 +37,8 @@ class Note:
         for path in (self.name, self.log):
             if os.path.isdir(path):
                 raise Refused(f"{path}: is a folder")
+            if os.path.exists(path) and not os.path.isfile(path):
+                raise Refused(f"{path}: is a pipe or a device")
         if os.path.exists(self.name) and not self.has_log:
             read_text(self.name)
 
@@ -114,11 +116,19 @@ def only_once(path: str, kept: str) -> str:
 
 
 def write_new(path: str, data: bytes) -> None:
-    """Writes a file that is not there yet. Nobody but its owner may read it, until its mode says else."""
-    with open(path, "xb", opener=lambda name, flags: os.open(name, flags, 0o600)) as file:
-        file.write(data)
-        file.flush()
-        os.fsync(file.fileno())
+    """Writes a file that is not there yet. Nobody but its owner may read it, until its mode says else.
+
+    Where that fails, it is not there either.
+    """
+    with open(path, "xb", buffering=0, opener=lambda name, flags: os.open(name, flags, 0o600)) as file:
+        try:
+            left = memoryview(data)
+            while left:
+                left = left[file.write(left) or 0 :]
+            os.fsync(file.fileno())
+        except OSError:
+            os.unlink(path)
+            raise
 
 
 def put_text(note: Note, text: str) -> str:

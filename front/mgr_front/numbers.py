@@ -65,15 +65,26 @@ def _drawn() -> Iterator[TextIO]:
     """The file of the numbers that were drawn, which nobody else reads or writes meanwhile."""
     folder = state_folder()
     os.makedirs(folder, mode=0o700, exist_ok=True)
-    with open(os.path.join(folder, "replicas"), "a+", encoding="ascii") as file:
+    with open(os.path.join(folder, "replicas"), "a+", encoding="ascii", errors="replace") as file:
         fcntl.flock(file, fcntl.LOCK_EX)
         file.seek(0)
         yield file
 
 
-def _numbers_in(file: TextIO, owner: list[str]) -> list[int]:
+def _entries(text: str) -> Iterator[tuple[list[object], int]]:
+    """Returns whose each number is. A line that was cut, as where the disk was full, says nothing."""
+    for line in text.splitlines():
+        try:
+            match json.loads(line):
+                case [*owner, int(number)]:
+                    yield owner, number
+        except ValueError:
+            pass
+
+
+def _numbers_in(text: str, owner: list[str]) -> list[int]:
     """Returns the numbers that one copy of a note had, the last one at the end."""
-    return [int(number) for *known, number in map(json.loads, file) if known == owner]
+    return [number for known, number in _entries(text) if known == owner]
 
 
 def number_of(path: str, log: bytes) -> int:
@@ -83,7 +94,7 @@ def number_of(path: str, log: bytes) -> int:
     lost, or never saved, and others may have it: that number names nothing again.
     """
     with _drawn() as file:
-        numbers = _numbers_in(file, owner_of(path))
+        numbers = _numbers_in(file.read(), owner_of(path))
     used = used_in(log)
     return numbers[-1] if numbers and numbers[-1] in used else draw(used.union(numbers))
 
@@ -97,7 +108,9 @@ def keep_number(path: str, number: int) -> None:
     owner = owner_of(path)
     try:
         with _drawn() as file:
-            if number not in _numbers_in(file, owner):
-                file.write(json.dumps([*owner, number]) + "\n")
-    except (OSError, ValueError):
+            text = file.read()
+            if number not in _numbers_in(text, owner):
+                # Behind a line that was cut another begins.
+                file.write("\n" * (text[-1:] not in ("", "\n")) + json.dumps([*owner, number]) + "\n")
+    except OSError:
         pass

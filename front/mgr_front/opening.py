@@ -12,8 +12,7 @@ import time
 from mgr_front.difference import changes, keys_of
 from mgr_front.notes import Note, Refused, put_text, read, read_text
 from mgr_front.program import edit, text_of_log
-
-SAVE = b"\x18\x13"
+from mgr_front.saving import SAVE
 
 
 class Difference:
@@ -54,8 +53,11 @@ class Difference:
 
 
 def difference(mgr: str, note: Note, replica: int) -> Difference | None:
-    """Returns how a note's text and its log differ; None where they do not, or mgr refuses the log."""
-    if not (note.has_log and os.path.isfile(note.name)):
+    """Returns how a note's text and its log differ.
+
+    None where they do not, where the text cannot be read, and where mgr refuses the log.
+    """
+    if not (note.has_log and os.path.isfile(note.name) and os.access(note.name, os.R_OK)):
         return None
     text = text_of_log(mgr, read(note.log))
     if text is None or text.encode() == read(note.name):

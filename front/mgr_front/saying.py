@@ -5,8 +5,8 @@ from typing import NoReturn
 
 from mgr_front.screen import write_all
 
-# Statuses of the front's own: a text that is refused, a wrong command line, a failed device or none.
-REFUSED, WRONG, FAILED = 1, 2, 3
+# Statuses of the front's own: a text that is refused; a failed device, or none.
+REFUSED, FAILED = 1, 3
 
 
 def say(text: bytes) -> None:

@@ -66,7 +66,8 @@ class Session:
         self.changed: list[Callable[[], None]] = []
         self.errand: Errand | None = None
         self.question: Question | None = None
-        # The newest frame, what the front says in place of its echo line, and whether both are drawn.
+        # The newest frame, and what the front says in place of its echo line; the remarks and the status
+        # that were drawn last, and when.
         self.frame: Frame | None = None
         self.said: str | None = None
         self.drawn: tuple[list[str], str] = [], ""

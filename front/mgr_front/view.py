@@ -11,7 +11,7 @@ from mgr_front.modelines import current_mode_row, mode_rows
 # So many lines are kept as they were made: most are the same in the next picture.
 MOST_LINES = 1024
 # Of a terminal that has less than this a part is drawn beyond its edges.
-LEAST_ROWS, LEAST_COLUMNS = 2, 4
+LEAST_FRAME_ROWS, LEAST_COLUMNS = 2, 4
 
 
 @dataclass(frozen=True)
@@ -38,7 +38,7 @@ def picture(frame: Frame, echo: Echo, rows: int, columns: int, status: str = "")
     rows than the frame, the echo line, the rows round the cursor and the mode line of its window
     show. The status stands at the right end of that.
     """
-    rows, columns = max(rows, LEAST_ROWS), max(columns, LEAST_COLUMNS)
+    rows, columns = max(rows, LEAST_FRAME_ROWS), max(columns, LEAST_COLUMNS)
     row, column = frame.row, frame.column
     if echo.column is not None:
         row, column = len(frame.rows) - 1, echo.column
@@ -55,7 +55,7 @@ def picture(frame: Frame, echo: Echo, rows: int, columns: int, status: str = "")
 def _cut(lines: list[Line], row: int, mode: int, rows: int) -> tuple[list[Line], int]:
     """Returns so many of the lines, and which of them is the cursor's row."""
     body, foot = lines[:-1], lines[-1:]
-    if row < mode and rows > LEAST_ROWS and mode > rows - 2:
+    if row < mode and rows > LEAST_FRAME_ROWS and mode > rows - 2:
         body, foot = lines[:mode], [lines[mode], *foot]
     height = rows - len(foot)
     top = max(0, min(row - height + 1, len(body) - height))

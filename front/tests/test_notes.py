@@ -182,6 +182,14 @@ class TestNumbers(InFolder):
             self.assertEqual(numbers.number_of(self.note.name + "2", log), 1004)
             self.assertEqual(numbers.number_of(self.note.name, log), 1001)
 
+    def test_a_line_that_was_cut_takes_no_number_away(self) -> None:
+        numbers.keep_number(self.note.name, 1001)
+        with open(self.folder / "state" / "mgr" / "replicas", "ab") as file:
+            file.write(b'["a","root","/y\0\xff')
+        numbers.keep_number(self.note.name + "2", 1002)
+        self.assertEqual(numbers.number_of(self.note.name, log_of(1001)), 1001)
+        self.assertEqual(numbers.number_of(self.note.name + "2", log_of(1002)), 1002)
+
     def test_no_number_is_had_twice(self) -> None:
         for number in (1001, 1002):
             numbers.keep_number(self.note.name, number)

@@ -90,7 +90,7 @@ class TestEnds(unittest.TestCase):
         with mock.patch.object(ending, "tell") as tell, shorter[0], shorter[1]:
             ending.finish(edit, self.note)
         self.assertIn("silent.keys", tell.call_args[0][0])
-        self.assertEqual(pathlib.Path(self.note.name + ".keys").read_bytes(), b"the rest\r!")
+        self.assertEqual(pathlib.Path(self.note.name + ".keys").read_bytes(), b"the rest\r!\xff\x07\x18\x13")
 
     def test_a_question_of_the_front_is_left(self) -> None:
         edit = self.begin("note")

@@ -180,10 +180,8 @@ fn taken_again<S: TextStore>(alloc: Global, task: &Task<Work>) -> Result<usize, 
 }
 
 fn store_of<S: TextStore>(alloc: Global, size: usize) -> Result<S, Refusal> {
-    match document_of::<S>(alloc, size) {
-        Ok(doc) => doc.store().copy(),
-        Err(refusal) => Err(refusal),
-    }
+    let doc = document_of::<S>(alloc, size)?;
+    doc.store().copy()
 }
 
 /// Makes a buffer, and does the work in it with point at a place.

@@ -7,8 +7,8 @@
 //! elements there are in the end.
 use crate::fault::Fault;
 use crate::text::{Task, document, task_of};
-use rga_doc::{Doc, Splice};
-use rga_ops::{Id, Op, Refusal};
+use rga_doc::Doc;
+use rga_ops::{Id, Op, Refusal, Splice};
 use rga_store::{Taker, TextStore};
 use std::alloc::Global;
 

@@ -56,10 +56,7 @@ fn outcome<S: TextStore, T: TextStore>(
     match part.as_str() {
         "logs" => logs::outcome::<S>(rt, words),
         "worlds" => worlds::outcome::<T>(rt, words),
-        part => match counted::<S>(rt.alloc(), part, words) {
-            Ok(count) => Ok(Some(count as u64)),
-            Err(fault) => Err(fault),
-        },
+        part => Ok(Some(counted::<S>(rt.alloc(), part, words)? as u64)),
     }
 }
 

@@ -16,14 +16,11 @@ pub struct Task<T: Copy> {
 /// names, by a table of names.
 pub fn task_of<T: Copy>(words: &[String], names: &[(&str, T)]) -> Option<Task<T>> {
     let count = words.len();
-    let (Some(work), Some(size), Some(times)) = (
-        named(words, names),
-        number_at(words, count.saturating_sub(2)),
-        number_at(words, count.saturating_sub(1)),
-    ) else {
-        return None;
-    };
-    Some(Task { work, size, times })
+    Some(Task {
+        work: named(words, names)?,
+        size: number_at(words, count.saturating_sub(2))?,
+        times: number_at(words, count.saturating_sub(1))?,
+    })
 }
 
 /// What the third word names, by a table of names.
@@ -39,10 +36,7 @@ pub fn named<T: Copy>(words: &[String], names: &[(&str, T)]) -> Option<T> {
 
 /// The number that the word at an index says.
 pub fn number_at(words: &[String], index: usize) -> Option<usize> {
-    match words.get(index) {
-        Some(word) => word.parse::<usize>().ok(),
-        None => None,
-    }
+    words.get(index)?.parse::<usize>().ok()
 }
 
 /// So many characters: words of five letters, in lines of 72 characters.
@@ -65,14 +59,7 @@ fn character_at(i: usize) -> char {
 
 /// A document with this text, put in at once.
 pub fn document<S: TextStore>(alloc: Global, text: &[char]) -> Result<Doc<S>, Refusal> {
-    let mut doc = empty::<S>(alloc)?;
+    let mut doc = Doc::new(alloc, S::new(alloc, MAX_LIMIT)?, 1)?;
     drop(doc.splice(0, 0, text)?);
     Ok(doc)
-}
-
-fn empty<S: TextStore>(alloc: Global) -> Result<Doc<S>, Refusal> {
-    match S::new(alloc, MAX_LIMIT) {
-        Ok(store) => Doc::new(alloc, store, 1),
-        Err(refusal) => Err(refusal),
-    }
 }

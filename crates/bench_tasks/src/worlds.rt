@@ -5,8 +5,8 @@
 //! which are refused. Each inserted character is another one. Every thousand events what all sites
 //! have saved is joined, by operations, in which no conflict may come. Then each text has to show
 //! what is saved of it in the order of that join, and the order of the join before has to be a part
-//! of its order. It writes how many events were done and refused, how many elements are saved in
-//! the end, and how many differences there were.
+//! of its order. It writes how many events were done and refused, how many elements were saved at
+//! the last look, how many looks there were, and how many differences.
 mod events;
 mod looks;
 mod simulation;
@@ -49,10 +49,8 @@ fn simulated<S: TextStore>(
     seed: u64,
     events: usize,
 ) -> Result<Counts, WorldRefusal> {
-    match Simulation::<S>::new(alloc, seed) {
-        Ok(mut simulation) => run(alloc, &mut simulation, events),
-        Err(refusal) => Err(refusal),
-    }
+    let mut simulation = Simulation::<S>::new(alloc, seed)?;
+    run(alloc, &mut simulation, events)
 }
 
 fn run<S: TextStore>(

@@ -1,5 +1,5 @@
 -- Groups: that each can be reverted, and that point keeps a place over an undo.
-use Rattle.mg_buffer.proofs.Prelude.{◌≡◌, ℕ, zero, suc, true, ◌&&◌, is_some, List, [], ◌∷◌, refl, sym, ◌∙◌, true≢false, Option, Some, None, Ok, and_parts, option_map_or, list_all, Identifier, Content, join, content_of, place, is_complete, Splice, Op, splices_operations, splices_answer, revert_operations, revert_answer, are_restorable, inserted_elements, deleted_elements, element_characters, Marker, Past, past_at, past_of, with_group, are_revertible, stand_in, all_substituted, first_of, last_of, point_after, stands}
+use Rattle.mg_buffer.proofs.Prelude.{◌≡◌, ℕ, zero, suc, ◌-◌, true, ◌&&◌, is_some, length, List, slice_get, unwrap_or, [], ◌∷◌, refl, sym, ◌∙◌, true≢false, Option, Some, None, Ok, and_parts, option_map_or, list_all, Identifier, Content, join, content_of, place, is_complete, Splice, Op, splices_operations, splices_answer, revert_operations, revert_answer, are_restorable, inserted_elements, deleted_elements, element_characters, Marker, Past, past_at, past_of, with_group, are_revertible, stand_in, all_substituted, point_after, stands}
 use Rattle.std.proofs.lemmas.List.Folds.{list_all-append}
 use Rattle.rga_ops.proofs.VisibleLaws.{no_place}
 use Rattle.rga_doc.proofs.PlaceLaws.{stands_still}
@@ -60,13 +60,13 @@ module _ (limit replica : ℕ) (c : Content) (gone : List Identifier) (back : Li
 
   -- ---- point keeps a place
 
-  last_stands : (id : Identifier) (ids : List Identifier) → is_some (place after id) ≡ true → list_all (is_complete after) ids ≡ true → is_some (place after (last_of id ids)) ≡ true
-  last_stands id [] h all = h
-  last_stands id (x ∷ xs) h all =
-      let p = and_parts (is_complete after x) (list_all (is_complete after) xs) all in
-      last_stands x xs (complete_stands after x p.0) p.1
+  any_stands : (id : Identifier) (ids : List Identifier) (i : ℕ) → is_some (place after id) ≡ true → list_all (is_complete after) ids ≡ true → is_some (place after (unwrap_or (slice_get ids i) id)) ≡ true
+  any_stands id [] i h all = h
+  any_stands id (x ∷ xs) zero h all = complete_stands after x (and_parts (is_complete after x) (list_all (is_complete after) xs) all).0
+  any_stands id (x ∷ xs) (suc i) h all = any_stands id xs i h (and_parts (is_complete after x) (list_all (is_complete after) xs) all).1
 
-  first_stands : (id : Identifier) (deleted : List (Identifier × ℕ)) → is_some (place after id) ≡ true → are_restorable after deleted ≡ true → is_some (place after (first_of id deleted)) ≡ true
+  first_stands : (id : Identifier) (deleted : List (Identifier × ℕ)) → is_some (place after id) ≡ true → are_restorable after deleted ≡ true
+      → is_some (place after (option_map_or (λ (b : Identifier × ℕ). b.0) (slice_get deleted 0) id)) ≡ true
   first_stands id [] h able = h
   first_stands id (b ∷ deleted) h able =
       let p = and_parts (is_complete after b.0 && _) (are_restorable after deleted) able in
@@ -74,7 +74,7 @@ module _ (limit replica : ℕ) (c : Content) (gone : List Identifier) (back : Li
 
   pub point_stands : (point : Identifier) → is_some (place c point) ≡ true → is_some (place after (point_after point (past_of c ops))) ≡ true
   point_stands point h =
-      last_stands (first_of point (element_characters c (deleted_elements ops))) (inserted_elements ops)
+      any_stands (option_map_or (λ (b : Identifier × ℕ). b.0) (slice_get (element_characters c (deleted_elements ops)) 0) point) (inserted_elements ops) (length (inserted_elements ops) - 1)
       (first_stands point (element_characters c (deleted_elements ops)) (stands_still c (content_of ops) point h) (reverted_restorable limit replica c gone back allowed))
       (reverted_complete limit replica c gone back allowed)
 

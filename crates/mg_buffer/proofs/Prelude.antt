@@ -20,12 +20,14 @@ pub use Rattle.rga_doc.specs.Revert.{StandsDirectlyBehind, are_restorable, disti
 pub use Rattle.rga_doc.specs.LocalEdit.{edit_answer, splices_answer, splices_operations}
 pub use Rattle.mg_slots.specs.Slots.{with_element, with_elements}
 pub use Rattle.rga_ops.proofs.MemberLaws.{all_append, all_map, all_members}
-pub use Rattle.mg_buffer.specs.Groups.{Past, all_substituted, are_revertible, first_of, group_to_undo, instead, last_group, last_of, past_at, past_of, point_after, stand_in, substituted, with_group}
+pub use Rattle.mg_buffer.specs.Groups.{Past, all_substituted, are_revertible, group_to_undo, instead, last_group, past_at, past_of, point_after, stand_in, substituted, with_group}
 pub use Rattle.mg_buffer.specs.Slots.{IsFilled, PastList, Slotted, any_repeats, deleted_at_slot, deleted_ones, element_at_slot, greatest_counter, past_by, pasts_by, repeats, with_past}
 pub use Rattle.mg_buffer.specs.State.{State}
 pub use Rattle.mg_buffer.specs.Kept.{IsAtHand, IsKeptBuffer, IsLineOfPlace, stands}
 pub use Rattle.mg_buffer.specs.Sight.{CommandCall, Notes, command_call, effect_of_call, place_of, situation_of}
-pub use Rattle.mg_buffer.specs.Faults.{planned_answer, run_answer, stored}
+pub use Rattle.mg_plain.specs.Effect.{Effect}
+pub use Rattle.mg_plain.specs.declared.outcome.Notice.{Notice}
+pub use Rattle.mg_buffer.specs.Faults.{fault_of, growth_answer, run_answer, stored}
 pub use Rattle.mg_buffer.specs.declared.marker.Marker.{Marker}
 pub use Rattle.mg_buffer.specs.declared.line_numbers.KnownLine.{KnownLine}
 pub use Rattle.mg_buffer.specs.LineNumbers.{least_begin, line_of}

@@ -1,6 +1,6 @@
 -- Undo groups: what commands did, which of them an undo takes, and what it leaves of them.
-use Rattle.std.specs.Prelude.{ℕ, zero, suc, Bool, List, [], ◌∷◌, ◌++◌, map, length, slice_index_or, Option, None, refl, if◌then◌else◌}
-use Rattle.std.specs.Option.{unwrap_or, option_map}
+use Rattle.std.specs.Prelude.{ℕ, zero, suc, ◌-◌, Bool, List, [], ◌∷◌, ◌++◌, map, length, slice_index_or, Option, None, refl, if◌then◌else◌}
+use Rattle.std.specs.Option.{unwrap_or, option_map, option_map_or}
 use Rattle.std.specs.List.{slice_get, list_all}
 use Rattle.std.specs.Coded.{Coded, code_by, coded×, coded_ℕ, coded_list}
 use Rattle.rga_ops.specs.Identifier.{Identifier, identifier_code, is_id}
@@ -70,15 +70,8 @@ substituted f g = record {
 abbrev pub all_substituted : (Identifier → Identifier) → List Past → List Past
 all_substituted f groups = map (substituted f) groups
 
-abbrev pub last_of : Identifier → List Identifier → Identifier
-last_of id [] = id
-last_of id (x ∷ xs) = last_of x xs
-
-abbrev pub first_of : Identifier → List (Identifier × ℕ) → Identifier
-first_of id [] = id
-first_of id (b ∷ back) = b.0
-
 -- where point goes after an undo that did this: the last element that it inserted; where there is none, the first that it
 -- deleted; else point stays
 abbrev pub point_after : Identifier → Past → Identifier
-point_after point g = last_of (first_of point g.deleted) g.inserted
+point_after point g =
+    unwrap_or (slice_get g.inserted (length g.inserted - 1)) (option_map_or (λ (b : Identifier × ℕ). b.0) (slice_get g.deleted 0) point)

@@ -1,9 +1,8 @@
 //! Buffers: a document with a name, point, mark, undo groups and unsaved operations.
-ghost use Rattle.std.specs.Prelude.{◌≡◌, ◌≤◌, [], true, false, Some, None, length, encode_utf8_all, IfOk, IfErr, IfSome, OnOk, OnErr};
+ghost use Rattle.std.specs.Prelude.{◌≡◌, [], true, false, Some, None, encode_utf8_all, IfOk, IfErr, IfSome};
 ghost use Rattle.std.specs.Option.{option_map};
 ghost use Rattle.std.specs.String.{string_bytes};
-ghost use Rattle.rga_ops.specs.Prelude.{is_root, place, text};
-ghost use Rattle.rga_ops.specs.Identifier.{root};
+ghost use Rattle.rga_ops.specs.Prelude.{place, text};
 ghost use Rattle.mg_plain.specs.declared.view.Kind.TheVariants.{Plain};
 ghost use Rattle.mg_buffer.specs.LineNumbers as lines;
 ghost use Rattle.mg_buffer.specs.Sight.{place_of, situation_of};
@@ -25,7 +24,8 @@ use std::marker::Model;
 ///
 /// Point and mark are behind elements, so others' edits move them with the text. While the buffer
 /// is listed, the text, the places of point and mark and the line of point are at hand; an undo,
-/// and what is taken from elsewhere, end that. Whether it is changes nothing of what it is.
+/// a command that the document refuses, and what is taken from elsewhere, end that. Whether it is
+/// changes nothing of what it is.
 #[derive(Drop)]
 pub struct Buffer<S: TextStore> {
     pub(crate) alloc: Global,

@@ -49,14 +49,13 @@ impl Change {
     pub(crate) fn point_after(&self, point: Id) -> Id
         ensures { result ≡ point_after point self.now }
     {
-        let mut element = match self.deleted.first() {
+        if let Some(last) = self.inserted.last() {
+            return *last;
+        }
+        match self.deleted.first() {
             Some(first) => first.0,
             None => point,
-        };
-        for id in &self.inserted {
-            element = *id;
         }
-        element
     }
 }
 

@@ -10,7 +10,7 @@ use crate::change::Change;
 use crate::group::Group;
 use crate::slots::{push_deleted, push_inserted, push_same, replace_all};
 use mg_slots::Slots;
-use rga_ops::{Id, Op, Refusal};
+use rga_ops::{Op, Refusal};
 use std::alloc::Global;
 use std::marker::Model;
 

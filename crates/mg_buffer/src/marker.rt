@@ -72,8 +72,5 @@ pub(crate) fn find_mark<S: TextStore>(doc: &Doc<S>, mark: Option<Marker>) -> Opt
 pub(crate) fn mark_place(mark: Option<Marker>) -> Option<usize>
     ensures { result ≡ option_map (λ s. s.place) mark }
 {
-    match mark {
-        Some(marker) => Some(marker.place),
-        None => None,
-    }
+    mark.map(|marker| marker.place)
 }

@@ -1,16 +1,15 @@
 //! Commands that run on a buffer.
-ghost use Rattle.std.specs.Prelude.{◌≡◌, ◌⊎◌, ◌≤◌, ◌++◌, true, Err, Ok, IsOk, length, IfSome, IfOk, IfErr, OnOk, OnErr};
+ghost use Rattle.std.specs.Prelude.{◌≡◌, ◌⊎◌, ◌≤◌, ◌++◌, true, Err, Ok, length, IfSome, IfOk, IfErr, OnOk, OnErr};
 ghost use Rattle.rga_ops.specs.Prelude.{text};
 ghost use Rattle.rga_ops.specs.Content.{join, content_of};
 ghost use Rattle.rga_ops.specs.ListAnswer.{IsAnswer};
 ghost use Rattle.rga_ops.specs.Splice.{text_after};
 ghost use Rattle.rga_doc.specs.LocalEdit.{splices_answer, splices_operations};
-ghost use Rattle.mg_plain.specs.Commands.{effect};
 ghost use Rattle.mg_buffer.specs.Faults.{run_answer};
 ghost use Rattle.mg_buffer.specs.Groups.{past_of, with_group};
 ghost use Rattle.mg_buffer.specs.Kept.{IsLineOfPlace};
 ghost use Rattle.mg_buffer.specs.Ran.{Edited, Ran};
-ghost use Rattle.mg_buffer.specs.Sight.{command_call, effect_of_call, situation_of};
+ghost use Rattle.mg_buffer.specs.Sight.{command_call, effect_of_call};
 ghost use Rattle.mg_buffer.specs.Slots.{with_past};
 ghost use Rattle.rga_ops.specs.declared.refusal.Refusal.TheVariants.{Memory};
 ghost use Rattle.mg_buffer.specs.declared.fault.BufferFault.TheVariants.{Store};
@@ -152,9 +151,7 @@ fn take_splices<S: TextStore>(
     let (change, room) = prepare(alloc, doc.store(), history, unsaved, ops, false)?;
     let stays = least_begin(line.place, splices);
     let front = line.moved(doc.characters(), stays);
-    if let Err(refusal) = doc.take(splices, ops) {
-        return Err(refusal);
-    }
+    doc.take(splices, ops)?;
     history.add(room, &change, ops);
     add_all(unsaved, ops);
     Ok(front)

@@ -66,12 +66,8 @@ fn take_one<S: TextStore>(doc: &mut Doc<S>, unsaved: &mut Vec<Op>, op: Op) -> Re
     if answer_at(doc.store(), op)? == Taken::Known {
         return Ok(Taken::Known);
     }
-    if unsaved.reserve(1).is_err() {
-        return Err(Refusal::Memory);
-    }
-    if let Err(refusal) = doc.apply(op) {
-        return Err(refusal);
-    }
+    unsaved.reserve(1)?;
+    doc.apply(op)?;
     add_all(unsaved, &[op]);
     Ok(Taken::New)
 }
@@ -100,12 +96,8 @@ fn take_all<S: TextStore>(
         return Err(refusal);
     }
     let new = new_operations_at(alloc, doc.store(), ops)?;
-    if unsaved.reserve(new.len()).is_err() {
-        return Err(Refusal::Memory);
-    }
-    if let Err(refusal) = doc.apply_all(ops) {
-        return Err(refusal);
-    }
+    unsaved.reserve(new.len())?;
+    doc.apply_all(ops)?;
     add_all(unsaved, &new);
     Ok(())
 }

@@ -12,7 +12,7 @@ use Rattle.mg_minibuffer.specs.declared.ending.Next.TheVariants.{Same, Closed, O
 use Rattle.mg_minibuffer.specs.declared.message.Message.{Message}
 use Rattle.mg_minibuffer.specs.declared.message.Message.TheVariants as message
 use Rattle.mg_minibuffer.specs.declared.prompt.Prompt.{Prompt}
-use Rattle.mg_minibuffer.specs.declared.prompt.Prompt.TheVariants.{Line, Replacement, Searching, Replacing, Quitting}
+use Rattle.mg_minibuffer.specs.declared.prompt.Prompt.TheVariants.{Searching}
 use Rattle.mg_minibuffer.specs.declared.prompt.Search.{Search}
 pub use Rattle.mg_minibuffer.specs.SearchStep.{or_last}
 
@@ -59,22 +59,14 @@ forgotten d = at_prompt d.prompt d
 
 -- the search that is open
 abbrev pub search_of : Option Prompt → Option Search
-search_of None = None
-search_of (Some (Line asked answer)) = None
-search_of (Some (Replacement pattern answer)) = None
 search_of (Some (Searching s)) = Some s
-search_of (Some (Replacing pattern put count)) = None
-search_of (Some Quitting) = None
+search_of prompt = None
 
 -- without the search that is open, if one is
 abbrev pub without_search : Dialogue → Dialogue
 without_search d = option_map_or (λ s. at_prompt None d) (search_of d.prompt) d
 
--- the pattern that is the last one accepted, once an open search is
-abbrev pub last_after : Option Search → List ℕ → List ℕ
-last_after None last = last
-last_after (Some s) last = or_last s.pattern last
-
 -- the prompt closes, and the pattern of a search is accepted
 abbrev pub accepted_search : Dialogue → Dialogue
-accepted_search d = record (shown Closed message.Nothing d) { last = last_after (search_of d.prompt) d.last }
+accepted_search d =
+    record (shown Closed message.Nothing d) { last = option_map_or (λ (s : Search). or_last s.pattern d.last) (search_of d.prompt) d.last }

@@ -5,7 +5,7 @@ use Rattle.mg_minibuffer.specs.Prompts.{label, typed_answer}
 use Rattle.mg_minibuffer.specs.declared.message.Message.{Message}
 use Rattle.mg_minibuffer.specs.declared.message.Message.TheVariants.{Nothing}
 use Rattle.mg_minibuffer.specs.declared.prompt.Prompt.{Prompt}
-use Rattle.mg_minibuffer.specs.declared.prompt.Prompt.TheVariants.{Line, Replacement, Searching, Replacing, Quitting}
+use Rattle.mg_minibuffer.specs.declared.prompt.Prompt.TheVariants.{Line, Replacement}
 use Rattle.mg_dialogue.specs.Dialogues.{Dialogue}
 
 -- an open prompt, and the answer so far, as UTF-8
@@ -23,12 +23,9 @@ echo_text d name = said_text d.message d.prompt name
 
 -- the answer is typed in the echo line, and is all that is asked for
 abbrev pub is_line : Option Prompt → Bool
-is_line None = false
 is_line (Some (Line asked answer)) = true
 is_line (Some (Replacement pattern answer)) = true
-is_line (Some (Searching search)) = false
-is_line (Some (Replacing pattern put count)) = false
-is_line (Some Quitting) = false
+is_line prompt = false
 
 -- the same where no message hides it
 abbrev pub is_line_shown : Message → Option Prompt → Bool

@@ -123,13 +123,6 @@ impl Dialogue {
         }
     }
 
-    /// Nothing is said any more. Takes no memory.
-    pub fn fall_silent(&mut self)
-        ensures { self.new ≡ record self.old { message = Message.Nothing } }
-    {
-        self.message = Message::Nothing;
-    }
-
     /// Says something. Takes no memory.
     pub fn tell(&mut self, message: Message)
         ensures { self.new ≡ record self.old { message = message } }
@@ -148,13 +141,10 @@ impl Dialogue {
     pub fn accept_search(&mut self)
         ensures { self.new ≡ spec.accepted_search self.old }
     {
-        match self.take_search() {
-            Some(search) => {
-                self.accept(search);
-                self.show(Next::Closed, Message::Nothing);
-            }
-            None => self.show(Next::Closed, Message::Nothing),
+        if let Some(search) = self.take_search() {
+            self.accept(search);
         }
+        self.show(Next::Closed, Message::Nothing);
     }
 
     /// Whether a prompt is open. Takes no memory.
@@ -164,15 +154,16 @@ impl Dialogue {
         self.prompt.is_some()
     }
 
-    /// What a step leads to at the open prompt. `AllocError` alone.
+    /// What a step leads to at the open prompt; `Accepts` where none is open. `AllocError` alone.
     pub fn react(
         &self,
         alloc: Global,
         step: &Step,
         scene: &Scene<'_>,
     ) -> Result<Reaction, AllocError>
-        ensures { (prompt : Prompt) → self.now.prompt ≡ Some prompt → IfOk result
+        ensures prompted { (prompt : Prompt) → self.now.prompt ≡ Some prompt → IfOk result
             (λ reaction. reaction ≡ prompt_step prompt step.now scene.now self.now.last) }
+        ensures unprompted { self.now.prompt ≡ None → result ≡ Ok Reaction.Accepts }
     {
         match &self.prompt {
             Some(prompt) => prompt_step(alloc, prompt, step, scene, self.last.as_slice()),

@@ -9,13 +9,6 @@ use mg_minibuffer::{Message, Prompt};
 use std::alloc::{AllocError, Global};
 
 impl Dialogue {
-    /// What is said, where the echo line does not show an open prompt. Takes no memory.
-    pub fn message(&self) -> Message
-        ensures { result ≡ self.now.message }
-    {
-        self.message
-    }
-
     /// What the echo line says: the message, of a buffer with that name; where there is none, the
     /// open prompt, and the answer so far. `AllocError` alone.
     pub fn echo(&self, alloc: Global, name: &str) -> Result<String, AllocError>

@@ -1,5 +1,6 @@
 -- What steps leave of the editor, put together.
 use Rattle.std.proofs.Common.{◌≡◌, ◌≢◌, ℕ, List, Option, Some, None, IfOk, OnErr, arith, sym, ap, subst, ◌∙◌}
+use Rattle.std.specs.Option.{option_map_or}
 use Rattle.mg_keys.specs.declared.step.Step.{Step}
 use Rattle.mg_keys.specs.declared.step.Step.TheVariants.{Pending, Leave}
 use Rattle.mg_minibuffer.specs.declared.message.Message.TheVariants.{Nothing}
@@ -7,7 +8,7 @@ use Rattle.mg_minibuffer.specs.declared.prompt.Prompt.{Prompt}
 use Rattle.mg_minibuffer.specs.declared.prompt.Prompt.TheVariants.{Searching}
 use Rattle.mg_minibuffer.specs.declared.prompt.Search.{Search}
 use Rattle.mg_minibuffer.specs.SearchStep.{or_last}
-use Rattle.mg_dialogue.specs.Dialogues.{Dialogue, Fed, at_prompt, forgotten, last_after, search_of}
+use Rattle.mg_dialogue.specs.Dialogues.{Dialogue, Fed, at_prompt, forgotten, search_of}
 use Rattle.mg_editor.specs.Editors.{Editor}
 use Rattle.mg_editor.specs.Presses.{PressAnswer, FollowsReaction, IsRead, Pressed, ran_out, StepTaken, with_search_accepted, editor_reaction, with_search}
 
@@ -36,7 +37,7 @@ left byte s step old new closed read r is closes feeds it =
     let accepted = λ (l : List ℕ). record read { prompt = None; message = Nothing; last = l } in
     let last : read.last ≡ old.talk.last = ap (λ (t : Dialogue). t.last) fed.rest in
     let reads : IsRead byte Leave old.talk step (with_search_accepted s left).talk = rw (is, IsRead)
-    (record { answers = fed.answers; mode = fed.mode; rest = ap (λ l. accepted (or_last s.pattern l)) last ∙ ap (λ o. accepted (last_after o old.talk.last)) (sym is) }) in
+    (record { answers = fed.answers; mode = fed.mode; rest = ap (λ l. accepted (or_last s.pattern l)) last ∙ ap (λ o. accepted (option_map_or (λ (x : Search). or_last x.pattern old.talk.last) o old.talk.last)) (sym is) }) in
     let reopened = λ (t : Dialogue). record old { talk = at_prompt (Some (Searching s)) t } in
     let same = ap reopened fed.rest ∙ ap (λ p. record old { talk = at_prompt p old.talk }) (sym (open_search old.talk.prompt s is)) in
     (step, (with_search_accepted s left).talk, reads, taken_from step (with_search s left) old (with_search_accepted s left) new r same it)

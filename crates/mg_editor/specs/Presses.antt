@@ -1,5 +1,5 @@
 -- What a byte that is pressed leads to.
-use Rattle.std.specs.Prelude.{◌≡◌, ◌⊎◌, ℕ, List, Option, Some, None, Result, Ok, Err, MatchResult}
+use Rattle.std.specs.Prelude.{◌≡◌, ◌⊎◌, ℕ, Some, None, Result, Ok, Err, MatchResult}
 use Rattle.mg_plain.specs.declared.command.Command.TheVariants.{ReplaceOne}
 use Rattle.mg_plain.specs.declared.outcome.Notice.TheVariants as notice
 use Rattle.mg_keys.specs.declared.step.Step.{Step}
@@ -14,14 +14,12 @@ use Rattle.mg_minibuffer.specs.declared.ending.Reaction.TheVariants.{Ends, Repla
 use Rattle.mg_minibuffer.specs.declared.ending.Request.{Request}
 use Rattle.mg_minibuffer.specs.declared.ending.Request.TheVariants.{Idle}
 use Rattle.mg_minibuffer.specs.declared.message.Message.TheVariants as message
-use Rattle.mg_minibuffer.specs.declared.prompt.Prompt.{Prompt}
 use Rattle.mg_minibuffer.specs.declared.prompt.Prompt.TheVariants.{Searching}
 use Rattle.mg_minibuffer.specs.declared.prompt.Search.{Search}
 use Rattle.mg_minibuffer.specs.Endings.{ending_of}
 use Rattle.mg_minibuffer.specs.PlainStep.{plain_step}
 use Rattle.mg_minibuffer.specs.PromptStep.{prompt_step}
 use Rattle.mg_minibuffer.specs.ReplacementStep.{asks_at_next_match, sum}
-use Rattle.mg_minibuffer.specs.Scenes.{Scene}
 use Rattle.mg_minibuffer.specs.SearchStep.{or_last}
 use Rattle.mg_dialogue.specs.Dialogues.{Dialogue, Fed, shown, forgotten, search_of, accepted_search}
 use Rattle.mg_workspace.specs.Actions.{Done}
@@ -66,14 +64,12 @@ FollowsReaction (Replaces pattern put count) old new request =
     ⊎ Refuses (Run (ReplaceOne pattern put) 1) Same old new request
 FollowsReaction Accepts old new request = (new ≡ record old { talk = accepted_search old.talk }) × (request ≡ Idle)
 
--- the reaction to a step, at that prompt or without one
-abbrev pub reaction_to : Option Prompt → Step → Scene → List ℕ → Reaction
-reaction_to None step scene last = Ends (plain_step step scene)
-reaction_to (Some p) step scene last = prompt_step p step scene last
-
--- that of an editor
+-- the reaction to a step, at the open prompt or without one
 abbrev pub editor_reaction : Step → Editor → Reaction
-editor_reaction step e = reaction_to e.talk.prompt step (scene_of e.work) e.talk.last
+editor_reaction step e = elim e.talk.prompt [
+  | None ↦ Ends (plain_step step (scene_of e.work))
+  | Some p ↦ prompt_step p step (scene_of e.work) e.talk.last
+]
 
 -- A step was taken, or memory was wanting, and what stood before its byte stands again. One that waits for more bytes
 -- changes nothing.

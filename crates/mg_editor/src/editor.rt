@@ -34,13 +34,6 @@ impl<S: TextStore> Model for Editor<S> {
 }
 
 impl<S: TextStore> Editor<S> {
-    /// What the echo line says, where it does not show an open prompt. Takes no memory.
-    pub fn message(&self) -> Message
-        ensures { result ≡ self.now.talk.message }
-    {
-        self.talk.message()
-    }
-
     /// Says a message. Takes no memory.
     pub fn tell(&mut self, message: Message)
         ensures { self.new ≡ record self.old {

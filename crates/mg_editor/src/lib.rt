@@ -7,9 +7,10 @@
 //! windows, on mg_dialogue for keys, prompts and messages, on mg_minibuffer for what steps lead to,
 //! on mg_files for ports, on mg_sync for peers, and is generic over any `TextStore`. The layer
 //! above may rest on `Pressed`: which step the keys gave, and what that left of the buffers, the
-//! windows, the prompt, the message and the keys, want of memory aside, which changes nothing but
-//! that a key sequence begun is forgotten; on `Carried`: which calls a request makes of a port, and
-//! what that leaves; and on the theorems of `laws`. `frame` shows the editor's own windows.
+//! windows, the prompt, the message and the keys. A press that answers `Memory` changed nothing but
+//! that a key sequence begun is forgotten; where the search behind a replacement finds none, the
+//! replacement stays and query-replace ends. It may rest on `Carried` too: which calls a request
+//! makes of a port, and what that leaves; and on the theorems of `laws`. `frame` shows the editor's own windows.
 #![tactic(auto)]
 
 mod carrying;

@@ -241,7 +241,7 @@ impl<S: TextStore> Editor<S> {
         match step {
             Step::Pending => {
                 self.talk.accept(search);
-                self.talk.fall_silent();
+                self.talk.tell(Message::Nothing);
                 Ok(Request::Idle)
             }
             step => self.leave_plainly(search, step),

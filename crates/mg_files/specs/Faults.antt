@@ -8,18 +8,10 @@ use Rattle.mg_files.specs.declared.fault.LoadFault.TheVariants.{Log, Store, Memo
 
 -- the bytes of a log are in memory, so that a read of them that fails is want of memory
 abbrev pub load_fault : ReceiveFault → LoadFault
-load_fault (receive.Line n e) = Log (receive.Line n e)
-load_fault receive.Cut = Log receive.Cut
-load_fault receive.Count = Log receive.Count
 load_fault receive.Read = Memory
-load_fault (receive.Refused n e) = Log (receive.Refused n e)
 load_fault receive.Memory = Memory
+load_fault fault = Log fault
 
 abbrev pub store_fault : Refusal → LoadFault
-store_fault refusal.BadId = Store refusal.BadId
-store_fault refusal.BadOrder = Store refusal.BadOrder
-store_fault (refusal.Conflict id) = Store (refusal.Conflict id)
-store_fault refusal.Full = Store refusal.Full
-store_fault refusal.Range = Store refusal.Range
-store_fault refusal.Clock = Store refusal.Clock
 store_fault refusal.Memory = Memory
+store_fault fault = Store fault

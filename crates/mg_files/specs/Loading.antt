@@ -1,5 +1,6 @@
 -- What is loaded from the files under a name, and why nothing is.
 use Rattle.std.specs.Prelude.{ℕ, ◌==◌, nat_lt, Bool, true, false, List, [], length, Option, Some, None, Result, Ok, Err, chars, if◌then◌else◌}
+use Rattle.std.specs.Result.{result_and}
 use Rattle.std.specs.Str.{is_utf8}
 use Rattle.rga_ops.specs.Content.{Content, nothing, content_of}
 use Rattle.rga_ops.specs.declared.op.Op.{Op}
@@ -91,11 +92,7 @@ opening_answer replica limit =
     if replica == 0 then Err (Store BadId)
     else (if is_limit limit then Ok tt else Err (Store Range))
 
-abbrev pub after_opening : Result (Unit {0}) LoadFault → Result (OpenState × LogEnd) LoadFault → Result (OpenState × LogEnd) LoadFault
-after_opening (Ok u) r = r
-after_opening (Err e) r = Err e
-
 -- a buffer and how its log ends, or a fault
 abbrev pub load_outcome : List ℕ → ℕ → ℕ → Files → Result (OpenState × LogEnd) LoadFault
 load_outcome name replica limit found =
-    after_opening (opening_answer replica limit) (opened_and_end name replica limit (files_loaded replica limit found))
+    result_and (opening_answer replica limit) (opened_and_end name replica limit (files_loaded replica limit found))

@@ -13,7 +13,7 @@ use Rattle.mg_buffer.specs.OpenState.{OpenState, has_unsaved, is_changed}
 
 -- ---- the calls of a save that are answered `Ok`
 
--- what is appended: a line an operation, but where runs are asked for and there are more than 32 operations, those in a
+-- what is appended: a line an operation, but where runs are asked for and there are more than `MAX_SINGLE` operations, those in a
 -- row that are a run in one line
 abbrev pub appended_text : Bool → List Op → List ℕ
 appended_text runs ops = if runs && nat_lt MAX_SINGLE (length ops) then runs_text ops else log_text ops

@@ -22,7 +22,7 @@ use Rattle.rga_doc.specs.LocalEdit.{edit_answer}
 use Rattle.rga_doc.specs.Revert.{are_restorable, revert_answer}
 use Rattle.rga_doc.proofs.EditLaws.{splices_taken}
 use Rattle.rga_doc.proofs.RevertLaws.{revert_taken}
-use Rattle.mg_buffer.specs.Faults.{FaultVerdict, stored, growth_answer, taken_answer}
+use Rattle.mg_buffer.specs.Faults.{FaultVerdict, stored, growth_answer, undo_answer}
 use Rattle.mg_buffer.specs.Groups.{Past, last_group}
 use Rattle.mg_buffer.specs.Ran.{Ran, operations_of_splices}
 use Rattle.mg_buffer.specs.Sight.{CommandCall, Notes}
@@ -121,7 +121,7 @@ pub undid_joins : (b : State) (old : Notes) (d : State) (new : Notes) (u : Undoe
 undid_joins b old d new u =
     let g : Past = u.undid.group in
     let at : slice_get b.groups u.undid.index ≡ Some g = last_at b.groups (unwrap_or b.undone (length b.groups)) u.undid.index g u.undid.due in
-    let fits : growth_answer b (length g.deleted) ≡ Ok tt = stored_well (growth_answer b (length g.deleted)) (ap (taken_answer b) (sym u.undid.due) ∙ u.allowed) in
+    let fits : growth_answer b (length g.deleted) ≡ Ok tt = stored_well (growth_answer b (length g.deleted)) (rw (u.undid.due, undo_answer) at u.allowed) in
     let restorable : are_restorable b.content g.deleted ≡ true =
     ap (λ (x : Past). are_restorable b.content x.deleted) (sym (get_or_from_slice_get b.groups u.undid.index g _ at)) ∙ past_restorable b.content b.groups u.undid.index u.revertible in
     let allowed : revert_answer b.limit b.content g.deleted ≡ Ok tt = ap (λ t. edit_answer b.limit b.content t (length g.deleted)) restorable ∙ fits in

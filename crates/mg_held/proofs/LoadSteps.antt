@@ -5,7 +5,8 @@ use Rattle.rga_ops.proofs.ContentLaws.{within_join, within_itself}
 use Rattle.mg_files.specs.Files.{Files}
 use Rattle.mg_buffer.specs.OpenState.{OpenState, has_unsaved}
 use Rattle.mg_files.specs.Saving.{unlogged, written, logged, save_calls, log_call, log_calls, text_call}
-use Rattle.mg_files.specs.Loading.{loaded, either_loaded, files_loaded, opening_answer, after_opening, opened_and_end}
+use Rattle.mg_files.specs.Loading.{loaded, either_loaded, files_loaded, opening_answer, opened_and_end}
+use Rattle.std.specs.Result.{result_and}
 use Rattle.mg_files.specs.declared.fault.LoadFault.{LoadFault}
 use Rattle.mg_files.specs.Calls.{refusals, found_call}
 use Rattle.mg_files.specs.declared.port.PortFault.{PortFault}
@@ -30,7 +31,7 @@ opened_again held b f found h (bytes, there) answers opening =
     ap (λ log. either_loaded b.buffer.replica b.buffer.limit log found.text) log ∙ read.1 in
     record {
       end = read.0;
-      outcome = (λ k. after_opening (opening k) (opened_and_end b.buffer.name b.buffer.replica b.buffer.limit (files k)));
+      outcome = (λ k. result_and (opening k) (opened_and_end b.buffer.name b.buffer.replica b.buffer.limit (files k)));
     }
 
 -- so do those behind a save that answered `Ok`

@@ -32,7 +32,8 @@ use Rattle.rga_exchange.specs.Sending.{StandsFor}
 use Rattle.rga_exchange.proofs.OperationLaws.{IsRead, is_read, no_fault, log_joined}
 use Rattle.rga_exchange.proofs.LogLaws.{log_stands}
 use Rattle.mg_files.specs.Files.{Files}
-use Rattle.mg_files.specs.Loading.{Loaded, loaded, of_log, log_loaded, text_insertions, text_loaded, either_loaded, files_loaded, opened, opened_and_end, opening_answer, after_opening, load_outcome, ends_open}
+use Rattle.mg_files.specs.Loading.{Loaded, loaded, of_log, log_loaded, text_insertions, text_loaded, either_loaded, files_loaded, opened, opened_and_end, opening_answer, load_outcome, ends_open}
+use Rattle.std.specs.Result.{result_and}
 use Rattle.mg_buffer.specs.OpenState.{OpenState, with_brief, with_runs}
 use Rattle.mg_files.specs.declared.fault.LoadFault.{LoadFault}
 use Rattle.mg_files.specs.declared.fault.LoadFault.TheVariants.{Log, NotText, Store}
@@ -128,7 +129,7 @@ opened_by name replica limit found b end h = by (opening_answer replica limit) (
     first (Ok p) = p.0
     first (Err e) = b
 
-    by : (o : Opening) (l : Result Loaded LoadFault) → opening_answer replica limit ≡ o → files_loaded replica limit found ≡ l → after_opening o (opened_and_end name replica limit l) ≡ done b end → IsOpenedBy name replica limit found b
+    by : (o : Opening) (l : Result Loaded LoadFault) → opening_answer replica limit ≡ o → files_loaded replica limit found ≡ l → result_and o (opened_and_end name replica limit l) ≡ done b end → IsOpenedBy name replica limit found b
     by (Ok u) (Ok l) p q g = record { loaded = l; opening = p; files = q; is = sym (ap first g) }
     by (Ok u) (Err e) p q g = absurd (let clash : failed e ≡ done b end = g in cc)
     by (Err e) l p q g = absurd (let clash : failed e ≡ done b end = g in cc)

@@ -1,5 +1,6 @@
-//! Theorems about what is held. Each function does nothing: its contract is the theorem.
-ghost use Rattle.std.specs.Prelude.{◌≡◌, ◌⊎◌, ◌≤◌, ℕ, true, Bool, List, [], ◌++◌, Option, Some, None, Result, Ok};
+//! Theorems about what is held. The first is of a buffer that there is; each other function does
+//! nothing: its contract is the theorem.
+ghost use Rattle.std.specs.Prelude.{◌≡◌, ◌⊎◌, ◌≤◌, ℕ, true, Bool, List, Some, None, Result, Ok};
 ghost use Rattle.rga_ops.specs.Content.{Content, IsSound, known_count};
 ghost use Rattle.rga_exchange.specs.declared.log.LogEnd.{LogEnd};
 ghost use Rattle.mg_files.specs.Calls.{refusals, found_call};

@@ -38,13 +38,6 @@ impl Keys {
         fresh(Mode::Plain)
     }
 
-    /// How the next byte is read.
-    pub fn mode(&self) -> Mode
-        ensures { result ≡ self.now.mode }
-    {
-        self.mode
-    }
-
     /// Whether some bytes of a key sequence were read, and it is not whole yet. Takes no memory.
     pub fn has_begun(&self) -> bool
         ensures { (result ≡ false) ↔ HasBegun self.now [] }

@@ -1,5 +1,5 @@
 //! Keys of prompts, of searches and of answers while matches are replaced.
-ghost use Rattle.std.specs.Prelude.{◌≡◌, ◌∷◌, []};
+ghost use Rattle.std.specs.Prelude.{◌≡◌};
 ghost use Rattle.mg_keys.specs.declared.step.Mode.{Mode as AnyMode};
 ghost use Rattle.mg_keys.specs.Advance.{ReadsOn, TextAdvances, by_itself};
 ghost use Rattle.mg_keys.specs.Begun.{text_rest};

@@ -1,6 +1,6 @@
 //! Characters, byte by byte, by Unicode's table of well-formed byte sequences (The Unicode
 //! Standard, table 3-7).
-ghost use Rattle.std.specs.Prelude.{◌≡◌, ◌<◌, ◌∷◌, [], List, ℕ};
+ghost use Rattle.std.specs.Prelude.{◌≡◌, ◌<◌};
 ghost use Rattle.mg_keys.specs.Advance.{ReadsOn};
 ghost use Rattle.mg_keys.specs.Utf8 as spec;
 

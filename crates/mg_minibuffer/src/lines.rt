@@ -1,5 +1,5 @@
 //! Steps while a line of text is asked for, or whether to quit.
-ghost use Rattle.std.specs.Prelude.{◌≡◌, [], IfOk};
+ghost use Rattle.std.specs.Prelude.{◌≡◌, IfOk};
 ghost use Rattle.mg_minibuffer.specs.Endings as endings;
 ghost use Rattle.mg_minibuffer.specs.LineStep as spec;
 

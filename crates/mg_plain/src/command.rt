@@ -31,7 +31,8 @@ pub enum Command {
     NextLine,
     /// Moves point so many lines back.
     PreviousLine,
-    /// Moves point on by two lines less than the window's text rows, or as far as there are lines.
+    /// Moves point on by two lines less than the window's text rows, at least one, or as far as there are
+    /// lines.
     ScrollUp { rows: usize },
     /// The same back.
     ScrollDown { rows: usize },

@@ -8,7 +8,7 @@ use crate::characters::is_blank;
 use crate::edit::change;
 use crate::outcome::{Notice, Plan};
 use crate::view::View;
-use mg_text::{copy, line_begin};
+use mg_text::line_begin;
 use std::alloc::{AllocError, Global};
 
 /// Characters at point, which goes behind them.
@@ -67,7 +67,7 @@ pub(crate) fn newline_and_indent(alloc: Global, view: &View<'_>) -> Result<Plan,
 pub(crate) fn yank(alloc: Global, view: &View<'_>) -> Result<Plan, Notice>
     ensures { IsEffectAnswer result (Ok (spec.yank view.now)) }
 {
-    let plan = type_in(alloc, view, copy(alloc, view.kill)?)?;
+    let plan = type_in(alloc, view, Vec::from_slice(alloc, view.kill)?)?;
     Ok(Plan {
         mark: Some(view.point),
         ..plan

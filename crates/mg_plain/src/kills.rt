@@ -8,7 +8,7 @@ use crate::edit::change;
 use crate::outcome::{Notice, Plan};
 use crate::view::{Kind, View};
 use crate::words::word_end;
-use mg_text::{copy, line_end};
+use mg_text::line_end;
 use std::alloc::Global;
 
 fn delete(alloc: Global, view: &View<'_>, lo: usize, hi: usize) -> Result<Plan, Notice>
@@ -40,7 +40,7 @@ fn kill(alloc: Global, view: &View<'_>, lo: usize, hi: usize) -> Result<Plan, No
     requires within { hi ≤ length view.now.text }
     ensures { IsEffectAnswer result (Ok (spec.kill_effect view.now lo hi)) }
 {
-    let chars = copy(alloc, &view.text[lo..hi])?;
+    let chars = Vec::from_slice(alloc, &view.text[lo..hi])?;
     let plan = delete(alloc, view, lo, hi)?;
     Ok(Plan {
         kill: Some(chars),

@@ -6,7 +6,6 @@ ghost use Rattle.mg_plain.specs.Mark as spec;
 use crate::motions::move_to;
 use crate::outcome::{Notice, Plan};
 use crate::view::View;
-use mg_text::copy;
 use std::alloc::Global;
 
 fn mark_at(alloc: Global, view: &View<'_>, point: usize, mark: usize) -> Plan
@@ -45,7 +44,7 @@ fn copy_as_kill(alloc: Global, view: &View<'_>, lo: usize, hi: usize) -> Result<
     requires within { hi ≤ length view.now.text }
     ensures { IsEffectAnswer result (Ok (spec.copy_effect view.now lo hi)) }
 {
-    let chars = copy(alloc, &view.text[lo..hi])?;
+    let chars = Vec::from_slice(alloc, &view.text[lo..hi])?;
     Ok(Plan {
         kill: Some(chars),
         ..move_to(alloc, view, view.point)

@@ -221,7 +221,8 @@ impl Reports {
 
     /// Takes the bytes that are held, which are no report. Takes no memory.
     pub fn take_held(&mut self) -> Held
-        ensures { result.items ≡ self.old.held }
+        ensures held { result.items ≡ self.old.held }
+        ensures left { self.new ≡ spec.fresh self.old.resizable }
     {
         self.awaited = Awaited::Escape;
         self.held.take()

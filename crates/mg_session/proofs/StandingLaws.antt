@@ -58,7 +58,7 @@ module _ (keys rest old : Calls Known) where
   shown_tells f (begun front rest screen is written failed same) =
       let more = failed ∙ ap one_more f.written in
       subst Tells (sym same) (search rules)
-  shown_tells f (unmade new same) = subst Tells (sym same) (search rules)
+  shown_tells f (unmade new left same) = subst Tells (sym same) (search rules)
 
   step_tells : (has_cursor asked : Bool) (a b : Moment) → IsFine a → StepIf asked (Displays has_cursor) a b → Tells b
   step_tells has_cursor asked a b f = behind_step Tells (Displays has_cursor) asked a b (fine_tells f) (λ _. shown_tells f)

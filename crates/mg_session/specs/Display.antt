@@ -1,5 +1,5 @@
 -- Frames, as they are written.
-use Rattle.std.specs.Prelude.{◌≡◌, ℕ, Bool, true, not, List, [], ◌∷◌, ◌++◌, ◌&&◌, Option, Some, None, codes, is_ok, if◌then◌else◌}
+use Rattle.std.specs.Prelude.{◌≡◌, ◌⊎◌, ℕ, Bool, true, not, List, [], ◌∷◌, ◌++◌, ◌&&◌, Option, Some, None, codes, is_ok, if◌then◌else◌}
 use Rattle.std.specs.Fmt.{decimal}
 use Rattle.std.specs.Io.KnownBytes.{Appends}
 use Rattle.std.specs.Option.{option_map}
@@ -64,7 +64,7 @@ abbrev pub editor_text : Bool → Editor → Option (List ℕ)
 editor_text has_cursor e = option_map (λ at. frame_text (editor_rows e) (shown_cursor has_cursor at)) (editor_cursor e)
 
 -- The windows were placed, and the frame was written and flushed, or the device failed behind a beginning of it; or memory was
--- wanting for it, and nothing was written.
+-- wanting for it, and nothing was written: the windows were placed then, or not.
 pub data Displays (has_cursor : Bool) (before behind : Moment) : Type 0 where
   whole : (text : List ℕ) (screen : Calls Known) → editor_text has_cursor (placed_editor before.editor) ≡ Some text
       → Appends before.screen.inner screen.inner text → screen.failures ≡ before.screen.failures → screen.flushed ≡ true
@@ -72,4 +72,5 @@ pub data Displays (has_cursor : Bool) (before behind : Moment) : Type 0 where
   begun : (front rest : List ℕ) (screen : Calls Known) → editor_text has_cursor (placed_editor before.editor) ≡ Some (front ++ rest)
       → Appends before.screen.inner screen.inner front → screen.failures ≡ one_more before.screen.failures
       → behind ≡ record before { editor = placed_editor before.editor; screen = screen; course = NoScreen } → Displays has_cursor before behind
-  unmade : (new : Editor) → behind ≡ record before { editor = new; course = NoMemory } → Displays has_cursor before behind
+  unmade : (new : Editor) → (new ≡ before.editor) ⊎ (new ≡ placed_editor before.editor)
+      → behind ≡ record before { editor = new; course = NoMemory } → Displays has_cursor before behind

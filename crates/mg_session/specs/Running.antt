@@ -1,5 +1,5 @@
 -- What a session does with its keys.
-use Rattle.std.specs.Prelude.{◌≡◌, ◌≢◌, ◌↔◌, ⊤, ℕ, ◌+◌, ◌≤◌, Bool, true, false, List, [], ◌∷◌, length, min, max, Result, Ok, Err, MatchResult}
+use Rattle.std.specs.Prelude.{◌≡◌, ◌≢◌, ◌↔◌, ◌⊎◌, ℕ, ◌+◌, ◌≤◌, Bool, true, false, List, [], ◌∷◌, length, min, max, Result, Ok, Err, MatchResult}
 use Rattle.std.specs.Bool.{MatchBool}
 use Rattle.std.specs.Io.KnownBytes.{Consumes, IsAtEnd}
 use Rattle.std.specs.List.{concat}
@@ -63,13 +63,14 @@ pub data ReadsKeys (how : Manner) (held : Reports) (before behind : Moment) (key
 
 -- ---- the load of the settings' name
 
--- This editor opens by what the first call answered, or none does, for this fault, or the call was refused.
+-- This editor opens by what the first call answered, or none does, for this fault, or the call was refused. Where memory is
+-- wanting, it was for that call, or behind it.
 abbrev pub LoadsTo : Values → ToldCalls → ToldCalls → Result Editor SessionFault → Type 0
 LoadsTo v calls told (Ok first) = (found : Files) × Adds calls told (found_call v.name found ∷ []) × (opened_editor v found ≡ Ok first)
 LoadsTo v calls told (Err (Load e)) =
     (found : Files) × Adds calls told (found_call v.name found ∷ []) × (opened_editor v found ≡ Err e) × (e ≢ load.Memory)
 LoadsTo v calls told (Err File) = Adds calls told (refused (load_call v.name) ∷ [])
-LoadsTo v calls told (Err Memory) = ⊤
+LoadsTo v calls told (Err Memory) = Adds calls told [] ⊎ ((found : Files) × Adds calls told (found_call v.name found ∷ []))
 LoadsTo v calls told (Err fault) = ⊥
 
 -- ---- a session

@@ -1,5 +1,5 @@
 //! Frames, as they are written.
-ghost use Rattle.std.specs.Prelude.{◌≡◌, ◌∷◌, ◌++◌, [], map, string_bytes, true, Some, IfOk, OnOk, IfSome, OnSome};
+ghost use Rattle.std.specs.Prelude.{◌≡◌, ◌⊎◌, ◌∷◌, ◌++◌, [], map, string_bytes, true, Some, None, IfOk, OnOk, IfSome, OnSome};
 ghost use Rattle.rga_devices.specs.Counting.{Counts, Writes, WritesFront};
 ghost use Rattle.rga_lines.specs.Stream.{newline, bytes_of_lines};
 ghost use Rattle.mg_editor.specs.Frames.{placed_editor};
@@ -81,6 +81,8 @@ fn shown_cursor(has_cursor: bool, at: Position) -> Option<Position>
 /// The frame of an editor, as it is written; nothing where memory is wanting.
 fn frame_of<S: TextStore>(alloc: Global, editor: &mut Editor<S>, has_cursor: bool) -> Option<String>
     ensures placed { OnSome result (editor.new ≡ placed_editor editor.old) }
+    ensures unmade { result ≡ None →
+        (editor.new ≡ editor.old) ⊎ (editor.new ≡ placed_editor editor.old) }
     ensures text { IfSome result (λ text.
         spec.editor_text has_cursor editor.new ≡ Some (string_bytes text)) }
 {

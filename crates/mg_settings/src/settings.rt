@@ -1,6 +1,5 @@
 //! What an editing session is given.
-ghost use Rattle.std.specs.Prelude.{◌≡◌, ◌≤◌, ◌↔◌, IsSome, IfSome};
-ghost use Rattle.mg_screen.specs.declared.size.TheConstants.{MIN_ROWS, MAX_ROWS, MIN_COLUMNS, MAX_COLUMNS};
+ghost use Rattle.std.specs.Prelude.{◌≡◌, ◌↔◌, IsSome, IfSome};
 ghost use Rattle.mg_settings.specs.Settings as spec;
 
 use mg_screen::{MAX_COLUMNS, MAX_ROWS, MIN_COLUMNS, MIN_ROWS};
@@ -111,23 +110,5 @@ impl Settings {
         ensures allowed { spec.AreAllowed result.now }
     {
         &self.values
-    }
-
-    /// The rows of the screen.
-    pub fn rows(&self) -> usize
-        ensures exact { result ≡ self.now.rows }
-        ensures from { MIN_ROWS ≤ result }
-        ensures to { result ≤ MAX_ROWS }
-    {
-        self.values.rows
-    }
-
-    /// The columns of the screen.
-    pub fn columns(&self) -> usize
-        ensures exact { result ≡ self.now.columns }
-        ensures from { MIN_COLUMNS ≤ result }
-        ensures to { result ≤ MAX_COLUMNS }
-    {
-        self.values.columns
     }
 }

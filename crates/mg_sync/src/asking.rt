@@ -1,5 +1,5 @@
 //! What passes over a link before an exchange that is brief.
-ghost use Rattle.std.specs.Prelude.{◌≡◌, IfOk};
+ghost use Rattle.std.specs.Prelude.{IfOk};
 ghost use Rattle.rga_ops.specs.Content.{Content};
 ghost use Rattle.rga_brief.specs.Told.{IsTold};
 ghost use Rattle.mg_sync.specs.Asking.{Asks, Connects, LearnsOver, SaysOver, Waits};

@@ -14,5 +14,5 @@ mod paragraphs;
 mod splices;
 
 pub use filling::paragraph_splices;
-pub use lines::{begins_line, has_newline, line_begin, line_end};
-pub use splices::{copy, splice};
+pub use lines::{line_begin, line_end};
+pub use splices::splice;

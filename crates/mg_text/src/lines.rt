@@ -5,7 +5,7 @@ ghost use Rattle.mg_text.specs.Characters.{is_newline};
 ghost use Rattle.mg_text.specs.Lines as spec;
 
 /// Whether a newline stands there.
-pub fn has_newline(text: &[char], q: usize) -> bool
+pub(crate) fn has_newline(text: &[char], q: usize) -> bool
     requires { q < length text.now }
     ensures { result ≡ is_newline (slice_index text.now q) }
 {
@@ -27,7 +27,7 @@ pub fn line_end(text: &[char], point: usize) -> usize
 }
 
 /// Whether a line begins there.
-pub fn begins_line(text: &[char], q: usize) -> bool
+pub(crate) fn begins_line(text: &[char], q: usize) -> bool
     requires { q ≤ length text.now }
     ensures { result ≡ spec.begins_line text.now q }
 {

@@ -1,5 +1,5 @@
 -- What actions do.
-use Rattle.std.specs.Prelude.{◌≡◌, ◌⊎◌, ℕ, Bool, true, false, List, length, Option, Result, Ok, Err, MatchResult, nat_lt, nat_le, if◌then◌else◌}
+use Rattle.std.specs.Prelude.{◌≡◌, ◌⊎◌, ℕ, Bool, true, false, List, length, Result, Ok, Err, MatchResult, nat_lt, nat_le, if◌then◌else◌}
 use Rattle.std.specs.Option.{option_map_or}
 use Rattle.rga_ops.specs.Order.{text}
 use Rattle.rga_ops.specs.declared.refusal.Refusal.TheVariants.{Full, Clock}
@@ -17,8 +17,6 @@ use Rattle.mg_minibuffer.specs.declared.ending.Arrangement.TheVariants.{Split, R
 use Rattle.mg_minibuffer.specs.declared.ending.Action.{Action}
 use Rattle.mg_minibuffer.specs.declared.ending.Action.TheVariants.{Nothing, EndRun, Run, Undo, Arrange, Switch, Kill}
 use Rattle.mg_screen.specs.declared.size.TheConstants.{MIN_SPLIT_HEIGHT}
-use Rattle.mg_screen.specs.declared.windows.WindowFault.{WindowFault}
-use Rattle.mg_screen.specs.declared.windows.WindowFault.TheVariants as window
 use Rattle.mg_screen.specs.Layout.{Layout, current_height, split_layout, removed_layout, resized_layout, only_layout, other_layout}
 use Rattle.mg_screen.specs.Lines.{line_index, centred}
 use Rattle.mg_workspace.specs.Buffers as buffers
@@ -31,17 +29,12 @@ use Rattle.mg_workspace.specs.declared.viewport.Viewport.{Viewport}
 use Rattle.mg_workspace.specs.Viewports.{current_viewport, turned_to_buffer, scrolled, layout_without}
 use Rattle.mg_workspace.specs.Workspaces.{Workspace, workspace_buffer}
 
--- why an action is not done, by what the buffer and the windows say
+-- why an action is not done, by what the buffer says
 abbrev pub action_fault_of : BufferFault → ActionFault
 action_fault_of (Noticed notice) = Refused (cause.Notice notice)
 action_fault_of (Store Full) = Refused cause.BufferFull
 action_fault_of (Store Clock) = Refused cause.IdentifiersUsedUp
 action_fault_of (Store _) = Memory
-
-abbrev pub window_fault_of : WindowFault → ActionFault
-window_fault_of window.TooSmall = Refused cause.WindowTooSmall
-window_fault_of window.OnlyOne = Refused cause.OnlyOneWindow
-window_fault_of window.Memory = Memory
 
 abbrev pub ActionVerdict : Type 0
 ActionVerdict = Result (Unit {0}) ActionFault
@@ -49,13 +42,6 @@ ActionVerdict = Result (Unit {0}) ActionFault
 abbrev pub of_buffer : FaultVerdict → ActionVerdict
 of_buffer (Ok u) = Ok tt
 of_buffer (Err e) = Err (action_fault_of e)
-
-abbrev pub WindowVerdict : Type 0
-WindowVerdict = Result (Unit {0}) WindowFault
-
-abbrev pub of_windows : WindowVerdict → ActionVerdict
-of_windows (Ok u) = Ok tt
-of_windows (Err e) = Err (window_fault_of e)
 
 -- the workspace behind an action, and the answer to it
 abbrev pub ActionOutcome : Type 0
@@ -88,9 +74,9 @@ ActsInCurrent verdict Becomes w o =
 -- ---- of the windows
 
 -- as they become where that buffer is current, and the answer, want of memory aside
-abbrev pub window_outcome : Arrangement → OpenState → Layout Viewport → Layout Viewport × WindowVerdict
-window_outcome Split b l = if nat_lt (current_height l) MIN_SPLIT_HEIGHT then (l, Err window.TooSmall) else (split_layout l, Ok tt)
-window_outcome Remove b l = if nat_le (length l.windows) 1 then (l, Err window.OnlyOne) else (removed_layout l, Ok tt)
+abbrev pub window_outcome : Arrangement → OpenState → Layout Viewport → Layout Viewport × ActionVerdict
+window_outcome Split b l = if nat_lt (current_height l) MIN_SPLIT_HEIGHT then (l, Err (Refused cause.WindowTooSmall)) else (split_layout l, Ok tt)
+window_outcome Remove b l = if nat_le (length l.windows) 1 then (l, Err (Refused cause.OnlyOneWindow)) else (removed_layout l, Ok tt)
 window_outcome Only b l = (only_layout l, Ok tt)
 window_outcome Other b l = (other_layout l, Ok tt)
 window_outcome Recenter b l =
@@ -105,7 +91,7 @@ with_windows l w = record w { buffers = record w.buffers { current = (current_vi
 abbrev pub arrange_outcome : Arrangement → Workspace → ActionOutcome
 arrange_outcome a w =
     let windows = window_outcome a (workspace_buffer w) w.windows in
-    (with_windows windows.0 (idled_work w), of_windows windows.1)
+    (with_windows windows.0 (idled_work w), windows.1)
 
 -- on a screen of so many rows and columns
 abbrev pub resized_work : ℕ → ℕ → Workspace → Workspace
@@ -121,15 +107,11 @@ gone_to i w = record w { buffers = record w.buffers { current = i }; windows = t
 abbrev pub visit_outcome : List ℕ → Workspace → Workspace × Bool
 visit_outcome name w = option_map_or (λ i. (gone_to i w, true)) (buffer_named name w.buffers.all) (w, false)
 
--- what is done with the buffer at an index, or that there is none of the name
-abbrev pub outcome_at : (ℕ → ActionOutcome) → Option ℕ → Workspace → ActionOutcome
-outcome_at f i w = option_map_or f i (refusal_outcome cause.NoSuchBuffer w)
-
 -- to the buffer of that name, or without a name to the next one in order of opening, round
 abbrev pub switch_outcome : List ℕ → Workspace → ActionOutcome
 switch_outcome name w =
     let next = next_round (length w.buffers.all) w.buffers.current in
-    outcome_at (λ i. (gone_to i w, Ok tt)) (asked name next w.buffers.all) w
+    option_map_or (λ i. (gone_to i w, Ok tt)) (asked name next w.buffers.all) (refusal_outcome cause.NoSuchBuffer w)
 
 -- without the buffer at an index: the windows that showed it show the first one of those left
 abbrev pub removed : ℕ → Workspace → Workspace
@@ -143,7 +125,8 @@ removal_outcome i w =
 
 -- without the buffer of that name, or without a name the current one
 abbrev pub kill_outcome : List ℕ → Workspace → ActionOutcome
-kill_outcome name w = outcome_at (λ i. removal_outcome i w) (asked name w.buffers.current w.buffers.all) w
+kill_outcome name w =
+    option_map_or (λ i. removal_outcome i w) (asked name w.buffers.current w.buffers.all) (refusal_outcome cause.NoSuchBuffer w)
 
 -- ---- of any action
 abbrev pub Done : Action → Workspace → ActionOutcome → Type 0

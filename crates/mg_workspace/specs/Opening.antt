@@ -27,7 +27,7 @@ workspace v b = record {
 abbrev pub is_full : Workspace → Bool
 is_full w = nat_le MAX_BUFFERS (length w.buffers.all)
 
--- one more buffer, of which saves append runs or do not, and exchanges are brief or not, as of the first, and which is
+-- one more buffer, of which saves append runs or do not, and exchanges are brief or not, as the settings say, and which is
 -- current and shown by the current window
 abbrev pub with_opened : OpenState → Workspace → Workspace
 with_opened b w = record w { buffers = with_buffer (with_brief w.brief (with_runs w.runs b)) w.buffers; windows = turned_to_buffer (length w.buffers.all) w.windows }

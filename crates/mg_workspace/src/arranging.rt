@@ -1,5 +1,5 @@
 //! Windows that change.
-ghost use Rattle.std.specs.Prelude.{◌≡◌, ◌≢◌, ℕ, ◌<◌, ◌≤◌, true, false, Some, Err, length, slice_get, OnOk, OnErr, IfErr};
+ghost use Rattle.std.specs.Prelude.{◌≡◌, ◌≢◌, ℕ, ◌<◌, ◌≤◌, Some, Err, length, slice_get, OnOk, OnErr, IfErr};
 ghost use Rattle.mg_minibuffer.specs.declared.ending.Action.TheVariants.{Arrange};
 ghost use Rattle.mg_screen.specs.Layout.{all_shown, heights, FillsRows};
 ghost use Rattle.mg_screen.specs.declared.size.TheConstants.{MIN_ROWS, MAX_ROWS, MIN_COLUMNS, MAX_COLUMNS};
@@ -9,12 +9,12 @@ ghost use Rattle.mg_workspace.specs.Viewports.{current_viewport, ShowThese, AreS
 ghost use Rattle.mg_workspace.specs.declared.workspace.TheConstants.{MAX_BUFFERS};
 
 use crate::buffers::Buffers;
-use crate::fault::{ActionFault, of_windows};
+use crate::fault::ActionFault;
 use crate::viewport::Viewport;
 use crate::workspace::Workspace;
 use mg_buffer::VisitedBuffer;
 use mg_minibuffer::Arrangement;
-use mg_screen::{WindowFault, Windows, centred_line};
+use mg_screen::{Windows, centred_line};
 use rga_store::TextStore;
 
 /// What the window at an index shows.
@@ -46,15 +46,15 @@ pub(crate) fn current_viewport(windows: &Windows<Viewport>) -> Viewport
 fn recenter<S: TextStore>(
     windows: &mut Windows<Viewport>,
     opened: &VisitedBuffer<S>,
-) -> Result<(), WindowFault>
-    ensures memory { IfErr result (λ e. e ≡ WindowFault.Memory) }
+) -> Result<(), ActionFault>
+    ensures memory { IfErr result (λ e. e ≡ Memory) }
     ensures exact { OnOk result ((windows.new, result)
         ≡ spec.window_outcome Arrangement.Recenter opened.now windows.old) }
     ensures same { OnErr result (windows.new ≡ windows.old) }
     ensures shown { (n : ℕ) → ShowThese n windows.old.windows → ShowThese n windows.new.windows }
 {
     let Some(line) = opened.buffer.line() else {
-        return Err(WindowFault::Memory);
+        return Err(ActionFault::Memory);
     };
     let index = windows.current();
     let height = windows.heights()[index];
@@ -64,29 +64,25 @@ fn recenter<S: TextStore>(
     Ok(())
 }
 
+/// The windows become as they do where this buffer is current. Where memory is wanting nothing changes.
 fn change_windows<S: TextStore>(
     windows: &mut Windows<Viewport>,
     arrangement: Arrangement,
     opened: &VisitedBuffer<S>,
-) -> Result<(), WindowFault>
-    ensures exact { result ≢ Err WindowFault.Memory →
+) -> Result<(), ActionFault>
+    ensures exact { result ≢ Err Memory →
         (windows.new, result) ≡ spec.window_outcome arrangement opened.now windows.old }
-    ensures same { result ≡ Err WindowFault.Memory → windows.new ≡ windows.old }
+    ensures same { result ≡ Err Memory → windows.new ≡ windows.old }
     ensures shown { (n : ℕ) → ShowThese n windows.old.windows → ShowThese n windows.new.windows }
 {
     match arrangement {
-        Arrangement::Split => windows.split(),
-        Arrangement::Remove => windows.remove(),
-        Arrangement::Only => {
-            windows.only();
-            Ok(())
-        }
-        Arrangement::Other => {
-            windows.other();
-            Ok(())
-        }
-        Arrangement::Recenter => recenter(windows, opened),
+        Arrangement::Split => windows.split()?,
+        Arrangement::Remove => windows.remove()?,
+        Arrangement::Only => windows.only(),
+        Arrangement::Other => windows.other(),
+        Arrangement::Recenter => recenter(windows, opened)?,
     }
+    Ok(())
 }
 
 /// The buffer of the current window is current.
@@ -101,16 +97,6 @@ fn follow<S: TextStore>(buffers: &mut Buffers<S>, windows: &Windows<Viewport>)
     buffers.go_to(shown.buffer);
 }
 
-fn lacks_memory(answer: Result<(), WindowFault>) -> bool
-    ensures memory { result ≡ true → answer ≡ Err WindowFault.Memory }
-    ensures others { result ≡ false → answer ≢ Err WindowFault.Memory }
-{
-    match answer {
-        Err(WindowFault::Memory) => true,
-        Ok(()) | Err(WindowFault::TooSmall) | Err(WindowFault::OnlyOne) => false,
-    }
-}
-
 impl<S: TextStore> Workspace<S> {
     /// The windows change, and a run of commands ends, refused or not. Then the buffer of the
     /// current window is current.
@@ -123,12 +109,12 @@ impl<S: TextStore> Workspace<S> {
         };
         let opened = self.buffers.current();
         let answer = change_windows(&mut self.windows, arrangement, opened);
-        if lacks_memory(answer) {
-            return Err(ActionFault::Memory);
+        if let Err(ActionFault::Memory) = answer {
+            return answer;
         }
         self.buffers.idle(&mut self.memo);
         follow(&mut self.buffers, &self.windows);
-        of_windows(answer)
+        answer
     }
 
     /// A screen of so many rows and columns: the windows take the rows as `Windows::resize` does,

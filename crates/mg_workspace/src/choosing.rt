@@ -110,8 +110,8 @@ impl<S: TextStore> Workspace<S> {
         self.buffers.count() >= MAX_BUFFERS
     }
 
-    /// One more buffer is open: its saves append runs, and its exchanges are brief, where those of the
-    /// first buffer do and are. It is current then, and the current window shows it. `AllocError`
+    /// One more buffer is open: its saves append runs, and its exchanges are brief, where the settings
+    /// say so. It is current then, and the current window shows it. `AllocError`
     /// alone, and nothing changes then.
     pub fn open(&mut self, mut opened: VisitedBuffer<S>) -> Result<(), AllocError>
         requires { length self.old.buffers.all < MAX_BUFFERS }

@@ -47,14 +47,21 @@ pub(crate) fn of_buffer(answer: Result<(), BufferFault>) -> Result<(), ActionFau
     }
 }
 
-/// What the windows answered, as what came of an action.
-pub(crate) fn of_windows(answer: Result<(), WindowFault>) -> Result<(), ActionFault>
-    ensures { result ≡ spec.of_windows answer }
-{
-    match answer {
-        Ok(()) => Ok(()),
-        Err(WindowFault::TooSmall) => Err(ActionFault::Refused(Cause::WindowTooSmall)),
-        Err(WindowFault::OnlyOne) => Err(ActionFault::Refused(Cause::OnlyOneWindow)),
-        Err(WindowFault::Memory) => Err(ActionFault::Memory),
+impl From<WindowFault> for ActionFault {
+    ghost use Rattle.std.specs.Prelude.{◌≡◌};
+    ghost use Rattle.mg_screen.specs.declared.windows.WindowFault.TheVariants as window;
+    ghost use Rattle.mg_workspace.specs.declared.fault.ActionFault.TheVariants.{Refused, Memory};
+    ghost use Rattle.mg_workspace.specs.declared.fault.Cause.TheVariants.{WindowTooSmall, OnlyOneWindow};
+
+    ghost from_gives = { λ e fault. (e ≡ window.TooSmall → fault ≡ Refused WindowTooSmall)
+        × (e ≡ window.OnlyOne → fault ≡ Refused OnlyOneWindow)
+        × (e ≡ window.Memory → fault ≡ Memory) };
+
+    fn from(e: WindowFault) -> ActionFault {
+        match e {
+            WindowFault::TooSmall => ActionFault::Refused(Cause::WindowTooSmall),
+            WindowFault::OnlyOne => ActionFault::Refused(Cause::OnlyOneWindow),
+            WindowFault::Memory => ActionFault::Memory,
+        }
     }
 }

@@ -89,7 +89,7 @@ impl<S: TextStore> Workspace<S> {
         opened.append_runs(values.runs);
         opened.exchange_briefly(values.brief);
         let buffers = Buffers::new(alloc, opened)?;
-        let Ok(windows) = Windows::new(alloc, settings.rows(), BEGINNING) else {
+        let Ok(windows) = Windows::new(alloc, values.rows, BEGINNING) else {
             return Err(AllocError);
         };
         Ok(Workspace {
@@ -97,7 +97,7 @@ impl<S: TextStore> Workspace<S> {
             memo: Memo::new(alloc),
             windows,
             fill: values.fill,
-            columns: settings.columns(),
+            columns: values.columns,
             replica: values.replica,
             limit: values.limit,
             runs: values.runs,

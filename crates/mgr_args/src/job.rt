@@ -188,7 +188,7 @@ fn fault_of(error: Error, topic: Topic) -> JobFault
 }
 
 /// The fault of a command line with a word that is not UTF-8: `Usage`, or `Memory`.
-pub fn fault_of_bytes(alloc: Global) -> JobFault
+pub(crate) fn fault_of_bytes(alloc: Global) -> JobFault
     ensures { IsFaultOf mistake result }
 {
     mistake(alloc, "an argument is not UTF-8")

@@ -15,6 +15,5 @@ mod job;
 mod part;
 
 pub use arguments::words;
-pub use command::VERSION;
 pub use given::Compaction;
-pub use job::{Job, JobFault, Topic, fault_of_bytes, job_of, job_status};
+pub use job::{Job, JobFault, Topic, job_of, job_status};

@@ -17,8 +17,9 @@ use std::io::ErrorKind;
 /// Writes the log of a note anew, in as few lines as runs allow, beside it, and then gives that its
 /// name. With `dels` deletions too are written in runs. The old log is kept.
 ///
-/// Faults of the log as of `compact_log`; `Read` too where it can't be had, and `Write` where it is
-/// not as it was read.
+/// Faults of the log as of `compact_log`; `Read` too where it can't be had; `Write` too where nothing
+/// can be made beside it, where it is not as it was read, and where it is not given its name or that
+/// is not on the device; and `Memory`.
 pub fn compact_note<L: Logs>(
     alloc: Global,
     logs: &mut L,

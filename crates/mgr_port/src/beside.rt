@@ -97,7 +97,7 @@ fn take_rights(log: &File, like: &Option<Metadata>) -> io::Result<()> {
     }
 }
 
-/// Removes the next log of a path that has not got its name.
+/// Removes a file from the path at which it was to wait for its name, if it still stands there.
 pub(crate) fn remove_next<R: Files<File = File>>(rt: &R, path: &str, next: &File) {
     if let Ok(true) = stands_for(rt, path, next) {
         let _ = fs::remove_file(rt, path);

@@ -76,7 +76,7 @@ pub fn put_whole<D: Disk>(disk: &mut D, bytes: &[u8], keeps: bool) -> io::Result
 
 /// Makes these lines the whole file under a name, as `put_whole` does bytes.
 #[tactic(auto, using(crate::proofs::DiskLaws::stops_here, crate::proofs::DiskLaws::stops_in_write, crate::proofs::DiskLaws::stops_behind))]
-pub fn put_log<D: Disk>(disk: &mut D, lines: &LogLines, keeps: bool) -> io::Result<Named>
+pub(crate) fn put_log<D: Disk>(disk: &mut D, lines: &LogLines, keeps: bool) -> io::Result<Named>
     ensures named { IfOk result (λ named.
         TellsSteps (D.steps disk.old) (D.steps disk.new) (steps_to named keeps lines.now)) }
     ensures unnamed { OnErr result

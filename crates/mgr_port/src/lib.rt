@@ -24,7 +24,7 @@ mod sockets;
 mod stamp;
 mod text;
 
-pub use disk::{Disk, Named, put_log, put_whole};
+pub use disk::{Disk, Named, put_whole};
 pub use logs::Logs;
 pub use port::FilePort;
 pub use rewriting::OpenLog;

@@ -262,13 +262,15 @@ fn name_next<R: Files<File = File> + AllocGlobal>(
     standing: &Option<Metadata>,
 ) -> io::Result<Named> {
     if let Some(standing) = standing {
-        return name_as(rt, paths, next, lines, Kind::Log(standing), true);
+        return name_log(rt, paths, next, lines, Kind::Log(standing), true);
     }
     let text = metadata_if_there(rt, paths.text.as_str())?;
-    name_as(rt, paths, next, lines, Kind::First(&text), false)
+    name_log(rt, paths, next, lines, Kind::First(&text), false)
 }
 
-fn name_as<R: Files<File = File> + AllocGlobal>(
+/// Writes all of the next log, and gives it the log's name as a log of that kind. What stands under
+/// the name is kept where it is to be.
+fn name_log<R: Files<File = File> + AllocGlobal>(
     rt: &R,
     paths: &Paths,
     next: &mut File,

@@ -111,26 +111,16 @@ pub(crate) fn name_next<R: Files<File = File> + AllocGlobal>(
     mut next: File,
 ) -> io::Result<Named> {
     let path = paths.next_log.as_str();
-    let named = name_as(rt, read, &mut next, path, paths.log.as_str());
+    let mut disk = Beside {
+        rt,
+        file: &mut next,
+        path,
+        name: paths.log.as_str(),
+        kind: Kind::Rewritten(read),
+    };
+    let named = name_written(&mut disk, true);
     if named.is_err() {
         remove_next(rt, path, &next);
     }
     named
-}
-
-fn name_as<R: Files<File = File> + AllocGlobal>(
-    rt: &R,
-    read: &OpenLog,
-    next: &mut File,
-    path: &str,
-    log: &str,
-) -> io::Result<Named> {
-    let mut disk = Beside {
-        rt,
-        file: next,
-        path,
-        name: log,
-        kind: Kind::Rewritten(read),
-    };
-    name_written(&mut disk, true)
 }

@@ -146,11 +146,13 @@ impl Text {
         mut next: File,
         text: NextText<'_>,
     ) -> io::Result<()> {
-        let named = name_next(rt, paths, &mut next, text);
-        if named.is_err() {
-            remove_next(rt, paths.next_text.as_str(), &next);
-        }
-        let named = named?;
+        let named = match name_next(rt, paths, &mut next, text) {
+            Ok(named) => named,
+            Err(error) => {
+                remove_next(rt, paths.next_text.as_str(), &next);
+                return Err(error);
+            }
+        };
         self.own = Some(Stamp::of(&next.metadata()?));
         self.replaced = self.file.take();
         self.file = Some(next);

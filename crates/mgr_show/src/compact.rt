@@ -1,5 +1,5 @@
 //! A log in as few lines as runs allow.
-ghost use Rattle.std.specs.Prelude.{◌≡◌, ◌≢◌, ◌⊎◌, [], true, false, Ok, Err, OnOk, OnErr, IfErr};
+ghost use Rattle.std.specs.Prelude.{◌≡◌, ◌≢◌, ◌⊎◌, [], true, Ok, Err, OnOk, OnErr, IfErr};
 ghost use Rattle.rga_ops.specs.Prelude.{Content, nothing};
 ghost use Rattle.rga_store.specs.declared.text_store.TheConstants.{MAX_LIMIT};
 ghost use Rattle.rga_devices.specs.Counting.{CountsAs, OnBytes, Writes, WritesFront, WritesNothing};

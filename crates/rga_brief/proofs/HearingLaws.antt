@@ -18,7 +18,7 @@ use Rattle.rga_brief.specs.Heard.{HasHeard}
 use Rattle.rga_brief.specs.Lines.{claim_line_at}
 use Rattle.rga_brief.proofs.LineLaws.{too_long}
 use Rattle.rga_brief.specs.Told.{after_claim_line, lines_heard, bytes_heard, summary_heard}
-use Rattle.rga_brief.specs.declared.hearing.TheConstants.{BLOCK}
+use Rattle.rga_exchange.specs.declared.block.TheConstants.{BLOCK}
 use Rattle.rga_brief.specs.declared.claim_line.ClaimLine.{ClaimLine}
 
 -- ---- one line

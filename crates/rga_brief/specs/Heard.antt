@@ -4,7 +4,7 @@ use Rattle.std.specs.Io.KnownBytes.{Consumes}
 use Rattle.rga_devices.specs.Counting.{Calls}
 use Rattle.rga_exchange.specs.declared.fault.ReceiveFault.TheVariants.{Cut}
 use Rattle.rga_brief.specs.declared.claim.Claim.{Claim}
-use Rattle.rga_brief.specs.declared.hearing.TheConstants.{BLOCK}
+use Rattle.rga_exchange.specs.declared.block.TheConstants.{BLOCK}
 use Rattle.rga_brief.specs.Told.{bytes_heard, summary_heard}
 
 module _ {R : Type 0} (remaining : R → Option (List ℕ)) (old new : Calls R) where

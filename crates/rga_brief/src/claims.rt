@@ -1,5 +1,5 @@
 //! The claims of a summary, and the summary of claims.
-ghost use Rattle.std.specs.Prelude.{◌≡◌, ◌++◌, [], map, IfOk, IfErr, OnOk};
+ghost use Rattle.std.specs.Prelude.{◌≡◌, ◌++◌, map, IfOk, IfErr, OnOk};
 ghost use Rattle.std.specs.List.{filter_map};
 ghost use Rattle.rga_brief.specs.Summaries.{claims_of, digest_claim, put_claims, range_in, summary_from};
 ghost use Rattle.rga_brief.specs.declared.claim.Claim.TheVariants.{Known};

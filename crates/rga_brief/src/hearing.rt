@@ -16,13 +16,10 @@ use crate::claim_line::{ClaimLine, read_claim_line};
 use crate::claims::summary_from;
 use rga_devices::Counted;
 use rga_digest::Summary;
-use rga_exchange::ReceiveFault;
+use rga_exchange::{BLOCK, ReceiveFault};
 use rga_lines::{LineFault, Splitter};
 use std::alloc::Global;
 use std::io::Read;
-
-/// The most bytes that a read asks for.
-const BLOCK: usize = 65536;
 
 /// Hears what a peer claims to know: lines of claims, up to the line that counts them. No read
 /// follows the one that brought that line, and what stands behind it in that read is dropped.

@@ -1,12 +1,12 @@
 //! What a replica knows, told, and what its peer lacks, sent.
-ghost use Rattle.std.specs.Prelude.{◌≡◌, ℕ, ◌≤◌, ◌<◌, ◌^◌, ◌++◌, ◌∷◌, [], map, length, true, Ok, IfOk, IfErr, OnOk, string_bytes};
+ghost use Rattle.std.specs.Prelude.{◌≡◌, ℕ, ◌≤◌, ◌<◌, ◌^◌, ◌++◌, ◌∷◌, [], map, length, true, Ok, IfOk, IfErr, OnOk};
 ghost use Rattle.std.specs.List.{AllByRecursion};
 ghost use Rattle.rga_ops.specs.Prelude.{Content, Agree, IsSound, join, known_count, content_of};
 ghost use Rattle.rga_devices.specs.Counting.{CountsAs, Writes, WritesFront};
 ghost use Rattle.rga_lines.specs.Stream.{bytes_of_lines, newline};
 ghost use Rattle.rga_exchange.specs.Sending.{exchange_text};
 ghost use Rattle.rga_exchange.specs.Receiving.{exchange_outcome};
-ghost use Rattle.rga_digest.specs.Summary.{Summary as SummaryValue, IsSummary, missing};
+ghost use Rattle.rga_digest.specs.Summary.{missing};
 ghost use Rattle.rga_brief.specs.Claims.{IsInRange, claim_line};
 ghost use Rattle.rga_brief.specs.Summaries.{claims_of};
 ghost use Rattle.rga_brief.specs.Told.{IsTold, summary_text};
@@ -43,12 +43,8 @@ pub fn send_lines<W: Write>(lines: &[u8], writer: &mut Counted<W>) -> Result<(),
     ensures device { CountsAs SendFault.Write result writer.old writer.new }
     ensures write { IfErr result (λ e. e ≡ SendFault.Write) }
 {
-    let Ok(()) = writer.write_all(lines) else {
-        return Err(SendFault::Write);
-    };
-    let Ok(()) = writer.flush() else {
-        return Err(SendFault::Write);
-    };
+    writer.write_all(lines)?;
+    writer.flush()?;
     Ok(())
 }
 

@@ -1,5 +1,5 @@
 //! Logs in as few lines as runs allow.
-ghost use Rattle.std.specs.Prelude.{◌≡◌, ℕ, ◌+◌, ◌<◌, ◌≤◌, ◌++◌, ◌∷◌, [], length, slice_index, true, false, Ok, Some, None, IfOk, IfErr, OnOk, string_bytes};
+ghost use Rattle.std.specs.Prelude.{◌≡◌, ℕ, ◌+◌, ◌≤◌, ◌++◌, ◌∷◌, [], length, slice_index, true, false, Ok, Some, None, IfOk, IfErr, OnOk, string_bytes};
 ghost use Rattle.std.specs.Option.{option_map, option_map_or};
 ghost use Rattle.rga_ops.specs.Prelude.{checked, operations, content_of, IsSound};
 ghost use Rattle.rga_ops.specs.Content.{element};
@@ -296,18 +296,14 @@ fn run_from(
     ensures whole { IfOk result (λ r. IsRun r) }
 {
     let mut chars = Vec::new(alloc);
-    let Ok(()) = chars.push(ch) else {
-        return Err(AllocError);
-    };
+    chars.push(ch)?;
     let mut last = id;
     let mut near = index;
     'chars: while chars.len() < MAX_RUN {
         let Some((next, ch)) = next_in_run(ops, &mut near, last) else {
             break;
         };
-        let Ok(()) = chars.push(ch) else {
-            return Err(AllocError);
-        };
+        chars.push(ch)?;
         last = next;
     }
     Ok(Run { id, parent, chars })

@@ -17,8 +17,8 @@ use std::marker::Model;
 /// insertions that are in none of its ranges, and the deletions of each block whose digest there is
 /// not the own one. The insertions come first, each part by rising identifier. `Memory` alone.
 ///
-/// Whatever a summary claims, nothing else is sent. It takes n log n steps for n operations, in one
-/// pass over the store where the digests are the own ones, and else in two.
+/// Whatever a summary claims, nothing else is sent. It takes n log n steps for n operations. The
+/// store tells its operations once, and where the digests are not the own ones its deletions again.
 pub fn missing<S: Teller>(alloc: Global, store: &S, summary: &Summary) -> Result<Vec<Op>, Refusal>
     ensures ok { IfOk result (λ ops. ops.items ≡ missing (S.content store.now) summary.now) }
     ensures memory { IfErr result (λ e. e ≡ Refusal.Memory) }

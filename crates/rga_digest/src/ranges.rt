@@ -1,5 +1,5 @@
 //! Ranges of counters whose insertions a replica has.
-ghost use Rattle.std.specs.Prelude.{◌≡◌, ◌||◌, ◌&&◌, ◌<◌, true, length, nat_le, slice_index_or, Some, None, IfSome, IfOk, IfErr, OnOk, if◌then◌else◌};
+ghost use Rattle.std.specs.Prelude.{◌≡◌, ◌||◌, ◌&&◌, ◌<◌, true, length, slice_index_or, Some, None, IfSome, IfOk, IfErr, OnOk, if◌then◌else◌};
 ghost use Rattle.std.specs.List.Sorted.{IsSorted};
 ghost use Rattle.rga_ops.specs.Identifier.{Identifier, is_id};
 ghost use Rattle.rga_digest.specs.Ranges.{is_in, is_filled, AreFilledRanges, is_known, is_apart, are_rising, starts_by, range_cmp, touches, meets, joined};
@@ -42,7 +42,7 @@ impl KnownRange {
         self.replica == id.replica() && self.last < id.counter() && id.counter() - self.last == 1
     }
 
-    /// The range with one that begins in it or next to it.
+    /// The range with one that begins in it or next to it. `None` where it does neither.
     fn joined(self, next: KnownRange) -> Option<KnownRange>
         ensures { result ≡ (if meets self next then Some (joined self next) else None) }
     {

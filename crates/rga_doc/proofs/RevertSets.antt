@@ -1,18 +1,13 @@
 -- Elements that were met before, in the lists of a revert.
-use Rattle.std.proofs.Common.{◌≡◌, ℕ, ◌+◌, ◌<◌, Bool, true, false, cond, not, ◌&&◌, ◌||◌, List, [], ◌∷◌, map, filter, drop, length, get_or, refl, sym, ap, ◌∙◌}
+use Rattle.std.proofs.Common.{◌≡◌, ℕ, Bool, true, false, cond, not, ◌&&◌, ◌||◌, List, [], ◌∷◌, map, filter, refl, sym, ap, ◌∙◌}
 use Rattle.std.specs.List.{list_any, AllByRecursion}
 use Rattle.std.proofs.lemmas.Bool.{and_parts, or_parts, not-true}
-use Rattle.std.proofs.lemmas.List.{drop_more}
 use Rattle.rga_ops.specs.Identifier.{Identifier, is_id}
 use Rattle.rga_ops.specs.Content.{Content}
 use Rattle.rga_ops.specs.RootPath.{is_complete}
 use Rattle.rga_ops.specs.Placement.{without}
 use Rattle.rga_ops.proofs.IdentifierLaws.{is, is_swap, is_id-same}
 use Rattle.rga_doc.specs.Revert.{distinct_elements, are_restorable}
-
--- the rest of a list from an item on
-pub from : {A : Type 0} (xs : List A) (i : ℕ) (x : A) → i < length xs → x ≡ get_or xs i x → drop i xs ≡ x ∷ drop (i + 1) xs
-from xs i x within is = drop_more xs i x within ∙ ap (λ y. y ∷ drop (i + 1) xs) (sym is)
 
 pub id_swap : (a b : Identifier) → is_id a b ≡ is_id b a
 id_swap a b = is_id-same a b ∙ is_swap b a ∙ sym (is_id-same b a)

@@ -22,8 +22,9 @@ impl<S: TextStore> Doc<S> {
     ///
     /// Refusals, in this order: `Full` where the new characters exceed the limit; `Range` where
     /// `lo` is above `hi` or `hi` above the length of the text; `Clock` where there are new
-    /// characters and not that many counters; `Memory`. A refusal changes nothing, but that it may
-    /// leave the document listed.
+    /// characters and not that many counters; `Memory`, which may come in the place of `Clock`, and
+    /// of `Range` where `lo` is not above `hi`. A refusal changes nothing, but that it may leave the
+    /// document listed.
     pub fn splice(&mut self, lo: usize, hi: usize, put: &[char]) -> Result<Vec<Op>, Refusal>
         ensures exact { IsAnswer result
             (splice_answer self.old.limit self.old.content lo hi put.now) }
@@ -95,13 +96,10 @@ impl<S: TextStore> Doc<S> {
             ≡ splice_operations self.now.replica self.now.content lo hi put.now) }
         ensures memory { IfErr result (λ e. e ≡ Refusal.Memory) }
     {
-        if let Ok(elements) = Excerpt::of(self.alloc, &self.store, lo, hi) {
-            let mut draft = Draft::new(self.alloc, self.replica, self.store.clock());
-            if draft.splice(&elements, lo, hi, put).is_ok() {
-                return Ok(draft.ops);
-            }
-        }
-        Err(Refusal::Memory)
+        let elements = Excerpt::of(self.alloc, &self.store, lo, hi)?;
+        let mut draft = Draft::new(self.alloc, self.replica, self.store.clock());
+        draft.splice(&elements, lo, hi, put)?;
+        Ok(draft.ops)
     }
 
     /// Several splices at once, of places that fall and do not overlap: each ends at or before the
@@ -109,8 +107,8 @@ impl<S: TextStore> Doc<S> {
     /// the order given.
     ///
     /// Refusals, in this order, for all splices together: `Full`, `Range` (of a place, or of two
-    /// that do not fall), `Clock`, `Memory`. A refusal changes nothing, but that it may leave the
-    /// document listed.
+    /// that do not fall), `Clock`; `Memory`, which may come in the place of `Clock`, and of `Range`
+    /// where the places fall. A refusal changes nothing, but that it may leave the document listed.
     pub fn splices(&mut self, splices: &[Splice]) -> Result<Vec<Op>, Refusal>
         ensures exact { IsAnswer result
             (splices_answer self.old.limit self.old.content splices.now) }

@@ -63,8 +63,5 @@ pub(crate) fn put_in(set: &mut IndexSet<Id>, id: Id) -> Result<bool, Refusal>
         contains is_id set.new q ≡ (is_id id q || contains is_id set.old q)) }
     ensures memory { IfErr result (λ e. e ≡ Refusal.Memory) }
 {
-    match set.insert(id) {
-        Ok(new) => Ok(new),
-        Err(_) => Err(Refusal::Memory),
-    }
+    Ok(set.insert(id)?)
 }

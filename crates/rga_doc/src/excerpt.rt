@@ -1,5 +1,5 @@
 //! The visible elements that an edit names.
-ghost use Rattle.std.specs.Prelude.{◌≡◌, ◌≤◌, ◌-◌, length, take, drop, IfOk, IfErr};
+ghost use Rattle.std.specs.Prelude.{◌≡◌, ◌≤◌, length, take, drop, IfOk, IfErr};
 ghost use Rattle.rga_ops.specs.Places.{visible};
 ghost use Rattle.rga_doc.specs.Excerpt.{excerpt};
 ghost use Rattle.rga_doc.specs.LocalEdit.{left_of};

@@ -1,5 +1,5 @@
 //! What is listed, changed as one operation of another replica has changed the store.
-ghost use Rattle.std.specs.Prelude.{◌≡◌, ◌+◌, ℕ, true, length, Option, Some, IfSome};
+ghost use Rattle.std.specs.Prelude.{◌≡◌, ◌+◌, ℕ, true, length, Option, IfSome};
 ghost use Rattle.rga_ops.specs.Identifier.{Identifier};
 ghost use Rattle.rga_ops.specs.Order.{text};
 ghost use Rattle.rga_ops.specs.Places.{visible};
@@ -116,9 +116,7 @@ fn place_of_visible<S: TextStore>(store: &S, id: Id) -> Option<usize>
     if store.get(id).is_none() || store.is_deleted(id) {
         return None;
     }
-    let Some(place) = store.place_of(id) else {
-        return None;
-    };
+    let place = store.place_of(id)?;
     if place == 0 {
         return None;
     }

@@ -4,12 +4,13 @@
 //! the operations that a splice stands for, which the document takes itself and the caller passes
 //! on to other replicas. An edit can be drafted and taken later, and it is reverted by what it
 //! inserted and deleted. A place among others' edits is kept by an `Anchor`. A document may list
-//! its visible elements and their characters, so that edits and anchors cost no walk.
+//! the characters of its visible elements, so that they are lent, and edits change them in place.
 //!
-//! The crate stands on rga_ops, and on the traits of rga_store, and is generic over any
-//! `TextStore`. The layer above may rest on the contracts: the operations answered are those of the
-//! definition, the content is joined with them, and the text afterwards is the splice of the text
-//! before; by a law, the revert of splices gives the text from before them.
+//! The crate stands on rga_ops, on the traits of rga_store, on rga_characters for what is listed,
+//! and on indexmap, which no public signature names; it is generic over any `TextStore`. The layer
+//! above may rest on the contracts: the operations answered are those of the definition, the
+//! content is joined with them, and the text afterwards is the splice of the text before; by a law,
+//! the revert of splices gives the text from before them.
 #![tactic(auto)]
 
 mod anchor;
@@ -21,11 +22,10 @@ mod excerpt;
 mod following;
 pub mod laws;
 mod listing;
+mod places;
 mod rereading;
 mod revert;
 mod taking;
-pub mod walk;
 
 pub use anchor::Anchor;
 pub use doc::Doc;
-pub use rga_ops::Splice;

@@ -1,6 +1,5 @@
 //! What is listed, read anew where a revert has changed the text.
-ghost use Rattle.std.specs.Prelude.{◌≡◌, ◌≤◌, ◌+◌, nat_le, true, length, take, drop, None, IfSome, Option};
-ghost use Rattle.std.specs.List.{AllByRecursion};
+ghost use Rattle.std.specs.Prelude.{◌≡◌, ◌≤◌, ◌+◌, nat_le, true, take, drop, None, IfSome, Option};
 ghost use Rattle.rga_ops.specs.Order.{text};
 ghost use Rattle.rga_doc.specs.Relisting.{AgreeOutside, AllBetween, WillAgreeOutside};
 
@@ -43,9 +42,7 @@ impl Margins {
         let count = store.visible_len();
         let mut margins = self;
         for op in ops {
-            let Some(place) = store.place_of(op.id()) else {
-                return None;
-            };
+            let place = store.place_of(op.id())?;
             if place == 0 || place > count {
                 return None;
             }
@@ -141,17 +138,11 @@ fn characters_between<S: TextStore>(
     ensures { IfSome result
         (λ characters. characters.items ≡ drop lo (take hi (text (S.content store.now)))) }
 {
-    let Ok(elements) = store.elements(alloc, lo, hi) else {
-        return None;
-    };
+    let elements = store.elements(alloc, lo, hi).ok()?;
     let mut characters = Vec::new(alloc);
     for id in &elements {
-        let Some((_, ch)) = store.get(*id) else {
-            return None;
-        };
-        let Ok(()) = characters.push(ch) else {
-            return None;
-        };
+        let (_, ch) = store.get(*id)?;
+        characters.push(ch).ok()?;
     }
     Some(characters)
 }

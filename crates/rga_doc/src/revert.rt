@@ -27,7 +27,8 @@ impl<S: TextStore> Doc<S> {
     ///
     /// Refusals, in this order: `Full` where the new characters exceed the limit; `Range` where an
     /// element of `back` is not complete or stands there twice; `Clock` where there are new
-    /// characters and not that many counters; `Memory`. A refusal changes nothing.
+    /// characters and not that many counters; `Memory`, which may come in the place of the last two.
+    /// A refusal changes nothing.
     pub fn revert(&mut self, gone: &[Id], back: &[(Id, char)]) -> Result<Vec<Op>, Refusal>
         ensures exact { IsAnswer result
             (revert_answer self.old.limit self.old.content back.now) }
@@ -111,9 +112,8 @@ impl<S: TextStore> Doc<S> {
         ensures memory { IfErr result (λ e. e ≡ Refusal.Memory) }
     {
         let mut draft = Draft::new(self.alloc, self.replica, self.store.clock());
-        if draft.delete(visible).is_err() || draft.restore(back).is_err() {
-            return Err(Refusal::Memory);
-        }
+        draft.delete(visible)?;
+        draft.restore(back)?;
         Ok(draft.ops)
     }
 }
@@ -185,8 +185,7 @@ fn check_unseen<S: TextStore>(
         if !complete.has(store, *element) {
             return Err(Refusal::Range);
         }
-        let new = put_in(seen, *element)?;
-        if !new {
+        if !put_in(seen, *element)? {
             return Err(Refusal::Range);
         }
     }

@@ -11,7 +11,7 @@ use Rattle.rga_ops.specs.ListAnswer.{IsJoinable}
 use Rattle.rga_ops.specs.declared.op.Op.{Op}
 use Rattle.rga_ops.specs.declared.refusal.Refusal.{Refusal}
 use Rattle.rga_ops.proofs.OperationLaws.{Contains-nil, Contains-cases, Contains-append}
-use Rattle.rga_ops.proofs.TakenLaws.{took}
+use Rattle.rga_ops.proofs.TakenLaws.{took, one_by_one-append}
 use Rattle.rga_ops.proofs.KnownLaws.{takeable_is_taken, taken_list_within}
 use Rattle.rga_ops.proofs.ListAnswerLaws.{one_by_one_list, list_taken-iff}
 use Rattle.rga_lines.specs.Runs.{stretch_operations, run_deletions}
@@ -32,7 +32,7 @@ use Rattle.rga_exchange.specs.Taking.{AllTaken, AtFault, progress, taken_whole, 
 use Rattle.rga_exchange.specs.Log.{LogOutcome, end_outcome, after_bare_operation, after_bare_line, after_rest, after_stop, after_lines, log_outcome}
 use Rattle.rga_exchange.specs.Sending.{StandsFor}
 use Rattle.rga_exchange.specs.Stops.{HasNothingTorn}
-use Rattle.rga_exchange.proofs.TakingLaws.{are_taken, lines_counted, took_front, one_by_one-append, one_taken, one_by_one_taken_whole}
+use Rattle.rga_exchange.proofs.TakingLaws.{are_taken, lines_counted, took_front, one_taken, one_by_one_taken_whole}
 use Rattle.rga_exchange.proofs.OperationLaws.{is_read_to_end, no_fault, is_read, log_taken}
 use Rattle.rga_exchange.proofs.StopLaws.{operations_are_taken}
 use Rattle.rga_exchange.proofs.MeetingLaws.{first_fits}

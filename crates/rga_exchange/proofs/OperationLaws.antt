@@ -7,7 +7,7 @@ use Rattle.rga_ops.specs.Content.{Content, join, content_of}
 use Rattle.rga_ops.specs.Answer.{taken, and_take, taken_one_by_one}
 use Rattle.rga_ops.specs.declared.op.Op.{Op}
 use Rattle.rga_ops.specs.declared.refusal.Refusal.{Refusal}
-use Rattle.rga_ops.proofs.TakenLaws.{taken_list_is}
+use Rattle.rga_ops.proofs.TakenLaws.{taken_list_is, one_by_one-append}
 use Rattle.rga_lines.specs.Runs.{stretch_operations, run_deletions}
 use Rattle.rga_lines.specs.Table.{AnyReading, any_line_at}
 use Rattle.rga_lines.specs.LineConstants.{MAX_LINE}
@@ -32,7 +32,7 @@ use Rattle.rga_exchange.specs.Receiving.{number_received, exchange_outcome}
 use Rattle.rga_exchange.specs.declared.fault.ReceiveFault.{ReceiveFault}
 use Rattle.rga_exchange.specs.declared.fault.ReceiveFault.TheVariants as exchange_fault
 use Rattle.rga_exchange.proofs.HeadLaws.{on, halt, through_body}
-use Rattle.rga_exchange.proofs.TakingLaws.{goes_on, line_taken, one_by_one-append, taken_whole_one_by_one}
+use Rattle.rga_exchange.proofs.TakingLaws.{goes_on, line_taken, taken_whole_one_by_one}
 
 abbrev pub ran : Result LogRead LogFault → Content → LogOutcome
 ran r c = (c, r)

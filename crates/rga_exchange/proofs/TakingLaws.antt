@@ -8,7 +8,7 @@ use Rattle.rga_ops.specs.ListAnswer.{Verdict, list_answer}
 use Rattle.rga_ops.specs.Answer.{taken, and_take, taken_one_by_one}
 use Rattle.rga_ops.specs.declared.op.Op.{Op}
 use Rattle.rga_ops.specs.declared.refusal.Refusal.{Refusal}
-use Rattle.rga_ops.proofs.TakenLaws.{took, refused, taken_list_is}
+use Rattle.rga_ops.proofs.TakenLaws.{took, refused, taken_list_is, one_by_one-append}
 use Rattle.rga_ops.proofs.ListAnswerLaws.{list_one_by_one, one_by_one_list}
 use Rattle.rga_lines.specs.Runs.{Stretch, stretch_operations, run_deletions}
 use Rattle.rga_lines.specs.DeletionRun.{DeletionRun}
@@ -107,15 +107,6 @@ took_first limit c d op ops h = by_first (taken limit c op) refl h
     by_first (Err x) was g = let clash : refused x ≡ took d = g in absurd cc
 
 -- operations that were taken, and then others
-pub one_by_one-append : (limit : ℕ) (c d : Content) (xs ys : List Op) → taken_one_by_one limit c xs ≡ Ok d → taken_one_by_one limit c (xs ++ ys) ≡ taken_one_by_one limit d ys
-one_by_one-append limit c d [] ys h =
-    let same : took c ≡ took d = h in
-    let is : c ≡ d = cc in
-    ap (λ e. taken_one_by_one limit e ys) is
-one_by_one-append limit c d (x ∷ xs) ys h =
-    let w = took_first limit c d x xs h in
-    ap (λ r. and_take r (λ e. taken_one_by_one limit e (xs ++ ys))) w.1 ∙ one_by_one-append limit w.0 d xs ys w.2
-
 pub took_front : (limit : ℕ) (c d : Content) (xs ys : List Op) → taken_one_by_one limit c (xs ++ ys) ≡ Ok d → (e : Content) × (taken_one_by_one limit c xs ≡ Ok e) × (taken_one_by_one limit e ys ≡ Ok d)
 took_front limit c d [] ys h = (c, refl, h)
 took_front limit c d (x ∷ xs) ys h =

@@ -11,9 +11,10 @@ use std::io::Write;
 use std::marker::Model;
 
 /// How many bytes a block has room for, and the most that a read asks for.
-pub(crate) const BLOCK: usize = 65536;
+pub const BLOCK: usize = 65536;
 
-/// The room behind a block, for the line that ends an exchange.
+/// The room behind a block, for the line of an operation that begins in it. A line that is pushed
+/// behind the last one may ask for more.
 const END: usize = 128;
 
 /// Lines that are not yet written, each with the newline that ends it.
@@ -140,9 +141,7 @@ impl Block {
     {
         let rest = self.end % BLOCK;
         let whole = self.end - rest;
-        let Ok(()) = writer.write_all(&self.bytes[..whole]) else {
-            return Err(SendFault::Write);
-        };
+        writer.write_all(&self.bytes[..whole])?;
         move_to_front(self.bytes.as_mut_slice(), whole, rest);
         self.end = rest;
         Ok(())
@@ -156,9 +155,7 @@ impl Block {
         ensures fault { IfErr result (λ e. e ≡ SendFault.Write) }
         ensures device { CountsAs SendFault.Write result writer.old writer.new }
     {
-        let Ok(()) = writer.write_all(&self.bytes[..self.end]) else {
-            return Err(SendFault::Write);
-        };
+        writer.write_all(&self.bytes[..self.end])?;
         self.end = 0;
         Ok(())
     }
@@ -172,9 +169,7 @@ impl Block {
         ensures device { CountsAs SendFault.Write result writer.old writer.new }
     {
         self.write_to(writer)?;
-        let Ok(()) = writer.flush() else {
-            return Err(SendFault::Write);
-        };
+        writer.flush()?;
         Ok(())
     }
 }

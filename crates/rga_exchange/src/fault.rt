@@ -26,6 +26,17 @@ impl From<AllocError> for SendFault {
     }
 }
 
+impl From<std::io::Error> for SendFault {
+    ghost use Rattle.std.specs.Prelude.{◌≡◌};
+    ghost use Rattle.rga_exchange.specs.declared.fault.SendFault.TheVariants.{Write};
+
+    ghost from_gives = { λ _ fault. fault ≡ Write };
+
+    fn from(_: std::io::Error) -> SendFault {
+        SendFault::Write
+    }
+}
+
 /// Why a log is not read to its end. Lines count from 1. The operations of the lines before the
 /// fault are taken.
 #[derive(Clone, Copy)]

@@ -26,7 +26,7 @@ mod runs;
 mod sending;
 mod taking;
 
-pub use block::Block;
+pub use block::{BLOCK, Block};
 pub use fault::{LogFault, ReceiveFault, SendFault};
 pub use log::{LogEnd, LogRead, read_log, take_log};
 pub use receiving::receive;

@@ -224,7 +224,7 @@ fn next_in_list(last: Id, op: &Op) -> Option<(Id, char)>
 fn next_insertion(last: Id, id: Id, parent: Id, ch: char) -> Option<(Id, char)>
     ensures { result ≡ going_behind last (Insert id parent ch) }
 {
-    if is_next(id, last) && is_same(parent, last) {
+    if is_next(id, last) && parent == last {
         Some((id, ch))
     } else {
         None
@@ -236,10 +236,4 @@ fn is_next(id: Id, last: Id) -> bool
     ensures { result ≡ is_id id (next last) }
 {
     id.counter() == last.counter() + 1 && id.replica() == last.replica()
-}
-
-fn is_same(id: Id, other: Id) -> bool
-    ensures { result ≡ is_id id other }
-{
-    id.counter() == other.counter() && id.replica() == other.replica()
 }

@@ -14,8 +14,8 @@ use Rattle.rga_ops.specs.declared.op.Op.{Op}
 use Rattle.rga_ops.specs.declared.op.Op.TheVariants.{Insert, Delete}
 use Rattle.rga_sequence.specs.declared.entry.Entry.{Entry}
 use Rattle.rga_store.specs.Without.{without_operation}
-use Rattle.rga_records.specs.declared.steps.Step.{Step}
-use Rattle.rga_records.specs.Back.{without_noted}
+use Rattle.rga_store.specs.declared.steps.Step.{Step}
+use Rattle.rga_store.specs.Back.{without_noted}
 use Rattle.rga_flat.specs.Flat.{IsFlat}
 use Rattle.rga_flat.specs.Undo.{undone_entries, undone_under, IsGoingBack, IsReturnable}
 use Rattle.rga_flat.specs.Waiting.{Waiting, under, has_list}

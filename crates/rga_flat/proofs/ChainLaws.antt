@@ -6,7 +6,7 @@ use Rattle.std.specs.FinMap as finite_map
 use Rattle.std.specs.FinSet as finite_set
 use Rattle.std.specs.Ordering.{is_gt, ordering_reverse}
 use Rattle.std.specs.BTreeSet.{contains}
-use Rattle.std.proofs.lemmas.List.{take_more, take_rest, drop_more, take-append-drop}
+use Rattle.std.proofs.lemmas.List.{take_more, take_rest, take-append-drop}
 use Rattle.rga_ops.specs.Identifier.{Identifier, id_cmp, is_root}
 use Rattle.rga_ops.specs.Content.{element, Content, IsSound, IsWithin, join, single, clock_of}
 use Rattle.rga_ops.specs.Answer.{answer, after_answer, taken, and_take, taken_one_by_one}
@@ -24,13 +24,15 @@ use Rattle.rga_store.proofs.WithoutLaws.{new_held}
 use Rattle.rga_sequence.specs.declared.entry.Entry.{Entry}
 use Rattle.rga_sequence.specs.Entries.{has, put_entry, put_chain, CanFollow, IsChain}
 use Rattle.rga_records.specs.Chains.{last_entry_of}
-use Rattle.rga_records.specs.declared.steps.Step.{Step}
-use Rattle.rga_records.specs.Back.{without_noted}
+use Rattle.rga_store.specs.declared.steps.Step.{Step}
+use Rattle.rga_store.specs.Back.{without_noted}
 use Rattle.rga_flat.specs.Chains.{IsGathered, ChainShows}
 use Rattle.rga_flat.specs.Flat.{is_above, IsFlat}
 use Rattle.rga_flat.specs.Placing.{IsPlacing}
 use Rattle.rga_flat.specs.Waiting.{Waiting, under, has_list, is_listed}
-use Rattle.rga_records.proofs.BackLaws.{without_noted-push, one_step_more, without_taken, last_taken, taken_on}
+use Rattle.rga_ops.proofs.TakenLaws.{one_by_one-append}
+use Rattle.rga_ops.proofs.ListSteps.{from}
+use Rattle.rga_store.proofs.BackLaws.{without_noted-push, one_step_more, without_taken, last_taken}
 use Rattle.rga_flat.proofs.WaitingLaws.{under_none}
 use Rattle.rga_flat.proofs.PlacingLaws.{above_cases, of_root, of_complete, complete_of, place_start, place_step, place_absent, place_parent, placed_flat}
 
@@ -45,7 +47,7 @@ pub gathered_more : (limit : ℕ) (base c d : Content) (step : Step) (ops : List
 gathered_more limit base c d step ops before steps g answered joined clocked =
     let op = step.op.now in
     record {
-      taken = taken_on limit base c ops (op ∷ []) g.taken ∙ ap (λ r. and_take (after_answer c op r) (λ e. Ok e)) answered ∙ ap (λ e. Ok e) (sym joined);
+      taken = one_by_one-append limit base c ops (op ∷ []) g.taken ∙ ap (λ r. and_take (after_answer c op r) (λ e. Ok e)) answered ∙ ap (λ e. Ok e) (sym joined);
       within = within_chain base c d g.within (subst (λ e. IsWithin c e) (sym joined) (within_join c (single op)));
       back = one_step_more steps step d (last_taken limit c d op answered joined steps step.clock clocked g.back);
       own = g.own ++ step ∷ [];
@@ -62,8 +64,8 @@ gathered_next limit base c d step item ops i before steps later noted g w is sam
 
 pub next_refused : (limit : ℕ) (base c : Content) (item : Op) (ops : List Op) (i : ℕ) (e : Refusal) → taken_one_by_one limit base (take i ops) ≡ Ok c → i < length ops → item ≡ slice_index_or ops i item → taken limit c item ≡ Err e → taken_one_by_one limit base ops ≡ Err e
 next_refused limit base c item ops i e first w is next =
-    ap (taken_one_by_one limit base) (sym (take-append-drop i ops) ∙ ap (λ xs. take i ops ++ xs) (drop_more ops i item w ∙ ap (λ x. x ∷ drop (i + 1) ops) (sym is)))
-    ∙ taken_on limit base c (take i ops) (item ∷ drop (i + 1) ops) first
+    ap (taken_one_by_one limit base) (sym (take-append-drop i ops) ∙ ap (λ xs. take i ops ++ xs) (from ops i item w is))
+    ∙ one_by_one-append limit base c (take i ops) (item ∷ drop (i + 1) ops) first
     ∙ ap (λ r. and_take r (λ d. taken_one_by_one limit d (drop (i + 1) ops))) next
 
 drop_later : (i n : ℕ) (xs : List Op) → drop n (drop i xs) ≡ drop (i + n) xs
@@ -85,7 +87,7 @@ drop_later (suc i) n (x ∷ xs) = drop_later i n xs ∙ ap (λ m. drop m (x ∷ 
 pub list_later : (limit : ℕ) (c d : Content) (ops : List Op) (i n : ℕ) → taken_one_by_one limit c (take n (take (length ops - i) (drop i ops))) ≡ Ok d → taken_one_by_one limit d (drop (i + n) ops) ≡ taken_one_by_one limit c (drop i ops)
 list_later limit c d ops i n h =
     ap (taken_one_by_one limit d) (sym (drop_later i n ops))
-    ∙ sym (taken_on limit c d (take n (drop i ops)) (drop n (drop i ops)) (ap (λ xs. taken_one_by_one limit c (take n xs)) (sym (take_rest ops i)) ∙ h))
+    ∙ sym (one_by_one-append limit c d (take n (drop i ops)) (drop n (drop i ops)) (ap (λ xs. taken_one_by_one limit c (take n xs)) (sym (take_rest ops i)) ∙ h))
     ∙ ap (taken_one_by_one limit c) (take-append-drop n (drop i ops))
 
 -- the steps that were there lead where they led

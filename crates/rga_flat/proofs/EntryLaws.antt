@@ -1,6 +1,6 @@
 -- Entries that are put and taken out.
 use Rattle.std.proofs.Common.{◌≡◌, Bool, true, false, cond, not, ◌||◌, List, [], ◌∷◌, ◌++◌, refl, sym, ap, ◌∙◌, true≢false}
-use Rattle.std.specs.Prelude.{Result, Ok, Err, OnOk, OnErr, IfOk, is_ok}
+use Rattle.std.specs.Prelude.{Result, Ok, Err, OnOk, IfOk}
 use Rattle.std.specs.List.{list_any, AllByRecursion}
 use Rattle.std.specs.Ordering.{is_gt}
 use Rattle.rga_ops.specs.Identifier.{Identifier, id_cmp, is_id, is_root}
@@ -83,34 +83,14 @@ taken_out-push (x ∷ ks) k es = ap (without_entry x) (taken_out-push ks k es)
 
 -- ---- results
 
-pub on_ok_map : {A E P Q : Type 0} (r : Result A E) → (P → Q) → OnOk r P → OnOk r Q
-on_ok_map (Ok x) f p = f p
-on_ok_map (Err e) f p = tt
-
 pub on_ok_both : {A E P Q R : Type 0} (r : Result A E) → (P → Q → R) → OnOk r P → OnOk r Q → OnOk r R
 on_ok_both (Ok x) f p q = f p q
 on_ok_both (Err e) f p q = tt
-
-pub on_err_map : {A E P Q : Type 0} (r : Result A E) → (P → Q) → OnErr r P → OnErr r Q
-on_err_map (Ok x) f p = tt
-on_err_map (Err e) f p = f p
 
 pub on_ok : {A E P : Type 0} (r : Result A E) → P → OnOk r P
 on_ok (Ok x) p = p
 on_ok (Err e) p = tt
 
-pub on_err : {A E P : Type 0} (r : Result A E) → P → OnErr r P
-on_err (Ok x) p = tt
-on_err (Err e) p = p
-
 pub if_ok_map : {A E : Type 0} (P Q : A → Type 0) (r : Result A E) → ((x : A) → P x → Q x) → IfOk r P → IfOk r Q
 if_ok_map P Q (Ok x) f p = f x p
 if_ok_map P Q (Err e) f p = tt
-
-pub from_is_ok : {A E P : Type 0} (r : Result A E) → is_ok r ≡ true → OnOk r P → P
-from_is_ok (Ok x) t p = p
-from_is_ok (Err e) t p = absurd (true≢false (sym t))
-
-pub from_not_ok : {A E P : Type 0} (r : Result A E) → is_ok r ≡ false → OnErr r P → P
-from_not_ok (Ok x) t p = absurd (true≢false t)
-from_not_ok (Err e) t p = p

@@ -1,8 +1,7 @@
 -- What is read from the entries of a flat store is what its content shows.
-use Rattle.std.proofs.Common.{◌≡◌, ◌<◌, ◌+◌, Bool, true, false, cond, not, ◌||◌, ℕ, suc, List, [], ◌∷◌, length, filter, map, drop, get_or, refl, sym, ap, ◌∙◌}
+use Rattle.std.proofs.Common.{◌≡◌, ◌+◌, Bool, true, false, cond, not, ◌||◌, ℕ, suc, List, [], ◌∷◌, length, filter, map, refl, sym, ap, ◌∙◌}
 use Rattle.std.specs.Prelude.{Some, None}
 use Rattle.std.specs.Option.{option_map}
-use Rattle.std.proofs.lemmas.List.{drop_more}
 use Rattle.std.specs.List.{list_any, filter_map, cons_option, AllByRecursion}
 use Rattle.std.specs.FinMap as finite_map
 use Rattle.rga_ops.specs.Identifier.{Identifier, is_id, is_root}
@@ -85,7 +84,3 @@ module _ (c : Content) where
 
     pub all_listed : length es + length (waiting c) ≡ finite_map.len c.inserted
     all_listed = ap (λ n. n + length (waiting c)) (sym (length_ids es) ∙ ap length listed) ∙ ordered_and_waiting c ∙ len-keys c
-
--- what is left of a list from an index on
-pub from : {A : Type 0} (xs : List A) (i : ℕ) (x : A) → i < length xs → x ≡ get_or xs i x → drop i xs ≡ x ∷ drop (i + 1) xs
-from xs i x within is = drop_more xs i x within ∙ ap (λ y. y ∷ drop (i + 1) xs) (sym is)

@@ -1,11 +1,11 @@
 //! Insertions of a list of which each is the parent of the next, taken some at once: their entries
 //! go into the sequence in one piece.
-ghost use Rattle.std.specs.Prelude.{◌≡◌, ◌≢◌, ◌≤◌, ◌++◌, ◌∷◌, [], Ok, true, false, length, take, drop, IfSome, IfOk, OnOk, OnErr, IfErr, ◌+◌, ◌<◌, min, vec_len, vec_capacity};
+ghost use Rattle.std.specs.Prelude.{◌≡◌, ◌≤◌, ◌++◌, ◌∷◌, [], Ok, true, false, length, take, IfSome, IfOk, OnOk, OnErr, IfErr, ◌+◌, ◌<◌, min, vec_len, vec_capacity};
 ghost use Rattle.std.specs.FinSet as finite_set;
 ghost use Rattle.rga_ops.specs.Content.{join, single, clock_of};
 ghost use Rattle.rga_ops.specs.Answer.{answer};
 ghost use Rattle.rga_sequence.specs.Entries.{put_chain, IsChain};
-ghost use Rattle.rga_records.specs.Back.{without_noted, CanTakeBack};
+ghost use Rattle.rga_store.specs.Back.{CanTakeBack};
 ghost use Rattle.rga_flat.specs.Chains.{ChainShows, IsGathered};
 ghost use Rattle.rga_flat.specs.Flat.{is_above, IsFlat};
 ghost use Rattle.rga_flat.specs.Waiting.{under, has_list, is_listed};
@@ -15,8 +15,9 @@ use crate::placing::{next, note_block, note_entries};
 use crate::taking::near_above;
 use crate::waiting::has_list;
 use rga_ops::{Id, Op, Refusal, Taken, answer_to};
-use rga_records::{Records, Step, note};
+use rga_records::Records;
 use rga_sequence::{Entry, MOST_AT_ONCE, Near, Sequence};
+use rga_store::{Step, note};
 use std::alloc::Global;
 use std::collections::{BTreeMap, BTreeSet};
 

@@ -7,7 +7,7 @@ use crate::whole_list::take_whole;
 use rga_ops::{Id, Op, Refusal, Taken};
 use rga_records::Records;
 use rga_sequence::Sequence;
-use rga_store::{Listener, Taker, Teller, TextStore};
+use rga_store::{Listener, Taker, Teller, TextStore, answer_to_list};
 use std::alloc::Global;
 use std::collections::{BTreeMap, BTreeSet};
 use std::marker::Model;
@@ -40,7 +40,6 @@ impl Model for FlatStore {
 }
 
 impl Taker for FlatStore {
-    ghost use Rattle.std.specs.Prelude.{◌≡◌, Ok, Err, false};
     ghost use Rattle.rga_store.specs.Growth.{NeedsRoom};
 
     ghost content = { λ s. s.content };
@@ -82,7 +81,7 @@ impl Taker for FlatStore {
             return Ok(());
         }
         // Which refusal comes first depends on the whole list, so it is looked for only now.
-        self.records.answer_to_list(self.alloc, ops)?;
+        answer_to_list(self.alloc, &self.records, ops)?;
         Err(Refusal::Memory)
     }
 }

@@ -3,15 +3,16 @@
 ghost use Rattle.std.specs.Prelude.{◌≡◌, ◌≤◌, ◌<◌, ◌+◌, [], true, false, length, take, min, vec_len, vec_capacity, IfSome, IfErr};
 ghost use Rattle.rga_ops.specs.Content.{known_count};
 ghost use Rattle.rga_records.specs.Chains.{grown, AreNewer};
-ghost use Rattle.rga_records.specs.Back.{CanTakeBack};
+ghost use Rattle.rga_store.specs.Back.{CanTakeBack};
 ghost use Rattle.rga_flat.specs.Chains.{ChainShows, IsGathered};
 ghost use Rattle.rga_flat.specs.Flat.{is_above};
 ghost use Rattle.rga_flat.specs.Waiting.{has_list};
 
 use crate::waiting::has_list;
 use rga_ops::{Id, Op, Refusal};
-use rga_records::{Records, Step, note};
+use rga_records::Records;
 use rga_sequence::{Entry, MOST_AT_ONCE, Near};
+use rga_store::{Step, note};
 use std::alloc::Global;
 use std::collections::BTreeMap;
 

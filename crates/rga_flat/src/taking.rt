@@ -114,7 +114,7 @@ fn insert(
     let clock = records.clock();
     let found = near_above(records, waiting, done, parent);
     let above = found.is_some();
-    let near = near_or_front(found);
+    let near = found.unwrap_or(Near::FRONT);
     records.insert(entry.id, parent, entry.ch, next(near), entry.deleted)?;
     let settled = settle(
         alloc, records, sequence, waiting, done, parent, near, above, entry,
@@ -225,17 +225,9 @@ pub(crate) fn near_above(
     ensures { is_some result ≡ is_above records.now.content id }
 {
     if id == Id::ROOT {
-        return Some(Near { block: 0, index: 0 });
+        return Some(Near::FRONT);
     }
     near_if_complete(records, waiting, done, id)
-}
-
-/// Where an identifier may stand, as it was found; the front where it was not.
-fn near_or_front(found: Option<Near>) -> Near {
-    match found {
-        Some(near) => near,
-        None => Near { block: 0, index: 0 },
-    }
 }
 
 /// Where an identifier that is complete may stand. Takes no memory.
@@ -249,15 +241,11 @@ fn near_if_complete(
     requires { AreMarked records.now.content (is_listed waiting.now done.now) }
     ensures { is_some result ≡ is_complete records.now.content id }
 {
-    match records.near_if_inserted(id) {
-        Some(near) => {
-            if is_listed(waiting, done, id) {
-                return None;
-            }
-            Some(near)
-        }
-        None => None,
+    let near = records.near_if_inserted(id)?;
+    if is_listed(waiting, done, id) {
+        return None;
     }
+    Some(near)
 }
 
 /// Takes a deletion that is new. `Memory` alone, which changes nothing; never for an identifier that

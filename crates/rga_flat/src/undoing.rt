@@ -4,15 +4,16 @@ ghost use Rattle.std.specs.BTreeSet.{contains};
 ghost use Rattle.rga_ops.specs.Identifier.{Identifier, id_cmp};
 ghost use Rattle.rga_ops.specs.Content.{clock_of, Holds};
 ghost use Rattle.rga_store.specs.Without.{without_operation};
-ghost use Rattle.rga_records.specs.Back.{without_noted, CanTakeBack};
+ghost use Rattle.rga_store.specs.Back.{without_noted, CanTakeBack};
 ghost use Rattle.rga_flat.specs.Flat.{IsFlat};
 ghost use Rattle.rga_flat.specs.Undo.{undone_entries, undone_under, IsReturnable};
 ghost use Rattle.rga_flat.specs.Waiting.{under, has_list};
 
 use crate::waiting::remove_child;
 use rga_ops::{Id, Op};
-use rga_records::{Records, Step};
+use rga_records::Records;
 use rga_sequence::Sequence;
+use rga_store::Step;
 use std::collections::{BTreeMap, BTreeSet};
 
 /// Removes the operations of the steps. What has a list that was done with waits again.

@@ -89,9 +89,7 @@ fn characters<'a>(
             parent: above,
             ch,
         };
-        let Ok(()) = ops.push(op) else {
-            return Err(LineFault::Memory);
-        };
+        ops.push(op)?;
         above = id;
         counter += 1;
         rest = behind;

@@ -80,9 +80,7 @@ fn characters(alloc: Global, bytes: &[u8]) -> Result<Option<Vec<char>>, LineFaul
         if chars.len() == MAX_RUN {
             return Ok(None);
         }
-        let Ok(()) = chars.push(ch) else {
-            return Err(LineFault::Memory);
-        };
+        chars.push(ch)?;
         rest = behind;
     }
     match after_literal(rest, b"\"}") {

@@ -1,5 +1,5 @@
 //! Streams cut into lines.
-ghost use Rattle.std.specs.Prelude.{◌≡◌, ◌≢◌, ◌==◌, ◌≤◌, ◌<◌, ◌+◌, [], true, Ok, Err, Some, None};
+ghost use Rattle.std.specs.Prelude.{◌≡◌, ◌≢◌, ◌==◌, ◌≤◌, ◌<◌, ◌+◌, [], true, Ok, Err, None};
 ghost use Rattle.std.specs.Prelude.{IsOk, IfOk, IfErr, OnOk, OnErr, MatchOption, option_map};
 ghost use Rattle.std.specs.Prelude.{vec_items, vec_len, length, take, drop, position};
 ghost use Rattle.rga_lines.specs.Stream.{Splitting, splitting_code, IsKept, HasNoNewline};

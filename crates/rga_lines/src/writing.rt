@@ -18,8 +18,8 @@ use rga_ops::{Id, Op};
 use rga_table::{DeletionRun, LineFault, Run};
 use std::alloc::{AllocError, Global};
 
-/// Room for any line that is written. The longest is an insertion's: 38 bytes of names and marks,
-/// an escape of 6, and two identifiers of 24.
+/// Room for any line that is written, the text of a run aside. The longest is an insertion's: 38
+/// bytes of names and marks, an escape of 6, and two identifiers of 24.
 const ROOM: usize = 92;
 
 /// The line of an operation without its newline, as `line` of `specs/Spelling.antt` has it: no

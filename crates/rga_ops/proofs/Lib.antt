@@ -34,3 +34,4 @@ pub mod MergeLaws
 pub mod TookLaws
 pub mod CountLaws
 pub mod ListSteps
+pub mod CaseSteps

@@ -1,5 +1,5 @@
 -- Operations taken one by one: what is held then, and which lists are taken whole.
-use Rattle.std.proofs.Common.{◌≡◌, ℕ, Bool, true, false, cond, ◌||◌, List, [], ◌∷◌, refl, sym, ap, ◌∙◌, subst, inl, inr}
+use Rattle.std.proofs.Common.{◌≡◌, ℕ, Bool, true, false, cond, ◌||◌, List, [], ◌∷◌, ◌++◌, refl, sym, ap, ◌∙◌, subst, inl, inr}
 use Rattle.std.specs.Prelude.{Option, Some, None, Result, Ok, Err, Contains}
 use Rattle.std.specs.Option.{option_or}
 use Rattle.std.specs.FinMap as finite_map
@@ -132,3 +132,12 @@ taken_list_agrees limit c ops d h id parent other ch char a b =
 -- from an empty store on, what is held is the content of the list
 pub taken_from_nothing : (limit : ℕ) (ops : List Op) (d : Content) → taken_one_by_one limit nothing ops ≡ Ok d → d ≡ content_of ops
 taken_from_nothing limit ops d h = (taken_list_is limit nothing ops d h).joined ∙ nothing_join (content_of ops)
+
+-- operations that were taken, and then others
+pub one_by_one-append : (limit : ℕ) (c d : Content) (xs ys : List Op) → taken_one_by_one limit c xs ≡ Ok d → taken_one_by_one limit c (xs ++ ys) ≡ taken_one_by_one limit d ys
+one_by_one-append limit c d [] ys h = let same : c ≡ d = cc in ap (λ e. taken_one_by_one limit e ys) same
+one_by_one-append limit c d (x ∷ xs) ys h =
+    elim (taken limit c x) as (λ r. and_take r (λ e. taken_one_by_one limit e xs) ≡ Ok d → and_take r (λ e. taken_one_by_one limit e (xs ++ ys)) ≡ taken_one_by_one limit d ys) [
+      | Ok e ↦ λ k. one_by_one-append limit e d xs ys k
+      | Err e ↦ λ k. absurd (cc)
+    ] h

@@ -15,8 +15,9 @@ pub enum Taken {
     Known,
 }
 
-/// Why something was refused. Where several hold, the one that stands first here is answered.
-/// A refusal changes nothing.
+/// Why something was refused. Where several hold, the one that stands first here is answered; of a
+/// list the first ill-formed operation counts, and `Memory` may come in the place of what takes
+/// memory to find. A refusal changes nothing.
 #[derive(Clone, Copy, Debug, PartialEq, Eq)]
 pub enum Refusal {
     /// No identifier of an element: out of range, or the root.

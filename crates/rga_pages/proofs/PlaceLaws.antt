@@ -1,7 +1,7 @@
 -- Places in pages, and what stands in pages that change.
 use Rattle.std.proofs.Common.{◌≡◌, ℕ, ◌+◌, ◌<◌, ◌≤◌, suc, zero, true, false, List, [], ◌∷◌, ◌++◌, length, take, drop, slice_index_or, refl, sym, ap, ◌∙◌, subst, arith, append_assoc}
 use Rattle.std.proofs.lemmas.List.{append-nil, drop_more}
-use Rattle.std.specs.Prelude.{insert, remove, slice_set, Result, Ok, Err, OnOk, OnErr}
+use Rattle.std.specs.Prelude.{insert, remove, slice_set}
 use Rattle.std.specs.Ordering.{is_lt}
 use Rattle.rga_ops.specs.Identifier.{Identifier, id_cmp}
 use Rattle.rga_pages.specs.declared.entry.Record.{Record}
@@ -309,17 +309,3 @@ pub drop_some : (n : ℕ) (xs : Entries) → n < length xs → 0 < length (drop 
 drop_some zero xs w = w
 drop_some (suc n) [] w = absurd (omega arith)
 drop_some (suc n) (x ∷ xs) w = drop_some n xs (omega arith)
-
--- ---- what holds whether a call was answered or refused
-
-pub on_ok_map : {T E P Q : Type 0} (r : Result T E) → (P → Q) → OnOk r P → OnOk r Q
-on_ok_map (Ok x) f h = f h
-on_ok_map (Err y) f h = h
-
-pub on_err_always : {T E P : Type 0} (r : Result T E) → P → OnErr r P
-on_err_always (Ok x) h = tt
-on_err_always (Err y) h = h
-
-pub either_way : {T E X : Type 0} (P : X → Type 0) (r : Result T E) (new x y : X) → OnOk r (new ≡ x) → OnErr r (new ≡ y) → P x → P y → P new
-either_way P (Ok t) new x y ok err h k = subst P (sym ok) h
-either_way P (Err t) new x y ok err h k = subst P (sym err) k

@@ -1,5 +1,5 @@
 //! Entries come in behind all others.
-ghost use Rattle.std.specs.Prelude.{◌≡◌, ◌≤◌, ◌<◌, ◌++◌, length, vec_len, vec_capacity, true, IfErr, OnOk, OnErr};
+ghost use Rattle.std.specs.Prelude.{◌≡◌, ◌<◌, ◌++◌, length, vec_len, vec_capacity, true, IfErr, OnOk, OnErr};
 ghost use Rattle.rga_pages.specs.Pages.{entries_in, AreBelow, AreFilledPages, ArePages, AreOrdered};
 
 use crate::entry::Record;

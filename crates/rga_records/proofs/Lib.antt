@@ -1,4 +1,3 @@
-pub mod BackLaws
 pub mod CountedLaws
 pub mod LinkLaws
 pub mod LinkOrderLaws

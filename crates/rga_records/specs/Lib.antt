@@ -1,5 +1,4 @@
 pub mod Records
 pub mod Listing
 pub mod Chains
-pub mod Back
 pub mod Links

@@ -1,5 +1,5 @@
 //! Records under their identifiers: look-ups, and changes of one record.
-ghost use Rattle.std.specs.Prelude.{◌≡◌, is_some, IfOk, OnOk, OnErr, IfErr, None, Some, Ok, false, true};
+ghost use Rattle.std.specs.Prelude.{◌≡◌, is_some, IfOk, OnOk, OnErr, IfErr, None, Ok, false, true};
 ghost use Rattle.std.specs.Option.{option_and_then, option_map_or};
 ghost use Rattle.std.specs.FinMap as finite_map;
 ghost use Rattle.std.specs.FinSet as finite_set;
@@ -11,9 +11,6 @@ ghost use Rattle.rga_records.specs.Records.{content_of_records, element_of_recor
 use rga_ops::{Id, Refusal};
 use rga_pages::{Pages, Record};
 use rga_sequence::Near;
-
-/// Nothing is noted of where an element may stand.
-pub(crate) const NOWHERE: Near = Near { block: 0, index: 0 };
 
 /// Whether a record means anything.
 pub(crate) fn is_record_known(known: &Record) -> bool
@@ -53,10 +50,7 @@ pub(crate) fn short_index(index: usize) -> u8 {
 pub(crate) fn find_element(entries: &Pages, id: Id) -> Option<(Id, char)>
     ensures { result ≡ element_at (content_of_records entries.now) id }
 {
-    match entries.get(id) {
-        Some(record) => record.element(),
-        None => None,
-    }
+    entries.get(id)?.element()
 }
 
 /// Whether an identifier is deleted.
@@ -102,8 +96,7 @@ pub(crate) fn set_element(
     let block = short_name(near.block);
     let index = short_index(near.index);
     let record = Record::inserted(parent, ch, block, index, deleted);
-    entries.insert(id, record)?;
-    Ok(())
+    entries.insert(id, record)
 }
 
 /// An identifier of which nothing is known gets its element, if something is known of others. Says
@@ -225,10 +218,7 @@ pub(crate) fn near_of(entries: &Pages, id: Id) -> Option<Near>
     ensures { let content = content_of_records entries.now in
         is_some result ≡ finite_map.contains_key content.inserted id }
 {
-    match entries.get(id) {
-        Some(record) => near_if_inserted(record),
-        None => None,
-    }
+    near_if_inserted(entries.get(id)?)
 }
 
 /// The record of an identifier, if there is one, says where the element may stand.

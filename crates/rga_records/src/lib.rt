@@ -7,25 +7,23 @@
 //! records in the order of their identifiers: none that is chosen can make a search slow, and what
 //! is listed is in order already. So the text can be read off in one pass: each element that comes
 //! is newer than all before it, and stands directly behind its parent. A `Records` takes operations
-//! itself (`Taker`), where nobody asks for places meanwhile, as of a log that is read to its end;
-//! a store that puts its elements in a sequence has finer calls, and notes each operation as a
-//! `Step`, for the way back. The layer above may rest on the contracts, which see a `Records` as a
-//! content and a limit; where elements may stand serves speed alone and is no part of that value.
+//! itself (`Taker`), where nobody asks for places meanwhile, as of a log that is read to its end; a
+//! store that puts its elements in a sequence has finer calls, and notes each operation as a `Step`
+//! of rga_store, for the way back. The layer above may rest on the contracts, which see a `Records`
+//! as a content and a limit; where elements may stand serves speed alone and is no part of that
+//! value.
 #![tactic(auto)]
 
 mod chains;
 mod entries;
 mod linking;
-mod list_answer;
 mod merging;
 mod nodes;
 mod operations;
 mod records_by_id;
-mod steps;
 mod taker;
 mod taking;
 mod telling;
 mod walking;
 
 pub use records_by_id::Records;
-pub use steps::{Step, note};

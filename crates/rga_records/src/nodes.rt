@@ -8,8 +8,8 @@ ghost use Rattle.rga_records.specs.Links.{AreHeads, IsNodeOf};
 use rga_ops::Id;
 use rga_pages::{Page, Record, Spot, find};
 
-/// How many identifiers are looked at before a search: what an element stands behind is mostly not
-/// much older.
+/// How many identifiers are looked at in a loop before a search, behind the last three, which are
+/// looked at without one: what an element stands behind is mostly not much older.
 const NEAR: usize = 5;
 
 /// The link of a node; 0 where there is no such node.

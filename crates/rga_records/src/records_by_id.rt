@@ -1,28 +1,26 @@
 //! Records by identifier, with the clock and the counts of their content.
-ghost use Rattle.std.specs.Prelude.{◌≡◌, ◌≢◌, ◌≤◌, ◌<◌, ◌+◌, ◌↔◌, length, take, drop, None, Ok, Err, OnOk, OnErr, IfOk, IfErr, is_some, string_bytes, encode_utf8_all, true, false};
+ghost use Rattle.std.specs.Prelude.{◌≡◌, ◌≤◌, ◌<◌, ◌+◌, ◌↔◌, length, take, drop, None, Ok, Err, OnOk, OnErr, IfOk, IfErr, is_some, string_bytes, encode_utf8_all, true, false};
 ghost use Rattle.std.specs.FinMap as finite_map;
 ghost use Rattle.std.specs.FinSet as finite_set;
-ghost use Rattle.rga_ops.specs.Prelude.{all_checked, answer, clock_of, element_at, join, known_count, known_ids, list_answer, nothing, operations, single, text, IsSound};
+ghost use Rattle.rga_ops.specs.Prelude.{answer, clock_of, element_at, join, known_count, nothing, operations, single, text, IsSound};
 ghost use Rattle.rga_ops.specs.Answer.{facts};
 ghost use Rattle.rga_ops.specs.Content.{Holds};
 ghost use Rattle.rga_ops.specs.Found.{facts_of};
 ghost use Rattle.rga_ops.specs.Operations.{insertions, deletions};
-ghost use Rattle.rga_ops.specs.ListAnswer.{early_conflict, least_conflict};
+ghost use Rattle.rga_ops.specs.ListAnswer.{least_conflict};
 ghost use Rattle.rga_ops.specs.declared.refusal.Taken.TheVariants.{New};
 ghost use Rattle.rga_store.specs.Limit.{is_limit};
 ghost use Rattle.rga_store.specs.Without.{without_operation, without_insertion, without_deletion};
-ghost use Rattle.rga_records.specs.Back.{without_noted, CanTakeBack};
+ghost use Rattle.rga_store.specs.Back.{without_noted, CanTakeBack};
 ghost use Rattle.rga_records.specs.Chains.{grown, AreNewer};
 
 use crate::chains::{append_chain, latest};
 use crate::entries::{
-    NOWHERE, add_element, clear_element, clear_mark, find_element, is_known, is_marked, mark,
+    add_element, clear_element, clear_mark, find_element, found_or_new, is_known, is_marked, mark,
     mark_inserted, near_of, set_element, set_near,
 };
-use crate::list_answer::answer_to_list;
 use crate::merging::{count_unknown, least_conflict};
 use crate::operations::operations_of;
-use crate::steps::Step;
 use crate::taking::remove_from;
 use crate::telling::{tell_both, tell_deletions, tell_insertions};
 use crate::walking::text_of;
@@ -30,7 +28,7 @@ use rga_ops::{Found, Id, Op, Refusal};
 use rga_pages::Pages;
 use rga_sequence::{Entry, Near};
 use rga_store::counts::{count_unless, raise, uncount_unless};
-use rga_store::{Listener, MAX_LIMIT};
+use rga_store::{Listener, Lookup, MAX_LIMIT, Step};
 use std::alloc::Global;
 use std::marker::Model;
 
@@ -63,6 +61,24 @@ impl Model for Records {
     } };
 
     ghost invariant = { λ a. AreRecords a.entries a.clock a.inserted a.known a.limit };
+}
+
+impl Lookup for Records {
+    ghost holds = { λ s. s.content };
+
+    ghost may_know = { λ s. s.limit };
+
+    fn element_of(&self, id: Id) -> Option<(Id, char)> {
+        find_element(&self.entries, id)
+    }
+
+    fn knows_of(&self, id: Id) -> bool {
+        is_known(&self.entries, id)
+    }
+
+    fn room(&self) -> usize {
+        self.limit - self.known
+    }
 }
 
 impl Records {
@@ -116,23 +132,12 @@ impl Records {
         ensures facts { facts_of result ≡ facts self.old.limit self.old.content id }
         ensures same { self.new ≡ self.old }
     {
-        match self.entries.look_up(id) {
-            Some(record) => {
-                return Found {
-                    element: record.element(),
-                    deleted: record.deleted,
-                    known: self.known,
-                    limit: self.limit,
-                };
-            }
-            None => {
-                return Found {
-                    element: None,
-                    deleted: false,
-                    known: self.known,
-                    limit: self.limit,
-                };
-            }
+        let record = found_or_new(self.entries.look_up(id));
+        Found {
+            element: record.element(),
+            deleted: record.deleted,
+            known: self.known,
+            limit: self.limit,
         }
     }
 
@@ -150,22 +155,12 @@ impl Records {
         is_marked(&self.entries, id)
     }
 
-    /// Whether an identifier is inserted, deleted or both.
-    pub(crate) fn knows(&self, id: Id) -> bool
-        ensures { result ≡ finite_set.contains (known_ids self.now.content) id }
-    {
-        is_known(&self.entries, id)
-    }
-
     /// Whether an operation is in the content. Takes no memory.
     pub fn contains(&self, op: &Op) -> bool
         ensures { (result ≡ true) ↔ Holds self.now.content op.now }
     {
         match op {
-            Op::Insert { id, parent, ch } => match self.element(*id) {
-                Some(element) => element == (*parent, *ch),
-                None => false,
-            },
+            Op::Insert { id, parent, ch } => self.element(*id) == Some((*parent, *ch)),
             Op::Delete { id } => self.is_deleted(*id),
         }
     }
@@ -213,10 +208,7 @@ impl Records {
     /// Where the element of an identifier may stand, as it was noted; at the front where nothing was.
     /// Takes no memory.
     pub fn near(&self, id: Id) -> Near {
-        match near_of(&self.entries, id) {
-            Some(near) => near,
-            None => NOWHERE,
-        }
+        near_of(&self.entries, id).unwrap_or(Near::FRONT)
     }
 
     /// Notes where the element of a known identifier may stand. Takes no memory.
@@ -294,7 +286,7 @@ impl Records {
         ensures memory { IfErr result (λ e. e ≡ Refusal.Memory) }
         ensures limit { self.new.limit ≡ self.old.limit }
     {
-        set_element(&mut self.entries, id, parent, ch, NOWHERE, false)?;
+        set_element(&mut self.entries, id, parent, ch, Near::FRONT, false)?;
         self.inserted += 1;
         self.known += 1;
         self.clock = id.counter();
@@ -508,22 +500,5 @@ impl Records {
     {
         let _few = other.known();
         count_unknown(&self.entries, &other.entries)
-    }
-
-    /// What is answered to a list that is taken whole or not at all.
-    ///
-    /// Refusals, in this order: `BadId` or `BadOrder` of the first operation that is ill-formed;
-    /// `Conflict` of the first that conflicts with the content or with one before it in the list;
-    /// `Full` where more identifiers would be known than the limit allows; `Memory`. An ill-formed
-    /// operation is found without memory, and so is a conflict in front of which nothing is
-    /// inserted anew.
-    pub fn answer_to_list(&self, alloc: Global, ops: &[Op]) -> Result<(), Refusal>
-        ensures exact { result ≢ Err Refusal.Memory →
-            result ≡ list_answer self.now.limit self.now.content ops.now }
-        ensures memory { result ≡ Err Refusal.Memory → all_checked ops.now ≡ Ok tt }
-        ensures early { result ≡ Err Refusal.Memory →
-            early_conflict self.now.content ops.now ≡ None }
-    {
-        answer_to_list(alloc, self, ops)
     }
 }

@@ -3,10 +3,9 @@ ghost use Rattle.std.specs.Prelude.{◌≡◌, Ok, OnOk, OnErr};
 ghost use Rattle.rga_ops.specs.Answer.{taken_one_by_one};
 
 use crate::records_by_id::Records;
-use crate::steps::Step;
 use crate::taking::{remove_from, take_each, take_op};
 use rga_ops::{Op, Refusal, Taken};
-use rga_store::Taker;
+use rga_store::{Step, Taker, answer_to_list};
 
 impl Taker for Records {
     ghost use Rattle.rga_store.specs.Growth.{NeedsRoom};
@@ -33,7 +32,7 @@ impl Taker for Records {
             Ok(()) => Ok(()),
             Err(_) => {
                 // Which refusal comes first depends on the whole list, so it is looked for only now.
-                self.answer_to_list(self.alloc(), ops)?;
+                answer_to_list(self.alloc(), self, ops)?;
                 Err(Refusal::Memory)
             }
         }

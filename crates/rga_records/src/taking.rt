@@ -3,12 +3,12 @@ ghost use Rattle.std.specs.Prelude.{◌≡◌, ◌≢◌, Ok, Err, OnOk, drop, t
 ghost use Rattle.rga_ops.specs.Content.{join, single};
 ghost use Rattle.rga_ops.specs.Answer.{answer, taken, taken_one_by_one};
 ghost use Rattle.rga_store.specs.Growth.{NeedsRoom};
-ghost use Rattle.rga_records.specs.Back.{without_noted, CanTakeBack};
+ghost use Rattle.rga_store.specs.Back.{without_noted, CanTakeBack};
 
-use crate::entries::NOWHERE;
 use crate::records_by_id::Records;
-use crate::steps::{Step, note};
 use rga_ops::{Op, Refusal, Taken, answer_to};
+use rga_sequence::Near;
+use rga_store::{Step, note};
 
 /// Takes an operation. `Memory` alone beside what is answered to it, and then nothing is changed.
 #[inline(always)]
@@ -61,7 +61,7 @@ fn take_found(records: &mut Records, op: &Op) -> Result<Taken, Refusal>
     }
     match op {
         Op::Insert { id, parent, ch } => {
-            records.insert(*id, *parent, *ch, NOWHERE, deleted)?;
+            records.insert(*id, *parent, *ch, Near::FRONT, deleted)?;
             Ok(Taken::New)
         }
         Op::Delete { id } => {

@@ -2,7 +2,6 @@
 use Rattle.std.proofs.Common.{◌≡◌, ℕ, ◌+◌, ◌<◌, ◌≤◌, suc, zero, true, false, cond, List, [], ◌∷◌, ◌++◌, length, take, drop, refl, sym, ap, ◌∙◌, arith}
 use Rattle.std.specs.Ordering.{is_gt}
 use Rattle.std.proofs.lemmas.List.{drop-take, take-take, take-append-drop}
-use Rattle.std.specs.Prelude.{Result, Ok, Err, OnOk, OnErr}
 use Rattle.rga_ops.specs.Identifier.{id_cmp}
 use Rattle.rga_sequence.specs.declared.entry.Entry.{Entry}
 use Rattle.rga_sequence.specs.Entries.{put_entry_past_larger}
@@ -42,13 +41,3 @@ stopped entry (x ∷ xs) rest h =
       | true ↦ λ t w. stopped entry xs rest (omega arith)
       | false ↦ λ f w. ap (λ b. cond b (x ∷ put_entry_past_larger entry (xs ++ rest)) (entry ∷ x ∷ xs ++ rest)) f
     ] refl h
-
--- ---- clauses on results
-
-pub on_ok_map : {T E P Q : Type 0} (r : Result T E) → (P → Q) → OnOk r P → OnOk r Q
-on_ok_map (Ok x) f h = f h
-on_ok_map (Err y) f h = h
-
-pub on_err_always : {T E P : Type 0} (r : Result T E) → P → OnErr r P
-on_err_always (Ok x) h = tt
-on_err_always (Err y) h = h

@@ -1,6 +1,6 @@
 -- Blocks into which an entry comes or from which one goes: what stands in them, apart and in no empty block.
 use Rattle.std.proofs.Common.{◌≡◌, ℕ, ◌+◌, ◌-◌, ◌<◌, ◌≤◌, suc, zero, Bool, true, false, cond, not, ◌||◌, List, [], ◌∷◌, ◌++◌, length, take, drop, slice_index_or, refl, sym, ap, ◌∙◌, subst, arith, true≢false, append_assoc, length-drop}
-use Rattle.std.specs.Prelude.{insert, remove, slice_set, Result, Ok, Err, OnOk, OnErr}
+use Rattle.std.specs.Prelude.{insert, remove, slice_set}
 use Rattle.std.specs.List.{AllByRecursion, IsDistinct}
 use Rattle.rga_ops.specs.Identifier.{Identifier, is_id}
 use Rattle.rga_sequence.specs.declared.entry.Entry.{Entry}
@@ -165,12 +165,6 @@ room_next (x ∷ xs) (suc b) cut = room_next xs b cut
 
 pub room_second : (bs : Blocks) (b cut : ℕ) → length (slice_index_or (cut_in bs b cut) (b + 1) []) ≤ length (slice_index_or bs b []) - cut
 room_second bs b cut = subst (λ n. length (slice_index_or (cut_in bs b cut) n []) ≤ length (slice_index_or bs b []) - cut) (one_up b) (room_next bs b cut)
-
--- ---- what holds whether a call was answered or refused
-
-pub either_way : {T E X : Type 0} (P : X → Type 0) (r : Result T E) (new x y : X) → OnOk r (new ≡ x) → OnErr r (new ≡ y) → P x → P y → P new
-either_way P (Ok t) new x y ok err h k = subst P (sym ok) h
-either_way P (Err t) new x y ok err h k = subst P (sym err) k
 
 -- ---- a block is a part of all
 

@@ -79,7 +79,7 @@ fn insert_into(
         turn_last(entries.as_mut_slice(), index);
         return Ok(());
     }
-    let behind = copy_from(alloc, entries.as_slice(), index)?;
+    let behind = Vec::from_slice(alloc, &entries.as_slice()[index..])?;
     entries.truncate(index);
     push_all(entries, more);
     push_all(entries, behind.as_slice());
@@ -97,17 +97,6 @@ fn new_least(entries: &[Entry], least: Id, more: &[Entry]) -> Id
         return new;
     }
     lesser(least, new)
-}
-
-/// The entries from an index on, in room for so many.
-fn copy_from(alloc: Global, entries: &[Entry], from: usize) -> Result<Vec<Entry>, Refusal>
-    requires { from ≤ length entries.now }
-    ensures ok { IfOk result (λ copy. copy.items ≡ drop from entries.now) }
-    ensures memory { IfErr result (λ e. e ≡ Refusal.Memory) }
-{
-    let mut copy = Vec::with_capacity(alloc, entries.len() - from)?;
-    copy.extend_from_slice(&entries[from..])?;
-    Ok(copy)
 }
 
 /// The entry at an index is deleted or not.
@@ -279,7 +268,7 @@ impl Block {
         ensures ok { IfOk result (λ b. b ≡ drop from self.now) }
         ensures memory { IfErr result (λ e. e ≡ Refusal.Memory) }
     {
-        let entries = copy_from(alloc, self.entries.as_slice(), from)?;
+        let entries = Vec::from_slice(alloc, &self.entries.as_slice()[from..])?;
         Ok(Block::of(entries, name))
     }
 
@@ -311,19 +300,5 @@ impl Block {
         mark(&mut self.entries, index, deleted);
         let now = count_one(self.entries[index]);
         self.visible = self.visible - before + now;
-    }
-
-    /// A block of the same entries and of the same name. `Memory` alone.
-    pub(crate) fn copy(&self, alloc: Global) -> Result<Block, Refusal>
-        ensures ok { IfOk result (λ b. b ≡ self.now) }
-        ensures memory { IfErr result (λ e. e ≡ Refusal.Memory) }
-    {
-        let entries = copy_from(alloc, self.entries.as_slice(), 0)?;
-        Ok(Block {
-            entries,
-            visible: self.visible,
-            least: self.least,
-            name: self.name,
-        })
     }
 }

@@ -1,8 +1,6 @@
 //! Bounds of groups of blocks, so that larger identifiers are passed a group at a time. The k-th
 //! bound is that of the k-th group; those of the last groups may be missing.
-ghost use Rattle.std.specs.Prelude.{◌≡◌, ◌≤◌, ◌<◌, ◌+◌, ◌*◌, ◌++◌, ◌∷◌, [], true, false, length, vec_len};
-ghost use Rattle.std.specs.Ordering.{is_gt};
-ghost use Rattle.rga_ops.specs.Identifier.{Identifier, id_cmp};
+ghost use Rattle.std.specs.Prelude.{◌≡◌, ◌≤◌, ◌<◌, ◌+◌, ◌*◌, true, false, vec_len};
 ghost use Rattle.rga_sequence.specs.Blocks.{Blocks, AreBlocksFrom, AreBounds, IsLow, AreLarger, Passes};
 
 use crate::block::Block;

@@ -61,10 +61,8 @@ fn find_in(blocks: &Vec<Block>, block: usize, from: usize, id: Id) -> Option<Pla
     if block >= blocks.len() {
         return None;
     }
-    match blocks[block].find(from, id) {
-        Some(index) => Some(Place { block, index }),
-        None => None,
-    }
+    let index = blocks[block].find(from, id)?;
+    Some(Place { block, index })
 }
 
 /// Where an identifier stands in whichever block.

@@ -21,10 +21,7 @@ pub(crate) fn push_note<T: Copy>(notes: &mut Vec<T>, note: T) -> bool
     ensures pushed { result ≡ true → notes.new.items ≡ notes.old.items ++ note ∷ [] }
     ensures same { result ≡ false → notes.new.items ≡ notes.old.items }
 {
-    if notes.push(note).is_err() {
-        return false;
-    }
-    true
+    notes.push(note).is_ok()
 }
 
 impl Groups {

@@ -1,5 +1,5 @@
 //! What blocks have: how many entries, which are visible, and their text.
-ghost use Rattle.std.specs.Prelude.{◌≡◌, ◌≤◌, ◌<◌, ◌+◌, ◌^◌, ◌++◌, ◌∷◌, [], length, slice_get, slice_index_or, vec_len, take, drop, Some, IfOk, IfErr, OnOk};
+ghost use Rattle.std.specs.Prelude.{◌≡◌, ◌<◌, ◌+◌, ◌^◌, ◌++◌, length, slice_get, vec_len, take, drop, IfOk, IfErr, OnOk};
 ghost use Rattle.rga_sequence.specs.Entries.{ids, entries_up_to, visible_count, visible_ids, visible_text};
 ghost use Rattle.rga_sequence.specs.Blocks.{flat, before, IsPlace, Stands, IsSequence, AreCounts};
 
@@ -153,16 +153,4 @@ pub(crate) fn text(alloc: Global, blocks: &Vec<Block>) -> Result<Vec<char>, Refu
         push_text(&mut chars, block.entries())?;
     }
     Ok(chars)
-}
-
-/// The same blocks.
-pub(crate) fn copy_of(alloc: Global, blocks: &Vec<Block>) -> Result<Vec<Block>, Refusal>
-    ensures ok { IfOk result (λ copy. copy.items ≡ blocks.now.items) }
-    ensures memory { IfErr result (λ e. e ≡ Refusal.Memory) }
-{
-    let mut copy = Vec::new(alloc);
-    for block in blocks {
-        copy.push(block.copy(alloc)?)?;
-    }
-    Ok(copy)
 }

@@ -8,23 +8,17 @@ use crate::place::Place;
 
 /// Where an entry is looked for first that may stand there.
 pub(crate) fn hints_of(names: &Vec<usize>, last: Place, near: Near) -> Hints {
-    let index = near.index;
-    match names.get(near.block) {
-        Some(block) => Hints {
-            last,
-            near: Place {
-                block: *block,
-                index,
-            },
-        },
-        None => Hints {
-            last,
-            near: Place { block: 0, index },
+    let block = names.get(near.block).copied().unwrap_or(0);
+    Hints {
+        last,
+        near: Place {
+            block,
+            index: near.index,
         },
     }
 }
 
-/// The name of the block at an index, if there is one.
+/// The name of the block at an index, if there is one; else 0.
 pub(crate) fn name_at(blocks: &Vec<Block>, index: usize) -> usize {
     match blocks.get(index) {
         Some(block) => block.name(),

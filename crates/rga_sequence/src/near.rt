@@ -7,3 +7,8 @@ pub struct Near {
     pub block: usize,
     pub index: usize,
 }
+
+impl Near {
+    /// The front.
+    pub const FRONT: Near = Near { block: 0, index: 0 };
+}

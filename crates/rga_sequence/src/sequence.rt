@@ -156,10 +156,8 @@ impl Sequence {
         ensures { result ≡ entry_of id self.now }
     {
         let hints = hints_of(&self.names, self.last, near);
-        match find(&self.blocks, hints, id) {
-            Some(at) => entry_at(&self.blocks, at, id),
-            None => None,
-        }
+        let at = find(&self.blocks, hints, id)?;
+        entry_at(&self.blocks, at, id)
     }
 
     /// Whether there is an entry of an identifier. Takes no memory.
@@ -167,10 +165,7 @@ impl Sequence {
         ensures { result ≡ has id self.now }
     {
         let hints = hints_of(&self.names, self.last, near);
-        match find(&self.blocks, hints, id) {
-            Some(_) => true,
-            None => false,
-        }
+        find(&self.blocks, hints, id).is_some()
     }
 
     /// How many entries there are. Takes no memory.
@@ -213,10 +208,8 @@ impl Sequence {
         ensures { result ≡ place_in id self.now }
     {
         let hints = hints_of(&self.names, self.last, near);
-        match find(&self.blocks, hints, id) {
-            Some(at) => Some(listing::place_at(&self.blocks, &self.groups.counts, at, id)),
-            None => None,
-        }
+        let at = find(&self.blocks, hints, id)?;
+        Some(listing::place_at(&self.blocks, &self.groups.counts, at, id))
     }
 
     /// The identifiers, deleted entries' too. `Memory` alone.
@@ -233,24 +226,6 @@ impl Sequence {
         ensures memory { IfErr result (λ e. e ≡ Refusal.Memory) }
     {
         listing::text(alloc, &self.blocks)
-    }
-
-    /// A sequence of the same entries. `Memory` alone.
-    pub fn copy(&self, alloc: Global) -> Result<Sequence, Refusal>
-        ensures ok { IfOk result (λ s. s ≡ self.now) }
-        ensures memory { IfErr result (λ e. e ≡ Refusal.Memory) }
-    {
-        let names = Vec::from_slice(alloc, self.names.as_slice())?;
-        let blocks = listing::copy_of(alloc, &self.blocks)?;
-        let mut groups = Groups::new(alloc);
-        note_counts(&blocks, &mut groups.counts);
-        Ok(Sequence {
-            alloc,
-            blocks,
-            groups,
-            names,
-            last: self.last,
-        })
     }
 
     /// Where the entry of an identifier stands now, so that what is put behind it next is quick; what

@@ -2,12 +2,12 @@
 use Rattle.std.proofs.Common.{◌≡◌, ℕ, ◌+◌, ◌<◌, Bool, true, false, cond, not, List, [], ◌∷◌, ◌++◌, take, drop, length, get_or, sym, ap, ◌∙◌}
 use Rattle.std.specs.Prelude.{Some, None}
 use Rattle.std.specs.List.{take_while}
-use Rattle.std.proofs.lemmas.List.{take_more, drop_more}
+use Rattle.std.proofs.lemmas.List.{take_more}
 use Rattle.std.proofs.lemmas.List.Sums.{take_while-cons}
 use Rattle.rga_ops.specs.Operation.{id_of}
 use Rattle.rga_ops.specs.Content.{Content, join, single, content_of}
 use Rattle.rga_ops.specs.ListAnswer.{has_another, first_conflict, inserts_anew}
-use Rattle.rga_ops.proofs.ListSteps.{join_more}
+use Rattle.rga_ops.proofs.ListSteps.{from, join_more}
 use Rattle.rga_ops.specs.declared.op.Op.{Op}
 
 module _ (c : Content) where
@@ -16,15 +16,12 @@ module _ (c : Content) where
 
   -- the next operation, and those behind it
   module _ (ops : List Op) (i : ℕ) (op : Op) (within : i < length ops) (at : op ≡ get_or ops i op) where
-    next_is : drop i ops ≡ op ∷ drop (i + 1) ops
-    next_is = drop_more ops i op within ∙ ap (λ x. x ∷ drop (i + 1) ops) (sym at)
-
     pub joined : join c (content_of (take (i + 1) ops)) ≡ join (join c (content_of (take i ops))) (single op)
     joined = ap (λ xs. join c (content_of xs)) (take_more ops i op within ∙ ap (λ x. take i ops ++ x ∷ []) (sym at)) ∙ join_more c (take i ops) op
 
     -- what is left begins with the operation, unless that inserts something anew
     left_is : (b : Bool) → inserts_anew c op ≡ b → take_while passes (drop i ops) ≡ cond (not b) (op ∷ take_while passes (drop (i + 1) ops)) []
-    left_is b h = ap (take_while passes) next_is ∙ take_while-cons passes op (drop (i + 1) ops) ∙ ap (λ t. cond (not t) (op ∷ take_while passes (drop (i + 1) ops)) []) h
+    left_is b h = ap (take_while passes) (from ops i op within at) ∙ take_while-cons passes op (drop (i + 1) ops) ∙ ap (λ t. cond (not t) (op ∷ take_while passes (drop (i + 1) ops)) []) h
 
     pub stopped : (d : Content) → inserts_anew c op ≡ true → first_conflict d (take_while passes (drop i ops)) ≡ None
     stopped d h = ap (first_conflict d) (left_is true h)

@@ -7,3 +7,4 @@ pub mod WithoutLaws
 pub mod MergeSteps
 pub mod ElementSteps
 pub mod EarlySteps
+pub mod BackLaws

@@ -6,3 +6,4 @@ pub mod Child
 pub mod Counted
 pub mod Without
 pub mod Reached
+pub mod Back

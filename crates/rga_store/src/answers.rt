@@ -3,13 +3,16 @@
 //!
 //! A taker above a store asks here for what it has to know before anything is changed: so it finds
 //! each refusal, and makes room for what it notes beside the store, and the taking comes last. Each
-//! call says what the definitions `answer` and `new_operations` of rga_ops give for the content and
-//! the limit of any store. One step of these is public for the stores, which take it too
-//! (`check_each`).
+//! call says what the definitions `answer`, `new_operations` and, as far as no memory is needed,
+//! `list_answer` of rga_ops give for the content and the limit of any store. What the stores answer
+//! themselves to a list that they take whole or not at all stands here too, over look-ups
+//! (`answer_to_list`).
 mod answer;
 mod early_answer;
+mod list_answer;
 mod new_operations;
 
 pub use answer::answer_at;
-pub use early_answer::{check_each, early_answer_at};
+pub use early_answer::early_answer_at;
+pub use list_answer::{Lookup, answer_to_list};
 pub use new_operations::new_operations_at;

@@ -11,18 +11,9 @@ ghost use Rattle.rga_ops.specs.declared.op.Op.{Op as Operation};
 
 use crate::taker::Taker;
 
-/// Two replicas of one content show the same elements in the same order, and the same text,
-/// whatever they keep inside and whatever their limits are.
-pub fn replicas_of_one_content_show_the_same<S: Taker, T: Taker>()
-    ensures order { (s : S) (t : T) →
-        S.content s ≡ T.content t → order (S.content s) ≡ order (T.content t) }
-    ensures text { (s : S) (t : T) →
-        S.content s ≡ T.content t → text (S.content s) ≡ text (T.content t) }
-{}
-
-/// So do two replicas that took the same operations, in any order and with any repeats, one by one,
-/// as lists or from other replicas. The premise is that the operations agree: no identifier names
-/// two insertions.
+/// Two replicas that took the same operations, in any order and with any repeats, one by one, as
+/// lists or from other replicas, show the same elements in the same order, and the same text. The
+/// premise is that the operations agree: no identifier names two insertions.
 pub fn replicas_that_took_the_same_show_the_same<S: Taker, T: Taker>()
     ensures content { (xs ys : List Operation) (s : S) (t : T) →
         Took xs (S.content s) → Took ys (T.content t) → IsAgreed xs → HasSameOperations xs ys →

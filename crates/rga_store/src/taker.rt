@@ -50,9 +50,9 @@ pub trait Taker {
     ///
     /// Refusals, in this order: `BadId` or `BadOrder` of the first operation that is ill-formed;
     /// `Conflict` of the first that conflicts with the content or with one before it in the list;
-    /// `Full` where more identifiers would be known than the limit allows; `Memory`. A refusal
-    /// changes nothing. An ill-formed operation is found without memory, and so is a conflict in
-    /// front of which nothing is inserted anew.
+    /// `Full` where more identifiers would be known than the limit allows. `Memory` may come in the
+    /// place of any answer but that to an ill-formed operation, and to a conflict in front of which
+    /// nothing is inserted anew: these are found without memory. A refusal changes nothing.
     fn apply_all(&mut self, ops: &[Op]) -> Result<(), Refusal>
         ensures exact { result ≢ Err Refusal.Memory →
             result ≡ list_answer (limit self.old) (content self.old) ops.now }

@@ -1,5 +1,5 @@
 //! What keeps a text.
-ghost use Rattle.std.specs.Prelude.{◌≡◌, ◌≢◌, ◌≤◌, ◌↔◌, ℕ, length, take, drop, slice_get, true, false, Ok, Err, IfOk, IfErr, MatchResult, string_bytes, encode_utf8_all};
+ghost use Rattle.std.specs.Prelude.{◌≡◌, ◌≢◌, ◌≤◌, ◌↔◌, length, take, drop, slice_get, true, false, Ok, Err, IfOk, IfErr, MatchResult, string_bytes, encode_utf8_all};
 ghost use Rattle.std.specs.FinMap as finite_map;
 ghost use Rattle.std.specs.FinSet as finite_set;
 ghost use Rattle.rga_ops.specs.Prelude.{Identifier, IsSound, clock_of, join, known_count, merge_answer, nothing, operations, order, place, text};

@@ -65,10 +65,15 @@ fn are_alike<S: TextStore>(alloc: Global, limit: usize, seed: u64) -> Result<boo
 /// The store answers as the plain list does.
 pub fn check_beside_a_list<S: TextStore, R: Abort>(rt: &R, alloc: Global) {
     for limit in &[3usize, 8, 20, 100] {
-        for seed in 0..5 {
-            let alike = are_alike::<S>(alloc, *limit, seed);
-            assert!(rt; alike == Ok(true), "{limit} {seed}");
-        }
+        check_seeds::<S, R>(rt, alloc, *limit);
+    }
+}
+
+/// The same with one limit, for each of some seeds.
+fn check_seeds<S: TextStore, R: Abort>(rt: &R, alloc: Global, limit: usize) {
+    for seed in 0..5 {
+        let alike = are_alike::<S>(alloc, limit, seed);
+        assert!(rt; alike == Ok(true), "{limit} {seed}");
     }
 }
 

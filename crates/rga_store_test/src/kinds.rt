@@ -1,8 +1,8 @@
 //! Each kind of store meets the worked examples, and answers as the plain list does.
 use crate::comparison::{check_beside_a_list, check_chains};
 use crate::merging::{check_merges, takes_its_copy};
+use crate::places::{check_places, has_elements};
 use crate::stores::{check_answers, check_limits, check_siblings, check_texts, tells_small_tree};
-use crate::walks::{check_places, has_elements};
 use crate::whole_lists::check_lists;
 use rga_flat::FlatStore;
 use rga_store::TextStore;

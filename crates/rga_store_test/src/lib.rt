@@ -21,6 +21,8 @@ mod new_operations;
 #[cfg(test)]
 mod operations;
 #[cfg(test)]
+mod places;
+#[cfg(test)]
 mod plain_list;
 #[cfg(test)]
 mod random;
@@ -30,8 +32,6 @@ mod sequences;
 mod stores;
 #[cfg(test)]
 mod summaries;
-#[cfg(test)]
-mod walks;
 #[cfg(test)]
 mod whole_lists;
 #[cfg(test)]

@@ -1,4 +1,4 @@
-//! The plain store that the tree is compared with: the operations in a list, in the order in which
+//! The plain store that each store is compared with: the operations in a list, in the order in which
 //! they were taken, searched from the front, with the root path of each element written out.
 use rga_ops::{Id, Op, Refusal, Taken};
 use std::alloc::Global;

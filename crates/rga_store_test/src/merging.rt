@@ -1,5 +1,5 @@
 //! Merges of small stores: answers, contents and orders.
-use crate::words::{alike, store_of};
+use crate::words::{alike, store_one_by_one};
 use rga_ops::Refusal;
 use rga_store::TextStore;
 use std::alloc::Global;
@@ -22,13 +22,13 @@ fn answers<S: TextStore>(
     other: &str,
     answer: &str,
 ) -> Result<bool, Refusal> {
-    let other = store_of::<S>(alloc, 10, other)?;
+    let other = store_one_by_one::<S>(alloc, 10, other)?;
     Ok(prints(alloc, &store.merge(&other), answer))
 }
 
 /// Whether the store has the operations and the order of one that took these.
 fn is_like<S: TextStore>(alloc: Global, store: &S, words: &str) -> Result<bool, Refusal> {
-    Ok(alike(store, &store_of::<S>(alloc, 10, words)?))
+    Ok(alike(store, &store_one_by_one::<S>(alloc, 10, words)?))
 }
 
 /// Whether a merge of two stores has the answer, keeps the limit, and leaves what stands last.
@@ -40,7 +40,7 @@ fn merges<S: TextStore>(
     answer: &str,
     after: &str,
 ) -> Result<bool, Refusal> {
-    let mut store = store_of::<S>(alloc, limit, own)?;
+    let mut store = store_one_by_one::<S>(alloc, limit, own)?;
     Ok(
         answers(alloc, &mut store, other, answer)?
             && store.limit() == limit
@@ -75,7 +75,7 @@ pub fn check_merges<S: TextStore, R: Abort>(rt: &R, alloc: Global) {
 
 /// Whether a merge of a store with its own copy changes nothing.
 pub fn takes_its_copy<S: TextStore>(alloc: Global) -> Result<bool, Refusal> {
-    let mut store = store_of::<S>(alloc, 2, HERE)?;
+    let mut store = store_one_by_one::<S>(alloc, 2, HERE)?;
     let copy = store.copy()?;
     Ok(store.merge(&copy) == Ok(()) && alike(&store, &copy))
 }

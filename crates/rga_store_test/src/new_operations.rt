@@ -1,5 +1,5 @@
 //! Lists of operations, and those of them that are new to a store.
-use crate::words::store_of;
+use crate::words::store_one_by_one;
 use rga_ops::Refusal;
 use rga_store::{TextStore, new_operations_at};
 use rga_tree::TreeStore;
@@ -13,7 +13,7 @@ fn has_new<S: TextStore>(
     list: &str,
     new: &str,
 ) -> Result<bool, Refusal> {
-    let store = store_of::<S>(alloc, 9, before)?;
+    let store = store_one_by_one::<S>(alloc, 9, before)?;
     let found = new_operations_at(alloc, &store, &ops_of(alloc, list)?)?;
     Ok(are_ops_of(alloc, &found, new))
 }

@@ -132,17 +132,10 @@ fn is_part(part: &[Id], all: &[Id], lo: usize) -> bool {
 fn agree(alloc: Global, both: &Both, random: &mut Random) -> Result<bool, Refusal> {
     Ok(
         same(both.sequence.ids(alloc), both.list.ids(alloc, true))
-            && copy_agrees(alloc, both)?
             && same(both.sequence.text(alloc), both.list.text(alloc))
             && parts_agree(alloc, both, random)?
             && rows_agree(both),
     )
-}
-
-/// Whether a copy of the sequence has the same entries.
-fn copy_agrees(alloc: Global, both: &Both) -> Result<bool, Refusal> {
-    let copy = both.sequence.copy(alloc)?;
-    Ok(same(copy.ids(alloc), both.list.ids(alloc, true)))
 }
 
 /// Whether a part of the visible entries is the same.

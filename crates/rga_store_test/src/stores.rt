@@ -1,25 +1,23 @@
 //! Both stores on worked examples.
-use crate::words::{holds, store_of};
-use rga_doc::walk::{text, visible_len};
+use crate::words::{holds, store_one_by_one};
 use rga_ops::{Id, Refusal};
 use rga_store::{MAX_LIMIT, TextStore, answer_at};
 use std::alloc::Global;
 use std::process::Abort;
-use test_fixtures::{id, insertion, op_of, prints, spells, store_shows};
+use test_fixtures::{id, insertion, op_of, prints, store_shows};
 
-/// Whether a store that took these operations shows the text, also to a walk, and so many elements
-/// wait. Each character of the text has one byte.
+/// Whether a store that took these operations shows the text, and so many elements wait. Each
+/// character of the text has one byte.
 fn tells<S: TextStore>(
     alloc: Global,
     words: &str,
     expected: &str,
     waiting: usize,
 ) -> Result<bool, Refusal> {
-    let store = store_of::<S>(alloc, 100, words)?;
+    let store = store_one_by_one::<S>(alloc, 100, words)?;
     Ok(
         store_shows(alloc, &store, expected)
-            && spells(&text(alloc, &store)?, expected)
-            && visible_len(&store) == expected.len()
+            && store.visible_len() == expected.len()
             && store.waiting_count()? == waiting,
     )
 }
@@ -154,7 +152,7 @@ fn is_small_tree<S: TextStore>(alloc: Global, store: &S) -> bool {
 
 /// Whether a store and its copy tell their content, the operations by identifier.
 pub fn tells_small_tree<S: TextStore>(alloc: Global) -> Result<bool, Refusal> {
-    let store = store_of::<S>(alloc, 7, SHUFFLED)?;
+    let store = store_one_by_one::<S>(alloc, 7, SHUFFLED)?;
     Ok(is_small_tree(alloc, &store) && is_small_tree(alloc, &store.copy()?))
 }
 

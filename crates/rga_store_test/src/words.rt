@@ -5,7 +5,11 @@ use std::alloc::Global;
 use test_fixtures::{op_of, ops_of, same};
 
 /// A store that took the operations of these words one by one.
-pub fn store_of<S: TextStore>(alloc: Global, limit: usize, words: &str) -> Result<S, Refusal> {
+pub fn store_one_by_one<S: TextStore>(
+    alloc: Global,
+    limit: usize,
+    words: &str,
+) -> Result<S, Refusal> {
     let mut store = S::new(alloc, limit)?;
     apply_each(&mut store, words)?;
     Ok(store)

@@ -32,9 +32,7 @@ impl DeletionRun {
             let Ok(id) = Id::new(counter, replica) else {
                 return Err(LineFault::Memory);
             };
-            let Ok(()) = ops.push(Op::Delete { id }) else {
-                return Err(LineFault::Memory);
-            };
+            ops.push(Op::Delete { id })?;
             counter += 1;
             left -= 1;
         }

@@ -3,7 +3,7 @@ ghost use Rattle.std.specs.Prelude.{◌≡◌};
 ghost use Rattle.rga_table.specs.declared.fault.LineFault.TheVariants.{Memory};
 ghost use Rattle.rga_table.specs.FaultName.{fault_name};
 
-use std::alloc::AllocError;
+use std::alloc::{AllocError, AllocFailed};
 
 /// Why a line is neither an operation or a run of them nor the head or the end of an exchange.
 /// Where several hold, the one that is tested first is answered: `Long`; `Json`; `Kind` where the
@@ -59,6 +59,15 @@ impl From<AllocError> for LineFault {
     ghost from_gives = { λ _ e. e ≡ Memory };
 
     fn from(_: AllocError) -> LineFault {
+        LineFault::Memory
+    }
+}
+
+/// A value that found no room is dropped.
+impl<T: Drop> From<AllocFailed<T>> for LineFault {
+    ghost from_gives = { λ _ e. e ≡ Memory };
+
+    fn from(_: AllocFailed<T>) -> LineFault {
         LineFault::Memory
     }
 }

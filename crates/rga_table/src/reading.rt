@@ -21,7 +21,7 @@ const VERSION: u64 = 2;
 
 /// What a value says as a line: an object with exactly the members of one of the kinds of `Line`.
 /// The faults are answered in the order that `LineFault` tells; `Long` and `Json` are of bytes, and
-/// no value has them. `Memory` is answered of a run alone.
+/// no value has them.
 #[tactic(auto, unfolding(crate::specs::Table::value_line))]
 pub fn line_of(alloc: Global, value: &Value) -> Result<Line, LineFault>
     ensures { result ≢ Err Memory → result ≡ value_line (view value.now) }
@@ -66,10 +66,10 @@ fn count(value: &Value) -> Option<usize>
     Some(value.as_object()?.len())
 }
 
-fn insertion(count: usize, value: &Value) -> Result<Line, LineFault>
-    ensures { result ≡ single_reading (insertion count (view value.now)) }
+fn insertion(members: usize, value: &Value) -> Result<Line, LineFault>
+    ensures { result ≡ single_reading (insertion members (view value.now)) }
 {
-    if count != 4 {
+    if members != 4 {
         return Err(LineFault::Member);
     }
     let (Some(text), Some(id), Some(parent)) = (
@@ -96,10 +96,10 @@ fn insertion(count: usize, value: &Value) -> Result<Line, LineFault>
     }
 }
 
-fn deletion(count: usize, value: &Value) -> Result<Line, LineFault>
-    ensures { result ≡ single_reading (deletion count (view value.now)) }
+fn deletion(members: usize, value: &Value) -> Result<Line, LineFault>
+    ensures { result ≡ single_reading (deletion members (view value.now)) }
 {
-    if count != 2 {
+    if members != 2 {
         return Err(LineFault::Member);
     }
     let Some(id) = value.get("id") else {

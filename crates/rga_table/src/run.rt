@@ -51,9 +51,7 @@ impl Run {
                 parent,
                 ch: *ch,
             };
-            let Ok(()) = ops.push(op) else {
-                return Err(LineFault::Memory);
-            };
+            ops.push(op)?;
             parent = id;
             counter += 1;
             rest = behind;

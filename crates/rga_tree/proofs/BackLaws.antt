@@ -1,16 +1,10 @@
--- What removing operations again leaves of a tree, and of the steps that were noted.
-use Rattle.std.proofs.Common.{◌≡◌, ℕ, ◌-◌, true, cond, not, ◌&&◌, List, [], ◌∷◌, ◌++◌, refl, sym, ap, ◌∙◌, subst}
-use Rattle.std.specs.Prelude.{Ok}
+-- What removing operations again leaves of a tree.
+use Rattle.std.proofs.Common.{◌≡◌, ℕ, ◌-◌, true, cond, not, ◌&&◌, sym, ap, ◌∙◌, subst}
 use Rattle.std.specs.FinMap as finite_map
 use Rattle.std.specs.FinSet as finite_set
 use Rattle.rga_ops.specs.Identifier.{Identifier, is_id}
-use Rattle.rga_ops.specs.Content.{Content, join, single, clock_of, Holds}
-use Rattle.rga_ops.specs.Answer.{answer}
-use Rattle.rga_ops.specs.declared.op.Op.{Op}
-use Rattle.rga_ops.specs.declared.refusal.Taken.TheVariants.{New}
-use Rattle.rga_tree.specs.declared.tree_store.whole_list.Step.{Step}
-use Rattle.rga_store.specs.Without.{without_insertion, without_deletion, without_operation}
-use Rattle.rga_tree.specs.Back.{gone_back, CanGoBack, IsLastStep}
+use Rattle.rga_ops.specs.Content.{Content, clock_of}
+use Rattle.rga_store.specs.Without.{without_insertion, without_deletion}
 use Rattle.rga_store.specs.Rising.{IsRising}
 use Rattle.rga_tree.specs.Children.{has_child}
 use Rattle.rga_tree.specs.Nodes.{Nodes, AreDistinctNodes, content_of_nodes, children_of}
@@ -18,7 +12,7 @@ use Rattle.rga_store.specs.Child.{is_child}
 use Rattle.rga_store.specs.Counted.{IsCounted}
 use Rattle.rga_tree.specs.Tree.{IsFamily, IsTree}
 use Rattle.rga_store.proofs.StepLaws.{IsChild, child_found}
-use Rattle.rga_store.proofs.WithoutLaws.{without_new, new_held, counted_without_insertion, counted_without_deletion}
+use Rattle.rga_store.proofs.WithoutLaws.{counted_without_insertion, counted_without_deletion}
 use Rattle.rga_tree.proofs.FamilyLaws.{family_same, child_left}
 
 module _ (ns ms : Nodes) (latest insertions identifiers limit : ℕ) (w : IsTree ns latest insertions identifiers limit) (apart : AreDistinctNodes ms) where
@@ -57,39 +51,3 @@ module _ (ns ms : Nodes) (latest insertions identifiers limit : ℕ) (w : IsTree
             (subst (λ n. IsCounted (without_deletion id c) (clock_of (without_deletion id c)) insertions n limit) (sym is_less)
             (counted_without_deletion c latest insertions identifiers limit w.counted id its)));
       }
-
--- ---- steps
-
-pub gone_back-push : (ss : List Step) (s : Step) (c : Content) → gone_back (ss ++ s ∷ []) c ≡ gone_back ss (without_operation s.op c)
-gone_back-push [] s c = refl
-gone_back-push (t ∷ ss) s c = ap (without_operation t.op) (gone_back-push ss s c)
-
-pub last_step : (ss : List Step) (s : Step) (c : Content) → CanGoBack (ss ++ s ∷ []) c → IsLastStep ss s.op s.clock c
-last_step [] s c h = record { held = h.1.0; clocked = h.1.1; rest = tt }
-last_step (t ∷ ss) s c h =
-    let last : IsLastStep ss s.op s.clock c = last_step ss s c h.0 in
-    record {
-      held = last.held;
-      clocked = last.clocked;
-      rest = (last.rest, subst (λ d. Holds d t.op × (t.clock ≡ clock_of (without_operation t.op d))) (gone_back-push ss s c) h.1);
-    }
-
-pub one_step_more : (ss : List Step) (s : Step) (c : Content) → IsLastStep ss s.op s.clock c → CanGoBack (ss ++ s ∷ []) c
-one_step_more [] s c last = (tt, (last.held, last.clocked))
-one_step_more (t ∷ ss) s c last = (
-  one_step_more ss s c (record { held = last.held; clocked = last.clocked; rest = last.rest.0 }),
-  subst (λ d. Holds d t.op × (t.clock ≡ clock_of (without_operation t.op d))) (sym (gone_back-push ss s c)) last.rest.1,
-)
-
--- ---- an operation that was just taken
-
-module _ (limit : ℕ) (n m : Content) (op : Op) (answered : answer limit n op ≡ Ok New) (joined : m ≡ join n (single op)) where
-  pub without_taken : without_operation op m ≡ n
-  without_taken = ap (without_operation op) joined ∙ without_new limit n op answered
-
-  pub last_taken : (ss : List Step) (before : ℕ) → before ≡ clock_of n → CanGoBack ss n → IsLastStep ss op before m
-  last_taken ss before same back = record {
-    held = subst (λ d. Holds d op) (sym joined) (new_held limit n op answered);
-    clocked = same ∙ ap clock_of (sym without_taken);
-    rest = subst (λ d. CanGoBack ss d) (sym without_taken) back;
-  }

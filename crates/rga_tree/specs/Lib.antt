@@ -1,5 +1,4 @@
 pub mod Children
 pub mod Nodes
 pub mod Tree
-pub mod Back
 pub mod Preceding

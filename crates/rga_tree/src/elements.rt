@@ -1,5 +1,5 @@
 //! The visible elements between two indexes, by a walk over all of them.
-ghost use Rattle.std.specs.Prelude.{◌≡◌, ◌≤◌, length, take, drop, IfOk, IfErr};
+ghost use Rattle.std.specs.Prelude.{◌≡◌, take, drop, IfOk, IfErr};
 ghost use Rattle.rga_ops.specs.Prelude.{visible, IsSound};
 ghost use Rattle.rga_tree.specs.Nodes.{content_of_nodes, AreDistinctNodes};
 ghost use Rattle.rga_tree.specs.Tree.{HasFamilies};
@@ -26,25 +26,6 @@ pub(crate) fn elements(
 {
     let (mut ids, _chars) = walked_visible(alloc, nodes)?;
     ids.truncate(hi);
-    all_from(alloc, ids.as_slice(), lo)
-}
-
-/// The identifiers from an index on, as far as there are any.
-fn all_from(alloc: Global, ids: &[Id], lo: usize) -> Result<Vec<Id>, Refusal>
-    ensures ok { IfOk result (λ copy. copy.items ≡ drop lo ids.now) }
-    ensures memory { IfErr result (λ e. e ≡ Refusal.Memory) }
-{
-    let from = lo.min(ids.len());
-    copy_from(alloc, ids, from)
-}
-
-/// The same, from an index that is not past the end.
-fn copy_from(alloc: Global, ids: &[Id], from: usize) -> Result<Vec<Id>, Refusal>
-    requires { from ≤ length ids.now }
-    ensures ok { IfOk result (λ copy. copy.items ≡ drop from ids.now) }
-    ensures memory { IfErr result (λ e. e ≡ Refusal.Memory) }
-{
-    let mut copy = Vec::with_capacity(alloc, ids.len() - from)?;
-    copy.extend_from_slice(&ids[from..])?;
-    Ok(copy)
+    ids.drain(..lo.min(ids.len()));
+    Ok(ids)
 }

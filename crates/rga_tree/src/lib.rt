@@ -10,7 +10,6 @@
 mod child_list;
 mod counting_back;
 mod elements;
-mod list_answer;
 mod merging;
 mod nodes;
 mod operations;

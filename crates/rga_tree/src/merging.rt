@@ -88,7 +88,7 @@ fn lesser(first: Option<Id>, second: Id) -> Id
 }
 
 /// Whether the nodes know an identifier: it is inserted, deleted or both.
-fn knows(nodes: &IndexMap<Id, Node>, id: Id) -> bool
+pub(crate) fn knows(nodes: &IndexMap<Id, Node>, id: Id) -> bool
     requires { AreDistinctNodes nodes.now.entries }
     ensures { result ≡ finite_set.contains (known_ids (content_of_nodes nodes.now.entries)) id }
 {

@@ -11,8 +11,7 @@ mod whole_list;
 
 use crate::counting_back::{element_at, place_of, visible_len};
 use crate::elements::elements;
-use crate::list_answer::answer_to_list;
-use crate::merging::{count_unknown, least_conflict};
+use crate::merging::{count_unknown, knows, least_conflict};
 use crate::nodes::{Node, add_child, ensure_node, found_at, mark, set_element};
 use crate::operations::operations_of;
 use crate::telling::{tell_deletions, tell_insertions};
@@ -20,7 +19,7 @@ use crate::walk::{walked, walked_text, walked_visible};
 use indexmap::IndexMap;
 use rga_ops::{Found, Id, Op, Refusal, Taken, answer_to};
 use rga_store::counts::{count_unless, raise};
-use rga_store::{Listener, MAX_LIMIT, Taker, Teller, TextStore};
+use rga_store::{Listener, Lookup, MAX_LIMIT, Taker, Teller, TextStore, answer_to_list};
 use std::alloc::Global;
 use std::marker::Model;
 use whole_list::take_one_by_one;
@@ -57,7 +56,6 @@ impl Model for TreeStore {
 }
 
 impl Taker for TreeStore {
-    ghost use Rattle.std.specs.Prelude.{◌≡◌, Ok, Err, false};
     ghost use Rattle.rga_store.specs.Growth.{NeedsRoom};
 
     ghost content = { λ s. s.content };
@@ -91,6 +89,24 @@ impl Taker for TreeStore {
         // Which refusal comes first depends on the whole list, so it is looked for only now.
         answer_to_list(alloc, self, ops)?;
         Err(Refusal::Memory)
+    }
+}
+
+impl Lookup for TreeStore {
+    ghost holds = { λ s. s.content };
+
+    ghost may_know = { λ s. s.limit };
+
+    fn element_of(&self, id: Id) -> Option<(Id, char)> {
+        self.get(id)
+    }
+
+    fn knows_of(&self, id: Id) -> bool {
+        knows(&self.nodes, id)
+    }
+
+    fn room(&self) -> usize {
+        self.limit - self.known
     }
 }
 
@@ -220,10 +236,7 @@ impl TextStore for TreeStore {
 
     fn contains(&self, op: &Op) -> bool {
         match op {
-            Op::Insert { id, parent, ch } => match self.get(*id) {
-                Some(element) => element == (*parent, *ch),
-                None => false,
-            },
+            Op::Insert { id, parent, ch } => self.get(*id) == Some((*parent, *ch)),
             Op::Delete { id } => self.is_deleted(*id),
         }
     }

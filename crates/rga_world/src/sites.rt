@@ -1,6 +1,5 @@
 //! Sites by their numbers.
-ghost use Rattle.std.specs.Prelude.{◌≡◌, ◌≢◌, ◌<◌, ◌≤◌, ◌⊎◌, Some, None, Ok, Err, IfOk, IfErr, MatchResult, true, false, length, slice_get};
-ghost use Rattle.rga_ops.specs.Prelude.{operations, text};
+ghost use Rattle.std.specs.Prelude.{◌≡◌, ◌<◌, ◌≤◌, Some, None, Ok, Err, MatchResult, true, false, length, slice_get};
 ghost use Rattle.rga_store.specs.Limit.{is_limit};
 ghost use Rattle.rga_world.specs.Outcomes.{Happens, HasRoomAt, MayWantMemory};
 ghost use Rattle.rga_world.specs.Sites.{new_world};

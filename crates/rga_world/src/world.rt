@@ -65,6 +65,7 @@ impl<S: TextStore> World<S> {
     ///
     /// Refusals, in this order: `NoSite` where a site does not exist; `NoOperation` where the giver
     /// has saved none at that place; `Store` where the site's store refuses, never with `Conflict`.
+    /// `Store` with `Memory` may come in the place of `NoOperation`.
     pub fn step(&mut self, event: &Event) -> Result<(), WorldRefusal>
         ensures happened { OnOk result (stepped self.old event.now ≡ Ok self.new) }
         ensures refused { IfErr result (λ e.

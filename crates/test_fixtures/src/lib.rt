@@ -1,8 +1,8 @@
 //! What the tests of the crates above share: operations and stores written short, a device in
 //! memory that fails, and numbers that look random.
 //!
-//! Only tests use this crate. It stands on rga_ops and rga_store; the layer above may rest on the
-//! comments of what is here, and on no contract.
+//! Tests use this crate, and so does what is timed (bench_tasks). It stands on rga_ops and
+//! rga_store; the layer above may rest on the comments of what is here, and on no contract.
 #![tactic(auto)]
 
 mod devices;

@@ -1,5 +1,5 @@
 //! Worked examples of commands, computed.
-ghost use Rattle.std.specs.Prelude.{◌≡◌, ℕ, List, [], ◌∷◌, ◌++◌, Some, Ok, Err, codes};
+ghost use Rattle.std.specs.Prelude.{◌≡◌, [], ◌∷◌, ◌++◌, Some, Ok, Err, codes};
 ghost use Rattle.mg_plain.specs.declared.command.Command.TheVariants.{ForwardWord, BackwardWord, ForwardChar, NextLine, TransposeChars, CapitalizeWord, NewlineAndIndent, KillRegion, CopyRegionAsKill, KillLine, Yank, ScrollUp};
 ghost use Rattle.mg_plain.specs.declared.outcome.Notice.TheVariants.{BeginningOfBuffer, EndOfBuffer, SearchFailed};
 ghost use Rattle.mg_plain.specs.declared.view.Kind.TheVariants.{Vertical};

@@ -1,5 +1,5 @@
 //! Places that commands go to, in words.
-ghost use Rattle.std.specs.Prelude.{◌≡◌, ◌≤◌, ◌<◌, ◌+◌, ◌-◌, ℕ, List, length};
+ghost use Rattle.std.specs.Prelude.{◌≤◌, ◌<◌, ◌+◌, ◌-◌, ℕ, List, length};
 ghost use Rattle.std.specs.List.{slice_index};
 ghost use Rattle.mg_text.specs.Characters.{is_newline};
 ghost use Rattle.mg_text.specs.Lines.{begins_line, line_begin, line_end};

@@ -1,5 +1,5 @@
 //! Searches, in words.
-ghost use Rattle.std.specs.Prelude.{◌≡◌, ◌≤◌, ◌<◌, ◌+◌, ℕ, suc, true, false, List, length, Some, None};
+ghost use Rattle.std.specs.Prelude.{◌≡◌, ◌≤◌, ◌+◌, ℕ, suc, true, false, List, length, Some, None};
 ghost use Rattle.mg_plain.specs.Matches.{stands_at, first_match, last_match};
 ghost use Rattle.mg_text.specs.Scans.{IsLeast, IsGreatest};
 

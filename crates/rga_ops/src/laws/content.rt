@@ -1,12 +1,12 @@
 //! Contents: their join, their clock, and the lists of operations that have them.
-ghost use Rattle.std.specs.Prelude.{◌≡◌, ◌≤◌, ◌↔◌, ◌++◌, ◌+◌, ℕ, List, true, Some, Ok, Contains, map};
+ghost use Rattle.std.specs.Prelude.{◌≡◌, ◌≤◌, ◌↔◌, ◌++◌, ◌+◌, ℕ, List, true, Some, Ok, Contains};
 ghost use Rattle.std.specs.FinMap as finite_map;
 ghost use Rattle.std.specs.FinSet as finite_set;
 ghost use Rattle.rga_ops.specs.Identifier.{Identifier};
 ghost use Rattle.rga_ops.specs.Content.{Element, Content, nothing, known_count, Holds, IsSound, Agree, IsWithin, join, content_of, IsAgreed, HasSameOperations, HasCountersWithin, clock_of};
 ghost use Rattle.rga_ops.specs.Order.{order, text};
 ghost use Rattle.rga_ops.specs.Operations.{operations};
-ghost use Rattle.rga_ops.specs.Answer.{taken, taken_one_by_one};
+ghost use Rattle.rga_ops.specs.Answer.{taken_one_by_one};
 ghost use Rattle.rga_ops.specs.declared.op.Op.{Op as Operation};
 
 /// Within is a partial order of contents, and the join of contents that agree is their least

@@ -6,7 +6,7 @@ ghost use Rattle.std.specs.declared.cmp.Ordering.TheVariants.{Less};
 ghost use Rattle.std.specs.FinMap as finite_map;
 ghost use Rattle.rga_ops.specs.Identifier.{Identifier, id_cmp, is_id, is_root};
 ghost use Rattle.rga_ops.specs.Operation.{checked};
-ghost use Rattle.rga_ops.specs.Content.{Element, Content, nothing, IsSound, IsWithin, join, single, clock_of};
+ghost use Rattle.rga_ops.specs.Content.{Element, Content, IsSound, IsWithin, join, single, clock_of};
 ghost use Rattle.rga_ops.specs.RootPath.{Path, root_path, is_complete, IsComplete, IsRootPath, IsBefore, path_cmp};
 ghost use Rattle.rga_ops.specs.Order.{order, waiting, text, IsOrderList, Precedes};
 ghost use Rattle.rga_ops.specs.Places.{is_visible, visible, character, place};

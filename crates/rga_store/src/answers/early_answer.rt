@@ -7,7 +7,7 @@ use crate::text_store::TextStore;
 use rga_ops::{Id, Op, Refusal};
 
 /// What the first ill-formed operation is refused for.
-pub fn check_each(ops: &[Op]) -> Result<(), Refusal>
+pub(crate) fn check_each(ops: &[Op]) -> Result<(), Refusal>
     ensures { result ≡ all_checked ops.now }
 {
     for op in ops {

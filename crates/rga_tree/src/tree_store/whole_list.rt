@@ -3,19 +3,11 @@
 ghost use Rattle.std.specs.Prelude.{◌≡◌, ◌≢◌, Ok, Err, IsOk, OnOk, OnErr, IfErr};
 ghost use Rattle.rga_ops.specs.Content.{join, single};
 ghost use Rattle.rga_ops.specs.Answer.{answer, taken, taken_one_by_one};
-ghost use Rattle.rga_store.specs.Without.{without_operation};
-ghost use Rattle.rga_tree.specs.Back.{gone_back, CanGoBack, IsLastStep};
+ghost use Rattle.rga_store.specs.Back.{without_noted, CanTakeBack};
 
 use super::TreeStore;
 use rga_ops::{Op, Refusal, Taken};
-use rga_store::Taker;
-
-/// An operation that was new, and the clock from before it.
-#[derive(Drop)]
-pub(crate) struct Step {
-    op: Op,
-    clock: u64,
-}
+use rga_store::{Step, Taker, note};
 
 /// Takes the operations one by one, each of which can be taken. `Memory` alone, and then those
 /// before it are taken.
@@ -54,21 +46,25 @@ impl TreeStore {
     }
 
     /// Takes an operation, and notes it if it was new.
-    fn take_noted(&mut self, op: &Op, steps: &mut Vec<Step>) -> Result<(), Refusal>
-        requires { CanGoBack steps.old.items self.old.content }
+    fn take_noted<'a>(&mut self, op: &'a Op, steps: &mut Vec<Step<'a>>) -> Result<(), Refusal>
+        requires { CanTakeBack steps.old.items self.old.content }
         ensures ok { OnOk result
             (taken self.old.limit self.old.content op.now ≡ Ok self.new.content) }
         ensures refused { IfErr result (λ e. e ≢ Refusal.Memory →
             taken self.old.limit self.old.content op.now ≡ Err e) }
-        ensures steps { CanGoBack steps.new.items self.new.content }
-        ensures start { gone_back steps.new.items self.new.content
-            ≡ gone_back steps.old.items self.old.content }
+        ensures steps { CanTakeBack steps.new.items self.new.content }
+        ensures start { without_noted steps.new.items self.new.content
+            ≡ without_noted steps.old.items self.old.content }
         ensures limit { self.new.limit ≡ self.old.limit }
     {
+        steps.reserve(1)?;
         let clock = self.clock;
         match self.take(op)? {
             Taken::Known => Ok(()),
-            Taken::New => self.note(op, clock, steps),
+            Taken::New => {
+                note(steps, op, clock);
+                Ok(())
+            }
         }
     }
 
@@ -88,31 +84,14 @@ impl TreeStore {
         }
     }
 
-    /// Notes an operation that was new, or removes it where there is no memory for the note.
-    fn note(&mut self, op: &Op, clock: u64, steps: &mut Vec<Step>) -> Result<(), Refusal>
-        requires { IsLastStep steps.old.items op.now clock self.old.content }
-        ensures ok { OnOk result (self.new.content ≡ self.old.content) }
-        ensures steps { CanGoBack steps.new.items self.new.content }
-        ensures start { gone_back steps.new.items self.new.content
-            ≡ gone_back steps.old.items (without_operation op.now self.old.content) }
-        ensures memory { IfErr result (λ e. e ≡ Refusal.Memory) }
-        ensures limit { self.new.limit ≡ self.old.limit }
-    {
-        if steps.push(Step { op: *op, clock }).is_err() {
-            self.remove(op, clock);
-            return Err(Refusal::Memory);
-        }
-        Ok(())
-    }
-
     /// Removes the operations of the steps, the last first. Takes no memory.
-    fn go_back(&mut self, mut steps: Vec<Step>)
-        requires { CanGoBack steps.items self.old.content }
-        ensures content { self.new.content ≡ gone_back steps.items self.old.content }
+    fn go_back(&mut self, mut steps: Vec<Step<'_>>)
+        requires { CanTakeBack steps.items self.old.content }
+        ensures content { self.new.content ≡ without_noted steps.entry.items self.old.content }
         ensures limit { self.new.limit ≡ self.old.limit }
     {
         while let Some(step) = steps.pop() {
-            self.remove(&step.op, step.clock);
+            self.remove(step.op, step.clock);
         }
     }
 }

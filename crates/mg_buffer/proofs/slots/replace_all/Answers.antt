@@ -1,6 +1,6 @@
 use Rattle.mg_buffer.proofs.Prelude.{◌≡◌, ◌+◌, ℕ, List, ◌∷◌, [], map, drop, length, ap, ◌∙◌, sym, arith, or_parts, drop_all, map-id, Identifier, Op, inserted_elements, instead, stand_in, any_repeats, repeats}
+use Rattle.rga_ops.proofs.ListSteps.{from}
 use Rattle.rga_doc.proofs.UndoLists.{one_more}
-use Rattle.rga_doc.proofs.RevertSets.{from}
 use Rattle.mg_buffer.proofs.SlotLaws.{map-map}
 use Rattle.mg_buffer.proofs.slots.replace_all.Goals as goal
 

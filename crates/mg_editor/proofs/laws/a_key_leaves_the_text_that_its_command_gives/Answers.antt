@@ -1,4 +1,4 @@
-use Rattle.std.proofs.Common.{◌≡◌, ◌≢◌, ◌∷◌, [], ◌++◌, None, Ok, Err, inl, inr, sym, ap, subst, ◌∙◌, arith}
+use Rattle.std.proofs.Common.{◌≡◌, ◌≢◌, ◌∷◌, [], ◌++◌, Option, Some, None, Ok, Err, inl, inr, sym, ap, subst, ◌∙◌, arith}
 use Rattle.std.proofs.lemmas.List.{get_or-set_same}
 use Rattle.rga_ops.specs.Order.{text}
 use Rattle.mg_buffer.specs.Faults.{FaultVerdict}
@@ -7,14 +7,18 @@ use Rattle.mg_buffer.specs.State.{State}
 use Rattle.mg_buffer.specs.OpenState.{OpenState}
 use Rattle.mg_keys.specs.declared.step.Step.TheVariants.{Run}
 use Rattle.mg_keys.specs.Begun.{Answers}
+use Rattle.mg_minibuffer.specs.declared.ending.Reaction.TheVariants.{Ends}
 use Rattle.mg_minibuffer.specs.declared.message.Message.TheVariants.{Nothing}
+use Rattle.mg_minibuffer.specs.declared.prompt.Prompt.{Prompt}
+use Rattle.mg_minibuffer.specs.PlainStep.{plain_step}
+use Rattle.mg_minibuffer.specs.PromptStep.{prompt_step}
 use Rattle.mg_dialogue.specs.Dialogues.{Dialogue}
 use Rattle.mg_workspace.specs.Actions.{ActionOutcome, ActsInCurrent, current_state, with_state_and_notes}
 use Rattle.mg_workspace.specs.Workspaces.{Workspace, scene_of}
 use Rattle.mg_workspace.specs.declared.fault.ActionFault.TheVariants.{Refused}
 use Rattle.mg_workspace.specs.declared.fault.Cause.{Cause}
 use Rattle.mg_editor.specs.Editors.{Editor}
-use Rattle.mg_editor.specs.Presses.{FollowsReaction, IsRead, StepTaken, reaction_to}
+use Rattle.mg_editor.specs.Presses.{FollowsReaction, IsRead, StepTaken}
 use Rattle.mg_editor.specs.Telling.{message_of_cause}
 use Rattle.mg_editor.proofs.laws.a_key_leaves_the_text_that_its_command_gives.Goals as goal
 
@@ -34,7 +38,10 @@ returns c = λ byte n bytes command old new request none begun key there p.
     let e : Editor = record old { talk = p.read } in
     let taken = subst (λ s. StepTaken s old e new (Ok request)) reads.0 p.taken in
     let prompt : p.read.prompt ≡ None = ap (λ (t : Dialogue). t.prompt) (reads.1 ∙ p.feeds.rest) ∙ none in
-    let ended = subst (λ o. FollowsReaction (reaction_to o (Run command n) (scene_of old.work) p.read.last) e new request) prompt taken in
+    let ended = subst (λ (o : Option Prompt). FollowsReaction (elim o [
+      | None ↦ Ends (plain_step (Run command n) (scene_of old.work))
+      | Some q ↦ prompt_step q (Run command n) (scene_of old.work) p.read.last
+    ]) e new request) prompt taken in
     let bs = old.work.buffers in
     elim ended [
       | inl t ↦

@@ -3,7 +3,7 @@ use Rattle.mg_session.specs.Display.{whole, begun, unmade}
 use Rattle.mg_session.proofs.display.show.Goals as goal
 
 pub returns-in_default : goal.returns-in_default
-returns-in_default g c = λ calls. unmade c.frame_of.new.editor refl
+returns-in_default g c = λ calls. unmade c.frame_of.new.editor (c.frame_of.ensures.unmade c.in_default.is) refl
 
 pub returns-in-Ok : goal.returns-in-Ok
 returns-in-Ok g c = λ calls.

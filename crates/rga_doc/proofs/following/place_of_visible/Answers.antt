@@ -6,4 +6,4 @@ use Rattle.rga_doc.proofs.following.place_of_visible.Goals as goal
 pub returns : goal.returns
 returns g c =
     let content : Content = g.S.Taker.content c.args.store.now in
-    left_if_placed content c.args.id c.in-Some.place (sym c.is_deleted.ensures ∙ c.if-is_deleted.false) (sym c.place_of.ensures ∙ c.in-Some.is) (λ none. omega (arith, none, c.if-place-eq0.false))
+    left_if_placed content c.args.id c.in_ok-place.place (sym c.is_deleted.ensures ∙ c.if-is_deleted.false) (sym c.place_of.ensures ∙ c.in_ok-place.was) (λ none. omega (arith, none, c.if-place-eq0.false))

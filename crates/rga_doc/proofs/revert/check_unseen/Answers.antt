@@ -7,7 +7,8 @@ use Rattle.rga_ops.specs.Content.{Content}
 use Rattle.rga_ops.specs.RootPath.{is_complete}
 use Rattle.rga_doc.specs.LocalEdit.{place_answer}
 use Rattle.rga_doc.specs.Revert.{are_restorable}
-use Rattle.rga_doc.proofs.RevertSets.{from, left_able, none_at_first, able_on, not_complete}
+use Rattle.rga_ops.proofs.ListSteps.{from}
+use Rattle.rga_doc.proofs.RevertSets.{left_able, none_at_first, able_on, not_complete}
 use Rattle.rga_doc.proofs.revert.check_unseen.Goals as goal
 
 pub loop-element-init : goal.loop-element-init
@@ -30,7 +31,7 @@ loop-element-preserved g c =
     let content : Content = g.S.Taker.content c.args.store.now in
     let b : Identifier × ℕ = c.loop-element-item.result in
     let present : is_complete content b.0 ≡ true = sym (c.requires.complete b.0) ∙ sym c.has.ensures ∙ c.if-not-has.false in
-    let new : contains is_id c.loop-element.seen b.0 ≡ false = not-true (contains is_id c.loop-element.seen b.0) (sym c.in_ok-new.ensures.new ∙ c.if-not-new.false) in
-    able_on content (contains is_id c.loop-element.seen) (contains is_id c.put_in.new.set) b (drop (c.loop-element.element-index + 1) c.args.back.now) present new c.in_ok-new.ensures.members
+    let new : contains is_id c.loop-element.seen b.0 ≡ false = not-true (contains is_id c.loop-element.seen b.0) (sym c.in_ok-put_in.ensures.new ∙ c.if-not-branch.false) in
+    able_on content (contains is_id c.loop-element.seen) (contains is_id c.put_in.new.set) b (drop (c.loop-element.element-index + 1) c.args.back.now) present new c.in_ok-put_in.ensures.members
     ∙ sym (ap (left_able content (contains is_id c.loop-element.seen)) (from c.args.back.now c.loop-element.element-index b c.loop-element-test.true c.loop-element-item.is))
     ∙ c.loop-element.invariant

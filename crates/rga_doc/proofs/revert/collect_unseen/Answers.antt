@@ -9,7 +9,8 @@ use Rattle.rga_ops.specs.Content.{Content}
 use Rattle.rga_ops.specs.RootPath.{is_complete}
 use Rattle.rga_ops.specs.Places.{is_visible}
 use Rattle.rga_doc.specs.Revert.{distinct_elements}
-use Rattle.rga_doc.proofs.RevertSets.{from, new_only, all_new, not_kept, kept_met, kept_new}
+use Rattle.rga_ops.proofs.ListSteps.{from}
+use Rattle.rga_doc.proofs.RevertSets.{new_only, all_new, not_kept, kept_met, kept_new}
 use Rattle.rga_doc.proofs.revert.collect_unseen.Goals as goal
 
 pub loop-id-init : goal.loop-id-init

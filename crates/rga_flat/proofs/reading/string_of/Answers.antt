@@ -1,7 +1,7 @@
 use Rattle.std.proofs.Common.{◌+◌, ◌++◌, drop, encode_utf8, sym, ap, ◌∙◌}
 use Rattle.std.specs.Prelude.{string_bytes, encode_utf8_all}
 use Rattle.std.proofs.lemmas.List.{append_assoc}
-use Rattle.rga_flat.proofs.ReadingLaws.{from}
+use Rattle.rga_ops.proofs.ListSteps.{from}
 use Rattle.rga_flat.proofs.reading.string_of.Goals as goal
 
 pub loop-ch-preserved : goal.loop-ch-preserved

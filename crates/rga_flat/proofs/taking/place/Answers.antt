@@ -4,7 +4,7 @@ use Rattle.std.specs.BTreeSet.{contains}
 use Rattle.rga_ops.specs.Identifier.{id_cmp}
 use Rattle.rga_sequence.specs.Entries.{put_entry}
 use Rattle.rga_flat.specs.Waiting.{under, is_listed}
-use Rattle.rga_flat.proofs.EntryLaws.{on_ok_map}
+use Rattle.rga_ops.proofs.CaseSteps.{on_ok_map}
 use Rattle.rga_flat.proofs.WaitingLaws.{under_none}
 use Rattle.rga_flat.proofs.PlacingLaws.{place_step, place_absent, place_parent, placed_flat}
 use Rattle.rga_flat.proofs.taking.place.Goals as goal

@@ -2,7 +2,8 @@ use Rattle.std.proofs.Common.{not, ◌&&◌, sym, ◌∙◌, subst}
 use Rattle.rga_store.specs.Without.{without_insertion}
 use Rattle.rga_flat.specs.Flat.{IsFlat}
 use Rattle.rga_flat.specs.Waiting.{under, has_list, is_listed}
-use Rattle.rga_flat.proofs.EntryLaws.{on_ok, on_err, on_ok_map, on_ok_both, on_err_map}
+use Rattle.rga_ops.proofs.CaseSteps.{on_ok_map, on_err_map, on_err_always}
+use Rattle.rga_flat.proofs.EntryLaws.{on_ok, on_ok_both}
 use Rattle.rga_flat.proofs.WaitingLaws.{listed_stays}
 use Rattle.rga_flat.proofs.FlatLaws.{starts, rests, stays_before, based_then, based_waiting, based_before}
 use Rattle.rga_flat.proofs.taking.settle.Goals as goal
@@ -23,7 +24,7 @@ returns-then-above-clause-based c = λ base b.
     on_ok c.place.result (based_then c.args.records.now.content c.args.entry.now.id c.args.parent c.args.entry.now.ch c.requires.element base (under c.args.waiting.now) (under c.args.waiting.now) (has_list c.args.waiting.now) (has_list c.args.waiting.now) b)
 
 pub returns-then-above-clause-left : goal.returns-then-above-clause-left
-returns-then-above-clause-left c = λ base b. on_err c.place.result b
+returns-then-above-clause-left c = λ base b. on_err_always c.place.result b
 
 pub returns-clause-ok : goal.returns-clause-ok
 returns-clause-ok c =

@@ -3,11 +3,11 @@ use Rattle.std.specs.BTreeSet.{contains}
 use Rattle.rga_ops.specs.Identifier.{id_cmp}
 use Rattle.rga_ops.specs.Content.{Content, IsWithin}
 use Rattle.rga_store.specs.Without.{without_operation}
-use Rattle.rga_records.specs.Back.{without_noted, CanTakeBack, IsLastNoted}
+use Rattle.rga_store.specs.Back.{without_noted, CanTakeBack, IsLastNoted}
 use Rattle.rga_flat.specs.Flat.{IsFlat}
 use Rattle.rga_flat.specs.Undo.{IsGoingBack}
 use Rattle.rga_flat.specs.Waiting.{under, has_list, is_listed}
-use Rattle.rga_records.proofs.BackLaws.{last_step, without_noted-push}
+use Rattle.rga_store.proofs.BackLaws.{last_step, without_noted-push}
 use Rattle.rga_flat.proofs.BackLaws.{gone_within, going_undone, gone_there}
 use Rattle.rga_flat.proofs.UndoLaws.{going_start}
 use Rattle.rga_flat.proofs.undoing.go_back.Goals as goal

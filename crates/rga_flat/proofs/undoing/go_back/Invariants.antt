@@ -1,7 +1,7 @@
 use Rattle.std.proofs.Common.{◌≡◌}
 use Rattle.std.specs.BTreeSet.{contains}
 use Rattle.rga_ops.specs.Identifier.{id_cmp}
-use Rattle.rga_records.specs.Back.{without_noted, CanTakeBack}
+use Rattle.rga_store.specs.Back.{without_noted, CanTakeBack}
 use Rattle.rga_flat.specs.Undo.{IsGoingBack}
 use Rattle.rga_flat.proofs.undoing.go_back.Given as goal
 

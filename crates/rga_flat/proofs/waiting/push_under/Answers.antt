@@ -6,7 +6,7 @@ use Rattle.std.specs.BTreeMap.Entry.{IsEntryFor, map_with_value}
 use Rattle.rga_ops.specs.Identifier.{Identifier, id_cmp}
 use Rattle.rga_ops.proofs.IdentifierLaws.{is}
 use Rattle.rga_flat.specs.Waiting.{Waiting, under, has_list, KeepsUnder, KeepsLists}
-use Rattle.rga_flat.proofs.EntryLaws.{on_err}
+use Rattle.rga_ops.proofs.CaseSteps.{on_err_always}
 use Rattle.rga_flat.proofs.WaitingLaws.{found_or_new, same_under, pushed_under, lists_now}
 use Rattle.rga_flat.proofs.waiting.push_under.Goals as goal
 
@@ -14,7 +14,7 @@ pub returns-in_err-push-clause-same : goal.returns-in_err-push-clause-same
 returns-in_err-push-clause-same c =
     let entry : IsEntryFor id_cmp c.args.waiting.now c.args.parent c.in_ok-waiting.field-0 = c.in_ok-waiting.ensures.update in
     let kept : (m : Waiting) → m ≡ map_with_value c.in_ok-waiting.field-0 c.push.new.self → OnErr c.from_residual-in_err-push.result (KeepsUnder c.args.waiting.now m) = λ m written.
-    on_err c.from_residual-in_err-push.result (λ p. ap (λ (n : Waiting). under n p) written
+    on_err_always c.from_residual-in_err-push.result (λ p. ap (λ (n : Waiting). under n p) written
     ∙ same_under c.args.waiting.now (map_with_value c.in_ok-waiting.field-0 c.push.new.self) c.args.parent c.push.new.self (entry.0 c.push.new.self).0
     (c.in_err-push.ensures.items ∙ found_or_new (lookup (is c.args.parent) c.args.waiting.now.entries) c.or_insert-list.result.now c.new.result (c.or_insert-list.ensures.value ∙ ap (λ o. unwrap_or o c.new.result) c.in_ok-waiting.ensures.value) c.new.ensures.items) p) in
     search (rules, kept)

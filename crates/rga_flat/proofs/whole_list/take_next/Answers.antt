@@ -5,7 +5,7 @@ use Rattle.rga_ops.specs.Answer.{taken, taken_one_by_one}
 use Rattle.rga_ops.specs.declared.refusal.Refusal.TheVariants.{Memory}
 use Rattle.rga_flat.specs.Waiting.{under, has_list}
 use Rattle.rga_flat.proofs.FlatLaws.{based_more}
-use Rattle.rga_records.proofs.BackLaws.{next_taken}
+use Rattle.rga_store.proofs.BackLaws.{next_taken}
 use Rattle.rga_flat.proofs.ChainLaws.{gathered_start, next_refused, at_err}
 use Rattle.rga_flat.proofs.whole_list.take_next.Goals as goal
 

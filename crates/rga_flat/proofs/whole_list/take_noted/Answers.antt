@@ -3,8 +3,8 @@ use Rattle.rga_ops.specs.Content.{Content, IsWithin, single}
 use Rattle.rga_ops.proofs.AnswerLaws.{ok}
 use Rattle.rga_ops.proofs.ContentLaws.{within_join}
 use Rattle.rga_ops.specs.declared.refusal.Taken.TheVariants.{New}
-use Rattle.rga_records.specs.Back.{without_noted, CanTakeBack}
-use Rattle.rga_records.proofs.BackLaws.{was_new, without_noted-push, one_step_more, without_taken, last_taken}
+use Rattle.rga_store.specs.Back.{without_noted, CanTakeBack}
+use Rattle.rga_store.proofs.BackLaws.{was_new, without_noted-push, one_step_more, without_taken, last_taken}
 use Rattle.rga_flat.proofs.BackLaws.{inserted_later}
 use Rattle.rga_flat.proofs.whole_list.take_noted.Goals as goal
 

@@ -4,7 +4,7 @@ use Rattle.std.specs.BTreeSet.{contains}
 use Rattle.rga_ops.specs.Identifier.{id_cmp}
 use Rattle.rga_ops.specs.Content.{Content}
 use Rattle.rga_ops.specs.Answer.{taken_one_by_one}
-use Rattle.rga_records.specs.Back.{without_noted, CanTakeBack}
+use Rattle.rga_store.specs.Back.{without_noted, CanTakeBack}
 use Rattle.rga_flat.specs.Undo.{IsReturnable}
 use Rattle.rga_flat.specs.Waiting.{under, has_list, is_listed}
 use Rattle.rga_flat.proofs.WaitingLaws.{none_done, listed_none, unlisted_done}

@@ -3,7 +3,7 @@ use Rattle.std.specs.FinMap as finite_map
 use Rattle.std.specs.BTreeSet.{contains}
 use Rattle.rga_ops.specs.Identifier.{Identifier, id_cmp}
 use Rattle.rga_ops.specs.Answer.{taken_one_by_one}
-use Rattle.rga_records.specs.Back.{without_noted, CanTakeBack}
+use Rattle.rga_store.specs.Back.{without_noted, CanTakeBack}
 use Rattle.rga_flat.specs.Based.{IsBased}
 use Rattle.rga_flat.specs.Flat.{IsFlat}
 use Rattle.rga_flat.specs.Waiting.{under, has_list, is_listed}

@@ -1,6 +1,7 @@
 use Rattle.std.proofs.Common.{◌++◌, ◌-◌, ℕ, List, slice_set, ap, ◌∙◌, arith}
 use Rattle.rga_pages.specs.Pages.{Entries, entries_in}
-use Rattle.rga_pages.proofs.PlaceLaws.{extended, on_ok_map}
+use Rattle.rga_ops.proofs.CaseSteps.{on_ok_map}
+use Rattle.rga_pages.proofs.PlaceLaws.{extended}
 use Rattle.rga_pages.proofs.appending.extend_last.Goals as goal
 
 pub returns-clause-ok : goal.returns-clause-ok

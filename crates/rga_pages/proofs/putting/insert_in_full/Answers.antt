@@ -2,7 +2,8 @@ use Rattle.std.proofs.Common.{◌≡◌, ◌≤◌, ◌<◌, [], List, length, s
 use Rattle.std.specs.BTreeMap.{insert_entry}
 use Rattle.rga_ops.specs.Identifier.{id_cmp}
 use Rattle.rga_pages.specs.Pages.{Entries, entries_in}
-use Rattle.rga_pages.proofs.PlaceLaws.{page_at, index_within, on_err_always}
+use Rattle.rga_ops.proofs.CaseSteps.{on_err_always}
+use Rattle.rga_pages.proofs.PlaceLaws.{page_at, index_within}
 use Rattle.rga_pages.proofs.SpotLaws.{own_spot, record_none, inserted_pages}
 use Rattle.rga_pages.proofs.putting.insert_in_full.Goals as goal
 

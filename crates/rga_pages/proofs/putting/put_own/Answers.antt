@@ -1,7 +1,8 @@
 use Rattle.std.proofs.Common.{◌<◌, ◌+◌, ◌∷◌, [], List, sym, ap, ◌∙◌, subst}
 use Rattle.std.specs.Prelude.{insert}
 use Rattle.rga_pages.specs.Pages.{Entries, entries_in}
-use Rattle.rga_pages.proofs.PlaceLaws.{one_up, own_there, on_ok_map}
+use Rattle.rga_ops.proofs.CaseSteps.{on_ok_map}
+use Rattle.rga_pages.proofs.PlaceLaws.{one_up, own_there}
 use Rattle.rga_pages.proofs.putting.put_own.Goals as goal
 
 pub returns-clause-ok : goal.returns-clause-ok

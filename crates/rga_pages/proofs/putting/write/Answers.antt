@@ -3,7 +3,8 @@ use Rattle.std.specs.Prelude.{insert}
 use Rattle.std.specs.BTreeMap.{insert_entry}
 use Rattle.rga_ops.specs.Identifier.{id_cmp}
 use Rattle.rga_pages.specs.Pages.{Entries, entries_in, ArePages, IsSpot}
-use Rattle.rga_pages.proofs.PlaceLaws.{index_within, filled_set, insert_some, set_same, on_ok_map, on_err_always, either_way}
+use Rattle.rga_ops.proofs.CaseSteps.{on_ok_map, on_err_always, either_way}
+use Rattle.rga_pages.proofs.PlaceLaws.{index_within, filled_set, insert_some, set_same}
 use Rattle.rga_pages.proofs.SpotLaws.{put_spot, record_none, inserted_pages}
 use Rattle.rga_pages.proofs.putting.write.Goals as goal
 

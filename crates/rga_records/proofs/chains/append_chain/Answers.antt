@@ -1,5 +1,5 @@
 use Rattle.std.proofs.Common.{◌≡◌, ◌++◌, sym, ap, ◌∙◌, subst}
-use Rattle.rga_pages.proofs.PlaceLaws.{on_ok_map}
+use Rattle.rga_ops.proofs.CaseSteps.{on_ok_map}
 use Rattle.rga_records.specs.Records.{Entries, content_of_records, AreOrdered}
 use Rattle.rga_records.proofs.NewerLaws.{rows_ordered, rows_content}
 use Rattle.rga_records.proofs.chains.append_chain.Goals as goal

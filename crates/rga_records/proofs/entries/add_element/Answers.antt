@@ -1,19 +1,15 @@
 use Rattle.std.proofs.Common.{◌≡◌, sym, ap, ◌∙◌}
-use Rattle.std.specs.Prelude.{Some, None, Result, Ok, Err, OnErr}
+use Rattle.std.specs.Prelude.{Some, None}
+use Rattle.rga_ops.proofs.CaseSteps.{on_err_map}
 use Rattle.rga_pages.specs.declared.entry.Record.{Record}
 use Rattle.rga_pages.specs.Pages.{record_of}
 use Rattle.rga_records.specs.Records.{Entries, element_of_record}
 use Rattle.rga_records.proofs.RecordLaws.{element_of, mark_of, inserted_at, deleted_at, content_inserted}
 use Rattle.rga_records.proofs.entries.add_element.Goals as goal
 
--- what follows where there is an error
-on_err : {T E P Q : Type 0} (r : Result T E) → (P → Q) → OnErr r P → OnErr r Q
-on_err (Ok x) f p = tt
-on_err (Err e) f p = f p
-
 pub returns-clause-refused : goal.returns-clause-refused
 returns-clause-refused c =
-    on_err c.insert_absent.result (λ none. inserted_at c.args.entries.now c.insert_absent.ensures.was_ordered c.args.id ∙ ap element_of none) c.insert_absent.ensures.refused
+    on_err_map c.insert_absent.result (λ none. inserted_at c.args.entries.now c.insert_absent.ensures.was_ordered c.args.id ∙ ap element_of none) c.insert_absent.ensures.refused
 
 pub returns-clause-absent : goal.returns-clause-absent
 returns-clause-absent c = λ t.

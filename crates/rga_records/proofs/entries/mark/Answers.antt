@@ -1,17 +1,13 @@
 use Rattle.std.proofs.Common.{◌≡◌, is_some, refl, sym, ap, ◌∙◌, subst}
-use Rattle.std.specs.Prelude.{Some, None, Option, Result, Ok, Err, OnErr}
+use Rattle.std.specs.Prelude.{Some, None, Option}
 use Rattle.std.specs.Option.{option_map}
+use Rattle.rga_ops.proofs.CaseSteps.{on_err_always}
 use Rattle.rga_ops.specs.Content.{element}
 use Rattle.rga_pages.specs.declared.entry.Record.{Record}
 use Rattle.rga_pages.specs.Pages.{record_of, marked, Updates}
 use Rattle.rga_records.specs.Records.{Entries, element_of_record}
 use Rattle.rga_records.proofs.RecordLaws.{element_of, mark_of, is_some-char, inserted_at, content_deleted}
 use Rattle.rga_records.proofs.entries.mark.Goals as goal
-
--- what holds anyway holds where there is an error
-on_err : {T E P : Type 0} (r : Result T E) → P → OnErr r P
-on_err (Ok x) p = tt
-on_err (Err e) p = p
 
 same_element : (o : Option Record) → element_of (marked o) ≡ element_of o
 same_element None = refl
@@ -30,7 +26,7 @@ returns-in-Some-clause-content c =
 
 pub returns-in_err-insert-in-None-clause-growth : goal.returns-in_err-insert-in-None-clause-growth
 returns-in_err-insert-in-None-clause-growth c =
-    on_err c.from_residual.result
+    on_err_always c.from_residual.result
     (ap is_some (inserted_at c.args.entries.now c.mark.ensures.was_ordered c.args.id ∙ ap element_of (sym c.mark.ensures.value ∙ c.in-None.is)))
 
 pub returns-in_ok-insert-in-None-clause-inserted : goal.returns-in_ok-insert-in-None-clause-inserted

@@ -1,6 +1,6 @@
 use Rattle.std.proofs.Common.{◌<◌, ◌++◌, ◌∷◌, [], length, take, drop, sym, ap, ◌∙◌, subst}
-use Rattle.rga_records.specs.Back.{without_noted, CanTakeBack, IsLastNoted}
-use Rattle.rga_records.proofs.BackLaws.{last_step, left_gone, left_kept}
+use Rattle.rga_store.specs.Back.{without_noted, CanTakeBack, IsLastNoted}
+use Rattle.rga_store.proofs.BackLaws.{last_step, left_gone, left_kept}
 use Rattle.rga_records.proofs.taking.remove_from.Goals as goal
 
 pub remove-requires-clause-held : goal.remove-requires-clause-held

@@ -1,5 +1,5 @@
 use Rattle.std.proofs.Common.{◌≡◌, length, take, drop}
-use Rattle.rga_records.specs.Back.{without_noted, CanTakeBack}
+use Rattle.rga_store.specs.Back.{without_noted, CanTakeBack}
 use Rattle.rga_records.proofs.taking.remove_from.Given as goal
 
 -- the steps from one on lead where all of them do

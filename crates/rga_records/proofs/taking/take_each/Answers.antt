@@ -1,7 +1,7 @@
 use Rattle.std.proofs.Common.{◌≡◌, ◌∙◌, subst, arith}
 use Rattle.std.specs.Prelude.{Ok}
 use Rattle.rga_ops.specs.Answer.{taken}
-use Rattle.rga_records.proofs.BackLaws.{next_taken}
+use Rattle.rga_store.proofs.BackLaws.{next_taken}
 use Rattle.rga_records.proofs.taking.take_each.Goals as goal
 
 pub loop-op-preserved : goal.loop-op-preserved

@@ -1,7 +1,7 @@
 use Rattle.std.proofs.Common.{◌≡◌, take}
 use Rattle.std.specs.Prelude.{Ok}
 use Rattle.rga_ops.specs.Answer.{taken_one_by_one}
-use Rattle.rga_records.specs.Back.{without_noted, CanTakeBack}
+use Rattle.rga_store.specs.Back.{without_noted, CanTakeBack}
 use Rattle.rga_records.proofs.taking.take_each.Given as goal
 
 -- the first operations lead here, and the steps lead back

@@ -1,8 +1,8 @@
 use Rattle.std.proofs.Common.{◌≡◌, sym, ap, ◌∙◌, subst}
 use Rattle.rga_ops.proofs.AnswerLaws.{ok}
 use Rattle.rga_ops.specs.declared.refusal.Taken.TheVariants.{New}
-use Rattle.rga_records.specs.Back.{without_noted, CanTakeBack}
-use Rattle.rga_records.proofs.BackLaws.{was_new, without_noted-push, one_step_more, without_taken, last_taken}
+use Rattle.rga_store.specs.Back.{without_noted, CanTakeBack}
+use Rattle.rga_store.proofs.BackLaws.{was_new, without_noted-push, one_step_more, without_taken, last_taken}
 use Rattle.rga_records.proofs.taking.take_noted.Goals as goal
 
 pub returns-in-New-clause-steps : goal.returns-in-New-clause-steps

@@ -1,7 +1,7 @@
 use Rattle.std.proofs.Common.{◌≤◌, ◌+◌, [], length, slice_index_or, sym, ap, ◌∙◌, subst, arith}
 use Rattle.rga_sequence.specs.declared.block.TheConstants.{MOST}
 use Rattle.rga_sequence.specs.Blocks.{Blocks, flat, IsPlace}
-use Rattle.rga_sequence.proofs.ListLaws.{on_err_always}
+use Rattle.rga_ops.proofs.CaseSteps.{on_err_always}
 use Rattle.rga_sequence.proofs.PlaceLaws.{cut_flat, other_place}
 use Rattle.rga_sequence.proofs.putting.put_at.Goals as goal
 

@@ -4,8 +4,8 @@ use Rattle.std.proofs.lemmas.List.{append-nil}
 use Rattle.rga_sequence.specs.declared.entry.Entry.{Entry}
 use Rattle.rga_sequence.specs.Entries.{put_entry_past_larger, put_entry, put_chain, IsChain, AreApart}
 use Rattle.rga_sequence.specs.Blocks.{Blocks, flat, before, behind}
-use Rattle.rga_sequence.proofs.ListLaws.{on_ok_map}
-use Rattle.rga_sequence.proofs.PutLaws.{apart_there, either_way}
+use Rattle.rga_ops.proofs.CaseSteps.{on_ok_map, either_way}
+use Rattle.rga_sequence.proofs.PutLaws.{apart_there}
 use Rattle.rga_sequence.proofs.ChainLaws.{chain_there, chain_apart, chain_alone, alone_apart}
 use Rattle.rga_sequence.proofs.putting.put_behind.Goals as goal
 

@@ -1,5 +1,5 @@
 use Rattle.std.proofs.Common.{◌++◌, ap, ◌∙◌, arith}
-use Rattle.rga_sequence.proofs.ListLaws.{on_ok_map}
+use Rattle.rga_ops.proofs.CaseSteps.{on_ok_map}
 use Rattle.rga_sequence.proofs.CountLaws.{ids_range}
 use Rattle.rga_sequence.proofs.scans.push_id_range.Goals as goal
 

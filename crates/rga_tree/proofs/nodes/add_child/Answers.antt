@@ -6,7 +6,7 @@ use Rattle.rga_tree.specs.declared.nodes.Node.{Node}
 use Rattle.rga_store.specs.Rising.{IsRising}
 use Rattle.rga_tree.specs.Children.{children_in, has_child}
 use Rattle.rga_tree.specs.Nodes.{Nodes, AreDistinctNodes, children_at, children_of}
-use Rattle.rga_store.proofs.CaseSteps.{on_ok_map, on_err_map}
+use Rattle.rga_ops.proofs.CaseSteps.{on_ok_map, on_err_map}
 use Rattle.rga_tree.proofs.ChildLaws.{added, rising_now}
 use Rattle.rga_tree.proofs.NodeLaws.{IsPut, found_there, put_there, apart_still, places_still, content_kept, children_kept, children_put, children_else}
 use Rattle.rga_tree.proofs.nodes.add_child.Goals as goal

@@ -1,4 +1,4 @@
-use Rattle.mg_buffer.proofs.Prelude.{rules, ◌≡◌, Bool, length, sym, ap, ◌∙◌, Ok, text, text_after, new_characters, edit_answer, splices_answer, stored, planned_answer, run_answer, State, CommandCall, Notes, command_call, effect_of_call, situation_of}
+use Rattle.mg_buffer.proofs.Prelude.{rules, ◌≡◌, Bool, length, sym, ap, ◌∙◌, Ok, Err, Result, text, text_after, new_characters, edit_answer, splices_answer, Effect, Notice, stored, growth_answer, fault_of, run_answer, State, CommandCall, Notes, command_call, effect_of_call, situation_of}
 use Rattle.mg_plain.specs.Effect.{Effect, IsWithinText}
 use Rattle.mg_plain.proofs.EffectLaws.{effect-within}
 use Rattle.mg_buffer.proofs.PlaceLaws.{if_some, is_view}
@@ -12,7 +12,7 @@ module _ (call : CommandCall) (b : State) (notes : Notes) (plan : Effect) (due :
   within_text = effect-within call.command call.argument (situation_of b notes) call.fill plan (is_view b notes) due
 
   answered : run_answer call b notes ≡ stored (splices_answer b.limit b.content plan.splices)
-  answered = ap (planned_answer b) due ∙ ap (λ (t : Bool). stored (edit_answer b.limit b.content t (new_characters plan.splices))) (sym within_text.falling)
+  answered = ap (λ (r : Result Effect Notice). elim r [ Ok e ↦ stored (growth_answer b (new_characters e.splices)) | Err notice ↦ Err (fault_of notice) ]) due ∙ ap (λ (t : Bool). stored (edit_answer b.limit b.content t (new_characters plan.splices))) (sym within_text.falling)
 
 module _ (g : Over) (c : In_ok-plan g) where
   abbrev call_of : CommandCall

@@ -18,7 +18,7 @@ returns-in-Ok-eq0 g c =
     let e = c.in-Ok-eq0.ensures in
     let none : c.in-Ok-eq0.field-0 ≡ 0 = search rules in
     let end = e.end none in
-    let taken = rw (c.as_slice.ensures.value ∙ c.take_held-held.ensures) at c.press_held.ensures in
+    let taken = rw (c.as_slice.ensures.value ∙ c.take_held-held.ensures.held) at c.press_held.ensures in
     c.reads.invariant _ _ (through [] (rw none at e.bytes) (omega (arith, e.call)) (omega (arith, e.call)) e.device (λ _. (end.last_read, end.none_left)) taken)
 
 pub returns-in-Err : goal.returns-in-Err

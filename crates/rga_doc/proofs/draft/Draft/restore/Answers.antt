@@ -4,7 +4,7 @@ use Rattle.rga_ops.specs.declared.op.Op.{Op}
 use Rattle.rga_ops.specs.declared.op.Op.TheVariants.{Insert}
 use Rattle.rga_doc.specs.Revert.{restorations}
 use Rattle.rga_doc.proofs.EditAnswers.{made_as_asked}
-use Rattle.rga_doc.proofs.RevertSets.{from}
+use Rattle.rga_ops.proofs.ListSteps.{from}
 use Rattle.rga_doc.proofs.draft.Draft.restore.Goals as goal
 
 pub loop-element-preserved : goal.loop-element-preserved

@@ -2,7 +2,8 @@ use Rattle.std.proofs.Common.{◌≡◌, ◌+◌, Bool, true, false, ◌||◌, L
 use Rattle.std.specs.List.{list_any}
 use Rattle.indexmap.specs.IndexSet.{contains}
 use Rattle.rga_ops.specs.Identifier.{Identifier, is_id}
-use Rattle.rga_doc.proofs.RevertSets.{from, id_swap}
+use Rattle.rga_ops.proofs.ListSteps.{from}
+use Rattle.rga_doc.proofs.RevertSets.{id_swap}
 use Rattle.rga_doc.proofs.element_sets.Complete.among.Goals as goal
 
 put_last : (x seen rest : Bool) → ((x || seen) || rest) ≡ (seen || (x || rest))

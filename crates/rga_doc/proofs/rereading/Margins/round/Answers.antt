@@ -12,14 +12,14 @@ loop-op-preserved g c =
     let content : Content = g.S.Taker.content c.args.store.now in
     let front : ℕ = c.min.result in
     let back : ℕ = c.min-in-loop-op.result in
-    let next : c.in-Some.place ≡ suc (c.in-Some.place - 1) = omega (arith, c.if-place-eq0.false) in
+    let next : c.in_ok-place.place ≡ suc (c.in_ok-place.place - 1) = omega (arith, c.if-place-eq0.false) in
     let less : front ≤ c.loop-op.margins.front = omega (arith, c.min.ensures) in
     let fewer : back ≤ c.loop-op.margins.back = omega (arith, c.min-in-loop-op.ensures) in
     let here : StandsBetween content front back (id_of c.op-item.result) =
     subst (StandsBetween content front back) c.id.ensures
     record {
-      index = c.in-Some.place - 1;
-      placed = sym c.place_of.ensures ∙ c.in-Some.is ∙ ap Some next;
+      index = c.in_ok-place.place - 1;
+      placed = sym c.place_of.ensures ∙ c.in_ok-place.was ∙ ap Some next;
       not_in_front = omega (arith, c.min.ensures);
       not_at_back = omega (arith, c.min-in-loop-op.ensures, c.visible_len-count.ensures, c.if-place-eq0.false, c.if-place-count.false);
     } in

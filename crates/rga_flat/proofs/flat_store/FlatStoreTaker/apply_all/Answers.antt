@@ -6,8 +6,8 @@ use Rattle.rga_ops.proofs.ListAnswerLaws.{one_by_one_list}
 use Rattle.rga_ops.proofs.EarlyLaws.{no_early_if_taken}
 use Rattle.rga_ops.proofs.TakenLaws.{taken_list_is}
 use Rattle.rga_store.specs.Kept.{Kept}
-use Rattle.rga_records.proofs.BackLaws.{not_refused}
-use Rattle.rga_flat.proofs.EntryLaws.{from_is_ok, from_not_ok}
+use Rattle.rga_store.proofs.BackLaws.{not_refused}
+use Rattle.rga_ops.proofs.CaseSteps.{from_is_ok, from_not_ok}
 use Rattle.rga_flat.proofs.flat_store.FlatStoreTaker.apply_all.Goals as goal
 
 pub returns-then-is_ok-clause-exact : goal.returns-then-is_ok-clause-exact

@@ -8,25 +8,13 @@ use Rattle.rga_store.specs.Kept.{Kept}
 use Rattle.rga_records.proofs.RecordLaws.{element_of, mark_of, element_back, inserted_at, deleted_at}
 use Rattle.rga_records.proofs.records_by_id.Records.look_up.Goals as goal
 
-pub returns-in-Some-clause-facts : goal.returns-in-Some-clause-facts
-returns-in-Some-clause-facts c = λ k. record {
-  found = (ap (option_map (λ x. element x.0 x.1)) c.element.ensures ∙ element_back c.in-Some.record
-      ∙ ap element_of (sym c.in-Some.is ∙ c.look_up.ensures.value)
+pub returns-clause-facts : goal.returns-clause-facts
+returns-clause-facts c = λ k. record {
+  found = (ap (option_map (λ x. element x.0 x.1)) c.element.ensures ∙ element_back c.found_or_new-record.result
+      ∙ c.found_or_new-record.ensures.element ∙ ap element_of c.look_up.ensures.value
       ∙ sym (inserted_at c.self.inside.entries c.self.invariant.ordered c.args.id)
       ∙ ap (λ (v : Kept). finite_map.get v.content.inserted c.args.id) c.self.view_is) k;
-  deleted = (ap (λ (r : Record). r.deleted) c.record.view_is ∙ ap mark_of (sym c.in-Some.is ∙ c.look_up.ensures.value)
-      ∙ sym (deleted_at c.self.inside.entries c.self.invariant.ordered c.args.id)
-      ∙ ap (λ (v : Kept). finite_set.contains v.content.deleted c.args.id) c.self.view_is) k;
-  known = (c.self.invariant.counted.known ∙ ap (λ (v : Kept). finite_set.len (known_ids v.content)) c.self.view_is) k;
-  limit = ap (λ (v : Kept). v.limit) c.self.view_is k;
-}
-
-pub returns-in-None-clause-facts : goal.returns-in-None-clause-facts
-returns-in-None-clause-facts c = λ k. record {
-  found = (ap element_of (sym c.in-None.is ∙ c.look_up.ensures.value)
-      ∙ sym (inserted_at c.self.inside.entries c.self.invariant.ordered c.args.id)
-      ∙ ap (λ (v : Kept). finite_map.get v.content.inserted c.args.id) c.self.view_is) k;
-  deleted = (ap mark_of (sym c.in-None.is ∙ c.look_up.ensures.value)
+  deleted = (ap (λ (r : Record). r.deleted) c.record.view_is ∙ c.found_or_new-record.ensures.mark ∙ ap mark_of c.look_up.ensures.value
       ∙ sym (deleted_at c.self.inside.entries c.self.invariant.ordered c.args.id)
       ∙ ap (λ (v : Kept). finite_set.contains v.content.deleted c.args.id) c.self.view_is) k;
   known = (c.self.invariant.counted.known ∙ ap (λ (v : Kept). finite_set.len (known_ids v.content)) c.self.view_is) k;

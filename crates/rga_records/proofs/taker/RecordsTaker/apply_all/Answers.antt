@@ -5,7 +5,7 @@ use Rattle.rga_ops.specs.ListAnswer.{list_answer}
 use Rattle.rga_ops.proofs.ListAnswerLaws.{one_by_one_list}
 use Rattle.rga_ops.proofs.EarlyLaws.{no_early_if_taken}
 use Rattle.rga_ops.proofs.TakenLaws.{taken_list_is}
-use Rattle.rga_records.proofs.BackLaws.{not_refused}
+use Rattle.rga_store.proofs.BackLaws.{not_refused}
 use Rattle.rga_records.proofs.taker.RecordsTaker.apply_all.Goals as goal
 
 pub returns-in-Ok-clause-exact : goal.returns-in-Ok-clause-exact

@@ -1,6 +1,6 @@
 use Rattle.std.proofs.Common.{◌≤◌, ◌<◌, ◌++◌, length, take, drop, sym, ap, ◌∙◌, subst, arith}
 use Rattle.rga_sequence.specs.Entries.{ids, visible_count, visible_ids}
-use Rattle.rga_sequence.proofs.ListLaws.{on_ok_map}
+use Rattle.rga_ops.proofs.CaseSteps.{on_ok_map}
 use Rattle.rga_sequence.proofs.CountLaws.{all_visible, count_within}
 use Rattle.rga_sequence.proofs.block.Block.push_visible.Goals as goal
 

@@ -6,7 +6,7 @@ use Rattle.rga_ops.specs.Content.{Content, join, single}
 use Rattle.rga_ops.proofs.ContentLaws.{contains-join}
 use Rattle.rga_ops.proofs.ListSteps.{get-deletion}
 use Rattle.rga_ops.specs.declared.op.Op.TheVariants.{Insert}
-use Rattle.rga_store.proofs.CaseSteps.{on_ok_map}
+use Rattle.rga_ops.proofs.CaseSteps.{on_ok_map}
 use Rattle.rga_store.proofs.ElementSteps.{pair_of}
 use Rattle.rga_store.specs.Reached.{Reaches}
 use Rattle.rga_store.proofs.answers.new_operations.is_new.Goals as goal

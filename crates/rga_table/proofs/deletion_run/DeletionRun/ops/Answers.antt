@@ -10,6 +10,6 @@ deletions-preserved c =
     let here = identifier c.deletions.counter c.replica-replica.result in
     let next = identifier (c.deletions.counter + 1) c.replica-replica.result in
     let is : c.in-Ok.id ≡ here = search rules in
-    ap (λ ops. ops ++ deletions_from next (c.deletions.left - 1)) (c.in-Ok-push.ensures.items ∙ (λ k. c.deletions.ops.items ++ Delete (is k) ∷ []))
+    ap (λ ops. ops ++ deletions_from next (c.deletions.left - 1)) (c.in_ok-push.ensures.items ∙ (λ k. c.deletions.ops.items ++ Delete (is k) ∷ []))
     ∙ sym (next_deletion c.deletions.ops.items here c.deletions.left c.deletions-test.true)
     ∙ c.deletions.invariant
