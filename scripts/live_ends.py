@@ -168,7 +168,8 @@ def a_silent_peer(terminal):
             terminal.expect("TERM", lambda: terminal.shown()[:2], [said, "keys"], seconds=30)
             terminal.expect("its status", lambda: "status 143" in terminal.shown(), True)
     terminal.expect_file("notes", "saved before")
-    terminal.expect_file("notes.keys", ", typed\rmeanwhile")
+    edit(terminal, ["notes", "--replica", "1"], (terminal.folder / "notes.keys").read_bytes())
+    terminal.expect_file("notes", ", typed\nmeanwhilesaved before")
 
 
 # Keys that mgr-live hands on as they are, some of which open prompts, begin others or end them.

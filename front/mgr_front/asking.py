@@ -9,6 +9,8 @@ def choice(question: str, first: str, second: str) -> str:
     while True:
         try:
             answer = input(f"{first} or {second}? ").strip().lower()
+        except UnicodeDecodeError:
+            continue
         except (EOFError, KeyboardInterrupt):
             print()
             stop("nothing was done", FAILED)

@@ -4,9 +4,10 @@ import json
 import os
 import select
 import socket
+import sys
 import tempfile
 import time
-from collections.abc import Sequence
+from collections.abc import Callable, Sequence
 
 from mgr_front.editor import Editor
 from mgr_front.live_exchange import CONFLICT, SERVE
@@ -15,21 +16,21 @@ from mgr_front.numbers import keep_number, number_of
 from mgr_front.opening import difference
 from mgr_front.options import HubOptions, read_hub
 from mgr_front.program import explained, find
-from mgr_front.relay import HOST, SILENCE, free_port, hear_out, knock, pump
+from mgr_front.relay import HOST, SILENCE, hear_out, held_port, knock, port_of, pump
 from mgr_front.saving import SAVE
 from mgr_front.saying import FAILED, REFUSED, stop, tell
+from mgr_front.screen import write_all
 from mgr_front.signals import Signals
 
 PROGRAM = "mgr-hub"
 ROWS = 3
-# Seconds between two tries to reach a mgr that is about to wait, and that it has at its end.
+# Seconds between two tries to reach a mgr that is about to wait, and that it has for its end.
 AGAIN, LAST_SECONDS = 0.005, 10
-# Seconds until mgr is asked once more where it did not come to wait.
-AFTER_FAULT = 1.0
 # Seconds that a peer has for what it still says once mgr has ended the exchange: others wait.
 REST = 20.0
 # How many connections may wait for their turn.
 BACKLOG = 64
+BEGIN = b"\x1bx" + SERVE.encode() + b"\r"
 
 
 def id_of(line: bytes) -> object:
@@ -60,27 +61,24 @@ class Hub:
         self.listener, self.signals = listener, signals
 
     def run(self) -> None:
-        """Serves peers until a signal comes, and saves; `EOFError` or `BrokenPipeError` where mgr ends before."""
+        """Serves peers until a signal comes, and saves; `EOFError` where mgr ends before."""
         while self.signals.first is None:
-            self.editor.hand_on(b"\x1bx" + SERVE.encode() + b"\r")
             peer = self._next_peer()
             if peer:
                 with peer:
                     self._serve(peer)
-        self._leave()
+        self.editor.hand_on(SAVE)
 
     def _next_peer(self) -> socket.socket | None:
-        """Waits for a peer; None where a signal comes, or mgr does not wait, as where it cannot save."""
+        """Waits for a peer; None where a signal comes.
+
+        mgr reads keys meanwhile. So it ends with this program, whatever ends that, and nobody has the
+        note open then.
+        """
         while self.signals.first is None:
-            writing = [self.editor.keys] * bool(self.editor.waiting)
-            reading = [self.listener, self.signals.woken, self.editor.written]
-            ready, free, _ = select.select(reading, writing, [])
-            if free:
-                self.editor.write()
-            if self.editor.written in ready and (said := self._read()) is not None:
-                log(said)
-                time.sleep(AFTER_FAULT)
-                return None
+            ready, _, _ = select.select([self.listener, self.signals.woken, self.editor.written], [], [])
+            if self.editor.written in ready:
+                self._read()
             if self.listener in ready:
                 return self.listener.accept()[0]
         return None
@@ -89,12 +87,7 @@ class Hub:
         """Passes a peer on to mgr, and prints what came of it."""
         heard: list[bytes] = []
         peer.settimeout(SILENCE)
-        try:
-            with self._reach() as mgr:
-                pump(peer, mgr, heard.append, self.signals.woken)
-        except OSError:
-            pass  # mgr says what came of it.
-        said = self._outcome()
+        said = self._exchange(peer, heard.append)
         log(said)
         if CONFLICT.match(said):
             number = int(said.split()[1].rstrip(":"))
@@ -108,16 +101,39 @@ class Hub:
         except OSError:
             pass  # It is gone, or takes too long.
 
-    def _reach(self) -> socket.socket:
-        """Returns a connection to mgr, once it waits."""
+    def _exchange(self, peer: socket.socket, note: Callable[[bytes], object]) -> str:
+        """Has mgr exchange with a peer, whose words are noted, and returns what came of it."""
+        self.editor.hand_on(BEGIN)
+        try:
+            mgr = self._reach()
+            if isinstance(mgr, str):
+                return mgr
+            with mgr:
+                pump(peer, mgr, note, self.signals.woken)
+        except OSError:
+            pass  # mgr says what came of it.
+        return self._outcome()
+
+    def _reach(self) -> socket.socket | str:
+        """Returns a connection to mgr, once it waits, or what it says where it does not come to that."""
         end = time.monotonic() + SILENCE
         while True:
+            said = self._hear(AGAIN)
+            if said is not None:
+                return said
             try:
                 return socket.create_connection((HOST, self.inner), SILENCE)
             except ConnectionRefusedError:
                 if time.monotonic() > end:
                     raise
-                time.sleep(AGAIN)
+
+    def _hear(self, seconds: float) -> str | None:
+        """Gives mgr the keys that wait, and returns what it says of an exchange, where it does so in time."""
+        writing = [self.editor.keys] * bool(self.editor.waiting)
+        ready, free, _ = select.select([self.editor.written], writing, [], seconds)
+        if free:
+            self.editor.write()
+        return self._read() if ready else None
 
     def _outcome(self) -> str:
         """Waits until mgr says what came of an exchange, and returns that."""
@@ -137,18 +153,15 @@ class Hub:
         said = [frame.echo for frame in frames if self.editor.dialogue.answer(frame.echo).command == SERVE]
         return said[-1] if said else None
 
-    def _leave(self) -> None:
-        """Ends the wait, and saves."""
-        while not self.editor.has_ended and not self.editor.dialogue.is_settled:
-            knock(self.inner)
-            if select.select([self.editor.written], [], [], AGAIN * 10)[0]:
-                self._read()
-        self.editor.hand_on(SAVE)
-
 
 def log(said: str) -> None:
     """Prints what came of an exchange, and when."""
-    print(time.strftime("%Y-%m-%d %H:%M:%S"), said[:1].lower() + said[1:], flush=True)
+    line = f"{time.strftime('%Y-%m-%d %H:%M:%S')} {said[:1].lower()}{said[1:]}\n"
+    try:
+        if sys.stdout:  # Else it was closed at the start, and its number may be another file's.
+            write_all(line.encode())
+    except OSError:
+        pass  # The disk is full, or nobody reads it any more: peers are served all the same.
 
 
 def serve(mgr: str, note: Note, number: int, options: HubOptions) -> int:
@@ -158,14 +171,13 @@ def serve(mgr: str, note: Note, number: int, options: HubOptions) -> int:
     except OSError as error:
         stop(f"port {options.port}: {os.strerror(error.errno or 0)}", FAILED, PROGRAM)
     signals = Signals()
-    inner = free_port()
-    words = ["--replica", str(number), "--port", str(inner), "--", note.name]
-    with listener, tempfile.TemporaryFile() as said:
+    with listener, held_port() as inner, tempfile.TemporaryFile() as said:
+        words = ["--replica", str(number), "--port", str(port_of(inner)), "--", note.name]
         editor = Editor(mgr, words, ROWS, said)
-        hub = Hub(editor, note, listener, inner, signals)
+        hub = Hub(editor, note, listener, port_of(inner), signals)
         try:
             hub.run()
-        except (EOFError, BrokenPipeError):
+        except EOFError:
             pass  # Its status says why.
         finally:
             editor.end(LAST_SECONDS)

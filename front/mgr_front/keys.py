@@ -52,8 +52,10 @@ NUMBERED = {
 CONTROL = 4
 
 PASTE_BEGIN, PASTE_END = b"\x1b[200~", b"\x1b[201~"
+# No key has a number of more digits. Without a bound each of many would be tried as the last one.
 STROKE = re.compile(
-    rb"\x1b(?:O(?P<plain>[ -~])|\[\[[ -~]|\[(?P<number>\d*)(?:;(?P<modifier>\d+))?[0-?]*[ -/]*(?P<last>[@-~]))"
+    rb"\x1b(?:O(?P<plain>[ -~])|\[\[[ -~]"
+    rb"|\[(?P<number>\d{0,3})(?:;(?P<modifier>\d{1,3})(?!\d))?[0-?]*[ -/]*(?P<last>[@-~]))"
     rb"|\x1b(?P<meta>[^\x1b])|(?P<typed>[^\x1b]+|\x1b)"
 )
 BEGUN = re.compile(rb"\x1b(?:O|\[\[|\[[0-?]*[ -/]*)?\Z")

@@ -5,6 +5,9 @@ from collections.abc import Callable
 from mgr_front.dialogue import CANCEL, DELETE, RETURN
 from mgr_front.errands import Errand, go_to_line
 
+# No note has as many lines as a number with so many digits says.
+MOST_ANSWER = 9
+
 
 class Question:
     """A question, and its answer so far."""
@@ -27,7 +30,7 @@ class Question:
         elif byte in (RETURN, CANCEL):
             self.is_open = False
             return self.accept(self.answer) if byte == RETURN else None
-        elif chr(byte) in self.allowed:
+        elif chr(byte) in self.allowed and len(self.answer) < MOST_ANSWER:
             self.answer += chr(byte)
         return None
 

@@ -20,16 +20,29 @@ PORTS = range(20000, 32000)
 SILENCE = 8.0
 
 
+def held_port() -> socket.socket:
+    """Returns a socket with a port of this machine that nobody uses now, nor draws while it is open."""
+    while True:
+        held = socket.socket()
+        try:
+            held.bind((HOST, random.choice(PORTS)))
+        except OSError:
+            held.close()
+            continue
+        # Who is told of the port can wait there all the same.
+        held.setsockopt(socket.SOL_SOCKET, socket.SO_REUSEADDR, 1)
+        return held
+
+
+def port_of(held: socket.socket) -> int:
+    port: int = held.getsockname()[1]
+    return port
+
+
 def free_port() -> int:
     """Returns a port of this machine that nobody uses now."""
-    while True:
-        number = random.choice(PORTS)
-        with socket.socket() as probe:
-            try:
-                probe.bind((HOST, number))
-            except OSError:
-                continue
-        return number
+    with held_port() as held:
+        return port_of(held)
 
 
 def knock(port: int) -> None:
@@ -93,7 +106,7 @@ class Relay(threading.Thread):
         super().__init__(daemon=True)
         self.far = far
         self.listener = socket.create_server((HOST, 0))
-        self.port: int = self.listener.getsockname()[1]
+        self.port = port_of(self.listener)
         self.sides: tuple[socket.socket, ...] = ()
 
     def run(self) -> None:

@@ -9,6 +9,7 @@ from mgr_front.modelines import ModeLine, current_mode_row, mode_line, mode_rows
 from mgr_front.watches import Moment
 
 CANCEL, SAVE, SWITCH, ACCEPT = b"\x07", b"\x18\x13", b"\x18b", b"\r"
+ONE_WINDOW = b"\x181"
 FILE_FAULT = "File fault"
 MOST_BUFFERS = 64
 
@@ -40,11 +41,14 @@ class Buffers:
 
 
 def save_all(failed: list[str]) -> Errand:
-    """Leaves what is asked, and saves each changed buffer; adds those that it cannot save to `failed`."""
-    frame = yield bytes([NO_KEY]) + CANCEL
+    """Leaves what is asked, and saves each changed buffer; adds those that it cannot save to `failed`.
+
+    In one window, where the mode line stands above the echo line: a line of the text may look like one.
+    """
+    frame = yield bytes([NO_KEY]) + CANCEL + ONE_WINDOW
     seen: set[str] = set()
     for _ in range(MOST_BUFFERS):
-        said = current(frame)
+        said = mode_line(frame.rows[-2])
         if said and said.name in seen:
             break
         if said is None or said.is_changed:

@@ -27,14 +27,22 @@ class Screen:
         self.saved = termios.tcgetattr(0)
         # What it shows; nothing, where all has to be drawn.
         self.drawn: list[Line] = []
-        # Whether it is this program's screen that it shows, and whether the shell's has to come back.
-        self.is_open = self.is_taken = False
+        # Whether it is raw, whether it is this program's screen that it shows, and whether the shell's
+        # has to come back.
+        self.is_raw = self.is_open = self.is_taken = False
+        # Whether the program is about to end: then nothing is opened or drawn any more.
+        self.is_over: Callable[[], bool] = lambda: False
 
     @property
     def erase(self) -> int:
         """The byte that the terminal erases by."""
         byte: bytes = self.saved[6][termios.VERASE]
         return byte[0] or DELETE
+
+    @property
+    def is_ours(self) -> bool:
+        """Whether the terminal is this program's. It is a shell's while this one is suspended, or in the background."""
+        return self.is_raw and not is_in_background()
 
     def __enter__(self) -> "Screen":
         self.open()
@@ -48,16 +56,19 @@ class Screen:
 
     def open(self) -> None:
         """Puts the terminal into raw mode. All is drawn anew, on a screen of this program's own."""
-        until_done(lambda: tty.setraw(0, termios.TCSADRAIN))
+        if until_done(lambda: tty.setraw(0, termios.TCSADRAIN), self.is_over):
+            self.is_raw = True
         self.is_open = False
         self.forget()
 
     def close(self) -> None:
-        """Puts the terminal back."""
+        """Puts the terminal back, unless a shell has done so."""
         if self.is_taken:
             write_all(CLOSE.encode())
         self.is_open = self.is_taken = False
-        until_done(lambda: termios.tcsetattr(0, termios.TCSADRAIN, self.saved))
+        if self.is_ours:
+            until_done(lambda: termios.tcsetattr(0, termios.TCSADRAIN, self.saved))
+        self.is_raw = False
 
     def forget(self) -> None:
         """Has the next picture be drawn as a whole."""
@@ -65,6 +76,8 @@ class Screen:
 
     def draw(self, picture: Picture, rings: bool = False) -> None:
         """Draws what differs from what was drawn before, places the cursor, and rings the bell."""
+        if self.is_over():
+            return
         out: list[str] = []
         if not self.is_open:
             out.append(OPEN)
@@ -120,18 +133,28 @@ def _common(one: list[Cell], other: list[Cell]) -> int:
     return min(len(one), len(other))
 
 
-def until_done(set_mode: Callable[[], object]) -> None:
-    """Sets a mode of the terminal. In the background that stops this program until it is continued.
+def is_in_background() -> bool:
+    """Whether the terminal is another job's."""
+    try:
+        return os.tcgetpgrp(0) != os.getpgrp()
+    except OSError:
+        return False  # It is no terminal of jobs, or it is gone.
 
-    Where the terminal is gone it is an `OSError`, as by all other calls.
+
+def until_done(set_mode: Callable[[], object], is_over: Callable[[], bool] = lambda: False) -> bool:
+    """Sets a mode of the terminal, unless all is over, and answers whether that is done.
+
+    In the background it stops this program until it is continued, by a signal that ends it too. Where
+    the terminal is gone it is an `OSError`, as by all other calls.
     """
-    while True:
+    while not is_over():
         try:
             set_mode()
-            return
+            return True
         except termios.error as error:
             if error.args[0] != errno.EINTR:
                 raise OSError(*error.args) from None
+    return False
 
 
 def write_all(data: bytes, to: int = 1) -> None:

@@ -50,6 +50,7 @@ class Session:
     def __init__(self, editor: Editor, screen: Screen, signals: Signals, port: int | Relay | None = None) -> None:
         """`port` is where mgr meets peers, or what passes its connections on."""
         self.editor, self.screen, self.signals = editor, screen, signals
+        screen.is_over = lambda: signals.first is not None
         self.relay = port if isinstance(port, Relay) else None
         self.port = port.port if isinstance(port, Relay) else port
         # How many rows mgr is to fill.
@@ -88,7 +89,7 @@ class Session:
         try:
             while self.signals.first is None and self._step():
                 pass
-            while self.signals.first and select.select([0], [], [], 0)[0] and self._take_keys():
+            while self.signals.first and self._has_keys() and self._take_keys():
                 pass
         except BrokenPipeError:
             pass  # mgr takes no more keys: its status says why.
@@ -103,7 +104,7 @@ class Session:
             self._heed()
         if self.editor.written in ready and not self._take_frames():
             return False
-        if 0 in ready and not self._take_keys():
+        if 0 in ready and self.screen.is_raw and not self._take_keys():
             return False
         if not ready and self.keys.is_in_doubt:
             self.dispatcher.take(self.keys.give_up())
@@ -162,6 +163,10 @@ class Session:
         if is_busy or self.frame is None or not self.editor.dialogue.is_at_rest:
             return None
         return Moment(self.typed, self.key, self.frame, self.frame.echo if self.said is None else self.said)
+
+    def _has_keys(self) -> bool:
+        """Whether there is something to read of the terminal, while that is this program's."""
+        return self.screen.is_ours and bool(select.select([0], [], [], 0)[0])
 
     def _take_keys(self) -> bool:
         sent = os.read(0, BLOCK)
@@ -353,7 +358,7 @@ class Session:
 
     def suspend(self) -> None:
         """Puts the terminal back and stops, until somebody continues this program."""
-        if self.is_ending:
+        if self.is_ending or self.signals.first is not None:
             return
         self.screen.close()
         signal.signal(signal.SIGTSTP, signal.SIG_DFL)

@@ -29,7 +29,7 @@ class Signals:
     """The first of the signals that end a program, and those of others that came since."""
 
     def __init__(self, *others: int) -> None:
-        """Takes note of those that end a program, and of these others."""
+        """Takes note of those that end a program, but for ignored ones, as SIGHUP under nohup, and of these others."""
         self.first: int | None = None
         self.came: set[int] = set()
         self.woken, self.waker = os.pipe()
@@ -37,7 +37,8 @@ class Signals:
         os.set_blocking(self.waker, False)
         signal.set_wakeup_fd(self.waker, warn_on_full_buffer=False)
         for number in ENDING:
-            signal.signal(number, self._note_end)
+            if signal.getsignal(number) != signal.SIG_IGN:
+                signal.signal(number, self._note_end)
         for number in others:
             self.listen(number)
 

@@ -149,6 +149,12 @@ class TestDispatch(unittest.TestCase):
         self.assertIsNotNone(errand)
         self.assertEqual(self.press(b"a"), b"")
 
+    def test_a_line_of_too_many_digits(self) -> None:
+        self.press(b"\x18g" + b"9" * 5000)
+        assert self.desk.question
+        self.assertEqual(self.desk.question.answer, "9" * 9)
+        self.assertEqual(self.press(b"\r"), b"\x1b<")
+
     def test_a_line_that_is_pasted(self) -> None:
         self.press(b"\x18g\x1b[200~12\r\x1b[201~\x1b[D\x1bf")
         assert self.desk.question

@@ -10,7 +10,7 @@ import unittest
 import context  # noqa: F401
 
 from mgr_front.editor import Editor
-from mgr_front.signals import held_back
+from mgr_front.signals import ENDING, Signals, held_back
 
 SIZE = b"\x1b[8;3;500t"
 
@@ -77,6 +77,18 @@ class TestSignals(unittest.TestCase):
             os.kill(os.getpid(), signal.SIGTERM)
         self.assertEqual(came, [signal.SIGTERM])
         self.assertEqual(signal.pthread_sigmask(signal.SIG_BLOCK, []), set())
+
+    def test_one_that_is_ignored_at_the_start_stays_so(self) -> None:
+        for number in ENDING:
+            self.addCleanup(signal.signal, number, signal.getsignal(number))
+        signal.signal(signal.SIGHUP, signal.SIG_IGN)
+        self.addCleanup(signal.set_wakeup_fd, -1)
+        signals = Signals()
+        self.addCleanup(os.close, signals.woken)
+        self.addCleanup(os.close, signals.waker)
+        for number, first in ((signal.SIGHUP, None), (signal.SIGTERM, signal.SIGTERM)):
+            os.kill(os.getpid(), number)
+            self.assertEqual(signals.first, first)
 
     def test_one_that_does_not_end_is_ended_all_the_same(self) -> None:
         with tempfile.TemporaryDirectory() as folder, tempfile.TemporaryFile() as said:

@@ -1,7 +1,14 @@
-"""What a hub tells a peer, and for how long it hears one."""
+"""What a hub has its mgr do, what it tells a peer, and for how long it hears one."""
 
+import contextlib
 import os
+import pathlib
+import select
 import socket
+import stat
+import subprocess
+import sys
+import tempfile
 import threading
 import time
 import unittest
@@ -10,9 +17,82 @@ from unittest import mock
 import context  # noqa: F401
 
 from mgr_front import hub
+from mgr_front.editor import Editor
 from mgr_front.hub import Hub
+from mgr_front.relay import HOST, SILENCE, held_port, port_of
 
+FAKE = pathlib.Path(__file__).with_name("fake_mgr.py")
 LINE = b'{"char":"a","id":[1,2],"op":"ins","parent":[0,0]}\n'
+
+
+class TestExchanges(unittest.TestCase):
+    def setUp(self) -> None:
+        self.open = contextlib.ExitStack()
+        self.addCleanup(self.open.close)
+
+    def begin(self, name: str) -> Hub:
+        """Returns a hub beside a program that takes the place of mgr, once that shows a frame."""
+        folder = pathlib.Path(self.open.enter_context(tempfile.TemporaryDirectory()))
+        program = folder / "mgr"
+        program.write_text(f'#!/bin/sh\nexec {sys.executable} {FAKE} "$@"\n')
+        program.chmod(program.stat().st_mode | stat.S_IXUSR)
+        inner = self.open.enter_context(held_port())
+        said = self.open.enter_context(tempfile.TemporaryFile())
+        editor = Editor(str(program), ["--port", str(port_of(inner)), "--", str(folder / name)], 3, said)
+        self.open.callback(editor.end, 5)
+        woken, waker = os.pipe()
+        self.open.callback(os.close, woken)
+        self.open.callback(os.close, waker)
+        self.listener = self.open.enter_context(socket.create_server((HOST, 0)))
+        self.assertTrue(select.select([editor.written], [], [], 10)[0])
+        return Hub(editor, mock.Mock(), self.listener, port_of(inner), mock.Mock(woken=woken, first=None))
+
+    def meet(self, served: Hub) -> tuple[socket.socket, socket.socket]:
+        """Returns both ends of the connection of a peer that says nothing more: the hub's, and its own."""
+        peer = self.open.enter_context(socket.create_connection((HOST, port_of(self.listener)), 10))
+        peer.shutdown(socket.SHUT_WR)
+        near = served._next_peer()
+        assert near
+        return self.open.enter_context(near), peer
+
+    def test_one_peer_after_another_is_passed_on(self) -> None:
+        served = self.begin("note")
+        for _ in range(2):
+            near, peer = self.meet(served)
+            self.assertEqual(served._exchange(near, len), "Sent 0, received 0")
+            self.assertEqual(peer.recv(100), b"served\n")
+
+    def test_mgr_is_given_no_key_before_a_peer_is_there(self) -> None:
+        served = self.begin("note")
+        self.meet(served)
+        self.assertEqual((served.editor.waiting, served.editor.dialogue.is_idle), (b"", True))
+
+    def test_a_fault_before_mgr_waits_is_told_at_once(self) -> None:
+        served = self.begin("faulty")
+        near, _ = self.meet(served)
+        begun = time.monotonic()
+        self.assertEqual(served._exchange(near, len), "File fault")
+        self.assertLess(time.monotonic() - begun, SILENCE / 2)
+
+
+class TestPrinting(unittest.TestCase):
+    def log(self, out: int) -> "subprocess.CompletedProcess[bytes]":
+        """Prints a line in a program of its own."""
+        program = "import context; from mgr_front.hub import log; log('Sent 1, received 2')"
+        return subprocess.run([sys.executable, "-c", program], cwd=FAKE.parent, stdout=out, stderr=subprocess.PIPE)
+
+    def test_a_line(self) -> None:
+        done = self.log(subprocess.PIPE)
+        self.assertEqual((done.returncode, done.stdout[20:], done.stderr), (0, b"sent 1, received 2\n", b""))
+
+    def test_where_it_cannot_be_printed(self) -> None:
+        reader, writer = os.pipe()
+        os.close(reader)
+        self.addCleanup(os.close, writer)
+        with open("/dev/full", "wb") as full:
+            for out in (writer, full.fileno()):
+                done = self.log(out)
+                self.assertEqual((done.returncode, done.stderr), (0, b""))
 
 
 class TestPeers(unittest.TestCase):

@@ -1,5 +1,6 @@
 """What terminals send, and the strokes and keys that it becomes."""
 
+import time
 import unittest
 
 import context  # noqa: F401
@@ -26,6 +27,8 @@ SENT: list[tuple[str, bytes, bytes]] = [
     ("a meta key", b"\x1bf", b"\x1bf"),
     ("ESC and an arrow", b"\x1b\x1b[A", b"\x1b\x10"),
     ("text round an arrow", b"a\x1b[Cb", b"a\x06b"),
+    ("a modifier of too many digits", b"\x1b[1;" + b"5" * 5000 + b"C", b"\x06"),
+    ("a number of too many digits", b"\x1b[" + b"1" * 5000 + b"~", b""),
 ]
 
 
@@ -45,6 +48,11 @@ class TestKeys(unittest.TestCase):
                 keys = Keys()
                 taken = [stroke for i in range(len(sent)) for stroke in keys.take(sent[i : i + 1])]
                 self.assertEqual(keys_of(taken + keys.give_up()), wanted)
+
+    def test_many_digits_that_are_no_key_are_read_at_once(self) -> None:
+        digits, begun = b"1" * 60_000, time.monotonic()
+        self.assertEqual(Keys().take(b"\x1b[" + digits + b"\x01"), [Meta(ord("[")), Typed(digits + b"\x01")])
+        self.assertLess(time.monotonic() - begun, 2)
 
     def test_escape_alone_is_given_up(self) -> None:
         keys = Keys()

@@ -8,12 +8,20 @@ import unittest
 
 import context  # noqa: F401
 
-from mgr_front.relay import HOST, SILENCE, Relay, pump
+from mgr_front.relay import HOST, SILENCE, Relay, held_port, port_of, pump
 
 
 def hear(side: socket.socket) -> bytes:
     """Returns what a side says up to its end."""
     return b"".join(iter(lambda: side.recv(4096), b""))
+
+
+class TestPorts(unittest.TestCase):
+    def test_one_that_is_held_is_drawn_by_nobody_and_waited_at_by_whoever_knows_it(self) -> None:
+        with held_port() as held, socket.socket() as probe:
+            with self.assertRaises(OSError):
+                probe.bind((HOST, port_of(held)))
+            socket.create_server((HOST, port_of(held))).close()
 
 
 class TestRelay(unittest.TestCase):

@@ -17,17 +17,25 @@ def mode_row(name: str, is_changed: bool) -> str:
 
 
 class FakeMgr:
-    """Buffers in their order, of which the first is shown; those in `faulty` cannot be saved."""
+    """Buffers in their order, of which the first is shown; those in `faulty` cannot be saved.
 
-    def __init__(self, faulty: str = "", **changed: bool) -> None:
+    Each has this text, and a window more shows it while `is_split`.
+    """
+
+    def __init__(self, faulty: str = "", text: str = "", **changed: bool) -> None:
         self.changed, self.faulty, self.shown = changed, faulty, next(iter(changed))
+        self.text, self.is_split = text, False
         self.keys: list[bytes] = []
 
     def frame(self, echo: str = "") -> Frame:
-        return Frame(("", mode_row(self.shown, self.changed[self.shown]), echo), 0, 0)
+        window = (self.text, mode_row(self.shown, self.changed[self.shown]))
+        below = (self.text, mode_row("below", False)) if self.is_split else ()
+        return Frame((*window, *below, echo), 0, 0)
 
     def press(self, keys: bytes) -> Frame:
         self.keys.append(keys)
+        if keys.endswith(b"\x181"):
+            self.is_split = False
         if keys == b"\x18\x13":
             if self.shown == self.faulty:
                 return self.frame("File fault")
@@ -57,6 +65,17 @@ class TestSaving(unittest.TestCase):
                 mgr.play(save_all(failed))
                 self.assertEqual((any(mgr.changed.values()), failed), (False, []))
                 self.assertEqual(mgr.keys.count(b"\x18\x13"), sum(changed.values()))
+
+    def test_it_is_where_the_text_looks_like_a_mode_line(self) -> None:
+        mgr = FakeMgr(text=mode_row("a", False), a=True, b=True)
+        mgr.play(save_all([]))
+        self.assertEqual(mgr.changed, {"a": False, "b": False})
+
+    def test_it_is_where_there_is_another_window(self) -> None:
+        mgr = FakeMgr(a=True, b=True)
+        mgr.is_split = True
+        mgr.play(save_all([]))
+        self.assertEqual(mgr.changed, {"a": False, "b": False})
 
     def test_what_cannot_be_saved_is_tried_twice_and_told(self) -> None:
         mgr, failed = FakeMgr(faulty="a", a=True, b=True), list[str]()

@@ -4,13 +4,14 @@ import errno
 import re
 import termios
 import unittest
+from unittest import mock
 
 import context  # noqa: F401
 
 from mgr_front.cells import cells, total_width
 from mgr_front.echo import Echo, echo_line
 from mgr_front.frames import Frame
-from mgr_front.screen import change, until_done
+from mgr_front.screen import CLOSE, Screen, change, until_done
 from mgr_front.view import Line, Picture, picture
 
 MODE = "----Mg: n (fundamental) L1 C0 W0".ljust(500, "-")
@@ -150,6 +151,47 @@ class TestModes(unittest.TestCase):
         with self.assertRaises(OSError) as caught:
             until_done(set_mode)
         self.assertEqual(caught.exception.errno, errno.EIO)
+
+    def test_a_terminal_of_another_job_is_waited_for_until_all_is_over(self) -> None:
+        set_mode = mock.Mock(side_effect=termios.error(errno.EINTR, "Interrupted system call"))
+        self.assertFalse(until_done(set_mode, mock.Mock(side_effect=[False, False, True])))
+        self.assertEqual(set_mode.call_count, 2)
+
+
+class TestScreens(unittest.TestCase):
+    def setUp(self) -> None:
+        self.patched("termios.tcgetattr")
+        self.tcsetattr, self.setraw = self.patched("termios.tcsetattr"), self.patched("tty.setraw")
+        self.write_all, self.is_in_background = self.patched("write_all"), self.patched("is_in_background")
+        self.screen = Screen()
+
+    def patched(self, name: str) -> mock.Mock:
+        patch = mock.patch(f"mgr_front.screen.{name}", return_value=False)
+        self.addCleanup(patch.stop)
+        return patch.start()
+
+    def test_it_is_put_back_once(self) -> None:
+        self.screen.close()
+        self.assertEqual(self.tcsetattr.call_count, 0)
+        self.screen.open()
+        for _ in range(2):
+            self.screen.close()
+            self.assertEqual(self.tcsetattr.call_count, 1)
+
+    def test_in_the_background_the_modes_are_left_to_the_shell(self) -> None:
+        self.screen.open()
+        self.screen.draw(Picture([], 0, 0))
+        self.is_in_background.return_value = True
+        self.screen.close()
+        self.assertEqual(self.tcsetattr.call_count, 0)
+        self.write_all.assert_called_with(CLOSE.encode())
+
+    def test_nothing_is_opened_or_drawn_once_all_is_over(self) -> None:
+        self.screen.is_over = lambda: True
+        self.screen.open()
+        self.screen.draw(Picture([], 0, 0))
+        self.assertEqual((self.setraw.call_count, self.write_all.call_count), (0, 0))
+        self.assertFalse(self.screen.is_ours)
 
 
 if __name__ == "__main__":

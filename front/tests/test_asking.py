@@ -1,0 +1,33 @@
+"""What is asked before an edit, and answers to it."""
+
+import io
+import unittest
+from contextlib import redirect_stdout
+from unittest import mock
+
+import context  # noqa: F401
+
+from mgr_front.asking import choice
+from mgr_front.saying import FAILED
+
+NO_TEXT = UnicodeDecodeError("utf-8", b"\xff", 0, 1, "invalid start byte")
+
+
+class TestChoices(unittest.TestCase):
+    def answer(self, *answers: str | BaseException) -> str:
+        with mock.patch("builtins.input", side_effect=answers), redirect_stdout(io.StringIO()):
+            return choice("Which?\n", "f", "l")
+
+    def test_it_is_asked_until_one_of_the_two_is_given(self) -> None:
+        self.assertEqual(self.answer("", "x", NO_TEXT, " F "), "f")
+
+    def test_without_an_answer_the_program_ends(self) -> None:
+        for end in (EOFError(), KeyboardInterrupt()):
+            with mock.patch("mgr_front.asking.stop", side_effect=SystemExit(FAILED)) as stop:
+                with self.assertRaises(SystemExit):
+                    self.answer("x", end)
+            stop.assert_called_once_with("nothing was done", FAILED)
+
+
+if __name__ == "__main__":
+    unittest.main()
