@@ -15,6 +15,7 @@ import time
 sys.path.insert(0, str(pathlib.Path(__file__).resolve().parent.parent / "front"))
 
 from mgr_front.relay import HOST, free_port  # noqa: E402, F401 (for the scripts)
+from play.peers import listens  # noqa: E402
 
 ROWS, COLUMNS = 6, 60
 SECONDS = 120
@@ -25,9 +26,6 @@ SERVE = b"\x1bxreplica-serve\r"
 
 # ESC and C-x begin a key: no frame comes behind them.
 BEGINNINGS = b"\x1b\x18"
-
-LISTENING = "0A"
-
 
 # Those that have not ended.
 running = []
@@ -146,15 +144,6 @@ def await_listener(number, pause=0.005):
         if time.monotonic() > end:
             raise Unexpected(f"nobody listens at {number} for {SECONDS} seconds")
         time.sleep(pause)
-
-
-def listens(number):
-    """Whether somebody listens at a port of this machine."""
-    for row in pathlib.Path("/proc/net/tcp").read_text().split("\n")[1:]:
-        words = row.split()
-        if words and words[1].endswith(f":{number:04X}") and words[3] == LISTENING:
-            return True
-    return False
 
 
 def show(mgr, log):
