@@ -15,7 +15,7 @@ use Rattle.rga_ops.specs.declared.op.Op.TheVariants.{Insert, Delete}
 use Rattle.rga_ops.proofs.IdentifierLaws.{is}
 use Rattle.rga_ops.proofs.VisibleLaws.{text_long, visible_elements}
 use Rattle.rga_ops.proofs.PlaceLaws.{index_in, index_of_place, complete_of_place, text-insertion_at, absent_if_new, text-insertion_hidden, visible-deletion_cut, text-deletion_cut, text-deletion_hidden}
-use Rattle.rga_doc.specs.Relisting.{DeletesLeft, IsTextBefore, StandsLeft}
+use Rattle.rga_doc.specs.Relisting.{DeletesAt, IsTextBefore}
 use Rattle.rga_characters.proofs.SplicedLists.{length-spliced}
 
 -- as many are visible as before where they are as many as are listed
@@ -36,28 +36,20 @@ hidden_if_as_many c id as_many = elim (is_visible c id) as (λ b. is_visible c i
   | false ↦ λ hidden. refl
 ] refl
 
--- an element left of a place stands at the index before it
-pub left_index : (xs : List Identifier) (id : Identifier) (k : ℕ) → StandsLeft xs id k → (k ≡ suc (k - 1)) × (slice_get xs (k - 1) ≡ Some id)
-left_index xs id zero h = absurd h
-left_index xs id (suc k) h =
-    let before : suc k - 1 ≡ k = omega arith in
-    (omega arith, ap (slice_get xs) before ∙ h)
-
--- the deleted element stood left of the place
-deleted_there : (c : Content) (id : Identifier) (at : Option ℕ) (k : ℕ) (characters : List ℕ) (b : IsTextBefore c (Delete id) at characters) → at ≡ Some k → StandsLeft (visible b.before) id k
-deleted_there c id at k characters b is = subst (λ o. IfSome o (DeletesLeft (visible b.before) (Delete id))) is b.deleted_left
+-- the deleted element stood at the index
+deleted_there : (c : Content) (id : Identifier) (at : Option ℕ) (k : ℕ) (characters : List ℕ) (b : IsTextBefore c (Delete id) at characters) → at ≡ Some k → slice_get (visible b.before) k ≡ Some id
+deleted_there c id at k characters b is = subst (λ o. IfSome o (DeletesAt (visible b.before) (Delete id))) is b.deleted_at
 
 -- which is in the text
-pub deleted_within : (c : Content) (id : Identifier) (at : Option ℕ) (k : ℕ) (characters : List ℕ) → IsTextBefore c (Delete id) at characters → at ≡ Some k → (1 ≤ k) × (k ≤ length characters)
+pub deleted_within : (c : Content) (id : Identifier) (at : Option ℕ) (k : ℕ) (characters : List ℕ) → IsTextBefore c (Delete id) at characters → at ≡ Some k → k < length characters
 deleted_within c id at k characters b is =
-    let left = left_index (visible b.before) id k (deleted_there c id at k characters b is) in
-    let within : k - 1 < length (visible b.before) = slice_get_within (visible b.before) (k - 1) id left.1 in
-    (omega (arith, left.0), omega (arith, left.0, within, ap length b.text_before, text_long b.before))
+    let within : k < length (visible b.before) = slice_get_within (visible b.before) k id (deleted_there c id at k characters b is) in
+    omega (arith, within, ap length b.text_before, text_long b.before)
 
-pub cut_is_listed : (c : Content) (id : Identifier) (at : Option ℕ) (k : ℕ) (characters now : List ℕ) → IsTextBefore c (Delete id) at characters → at ≡ Some k → now ≡ spliced characters (k - 1) k [] → now ≡ text c
+pub cut_is_listed : (c : Content) (id : Identifier) (at : Option ℕ) (k : ℕ) (characters now : List ℕ) → IsTextBefore c (Delete id) at characters → at ≡ Some k → now ≡ spliced characters k (k + 1) [] → now ≡ text c
 cut_is_listed c id at k characters now b is cut =
-    let left = left_index (visible b.before) id k (deleted_there c id at k characters b is) in
-    cut ∙ (λ i. spliced (b.text_before i) (k - 1) (left.0 i) []) ∙ sym (text-deletion_cut b.before id (k - 1) left.1) ∙ ap text (sym b.taken)
+    let next : k + 1 ≡ suc k = omega arith in
+    cut ∙ (λ i. spliced (b.text_before i) k (next i) []) ∙ sym (text-deletion_cut b.before id k (deleted_there c id at k characters b is)) ∙ ap text (sym b.taken)
 
 pub deletion_is_hidden : (c : Content) (id : Identifier) (at : Option ℕ) (characters : List ℕ) → IsTextBefore c (Delete id) at characters → length (visible c) ≡ length characters → characters ≡ text c
 deletion_is_hidden c id at characters b as_many =
@@ -70,16 +62,7 @@ pub insertion_is_hidden : (c : Content) (id parent : Identifier) (ch : ℕ) (at 
 insertion_is_hidden c id parent ch at characters b as_many =
     b.text_before ∙ sym (text-insertion_hidden b.before id parent ch (as_many_before c (Insert id parent ch) at characters b as_many)) ∙ ap text (sym b.taken)
 
--- what is kept and has a place behind the root is visible
-shown_if_placed : (c : Content) (id : Identifier) (k : ℕ) → finite_set.contains c.deleted id ≡ false → place c id ≡ Some (suc k) → is_visible c id ≡ true
-shown_if_placed c id k kept placed = λ i. complete_of_place c id k placed i && not (kept i)
-
--- so it stands left of that place
-pub left_if_placed : (c : Content) (id : Identifier) (k : ℕ) → finite_set.contains c.deleted id ≡ false → place c id ≡ Some k → (k ≡ 0 → ⊥) → StandsLeft (visible c) id k
-left_if_placed c id zero kept placed some = absurd (some refl)
-left_if_placed c id (suc k) kept placed some = index_of_place c id k (shown_if_placed c id k kept placed) placed
-
--- which is in the list, or its end, where one more is visible than it has
+-- an index is in the list, or its end, if one more is visible than it has
 pub index_within : (c : Content) (id : Identifier) (k count : ℕ) → slice_get (visible c) k ≡ Some id → length (visible c) ≡ count + 1 → k ≤ count
 index_within c id k count there more =
     let within : k < length (visible c) = slice_get_within (visible c) k id there in

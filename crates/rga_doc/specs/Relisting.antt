@@ -13,25 +13,20 @@ use Rattle.rga_ops.specs.declared.refusal.Taken.TheVariants.{New}
 
 -- ---- one operation of another replica
 
--- the element stands directly left of the place
-abbrev pub StandsLeft : List Identifier → Identifier → ℕ → Type 0
-StandsLeft elements id zero = ⊥
-StandsLeft elements id (suc index) = slice_get elements index ≡ Some id
+-- the operation deletes the element at the index
+abbrev pub DeletesAt : List Identifier → Op → ℕ → Type 0
+DeletesAt elements (Delete id) index = slice_get elements index ≡ Some id
+DeletesAt elements (Insert id parent ch) index = ⊥
 
--- the operation deletes the element directly left of the place
-abbrev pub DeletesLeft : List Identifier → Op → ℕ → Type 0
-DeletesLeft elements (Delete id) place = StandsLeft elements id place
-DeletesLeft elements (Insert id parent ch) place = ⊥
-
--- the operation was new to the content, and the characters are still those from before it; where a place is known, the
--- operation deleted the visible element directly left of it
-pub record IsTextBefore (c : Content) (op : Op) (place : Option ℕ) (characters : List ℕ) : Type 0 where
+-- the operation was new to the content, and the characters are still those from before it; if an index is known, the
+-- operation deleted the visible element there
+pub record IsTextBefore (c : Content) (op : Op) (index : Option ℕ) (characters : List ℕ) : Type 0 where
   pub limit : ℕ
   pub before : Content
   pub new : answer limit before op ≡ Ok New
   pub taken : c ≡ join before (single op)
   pub text_before : characters ≡ text before
-  pub deleted_left : IfSome place (DeletesLeft (visible before) op)
+  pub deleted_at : IfSome index (DeletesAt (visible before) op)
 
 -- ---- a revert
 

@@ -4,6 +4,7 @@ ghost use Rattle.rga_ops.specs.Prelude.{content_of, join, order, text, IsAnswer}
 ghost use Rattle.rga_ops.specs.ListAnswer.{and_check};
 ghost use Rattle.rga_ops.specs.Splice.{spliced, text_after, are_falling, end_of, new_characters};
 ghost use Rattle.rga_store.specs.Limit.{is_limit};
+ghost use Rattle.rga_store.specs.Taking.{TakesMore};
 ghost use Rattle.rga_doc.specs.Excerpt.{begin_of};
 ghost use Rattle.rga_doc.specs.LocalEdit.{splice_operations, splices_operations, splice_answer, splices_answer, edit_answer, room_answer, place_answer, counter_answer, order_after};
 ghost use Rattle.rga_ops.specs.declared.refusal.Refusal.TheVariants.{Memory};
@@ -25,6 +26,7 @@ impl<S: TextStore> Doc<S> {
     /// characters and not that many counters; `Memory`, which may come in the place of `Clock`, and
     /// of `Range` where `lo` is not above `hi`. A refusal changes nothing, but that it may leave the
     /// document listed.
+    #[tactic(auto, using(rga_store::proofs::TakingLaws::joined_taken))]
     pub fn splice(&mut self, lo: usize, hi: usize, put: &[char]) -> Result<Vec<Op>, Refusal>
         ensures exact { IsAnswer result
             (splice_answer self.old.limit self.old.content lo hi put.now) }
@@ -41,6 +43,8 @@ impl<S: TextStore> Doc<S> {
         ensures place { OnOk result
             (order self.new.content ≡ order_after self.old.replica self.old.content lo put.now) }
 
+        ensures took { IfOk result
+            (λ ops. TakesMore self.old.content ops.items self.new.content) }
         ensures same { OnErr result
             (self.new ≡ record self.old { listed = self.new.listed }) }
         // Nothing asks for memory before there is room and the places are in order.
@@ -109,6 +113,7 @@ impl<S: TextStore> Doc<S> {
     /// Refusals, in this order, for all splices together: `Full`, `Range` (of a place, or of two
     /// that do not fall), `Clock`; `Memory`, which may come in the place of `Clock`, and of `Range`
     /// where the places fall. A refusal changes nothing, but that it may leave the document listed.
+    #[tactic(auto, using(rga_store::proofs::TakingLaws::joined_taken))]
     pub fn splices(&mut self, splices: &[Splice]) -> Result<Vec<Op>, Refusal>
         ensures exact { IsAnswer result
             (splices_answer self.old.limit self.old.content splices.now) }
@@ -121,6 +126,8 @@ impl<S: TextStore> Doc<S> {
         ensures text { OnOk result
             (text self.new.content ≡ text_after (text self.old.content) splices.now) }
 
+        ensures took { IfOk result
+            (λ ops. TakesMore self.old.content ops.items self.new.content) }
         ensures same { OnErr result
             (self.new ≡ record self.old { listed = self.new.listed }) }
         ensures room { result ≡ Err Memory →

@@ -3,36 +3,36 @@ ghost use Rattle.std.specs.Prelude.{◌≡◌, ◌+◌, ℕ, true, length, Optio
 ghost use Rattle.rga_ops.specs.Identifier.{Identifier};
 ghost use Rattle.rga_ops.specs.Order.{text};
 ghost use Rattle.rga_ops.specs.Places.{visible};
-ghost use Rattle.rga_doc.specs.Relisting.{DeletesLeft, IsTextBefore, StandsLeft};
+ghost use Rattle.rga_doc.specs.Relisting.{DeletesAt, IsTextBefore};
 
 use crate::listing::Listing;
 use rga_ops::{Id, Op};
-use rga_store::TextStore;
+use rga_store::{TextStore, position_of};
 
 /// After so many in a row what is listed is given up: to list all once costs less than to follow a
 /// long exchange.
 const MOST_IN_A_ROW: usize = 64;
 
 impl Listing {
-    /// The place directly behind the visible element that an operation deletes, where it is of use:
-    /// it is asked before the store takes the operation.
-    pub(crate) fn place_deleted<S: TextStore>(&self, store: &S, op: &Op) -> Option<usize>
-        ensures { IfSome result (λ k. DeletesLeft (visible (S.content store.now)) op.now k) }
+    /// The index of the visible element that an operation deletes, where it is of use: it is asked
+    /// before the store takes the operation.
+    pub(crate) fn index_deleted<S: TextStore>(&self, store: &S, op: &Op) -> Option<usize>
+        ensures { IfSome result (λ k. DeletesAt (visible (S.content store.now)) op.now k) }
     {
         if !self.listed || self.followed >= MOST_IN_A_ROW {
             return None;
         }
         match op {
-            Op::Delete { id } => place_of_visible(store, *id),
+            Op::Delete { id } => position_of(store, *id),
             Op::Insert { .. } => None,
         }
     }
 
     /// Makes a new operation in what is listed that the store has taken, or gives up what is
-    /// listed. The place is what `place_deleted` answered.
-    pub(crate) fn follow_one<S: TextStore>(&mut self, store: &S, op: &Op, place: Option<usize>)
+    /// listed. The index is what `index_deleted` answered.
+    pub(crate) fn follow_one<S: TextStore>(&mut self, store: &S, op: &Op, index: Option<usize>)
         requires { self.old.listed ≡ true →
-            IsTextBefore (S.content store.now) op.now place self.old.characters.items }
+            IsTextBefore (S.content store.now) op.now index self.old.characters.items }
         ensures { self.new.listed ≡ true →
             self.new.characters.items ≡ text (S.content store.now) }
     {
@@ -44,33 +44,34 @@ impl Listing {
             return;
         }
         self.followed += 1;
-        self.listed = self.make_new(store, op, place);
+        self.listed = self.make_new(store, op, index);
         self.characters.give_back();
     }
 
     /// Makes a new operation, where it is known what it changed.
-    fn make_new<S: TextStore>(&mut self, store: &S, op: &Op, place: Option<usize>) -> bool
-        requires { IsTextBefore (S.content store.now) op.now place self.old.characters.items }
+    fn make_new<S: TextStore>(&mut self, store: &S, op: &Op, index: Option<usize>) -> bool
+        requires { IsTextBefore (S.content store.now) op.now index self.old.characters.items }
         ensures { result ≡ true → self.new.characters.items ≡ text (S.content store.now) }
     {
         match op {
-            Op::Delete { .. } => self.follow_deletion(store, place),
+            Op::Delete { .. } => self.follow_deletion(store, index),
             Op::Insert { id, ch, .. } => self.follow_insertion(store, *id, *ch),
         }
     }
 
-    /// Takes out the character of a deleted element that stood left of the place. Where it was not
+    /// Takes out the character of a deleted element that stood at the index. Where it was not
     /// visible, all stays if nothing less is visible.
-    fn follow_deletion<S: TextStore>(&mut self, store: &S, place: Option<usize>) -> bool
-        requires { (id : Identifier) × IsTextBefore (S.content store.now) (Op.Delete id) place
+    fn follow_deletion<S: TextStore>(&mut self, store: &S, index: Option<usize>) -> bool
+        requires { (id : Identifier) × IsTextBefore (S.content store.now) (Op.Delete id) index
             self.old.characters.items }
         ensures { result ≡ true → self.new.characters.items ≡ text (S.content store.now) }
     {
-        if let Some(place) = place {
-            self.characters.replace(place - 1, place, &[]);
+        let count = self.characters.len();
+        if let Some(index) = index {
+            self.characters.replace(index, index + 1, &[]);
             return true;
         }
-        store.visible_len() == self.characters.len()
+        store.visible_len() == count
     }
 
     /// Puts in the character of a new element where it alone is visible beside those that are
@@ -101,24 +102,9 @@ impl Listing {
             ≡ length self.old.characters.items + 1 }
         ensures { result ≡ true → self.new.characters.items ≡ text (S.content store.now) }
     {
-        let Some(place) = place_of_visible(store, id) else {
+        let Some(index) = position_of(store, id) else {
             return false;
         };
-        self.replace(place - 1, place - 1, &[ch])
+        self.replace(index, index, &[ch])
     }
-}
-
-/// The place directly behind an element that is visible. One that is not inserted, or deleted, is
-/// not looked for: that may take a search through all.
-fn place_of_visible<S: TextStore>(store: &S, id: Id) -> Option<usize>
-    ensures { IfSome result (λ k. StandsLeft (visible (S.content store.now)) id k) }
-{
-    if store.get(id).is_none() || store.is_deleted(id) {
-        return None;
-    }
-    let place = store.place_of(id)?;
-    if place == 0 {
-        return None;
-    }
-    Some(place)
 }

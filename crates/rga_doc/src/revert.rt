@@ -5,6 +5,7 @@ ghost use Rattle.rga_ops.specs.Prelude.{Identifier, clock_of, content_of, is_id,
 ghost use Rattle.rga_ops.specs.ListAnswer.{and_check};
 ghost use Rattle.rga_ops.specs.Places.{is_visible};
 ghost use Rattle.rga_ops.specs.declared.refusal.Refusal.TheVariants.{Memory};
+ghost use Rattle.rga_store.specs.Taking.{TakesMore};
 ghost use Rattle.rga_doc.specs.Complete.{AreTheComplete};
 ghost use Rattle.rga_doc.specs.LocalEdit.{room_answer, place_answer, counter_answer};
 ghost use Rattle.rga_doc.specs.Revert.{distinct_elements, restorations, revert_operations, are_restorable, revert_answer, put_back};
@@ -29,6 +30,7 @@ impl<S: TextStore> Doc<S> {
     /// element of `back` is not complete or stands there twice; `Clock` where there are new
     /// characters and not that many counters; `Memory`, which may come in the place of the last two.
     /// A refusal changes nothing.
+    #[tactic(auto, using(rga_store::proofs::TakingLaws::joined_taken))]
     pub fn revert(&mut self, gone: &[Id], back: &[(Id, char)]) -> Result<Vec<Op>, Refusal>
         ensures exact { IsAnswer result
             (revert_answer self.old.limit self.old.content back.now) }
@@ -43,6 +45,8 @@ impl<S: TextStore> Doc<S> {
             ≡ put_back self.old.replica (clock_of self.old.content) back.now
             (order self.old.content)) }
 
+        ensures took { IfOk result
+            (λ ops. TakesMore self.old.content ops.items self.new.content) }
         ensures same { OnErr result (self.new ≡ self.old) }
         // Nothing asks for memory before there is room.
         ensures room { result ≡ Err Memory →
@@ -56,6 +60,7 @@ impl<S: TextStore> Doc<S> {
     /// Takes the operations of a revert that `draft_revert` gave for this document as it is, and
     /// answers how many characters at the front are known to have stayed. A listed document may be
     /// listed then or not. `Memory` alone; then nothing changes.
+    #[tactic(auto, using(rga_store::proofs::TakingLaws::joined_taken))]
     pub fn take_revert(
         &mut self,
         gone: &[Id],
@@ -70,6 +75,7 @@ impl<S: TextStore> Doc<S> {
             { content = join self.old.content (content_of ops.now); listed = self.new.listed }) }
         ensures front { IfOk result (λ n. take n (text self.new.content)
             ≡ take n (text self.old.content)) }
+        ensures took { OnOk result (TakesMore self.old.content ops.now self.new.content) }
         ensures memory { IfErr result (λ e. e ≡ Refusal.Memory) }
         ensures same { OnErr result (self.new ≡ self.old) }
     {

@@ -2,6 +2,7 @@
 ghost use Rattle.std.specs.Prelude.{◌≡◌, true, false, Ok, IfOk, IfErr, OnOk, OnErr};
 ghost use Rattle.rga_ops.specs.Prelude.{content_of, join, list_answer, order, text};
 ghost use Rattle.rga_ops.specs.Splice.{spliced, text_after};
+ghost use Rattle.rga_store.specs.Taking.{TakesMore};
 ghost use Rattle.rga_doc.specs.LocalEdit.{splice_operations, splices_operations, splice_answer, splices_answer, order_after};
 
 use crate::doc::Doc;
@@ -15,6 +16,7 @@ const MOST_IN_PLACE: usize = 16;
 impl<S: TextStore> Doc<S> {
     /// Takes the operations of splices that `draft` gave for this document as it is. `Memory`
     /// alone; then nothing changes.
+    #[tactic(auto, using(rga_store::proofs::TakingLaws::joined_taken))]
     pub fn take(&mut self, splices: &[Splice], ops: &[Op]) -> Result<(), Refusal>
         requires listed { self.old.listed ≡ true }
         requires allowed { splices_answer self.old.limit self.old.content splices.now ≡ Ok tt }
@@ -25,6 +27,7 @@ impl<S: TextStore> Doc<S> {
             ≡ record self.old { content = join self.old.content (content_of ops.now) }) }
         ensures text { OnOk result
             (text self.new.content ≡ text_after (text self.old.content) splices.now) }
+        ensures took { OnOk result (TakesMore self.old.content ops.now self.new.content) }
         ensures memory { IfErr result (λ e. e ≡ Refusal.Memory) }
         ensures same { OnErr result (self.new ≡ self.old) }
     {

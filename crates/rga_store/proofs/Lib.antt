@@ -8,3 +8,5 @@ pub mod MergeSteps
 pub mod ElementSteps
 pub mod EarlySteps
 pub mod BackLaws
+pub mod TakingLaws
+pub mod PositionLaws

@@ -7,3 +7,4 @@ pub mod Counted
 pub mod Without
 pub mod Reached
 pub mod Back
+pub mod Taking

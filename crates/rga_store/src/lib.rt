@@ -15,12 +15,14 @@
 mod answers;
 pub mod counts;
 pub mod laws;
+mod positions;
 mod steps;
 mod taker;
 mod telling;
 mod text_store;
 
 pub use answers::{Lookup, answer_at, answer_to_list, early_answer_at, new_operations_at};
+pub use positions::position_of;
 pub use steps::{Step, note};
 pub use taker::Taker;
 pub use telling::{Listener, Teller};

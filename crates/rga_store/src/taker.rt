@@ -1,8 +1,9 @@
 //! What takes operations.
-ghost use Rattle.std.specs.Prelude.{◌≡◌, ◌≢◌, ℕ, List, [], ◌∷◌, ◌++◌, None, Ok, Err, MatchResult};
+ghost use Rattle.std.specs.Prelude.{◌≡◌, ◌≢◌, ℕ, List, [], ◌∷◌, ◌++◌, None, Ok, Err, OnOk, MatchResult};
 ghost use Rattle.rga_ops.specs.Prelude.{Content, all_checked, answer, content_of, join, list_answer, single};
 ghost use Rattle.rga_ops.specs.ListAnswer.{early_conflict};
 ghost use Rattle.rga_ops.specs.declared.op.Op.{Op as Operation};
+ghost use Rattle.rga_store.specs.Taking.{TakesMore};
 
 use rga_ops::{Op, Refusal, Taken};
 
@@ -42,6 +43,7 @@ pub trait Taker {
         ensures new { result ≡ Ok Taken.New →
             content self.new ≡ join (content self.old) (single op) }
         ensures same { result ≢ Ok Taken.New → content self.new ≡ content self.old }
+        ensures took { OnOk result (TakesMore (content self.old) (op ∷ []) (content self.new)) }
         ensures limit { limit self.new ≡ limit self.old }
         ensures follows { MatchResult result
             (λ _. follows self.old (op ∷ []) self.new) (λ _. follows self.old [] self.new) };
@@ -63,6 +65,7 @@ pub trait Taker {
         ensures whole { result ≡ Ok tt →
             content self.new ≡ join (content self.old) (content_of ops.now) }
         ensures same { result ≢ Ok tt → content self.new ≡ content self.old }
+        ensures took { OnOk result (TakesMore (content self.old) ops.now (content self.new)) }
         ensures limit { limit self.new ≡ limit self.old }
         ensures follows { MatchResult result
             (λ _. follows self.old ops.now self.new) (λ _. follows self.old [] self.new) };

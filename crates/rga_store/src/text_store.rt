@@ -1,5 +1,5 @@
 //! What keeps a text.
-ghost use Rattle.std.specs.Prelude.{◌≡◌, ◌≢◌, ◌≤◌, ◌↔◌, length, take, drop, slice_get, true, false, Ok, Err, IfOk, IfErr, MatchResult, string_bytes, encode_utf8_all};
+ghost use Rattle.std.specs.Prelude.{◌≡◌, ◌≢◌, ◌≤◌, ◌↔◌, length, take, drop, slice_get, true, false, Ok, Err, IfOk, IfErr, OnOk, MatchResult, string_bytes, encode_utf8_all};
 ghost use Rattle.std.specs.FinMap as finite_map;
 ghost use Rattle.std.specs.FinSet as finite_set;
 ghost use Rattle.rga_ops.specs.Prelude.{Identifier, IsSound, clock_of, join, known_count, merge_answer, nothing, operations, order, place, text};
@@ -8,6 +8,7 @@ ghost use Rattle.rga_ops.specs.Order.{waiting};
 ghost use Rattle.rga_ops.specs.Places.{visible};
 ghost use Rattle.rga_ops.specs.declared.op.Op.TheVariants.{Delete};
 ghost use Rattle.rga_store.specs.Limit.{is_limit};
+ghost use Rattle.rga_store.specs.Taking.{TakesAllOf};
 
 use crate::taker::Taker;
 use rga_ops::{Id, Op, Refusal};
@@ -131,6 +132,8 @@ pub trait TextStore: Taker + Sized + Drop {
         ensures joined { result ≡ Ok tt →
             Self.content self.new ≡ join (Self.content self.old) (Self.content other.now) }
         ensures same { result ≢ Ok tt → Self.content self.new ≡ Self.content self.old }
+        ensures took { OnOk result (TakesAllOf
+            (Self.content self.old) (Self.content other.now) (Self.content self.new)) }
         ensures limit { Self.limit self.new ≡ Self.limit self.old };
 
     /// The deletion of an inserted element takes no memory.

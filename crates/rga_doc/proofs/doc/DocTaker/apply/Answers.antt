@@ -13,5 +13,5 @@ follow_one-requires g c = λ listed.
       new = sym (c.apply-answer.ensures.exact (λ h. cc)) ∙ is_new;
       taken = c.apply-answer.ensures.new is_new;
       text_before = c.self.invariant.1 listed;
-      deleted_left = c.place_deleted-place.ensures;
+      deleted_at = c.index_deleted-index.ensures;
     }

@@ -8,6 +8,7 @@ use Rattle.rga_ops.specs.declared.refusal.Refusal.TheVariants.{Memory}
 use Rattle.rga_ops.proofs.ListAnswerLaws.{union_taken-iff}
 use Rattle.rga_ops.proofs.TakenLaws.{took, refused}
 use Rattle.rga_store.proofs.MergeSteps.{merge_one_by_one}
+use Rattle.rga_store.proofs.TakingLaws as laws
 use Rattle.rga_flat.proofs.flat_store.FlatStoreTextStore.merge.Goals as goal
 
 -- a list that can be taken is refused for want of memory alone
@@ -39,3 +40,6 @@ returns-clause-joined c whole =
     ∙ merge_one_by_one c.self.inside.records.limit c.self.inside.records.content c.other.inside.records.content c.known-known.ensures.sound (sym c.in_default.ensures) fits in
     let there : c.take_whole.new.records.content ≡ join c.self.inside.records.content c.other.inside.records.content = cc in
     there ∙ (λ i. join (c.self.view_is i).content (c.other.view_is i).content)
+
+pub returns-clause-took : goal.returns-clause-took
+returns-clause-took c = laws.all_taken _ _ _ c.take_whole.result (returns-clause-joined c)

@@ -1,4 +1,5 @@
 use Rattle.std.proofs.Common.{◌≡◌, ◌≤◌, sym, ap, ◌∙◌, subst}
+use Rattle.std.specs.Prelude.{Ok}
 use Rattle.std.specs.FinSet as finite_set
 use Rattle.rga_ops.specs.Content.{known_ids}
 use Rattle.rga_ops.specs.ListAnswer.{list_answer}
@@ -8,6 +9,7 @@ use Rattle.rga_ops.proofs.EarlyLaws.{no_early_if_taken}
 use Rattle.rga_ops.proofs.TakenLaws.{taken_list_is}
 use Rattle.rga_store.specs.Kept.{Kept}
 use Rattle.rga_store.proofs.BackLaws.{not_refused}
+use Rattle.rga_store.proofs.TakingLaws.{list_taken}
 use Rattle.rga_tree.proofs.tree_store.TreeStoreTaker.apply_all.Goals as goal
 
 -- no more are known than the limit allows
@@ -25,6 +27,9 @@ pub returns-then-is_ok-clause-whole : goal.returns-then-is_ok-clause-whole
 returns-then-is_ok-clause-whole c = λ _.
     (taken_list_is c.args.self.now.limit c.args.self.now.content c.args.ops.now c.take_whole.new.self.content
     (from_is_ok c.take_whole.result (sym c.is_ok.ensures.value ∙ c.if-is_ok.true) c.take_whole.ensures.ok)).joined
+
+pub returns-then-is_ok-clause-took : goal.returns-then-is_ok-clause-took
+returns-then-is_ok-clause-took c = list_taken _ _ c.args.ops.now (Ok tt) (returns-then-is_ok-clause-whole c)
 
 pub returns-clause-early : goal.returns-clause-early
 returns-clause-early c = λ _.

@@ -12,6 +12,7 @@ use Rattle.rga_store.specs.Kept.{Kept}
 use Rattle.rga_tree.specs.Nodes.{content_of_nodes}
 use Rattle.rga_store.specs.Counted.{IsCounted}
 use Rattle.rga_store.proofs.MergeSteps.{merge_one_by_one}
+use Rattle.rga_store.proofs.TakingLaws as laws
 use Rattle.rga_tree.proofs.tree_store.TreeStoreTextStore.merge.Goals as goal
 
 -- a store takes what another holds
@@ -54,3 +55,6 @@ returns-clause-joined c whole =
     ∙ all_taken (content_of_nodes c.self.inside.nodes.entries) (content_of_nodes c.other.inside.nodes.entries) c.other.inside.clock c.other.inside.inserted c.other.inside.known c.other.inside.limit
     c.args.self.now c.args.other.now c.other.invariant.counted c.self.inside.limit c.self.view_is (ap (λ (v : Kept). v.content) c.other.view_is) c.in_default.ensures fits in
     cc
+
+pub returns-clause-took : goal.returns-clause-took
+returns-clause-took c = laws.all_taken _ _ _ c.take_whole.result (returns-clause-joined c)
