@@ -1,5 +1,5 @@
 -- What is listed while the store has taken operations that are still to be made in it.
-use Rattle.std.specs.Prelude.{◌≡◌, ℕ, zero, suc, ◌+◌, ◌-◌, ◌<◌, ◌≤◌, List, Option, Some, Ok, take, drop, length, IfSome}
+use Rattle.std.specs.Prelude.{◌≡◌, ℕ, suc, ◌+◌, ◌-◌, ◌<◌, ◌≤◌, List, Option, Some, Ok, take, drop, length, IfSome}
 use Rattle.std.specs.List.{slice_get, AllByRecursion}
 use Rattle.rga_ops.specs.Identifier.{Identifier}
 use Rattle.rga_ops.specs.Answer.{answer}

@@ -16,6 +16,8 @@ use Rattle.rga_lines.specs.Log.{operations_of, operations_at, stream_operations,
 use Rattle.rga_lines.specs.Line.TheVariants.{One, Run, Deletions, Head, Last}
 use Rattle.rga_lines.specs.LineFault.TheVariants as line_fault
 use Rattle.rga_lines.proofs.StandLemmas.{stands, nothing_stands}
+use Rattle.rga_store.specs.Taking.{TakesMore}
+use Rattle.rga_store.proofs.TakingLaws.{joined_taken}
 use Rattle.rga_exchange.specs.declared.fault.LogFault.{LogFault}
 use Rattle.rga_exchange.specs.declared.fault.LogFault.TheVariants as fault
 use Rattle.rga_exchange.specs.declared.log.LogEnd.{LogEnd}
@@ -276,6 +278,11 @@ EndsBehind known limit n j number c d = IfSome known (λ bytes. (stream_taken Ex
 pub received_joined : (known : Option (List ℕ)) (limit n j number : ℕ) (c d : Content) → EndsBehind known limit n j number c d → IfSome known (λ bytes. d ≡ join c (content_of (stream_operations bytes)))
 received_joined None limit n j number c d h = tt
 received_joined (Some bytes) limit n j number c d h = stream_joined limit n c d number bytes h.0
+
+-- who joined the operations of what a reader gives took them
+pub told_taken : (known : Option (List ℕ)) (operations : List ℕ → List Op) (c d : Content) → IfSome known (λ bytes. d ≡ join c (content_of (operations bytes))) → IfSome known (λ bytes. TakesMore c (operations bytes) d)
+told_taken None operations c d h = tt
+told_taken (Some bytes) operations c d h = joined_taken c d (operations bytes) h
 
 -- the end line names the number of the operations, or another one
 pub received_number : (known : Option (List ℕ)) (limit n j number : ℕ) (c d : Content) → number ≡ j → EndsBehind known limit n j number c d → IfSome known (λ bytes. number ≡ length (stream_operations bytes))

@@ -1,6 +1,8 @@
 //! Logs, read into whatever takes operations.
-ghost use Rattle.std.specs.Prelude.{◌≡◌, ◌≢◌, ◌<◌, ◌^◌, Err, IfOk};
-ghost use Rattle.rga_devices.specs.Counting.{CountsAs};
+ghost use Rattle.std.specs.Prelude.{◌≡◌, ◌≢◌, ◌<◌, ◌^◌, Err, IfOk, OnOk};
+ghost use Rattle.rga_devices.specs.Counting.{CountsAs, OnBytes};
+ghost use Rattle.rga_lines.specs.Log.{log_operations};
+ghost use Rattle.rga_store.specs.Taking.{TakesMore};
 ghost use Rattle.rga_exchange.specs.Taking.{intake};
 ghost use Rattle.rga_exchange.specs.Log.{TakesLog, log_end, bare_answer, TakesRest};
 
@@ -48,6 +50,8 @@ pub fn take_log<T: Taker, R: Read>(
 ) -> Result<LogRead, LogFault>
     ensures taken { TakesLog R.remaining reader.old reader.new
         (intake T.limit T.content T.follows taker.old taker.new) (λ outcome. outcome) result }
+    ensures took { OnOk result (OnBytes R.remaining reader.old (λ bytes.
+        TakesMore (T.content taker.old) (log_operations bytes) (T.content taker.new))) }
     ensures device { CountsAs LogFault.Read result reader.old reader.new }
     ensures limit { T.limit taker.new ≡ T.limit taker.old }
     ensures bound { IfOk result (λ log. log.lines < 2 ^ 63) }
@@ -106,6 +110,8 @@ pub fn read_log<T: Taker, R: Read>(
 ) -> Result<LogEnd, ReceiveFault>
     ensures taken { TakesLog R.remaining reader.old reader.new
         (intake T.limit T.content T.follows taker.old taker.new) log_end result }
+    ensures took { OnOk result (OnBytes R.remaining reader.old (λ bytes.
+        TakesMore (T.content taker.old) (log_operations bytes) (T.content taker.new))) }
     ensures never { (result ≢ Err ReceiveFault.Cut) × (result ≢ Err ReceiveFault.Count) }
     ensures device { CountsAs ReceiveFault.Read result reader.old reader.new }
     ensures limit { T.limit taker.new ≡ T.limit taker.old }

@@ -3,6 +3,7 @@ ghost use Rattle.std.specs.Prelude.{◌≡◌, ◌≢◌, length, Err, OnOk, IfO
 ghost use Rattle.rga_ops.specs.Prelude.{join, content_of};
 ghost use Rattle.rga_devices.specs.Counting.{CountsAs, OnBytes};
 ghost use Rattle.rga_lines.specs.Log.{stream_operations};
+ghost use Rattle.rga_store.specs.Taking.{TakesMore};
 ghost use Rattle.rga_exchange.specs.Taking.{intake, HasTakenLines, HasTakenWholeLines};
 ghost use Rattle.rga_exchange.specs.Receiving.{exchange_outcome, EndsWithLastRead};
 ghost use Rattle.rga_exchange.specs.declared.taking.Form.TheVariants.{Exchange};
@@ -37,6 +38,8 @@ pub fn receive<T: Taker, R: Read>(
         (T.limit taker.old) (T.content taker.old) bytes ≡ (T.content taker.new, result)) }
     ensures joined { OnOk result (OnBytes R.remaining reader.old (λ bytes.
         T.content taker.new ≡ join (T.content taker.old) (content_of (stream_operations bytes)))) }
+    ensures took { OnOk result (OnBytes R.remaining reader.old (λ bytes.
+        TakesMore (T.content taker.old) (stream_operations bytes) (T.content taker.new))) }
     ensures number { IfOk result (λ n. OnBytes R.remaining reader.old
         (λ bytes. n ≡ length (stream_operations bytes))) }
 

@@ -1,5 +1,5 @@
 -- What is read from the entries of a flat store is what its content shows.
-use Rattle.std.proofs.Common.{◌≡◌, ◌+◌, Bool, true, false, cond, not, ◌||◌, ℕ, suc, List, [], ◌∷◌, length, filter, map, refl, sym, ap, ◌∙◌}
+use Rattle.std.proofs.Common.{◌≡◌, ◌+◌, Bool, true, false, cond, not, ◌||◌, suc, List, [], ◌∷◌, length, filter, map, refl, sym, ap, ◌∙◌}
 use Rattle.std.specs.Prelude.{Some, None}
 use Rattle.std.specs.Option.{option_map}
 use Rattle.std.specs.List.{list_any, filter_map, cons_option, AllByRecursion}
@@ -9,7 +9,6 @@ use Rattle.rga_ops.specs.Content.{Element, Content}
 use Rattle.rga_ops.specs.Order.{order, waiting, text, shown}
 use Rattle.rga_ops.specs.Places.{is_visible, visible, place}
 use Rattle.rga_ops.specs.Places as places
-use Rattle.rga_ops.proofs.IdentifierLaws.{is}
 use Rattle.rga_ops.proofs.VisibleLaws.{is_kept, visible_is, place_is}
 use Rattle.rga_ops.proofs.WaitingLaws.{ordered_and_waiting}
 use Rattle.rga_sequence.specs.declared.entry.Entry.{Entry}

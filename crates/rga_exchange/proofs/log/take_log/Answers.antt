@@ -1,10 +1,11 @@
 use Rattle.std.proofs.Common.{◌≡◌, Result, Err, ap}
 use Rattle.std.proofs.lemmas.Result.{err_from_is_err_and}
+use Rattle.rga_lines.specs.Log.{log_operations}
 use Rattle.rga_exchange.specs.declared.fault.LogFault.{LogFault}
 use Rattle.rga_exchange.specs.declared.fault.LogFault.TheVariants.{Read}
 use Rattle.rga_exchange.specs.declared.log.LogRead.{LogRead}
 use Rattle.rga_exchange.specs.Taking.{intake}
-use Rattle.rga_exchange.proofs.OperationLaws.{log_ends_outcome, log_ends_joined, rest_fails}
+use Rattle.rga_exchange.proofs.OperationLaws.{log_ends_outcome, log_ends_joined, told_taken, rest_fails}
 use Rattle.rga_exchange.proofs.ReadLaws.{whole_log, same_lines}
 use Rattle.rga_exchange.proofs.log.take_log.Goals as goal
 
@@ -19,6 +20,12 @@ returns-in_ok-end-in-Input-clause-taken g c =
       lines = tt;
       log = whole_log c.in_ok-end-in-Input.end c.in_ok-lines.ensures.limit (g.T.Taker.follows_on c.args.taker.now c.take_stream.new.taker c.take_rest.new.taker) (rw c.in-Input.is at c.in_ok-lines.ensures.rest) rest.0 rest.1;
     }
+
+pub returns-in_ok-end-in-Input-clause-took : goal.returns-in_ok-end-in-Input-clause-took
+returns-in_ok-end-in-Input-clause-took g c =
+    let all = rw c.in-Input.is at c.in_ok-lines.ensures.end in
+    let rest = rw c.deref.ensures.value at c.in_ok-end-in-Input.ensures.taken in
+    told_taken _ log_operations _ _ (log_ends_joined _ _ _ _ _ _ _ _ _ c.in_ok-lines.ensures.limit all rest.0)
 
 abbrev failed : LogFault → Result LogRead LogFault
 failed e = Err e

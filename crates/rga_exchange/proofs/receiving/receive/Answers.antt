@@ -1,7 +1,8 @@
 use Rattle.std.proofs.Common.{◌≡◌, ◌∙◌, ℕ, sym}
+use Rattle.rga_lines.specs.Log.{stream_operations}
 use Rattle.rga_exchange.specs.declared.fault.ReceiveFault.{ReceiveFault}
 use Rattle.rga_exchange.specs.declared.fault.ReceiveFault.TheVariants as fault
-use Rattle.rga_exchange.proofs.OperationLaws.{was_received, not_received, received_joined, received_number, received_all, received_other}
+use Rattle.rga_exchange.proofs.OperationLaws.{was_received, not_received, received_joined, told_taken, received_number, received_all, received_other}
 use Rattle.rga_exchange.proofs.receiving.receive.Goals as goal
 
 taken_not : (n : ℕ) (e : ReceiveFault) → was_received n ≡ not_received e → ⊥
@@ -22,6 +23,7 @@ returns-in-EndLine g c =
     record {
       outcome = λ _ _. received_all _ _ _ _ _ _ _ named ends;
       joined = received_joined _ _ _ _ _ _ _ ends;
+      took = told_taken _ stream_operations _ _ (received_joined _ _ _ _ _ _ _ ends);
       number = received_number _ _ _ _ _ _ _ named ends;
       last = last;
       last_count = λ _. last;
@@ -37,6 +39,7 @@ returns-in-EndLine-2 g c =
     record {
       outcome = λ _ _. received_other _ _ _ _ _ _ _ (λ e. c.if-from-operations.false (c.from.ensures ∙ e)) (rw c.in-EndLine.is at c.in_ok-_lines.ensures.end);
       joined = tt;
+      took = tt;
       number = tt;
       last = tt;
       last_count = λ _. last;
