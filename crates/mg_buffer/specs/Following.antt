@@ -1,4 +1,4 @@
--- What operations of others that are taken in turn leave of a buffer.
+-- What operations that are taken leave of a buffer.
 use Rattle.std.proofs.Common.{◌≡◌, List, [], ◌++◌, refl, sym, ap, ◌∙◌, append-nil, append_assoc}
 use Rattle.rga_ops.specs.Content.{join, content_of}
 use Rattle.rga_ops.specs.NewOperations.{new_operations}
@@ -6,7 +6,14 @@ use Rattle.rga_ops.specs.declared.op.Op.{Op}
 use Rattle.rga_ops.proofs.ContentLaws.{join_nothing, join_assoc}
 use Rattle.rga_ops.proofs.OperationLaws.{content_of-append}
 use Rattle.rga_ops.proofs.NewLaws.{new_in_parts}
+use Rattle.rga_store.specs.Taking.{TakesMore}
 use Rattle.mg_buffer.specs.State.{State}
+
+-- what became unsaved was taken
+abbrev pub TakesUnsaved : State → State → Type 0
+TakesUnsaved b d = (ops : List Op) × (d.unsaved ≡ b.unsaved ++ ops) × TakesMore b.content ops d.content
+
+-- ---- operations of others, in turn
 
 -- `unsaved` grows by exactly those that were new, in order; point, mark, groups and all else stay
 pub record TakesOperations (b : State) (ops : List Op) (d : State) : Type 0 where

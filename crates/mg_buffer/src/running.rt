@@ -6,6 +6,7 @@ ghost use Rattle.rga_ops.specs.ListAnswer.{IsAnswer};
 ghost use Rattle.rga_ops.specs.Splice.{text_after};
 ghost use Rattle.rga_doc.specs.LocalEdit.{splices_answer, splices_operations};
 ghost use Rattle.mg_buffer.specs.Faults.{run_answer};
+ghost use Rattle.mg_buffer.specs.Following.{TakesUnsaved};
 ghost use Rattle.mg_buffer.specs.Groups.{past_of, with_group};
 ghost use Rattle.mg_buffer.specs.Kept.{IsLineOfPlace};
 ghost use Rattle.mg_buffer.specs.Ran.{Edited, Ran};
@@ -47,6 +48,7 @@ impl<S: TextStore> Buffer<S> {
             ⊎ (result ≡ run_answer (command_call command.now arg fill) self.old memo.old) }
         ensures ran { OnOk result
             (Ran (command_call command.now arg fill) self.old memo.old self.new memo.new) }
+        ensures took { OnOk result (TakesUnsaved self.old self.new) }
         ensures same { OnErr result (self.new ≡ self.old) }
         ensures memo { OnErr result (memo.new ≡ memo.old) }
     {

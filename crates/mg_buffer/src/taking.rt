@@ -40,7 +40,7 @@ impl<S: TextStore> Taker for Buffer<S> {
         Ok(Taken::New)
     }
 
-    #[tactic(auto, using(crate::proofs::TakingLaws::refused, crate::proofs::TakingLaws::all_are_added))]
+    #[tactic(auto, using(crate::proofs::TakingLaws::refused, crate::proofs::TakingLaws::all_are_added, rga_store::proofs::TakingLaws::joined_taken))]
     fn apply_all(&mut self, ops: &[Op]) -> Result<(), Refusal> {
         take_all(self.alloc, &mut self.doc, &mut self.unsaved, ops)?;
         if ops.is_empty() {

@@ -6,6 +6,7 @@ ghost use Rattle.rga_ops.specs.ListAnswer.{IsAnswer};
 ghost use Rattle.rga_ops.specs.Order.{text};
 ghost use Rattle.rga_doc.specs.Revert.{are_restorable, revert_answer, revert_operations};
 ghost use Rattle.mg_buffer.specs.Faults.{growth_answer, undo_answer};
+ghost use Rattle.mg_buffer.specs.Following.{TakesUnsaved};
 ghost use Rattle.mg_buffer.specs.Groups.{all_substituted, group_to_undo, past_at, past_of, point_after, stand_in, with_group};
 ghost use Rattle.mg_buffer.specs.Kept.{IsLineOfPlace};
 ghost use Rattle.mg_buffer.specs.Slots.{greatest_counter, with_deleted};
@@ -39,6 +40,7 @@ impl<S: TextStore> Buffer<S> {
     pub fn undo(&mut self, memo: &mut Memo) -> Result<(), BufferFault>
         ensures exact { (result ≡ Err (Store Memory)) ⊎ (result ≡ undo_answer self.old) }
         ensures undid { OnOk result (Undid self.old memo.old self.new memo.new) }
+        ensures took { OnOk result (TakesUnsaved self.old self.new) }
         ensures same { OnErr result (self.new ≡ self.old) }
         ensures memo { OnErr result (memo.new ≡ memo.old) }
         // Where there is nothing to undo, no memory is asked for.

@@ -1,7 +1,9 @@
-use Rattle.mg_buffer.proofs.Prelude.{rules, ◌≡◌, Bool, length, sym, ap, ◌∙◌, Ok, Err, Result, text, text_after, new_characters, edit_answer, splices_answer, Effect, Notice, stored, growth_answer, fault_of, run_answer, State, CommandCall, Notes, command_call, effect_of_call, situation_of}
+use Rattle.mg_buffer.proofs.Prelude.{rules, ◌≡◌, Bool, length, sym, ap, subst, ◌∙◌, Ok, Err, Result, text, text_after, new_characters, edit_answer, splices_answer, Effect, Notice, stored, growth_answer, fault_of, run_answer, State, CommandCall, Notes, command_call, effect_of_call, situation_of}
 use Rattle.mg_plain.specs.Effect.{Effect, IsWithinText}
 use Rattle.mg_plain.proofs.EffectLaws.{effect-within}
+use Rattle.mg_buffer.specs.Following.{TakesUnsaved}
 use Rattle.mg_buffer.proofs.PlaceLaws.{if_some, is_view}
+use Rattle.mg_buffer.proofs.TakingLaws.{edited_taken}
 use Rattle.mg_buffer.proofs.buffer.Buffer.run.Given.{Over}
 use Rattle.mg_buffer.proofs.buffer.Buffer.run.Goals.{In_ok-plan}
 use Rattle.mg_buffer.proofs.buffer.Buffer.run.Goals as goal
@@ -37,3 +39,6 @@ edit-requires-clause-mark g c =
 
 pub returns-in_err-edit-clause-exact : goal.returns-in_err-edit-clause-exact
 returns-in_err-edit-clause-exact g c = let w = exact g (goal.at.returns-in_err-edit-clause-exact g c).In_ok-plan in search rules
+
+pub returns-clause-took : goal.returns-clause-took
+returns-clause-took g c = subst (λ (b : State). TakesUnsaved b c.edit.new.self) c.planned.ensures.same (edited_taken c.in_ok-edit.ensures.edited)
