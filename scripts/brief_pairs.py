@@ -31,7 +31,7 @@ PAIRS = 1000
 SECONDS = 60
 SIDES = ("waits", "connects")
 
-# One number of a pair has these many chances of ten to be used apart.
+# Of ten pairs, in how many one number was used apart.
 APART_OF_TEN = 3
 
 # What the one that connects says where the other one refuses what it sent: which one is by chance.
@@ -48,9 +48,8 @@ class Pair:
         self.random = random.Random(seed)
         notes = Notes(seed)
         shares = self.random.choice((self.apart, self.within, self.equal, self.some, self.nearly_all))
-        inserted = {it: notes.inserted[it] for it in notes.inserted}
-        insertions, deleted = shares(list(inserted)), shares(list(notes.deleted))
-        sides = [({it: inserted[it] for it in mine}, set(gone)) for mine, gone in zip(insertions, deleted)]
+        insertions, deletions = shares(list(notes.inserted)), shares(sorted(notes.deleted))
+        sides = [({it: notes.inserted[it] for it in mine}, gone) for mine, gone in zip(insertions, deletions)]
         if self.random.randrange(10) < APART_OF_TEN:
             self.use_apart(seed, sides)
         if self.random.random() < 0.5:
@@ -78,7 +77,7 @@ class Pair:
 
     def use_apart(self, seed, sides):
         """Gives one side another log of the same numbers, or changes some of its insertions."""
-        mine, gone = sides[1]
+        mine = sides[1][0]
         if self.random.random() < 0.4 or not mine:
             other = Notes(seed + 10**6)
             sides[1] = other.inserted, other.deleted
@@ -89,8 +88,6 @@ class Pair:
                 mine[element] = (0, 0), sign
             else:
                 mine[element] = parent, "!" if sign != "!" else "?"
-        # A character that one has alone is no conflict.
-        sides[0][0].update({it: sides[0][0].get(it, mine[it]) for it in list(mine)[:1]})
 
     def log(self, inserted, deleted):
         lines = [insertion(it, *element) for it, element in inserted.items()] + [deletion(it) for it in deleted]
