@@ -60,13 +60,14 @@ try-sharing: build/mgr
 crash: build/mgr
 	@scripts/crash.py build/mgr
 
-# Peers that break off or lie, memory that is refused, files that fail, logs that are made to be slow, and random ones.
+# Peers that break off or lie, memory that is refused, files that fail, logs that are made to be slow, random ones, and random pairs.
 hostile: build/mgr
 	@scripts/hostile_peers.py build/mgr
 	@scripts/refused_growths.py build/mgr
 	@scripts/failing_files.py build/mgr
 	@scripts/shapes.py build/mgr
 	@scripts/compactions.py build/mgr
+	@scripts/brief_pairs.py build/mgr
 
 # The files of notes that other programs change, and a second session, while they are edited.
 files: build/mgr
@@ -155,8 +156,8 @@ help:
 	@echo "               (needs python3)"
 	@echo "make crash     kills saves at each call of the system, and loads again (needs python3 and strace)"
 	@echo "make hostile   exchanges with peers that break off, lie, flood or are deaf; refuses each growth of memory and each"
-	@echo "               call of a save; fills a disk; looks for logs that are slow; and compacts random ones (needs"
-	@echo "               python3, cc, strace and root;"
+	@echo "               call of a save; fills a disk; looks for logs that are slow; compacts random ones, and exchanges"
+	@echo "               random pairs whole and briefly (needs python3, cc, strace and root;"
 	@echo "               what has to be left out without one of these is said)"
 	@echo "make files     does to a note's files what other programs do while it is edited, and looks for each word"
 	@echo "               (needs python3)"

@@ -10,10 +10,10 @@ another one, with nothing new. From the time of both processes that of the same 
 taken off, and the least of the measurements counts. That both end with one text is tested. A call by
 hand may name another mgr, and fewer operations.
 
-A second table is of brief exchanges of two notes that have one log, which is on the disk before they
-begin, but for 50 characters that each typed: the milliseconds by the clock, saves included, and, of
-another exchange through a relay that counts them, the bytes of both ways. One note is as it was
-typed, of another a tenth was deleted.
+A second table is of brief exchanges of two notes that differ in 100 operations, 50 of each; the rest
+is on the disk before they begin: the milliseconds by the clock, saves included, and, of another
+exchange through a relay that counts them, the bytes of both ways. Each typed its 50 in a row behind
+one log, which is as it was typed, or of which a tenth was deleted; or the 50 are spread over the log.
 """
 
 import argparse
@@ -46,7 +46,7 @@ CASES = {
 
 
 # How many characters are typed for one that is deleted, if any is.
-BRIEF_CASES = {"as it was typed": None, "a tenth deleted": 10}
+TYPED_CASES = {"typed in a row": None, "a tenth deleted": 10}
 DIFFERENT = 100
 BRIEF_SECONDS, BRIEF_BYTES = 0.02, 50_000
 PAUSE = 0.0002
@@ -120,15 +120,32 @@ def print_row(who, seconds, used, count):
     print(f"{who:<24} {seconds:>13.2f} {used:>15.2f} {count / seconds:>14,.0f} {WANTED:>9.2f}  {told}", flush=True)
 
 
-def lines_of(count, one_in):
-    """Returns so many operations of replica 9: a chain, of which one character in so many is deleted."""
+def insertion(counter, parent):
+    identifiers = {"id": [counter, 9], "op": "ins", "parent": [parent, 9 if parent else 0]}
+    return json.dumps({"char": LINE[(counter - 1) % len(LINE)], **identifiers}, separators=(",", ":")) + "\n"
+
+
+def typed_logs(count, one_in):
+    """Returns a log for each: so many operations of replica 9, a chain, of which one character in so many is deleted."""
     typed = count if one_in is None else count * one_in // (one_in + 1)
-    for counter in range(1, typed + 1):
-        parent = [counter - 1, 9] if counter > 1 else [0, 0]
-        sign = LINE[(counter - 1) % len(LINE)]
-        yield json.dumps({"char": sign, "id": [counter, 9], "op": "ins", "parent": parent}, separators=(",", ":"))
-    for number in range(count - typed):
-        yield json.dumps({"id": [number * one_in + 1, 9], "op": "del"}, separators=(",", ":"))
+    lines = [insertion(counter, counter - 1) for counter in range(1, typed + 1)]
+    lines += ['{"id":[%d,9],"op":"del"}\n' % (number * one_in + 1) for number in range(count - typed)]
+    return ["".join(lines)] * 2
+
+
+def scattered_logs(count):
+    """Returns a log for each: a chain of replica 9, and characters beside it, each of which one alone has."""
+    logs, parent, apart = ([], []), 0, count // DIFFERENT
+    for counter in range(1, count + 1):
+        number, left = divmod(counter, apart)
+        line = insertion(counter, parent)
+        if left == apart // 2:
+            logs[number % 2].append(line)
+            continue
+        parent = counter
+        for log in logs:
+            log.append(line)
+    return ["".join(log) for log in logs]
 
 
 def write_to_disk(path, text):
@@ -166,20 +183,20 @@ class Relay(threading.Thread):
         other.shutdown(socket.SHUT_WR)
 
 
-def brief(mgr, count, one_in, counts_bytes):
-    """Returns the seconds by the clock of a brief exchange, or its bytes."""
+def brief(mgr, logs, keys, counts_bytes):
+    """Returns the seconds by the clock of a brief exchange behind these keys, or its bytes."""
     shutil.rmtree(FOLDER, ignore_errors=True)
-    log = "".join(f"{line}\n" for line in lines_of(count - DIFFERENT // 2, one_in))
     port = free_port()
     relay = Relay(port) if counts_bytes else None
     sides = []
-    for replica, asked in ((1, port), (2, relay.port if relay else port)):
+    for replica, asked, log in ((1, port, logs[0]), (2, relay.port if relay else port, logs[1])):
         folder = FOLDER / str(replica)
         folder.mkdir(parents=True)
         write_to_disk(folder / "note.ops", log)
         side = Session(mgr, folder, replica, "--port", str(asked), "--brief")
         side.settle()
-        side.press(b"x" * (DIFFERENT // 2))
+        if keys:
+            side.press(keys)
         sides.append(side)
     server, client = sides
     begin = time.monotonic()
@@ -190,11 +207,11 @@ def brief(mgr, count, one_in, counts_bytes):
     seconds = time.monotonic() - begin
     for side in sides:
         side.end()
-    if said != [f"Sent {DIFFERENT // 2}, received {DIFFERENT // 2}"] * 2:
+    if not all(message.startswith("Sent ") for message in said):
         sys.exit(f"no brief exchange: {said}")
-    texts = [(FOLDER / str(replica) / "note").read_bytes() for replica in (1, 2)]
-    if texts[0] != texts[1]:
-        sys.exit("the two did not end with one text")
+    ended = [set((FOLDER / str(replica) / "note.ops").read_text().splitlines()) for replica in (1, 2)]
+    if ended[0] != ended[1]:
+        sys.exit("the two did not end with the same operations")
     if relay:
         relay.join()
         return relay.count
@@ -204,11 +221,16 @@ def brief(mgr, count, one_in, counts_bytes):
 def print_brief(mgr, count):
     print(f"A brief exchange of two notes of {count:,} operations that differ in {DIFFERENT}:")
     print(f"{'':<24} {'by clock, ms':>13} {'bytes':>15} {'wanted, ms':>14} {'bytes':>9}")
-    for what, one_in in BRIEF_CASES.items():
-        seconds = min(brief(mgr, count, one_in, False) for _ in range(MEASUREMENTS))
-        size = brief(mgr, count, one_in, True)
-        told = "well" if seconds <= BRIEF_SECONDS and size <= BRIEF_BYTES else "MORE"
-        print(f"{what:<24} {seconds * 1000:>13.0f} {size:>15,} {BRIEF_SECONDS * 1000:>14.0f} {BRIEF_BYTES:>9,}  {told}", flush=True)
+    for what, one_in in TYPED_CASES.items():
+        print_brief_row(mgr, what, typed_logs(count - DIFFERENT // 2, one_in), b"x" * (DIFFERENT // 2))
+    print_brief_row(mgr, "spread over the log", scattered_logs(count), b"")
+
+
+def print_brief_row(mgr, what, logs, keys):
+    seconds = min(brief(mgr, logs, keys, False) for _ in range(MEASUREMENTS))
+    size = brief(mgr, logs, keys, True)
+    told = "well" if seconds <= BRIEF_SECONDS and size <= BRIEF_BYTES else "MORE"
+    print(f"{what:<24} {seconds * 1000:>13.0f} {size:>15,} {BRIEF_SECONDS * 1000:>14.0f} {BRIEF_BYTES:>9,}  {told}", flush=True)
 
 
 def main():

@@ -221,7 +221,7 @@ def changed_text(mgr):
 def take_over(mgr, mine, theirs):
     """Takes over the lines of another log, with the commands of the guide, and makes the text anew."""
     (mine, theirs), text = (log_of(mine).name, log_of(theirs).name), mine.name
-    line = f"""LC_ALL=C sort -u {mine} {theirs} >note.new && $MGR show <note.new >{text}.new &&
+    line = f"""cp -p {mine} note.new && LC_ALL=C sort -u {mine} {theirs} >note.new && $MGR show <note.new >{text}.new &&
         mv note.new {mine} && touch -r {mine} {text}.new && mv {text}.new {text}"""
     subprocess.run(["sh", "-c", line], cwd=FOLDER / "sync", env={**os.environ, "MGR": mgr.path}, check=True)
 

@@ -17,8 +17,10 @@ KEYS = {
     "C-SPC": b"\0", "C-_": b"\x1f",
 }
 
-# A sign, or an escape; the identifier; and for an insertion its parent's.
-OPERATION = re.compile(r"(?:(\\x[0-9a-f]{2}|\\u\{[0-9a-f]+\}|\\.|.)(\d+)\.(\d+)<(\d+)\.(\d+)|-(\d+)\.(\d+))$")
+# A sign, or an escape; the identifier; and for an insertion its parent's. Then how many, and how far their counters are apart.
+OPERATION = re.compile(
+    r"(?:(\\x[0-9a-f]{2}|\\u\{[0-9a-f]+\}|\\.|.)(\d+)\.(\d+)<(\d+)\.(\d+)|-(\d+)\.(\d+))(?:\*(\d+)\+(\d+))?$"
+)
 
 RUN = re.compile(r"run:(\d+)\.(\d+)<(\d+)\.(\d+):(.*)$")
 
@@ -90,7 +92,8 @@ def _key(word):
 def lines_of(written):
     """Returns the bytes of lines: `a1.1<0.0` inserts, `-1.1` deletes, `run:1.1<0.0:ab` is a run.
 
-    `-1.1*3` is a run of three deletions, `head` begins an exchange, and `end:2` ends one.
+    `-1.1*3` is a run of three deletions, `head` begins an exchange, and `end:2` ends one. `a1.1<0.0*9+2` are nine
+    insertions of `a`, each with a counter 2 above the one before, and `-1.1*9+2` nine such deletions.
 
     A word in quotes stands for itself, and a point takes away the last byte, as the newline of a line.
     """
@@ -119,12 +122,16 @@ def _line(word):
     operation = OPERATION.match(word)
     if not operation:
         raise Unreadable(f"no line is written {word}")
-    sign, counter, replica, parent, of, deleted, by = operation.groups()
+    return _operations(*operation.groups())
+
+
+def _operations(sign, counter, replica, parent, of, deleted, by, count, step):
+    counters = [int(counter or deleted) + number * int(step or 0) for number in range(int(count or 1))]
     if deleted:
-        return b'{"id":[%d,%d],"op":"del"}\n' % (int(deleted), int(by))
+        return b"".join(b'{"id":[%d,%d],"op":"del"}\n' % (it, int(by)) for it in counters)
     sign = json.dumps(text_of(sign).decode(), ensure_ascii=False).encode()
-    identifiers = tuple(map(int, (counter, replica, parent, of)))
-    return b'{"char":%s,"id":[%d,%d],"op":"ins","parent":[%d,%d]}\n' % (sign, *identifiers)
+    behind = int(replica), int(parent), int(of)
+    return b"".join(b'{"char":%s,"id":[%d,%d],"op":"ins","parent":[%d,%d]}\n' % (sign, it, *behind) for it in counters)
 
 
 def words_of(lines):

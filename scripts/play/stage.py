@@ -6,6 +6,7 @@ import shutil
 import tempfile
 
 from play.inputs import Whole
+from play.notation import text_of
 from play.peers import free_port
 
 MOST_TOLD = 2000
@@ -87,7 +88,7 @@ class Stage:
         return [it.session for it in self.people.values() if it.session]
 
     def path(self, name):
-        return os.path.join(self.person.folder, name)
+        return os.path.join(self.person.folder, text_of(name).decode())
 
     def compare(self, wanted, came, written=str):
         self.compared += 1

@@ -103,13 +103,13 @@ def calls(stage, about):
 
 @word
 def ordinary(stage, about):
-    """From here on sessions and jobs are an ordinary user's, whom rights bind, and so are the files that are there."""
+    """From here on sessions and jobs are an ordinary user's, whom rights bind, and so are the files and folders that are there."""
     if os.getuid():
         return
     if not ends_well((*AS_NOBODY, str(stage.mgr), "--version")):
         raise LeftOut("root can't have an ordinary user run mgr")
     os.chmod(stage.root, 0o711)
-    for path in (stage.person.folder, *stage.person.folder.iterdir()):
+    for path in (stage.person.folder, *stage.person.folder.rglob("*")):
         shutil.chown(path, NOBODY, NOGROUP)
     stage.person.under = AS_NOBODY
 
