@@ -2,7 +2,7 @@
 use Rattle.std.specs.Prelude.{◌≡◌, ℕ, List, [], ◌∷◌, ◌++◌, Bool, true, false, ◌||◌}
 use Rattle.mg_keys.specs.declared.argument.Argument.{Argument}
 use Rattle.mg_keys.specs.declared.argument.Argument.TheVariants.{Absent, Multiplied, Typed}
-use Rattle.mg_keys.specs.declared.bytes.TheConstants.{QUOTE, CONTROL_X, ESCAPE}
+use Rattle.mg_keys.specs.Bytes.{quote_byte, control_x_byte, escape_byte}
 use Rattle.mg_keys.specs.declared.sequence.Sequence.{Sequence}
 use Rattle.mg_keys.specs.declared.sequence.Sequence.TheVariants.{Start, Escape, ControlX, Quote, Character}
 use Rattle.mg_keys.specs.declared.step.Mode.{Mode}
@@ -26,9 +26,9 @@ fresh m = record { mode = m; argument = Absent; sequence = Start }
 -- what further bytes mean, in mode Plain, behind an argument and the beginning of a sequence
 abbrev pub plain_rest : Argument → Sequence → List ℕ → Meaning
 plain_rest a Start rest = plain_meaning a rest
-plain_rest a Escape rest = meaning_of_keys (value a) (ESCAPE ∷ rest)
-plain_rest a ControlX rest = meaning_of_keys (value a) (CONTROL_X ∷ rest)
-plain_rest a Quote rest = meaning_of_keys (value a) (QUOTE ∷ rest)
+plain_rest a Escape rest = meaning_of_keys (value a) (escape_byte ∷ rest)
+plain_rest a ControlX rest = meaning_of_keys (value a) (control_x_byte ∷ rest)
+plain_rest a Quote rest = meaning_of_keys (value a) (quote_byte ∷ rest)
 plain_rest a (Character begun) rest = insertion_meaning (value a) (reading_behind begun rest)
 
 abbrev pub text_rest : Mode → Sequence → List ℕ → Meaning

@@ -1,7 +1,7 @@
 -- Which keys are bound to which command.
 use Rattle.std.specs.Prelude.{ℕ, List, [], ◌∷◌, ◌++◌, Bool, true, false, Option, Some, None, nat_eq, ◌&&◌, if◌then◌else◌}
 use Rattle.std.specs.List.{list_any}
-use Rattle.mg_keys.specs.declared.bytes.TheConstants.{ESCAPE, CONTROL_X}
+use Rattle.mg_keys.specs.Bytes.{escape_byte, control_x_byte}
 use Rattle.mg_keys.specs.declared.command.KeyCommand.{KeyCommand}
 use Rattle.mg_keys.specs.declared.command.KeyCommand.TheVariants.{SetMarkCommand, BeginningOfLine, EndOfLine, BackwardChar, ForwardChar, DeleteChar, DeleteBackwardChar, NewlineAndIndent, Newline, OpenLine, KillLine, KillRegion, Yank, Recenter, NextLine, PreviousLine, IsearchForward, IsearchBackward, TransposeChars, ScrollUp, ScrollDown, Undo, BeginningOfBuffer, EndOfBuffer, BackwardWord, ForwardWord, KillWord, CapitalizeWord, DowncaseWord, UpcaseWord, FillParagraph, CopyRegionAsKill, ExecuteExtendedCommand, QueryReplace, SaveBuffersKillEmacs, FindFile, SaveBuffer, ExchangePointAndMark, SwitchToBuffer, KillBuffer, MarkWholeBuffer, DeleteWindow, DeleteOtherWindows, SplitWindowVertically, OtherWindow}
 use Rattle.mg_keys.specs.declared.table.Entry.{Entry}
@@ -17,10 +17,10 @@ abbrev pub single_key : ℕ → KeyCommand → Row
 single_key byte command = record { keys = byte ∷ []; command = command }
 
 abbrev pub meta : ℕ → KeyCommand → Row
-meta byte command = record { keys = ESCAPE ∷ byte ∷ []; command = command }
+meta byte command = record { keys = escape_byte ∷ byte ∷ []; command = command }
 
 abbrev pub control_x : ℕ → KeyCommand → Row
-control_x byte command = record { keys = CONTROL_X ∷ byte ∷ []; command = command }
+control_x byte command = record { keys = control_x_byte ∷ byte ∷ []; command = command }
 
 -- the key sequences; behind ESC an upper-case letter counts as the lower-case one
 abbrev pub rows : List Row
@@ -111,8 +111,8 @@ begins_some keys = list_any (λ r. begins keys r.keys) rows
 
 abbrev pub keys_of : Prefix → List ℕ
 keys_of Alone = []
-keys_of Escape = ESCAPE ∷ []
-keys_of ControlX = CONTROL_X ∷ []
+keys_of Escape = escape_byte ∷ []
+keys_of ControlX = control_x_byte ∷ []
 
 -- the command of the first entry with these keys
 abbrev pub first_entry : List Entry → List ℕ → Option KeyCommand

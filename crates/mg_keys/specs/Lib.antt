@@ -1,3 +1,4 @@
+pub mod Bytes
 pub mod Utf8
 pub mod Argument
 pub mod Commands

@@ -3,7 +3,7 @@ use Rattle.std.specs.Prelude.{ℕ, List, [], ◌∷◌, Bool, Option, Some, None
 use Rattle.mg_plain.specs.declared.command.Command.TheVariants as run
 use Rattle.mg_keys.specs.declared.argument.Argument.{Argument}
 use Rattle.mg_keys.specs.declared.argument.Argument.TheVariants.{Absent}
-use Rattle.mg_keys.specs.declared.bytes.TheConstants.{CANCEL, TAB, RETURN, QUOTE, SEARCH_BACKWARD, SEARCH_FORWARD, CONTROL_X, ESCAPE, DELETE}
+use Rattle.mg_keys.specs.Bytes.{cancel_byte, tab_byte, return_byte, quote_byte, search_backward_byte, search_forward_byte, control_x_byte, escape_byte, delete_byte}
 use Rattle.mg_keys.specs.declared.step.Answer.TheVariants as answer
 use Rattle.mg_keys.specs.declared.step.Mode.{Mode}
 use Rattle.mg_keys.specs.declared.step.Mode.TheVariants as mode
@@ -24,7 +24,7 @@ pub data Meaning : Type 0 where
 
 -- C-g by itself, and directly behind a prefix key
 abbrev pub is_cancel : List ℕ → Bool
-is_cancel keys = same_keys (CANCEL ∷ []) keys || (same_keys (ESCAPE ∷ CANCEL ∷ []) keys || same_keys (CONTROL_X ∷ CANCEL ∷ []) keys)
+is_cancel keys = same_keys (cancel_byte ∷ []) keys || (same_keys (escape_byte ∷ cancel_byte ∷ []) keys || same_keys (control_x_byte ∷ cancel_byte ∷ []) keys)
 
 -- the character that C-q takes
 abbrev pub quoted : List ℕ → Utf8Reading
@@ -33,11 +33,11 @@ quoted (b ∷ bs) = if nat_lt b 128 then ended_character b bs else multibyte_cha
 
 -- the character that bytes are by themselves: none of the control characters but TAB
 abbrev pub itself : ℕ → List ℕ → Utf8Reading
-itself b bs = if nat_eq b TAB || is_between 32 126 b then ended_character b bs else (if nat_le 128 b then multibyte_character b bs else neither)
+itself b bs = if nat_eq b tab_byte || is_between 32 126 b then ended_character b bs else (if nat_le 128 b then multibyte_character b bs else neither)
 
 abbrev pub inserted_character : List ℕ → Utf8Reading
 inserted_character [] = neither
-inserted_character (k ∷ ks) = if nat_eq k QUOTE then quoted ks else itself k ks
+inserted_character (k ∷ ks) = if nat_eq k quote_byte then quoted ks else itself k ks
 
 abbrev pub insertion_meaning : ℕ → Utf8Reading → Meaning
 insertion_meaning n (is c) = whole (step.Run (run.Insert c) n)
@@ -66,21 +66,21 @@ text_meaning neither = no_key
 
 abbrev pub line_key : ℕ → Option Step
 line_key k =
-    if nat_eq k DELETE then Some step.Rub else (
-    if nat_eq k RETURN then Some step.Accept else (
-    if nat_eq k CANCEL then Some step.Cancel else None))
+    if nat_eq k delete_byte then Some step.Rub else (
+    if nat_eq k return_byte then Some step.Accept else (
+    if nat_eq k cancel_byte then Some step.Cancel else None))
 
 abbrev pub search_key : ℕ → Option Step
-search_key k = if nat_eq k SEARCH_FORWARD then Some step.Next else (if nat_eq k SEARCH_BACKWARD then Some step.Prev else line_key k)
+search_key k = if nat_eq k search_forward_byte then Some step.Next else (if nat_eq k search_backward_byte then Some step.Prev else line_key k)
 
 -- `y` or a space, `n` or DEL, `!`, `q` or RET
 abbrev pub query_key : ℕ → Option Step
 query_key k =
     if nat_eq k 121 || nat_eq k 32 then Some (step.Answer answer.Yes) else (
-    if nat_eq k 110 || nat_eq k DELETE then Some (step.Answer answer.No) else (
+    if nat_eq k 110 || nat_eq k delete_byte then Some (step.Answer answer.No) else (
     if nat_eq k 33 then Some (step.Answer answer.All) else (
-    if nat_eq k 113 || nat_eq k RETURN then Some (step.Answer answer.Quit) else (
-    if nat_eq k CANCEL then Some step.Cancel else None))))
+    if nat_eq k 113 || nat_eq k return_byte then Some (step.Answer answer.Quit) else (
+    if nat_eq k cancel_byte then Some step.Cancel else None))))
 
 -- a byte that begins no character leaves a search
 abbrev pub or_leave : Meaning → Meaning

@@ -4,7 +4,7 @@ use Rattle.std.proofs.lemmas.List.Sums.{sum_by-cons, sum_by-remove, get_or-le-su
 use Rattle.std.proofs.lemmas.Bool.Decides.{nat_tests}
 use Rattle.std.proofs.lemmas.List.Edits.{length-remove, length-insert}
 use Rattle.std.proofs.Common.{length-set}
-use Rattle.mg_screen.specs.declared.size.TheConstants.{MAX_ROWS}
+use Rattle.mg_screen.specs.Size.{most_rows}
 use Rattle.mg_screen.specs.Layout.{Layout, window, layout, heights, all_shown, windows_of, rows_of, upper_half, lower_half, split_at, remove_at, only_at, shows_at, of_height, IsTall, FillsRows, KeepsRows, other_layout, only_layout, current_height}
 use Rattle.mg_screen.specs.Inside.{AreKeptWindows}
 use Rattle.mg_screen.proofs.LayoutLaws.{rows-split, tall-split, rows-remove, tall-remove, tall-shown, rows-shown}
@@ -141,7 +141,7 @@ pub height_of : {T : Type 0} (hs : List ℕ) (ss : List T) (i : ℕ) → length 
 height_of hs ss i e = ap (λ xs. get_or xs i 0) (heights-windows_of hs ss e)
 
 -- no window has more text rows than the screen
-pub sum-windows_of : {T : Type 0} (hs : List ℕ) (ss : List T) (i rows : ℕ) → AreKeptWindows hs ss i rows → sum_by (λ h. h + 1) hs ≤ MAX_ROWS
+pub sum-windows_of : {T : Type 0} (hs : List ℕ) (ss : List T) (i rows : ℕ) → AreKeptWindows hs ss i rows → sum_by (λ h. h + 1) hs ≤ most_rows
 sum-windows_of hs ss i rows old = omega (arith, rows-windows_of hs ss old.paired, old.whole, old.few)
 
 pub split_keeps : {T : Type 0} (hs gs : List ℕ) (ss ts : List T) (i rows : ℕ) → AreKeptWindows hs ss i rows → 3 ≤ get_or hs i 0 → length gs ≡ length ts → length gs ≡ length hs + 1

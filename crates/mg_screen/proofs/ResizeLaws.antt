@@ -2,7 +2,7 @@
 use Rattle.std.proofs.Common.{◌≡◌, ℕ, ◌+◌, ◌-◌, ◌*◌, ◌/◌, ◌≤◌, ◌<◌, List, [], ◌∷◌, ◌++◌, length, take, drop, arith, refl, sym, ◌∙◌, ap, ap₂, subst, suc, zero, get_or, set, min}
 use Rattle.std.proofs.Math.Nat.{min-le_left, min-le_right, min-eq_left, le-min}
 use Rattle.std.proofs.lemmas.List.{length-take, take_all}
-use Rattle.mg_screen.specs.declared.size.TheConstants.{MAX_ROWS}
+use Rattle.mg_screen.specs.Size.{most_rows}
 use Rattle.mg_screen.specs.Layout.{Window, Layout, window, layout, heights, all_shown, windows_of, rows_of, shared, staying, resized, resized_layout, IsTall, FillsRows}
 use Rattle.mg_screen.specs.Inside.{AreKeptWindows}
 use Rattle.mg_screen.proofs.HeightLaws.{length-windows_of, heights-windows_of, shown-windows_of}
@@ -95,7 +95,7 @@ resized_made {T} hs gs ss ts i j n rows e most made also at =
     ap length made ∙ length-shared (rows - 1) (take n hs) ∙ sym (length-windows_of (take n hs) (take n ss) paired) ∙ ap length (sym stay) in
     ap₂ (λ (vs : List (Window T)) k. layout vs k) windows (at ∙ ap (λ k. min i (k - 1)) count)
 
-pub resized_kept : {T : Type 0} (hs gs : List ℕ) (ss ts : List T) (i j n old rows : ℕ) → AreKeptWindows hs ss i old → 3 ≤ rows → rows ≤ MAX_ROWS → n ≡ (rows - 1) / 2
+pub resized_kept : {T : Type 0} (hs gs : List ℕ) (ss ts : List T) (i j n old rows : ℕ) → AreKeptWindows hs ss i old → 3 ≤ rows → rows ≤ most_rows → n ≡ (rows - 1) / 2
     → gs ≡ shared (rows - 1) (take n hs) → ts ≡ take n ss → j ≡ min i (length gs - 1) → AreKeptWindows gs ts j rows
 resized_kept {T} hs gs ss ts i j n old rows kept least few most made also at =
     let room : 2 * n ≤ rows - 1 = omega (arith, most) in

@@ -1,6 +1,5 @@
 -- Characters as cells of a row.
 use Rattle.std.specs.Prelude.{◌≡◌, ℕ, ◌+◌, ◌-◌, ◌%◌, ◌≤◌, ◌<◌, List, [], ◌∷◌, ◌++◌, false, length, take, replicate, if◌then◌else◌, nat_lt, nat_le, nat_eq, unwrap_or, Option, Some, None, ◌&&◌}
-use Rattle.mg_screen.specs.declared.cells.TheConstants.{TAB_STOP}
 use Rattle.unicode_width.specs.Width.{char_width}
 
 -- what a character shows, and how many columns it takes
@@ -12,10 +11,14 @@ pub record Cell : Type 0 where
 abbrev pub cell : List ℕ → ℕ → Cell
 cell shown width = record { shown = shown; width = width }
 
+-- from one tab stop to the next
+abbrev pub tab_stop : ℕ
+tab_stop = 8
+
 -- the cell of a character that begins at a column
 abbrev pub cell_of : ℕ → ℕ → Cell
 cell_of column c =
-    if nat_eq c 9 then cell (replicate (TAB_STOP - column % TAB_STOP) 32) (TAB_STOP - column % TAB_STOP)
+    if nat_eq c 9 then cell (replicate (tab_stop - column % tab_stop) 32) (tab_stop - column % tab_stop)
     else (if nat_lt c 32 then cell (94 ∷ (c + 64) ∷ []) 2
     else (if nat_eq c 127 then cell (94 ∷ 63 ∷ []) 2
     else (if nat_le 128 c && nat_le c 159 then cell (63 ∷ []) 1

@@ -1,6 +1,6 @@
 -- What `Windows` keeps of its two lists.
 use Rattle.std.specs.Prelude.{ℕ, ◌≡◌, ◌+◌, ◌<◌, ◌≤◌, List, length}
-use Rattle.mg_screen.specs.declared.size.TheConstants.{MAX_ROWS}
+use Rattle.mg_screen.specs.Size.{most_rows}
 use Rattle.mg_screen.specs.Layout.{windows_of, rows_of, IsTall}
 
 -- heights and what is shown are in step, and make a layout that fills so many rows
@@ -9,4 +9,4 @@ pub record AreKeptWindows {T : Type 0} (heights : List ℕ) (shown : List T) (cu
   pub here : current < length heights
   pub tall : IsTall (windows_of heights shown)
   pub whole : rows_of (windows_of heights shown) + 1 ≡ rows
-  pub few : rows ≤ MAX_ROWS
+  pub few : rows ≤ most_rows

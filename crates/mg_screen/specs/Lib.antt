@@ -1,3 +1,4 @@
+pub mod Size
 pub mod Cells
 pub mod Rows
 pub mod Written

@@ -1,7 +1,6 @@
 //! What a character shows in a row, and how wide it is.
 ghost use Rattle.std.specs.Prelude.{◌≡◌, ◌≤◌, chars, replicate, OnOk};
 ghost use Rattle.mg_screen.specs.Written.{AddsCharacters};
-ghost use Rattle.mg_screen.specs.declared.cells.TheConstants.{TAB_STOP};
 ghost use Rattle.mg_screen.specs.Cells as spec;
 
 use std::alloc::AllocError;
@@ -13,7 +12,7 @@ pub(crate) const TAB_STOP: usize = 8;
 /// How wide the cell of a character is that begins at this column.
 fn cell_width(column: usize, c: char) -> usize
     ensures width { result ≡ (spec.cell_of column c).width }
-    ensures bound { result ≤ TAB_STOP }
+    ensures bound { result ≤ spec.tab_stop }
 {
     match c {
         '\t' => TAB_STOP - column % TAB_STOP,

@@ -1,6 +1,6 @@
 //! Where the cursor stands in a frame.
 ghost use Rattle.std.specs.Prelude.{◌≡◌, ◌≤◌, ◌<◌, ◌+◌, length, sum_by};
-ghost use Rattle.mg_screen.specs.declared.size.TheConstants.{MAX_ROWS, MIN_COLUMNS};
+ghost use Rattle.mg_screen.specs.Size.{most_rows, least_columns};
 ghost use Rattle.mg_screen.specs.Cells.{width_of};
 ghost use Rattle.mg_screen.specs.Frame.{screen_rows};
 ghost use Rattle.mg_screen.specs.Cursor as spec;
@@ -48,7 +48,7 @@ fn place_column(columns: usize, text: &[char], place: usize) -> usize
 /// The cursor of a window that stands below so many rows.
 fn pane_cursor(columns: usize, above: usize, pane: &Pane) -> Option<Position>
     requires some { 0 < columns }
-    requires above { above ≤ MAX_ROWS }
+    requires above { above ≤ most_rows }
     ensures { result ≡ spec.pane_cursor columns above pane.now }
 {
     let line = pane.line;
@@ -63,7 +63,7 @@ fn pane_cursor(columns: usize, above: usize, pane: &Pane) -> Option<Position>
 
 /// The rows of windows, each with its mode line.
 fn rows_of_panes(panes: &[Pane]) -> usize
-    requires { sum_by (λ p. p.height + 1) panes.now ≤ MAX_ROWS }
+    requires { sum_by (λ p. p.height + 1) panes.now ≤ most_rows }
     ensures { result ≡ sum_by (λ p. p.height + 1) panes.now }
 {
     let mut rows = 0;
@@ -79,8 +79,8 @@ fn rows_of_panes(panes: &[Pane]) -> usize
 /// behind the last column. `None` where there is no such window, or where it does not show point's
 /// line (`first_line` has it shown). Takes no memory.
 pub fn cursor(columns: usize, screen: &Screen, index: usize) -> Option<Position>
-    requires rows_to { screen_rows screen.now ≤ MAX_ROWS }
-    requires columns_from { MIN_COLUMNS ≤ columns }
+    requires rows_to { screen_rows screen.now ≤ most_rows }
+    requires columns_from { least_columns ≤ columns }
     ensures { result ≡ spec.cursor columns screen.now index }
 {
     let pane = screen.panes.get(index)?;
@@ -91,8 +91,8 @@ pub fn cursor(columns: usize, screen: &Screen, index: usize) -> Option<Position>
 /// Where the cursor of a frame stands that is behind the text of the echo line: in the last row, at
 /// the end of what that shows, and never behind the last column. Takes no memory.
 pub fn echo_cursor(columns: usize, screen: &Screen) -> Position
-    requires rows_to { screen_rows screen.now ≤ MAX_ROWS }
-    requires columns_from { MIN_COLUMNS ≤ columns }
+    requires rows_to { screen_rows screen.now ≤ most_rows }
+    requires columns_from { least_columns ≤ columns }
     ensures { result ≡ spec.echo_cursor columns screen.now }
 {
     Position {

@@ -1,7 +1,7 @@
 //! The whole screen as rows of characters.
 ghost use Rattle.std.specs.Prelude.{◌≡◌, ◌≤◌, ◌<◌, length, chars, IfOk, OnOk};
-ghost use Rattle.mg_screen.specs.declared.size.TheConstants.{MIN_ROWS, MAX_ROWS};
-ghost use Rattle.mg_screen.specs.declared.size.TheConstants.{MIN_COLUMNS, MAX_COLUMNS};
+ghost use Rattle.mg_screen.specs.Size.{least_rows, most_rows};
+ghost use Rattle.mg_screen.specs.Size.{least_columns, most_columns};
 ghost use Rattle.mg_screen.specs.Rows.{cut_row};
 ghost use Rattle.mg_screen.specs.Written.{Spells, SpellRows, AddsRows};
 ghost use Rattle.mg_screen.specs.Frame as spec;
@@ -56,10 +56,10 @@ pub fn frame(
     screen: &Screen,
 ) -> Result<Vec<String>, FrameFault>
     requires whole { spec.screen_rows screen.now ≡ rows }
-    requires rows_from { MIN_ROWS ≤ rows }
-    requires rows_to { rows ≤ MAX_ROWS }
-    requires columns_from { MIN_COLUMNS ≤ columns }
-    requires columns_to { columns ≤ MAX_COLUMNS }
+    requires rows_from { least_rows ≤ rows }
+    requires rows_to { rows ≤ most_rows }
+    requires columns_from { least_columns ≤ columns }
+    requires columns_to { columns ≤ most_columns }
     ensures exact { IfOk result
         (λ frame. SpellRows (spec.frame_rows columns screen.now) frame.items) }
     ensures count { IfOk result (λ frame. length frame.items ≡ rows) }

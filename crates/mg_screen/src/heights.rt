@@ -1,7 +1,7 @@
 //! Heights of windows, and beside these what the windows show.
 ghost use Rattle.std.specs.Prelude.{◌≡◌, ℕ, ◌+◌, ◌-◌, ◌*◌, ◌<◌, ◌≤◌, OnOk, OnErr};
 ghost use Rattle.std.specs.Prelude.{length, insert, slice_index, sum_by};
-ghost use Rattle.mg_screen.specs.declared.size.TheConstants.{MAX_ROWS, MIN_SPLIT_HEIGHT};
+ghost use Rattle.mg_screen.specs.Size.{most_rows, least_split_height};
 ghost use Rattle.mg_screen.specs.Inside.{AreKeptWindows};
 ghost use Rattle.mg_screen.specs.Layout as spec;
 
@@ -37,7 +37,7 @@ pub(crate) fn split_both<T: Copy>(
 ) -> Result<(), AllocError>
     requires paired { length heights.old.items ≡ length shown.old.items }
     requires inside { index < length heights.old.items }
-    requires large { MIN_SPLIT_HEIGHT ≤ slice_index heights.old.items index }
+    requires large { least_split_height ≤ slice_index heights.old.items index }
     ensures paired { length heights.new.items ≡ length shown.new.items }
     ensures exact { OnOk result
         (spec.windows_of heights.new.items shown.new.items ≡
@@ -67,7 +67,7 @@ pub(crate) fn remove_both<T: Copy>(
     requires paired { length heights.old.items ≡ length shown.old.items }
     requires inside { index < length heights.old.items }
     requires several { 1 < length heights.old.items }
-    requires rows_to { sum_by (λ h. h + 1) heights.old.items ≤ MAX_ROWS }
+    requires rows_to { sum_by (λ h. h + 1) heights.old.items ≤ most_rows }
     ensures paired { length heights.new.items ≡ length shown.new.items }
     ensures kept { (rows : ℕ) → AreKeptWindows heights.old.items shown.old.items index rows →
         AreKeptWindows heights.new.items shown.new.items result rows }

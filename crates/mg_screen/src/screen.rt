@@ -28,7 +28,7 @@ impl<'a> Model for Pane<'a> {
     ghost use Rattle.std.specs.Prelude.{◌≡◌, ◌≤◌, length, string_bytes};
     ghost use Rattle.mg_screen.specs.Screen as spec;
     ghost use Rattle.mg_screen.specs.Lines.{line_index};
-    ghost use Rattle.mg_screen.specs.declared.size.TheConstants.{MAX_ROWS};
+    ghost use Rattle.mg_screen.specs.Size.{most_rows};
 
     ghost Value = { spec.Pane };
 
@@ -43,7 +43,7 @@ impl<'a> Model for Pane<'a> {
     } };
 
     ghost invariant = { λ p.
-        (p.point ≤ length p.text.now) × (1 ≤ p.height) × (p.height ≤ MAX_ROWS)
+        (p.point ≤ length p.text.now) × (1 ≤ p.height) × (p.height ≤ most_rows)
         × (p.line ≡ line_index p.text.now p.point) };
 }
 

@@ -1,8 +1,8 @@
 //! How the rows of the screen are shared among windows.
 ghost use Rattle.std.specs.Prelude.{◌≡◌, ◌-◌, ◌<◌, ◌≤◌, [], ◌∷◌, Err, length};
 ghost use Rattle.std.specs.Prelude.{OnOk, OnErr, IfOk, IfErr, IsOk};
-ghost use Rattle.mg_screen.specs.declared.size.TheConstants.{MIN_ROWS, MAX_ROWS};
-ghost use Rattle.mg_screen.specs.declared.size.TheConstants.{MIN_SPLIT_HEIGHT};
+ghost use Rattle.mg_screen.specs.Size.{least_rows, most_rows};
+ghost use Rattle.mg_screen.specs.Size.{least_split_height};
 ghost use Rattle.mg_screen.specs.declared.windows.WindowFault.TheVariants.{TooSmall, OnlyOne};
 ghost use Rattle.mg_screen.specs.declared.windows.WindowFault.TheVariants.{Memory};
 ghost use Rattle.mg_screen.specs.Layout as spec;
@@ -67,8 +67,8 @@ fn one<T: Copy>(alloc: Global, item: T) -> Result<Vec<T>, AllocError>
 impl<T: Copy> Windows<T> {
     /// One window on a screen of so many rows. `Memory` is the only fault.
     pub fn new(alloc: Global, rows: usize, shown: T) -> Result<Self, WindowFault>
-        requires rows_from { MIN_ROWS ≤ rows }
-        requires rows_to { rows ≤ MAX_ROWS }
+        requires rows_from { least_rows ≤ rows }
+        requires rows_to { rows ≤ most_rows }
         ensures exact { IfOk result
             (λ w. w ≡ spec.layout (spec.window (rows - 2) shown ∷ []) 0) }
         ensures filled { IfOk result (λ w. spec.FillsRows rows w) }
@@ -87,7 +87,7 @@ impl<T: Copy> Windows<T> {
     /// The rows of the screen, which the windows and the echo line fill. Takes no memory.
     pub fn rows(&self) -> usize
         ensures filled { spec.FillsRows result self.now }
-        ensures rows_to { result ≤ MAX_ROWS }
+        ensures rows_to { result ≤ most_rows }
     {
         self.rows
     }
@@ -133,9 +133,9 @@ impl<T: Copy> Windows<T> {
         ensures exact { OnOk result (self.new ≡ spec.split_layout self.old) }
         ensures filled { spec.KeepsRows self.old self.new }
         ensures same { OnErr result (self.new ≡ self.old) }
-        ensures too_small { spec.current_height self.old < MIN_SPLIT_HEIGHT →
+        ensures too_small { spec.current_height self.old < least_split_height →
             result ≡ Err TooSmall }
-        ensures memory { MIN_SPLIT_HEIGHT ≤ spec.current_height self.old →
+        ensures memory { least_split_height ≤ spec.current_height self.old →
             IfErr result (λ e. e ≡ Memory) }
     {
         let index = self.current;
@@ -190,8 +190,8 @@ impl<T: Copy> Windows<T> {
     /// the lowest has what is left. The current window stays current; where it goes, the lowest is.
     /// Takes no memory.
     pub fn resize(&mut self, rows: usize)
-        requires rows_from { MIN_ROWS ≤ rows }
-        requires rows_to { rows ≤ MAX_ROWS }
+        requires rows_from { least_rows ≤ rows }
+        requires rows_to { rows ≤ most_rows }
         ensures exact { self.new ≡ spec.resized_layout rows self.old }
         ensures filled { spec.FillsRows rows self.new }
     {

@@ -8,9 +8,8 @@ use Rattle.clap.specs.Walk.{Row, first_of, one_of, rows_of}
 use Rattle.clap.specs.declared.parser.matches.Found.{Found}
 use Rattle.clap.proofs.WalkLemmas.{one_text-rows}
 use Rattle.rga_store.specs.declared.text_store.TheConstants.{MAX_LIMIT}
-use Rattle.mg_screen.specs.declared.size.TheConstants.{MIN_ROWS, MAX_ROWS, MIN_COLUMNS, MAX_COLUMNS}
-use Rattle.mg_settings.specs.declared.settings.TheConstants.{MAX_FILL}
-use Rattle.mg_settings.specs.Settings.{Values, AreAllowed}
+use Rattle.mg_screen.specs.Size.{least_rows, most_rows, least_columns, most_columns}
+use Rattle.mg_settings.specs.Settings.{Values, AreAllowed, greatest_replica, greatest_port, greatest_fill}
 use Rattle.mgr_args.specs.Edit.{GivesFlag, GivesNumber, GivesNumberIf, GivesSettings, GivesValues}
 
 -- two texts at one place are one
@@ -61,11 +60,11 @@ one_number rows id n m g h =
     let text : g.text ≡ h.text = same_some (one_of id rows) g.text h.text g.at h.at in
     sym g.value ∙ ap (λ t. digits_value 10 (without_leading_plus t)) text ∙ h.value
 
-port_too : (rows : List Row) (id : List ℕ) (p q : Option ℕ) → GivesNumberIf rows id p → GivesNumberIf rows id q → ForSome p (λ n. 1 ≤ n) → ForSome q (λ n. 1 ≤ n)
-port_too rows id p None g h allowed = λ x is. absurd (let clash : None ≡ Some x = is in cc)
-port_too rows id None (Some m) g h allowed = absurd (g m h)
-port_too rows id (Some n) (Some m) g h allowed = λ x is.
-    subst (λ k. 1 ≤ k) (one_number rows id n m g h ∙ same_some (Some m) m x refl is) (allowed n refl)
+port_too : (P : ℕ → Type 0) (rows : List Row) (id : List ℕ) (p q : Option ℕ) → GivesNumberIf rows id p → GivesNumberIf rows id q → ForSome p P → ForSome q P
+port_too P rows id p None g h allowed = λ x is. absurd (let clash : None ≡ Some x = is in cc)
+port_too P rows id None (Some m) g h allowed = absurd (g m h)
+port_too P rows id (Some n) (Some m) g h allowed = λ x is.
+    subst P (one_number rows id n m g h ∙ same_some (Some m) m x refl is) (allowed n refl)
 
 -- values of the same rows are allowed together
 pub allowed_too : (rows : List Row) (v w : Values) → GivesValues rows v → GivesValues rows w → AreAllowed v → AreAllowed w
@@ -78,14 +77,15 @@ allowed_too rows v w g h a =
     let limit : v.limit ≡ w.limit = g.options.limit ∙ sym h.options.limit in
     record {
       named = subst (λ n. 1 ≤ length n) name a.named;
-      replica = subst (λ n. 1 ≤ n) replica a.replica;
-      port = port_too rows _ v.port w.port g.options.port h.options.port a.port;
-      rows_from = subst (λ n. MIN_ROWS ≤ n) lines a.rows_from;
-      rows_to = subst (λ n. n ≤ MAX_ROWS) lines a.rows_to;
-      columns_from = subst (λ n. MIN_COLUMNS ≤ n) columns a.columns_from;
-      columns_to = subst (λ n. n ≤ MAX_COLUMNS) columns a.columns_to;
+      replica_from = subst (λ n. 1 ≤ n) replica a.replica_from;
+      replica_to = subst (λ n. n ≤ greatest_replica) replica a.replica_to;
+      port = port_too (λ p. (1 ≤ p) × (p ≤ greatest_port)) rows _ v.port w.port g.options.port h.options.port a.port;
+      rows_from = subst (λ n. least_rows ≤ n) lines a.rows_from;
+      rows_to = subst (λ n. n ≤ most_rows) lines a.rows_to;
+      columns_from = subst (λ n. least_columns ≤ n) columns a.columns_from;
+      columns_to = subst (λ n. n ≤ most_columns) columns a.columns_to;
       fill_from = subst (λ n. 1 ≤ n) fill a.fill_from;
-      fill_to = subst (λ n. n ≤ MAX_FILL) fill a.fill_to;
+      fill_to = subst (λ n. n ≤ greatest_fill) fill a.fill_to;
       limit_from = subst (λ n. 1 ≤ n) limit a.limit_from;
       limit_to = subst (λ n. n ≤ MAX_LIMIT) limit a.limit_to;
     }

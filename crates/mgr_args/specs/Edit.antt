@@ -6,7 +6,8 @@ use Rattle.clap.specs.Walk.{Row, Rule, first_of, one_of}
 use Rattle.clap.specs.declared.builder.action.ArgAction.TheVariants.{Set}
 use Rattle.clap.specs.declared.builder.value_parser.ValueParser.TheVariants as parser
 use Rattle.rga_store.specs.declared.text_store.TheConstants.{MAX_LIMIT}
-use Rattle.mg_settings.specs.Settings.{Values, AreAllowed}
+use Rattle.mg_screen.specs.Size.{least_rows, most_rows, least_columns, most_columns}
+use Rattle.mg_settings.specs.Settings.{Values, AreAllowed, greatest_replica, greatest_port, greatest_fill}
 use Rattle.mgr_args.specs.Rules.{flag, name_rule, with_rules}
 
 -- ---- what it takes
@@ -19,17 +20,17 @@ abbrev pub with_default : List ℕ → Rule → Rule
 with_default value rule = record rule { defaults = value ∷ [] }
 
 abbrev pub replica_rule : Rule
-replica_rule = record (number_rule (codes "replica") 1 65535) { required = true }
+replica_rule = record (number_rule (codes "replica") 1 greatest_replica) { required = true }
 
 abbrev pub port_rule : Rule
-port_rule = number_rule (codes "port") 1 65535
+port_rule = number_rule (codes "port") 1 greatest_port
 
 -- the sizes of the screen, the fill column and the port
 abbrev pub number_rules : List Rule
 number_rules =
-    with_default (codes "24") (number_rule (codes "rows") 3 200)
-    ∷ with_default (codes "80") (number_rule (codes "cols") 20 500)
-    ∷ with_default (codes "70") (number_rule (codes "fill") 1 9999)
+    with_default (codes "24") (number_rule (codes "rows") least_rows most_rows)
+    ∷ with_default (codes "80") (number_rule (codes "cols") least_columns most_columns)
+    ∷ with_default (codes "70") (number_rule (codes "fill") 1 greatest_fill)
     ∷ port_rule ∷ []
 
 -- what frames there are
