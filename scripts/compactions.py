@@ -3,11 +3,13 @@
 
 usage: compactions.py MGR [LOGS]. Each log is made from a seed: insertions of some replicas, in rows and alone,
 with counters left out, of elements that wait for a parent and of some that never comes, rows about as long as
-a run may be; deletions, also of what is not there yet; lines that stand twice; in any order. Behind
-`mgr compact` the log has to be the lines that its operations have by the rule, byte for byte: runs by rising
-identifier, then deletions; what it replaced has to be kept beside it; and `mgr show` and a frame of `mgr edit`
-have to be as before. So it has to be behind `mgr compact --dels` then, with deletions in a row as runs. Of each tenth log, besides: a session has to send the same bytes as before, and a note
-with nothing that hears the compacted lines from a peer has to save each operation of the log once.
+a run may be; deletions, also of what is not there yet, and in one log of three runs of them; lines that stand
+twice; in any order. After `mgr compact` the log has to be the lines that its operations have by the rule, byte
+for byte: runs by rising identifier, then deletions, in runs too if the log had one; they have to be no more than
+the log had; what it replaced has to be kept beside it; and `mgr show` and a frame of `mgr edit` have to be as
+before. So it has to be after `mgr compact --dels` then, with all deletions in runs, and after `mgr compact` once
+more, which changes nothing. Of each tenth log, besides: a session has to send the same bytes as before, and a
+note with nothing that hears the compacted lines from a peer has to save each operation of the log once.
 `make hostile` calls it. It ends with an error where one is not so.
 """
 
@@ -37,6 +39,7 @@ class Notes:
         self.random = random.Random(seed)
         self.inserted, self.deleted, self.lines = {}, set(), []
         self.long = seed % 50 == 0
+        self.runs, self.has_runs = self.random.choice((0, 0, 0.5)), False
         for _ in range(self.random.randrange(12)):
             self.random.choice((self.row, self.row, self.row, self.gap, self.deletions))()
         for _ in range(self.random.randrange(3)):
@@ -84,7 +87,11 @@ class Notes:
         known = sorted(self.inserted) or [(1, 1)]
         for _ in range(self.random.randint(1, 6)):
             counter, replica = self.random.choice(known)
-            self.delete((min(GREATEST, counter + self.random.choice((0, 0, 0, 1))), replica))
+            element = min(GREATEST, counter + self.random.choice((0, 0, 0, 1))), replica
+            if self.random.random() < self.runs:
+                self.delete_run(element)
+            else:
+                self.delete(element)
 
     def insert(self, element, parent):
         sign = self.random.choice(SIGNS)
@@ -95,12 +102,20 @@ class Notes:
         self.deleted.add(element)
         self.lines.append(deletion(element))
 
+    def delete_run(self, element):
+        counter, replica = element
+        count = self.random.choice((1, 1, 2, 3, 9, MOST if self.long else 40))
+        count = min(count, GREATEST + 1 - counter)
+        self.deleted.update((counter + number, replica) for number in range(count))
+        self.has_runs = True
+        self.lines.append(deletion_run(element, count))
+
     def single(self):
         """Returns the lines of the operations, each once and alone."""
         insertions = [insertion(element, *self.inserted[element]) for element in self.inserted]
         return insertions + [deletion(element) for element in self.deleted]
 
-    def compacted(self):
+    def compacted(self, dels=False):
         """Returns the lines by the rule."""
         runs, seen = [], set()
         for element in sorted(self.inserted):
@@ -108,19 +123,27 @@ class Notes:
                 elements = self.run_from(element)
                 seen.update(elements)
                 runs.append(run([self.inserted[it] for it in elements], element))
-        return runs + [deletion(element) for element in sorted(self.deleted)]
+        most = MOST if dels or self.has_runs else 1
+        return runs + self.compacted_deletions(most)
 
-    def compacted_with_dels(self):
-        """Returns the lines by the rule, where deletions are in runs too."""
-        runs = []
+    def compacted_deletions(self, most):
+        """Returns those of the deletions, in runs of at most so many."""
+        runs, seen = [], set()
         for element in sorted(self.deleted):
-            first, count = runs[-1] if runs else ((0, 0), 0)
-            if count < MOST and element == (first[0] + count, first[1]):
-                runs[-1] = first, count + 1
-            else:
-                runs.append((element, 1))
-        insertions = self.compacted()[: -len(self.deleted) or None]
-        return insertions + [deletions(first, count) for first, count in runs]
+            if element not in seen:
+                elements = self.deleted_from(element, most)
+                seen.update(elements)
+                runs.append(deletions(element, len(elements)))
+        return runs
+
+    def deleted_from(self, element, most):
+        elements = [element]
+        while len(elements) < most:
+            following = (elements[-1][0] + 1, element[1])
+            if following not in self.deleted:
+                break
+            elements.append(following)
+        return elements
 
     def run_from(self, element):
         elements = [element]
@@ -146,8 +169,10 @@ def deletion(element):
 
 
 def deletions(element, count):
-    if count == 1:
-        return deletion(element)
+    return deletion(element) if count == 1 else deletion_run(element, count)
+
+
+def deletion_run(element, count):
     return f'{{"count":{count},"id":[{element[0]},{element[1]}],"op":"dels"}}\n'
 
 
@@ -232,8 +257,12 @@ def tried(mgr, folder, notes, thoroughly):
     log.write_bytes(old)
     before = seen(mgr, folder, old)
     sent = exchanged(mgr, folder, NOTHING) if thoroughly else None
-    compacted(mgr, folder, notes.compacted(), before)
-    new = compacted(mgr, folder, notes.compacted_with_dels(), before, "--dels")
+    lines = notes.compacted()
+    if len(lines) > len(notes.lines):
+        raise Unexpected(f"{len(notes.lines)} lines become {len(lines)}")
+    compacted(mgr, folder, lines, before)
+    new = compacted(mgr, folder, notes.compacted(dels=True), before, "--dels")
+    compacted(mgr, folder, notes.compacted(dels=True), before)
     if thoroughly:
         if exchanged(mgr, folder, NOTHING) != sent:
             raise Unexpected("what is sent is not as before")

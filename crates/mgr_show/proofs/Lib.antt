@@ -1,2 +1,3 @@
 pub mod ShownLaws
 pub mod CompactedLaws
+pub mod LineCountLaws

@@ -17,6 +17,7 @@ use Rattle.rga_exchange.specs.declared.log.LogRead.{LogRead}
 use Rattle.rga_exchange.specs.Taking.{AreTaken, Intake, content_intake, HasTakenWholeLines}
 use Rattle.rga_exchange.specs.declared.taking.Form.TheVariants.{Log}
 use Rattle.rga_exchange.specs.Log.{LogOutcome, log_outcome}
+use Rattle.rga_exchange.specs.Stops.{HasNothingTorn}
 use Rattle.rga_exchange.proofs.OperationLaws.{log_taken}
 use Rattle.mgr_show.specs.declared.fault.ShowFault.{ShowFault}
 use Rattle.mgr_show.specs.declared.fault.ShowFault.TheVariants as fault
@@ -32,21 +33,21 @@ outcome c r = (c, r)
 abbrev fails : ShowFault → ShowOutcome
 fails e = Err e
 
--- a log whose text is shown was read to its end
-read_to_end : (limit : ℕ) (c : Content) (bytes : List ℕ) → log_of limit bytes ≡ Ok c → (read : LogRead) × (log_outcome limit nothing bytes ≡ (c, Ok read))
+-- a log whose text is shown was read to its end, and nothing was torn off
+pub read_to_end : (limit : ℕ) (c : Content) (bytes : List ℕ) → log_of limit bytes ≡ Ok c → (read : LogRead) × (log_outcome limit nothing bytes ≡ (c, Ok read)) × HasNothingTorn read.end
 read_to_end limit c bytes h = by_outcome (log_outcome limit nothing bytes) refl h
   where
-    by_end : (d : Content) (n : ℕ) (end : LogEnd) → at_end d n end ≡ Ok c → d ≡ c
-    by_end d n Whole h = let same : shows_it d ≡ shows_it c = h in cc
-    by_end d n Bare h = let same : shows_it d ≡ shows_it c = h in cc
+    by_end : (d : Content) (n : ℕ) (end : LogEnd) → at_end d n end ≡ Ok c → (d ≡ c) × HasNothingTorn end
+    by_end d n Whole h = let same : shows_it d ≡ shows_it c = h in let is : d ≡ c = cc in (is, tt)
+    by_end d n Bare h = let same : shows_it d ≡ shows_it c = h in let is : d ≡ c = cc in (is, tt)
     by_end d n (Torn k) h = let clash : fails (fault.Torn (n + 1)) ≡ shows_it c = h in absurd cc
 
-    by_result : (d : Content) (r : Result LogRead LogFault) → outcome_of d r ≡ Ok c → (read : LogRead) × (outcome d r ≡ (c, Ok read))
-    by_result d (Ok read) h = (read, ap (λ e. outcome e (Ok read)) (by_end d read.lines read.end h))
+    by_result : (d : Content) (r : Result LogRead LogFault) → outcome_of d r ≡ Ok c → (read : LogRead) × (outcome d r ≡ (c, Ok read)) × HasNothingTorn read.end
+    by_result d (Ok read) h = let ended = by_end d read.lines read.end h in (read, ap (λ e. outcome e (Ok read)) ended.0, ended.1)
     by_result d (Err e) h = let clash : fails (show_fault e) ≡ shows_it c = h in absurd cc
 
-    by_outcome : (p : LogOutcome) → log_outcome limit nothing bytes ≡ p → outcome_of p.0 p.1 ≡ Ok c → (read : LogRead) × (log_outcome limit nothing bytes ≡ (c, Ok read))
-    by_outcome (d, r) is h = let w = by_result d r h in (w.0, is ∙ w.1)
+    by_outcome : (p : LogOutcome) → log_outcome limit nothing bytes ≡ p → outcome_of p.0 p.1 ≡ Ok c → (read : LogRead) × (log_outcome limit nothing bytes ≡ (c, Ok read)) × HasNothingTorn read.end
+    by_outcome (d, r) is h = let w = by_result d r h in (w.0, is ∙ w.1, w.2)
 
 log_content_is : (limit : ℕ) (bytes : List ℕ) (c : Content) → log_of limit bytes ≡ Ok c → c ≡ content_of (log_operations bytes)
 log_content_is limit bytes c h =

@@ -1,11 +1,12 @@
 -- What `compact_log` writes.
-use Rattle.std.specs.Prelude.{◌≡◌, ℕ, Bool, List, [], Option}
+use Rattle.std.specs.Prelude.{◌≡◌, ℕ, Bool, ◌||◌, List, [], ◌∷◌, ◌++◌, Option}
 use Rattle.rga_devices.specs.Counting.{Calls, Writes, WritesFront}
-use Rattle.rga_lines.specs.Stream.{rest_of}
+use Rattle.rga_lines.specs.Stream.{lines_of, rest_of}
+use Rattle.rga_exchange.specs.DeletionRuns.{has_deletion_runs}
 use Rattle.rga_exchange.specs.Sending.{StandsFor}
 use Rattle.rga_exchange.specs.declared.fault.SendFault.{SendFault}
 use Rattle.rga_exchange.specs.declared.fault.SendFault.TheVariants as send
-use Rattle.rga_compaction.specs.Compacting.{compact_text}
+use Rattle.rga_compaction.specs.Compacting.{compact_lines, compact_text}
 use Rattle.mgr_show.specs.Shown.{IsAccepted, log_content}
 use Rattle.mgr_show.specs.declared.fault.ShowFault.{ShowFault}
 use Rattle.mgr_show.specs.declared.fault.ShowFault.TheVariants as fault
@@ -14,9 +15,21 @@ abbrev pub send_fault : SendFault → ShowFault
 send_fault send.Write = fault.Write
 send_fault send.Memory = fault.Memory
 
--- the compacted lines of a log, with runs of deletions or without
+-- the compacted lines of a log: deletions are in runs where these are asked for, and where the log has some
+abbrev pub compacted_lines : Bool → List ℕ → List (List ℕ)
+compacted_lines dels bytes = compact_lines (dels || has_deletion_runs bytes) (log_content bytes)
+
+-- the same, each with its newline
 abbrev pub compacted : Bool → List ℕ → List ℕ
-compacted dels bytes = compact_text dels (log_content bytes)
+compacted dels bytes = compact_text (dels || has_deletion_runs bytes) (log_content bytes)
+
+-- the lines of a log, of which a rest is one
+abbrev pub and_rest : List (List ℕ) → List ℕ → List (List ℕ)
+and_rest lines [] = lines
+and_rest lines (b ∷ rest) = lines ++ (b ∷ rest) ∷ []
+
+abbrev pub log_lines : List ℕ → List (List ℕ)
+log_lines bytes = and_rest (lines_of bytes) (rest_of bytes)
 
 -- they stand for the same content, and the last one too ends in a newline
 pub record KeepsContent (dels : Bool) (bytes : List ℕ) : Type 0 where

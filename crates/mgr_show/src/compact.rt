@@ -23,8 +23,9 @@ use std::alloc::Global;
 use std::io::{Read, Write};
 
 /// Reads operation lines to the end of the input, and writes what they make in as few lines as runs
-/// allow, with `dels` deletions in runs too: a log that stands for the same content, and nothing
-/// else. A last line without newline counts where it is an operation.
+/// allow: a log that stands for the same content, and nothing else. Deletions are in runs too with
+/// `dels`, and where the input has a run of deletions. A last line without newline counts where it is
+/// an operation.
 ///
 /// Faults of the input as of `show_ops`. Nothing is written before the whole input was taken. Where
 /// `Write` or `Memory` is answered then, a beginning of the lines was written.
@@ -56,8 +57,9 @@ pub fn compact_log<R: Read, W: Write>(
     let Ok(mut records) = Records::new(alloc, MAX_LIMIT) else {
         return Err(ShowFault::Memory);
     };
-    take_whole_log(alloc, &mut records, reader)?;
-    compact_records(alloc, &records, dels, writer)?;
+    let mut deletion_runs = dels;
+    take_whole_log(alloc, &mut records, reader, &mut deletion_runs)?;
+    compact_records(alloc, &records, deletion_runs, writer)?;
     Ok(())
 }
 

@@ -6,11 +6,13 @@
 //! rga_records for what takes the operations, lists them and gives their text. The program above
 //! may rest on the contracts, for any reader and writer that tell their bytes: what is written is
 //! the text of the operations of an accepted log, or its lines, or a beginning of these where a
-//! device fails, and nothing where the input is refused.
+//! device fails, and nothing where the input is refused; and on the law that these lines are no more
+//! than those of the log (`laws`).
 #![tactic(auto)]
 
 mod compact;
 mod fault;
+pub mod laws;
 mod show;
 mod text;
 

@@ -1,8 +1,9 @@
 //! The text of a log.
-ghost use Rattle.std.specs.Prelude.{◌≡◌, ◌≢◌, ◌⊎◌, true, Ok, Err, OnOk, OnErr, IfOk, IfErr, string_bytes};
+ghost use Rattle.std.specs.Prelude.{◌≡◌, ◌≢◌, ◌⊎◌, ◌||◌, true, Ok, Err, OnOk, OnErr, IfOk, IfErr, string_bytes};
 ghost use Rattle.rga_ops.specs.Prelude.{Content, nothing};
 ghost use Rattle.rga_store.specs.declared.text_store.TheConstants.{MAX_LIMIT};
 ghost use Rattle.rga_devices.specs.Counting.{CountsAs, OnBytes, Writes, WritesFront, WritesNothing};
+ghost use Rattle.rga_exchange.specs.DeletionRuns.{has_deletion_runs};
 ghost use Rattle.rga_exchange.specs.Taking.{intake, content_intake, HasTakenWholeLines};
 ghost use Rattle.rga_exchange.specs.declared.taking.Form.TheVariants.{Log};
 ghost use Rattle.mgr_show.specs.Log.{log_of, shown_from};
@@ -69,18 +70,22 @@ fn text_of_log<R: Read>(alloc: Global, reader: &mut Counted<R>) -> Result<String
     let Ok(mut records) = Records::new(alloc, MAX_LIMIT) else {
         return Err(ShowFault::Memory);
     };
-    take_whole_log(alloc, &mut records, reader)?;
+    take_whole_log(alloc, &mut records, reader, &mut false)?;
     text_string(alloc, &records)
 }
 
 /// Takes the operations of a log to its end, where a last line that was cut off is a fault.
+/// `deletion_runs` becomes true where the log has a run of deletions.
 pub(crate) fn take_whole_log<T: Taker, R: Read>(
     alloc: Global,
     taker: &mut T,
     reader: &mut Counted<R>,
+    deletion_runs: &mut bool,
 ) -> Result<(), ShowFault>
     ensures ok { OnOk result (OnBytes R.remaining reader.old (λ bytes.
         shown_from (T.limit taker.old) (T.content taker.old) bytes ≡ Ok (T.content taker.new))) }
+    ensures deletion_runs { OnOk result (OnBytes R.remaining reader.old
+        (λ bytes. deletion_runs.new ≡ (deletion_runs.old || has_deletion_runs bytes))) }
     ensures refused { IfErr result (λ e. IsOfInput e → OnBytes R.remaining reader.old
         (λ bytes. shown_from (T.limit taker.old) (T.content taker.old) bytes ≡ Err e)) }
 
@@ -89,7 +94,7 @@ pub(crate) fn take_whole_log<T: Taker, R: Read>(
     ensures device { CountsAs ShowFault.Read result reader.old reader.new }
     ensures no_write { result ≢ Err ShowFault.Write }
 {
-    let log = take_log(alloc, taker, reader)?;
+    let log = take_log(alloc, taker, reader, deletion_runs)?;
     match log.end {
         LogEnd::Whole | LogEnd::Bare => Ok(()),
         LogEnd::Torn(_) => Err(ShowFault::Torn(log.lines + 1)),

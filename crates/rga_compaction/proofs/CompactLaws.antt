@@ -1,5 +1,5 @@
 -- The compacted lines of a content stand for that content.
-use Rattle.std.proofs.Common.{◌≡◌, ℕ, zero, suc, ◌+◌, ◌-◌, ◌<◌, ◌≤◌, Bool, true, false, cond, ◌&&◌, ◌||◌, ◌==◌, nat_le, nat_lt, List, [], ◌∷◌, ◌++◌, map, length, get_or, Option, Some, None, Ok, refl, sym, ap, ap₂, ◌∙◌, subst, append_assoc, arith, inl, inr, ◌⊎◌, lit≤}
+use Rattle.std.proofs.Common.{◌≡◌, ℕ, zero, suc, ◌+◌, ◌-◌, ◌<◌, ◌≤◌, Bool, true, false, cond, ◌&&◌, ◌||◌, ◌==◌, nat_le, nat_lt, List, [], ◌∷◌, ◌++◌, map, length, Option, Some, None, Ok, refl, sym, ap, ap₂, ◌∙◌, subst, append_assoc, append-nil, arith, inl, inr, ◌⊎◌, lit≤, lit<}
 use Rattle.std.specs.Prelude.{Contains, All}
 use Rattle.std.specs.Char.{IsScalar}
 use Rattle.std.specs.List.{flat_map, AllByRecursion}
@@ -8,10 +8,9 @@ use Rattle.std.specs.FinMap as finite_map
 use Rattle.std.specs.FinSet as finite_set
 use Rattle.std.proofs.lemmas.Bool.{and_parts, eqb-true, leb-true, ltb-true, leb-false, cases_eq}
 use Rattle.std.proofs.lemmas.List.Elements.{All-nil, All-cons, Contains-append_left, Contains-append_right}
-use Rattle.rga_ops.specs.Identifier.{Identifier, identifier, is_id}
+use Rattle.rga_ops.specs.Identifier.{Identifier, identifier}
 use Rattle.rga_ops.specs.Content.{Element, element, Content, content_of, Holds, IsSound, IsAgreed, HasSameOperations}
 use Rattle.rga_ops.specs.Operations.{insertion_of, insertions, rising, deletions, operations}
-use Rattle.rga_ops.proofs.IdentifierLaws.{is_id-is}
 use Rattle.rga_ops.specs.declared.id.TheConstants.Id.{MAX_COUNTER}
 use Rattle.rga_ops.specs.declared.op.Op.{Op}
 use Rattle.rga_ops.specs.declared.op.Op.TheVariants.{Insert, Delete}
@@ -21,57 +20,109 @@ use Rattle.rga_ops.proofs.OperationsLaws.{content_of-operations, operations_agre
 use Rattle.rga_lines.specs.LineConstants.{MAX_LINE}
 use Rattle.rga_lines.specs.RunConstants.{MAX_RUN}
 use Rattle.rga_lines.specs.DeletionRun.{DeletionRun}
-use Rattle.rga_lines.specs.Runs.{Stretch, stretch, next, run_operations, stretch_operations, deletion_run, deletions_from, run_deletions, IsDeletionRun}
+use Rattle.rga_lines.specs.Runs.{Stretch, stretch, next, run_operations, stretch_operations, deletions_from, run_deletions, IsDeletionRun}
 use Rattle.rga_lines.specs.Spelling.{line, deletion_run_line, IsElement, IsWritableRun}
 use Rattle.rga_lines.specs.Stream.{lines_of, rest_of, HasNoNewline}
 use Rattle.rga_lines.specs.Log.{operations_of, operations_at, then_operations, IsOperation}
 use Rattle.rga_lines.proofs.NewlineLemmas.{line_has_none, run_has_none, deletions_have_none}
-use Rattle.rga_lines.proofs.DeletionLemmas.{one_more, above_root, deletions_checked}
+use Rattle.rga_lines.proofs.DeletionLemmas.{above_root, deletions_checked}
 use Rattle.rga_lines.proofs.ReadBack.{within}
 use Rattle.rga_lines.proofs.StandLemmas.{line_stands, run_stands, deletions_stand}
 use Rattle.rga_exchange.specs.RunLines.{shortest_line, stretch_line}
 use Rattle.rga_exchange.specs.Sending.{AreWritable, StandsFor}
 use Rattle.rga_exchange.proofs.AppendedLaws.{cut_again, operations_ended}
-use Rattle.rga_compaction.specs.Compacting.{next_character, going_on, run_of, is_in_run, is_in_some, runs_behind, runs_of, behind_run, goes_on_with, one_longer, deletion_runs_behind, deletion_runs, compact_operations, deletion_line, deletion_lines, compact_lines, compact_text}
-use Rattle.rga_compaction.proofs.GoingOnLemmas.{next_is, length-going_on}
+use Rattle.rga_compaction.specs.Compacting.{next_character, going_on, run_of, is_among, is_in_some, beginnings, run_size, run_beginnings, is_next_deleted, deletions_behind, most_deletions, deletion_run_of, deletion_size, deletion_beginnings, deletion_line, compact_lines, compact_text}
+use Rattle.rga_compaction.proofs.GoingOnLemmas.{next_is, length-going_on, next_deleted_is, few_deleted, deleted_within}
 
--- a run of one deletion
-one_deletion : (id : Identifier) → IsElement id → IsDeletionRun (deletion_run id 1)
-one_deletion id element = record { element = element; some = omega arith; few = lit≤ tt; end = omega (arith, (within id element).counter) }
+-- ---- those that begin a run, and what is in the runs
 
--- what goes on with a run is of the identifier behind it, and the run has room
-record GoesOn (r : DeletionRun) (id : Identifier) : Type 0 where
-  is : id ≡ behind_run r
-  room : r.count < MAX_RUN
+-- what holds of all holds of those that begin a run
+pub begin_all : {A : Type 0} (name : A → Identifier) (size : A → ℕ) (P : A → Type 0) (begun xs : List A) → AllByRecursion P xs → AllByRecursion P (beginnings name size begun xs)
+begin_all name size P begun [] h = tt
+begin_all name size P begun (x ∷ xs) h = by_choice (is_in_some name size begun (name x)) (begin_all name size P begun xs h.1) (begin_all name size P (x ∷ begun) xs h.1)
+  where
+    by_choice : (b : Bool) → AllByRecursion P (beginnings name size begun xs) → AllByRecursion P (beginnings name size (x ∷ begun) xs) → AllByRecursion P (cond b (beginnings name size begun xs) (x ∷ beginnings name size (x ∷ begun) xs))
+    by_choice true with_it without = with_it
+    by_choice false with_it without = (h.0, without)
 
-does_go_on : (r : DeletionRun) (id : Identifier) → goes_on_with r id ≡ true → GoesOn r id
-does_go_on r id h =
-    let p = and_parts (nat_lt r.count MAX_RUN) (is_id id (behind_run r)) h in
-    record { is = is_id-is id (behind_run r) p.1; room = ltb-true r.count MAX_RUN p.0 }
+-- what an identifier is that is one of so many
+pub record IsAmong (first : Identifier) (count : ℕ) (id : Identifier) : Type 0 where
+  pub replica : id.replica ≡ first.replica
+  pub from : first.counter ≤ id.counter
+  pub to : id.counter < first.counter + count
 
-longer_run : (r : DeletionRun) (id : Identifier) → IsDeletionRun r → IsElement id → GoesOn r id → IsDeletionRun (one_longer r)
-longer_run r id h element g =
-    let counter : id.counter ≡ r.id.counter + r.count = ap (λ (i : Identifier). i.counter) g.is in
-    record {
-      element = h.element;
-      some = omega arith;
-      few = omega (arith, g.room);
-      end = omega (arith, counter, (within id element).counter);
-    }
+pub among : (first : Identifier) (count : ℕ) (id : Identifier) → is_among first count id ≡ true → IsAmong first count id
+among first count id h =
+    let p = and_parts (id.replica == first.replica) (nat_le first.counter id.counter && nat_lt id.counter (first.counter + count)) h in
+    let q = and_parts (nat_le first.counter id.counter) (nat_lt id.counter (first.counter + count)) p.1 in
+    record { replica = eqb-true id.replica first.replica p.0; from = leb-true first.counter id.counter q.0; to = ltb-true id.counter (first.counter + count) q.1 }
 
-longer_deletions : (r : DeletionRun) (id : Identifier) (ops : List Op) → GoesOn r id → run_deletions (one_longer r) ++ ops ≡ run_deletions r ++ Delete id ∷ ops
-longer_deletions r id ops g =
-    let count : r.count + 1 ≡ suc r.count = omega arith in
-    ap (λ n. deletions_from r.id n ++ ops) count
-    ∙ ap (λ (os : List Op). os ++ ops) (one_more r.id r.count)
-    ∙ append_assoc (run_deletions r) (Delete (behind_run r) ∷ []) ops
-    ∙ ap (λ (i : Identifier). run_deletions r ++ Delete i ∷ ops) (sym g.is)
+-- Each says an operation of its own. The run that begins with one has its operation, and those of all that are among the
+-- run's.
+module _ {A : Type 0} (name : A → Identifier) (size : A → ℕ) (own : A → Op) (says : A → List Op) (P : A → Type 0) (first : (x : A) → Contains (says x) (own x))
+    (others : (x y : A) → P x → P y → IsAmong (name x) (size x) (name y) → Contains (says x) (own y)) where
+  in_some : (begun : List A) (y : A) → AllByRecursion P begun → P y → is_in_some name size begun (name y) ≡ true → Contains (flat_map says begun) (own y)
+  in_some [] y held h is = absurd cc
+  in_some (x ∷ begun) y held h is = by_run (is_among (name x) (size x) (name y)) refl is (λ inside. in_some begun y held.1 h inside)
+    where
+      by_run : (b : Bool) → is_among (name x) (size x) (name y) ≡ b → (b || is_in_some name size begun (name y)) ≡ true → (is_in_some name size begun (name y) ≡ true → Contains (flat_map says begun) (own y)) → Contains (flat_map says (x ∷ begun)) (own y)
+      by_run true inside is later = Contains-append_left (says x) (flat_map says begun) (own y) (others x y held.0 h (among (name x) (size x) (name y) inside))
+      by_run false inside is later = Contains-append_right (says x) (flat_map says begun) (own y) (later is)
 
-abbrev all_of : List Stretch → List Op
-all_of rs = flat_map stretch_operations rs
+  all_in : (begun xs : List A) → AllByRecursion P begun → AllByRecursion P xs → (op : Op) → Contains (map own xs) op → Contains (flat_map says begun ++ flat_map says (beginnings name size begun xs)) op
+  all_in begun [] held h op m = absurd (Contains-nil op m)
+  all_in begun (x ∷ xs) held h op m =
+      by_choice (is_in_some name size begun (name x)) refl (Contains-cases (own x) op (map own xs) m) (λ n. all_in begun xs held h.1 op n) (λ n. all_in (x ∷ begun) xs (h.0, held) h.1 op n)
+    where
+      before : List Op
+      before = flat_map says begun
+
+      later : List Op
+      later = flat_map says (beginnings name size (x ∷ begun) xs)
+
+      moved : Contains ((says x ++ before) ++ later) op → Contains (before ++ (says x ++ later)) op
+      moved n = elim (Contains-append (says x ++ before) later op n) [
+        | inl front ↦ elim (Contains-append (says x) before op front) [
+          | inl here ↦ Contains-append_right before (says x ++ later) op (Contains-append_left (says x) later op here)
+          | inr there ↦ Contains-append_left before (says x ++ later) op there
+        ]
+        | inr behind ↦ Contains-append_right before (says x ++ later) op (Contains-append_right (says x) later op behind)
+      ]
+
+      by_choice : (b : Bool) → is_in_some name size begun (name x) ≡ b → (own x ≡ op) ⊎ Contains (map own xs) op → (Contains (map own xs) op → Contains (before ++ flat_map says (beginnings name size begun xs)) op) → (Contains (map own xs) op → Contains ((says x ++ before) ++ later) op)
+          → Contains (before ++ flat_map says (cond b (beginnings name size begun xs) (x ∷ beginnings name size (x ∷ begun) xs))) op
+      by_choice true is (inl same) with_it without = Contains-append_left before (flat_map says (beginnings name size begun xs)) op (subst (Contains before) same (in_some begun x held h.0 is))
+      by_choice true is (inr n) with_it without = with_it n
+      by_choice false is (inl same) with_it without =
+          Contains-append_right before (says x ++ later) op (Contains-append_left (says x) later op (subst (Contains (says x)) same (first x)))
+      by_choice false is (inr n) with_it without = moved (without n)
+
+-- those of deletions from one on
+in_deletions : (first : Identifier) (count : ℕ) (id : Identifier) → IsAmong first count id → Contains (deletions_from first count) (Delete id)
+in_deletions first zero id h = absurd (omega (arith, h.from, h.to))
+in_deletions first (suc count) id h = elim (cases_eq id.counter first.counter) [
+  | inl same ↦
+      let is : first ≡ id = ap₂ identifier (sym same) (sym h.replica) in
+      subst (λ (i : Identifier). Contains (deletions_from first (suc count)) (Delete i)) is (Contains-first (Delete first) (deletions_from (next first) count))
+  | inr other ↦
+      Contains-later (Delete first) (Delete id) (deletions_from (next first) count)
+      (in_deletions (next first) count id (record { replica = h.replica; from = omega (arith, h.from, other); to = omega (arith, h.to) }))
+]
+
+pub most_some : (dels : Bool) → 0 < most_deletions dels
+most_some true = lit< tt
+most_some false = lit< tt
+
+pub most_few : (dels : Bool) → most_deletions dels ≤ MAX_RUN
+most_few true = lit≤ tt
+most_few false = lit≤ tt
+
+-- the operations of a content, by runs
+abbrev compact_operations : Content → ℕ → List Op
+compact_operations c most = flat_map (λ (e : Identifier × Element). stretch_operations (run_of c e)) (run_beginnings c) ++ flat_map (λ (id : Identifier). run_deletions (deletion_run_of c most id)) (deletion_beginnings c most)
 
 module _ (c : Content) where
-  -- ---- the runs have insertions of the content alone
+  -- ---- the runs have operations of the content alone
 
   abbrev AreHeld : List Op → Type 0
   AreHeld ops = AllByRecursion (Holds c) ops
@@ -85,99 +136,85 @@ module _ (c : Content) where
       by_next None is later = tt
       by_next (Some ch) is later = ((next_is c last ch is).held, later)
 
+  deletions_held : (last : Identifier) (room : ℕ) → AreHeld (deletions_from (next last) (deletions_behind c last room))
+  unfolding deletions_behind
+  deletions_held last zero = tt
+  deletions_held last (suc room) = by_next (is_next_deleted c last) refl (deletions_held (next last) room)
+    where
+      by_next : (b : Bool) → is_next_deleted c last ≡ b → AreHeld (deletions_from (next (next last)) (deletions_behind c (next last) room)) → AreHeld (deletions_from (next last) (cond b (suc (deletions_behind c (next last) room)) 0))
+      by_next true is later = ((next_deleted_is c last is).held, later)
+      by_next false is later = tt
+
   record IsHeldRun (r : Stretch) : Type 0 where
     ops : AreHeld (stretch_operations r)
     some : 0 < length r.chars
     few : length r.chars ≤ MAX_RUN
 
-  abbrev AreHeldRuns : List Stretch → Type 0
-  AreHeldRuns rs = AllByRecursion IsHeldRun rs
+  abbrev IsEntry : Identifier × Element → Type 0
+  IsEntry e = Holds c (insertion_of e)
 
-  abbrev AreEntries : List (Identifier × Element) → Type 0
-  AreEntries es = AllByRecursion (λ e. Holds c (insertion_of e)) es
+  abbrev IsDeleted : Identifier → Type 0
+  IsDeleted id = Holds c (Delete id)
 
-  run_held : (e : Identifier × Element) → Holds c (insertion_of e) → IsHeldRun (run_of c e)
+  run_held : (e : Identifier × Element) → IsEntry e → IsHeldRun (run_of c e)
   run_held e h =
       let few = length-going_on c e.0 (MAX_RUN - 1) in
       record { ops = (h, going_held e.0 (MAX_RUN - 1)); some = omega arith; few = omega (arith, few) }
 
-  runs_held : (runs : List Stretch) (es : List (Identifier × Element)) → AreEntries es → AreHeldRuns (runs_behind c runs es)
-  runs_held runs [] h = tt
-  runs_held runs (e ∷ es) h = by_choice (is_in_some runs e.0) (runs_held runs es h.1) (runs_held (run_of c e ∷ runs) es h.1)
-    where
-      by_choice : (b : Bool) → AreHeldRuns (runs_behind c runs es) → AreHeldRuns (runs_behind c (run_of c e ∷ runs) es) → AreHeldRuns (cond b (runs_behind c runs es) (run_of c e ∷ runs_behind c (run_of c e ∷ runs) es))
-      by_choice true with_it without = with_it
-      by_choice false with_it without = (run_held e h.0, without)
+  deletion_run_held : (most : ℕ) (id : Identifier) → IsDeleted id → AreHeld (run_deletions (deletion_run_of c most id))
+  deletion_run_held most id h = (h, deletions_held id (most - 1))
 
   -- ---- and all of them
 
-  in_run : (rid parent : Identifier) (chars : List ℕ) (id : Identifier) (x : Element) → AreHeld (run_operations rid parent chars) → id.replica ≡ rid.replica → rid.counter ≤ id.counter → id.counter < rid.counter + length chars → finite_map.get c.inserted id ≡ Some x
+  in_run : (rid parent : Identifier) (chars : List ℕ) (id : Identifier) (x : Element) → AreHeld (run_operations rid parent chars) → IsAmong rid (length chars) id → finite_map.get c.inserted id ≡ Some x
       → Contains (run_operations rid parent chars) (Insert id x.parent x.ch)
-  in_run rid parent [] id x held replica from to found = absurd (omega (arith, from, to))
-  in_run rid parent (ch ∷ chars) id x held replica from to found = elim (cases_eq id.counter rid.counter) [
+  in_run rid parent [] id x held h found = absurd (omega (arith, h.from, h.to))
+  in_run rid parent (ch ∷ chars) id x held h found = elim (cases_eq id.counter rid.counter) [
     | inl same ↦
-        let is : id ≡ rid = ap₂ identifier same replica in
+        let is : id ≡ rid = ap₂ identifier same h.replica in
         let both : Some x ≡ Some (element parent ch) = sym found ∙ ap (finite_map.get c.inserted) is ∙ held.0 in
         let one : x ≡ element parent ch = cc in
         subst (Contains (run_operations rid parent (ch ∷ chars))) (λ k. Insert (sym is k) (sym one k).parent (sym one k).ch) (Contains-first (Insert rid parent ch) (run_operations (next rid) rid chars))
     | inr other ↦
         Contains-later (Insert rid parent ch) (Insert id x.parent x.ch) (run_operations (next rid) rid chars)
-        (in_run (next rid) rid chars id x held.1 replica (omega (arith, from, other)) (omega (arith, to)) found)
+        (in_run (next rid) rid chars id x held.1 (record { replica = h.replica; from = omega (arith, h.from, other); to = omega (arith, h.to) }) found)
   ]
 
-  in_some : (runs : List Stretch) (e : Identifier × Element) → AreHeldRuns runs → Holds c (insertion_of e) → is_in_some runs e.0 ≡ true → Contains (all_of runs) (insertion_of e)
-  in_some [] e held h is = absurd cc
-  in_some (r ∷ runs) e held h is = by_run (is_in_run e.0 r) refl is (λ inside. in_some runs e held.1 h inside)
-    where
-      by_run : (b : Bool) → is_in_run e.0 r ≡ b → (b || is_in_some runs e.0) ≡ true → (is_in_some runs e.0 ≡ true → Contains (all_of runs) (insertion_of e)) → Contains (all_of (r ∷ runs)) (insertion_of e)
-      by_run true inside is others =
-          let p = and_parts (e.0.replica == r.id.replica) (nat_le r.id.counter e.0.counter && nat_lt e.0.counter (r.id.counter + length r.chars)) inside in
-          let q = and_parts (nat_le r.id.counter e.0.counter) (nat_lt e.0.counter (r.id.counter + length r.chars)) p.1 in
-          Contains-append_left (stretch_operations r) (all_of runs) (insertion_of e)
-          (in_run r.id r.parent r.chars e.0 e.1 held.0.ops (eqb-true e.0.replica r.id.replica p.0) (leb-true r.id.counter e.0.counter q.0) (ltb-true e.0.counter (r.id.counter + length r.chars) q.1) h)
-      by_run false inside is others = Contains-append_right (stretch_operations r) (all_of runs) (insertion_of e) (others is)
-
-  all_in : (runs : List Stretch) (es : List (Identifier × Element)) → AreHeldRuns runs → AreEntries es → (op : Op) → Contains (map insertion_of es) op → Contains (all_of runs ++ all_of (runs_behind c runs es)) op
-  all_in runs [] held h op m = absurd (Contains-nil op m)
-  all_in runs (e ∷ es) held h op m =
-      by_choice (is_in_some runs e.0) refl (Contains-cases (insertion_of e) op (map insertion_of es) m) (λ n. all_in runs es held h.1 op n) (λ n. all_in (run_of c e ∷ runs) es (run_held e h.0, held) h.1 op n)
-    where
-      r : Stretch
-      r = run_of c e
-
-      later : List Op
-      later = all_of (runs_behind c (r ∷ runs) es)
-
-      moved : Contains ((stretch_operations r ++ all_of runs) ++ later) op → Contains (all_of runs ++ (stretch_operations r ++ later)) op
-      moved n = elim (Contains-append (stretch_operations r ++ all_of runs) later op n) [
-        | inl before ↦ elim (Contains-append (stretch_operations r) (all_of runs) op before) [
-          | inl here ↦ Contains-append_right (all_of runs) (stretch_operations r ++ later) op (Contains-append_left (stretch_operations r) later op here)
-          | inr there ↦ Contains-append_left (all_of runs) (stretch_operations r ++ later) op there
-        ]
-        | inr behind ↦ Contains-append_right (all_of runs) (stretch_operations r ++ later) op (Contains-append_right (stretch_operations r) later op behind)
-      ]
-
-      by_choice : (b : Bool) → is_in_some runs e.0 ≡ b → (insertion_of e ≡ op) ⊎ Contains (map insertion_of es) op → (Contains (map insertion_of es) op → Contains (all_of runs ++ all_of (runs_behind c runs es)) op) → (Contains (map insertion_of es) op → Contains ((stretch_operations r ++ all_of runs) ++ later) op) → Contains (all_of runs ++ all_of (cond b (runs_behind c runs es) (r ∷ runs_behind c (r ∷ runs) es))) op
-      by_choice true is (inl same) with_it without = Contains-append_left (all_of runs) (all_of (runs_behind c runs es)) op (subst (Contains (all_of runs)) same (in_some runs e held h.0 is))
-      by_choice true is (inr n) with_it without = with_it n
-      by_choice false is (inl same) with_it without =
-          Contains-append_right (all_of runs) (stretch_operations r ++ later) op
-          (Contains-append_left (stretch_operations r) later op (subst (Contains (stretch_operations r)) same (Contains-first (insertion_of e) (run_operations (next e.0) e.0 (going_on c e.0 (MAX_RUN - 1))))))
-      by_choice false is (inr n) with_it without = moved (without n)
-
-  entries_held : (es : List (Identifier × Element)) → ((op : Op) → Contains (map insertion_of es) op → Holds c op) → AreEntries es
+  entries_held : (es : List (Identifier × Element)) → ((op : Op) → Contains (map insertion_of es) op → Holds c op) → AllByRecursion IsEntry es
   entries_held [] h = tt
   entries_held (e ∷ es) h = (h (insertion_of e) (Contains-first (insertion_of e) (map insertion_of es)), entries_held es (λ op m. h op (Contains-later (insertion_of e) op (map insertion_of es) m)))
 
-  all_entries : AreEntries (finite_map.entries c.inserted)
+  ids_held : (ids : List Identifier) → ((op : Op) → Contains (map Delete ids) op → Holds c op) → AllByRecursion IsDeleted ids
+  ids_held [] h = tt
+  ids_held (id ∷ ids) h = (h (Delete id) (Contains-first (Delete id) (map Delete ids)), ids_held ids (λ op m. h op (Contains-later (Delete id) op (map Delete ids) m)))
+
+  pub all_entries : AllByRecursion IsEntry (finite_map.entries c.inserted)
   all_entries = entries_held (finite_map.entries c.inserted) (λ op m. operations_hold c op (Contains-append_left (insertions c) (deletions c) op m))
 
-  all_runs : AreHeldRuns (runs_of c)
-  all_runs = runs_held [] (finite_map.entries c.inserted) all_entries
+  pub all_deleted : AllByRecursion IsDeleted (rising (finite_set.items c.deleted))
+  all_deleted = ids_held (rising (finite_set.items c.deleted)) (λ op m. operations_hold c op (Contains-append_right (insertions c) (deletions c) op m))
+
+  pub all_run_beginnings : AllByRecursion IsEntry (run_beginnings c)
+  all_run_beginnings = begin_all (λ (e : Identifier × Element). e.0) (run_size c) IsEntry [] (finite_map.entries c.inserted) all_entries
+
+  pub all_deletion_beginnings : (most : ℕ) → AllByRecursion IsDeleted (deletion_beginnings c most)
+  all_deletion_beginnings most = begin_all (λ (id : Identifier). id) (deletion_size c most) IsDeleted [] (rising (finite_set.items c.deleted)) all_deleted
+
+  all_inserted : (op : Op) → Contains (insertions c) op → Contains (flat_map (λ (e : Identifier × Element). stretch_operations (run_of c e)) (run_beginnings c)) op
+  all_inserted = all_in (λ (e : Identifier × Element). e.0) (run_size c) insertion_of (λ (e : Identifier × Element). stretch_operations (run_of c e)) IsEntry
+      (λ e. Contains-first (insertion_of e) (run_operations (next e.0) e.0 (going_on c e.0 (MAX_RUN - 1))))
+      (λ e f p q h. in_run e.0 e.1.parent (run_of c e).chars f.0 f.1 (run_held e p).ops h q)
+      [] (finite_map.entries c.inserted) tt all_entries
+
+  all_gone : (most : ℕ) (op : Op) → Contains (deletions c) op → Contains (flat_map (λ (id : Identifier). run_deletions (deletion_run_of c most id)) (deletion_beginnings c most)) op
+  all_gone most = all_in (λ (id : Identifier). id) (deletion_size c most) Delete (λ (id : Identifier). run_deletions (deletion_run_of c most id)) IsDeleted
+      (λ id. Contains-first (Delete id) (deletions_from (next id) (deletions_behind c id (most - 1))))
+      (λ id other p q h. in_deletions id (deletion_size c most id) other h)
+      [] (rising (finite_set.items c.deleted)) tt all_deleted
 
   -- ---- the same operations
 
-  held_is_had : (op : Op) → Holds c op → Contains (operations c) op
+  pub held_is_had : (op : Op) → Holds c op → Contains (operations c) op
   held_is_had (Insert id parent ch) h = content_inserted (operations c) id (element parent ch) (ap (λ (d : Content). finite_map.get d.inserted id) (content_of-operations c) ∙ h)
   held_is_had (Delete id) h = content_deleted (operations c) id (ap (λ (d : Content). finite_set.contains d.deleted id) (content_of-operations c) ∙ h)
 
@@ -185,30 +222,36 @@ module _ (c : Content) where
   held_of_list [] op held m = absurd (Contains-nil op m)
   held_of_list (o ∷ ops) op held m = elim (Contains-cases o op ops m) [ inl same ↦ subst (Holds c) same held.0 | inr later ↦ held_of_list ops op held.1 later ]
 
-  held_of_runs : (rs : List Stretch) (op : Op) → AreHeldRuns rs → Contains (all_of rs) op → Holds c op
-  held_of_runs [] op held m = absurd (Contains-nil op m)
-  held_of_runs (r ∷ rs) op held m = elim (Contains-append (stretch_operations r) (all_of rs) op m) [
-    | inl here ↦ held_of_list (stretch_operations r) op held.0.ops here
-    | inr there ↦ held_of_runs rs op held.1 there
+  held_of_runs : {A : Type 0} (says : A → List Op) (P : A → Type 0) → ((x : A) → P x → AreHeld (says x)) → (xs : List A) (op : Op) → AllByRecursion P xs → Contains (flat_map says xs) op → Holds c op
+  held_of_runs says P held [] op h m = absurd (Contains-nil op m)
+  held_of_runs says P held (x ∷ xs) op h m = elim (Contains-append (says x) (flat_map says xs) op m) [
+    | inl here ↦ held_of_list (says x) op (held x h.0) here
+    | inr there ↦ held_of_runs says P held xs op h.1 there
   ]
 
-  pub compact_has : HasSameOperations (compact_operations c) (operations c)
-  compact_has op = (
-    λ m. elim (Contains-append (all_of (runs_of c)) (deletions c) op m) [
-      | inl here ↦ held_is_had op (held_of_runs (runs_of c) op all_runs here)
-      | inr there ↦ Contains-append_right (insertions c) (deletions c) op there
+  abbrev insertion_runs : List Op
+  insertion_runs = flat_map (λ (e : Identifier × Element). stretch_operations (run_of c e)) (run_beginnings c)
+
+  abbrev deletion_part : ℕ → List Op
+  deletion_part most = flat_map (λ (id : Identifier). run_deletions (deletion_run_of c most id)) (deletion_beginnings c most)
+
+  compact_has : (most : ℕ) → HasSameOperations (compact_operations c most) (operations c)
+  compact_has most op = (
+    λ m. elim (Contains-append insertion_runs (deletion_part most) op m) [
+      | inl here ↦ held_is_had op (held_of_runs (λ (e : Identifier × Element). stretch_operations (run_of c e)) IsEntry (λ e h. (run_held e h).ops) (run_beginnings c) op all_run_beginnings here)
+      | inr there ↦ held_is_had op (held_of_runs (λ (id : Identifier). run_deletions (deletion_run_of c most id)) IsDeleted (deletion_run_held most) (deletion_beginnings c most) op (all_deletion_beginnings most) there)
     ],
     λ m. elim (Contains-append (insertions c) (deletions c) op m) [
-      | inl here ↦ Contains-append_left (all_of (runs_of c)) (deletions c) op (all_in [] (finite_map.entries c.inserted) tt all_entries op here)
-      | inr there ↦ Contains-append_right (all_of (runs_of c)) (deletions c) op there
+      | inl here ↦ Contains-append_left insertion_runs (deletion_part most) op (all_inserted op here)
+      | inr there ↦ Contains-append_right insertion_runs (deletion_part most) op (all_gone most op there)
     ],
   )
 
-  pub compact_agree : IsAgreed (compact_operations c)
-  compact_agree id parent other ch char m n = operations_agree c id parent other ch char ((compact_has (Insert id parent ch)).0 m) ((compact_has (Insert id other char)).0 n)
+  compact_agree : (most : ℕ) → IsAgreed (compact_operations c most)
+  compact_agree most id parent other ch char m n = operations_agree c id parent other ch char ((compact_has most (Insert id parent ch)).0 m) ((compact_has most (Insert id other char)).0 n)
 
-  pub compact_content : content_of (compact_operations c) ≡ c
-  compact_content = same_operations_same_content (compact_operations c) (operations c) compact_agree compact_has ∙ content_of-operations c
+  compact_content : (most : ℕ) → content_of (compact_operations c most) ≡ c
+  compact_content most = same_operations_same_content (compact_operations c most) (operations c) (compact_agree most) (compact_has most) ∙ content_of-operations c
 
   -- ---- the lines
 
@@ -247,89 +290,57 @@ module _ (c : Content) where
       all : AllByRecursion IsOperation lines
       none : All HasNoNewline lines
 
-    each_stands : (ops : List Op) → AreHeld ops → Stand (map line ops) ops
-    each_stands [] h = record { operations = refl; all = tt; none = All-nil HasNoNewline }
-    each_stands (op ∷ ops) h =
-        let can = writable op (held_is_had op h.0) in
-        let w = each_stands ops h.1 in
-        let says = line_stands op can (sound op h.0) in
+    -- a line that is read as these operations
+    abbrev Says : List ℕ → List Op → Type 0
+    Says l ops = (operations_at l ≡ Ok ops) × HasNoNewline l
+
+    lines_stand : {A R : Type 0} (make : A → R) (spell : R → List ℕ) (says : A → List Op) (P : A → Type 0) → ((x : A) → P x → Says (spell (make x)) (says x)) → (xs : List A) (more : List (List ℕ)) (ops : List Op) → AllByRecursion P xs → Stand more ops
+        → Stand (map spell (map make xs) ++ more) (flat_map says xs ++ ops)
+    lines_stand make spell says P each [] more ops h stand = stand
+    lines_stand make spell says P each (x ∷ xs) more ops h stand =
+        let first = each x h.0 in
+        let w = lines_stand make spell says P each xs more ops h.1 stand in
+        let others : List (List ℕ) = map spell (map make xs) ++ more in
         record {
-          operations = ap (λ r. then_operations r (operations_of (map line ops))) says ∙ ap (λ (os : List Op). op ∷ os) w.operations;
-          all = ((op ∷ [], says), w.all);
-          none = All-cons HasNoNewline (line op) (map line ops) (line_has_none op can) w.none;
+          operations = ap (λ o. then_operations o (operations_of others)) first.0
+              ∙ ap (λ (os : List Op). says x ++ os) w.operations
+              ∙ sym (append_assoc (says x) (flat_map says xs) ops);
+          all = ((says x, first.0), w.all);
+          none = All-cons HasNoNewline (spell (make x)) others first.1 w.none;
         }
 
-    deletion_stands : (r : DeletionRun) → IsDeletionRun r → (operations_at (deletion_line r) ≡ Ok (run_deletions r)) × HasNoNewline (deletion_line r)
+    -- the run of a deletion is one
+    deletions_are_run : (most : ℕ) (id : Identifier) → 0 < most → most ≤ MAX_RUN → IsDeleted id → IsDeletionRun (deletion_run_of c most id)
+    deletions_are_run most id some few h =
+        let element : IsElement id = writable (Delete id) (held_is_had (Delete id) h) in
+        let end = deleted_within c id (most - 1) (within id element).counter in
+        record {
+          element = element;
+          some = omega arith;
+          few = omega (arith, few_deleted c id (most - 1), some, few);
+          end = omega (arith, end);
+        }
+
+    deletion_stands : (r : DeletionRun) → IsDeletionRun r → Says (deletion_line r) (run_deletions r)
     deletion_stands r h = by_count (r.count == 1) refl
       where
-        by_count : (b : Bool) → (r.count == 1) ≡ b → (operations_at (cond b (line (Delete r.id)) (deletion_run_line r)) ≡ Ok (run_deletions r)) × HasNoNewline (cond b (line (Delete r.id)) (deletion_run_line r))
+        by_count : (b : Bool) → (r.count == 1) ≡ b → Says (cond b (line (Delete r.id)) (deletion_run_line r)) (run_deletions r)
         by_count true is =
             let one : 1 ≡ r.count = sym (eqb-true r.count 1 is) in
             (line_stands (Delete r.id) h.element (deletions_checked r.id 1 (above_root r.id h.element)).0 ∙ ap (λ n. Ok (deletions_from r.id n)) one, line_has_none (Delete r.id) h.element)
         by_count false is = (deletions_stand r h, deletions_have_none r h)
 
-    deletions_behind_stand : (r : DeletionRun) (ids : List Identifier) → IsDeletionRun r → AreHeld (map Delete ids) → Stand (map deletion_line (deletion_runs_behind r ids)) (run_deletions r ++ map Delete ids)
-    deletions_behind_stand r [] h held =
-        let first = deletion_stands r h in
-        record {
-          operations = ap (λ o. then_operations o []) first.0;
-          all = ((run_deletions r, first.0), tt);
-          none = All-cons HasNoNewline (deletion_line r) [] first.1 (All-nil HasNoNewline);
-        }
-    deletions_behind_stand r (id ∷ ids) h held =
-        let element : IsElement id = writable (Delete id) (held_is_had (Delete id) held.0) in
-        by_choice (goes_on_with r id) refl
-        (λ g. deletions_behind_stand (one_longer r) ids (longer_run r id h element g) held.1)
-        (deletions_behind_stand (deletion_run id 1) ids (one_deletion id element) held.1)
-      where
-        others : List (List ℕ)
-        others = map deletion_line (deletion_runs_behind (deletion_run id 1) ids)
-
-        by_choice : (b : Bool) → goes_on_with r id ≡ b
-            → (GoesOn r id → Stand (map deletion_line (deletion_runs_behind (one_longer r) ids)) (run_deletions (one_longer r) ++ map Delete ids))
-            → Stand others (Delete id ∷ map Delete ids)
-            → Stand (map deletion_line (cond b (deletion_runs_behind (one_longer r) ids) (r ∷ deletion_runs_behind (deletion_run id 1) ids))) (run_deletions r ++ Delete id ∷ map Delete ids)
-        by_choice true is with_it without =
-            let g = does_go_on r id is in
-            subst (Stand (map deletion_line (deletion_runs_behind (one_longer r) ids))) (longer_deletions r id (map Delete ids) g) (with_it g)
-        by_choice false is with_it without =
-            let first = deletion_stands r h in
-            record {
-              operations = ap (λ o. then_operations o (operations_of others)) first.0 ∙ ap (λ (os : List Op). run_deletions r ++ os) without.operations;
-              all = ((run_deletions r, first.0), without.all);
-              none = All-cons HasNoNewline (deletion_line r) others first.1 without.none;
-            }
-
-    runs_stand : (ids : List Identifier) → AreHeld (map Delete ids) → Stand (map deletion_line (deletion_runs ids)) (map Delete ids)
-    runs_stand [] held = record { operations = refl; all = tt; none = All-nil HasNoNewline }
-    runs_stand (id ∷ ids) held = deletions_behind_stand (deletion_run id 1) ids (one_deletion id (writable (Delete id) (held_is_had (Delete id) held.0))) held.1
-
-    deletion_lines_stand : (dels : Bool) (ids : List Identifier) → AreHeld (map Delete ids) → Stand (deletion_lines dels ids) (map Delete ids)
-    deletion_lines_stand true ids held = runs_stand ids held
-    deletion_lines_stand false ids held = each_stands (map Delete ids) held
-
-    lines_stand : (rs : List Stretch) (more : List (List ℕ)) (ops : List Op) → AreHeldRuns rs → Stand more ops → Stand (map stretch_line rs ++ more) (all_of rs ++ ops)
-    lines_stand [] more ops held h = h
-    lines_stand (r ∷ rs) more ops held h =
-        let first = run_line_stands r.id r.parent r.chars held.0 in
-        let w = lines_stand rs more ops held.1 h in
-        let others : List (List ℕ) = map stretch_line rs ++ more in
-        record {
-          operations = ap (λ o. then_operations o (operations_of others)) first.0
-              ∙ ap (λ (os : List Op). stretch_operations r ++ os) w.operations
-              ∙ sym (append_assoc (stretch_operations r) (all_of rs) ops);
-          all = ((stretch_operations r, first.0), w.all);
-          none = All-cons HasNoNewline (stretch_line r) others first.1 w.none;
-        }
-
-    list_held : (ops : List Op) → ((op : Op) → Contains ops op → Holds c op) → AreHeld ops
-    list_held [] h = tt
-    list_held (op ∷ ops) h = (h op (Contains-first op ops), list_held ops (λ o m. h o (Contains-later op o ops m)))
-
-    all_stand : (dels : Bool) → Stand (compact_lines dels c) (compact_operations c)
+    all_stand : (dels : Bool) → Stand (compact_lines dels c) (compact_operations c (most_deletions dels))
     all_stand dels =
-        let ids = rising (finite_set.items c.deleted) in
-        lines_stand (runs_of c) (deletion_lines dels ids) (deletions c) all_runs (deletion_lines_stand dels ids (list_held (deletions c) (λ op m. operations_hold c op (Contains-append_right (insertions c) (deletions c) op m))))
+        let most = most_deletions dels in
+        let spelled : List (List ℕ) = map deletion_line (map (deletion_run_of c most) (deletion_beginnings c most)) in
+        let ends : Stand (spelled ++ []) (deletion_part most ++ []) = lines_stand (deletion_run_of c most) deletion_line (λ (id : Identifier). run_deletions (deletion_run_of c most id)) IsDeleted
+        (λ id h. deletion_stands (deletion_run_of c most id) (deletions_are_run most id (most_some dels) (most_few dels) h))
+        (deletion_beginnings c most) [] [] (all_deletion_beginnings most) (record { operations = refl; all = tt; none = All-nil HasNoNewline }) in
+        lines_stand (run_of c) stretch_line (λ (e : Identifier × Element). stretch_operations (run_of c e)) IsEntry
+        (λ e h. run_line_stands e.0 e.1.parent (run_of c e).chars (run_held e h))
+        (run_beginnings c) spelled (deletion_part most) all_run_beginnings
+        (subst (λ (ls : List (List ℕ)). Stand ls (deletion_part most)) (append-nil spelled) (subst (Stand (spelled ++ [])) (append-nil (deletion_part most)) ends))
 
     pub compact_cut : (dels : Bool) → (compact_lines dels c ≡ lines_of (compact_text dels c)) × ([] ≡ rest_of (compact_text dels c))
     compact_cut dels = cut_again (compact_lines dels c) (all_stand dels).none
@@ -344,17 +355,8 @@ module _ (c : Content) where
           record {
             lines = all;
             short = subst (λ (rest : List ℕ). length rest ≤ MAX_LINE) cut.1 (lit≤ tt);
-            agreed = subst IsAgreed (sym said) compact_agree;
-            content = sym (ap content_of said ∙ compact_content);
+            agreed = subst IsAgreed (sym said) (compact_agree (most_deletions dels));
+            content = sym (ap content_of said ∙ compact_content (most_deletions dels));
           },
           ended,
         )
-
--- the line of a run of one is that of its insertion, and that of a longer one the run's
-pub one_line : (r : Stretch) → length r.chars ≡ 1 → stretch_line r ≡ line (Insert r.id r.parent (get_or r.chars 0 0))
-one_line r = by_chars r.chars
-  where
-    by_chars : (chars : List ℕ) → length chars ≡ 1 → shortest_line r.id r.parent chars ≡ line (Insert r.id r.parent (get_or chars 0 0))
-    by_chars [] h = absurd (omega (arith, h))
-    by_chars (ch ∷ []) h = refl
-    by_chars (ch ∷ d ∷ chars) h = absurd (omega (arith, h))

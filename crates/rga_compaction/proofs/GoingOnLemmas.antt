@@ -1,8 +1,9 @@
--- The insertions that go on with a run.
+-- The insertions that go on with a run, and the deletions that do.
 use Rattle.std.proofs.Common.{◌≡◌, ℕ, zero, suc, ◌+◌, ◌-◌, ◌<◌, ◌≤◌, Bool, true, false, cond, ◌&&◌, nat_le, nat_lt, le-leb, lit<, append_assoc, append-nil, Ok, List, [], ◌∷◌, ◌++◌, length, Option, Some, None, refl, sym, ap, subst, ◌∙◌, arith}
 use Rattle.std.specs.Prelude.{option_and_then}
 use Rattle.std.specs.Option.{option_map, option_map_or}
 use Rattle.std.specs.FinMap as finite_map
+use Rattle.std.specs.FinSet as finite_set
 use Rattle.std.proofs.lemmas.Bool.{and_parts, ltb-true, leb-false}
 use Rattle.std.proofs.lemmas.List.{length_push}
 use Rattle.rga_ops.specs.Operation.{checked}
@@ -17,7 +18,7 @@ use Rattle.rga_lines.specs.Runs.{IsRun}
 use Rattle.rga_lines.specs.Spelling.{IsElement}
 use Rattle.rga_lines.specs.RunConstants.{MAX_RUN}
 use Rattle.rga_lines.proofs.ReadBack.{within as in_bounds}
-use Rattle.rga_compaction.specs.Compacting.{character_below, next_character, going_on, run_of}
+use Rattle.rga_compaction.specs.Compacting.{character_below, next_character, going_on, run_of, is_next_deleted, deletions_behind}
 
 -- the next identifier is an element's too
 next_within : (last : Identifier) → IsElement last → last.counter < MAX_COUNTER → IsElement (next last)
@@ -174,3 +175,95 @@ module _ (c : Content) where
         end = omega (arith, end);
         rising = leb-false id.counter parent.counter (well_formed_insertion id parent ch ok).1;
       }
+
+  -- ---- deletions
+
+  pub record IsNextDeleted (last : Identifier) : Type 0 where
+    pub held : finite_set.contains c.deleted (next last) ≡ true
+    pub below : last.counter < MAX_COUNTER
+
+  pub next_deleted_is : (last : Identifier) → is_next_deleted c last ≡ true → IsNextDeleted last
+  next_deleted_is last h =
+      let p = and_parts (nat_lt last.counter MAX_COUNTER) (finite_set.contains c.deleted (next last)) h in
+      record { held = p.1; below = ltb-true last.counter MAX_COUNTER p.0 }
+
+  -- what was found to be deleted next, or that nothing is
+  pub found_deleted : (last id : Identifier) → Some id ≡ cond (is_next_deleted c last) (Some (next last)) None → (is_next_deleted c last ≡ true) × (id ≡ next last)
+  found_deleted last id h = by_choice (is_next_deleted c last) h
+    where
+      by_choice : (b : Bool) → Some id ≡ cond b (Some (next last)) None → (b ≡ true) × (id ≡ next last)
+      by_choice true h =
+          let after : Identifier = next last in
+          let both : Some id ≡ Some after = h in
+          let same : id ≡ after = cc in
+          (refl, same)
+      by_choice false h = absurd cc
+
+  pub found_none_deleted : (last : Identifier) → None ≡ cond (is_next_deleted c last) (Some (next last)) None → is_next_deleted c last ≡ false
+  found_none_deleted last h = by_choice (is_next_deleted c last) h
+    where
+      by_choice : (b : Bool) → None ≡ cond b (Some (next last)) None → b ≡ false
+      by_choice true h = absurd cc
+      by_choice false h = refl
+
+  pub one_deleted : (last : Identifier) (room : ℕ) → is_next_deleted c last ≡ true → deletions_behind c last (suc room) ≡ suc (deletions_behind c (next last) room)
+  unfolding deletions_behind
+  one_deleted last room h = ap (λ b. cond b (suc (deletions_behind c (next last) room)) 0) h
+
+  pub none_deleted : (last : Identifier) (room : ℕ) → is_next_deleted c last ≡ false → deletions_behind c last room ≡ 0
+  unfolding deletions_behind
+  none_deleted last zero h = refl
+  none_deleted last (suc room) h = ap (λ b. cond b (suc (deletions_behind c (next last) room)) 0) h
+
+  pub no_room_deleted : (last : Identifier) → deletions_behind c last 0 ≡ 0
+  unfolding deletions_behind
+  no_room_deleted last = refl
+
+  pub few_deleted : (last : Identifier) (room : ℕ) → deletions_behind c last room ≤ room
+  few_deleted last zero = omega (arith, no_room_deleted last)
+  few_deleted last (suc room) = by_choice (is_next_deleted c last) refl (few_deleted (next last) room)
+    where
+      by_choice : (b : Bool) → is_next_deleted c last ≡ b → deletions_behind c (next last) room ≤ room → deletions_behind c last (suc room) ≤ suc room
+      by_choice true is later = omega (arith, one_deleted last room is, later)
+      by_choice false is later = omega (arith, none_deleted last (suc room) is)
+
+  -- none has a counter above the greatest
+  pub deleted_within : (last : Identifier) (room : ℕ) → last.counter ≤ MAX_COUNTER → last.counter + deletions_behind c last room ≤ MAX_COUNTER
+  deleted_within last zero within = omega (arith, no_room_deleted last, within)
+  deleted_within last (suc room) within = by_choice (is_next_deleted c last) refl (deleted_within (next last) room)
+    where
+      by_choice : (b : Bool) → is_next_deleted c last ≡ b → (last.counter + 1 ≤ MAX_COUNTER → last.counter + 1 + deletions_behind c (next last) room ≤ MAX_COUNTER) → last.counter + deletions_behind c last (suc room) ≤ MAX_COUNTER
+      by_choice true is later =
+          let below : last.counter < MAX_COUNTER = (next_deleted_is last is).below in
+          omega (arith, one_deleted last room is, later (omega (arith, below)))
+      by_choice false is later = omega (arith, none_deleted last (suc room) is, within)
+
+  -- So many deletions of the run that begins with one were found; this is the last one's identifier.
+  pub record IsCounted (most : ℕ) (id : Identifier) (count : ℕ) (last : Identifier) : Type 0 where
+    pub going : count + deletions_behind c last (most - count) ≡ suc (deletions_behind c id (most - 1))
+    pub room : count ≤ most
+    pub within : IsElement last
+
+  pub counted_first : (most : ℕ) (id : Identifier) → 0 < most → IsElement id → IsCounted most id 1 id
+  counted_first most id some within = record { going = omega arith; room = omega (arith, some); within = within }
+
+  pub counted_next : (most : ℕ) (id : Identifier) (count : ℕ) (last found : Identifier) → IsCounted most id count last → count < most → Some found ≡ cond (is_next_deleted c last) (Some (next last)) None → IsCounted most id (count + 1) found
+  counted_next most id count last found counted less is =
+      let p = found_deleted last found is in
+      let room : ℕ = most - (count + 1) in
+      let more : most - count ≡ suc room = omega (arith, less) in
+      let one : deletions_behind c last (most - count) ≡ suc (deletions_behind c (next last) room) = ap (deletions_behind c last) more ∙ one_deleted last room p.0 in
+      subst (λ (i : Identifier). IsCounted most id (count + 1) i) (sym p.1) (record {
+        going = omega (arith, one, counted.going);
+        room = omega (arith, less);
+        within = next_within last counted.within (next_deleted_is last p.0).below;
+      })
+
+  pub counted_whole : (most : ℕ) (id : Identifier) (count : ℕ) (last : Identifier) → IsCounted most id count last → is_next_deleted c last ≡ false → count ≡ suc (deletions_behind c id (most - 1))
+  counted_whole most id count last counted is = omega (arith, none_deleted last (most - count) is, counted.going)
+
+  pub counted_full : (most : ℕ) (id : Identifier) (count : ℕ) (last : Identifier) → IsCounted most id count last → most ≤ count → count ≡ suc (deletions_behind c id (most - 1))
+  counted_full most id count last counted full =
+      let none : most - count ≡ 0 = omega (arith, full) in
+      let is : deletions_behind c last (most - count) ≡ 0 = ap (deletions_behind c last) none ∙ no_room_deleted last in
+      omega (arith, is, counted.going)

@@ -1,18 +1,17 @@
 -- A content in as few lines as runs allow.
 use Rattle.std.specs.Prelude.{ℕ, zero, suc, ◌+◌, ◌-◌, ◌&&◌, ◌==◌, Bool, true, false, nat_le, nat_lt, if◌then◌else◌, List, [], ◌∷◌, ◌++◌, map, length, Option, Some, None, option_and_then}
-use Rattle.std.specs.List.{flat_map, list_any}
+use Rattle.std.specs.List.{list_any}
 use Rattle.std.specs.Option.{option_map_or}
 use Rattle.std.specs.FinMap as finite_map
 use Rattle.std.specs.FinSet as finite_set
-use Rattle.rga_ops.specs.Identifier.{Identifier, identifier, is_id}
+use Rattle.rga_ops.specs.Identifier.{Identifier, is_id}
 use Rattle.rga_ops.specs.Content.{Element, Content}
-use Rattle.rga_ops.specs.Operations.{rising, deletions}
+use Rattle.rga_ops.specs.Operations.{rising}
 use Rattle.rga_ops.specs.declared.id.TheConstants.Id.{MAX_COUNTER}
-use Rattle.rga_ops.specs.declared.op.Op.{Op}
 use Rattle.rga_ops.specs.declared.op.Op.TheVariants.{Delete}
 use Rattle.rga_lines.specs.RunConstants.{MAX_RUN}
 use Rattle.rga_lines.specs.DeletionRun.{DeletionRun}
-use Rattle.rga_lines.specs.Runs.{Stretch, stretch, next, stretch_operations, deletion_run}
+use Rattle.rga_lines.specs.Runs.{Stretch, stretch, next, deletion_run}
 use Rattle.rga_lines.specs.Spelling.{line, deletion_run_line}
 use Rattle.rga_lines.specs.Stream.{bytes_of_lines}
 use Rattle.rga_exchange.specs.RunLines.{stretch_line}
@@ -37,50 +36,57 @@ going_on c last (suc room) = option_map_or (λ ch. ch ∷ going_on c (next last)
 abbrev pub run_of : Content → Identifier × Element → Stretch
 run_of c e = stretch e.0 e.1.parent (e.1.ch ∷ going_on c e.0 (MAX_RUN - 1))
 
--- the identifier is one of the run's
-abbrev pub is_in_run : Identifier → Stretch → Bool
-is_in_run id r = (id.replica == r.id.replica) && (nat_le r.id.counter id.counter && nat_lt id.counter (r.id.counter + length r.chars))
+-- the identifier is one of so many of a replica with counters that rise by one, of which this is the first
+abbrev pub is_among : Identifier → ℕ → Identifier → Bool
+is_among first count id = (id.replica == first.replica) && (nat_le first.counter id.counter && nat_lt id.counter (first.counter + count))
 
-abbrev pub is_in_some : List Stretch → Identifier → Bool
-is_in_some runs id = list_any (is_in_run id) runs
+-- whether the identifier is in one of the runs that begin with these, each with so many
+abbrev pub is_in_some : {A : Type 0} → (A → Identifier) → (A → ℕ) → List A → Identifier → Bool
+is_in_some name size begun id = list_any (λ x. is_among (name x) (size x) id) begun
 
--- the runs of these insertions behind others: an insertion that is in no run before it begins one
-abbrev pub runs_behind : Content → List Stretch → List (Identifier × Element) → List Stretch
-runs_behind c runs [] = []
-runs_behind c runs (e ∷ es) = if is_in_some runs e.0 then runs_behind c runs es else run_of c e ∷ runs_behind c (run_of c e ∷ runs) es
+-- those that begin a run, behind others that do: each that is in no run before it
+abbrev pub beginnings : {A : Type 0} → (A → Identifier) → (A → ℕ) → List A → List A → List A
+beginnings name size begun [] = []
+beginnings name size begun (x ∷ xs) = if is_in_some name size begun (name x) then beginnings name size begun xs else x ∷ beginnings name size (x ∷ begun) xs
+
+abbrev pub run_size : Content → Identifier × Element → ℕ
+run_size c e = length (run_of c e).chars
+
+abbrev pub run_beginnings : Content → List (Identifier × Element)
+run_beginnings c = beginnings (λ (e : Identifier × Element). e.0) (run_size c) [] (finite_map.entries c.inserted)
 
 -- the runs of a content, by rising first identifier
 abbrev pub runs_of : Content → List Stretch
-runs_of c = runs_behind c [] (finite_map.entries c.inserted)
+runs_of c = map (run_of c) (run_beginnings c)
 
 -- ---- runs of deletions
 
--- the identifier behind the last one of a run
-abbrev pub behind_run : DeletionRun → Identifier
-behind_run r = identifier (r.id.counter + r.count) r.id.replica
+-- whether the next identifier of the replica is deleted; none has a counter above the greatest
+abbrev pub is_next_deleted : Content → Identifier → Bool
+is_next_deleted c last = nat_lt last.counter MAX_COUNTER && finite_set.contains c.deleted (next last)
 
--- whether a deletion goes on with a run: it is of the identifier behind the last one, and the run has room
-abbrev pub goes_on_with : DeletionRun → Identifier → Bool
-goes_on_with r id = nat_lt r.count MAX_RUN && is_id id (behind_run r)
+-- how many deletions go on behind an identifier, at most so many
+unfoldable pub deletions_behind : Content → Identifier → ℕ → ℕ
+deletions_behind c last zero = 0
+deletions_behind c last (suc room) = if is_next_deleted c last then suc (deletions_behind c (next last) room) else 0
 
-abbrev pub one_longer : DeletionRun → DeletionRun
-one_longer r = deletion_run r.id (r.count + 1)
+-- how many deletions a run has at most: 4096 where runs are asked for, and else one
+abbrev pub most_deletions : Bool → ℕ
+most_deletions dels = if dels then MAX_RUN else 1
 
--- the runs of deletions behind those of a run: each goes on with the run before it, or begins one
-abbrev pub deletion_runs_behind : DeletionRun → List Identifier → List DeletionRun
-deletion_runs_behind r [] = r ∷ []
-deletion_runs_behind r (id ∷ ids) = if goes_on_with r id then deletion_runs_behind (one_longer r) ids else r ∷ deletion_runs_behind (deletion_run id 1) ids
+-- the run that begins with a deletion: with those that go on behind it up to so many
+abbrev pub deletion_run_of : Content → ℕ → Identifier → DeletionRun
+deletion_run_of c most id = deletion_run id (suc (deletions_behind c id (most - 1)))
 
--- the runs of deletions in a row
-abbrev pub deletion_runs : List Identifier → List DeletionRun
-deletion_runs [] = []
-deletion_runs (id ∷ ids) = deletion_runs_behind (deletion_run id 1) ids
+abbrev pub deletion_size : Content → ℕ → Identifier → ℕ
+deletion_size c most id = (deletion_run_of c most id).count
 
--- ---- operations
+abbrev pub deletion_beginnings : Content → ℕ → List Identifier
+deletion_beginnings c most = beginnings (λ (id : Identifier). id) (deletion_size c most) [] (rising (finite_set.items c.deleted))
 
--- the operations of a content, by runs
-abbrev pub compact_operations : Content → List Op
-compact_operations c = flat_map stretch_operations (runs_of c) ++ deletions c
+-- the runs of deletions of a content, by rising first identifier
+abbrev pub deletion_runs : Content → ℕ → List DeletionRun
+deletion_runs c most = map (deletion_run_of c most) (deletion_beginnings c most)
 
 -- ---- lines
 
@@ -88,14 +94,9 @@ compact_operations c = flat_map stretch_operations (runs_of c) ++ deletions c
 abbrev pub deletion_line : DeletionRun → List ℕ
 deletion_line r = if r.count == 1 then line (Delete r.id) else deletion_run_line r
 
--- the lines of deletions in a row: by their runs where these are asked for, and else each by itself
-abbrev pub deletion_lines : Bool → List Identifier → List (List ℕ)
-deletion_lines true ids = map deletion_line (deletion_runs ids)
-deletion_lines false ids = map line (map Delete ids)
-
--- the lines of the runs, and then those of the deletions by rising identifier, in runs too or each by itself
+-- the lines of the runs, and then those of the runs of deletions
 abbrev pub compact_lines : Bool → Content → List (List ℕ)
-compact_lines dels c = map stretch_line (runs_of c) ++ deletion_lines dels (rising (finite_set.items c.deleted))
+compact_lines dels c = map stretch_line (runs_of c) ++ map deletion_line (deletion_runs c (most_deletions dels))
 
 -- these lines, each with its newline
 abbrev pub compact_text : Bool → Content → List ℕ

@@ -1,3 +1,4 @@
 pub mod Compacting
 pub mod Turns
 pub mod Finding
+pub mod FewLines

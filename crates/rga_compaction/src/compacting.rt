@@ -1,38 +1,66 @@
 //! Logs in as few lines as runs allow.
-ghost use Rattle.std.specs.Prelude.{◌≡◌, ℕ, ◌+◌, ◌≤◌, ◌++◌, ◌∷◌, [], length, slice_index, true, false, Ok, Some, None, IfOk, IfErr, OnOk, string_bytes};
+ghost use Rattle.std.specs.Prelude.{◌≡◌, ℕ, ◌≤◌, ◌<◌, ◌++◌, ◌∷◌, [], length, slice_index, if◌then◌else◌, true, Ok, Some, None, IfOk, IfErr, OnOk, string_bytes};
 ghost use Rattle.std.specs.Option.{option_map, option_map_or};
 ghost use Rattle.rga_ops.specs.Prelude.{checked, operations, content_of, IsSound};
 ghost use Rattle.rga_ops.specs.Content.{element};
 ghost use Rattle.rga_ops.specs.Identifier.{is_in_range};
 ghost use Rattle.rga_ops.specs.declared.op.Op.TheVariants.{Insert, Delete};
 ghost use Rattle.rga_devices.specs.Counting.{CountsAs, Writes, WritesFront, WritesAllBut};
-ghost use Rattle.rga_lines.specs.Runs.{IsRun, next, deletion_run};
+ghost use Rattle.rga_lines.specs.RunConstants.{MAX_RUN};
+ghost use Rattle.rga_lines.specs.Runs.{IsRun, next};
 ghost use Rattle.rga_lines.specs.Spelling.{IsWritable};
 ghost use Rattle.rga_lines.specs.Stream.{bytes_of_lines, rest_of};
 ghost use Rattle.rga_exchange.specs.Sending.{AreWritable, StandsFor};
 ghost use Rattle.rga_compaction.specs.Compacting.{compact_lines, compact_text, next_character, run_of};
-ghost use Rattle.rga_compaction.specs.Compacting.{deletion_line, goes_on_with};
-ghost use Rattle.rga_compaction.specs.Turns.{covers, ends_with, ends_behind, lines_at};
-ghost use Rattle.rga_compaction.specs.Turns.{run_with, last_behind, last_line, ended_line};
+ghost use Rattle.rga_compaction.specs.Compacting.{is_next_deleted, most_deletions, deletion_size, deletion_line};
+ghost use Rattle.rga_compaction.specs.Turns.{ends_behind, deleted_behind, lines_at};
 
-use crate::finding::element_in;
+use crate::finding::{element_in, is_deleted_in};
 use rga_devices::Counted;
 use rga_exchange::{Block, SendFault, shortest_line};
 use rga_lines::{DeletionRun, LineFault, MAX_RUN, Run, write_deletion_run, write_line};
 use rga_ops::{Id, Op};
+use rga_store::TextStore;
 use std::alloc::{AllocError, Global};
 use std::io::Write;
 use std::marker::Model;
 
-/// Writes the operations of a content in as few lines as runs allow, each with its newline: the runs
-/// by rising first identifier, a run of one as an insertion, and then the deletions by rising
-/// identifier. With `dels` deletions that follow one another, of one replica with counters that rise
-/// by one, are written as runs of at most `MAX_RUN`, and a run of one as a deletion. Answers how many
-/// lines there are.
+/// Writes the operations of a store in as few lines as runs allow, each with its newline: the runs by
+/// rising first identifier, a run of one as an insertion, and then the deletions by rising identifier.
+/// With `dels` a deletion and those of the next counters of its replica are written as a run of at
+/// most `MAX_RUN`, by its first identifier, and a run of one as a deletion. Answers how many lines
+/// there are.
 ///
-/// The operations come as a store lists them: the insertions by rising identifier, and then the
-/// deletions by rising identifier. Beside them one block of some 64 KiB is held, one run, and a table
-/// of 512 KiB. The device is used as by `send`.
+/// Beside the list of the operations one block of some 64 KiB is held, one run, and two tables of
+/// 512 KiB. The device is used as by `send`.
+pub fn compact<S: TextStore, W: Write>(
+    alloc: Global,
+    store: &S,
+    dels: bool,
+    writer: &mut Counted<W>,
+) -> Result<u64, SendFault>
+    ensures number { IfOk result (λ n. n ≡ length (compact_lines dels (S.content store.now))) }
+    ensures written { OnOk result (Writes W.contents writer.old writer.new
+        (compact_text dels (S.content store.now))) }
+    // These lines stand for the content, and the last one too ends in a newline.
+    ensures stands { OnOk result (StandsFor (compact_text dels (S.content store.now))
+        (S.content store.now)) }
+    ensures ended { OnOk result (rest_of (compact_text dels (S.content store.now)) ≡ []) }
+    ensures begun { WritesFront W.contents writer.old writer.new
+        (compact_text dels (S.content store.now)) }
+    ensures flushed { OnOk result (writer.new.flushed ≡ true) }
+    ensures device { CountsAs SendFault.Write result writer.old writer.new }
+{
+    // What is known is told with the fact that each operation is well-formed.
+    let _known = store.known();
+    let Ok(ops) = store.ops() else {
+        return Err(SendFault::Memory);
+    };
+    compact_ops(alloc, &ops, dels, writer)
+}
+
+/// The same of operations as a store lists them: the insertions by rising identifier, and then the
+/// deletions by rising identifier.
 pub fn compact_ops<W: Write>(
     alloc: Global,
     ops: &[Op],
@@ -78,40 +106,33 @@ fn push_compacted<W: Write>(
         (block.old ++ compact_text dels (content_of ops.now)) }
     ensures device { CountsAs SendFault.Write result writer.old writer.new }
 {
+    let most = most_of(dels);
     let mut ends = RunEnds::new(alloc)?;
-    let mut last = None;
+    let mut deleted = RunEnds::new(alloc)?;
     let mut lines = 0u64;
     for (index, op) in ops.iter().enumerate() {
         lines += push_operation(
-            alloc, ops, index, op, dels, &mut ends, &mut last, block, writer,
+            alloc,
+            ops,
+            index,
+            op,
+            most,
+            &mut ends,
+            &mut deleted,
+            block,
+            writer,
         )?;
     }
-    let rest = push_last(alloc, last, block, writer)?;
-    Ok(lines + rest)
+    Ok(lines)
 }
 
-/// Adds the line of the last run of deletions, where there is one, and answers how many there are.
-fn push_last<W: Write>(
-    alloc: Global,
-    last: Option<DeletionRun>,
-    block: &mut Block,
-    writer: &mut Counted<W>,
-) -> Result<u64, SendFault>
-    ensures number { IfOk result (λ n. n ≡ length (last_line last)) }
-    ensures few { IfOk result (λ n. n ≤ 1) }
-    ensures ok { OnOk result (WritesAllBut W.contents writer.old writer.new
-        (block.old ++ bytes_of_lines (last_line last)) block.new) }
-    ensures begun { WritesFront W.contents writer.old writer.new block.old }
-    ensures device { CountsAs SendFault.Write result writer.old writer.new }
+/// How many deletions a run has at most.
+fn most_of(dels: bool) -> u64
+    ensures most { result ≡ most_deletions dels }
+    ensures some { 0 < result }
+    ensures few { result ≤ MAX_RUN }
 {
-    let Some(run) = last else {
-        return Ok(0);
-    };
-    let Ok(line) = deletion_line(alloc, &run) else {
-        return Err(SendFault::Memory);
-    };
-    block.take_line(line.as_bytes(), writer)?;
-    Ok(1)
+    if dels { MAX_RUN as u64 } else { 1 }
 }
 
 /// Adds the line that comes for an operation, where one does, and answers how many there are.
@@ -120,120 +141,139 @@ fn push_operation<W: Write>(
     ops: &[Op],
     index: usize,
     op: &Op,
-    dels: bool,
+    most: u64,
     ends: &mut RunEnds,
-    last: &mut Option<DeletionRun>,
+    deleted: &mut RunEnds,
     block: &mut Block,
     writer: &mut Counted<W>,
 ) -> Result<u64, SendFault>
     requires all { ops.now ≡ operations (content_of ops.now) }
     requires checked { checked op.now ≡ Ok tt }
-    ensures number { IfOk result (λ n. n ≡ length (lines_at dels (content_of ops.now)
-        (slice_index ends.old) last.old op.now)) }
+    requires some { 0 < most }
+    requires few { most ≤ MAX_RUN }
+    ensures number { IfOk result (λ n. n ≡ length (lines_at (content_of ops.now) most
+        (slice_index ends.old) (slice_index deleted.old) op.now)) }
     ensures ok { OnOk result (WritesAllBut W.contents writer.old writer.new
-        (block.old ++ bytes_of_lines (lines_at dels (content_of ops.now)
-        (slice_index ends.old) last.old op.now)) block.new) }
-    ensures last { OnOk result (last.new ≡ last_behind dels last.old op.now) }
+        (block.old ++ bytes_of_lines (lines_at (content_of ops.now) most
+        (slice_index ends.old) (slice_index deleted.old) op.now)) block.new) }
     ensures ends { OnOk result ((replica : ℕ) → slice_index ends.new replica
         ≡ ends_behind (content_of ops.now) (slice_index ends.old) op.now replica) }
+    ensures deleted { OnOk result ((replica : ℕ) → slice_index deleted.new replica
+        ≡ deleted_behind (content_of ops.now) most (slice_index deleted.old) op.now replica) }
     ensures writable { OnOk result (IsWritable op.now) }
     ensures begun { WritesFront W.contents writer.old writer.new block.old }
     ensures device { CountsAs SendFault.Write result writer.old writer.new }
 {
-    let Some(line) = next_line(alloc, ops, index, op, dels, ends, last)? else {
+    let Some(line) = next_line(alloc, ops, index, op, most, ends, deleted)? else {
         return Ok(0);
     };
     block.take_line(line.as_bytes(), writer)?;
     Ok(1)
 }
 
-/// The line that comes for an operation, if one does: an insertion that is in the last run of its
-/// replica has none, and where deletions are written in runs each ends the run before it or goes on
-/// with it.
+/// The line that comes for an operation, if one does: one that is in the last run of its replica has
+/// none.
 fn next_line(
     alloc: Global,
     ops: &[Op],
     index: usize,
     op: &Op,
-    dels: bool,
+    most: u64,
     ends: &mut RunEnds,
-    last: &mut Option<DeletionRun>,
+    deleted: &mut RunEnds,
 ) -> Result<Option<String>, SendFault>
     requires all { ops.now ≡ operations (content_of ops.now) }
     requires checked { checked op.now ≡ Ok tt }
+    requires some { 0 < most }
+    requires few { most ≤ MAX_RUN }
     ensures line { IfOk result (λ line. option_map_or (λ text. string_bytes text ∷ []) line []
-        ≡ lines_at dels (content_of ops.now) (slice_index ends.old) last.old op.now) }
-    ensures last { OnOk result (last.new ≡ last_behind dels last.old op.now) }
+        ≡ lines_at (content_of ops.now) most (slice_index ends.old) (slice_index deleted.old)
+        op.now) }
     ensures ends { OnOk result ((replica : ℕ) → slice_index ends.new replica
         ≡ ends_behind (content_of ops.now) (slice_index ends.old) op.now replica) }
+    ensures deleted { OnOk result ((replica : ℕ) → slice_index deleted.new replica
+        ≡ deleted_behind (content_of ops.now) most (slice_index deleted.old) op.now replica) }
     ensures writable { OnOk result (IsWritable op.now) }
     ensures memory { IfErr result (λ e. e ≡ SendFault.Memory) }
 {
     match op {
         Op::Insert { id, parent, ch } => run_line(alloc, ops, index, *id, *parent, *ch, ends),
-        Op::Delete { id } => {
-            if dels {
-                return line_of_ended(alloc, *id, last);
-            }
-            let Ok(deletion) = write_line(alloc, op) else {
-                return Err(SendFault::Memory);
-            };
-            Ok(Some(deletion))
-        }
+        Op::Delete { id } => deletion_run_line(alloc, ops, index, *id, most, deleted),
     }
 }
 
-/// Takes a deletion into the last run of deletions, or begins one with it. The line of the run that
-/// it ends, if it ends one.
-fn line_of_ended(
+/// The line of the run that a deletion begins, unless it is in one.
+#[tactic(auto, using(rga_lines::proofs::WritableLemmas::deletion_writable))]
+fn deletion_run_line(
     alloc: Global,
+    ops: &[Op],
+    index: usize,
     id: Id,
-    last: &mut Option<DeletionRun>,
+    most: u64,
+    deleted: &mut RunEnds,
 ) -> Result<Option<String>, SendFault>
-    requires { checked (Delete id) ≡ Ok tt }
+    requires all { ops.now ≡ operations (content_of ops.now) }
+    requires checked { checked (Delete id) ≡ Ok tt }
+    requires some { 0 < most }
+    requires few { most ≤ MAX_RUN }
     ensures line { IfOk result (λ line. option_map_or (λ text. string_bytes text ∷ []) line []
-        ≡ ended_line last.old id) }
-    ensures last { OnOk result (last.new ≡ Some (run_with last.old id)) }
+        ≡ lines_at (content_of ops.now) most (slice_index deleted.old) (slice_index deleted.old)
+        (Delete id)) }
+    ensures deleted { OnOk result ((replica : ℕ) → slice_index deleted.new replica
+        ≡ deleted_behind (content_of ops.now) most (slice_index deleted.old) (Delete id) replica) }
     ensures writable { OnOk result (IsWritable (Delete id)) }
     ensures memory { IfErr result (λ e. e ≡ SendFault.Memory) }
 {
-    let single = single_deletion(id);
-    let Some(run) = *last else {
-        *last = Some(single);
-        return Ok(None);
-    };
-    if goes_on(&run, id) {
-        *last = Some(DeletionRun {
-            id: run.id,
-            count: run.count + 1,
-        });
+    // What an identifier may be is told with its counter.
+    let _counter = id.counter();
+    if deleted.covers(id) {
         return Ok(None);
     }
-    let Ok(line) = deletion_line(alloc, &run) else {
+    let count = deletions_from(ops, index, id, most);
+    deleted.note(id, count);
+    let Ok(line) = deletion_line(alloc, &DeletionRun { id, count }) else {
         return Err(SendFault::Memory);
     };
-    *last = Some(single);
     Ok(Some(line))
 }
 
-/// The run of one deletion.
-#[tactic(auto, using(rga_lines::proofs::WritableLemmas::deletion_writable))]
-fn single_deletion(id: Id) -> DeletionRun
-    requires { checked (Delete id) ≡ Ok tt }
-    ensures run { result ≡ deletion_run id 1 }
-    ensures writable { IsWritable (Delete id) }
+/// How many deletions the run has that begins with one: those that go on behind it too, up to so
+/// many.
+fn deletions_from(ops: &[Op], index: usize, id: Id, most: u64) -> u64
+    requires all { ops.now ≡ operations (content_of ops.now) }
+    requires some { 0 < most }
+    requires within { is_in_range id.counter id.replica ≡ true }
+    ensures count { result ≡ deletion_size (content_of ops.now) most id }
+    ensures few { result ≤ most }
 {
-    // What an identifier may be is told with its counter.
-    let _counter = id.counter();
-    DeletionRun { id, count: 1 }
+    let mut count = 1u64;
+    let mut last = id;
+    let mut near = index;
+    'deletions: while count < most {
+        let Some(next) = next_deleted(ops, &mut near, last) else {
+            break;
+        };
+        count += 1;
+        last = next;
+    }
+    count
 }
 
-/// Whether a deletion goes on with a run.
-fn goes_on(run: &DeletionRun, id: Id) -> bool
-    ensures { result ≡ goes_on_with run.now id }
+/// The identifier behind the last one of a run of deletions, if it is deleted.
+fn next_deleted(ops: &[Op], near: &mut usize, last: Id) -> Option<Id>
+    requires all { ops.now ≡ operations (content_of ops.now) }
+    requires within { is_in_range last.counter last.replica ≡ true }
+    ensures { result
+        ≡ (if is_next_deleted (content_of ops.now) last then Some (next last) else None) }
 {
-    run.count < MAX_RUN as u64
-        && (id.counter() == run.id.counter() + run.count && id.replica() == run.id.replica())
+    let Ok(following) = Id::new(last.counter() + 1, last.replica()) else {
+        return None;
+    };
+    if is_deleted_in(ops, near, following) {
+        Some(following)
+    } else {
+        None
+    }
 }
 
 /// The line of a run of deletions, or of a deletion where it is a run of one.
@@ -247,7 +287,7 @@ fn deletion_line(alloc: Global, run: &DeletionRun) -> Result<String, LineFault>
     }
 }
 
-/// The same for an insertion: the line of the run that it begins, unless it is in one.
+/// The line of the run that an insertion begins, unless it is in one.
 fn run_line(
     alloc: Global,
     ops: &[Op],
@@ -260,7 +300,8 @@ fn run_line(
     requires all { ops.now ≡ operations (content_of ops.now) }
     requires checked { checked (Insert id parent ch) ≡ Ok tt }
     ensures line { IfOk result (λ line. option_map_or (λ text. string_bytes text ∷ []) line []
-        ≡ lines_at false (content_of ops.now) (slice_index ends.old) None (Insert id parent ch)) }
+        ≡ lines_at (content_of ops.now) 1 (slice_index ends.old) (slice_index ends.old)
+        (Insert id parent ch)) }
     ensures ends { OnOk result ((replica : ℕ) → slice_index ends.new replica
         ≡ ends_behind (content_of ops.now) (slice_index ends.old) (Insert id parent ch) replica) }
     ensures writable { OnOk result (IsWritable (Insert id parent ch)) }
@@ -272,7 +313,7 @@ fn run_line(
         return Ok(None);
     }
     let run = run_from(alloc, ops, index, id, parent, ch)?;
-    ends.note(&run);
+    ends.note(id, run.chars.len() as u64);
     let Ok(line) = shortest_line(alloc, &run) else {
         return Err(SendFault::Memory);
     };
@@ -344,8 +385,8 @@ impl Model for RunEnds {
 }
 
 impl RunEnds {
-    ghost use Rattle.std.specs.Prelude.{◌≡◌, ℕ, slice_index, IfOk};
-    ghost use Rattle.rga_lines.specs.Runs.{IsRun};
+    ghost use Rattle.std.specs.Prelude.{◌≡◌, ◌≤◌, ℕ, slice_index, IfOk};
+    ghost use Rattle.rga_lines.specs.RunConstants.{MAX_RUN};
     ghost use Rattle.rga_compaction.specs.Turns.{covers, ends_with};
 
     /// No run yet.
@@ -363,13 +404,13 @@ impl RunEnds {
         id.counter() < self.counters[usize::from(id.replica())]
     }
 
-    /// Notes the last run of its replica.
-    fn note(&mut self, run: &Run)
-        requires { IsRun run.now }
+    /// Notes the last run of its replica, by its first identifier and its size.
+    fn note(&mut self, id: Id, size: u64)
+        requires { size ≤ MAX_RUN }
         ensures { (replica : ℕ) → slice_index self.new replica
-            ≡ ends_with (slice_index self.old) run.now replica }
+            ≡ ends_with (slice_index self.old) id size replica }
     {
-        let end = run.id.counter() + run.chars.len() as u64;
-        self.counters[usize::from(run.id.replica())] = end;
+        let end = id.counter() + size;
+        self.counters[usize::from(id.replica())] = end;
     }
 }

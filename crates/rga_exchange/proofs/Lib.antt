@@ -14,3 +14,4 @@ pub mod BegunLogLaws
 pub mod FirstLinesLemmas
 pub mod AgainLaws
 pub mod RunLineLaws
+pub mod DeletionRunLemmas

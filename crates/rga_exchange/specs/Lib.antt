@@ -5,3 +5,4 @@ pub mod Receiving
 pub mod Sending
 pub mod Stops
 pub mod RunLines
+pub mod DeletionRuns

@@ -1,8 +1,10 @@
 //! Logs, read into whatever takes operations.
-ghost use Rattle.std.specs.Prelude.{◌≡◌, ◌≢◌, ◌<◌, ◌^◌, Err, IfOk, OnOk};
+ghost use Rattle.std.specs.Prelude.{◌≡◌, ◌≢◌, ◌<◌, ◌^◌, ◌||◌, Err, IfOk, OnOk};
 ghost use Rattle.rga_devices.specs.Counting.{CountsAs, OnBytes};
 ghost use Rattle.rga_lines.specs.Log.{log_operations};
+ghost use Rattle.rga_lines.specs.Table.{any_line_at};
 ghost use Rattle.rga_store.specs.Taking.{TakesMore};
+ghost use Rattle.rga_exchange.specs.DeletionRuns.{is_deletion_run, has_deletion_runs};
 ghost use Rattle.rga_exchange.specs.Taking.{intake};
 ghost use Rattle.rga_exchange.specs.Log.{TakesLog, log_end, bare_answer, TakesRest};
 
@@ -36,7 +38,8 @@ pub struct LogRead {
 /// Takes the operations of a log, to the end of the input: those of its lines, and that of a last
 /// line without newline where it is one. Answers what stands behind the whole lines, and how many
 /// they are. Before each read the whole lines read so far are taken. `Ok` comes only once a read
-/// gave no bytes, whatever the reader.
+/// gave no bytes, whatever the reader. `deletion_runs` becomes true where the log has a run of
+/// deletions.
 ///
 /// Faults, of which the first in the order of the lines is answered: `Line`, where the head and the
 /// end line of an exchange are `Kind` and a rest of more than 65536 bytes is `Long`; `Refused`.
@@ -47,12 +50,15 @@ pub fn take_log<T: Taker, R: Read>(
     alloc: Global,
     taker: &mut T,
     reader: &mut Counted<R>,
+    deletion_runs: &mut bool,
 ) -> Result<LogRead, LogFault>
     ensures taken { TakesLog R.remaining reader.old reader.new
         (intake T.limit T.content T.follows taker.old taker.new) (λ outcome. outcome) result }
     ensures took { OnOk result (OnBytes R.remaining reader.old (λ bytes.
         TakesMore (T.content taker.old) (log_operations bytes) (T.content taker.new))) }
     ensures device { CountsAs LogFault.Read result reader.old reader.new }
+    ensures deletion_runs { OnOk result (OnBytes R.remaining reader.old
+        (λ bytes. deletion_runs.new ≡ (deletion_runs.old || has_deletion_runs bytes))) }
     ensures limit { T.limit taker.new ≡ T.limit taker.old }
     ensures bound { IfOk result (λ log. log.lines < 2 ^ 63) }
 {
@@ -60,11 +66,11 @@ pub fn take_log<T: Taker, R: Read>(
         lines,
         operations: _operations,
         end,
-    } = take_stream(alloc, Form::Log, taker, reader)?;
+    } = take_stream(alloc, Form::Log, taker, reader, deletion_runs)?;
     match end {
         StreamEnd::EndLine(_) => Err(LogFault::Line(lines + 1, LineFault::Kind)),
         StreamEnd::Input(rest) => {
-            let end = take_rest(alloc, taker, lines, &rest)?;
+            let end = take_rest(alloc, taker, lines, &rest, deletion_runs)?;
             Ok(LogRead { lines, end })
         }
     }
@@ -76,16 +82,19 @@ fn take_rest<T: Taker>(
     taker: &mut T,
     lines: u64,
     rest: &[u8],
+    deletion_runs: &mut bool,
 ) -> Result<LogEnd, LogFault>
     requires { lines < 2 ^ 63 }
     ensures taken { TakesRest (intake T.limit T.content T.follows taker.old taker.new)
         lines rest.now result }
+    ensures deletion_runs { result ≢ Err LogFault.Memory → deletion_runs.new
+        ≡ (deletion_runs.old || is_deletion_run (any_line_at rest.now)) }
     ensures limit { T.limit taker.new ≡ T.limit taker.old }
 {
     if rest.is_empty() {
         return Ok(LogEnd::Whole);
     }
-    let taken = take_other(alloc, Form::Log, taker, lines + 1, rest);
+    let taken = take_other(alloc, Form::Log, taker, lines + 1, rest, deletion_runs);
     end_of(rest.len() as u64, taken)
 }
 
@@ -116,6 +125,6 @@ pub fn read_log<T: Taker, R: Read>(
     ensures device { CountsAs ReceiveFault.Read result reader.old reader.new }
     ensures limit { T.limit taker.new ≡ T.limit taker.old }
 {
-    let log = take_log(alloc, taker, reader)?;
+    let log = take_log(alloc, taker, reader, &mut false)?;
     Ok(log.end)
 }

@@ -62,7 +62,7 @@ pub fn receive<T: Taker, R: Read>(
         lines: _lines,
         operations,
         end,
-    } = take_stream(alloc, Form::Exchange, taker, reader)?;
+    } = take_stream(alloc, Form::Exchange, taker, reader, &mut false)?;
     match end {
         StreamEnd::EndLine(number) if u128::from(number) == operations => Ok(number),
         StreamEnd::EndLine(_) => Err(ReceiveFault::Count),

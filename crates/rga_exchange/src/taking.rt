@@ -1,9 +1,11 @@
 //! The lines of a stream, taken in turn into whatever takes operations.
-ghost use Rattle.std.specs.Prelude.{◌≡◌, ◌≢◌, ◌+◌, ◌*◌, ◌^◌, ◌<◌, ◌≤◌, ℕ, length, [], ◌∷◌, false, IfOk, IfErr, IfSome};
+ghost use Rattle.std.specs.Prelude.{◌≡◌, ◌≢◌, ◌+◌, ◌*◌, ◌^◌, ◌<◌, ◌≤◌, ◌||◌, ℕ, List, length, [], ◌∷◌, ◌++◌, false, Ok, Err, None, IfOk, IfErr, IfSome};
 ghost use Rattle.rga_ops.specs.Prelude.{taken};
 ghost use Rattle.rga_devices.specs.Counting.{CountsAs, OnBytes};
 ghost use Rattle.rga_lines.specs.Log.{operations_of};
 ghost use Rattle.rga_lines.specs.Runs.{stretch_operations, run_deletions, IsRun, IsDeletionRun};
+ghost use Rattle.rga_lines.specs.Table.{any_line_at};
+ghost use Rattle.rga_exchange.specs.DeletionRuns.{is_deletion_run, has_deletion_runs};
 ghost use Rattle.rga_exchange.specs.Taking.{AtFault, refused_at, taken_whole};
 ghost use Rattle.rga_exchange.specs.Taking.{intake, HasTakenLines, HasTakenWholeLines};
 ghost use Rattle.rga_exchange.specs.Parts.{stage, left_at, line_outcome, head_answer, TakesAs, TakesLines};
@@ -47,12 +49,13 @@ pub(crate) enum StreamEnd {
 
 /// Takes the operations of the lines of a stream of that form up to the end line, or to the end of
 /// the input. Before each read the whole lines read so far are taken, and none follows that of the
-/// end line.
+/// end line. `deletion_runs` becomes true at a line that is a run of deletions.
 pub(crate) fn take_stream<T: Taker, R: Read>(
     alloc: Global,
     form: Form,
     taker: &mut T,
     reader: &mut Counted<R>,
+    deletion_runs: &mut bool,
 ) -> Result<Stream, LogFault>
     // However the reads cut the bytes, they lead to what all of them lead to.
     ensures end { let took = intake T.limit T.content T.follows taker.old taker.new in
@@ -72,6 +75,10 @@ pub(crate) fn take_stream<T: Taker, R: Read>(
         IfOk result (λ s. IfSome (left_at s.end) (λ rest. HasTakenAllBut form R.remaining
         reader.old reader.new took (stage s.lines s.operations rest))) }
     ensures last { IfOk result (λ s. StopsReading form R.remaining reader.old reader.new s.end) }
+    // At the end of the input all are told of but the rest.
+    ensures deletion_runs { IfOk result (λ s. IfSome (left_at s.end) (λ rest.
+        OnBytes R.remaining reader.old (λ bytes. (deletion_runs.old || has_deletion_runs bytes)
+        ≡ (deletion_runs.new || is_deletion_run (any_line_at rest))))) }
     ensures device { CountsAs ReadFailed result reader.old reader.new }
     ensures limit { T.limit taker.new ≡ T.limit taker.old }
     ensures bound { IfOk result (λ s. s.lines < 2 ^ 63) }
@@ -90,6 +97,7 @@ pub(crate) fn take_stream<T: Taker, R: Read>(
             &mut ops,
             &mut lines,
             &mut operations,
+            deletion_runs,
         )? {
             return Ok(Stream {
                 lines,
@@ -124,6 +132,7 @@ fn take_lines<T: Taker>(
     ops: &mut Vec<Op>,
     lines: &mut u64,
     operations: &mut u128,
+    deletion_runs: &mut bool,
 ) -> Result<Option<u64>, LogFault>
     requires few { operations.old ≤ 2 ^ 64 * lines.old }
     requires whole { splitter.old.broken ≡ false }
@@ -131,6 +140,9 @@ fn take_lines<T: Taker>(
     ensures taken { TakesLines form (intake T.limit T.content T.follows taker.old taker.new)
         (stage lines.old operations.old splitter.old.waiting)
         lines.new operations.new splitter.new result }
+    ensures deletion_runs { result ≡ Ok None → (more : List ℕ)
+        → (deletion_runs.old || has_deletion_runs (splitter.old.waiting ++ more))
+        ≡ (deletion_runs.new || has_deletion_runs (splitter.new.waiting ++ more)) }
     ensures few { operations.new ≤ 2 ^ 64 * lines.new }
     ensures device { IfErr result (λ e. e ≢ ReadFailed) }
     ensures bound { lines.new ≤ lines.old + length splitter.old.waiting }
@@ -142,7 +154,15 @@ fn take_lines<T: Taker>(
             Ok(None) => return Ok(None),
             Err(fault) => return Err(LogFault::Line(*lines + 1, fault)),
         };
-        match take_line(alloc, form, taker, ops, *lines + 1, splitter.line(end))? {
+        match take_line(
+            alloc,
+            form,
+            taker,
+            ops,
+            *lines + 1,
+            splitter.line(end),
+            deletion_runs,
+        )? {
             LineTaken::Operations(count) => *operations += u128::from(count),
             LineTaken::EndLine(number) => return Ok(Some(number)),
         }
@@ -169,10 +189,13 @@ fn take_line<T: Taker>(
     ops: &mut Vec<Op>,
     number: u64,
     line: &[u8],
+    deletion_runs: &mut bool,
 ) -> Result<LineTaken, LogFault>
     ensures taken { TakesAs (intake T.limit T.content T.follows taker.old taker.new)
         (line_outcome form T.limit T.content taker.old number line.now)
         (operations_of (line.now ∷ [])) result }
+    ensures deletion_runs { result ≢ Err LogFault.Memory → deletion_runs.new
+        ≡ (deletion_runs.old || is_deletion_run (any_line_at line.now)) }
     ensures limit { T.limit taker.new ≡ T.limit taker.old }
 {
     if let Some(deletion) = read_deletion(line) {
@@ -180,7 +203,7 @@ fn take_line<T: Taker>(
     }
     match read_insertions(ops, line) {
         Ok(true) => take_all(taker, number, ops),
-        Ok(false) => take_other(alloc, form, taker, number, line),
+        Ok(false) => take_other(alloc, form, taker, number, line, deletion_runs),
         Err(_) => Err(LogFault::Memory),
     }
 }
@@ -192,16 +215,22 @@ pub(crate) fn take_other<T: Taker>(
     taker: &mut T,
     number: u64,
     line: &[u8],
+    deletion_runs: &mut bool,
 ) -> Result<LineTaken, LogFault>
     ensures taken { TakesAs (intake T.limit T.content T.follows taker.old taker.new)
         (line_outcome form T.limit T.content taker.old number line.now)
         (operations_of (line.now ∷ [])) result }
+    ensures deletion_runs { result ≢ Err LogFault.Memory → deletion_runs.new
+        ≡ (deletion_runs.old || is_deletion_run (any_line_at line.now)) }
     ensures limit { T.limit taker.new ≡ T.limit taker.old }
 {
     match read_any(alloc, line) {
         Ok(Line::One(op)) => take(taker, number, op),
         Ok(Line::Run(run)) => take_run(alloc, taker, number, &run),
-        Ok(Line::Deletions(run)) => take_deletions(alloc, taker, number, &run),
+        Ok(Line::Deletions(run)) => {
+            *deletion_runs = true;
+            take_deletions(alloc, taker, number, &run)
+        }
         Ok(Line::Head) => pass_head(form, number),
         Ok(Line::Last(count)) => Ok(LineTaken::EndLine(count)),
         Err(LineFault::Memory) => Err(LogFault::Memory),

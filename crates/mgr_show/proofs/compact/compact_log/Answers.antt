@@ -10,13 +10,13 @@ pub returns-clause-compacted : goal.returns-clause-compacted
 returns-clause-compacted g c =
     let made = made_of_nothing c.in-Ok.records (c.in-Ok.ensures.made refl) in
     let content = content_of_input _ _ _ _ made.1 made.0 c.in_ok-take_whole_log.ensures.ok in
-    compacts _ _ _ _ _ _ content c.in_ok-compact_records.ensures.stands c.in_ok-compact_records.ensures.ended c.in_ok-compact_records.ensures.written
+    compacts _ _ _ _ _ _ _ content c.in_ok-take_whole_log.ensures.deletion_runs c.in_ok-compact_records.ensures.stands c.in_ok-compact_records.ensures.ended c.in_ok-compact_records.ensures.written
 
 pub returns-in_err-compact_records-clause-begun : goal.returns-in_err-compact_records-clause-begun
 returns-in_err-compact_records-clause-begun g c =
     let made = made_of_nothing c.in-Ok.records (c.in-Ok.ensures.made refl) in
     let content = content_of_input _ _ _ _ made.1 made.0 c.in_ok-take_whole_log.ensures.ok in
-    on_err c.from_residual-in_err-compact_records.result (begins_to_compact _ _ _ _ _ _ content c.in_err-compact_records.ensures.begun)
+    on_err c.from_residual-in_err-compact_records.result (begins_to_compact _ _ _ _ _ _ _ content c.in_ok-take_whole_log.ensures.deletion_runs c.in_err-compact_records.ensures.begun)
 
 abbrev failed : ShowFault → Result (Unit {0}) ShowFault
 failed e = Err e

@@ -1,7 +1,8 @@
-use Rattle.std.proofs.Common.{◌≡◌, List, ℕ, ◌++◌, ◌∙◌, length, slice_index, refl, sym, ap, subst, true≢false, arith, None}
+use Rattle.std.proofs.Common.{◌≡◌, List, ℕ, ◌++◌, ◌∙◌, length, slice_index, refl, sym, ap, subst, true≢false, arith}
 use Rattle.std.specs.Result.{is_ok}
 use Rattle.rga_ops.specs.declared.op.Op.{Op}
 use Rattle.rga_ops.specs.Content.{content_of}
+use Rattle.rga_ops.specs.Operations.{operations}
 use Rattle.rga_devices.specs.Counting.{WritesAllBut}
 use Rattle.rga_lines.specs.Stream.{bytes_of_lines}
 use Rattle.rga_devices.proofs.WrittenLemmas.{begun_start}
@@ -14,11 +15,16 @@ use Rattle.rga_compaction.proofs.compacting.push_compacted.Goals as goal
 
 pub loop-index-init : goal.loop-index-init
 loop-index-init g c =
-    let turns : lines_from c.args.dels (content_of c.args.ops.now) (slice_index c.in_ok-ends.ends) None c.args.ops.now ≡ compact_lines c.args.dels (content_of c.args.ops.now) =
-    ap (λ (ops : List Op). lines_from c.args.dels (content_of c.args.ops.now) (slice_index c.in_ok-ends.ends) None ops) c.requires.all ∙ all_in_turn (content_of c.args.ops.now) c.args.dels (slice_index c.in_ok-ends.ends) c.in_ok-ends.ensures in
+    let ends = slice_index c.in_ok-ends.ends in
+    let deleted = slice_index c.in_ok-deleted.deleted in
+    let content = content_of c.args.ops.now in
+    let turns : lines_from content c.most_of-most.result ends deleted c.args.ops.now ≡ compact_lines c.args.dels content =
+    ap (λ (ops : List Op). lines_from content c.most_of-most.result ends deleted ops) c.requires.all
+    ∙ ap (λ (most : ℕ). lines_from content most ends deleted (operations content)) c.most_of-most.ensures.most
+    ∙ all_in_turn content c.args.dels ends deleted c.in_ok-ends.ensures c.in_ok-deleted.ensures in
     record {
-      begun = subst (λ (ls : List (List ℕ)). WritesAllBut g.W.Write.contents c.args.writer.now c.args.writer.now (c.args.block.now ++ compact_text c.args.dels (content_of c.args.ops.now)) (c.args.block.now ++ bytes_of_lines ls)) (sym turns)
-          (begun_start g.W.Write.contents c.args.writer.now (c.args.block.now ++ compact_text c.args.dels (content_of c.args.ops.now)));
+      begun = subst (λ (ls : List (List ℕ)). WritesAllBut g.W.Write.contents c.args.writer.now c.args.writer.now (c.args.block.now ++ compact_text c.args.dels content) (c.args.block.now ++ bytes_of_lines ls)) (sym turns)
+          (begun_start g.W.Write.contents c.args.writer.now (c.args.block.now ++ compact_text c.args.dels content));
       number = omega (arith, ap length turns);
       few = omega arith;
       writable = λ j op below. absurd (omega (arith, below));
@@ -30,14 +36,19 @@ push_operation-requires-clause-checked g c = operation_well_formed (content_of c
 
 pub loop-index-preserved : goal.loop-index-preserved
 loop-index-preserved g c =
-    let one = one_at_most c.args.dels (content_of c.args.ops.now) (slice_index c.loop-index.ends) c.loop-index.last c.index-ops-index.result in
-    let leaves : Leaves c.args.dels (content_of c.args.ops.now) (slice_index c.loop-index.ends) (slice_index c.push_operation.new.ends) c.loop-index.last c.push_operation.new.last c.index-ops-index.result =
-    record { next_is = c.in_ok-lines.ensures.ends; later_is = c.in_ok-lines.ensures.last } in
+    let content = content_of c.args.ops.now in
+    let ends = slice_index c.loop-index.ends in
+    let deleted = slice_index c.loop-index.deleted in
+    let most = c.most_of-most.result in
+    let op = c.index-ops-index.result in
+    let one = one_at_most content most ends deleted op in
+    let leaves : Leaves content most ends (slice_index c.push_operation.new.ends) deleted (slice_index c.push_operation.new.deleted) op =
+    record { next_is = c.in_ok-lines.ensures.ends; later_is = c.in_ok-lines.ensures.deleted } in
     record {
-      begun = begun_turn _ _ _ _ _ _ _ c.args.dels (content_of c.args.ops.now) (slice_index c.loop-index.ends) (slice_index c.push_operation.new.ends) c.loop-index.last c.push_operation.new.last c.args.ops.now c.loop-index.index c.index-ops-index.result c.loop-index-test.true c.index-ops-index.is leaves c.loop-index.invariant.begun c.in_ok-lines.ensures.ok;
-      number = fewer_left c.args.dels (content_of c.args.ops.now) (slice_index c.loop-index.ends) (slice_index c.push_operation.new.ends) c.loop-index.last c.push_operation.new.last c.args.ops.now c.loop-index.index c.index-ops-index.result c.loop-index.lines c.in_ok-lines.field-0 _ c.loop-index-test.true c.index-ops-index.is leaves c.in_ok-lines.ensures.number c.loop-index.invariant.number;
+      begun = begun_turn _ _ _ _ _ _ _ content most ends (slice_index c.push_operation.new.ends) deleted (slice_index c.push_operation.new.deleted) c.args.ops.now c.loop-index.index op c.loop-index-test.true c.index-ops-index.is leaves c.loop-index.invariant.begun c.in_ok-lines.ensures.ok;
+      number = fewer_left content most ends (slice_index c.push_operation.new.ends) deleted (slice_index c.push_operation.new.deleted) c.args.ops.now c.loop-index.index op c.loop-index.lines c.in_ok-lines.field-0 _ c.loop-index-test.true c.index-ops-index.is leaves c.in_ok-lines.ensures.number c.loop-index.invariant.number;
       few = omega (arith, one, c.in_ok-lines.ensures.number, c.loop-index.invariant.few);
-      writable = writable_next c.args.ops.now c.loop-index.index c.index-ops-index.result c.loop-index-test.true c.index-ops-index.is c.loop-index.invariant.writable (λ _. c.in_ok-lines.ensures.writable);
+      writable = writable_next c.args.ops.now c.loop-index.index op c.loop-index-test.true c.index-ops-index.is c.loop-index.invariant.writable (λ _. c.in_ok-lines.ensures.writable);
       unfailed = c.in_ok-lines.ensures.device.unfailed (λ e. true≢false (ap is_ok e)) ∙ c.loop-index.invariant.unfailed;
     }
 
@@ -47,16 +58,10 @@ returns-in_err-lines-clause-begun g c = begun_part _ _ _ _ _ _ _ c.loop-index.in
 pub returns-clause-writable : goal.returns-clause-writable
 returns-clause-writable g c = writable_all c.args.ops.now c.loop-index.index (omega arith) c.loop-index.invariant.writable (operations_well_formed (content_of c.args.ops.now) c.args.ops.now c.requires.sound c.requires.all)
 
-pub returns-in_err-rest-clause-begun : goal.returns-in_err-rest-clause-begun
-returns-in_err-rest-clause-begun g c = begun_part _ _ _ _ _ _ _ c.loop-index.invariant.begun c.in_err-rest.ensures.begun
-
-pub returns-clause-begun : goal.returns-clause-begun
-returns-clause-begun g c = begun_part _ _ _ _ _ _ _ c.loop-index.invariant.begun c.in_ok-rest.ensures.begun
-
 pub returns-clause-ok : goal.returns-clause-ok
 returns-clause-ok g c =
-    begun_last _ _ _ _ _ _ _ c.args.dels (content_of c.args.ops.now) (slice_index c.loop-index.ends) c.loop-index.last c.args.ops.now c.loop-index.index (omega arith) c.loop-index.invariant.begun c.in_ok-rest.ensures.ok
+    begun_last _ _ _ _ _ (content_of c.args.ops.now) c.most_of-most.result (slice_index c.loop-index.ends) (slice_index c.loop-index.deleted) c.args.ops.now c.loop-index.index (omega arith) c.loop-index.invariant.begun
 
 pub returns-clause-number : goal.returns-clause-number
 returns-clause-number g c =
-    none_left c.args.dels (content_of c.args.ops.now) (slice_index c.loop-index.ends) c.loop-index.last c.args.ops.now c.loop-index.index c.loop-index.lines c.in_ok-rest.rest _ (omega arith) c.in_ok-rest.ensures.number c.loop-index.invariant.number
+    none_left (content_of c.args.ops.now) c.most_of-most.result (slice_index c.loop-index.ends) (slice_index c.loop-index.deleted) c.args.ops.now c.loop-index.index c.loop-index.lines _ (omega arith) c.loop-index.invariant.number

@@ -11,8 +11,8 @@ abbrev pub invariant-loop-index : goal.invariant-loop-index
 invariant-loop-index g l = record {
   begun : WritesAllBut g.W.Write.contents l.initial.writer l.writer
       (l.initial.block ++ compact_text l.dels (content_of l.ops))
-      (l.block ++ bytes_of_lines (lines_from l.dels (content_of l.ops) (slice_index l.ends) l.last (drop l.index l.ops)));
-  number : l.lines + length (lines_from l.dels (content_of l.ops) (slice_index l.ends) l.last (drop l.index l.ops)) ≡ length (compact_lines l.dels (content_of l.ops));
+      (l.block ++ bytes_of_lines (lines_from (content_of l.ops) l.most (slice_index l.ends) (slice_index l.deleted) (drop l.index l.ops)));
+  number : l.lines + length (lines_from (content_of l.ops) l.most (slice_index l.ends) (slice_index l.deleted) (drop l.index l.ops)) ≡ length (compact_lines l.dels (content_of l.ops));
   few : l.lines ≤ l.index;
   writable : AreWritableUpTo l.index l.ops;
   unfailed : l.writer.failures ≡ l.initial.writer.failures;

@@ -4,8 +4,8 @@ use Rattle.rga_compaction.proofs.finding.place_between.Given as goal
 
 abbrev pub invariant-loop-low : goal.invariant-loop-low
 invariant-loop-low l = record {
-  below : AreBelowUpTo l.id l.ops l.low;
-  behind : AreNotBelowFrom l.id l.ops l.high;
+  below : AreBelowUpTo l.deletion l.id l.ops l.low;
+  behind : AreNotBelowFrom l.deletion l.id l.ops l.high;
 }
 
 abbrev pub decreases-loop-low : goal.decreases-loop-low

@@ -4,7 +4,7 @@ use Rattle.rga_compaction.proofs.finding.place_from.Given as goal
 
 abbrev pub invariant-loop-low : goal.invariant-loop-low
 invariant-loop-low l = record {
-  below : AreBelowUpTo l.id l.ops l.low;
+  below : AreBelowUpTo l.deletion l.id l.ops l.low;
   from : l.first ≤ l.low;
   ahead : l.low ≤ l.high;
 }

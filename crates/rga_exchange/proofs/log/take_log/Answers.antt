@@ -5,6 +5,7 @@ use Rattle.rga_exchange.specs.declared.fault.LogFault.{LogFault}
 use Rattle.rga_exchange.specs.declared.fault.LogFault.TheVariants.{Read}
 use Rattle.rga_exchange.specs.declared.log.LogRead.{LogRead}
 use Rattle.rga_exchange.specs.Taking.{intake}
+use Rattle.rga_exchange.proofs.DeletionRunLemmas.{log_told}
 use Rattle.rga_exchange.proofs.OperationLaws.{log_ends_outcome, log_ends_joined, told_taken, rest_fails}
 use Rattle.rga_exchange.proofs.ReadLaws.{whole_log, same_lines}
 use Rattle.rga_exchange.proofs.log.take_log.Goals as goal
@@ -43,3 +44,9 @@ returns-in_err-end-in-Input-clause-taken g c =
       lines = same_lines (rest.1).same (g.T.Taker.follows_on c.args.taker.now c.take_stream.new.taker c.take_rest.new.taker) (rest.1).nothing c.in_ok-lines.ensures.lines;
       log = tt;
     })
+
+pub returns-in_ok-end-in-Input-clause-deletion_runs : goal.returns-in_ok-end-in-Input-clause-deletion_runs
+returns-in_ok-end-in-Input-clause-deletion_runs g c =
+    let told = rw c.in-Input.is at c.in_ok-lines.ensures.deletion_runs in
+    let rest = rw c.deref.ensures.value at (c.in_ok-end-in-Input.ensures.deletion_runs (λ e. absurd cc)) in
+    log_told _ _ _ _ _ told rest

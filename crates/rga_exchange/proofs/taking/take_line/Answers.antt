@@ -1,5 +1,6 @@
-use Rattle.std.proofs.Common.{rules}
+use Rattle.std.proofs.Common.{rules, refl}
 use Rattle.rga_exchange.specs.Taking.{intake}
+use Rattle.rga_exchange.proofs.DeletionRunLemmas.{none_told}
 use Rattle.rga_exchange.proofs.TakingLaws.{one_takes, insertions_takes}
 use Rattle.rga_exchange.proofs.taking.take_line.Goals as goal
 
@@ -8,3 +9,9 @@ returns-in-Some-clause-taken g c = one_takes _ (intake g.T.Taker.limit g.T.Taker
 
 pub returns-in-Ok-true-clause-taken : goal.returns-in-Ok-true-clause-taken
 returns-in-Ok-true-clause-taken g c = insertions_takes _ (intake g.T.Taker.limit g.T.Taker.content g.T.Taker.follows c.args.taker.now c.take_all.new.taker) _ c.args.line.now _ _ (c.in-Ok-true.ensures.said (search rules)) (rw c.deref.ensures.value at c.take_all.ensures.taken)
+
+pub returns-in-Some-clause-deletion_runs : goal.returns-in-Some-clause-deletion_runs
+returns-in-Some-clause-deletion_runs g c = λ _. none_told c.args.deletion_runs.now c.args.line.now _ c.in-Some.ensures refl
+
+pub returns-in-Ok-true-clause-deletion_runs : goal.returns-in-Ok-true-clause-deletion_runs
+returns-in-Ok-true-clause-deletion_runs g c = λ _. none_told c.args.deletion_runs.now c.args.line.now _ (c.in-Ok-true.ensures.said (search rules)).1 refl

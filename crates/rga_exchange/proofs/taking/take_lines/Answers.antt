@@ -3,6 +3,7 @@ use Rattle.std.proofs.lemmas.Result.{err_from_is_err_and}
 use Rattle.rga_lines.specs.Stream.{Splitting, lines_of, rest_of, splitting_with}
 use Rattle.rga_lines.specs.LineFault.TheVariants as line_fault
 use Rattle.rga_lines.proofs.SplitterLemmas.{GivesLine, passes_line, gives_up}
+use Rattle.rga_exchange.proofs.DeletionRunLemmas.{line_told}
 use Rattle.rga_exchange.proofs.TakingLaws.{takes_after, begins_long, up_to_nothing, up_to_line, up_to_chain, end_stops, fault_stops}
 use Rattle.rga_exchange.proofs.taking.take_lines.Goals as goal
 
@@ -39,6 +40,7 @@ lines-init g c = record {
   limit = refl;
   up_to = up_to_nothing refl (g.T.Taker.follows_nothing _) refl;
   few = c.requires.few;
+  told = λ more. refl;
 }
 
 pub lines-preserved : goal.lines-preserved
@@ -54,4 +56,6 @@ lines-preserved g c =
       few = omega (arith, c.lines.invariant.few, c.from.ensures, fits.fits);
       up_to = up_to_chain c.lines.invariant.limit (g.T.Taker.follows_on c.args.taker.now c.lines.taker c.take_line.new.taker) c.lines.invariant.up_to (
           up_to_line c.line.result.now given took.0 took.1 (ap (λ n. c.lines.operations + n) (c.from.ensures ∙ took.2)));
+      told = λ more. c.lines.invariant.told more
+          ∙ line_told c.lines.splitter c.pass_line.new.self c.line.result.now c.lines.deletion_runs c.take_line.new.deletion_runs given (c.in_ok-count.ensures.deletion_runs (λ e. absurd cc)) more;
     }

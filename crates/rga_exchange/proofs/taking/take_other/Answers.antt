@@ -1,6 +1,7 @@
 use Rattle.std.proofs.Common.{rules, Ok, refl, sym, ap, ◌∙◌}
 use Rattle.rga_lines.proofs.ReadingLemmas.{any_run, any_deletions}
 use Rattle.rga_exchange.specs.Taking.{intake}
+use Rattle.rga_exchange.proofs.DeletionRunLemmas.{none_told, one_told}
 use Rattle.rga_exchange.proofs.TakingLaws.{one_takes, run_takes, deletions_takes, head_takes, last_takes, none_takes}
 use Rattle.rga_exchange.proofs.taking.take_other.Goals as goal
 
@@ -32,5 +33,21 @@ returns-in-Err g c =
     let t = c.args.taker.now in
     record {
       taken = none_takes c.args.form (intake g.T.Taker.limit g.T.Taker.content g.T.Taker.follows t t) c.args.number c.args.line.now _ (sym (c.in-Err.ensures.exact (search rules))) (record { same = refl; nothing = g.T.Taker.follows_nothing t });
+      deletion_runs = λ _. none_told c.args.deletion_runs.now c.args.line.now _ (sym (c.in-Err.ensures.exact (search rules))) refl;
       limit = refl;
     }
+
+pub returns-in-Ok-One-clause-deletion_runs : goal.returns-in-Ok-One-clause-deletion_runs
+returns-in-Ok-One-clause-deletion_runs g c = λ _. none_told c.args.deletion_runs.now c.args.line.now _ (sym (c.in-Ok-One.ensures.exact (λ e. absurd cc)) ∙ ap Ok c.in-Ok-One.field-0-is) refl
+
+pub returns-in-Ok-Run-clause-deletion_runs : goal.returns-in-Ok-Run-clause-deletion_runs
+returns-in-Ok-Run-clause-deletion_runs g c = λ _. none_told c.args.deletion_runs.now c.args.line.now _ (sym (c.in-Ok-Run.ensures.exact (λ e. absurd cc)) ∙ ap Ok c.in-Ok-Run.field-0-is) refl
+
+pub returns-in-Ok-Deletions-clause-deletion_runs : goal.returns-in-Ok-Deletions-clause-deletion_runs
+returns-in-Ok-Deletions-clause-deletion_runs g c = λ _. one_told c.args.deletion_runs.now c.args.line.now c.in-Ok-Deletions.run' (sym (c.in-Ok-Deletions.ensures.exact (λ e. absurd cc)) ∙ ap Ok c.in-Ok-Deletions.field-0-is)
+
+pub returns-in-Ok-Head-clause-deletion_runs : goal.returns-in-Ok-Head-clause-deletion_runs
+returns-in-Ok-Head-clause-deletion_runs g c = λ _. none_told c.args.deletion_runs.now c.args.line.now _ (sym (c.in-Ok-Head.ensures.exact (λ e. absurd cc)) ∙ ap Ok c.in-Ok-Head.field-0-is) refl
+
+pub returns-in-Ok-Last-clause-deletion_runs : goal.returns-in-Ok-Last-clause-deletion_runs
+returns-in-Ok-Last-clause-deletion_runs g c = λ _. none_told c.args.deletion_runs.now c.args.line.now _ (sym (c.in-Ok-Last.ensures.exact (λ e. absurd cc)) ∙ ap Ok c.in-Ok-Last.field-0-is) refl

@@ -1,4 +1,4 @@
-use Rattle.std.proofs.Common.{◌≡◌, ◌∙◌, ◌++◌, take, length, refl, ap, arith, length-append}
+use Rattle.std.proofs.Common.{◌≡◌, ◌∙◌, ◌++◌, take, length, Ok, refl, ap, arith, length-append}
 use Rattle.std.proofs.lemmas.Bool.{lt-ltb}
 use Rattle.std.proofs.lemmas.Result.{err_from_is_err_and}
 use Rattle.std.proofs.lemmas.List.{length-take}
@@ -7,6 +7,7 @@ use Rattle.rga_lines.specs.Stream.{Splitting, splitting_with}
 use Rattle.rga_lines.proofs.SplitterLemmas.{fed_holds}
 use Rattle.rga_exchange.specs.Taking.{intake}
 use Rattle.rga_exchange.specs.Parts.{stage}
+use Rattle.rga_exchange.proofs.DeletionRunLemmas.{nothing_told, lines_told, read_told, all_told}
 use Rattle.rga_exchange.proofs.TakingLaws.{fault_first, fault_stands}
 use Rattle.rga_exchange.proofs.ReadLaws.{read_nothing, read_lines, read_piece, read_failed, read_empty, read_all, read_end, read_fault, whole_lines, first_lines}
 use Rattle.rga_exchange.proofs.taking.take_stream.Goals as goal
@@ -22,6 +23,7 @@ reads-init g c =
       same_failures = refl;
       read = rw waits (read_nothing _ (g.T.Taker.follows_nothing _));
       few = omega arith;
+      told = rw waits (nothing_told _ _);
     }
 
 pub returns-in_err-number-clause-fault : goal.returns-in_err-number-clause-fault
@@ -86,6 +88,7 @@ reads-preserved g c =
       few = c.in_ok-number.ensures.few;
       same_failures = c.in-Ok.ensures.device ∙ c.reads.invariant.same_failures;
       read = rw waits (read_piece {next = c.read.new.self} piece (read_lines c.reads.invariant.limit (g.T.Taker.follows_on c.args.taker.now c.reads.taker c.take_lines.new.taker) c.reads.invariant.read none.up_to) none.none_left c.in-Ok.ensures.bytes.0 (omega (arith, m, c.in-Ok.ensures.bound)));
+      told = rw waits (read_told _ _ _ _ _ c.take_lines.new.splitter.waiting piece (lines_told _ _ _ _ _ _ _ c.reads.invariant.told (c.in_ok-number.ensures.deletion_runs (ap Ok c.in_default.is))) c.in-Ok.ensures.bytes.0);
     }
 
 pub returns-in_default-feed-clause-lines : goal.returns-in_default-feed-clause-lines
@@ -94,3 +97,9 @@ returns-in_default-feed-clause-lines g c =
     let piece = take c.in-Ok.count c.read.new.buf in
     let m = length-take c.in-Ok.count c.read.new.buf in
     first_lines (read_piece {next = c.read.new.self} piece (read_lines c.reads.invariant.limit (g.T.Taker.follows_on c.args.taker.now c.reads.taker c.take_lines.new.taker) c.reads.invariant.read none.up_to) none.none_left c.in-Ok.ensures.bytes.0 (omega (arith, m, c.in-Ok.ensures.bound)))
+
+pub returns-then-count-eq0-clause-deletion_runs : goal.returns-then-count-eq0-clause-deletion_runs
+returns-then-count-eq0-clause-deletion_runs g c =
+    let none = rw c.in_default.is at c.in_ok-number.ensures.taken in
+    let read = rw c.if-count-eq0.true at c.in-Ok.ensures.bytes in
+    rw c.finish.ensures.rest (all_told _ _ (g.R.Read.remaining c.read.new.self.inner) _ _ c.take_lines.new.splitter.waiting (lines_told _ _ _ _ _ _ _ c.reads.invariant.told (c.in_ok-number.ensures.deletion_runs (ap Ok c.in_default.is))) read.0 (read.1 refl (omega arith)) none.none_left)
