@@ -2,11 +2,15 @@
 use Rattle.std.proofs.Common.{◌≡◌, inl, inr, ℕ, Bool, false, List, length, Option, None, Some, Result, Ok, Err, IfSome, refl, sym, ap, subst, ◌∙◌, arith, true≢false}
 use Rattle.std.specs.Io.KnownBytes.{Keeps, Appends}
 use Rattle.std.proofs.lemmas.List.{append_cancel_left}
-use Rattle.rga_ops.specs.Content.{Content, IsWithin, IsSound, Agree, join, content_of, known_count}
-use Rattle.rga_ops.proofs.AgreeLaws.{agree_swap, agree_joined}
-use Rattle.rga_ops.proofs.ContentLaws.{join_assoc, join_same, join_swap, within_itself}
+use Rattle.std.proofs.lemmas.Option.{same_Some}
+use Rattle.rga_ops.specs.Content.{Content, IsWithin, IsSound, Agree, nothing, join, content_of, known_count}
+use Rattle.rga_ops.specs.declared.op.Op.{Op}
+use Rattle.rga_ops.specs.declared.op.Op.TheVariants.{Insert}
+use Rattle.rga_ops.proofs.AgreeLaws.{agree_swap, agree_nothing}
+use Rattle.rga_ops.proofs.OperationLaws.{content_inserted}
+use Rattle.rga_ops.proofs.ContentLaws.{join_assoc, join_same, join_swap, nothing_join, within_itself}
 use Rattle.rga_ops.proofs.SoundLaws.{join_holds}
-use Rattle.rga_ops.proofs.TakenLaws.{held_stays}
+use Rattle.rga_ops.proofs.TakenLaws.{AreTaken, held_stays, taken_list_is}
 use Rattle.rga_devices.specs.Counting.{Calls, Writes}
 use Rattle.rga_lines.specs.Log.{stream_operations}
 use Rattle.rga_exchange.specs.Receiving.{number_received, receive_fault, exchange_outcome}
@@ -15,11 +19,10 @@ use Rattle.rga_exchange.specs.Taking.{Stop, AllTaken, AtEnd, AtFault, progress, 
 use Rattle.rga_exchange.specs.declared.taking.Form.TheVariants.{Exchange}
 use Rattle.rga_exchange.specs.declared.fault.ReceiveFault.{ReceiveFault}
 use Rattle.rga_exchange.specs.declared.fault.ReceiveFault.TheVariants.{Cut, Read, Memory}
-use Rattle.rga_exchange.proofs.OperationLaws.{stream_joined}
+use Rattle.rga_exchange.proofs.OperationLaws.{stream_is_taken}
 use Rattle.rga_digest.specs.Summary.{Summary, IsSummary, DigestsTellApart}
-use Rattle.rga_digest.proofs.SentLaws.{sent_within, missing_suffices_later}
+use Rattle.rga_digest.proofs.SentLaws.{sent_within, missing_agrees, missing_suffices}
 use Rattle.rga_brief.specs.Told.{TellsSummary, summary_heard, summary_text}
-use Rattle.rga_brief.proofs.SentLaws.{agree_part}
 use Rattle.mg_files.specs.Calls.{Call}
 use Rattle.mg_buffer.specs.OpenState.{OpenState}
 use Rattle.mg_files.specs.Saving.{saved}
@@ -79,16 +82,20 @@ module _ {L : Type 0} (a : Account L) (b d : OpenState) (e : Exchanged) (bytes :
 
 -- ---- two that meet
 
--- what is received to its end is joined
-outcome_joined : (limit n : ℕ) (c d : Content) (bytes : List ℕ) → exchange_outcome limit c bytes ≡ (d, Ok n) → d ≡ join c (content_of (stream_operations bytes))
-outcome_joined limit n c d bytes h = by (stream_taken Exchange limit c bytes).stop refl (ap (λ (o : Content × Result ℕ ReceiveFault). o.1) h)
+-- what is received to its end was taken, operation by operation
+outcome_taken : (limit n : ℕ) (c d : Content) (bytes : List ℕ) → exchange_outcome limit c bytes ≡ (d, Ok n) → AreTaken c (stream_operations bytes) d
+outcome_taken limit n c d bytes h = by (stream_taken Exchange limit c bytes).stop refl (ap (λ (o : Content × Result ℕ ReceiveFault). o.1) h)
   where
-    by : (stop : Stop) → (stream_taken Exchange limit c bytes).stop ≡ stop → number_received (length (stream_operations bytes)) stop ≡ Ok n → d ≡ join c (content_of (stream_operations bytes))
+    by : (stop : Stop) → (stream_taken Exchange limit c bytes).stop ≡ stop → number_received (length (stream_operations bytes)) stop ≡ Ok n → AreTaken c (stream_operations bytes) d
     by AllTaken is told = absurd (not_both n Cut _ told refl)
     by (AtEnd number) is told =
         let lines : ℕ = (stream_taken Exchange limit c bytes).lines in
-        stream_joined limit lines c d number bytes (λ k. progress lines (h k).0 (is k))
+        taken_list_is limit c (stream_operations bytes) d (stream_is_taken limit lines c d number bytes (λ k. progress lines (h k).0 (is k)))
     by (AtFault e) is told = absurd (not_both n (receive_fault e) _ told refl)
+
+-- and so it agrees with what was held
+taken_agrees : (c d : Content) (ops : List Op) → AreTaken c ops d → Agree c (content_of ops)
+taken_agrees c d ops w id x y f g = same_Some x y (sym (w.grown.inserted id x f) ∙ w.held (Insert id y.parent y.ch) (content_inserted ops id y g))
 
 -- a link that tells what was written on another tells all of it
 tells_all : {L M : Type 0} (remaining : L → Option (List ℕ)) (contents : M → Option (List ℕ)) (link : L) (old new : Calls M) (text : List ℕ)
@@ -96,15 +103,18 @@ tells_all : {L M : Type 0} (remaining : L → Option (List ℕ)) (contents : M �
 tells_all remaining contents link old new text t written =
     append_cancel_left t.front t.bytes text (subst (λ k. Appends (Some t.front) k text) t.behind (subst (λ k. Appends k (contents new.inner) text) t.before written))
 
--- so it stands for what was told to the peer, where the two agree
-told_joined : {L M : Type 0} (remaining : L → Option (List ℕ)) (contents : M → Option (List ℕ)) (link : L) (peer : Option Summary) (old new : Calls M) (n : ℕ) (c d : Content)
-    → (t : Tells remaining contents link old.inner new.inner) → SendsOver peer contents old new (Ok n) c → IsSound c → Agree d c
-    → join d (content_of (stream_operations t.bytes)) ≡ join d (told_content peer c)
-told_joined remaining contents link peer old new n c d t s sound agree =
-    let both : Content = join d (told_content peer c) in
+-- so it stands for what was told to the peer
+told_is : {L M : Type 0} (remaining : L → Option (List ℕ)) (contents : M → Option (List ℕ)) (link : L) (peer : Option Summary) (old new : Calls M) (n : ℕ) (c : Content)
+    → (t : Tells remaining contents link old.inner new.inner) → SendsOver peer contents old new (Ok n) c → IsSound c
+    → content_of (stream_operations t.bytes) ≡ told_content peer c
+told_is remaining contents link peer old new n c t s sound =
+    let part : Content = told_content peer c in
     let text : List ℕ = exchange_text (told_to peer c) in
-    ap (λ bytes. join d (content_of (stream_operations bytes))) (tells_all remaining contents link old new text t s.written)
-    ∙ sym (outcome_joined (known_count both) n d both text (s.received (known_count both) d sound agree (omega (arith))))
+    let all : Content = join nothing part in
+    ap (λ bytes. content_of (stream_operations bytes)) (tells_all remaining contents link old new text t s.written)
+    ∙ sym (nothing_join (content_of (stream_operations text)))
+    ∙ sym (outcome_taken (known_count all) n nothing all text (s.received (known_count all) nothing sound (agree_swap c nothing (agree_nothing c)) (omega (arith)))).joined
+    ∙ nothing_join part
 
 told_within : (peer : Option Summary) (c : Content) → IsWithin (told_content peer c) c
 told_within None c = within_itself c
@@ -117,18 +127,29 @@ sound_joined c x d first second within op h = elim (join_holds c x op h) [
   | inr held ↦ second op (held_stays x d op within held)
 ]
 
-agree_itself : (c : Content) → Agree c c
-agree_itself c id x y f g = let same : Some x ≡ Some y = sym f ∙ g in cc
-
 module _ {L M : Type 0} (a : Account L) (b d : OpenState) (their : Account M) (their_b their_d : OpenState) (m : Meet a b d their their_b their_d) (sound : IsSound b.buffer.content)
-    (their_sound : IsSound their_b.buffer.content) (agree : Agree b.buffer.content their_b.buffer.content) where
+    (their_sound : IsSound their_b.buffer.content) where
+  -- what was told to the one that waited
+  there_is : content_of (stream_operations m.there.bytes) ≡ told_content m.connects.passes.first.peer b.buffer.content
+  there_is =
+      let first = m.connects.passes.first in
+      told_is their.wire.remaining a.wire.contents m.waits.passes.0.begins.asked.inner first.peer first.begins.asked first.sent m.answer.sent b.buffer.content m.there
+      (subst (λ x. SendsOver first.peer a.wire.contents first.begins.asked first.sent (Ok m.answer.sent) x) (saved_content b) first.sends) sound
+
+  -- it agreed with it, since it took all of it
+  their_agree : Agree their_b.buffer.content (told_content m.connects.passes.first.peer b.buffer.content)
+  their_agree =
+      let hears = m.waits.passes.0.hears in
+      let c : Content = (saved their_b).buffer.content in
+      let took = subst (λ k. IfSome k (λ bytes. exchange_outcome (saved their_b).buffer.limit c bytes ≡ (m.waits.came.met.buffer.content, Ok m.their_answer.received))) m.there.told
+      (hears.outcome (not_both m.their_answer.received Read _ refl) (not_both m.their_answer.received Memory _ refl)) in
+      let agree : Agree c (content_of (stream_operations m.there.bytes)) =
+      taken_agrees c m.waits.came.met.buffer.content (stream_operations m.there.bytes) (outcome_taken (saved their_b).buffer.limit m.their_answer.received c m.waits.came.met.buffer.content m.there.bytes took) in
+      subst (λ x. Agree x (told_content m.connects.passes.first.peer b.buffer.content)) (saved_content their_b) (subst (Agree c) there_is agree)
+
   -- what the one that waited holds then, and the one that connected
   their_join : their_d.buffer.content ≡ join their_b.buffer.content (told_content m.connects.passes.first.peer b.buffer.content)
-  their_join =
-      let first = m.connects.passes.first in
-      serve_joins their their_b their_d m.their_answer m.there.bytes m.waits m.there.told
-      ∙ told_joined their.wire.remaining a.wire.contents m.waits.passes.0.begins.asked.inner first.peer first.begins.asked first.sent m.answer.sent b.buffer.content their_b.buffer.content m.there
-      (subst (λ x. SendsOver first.peer a.wire.contents first.begins.asked first.sent (Ok m.answer.sent) x) (saved_content b) first.sends) sound (agree_swap b.buffer.content their_b.buffer.content agree)
+  their_join = serve_joins their their_b their_d m.their_answer m.there.bytes m.waits m.there.told ∙ ap (join their_b.buffer.content) there_is
 
   our_join : d.buffer.content ≡ join b.buffer.content (told_content m.waits.passes.0.peer their_d.buffer.content)
   our_join =
@@ -137,23 +158,21 @@ module _ {L M : Type 0} (a : Account L) (b d : OpenState) (their : Account M) (t
       let x : Content = told_content m.connects.passes.first.peer c in
       let within : IsWithin x c = told_within m.connects.passes.first.peer c in
       let all : IsSound their_d.buffer.content = subst IsSound (sym their_join) (sound_joined e x c their_sound sound within) in
-      let still : Agree (join e x) c = agree_joined e x c (agree_swap c e agree) (agree_swap c x (agree_part c c x (agree_itself c) within)) in
       let heard = m.waits.passes.0 in
       exchange_joins a b d m.answer m.back.bytes m.connects m.back.told
-      ∙ told_joined a.wire.remaining their.wire.contents m.connects.passes.first.sent.inner heard.peer (counted heard.heard.inner) m.waits.passes.1.sent m.their_answer.sent their_d.buffer.content c m.back m.waits.passes.1.sends all
-      (subst (Agree c) (sym their_join) (agree_swap (join e x) c still))
+      ∙ ap (join c) (told_is a.wire.remaining their.wire.contents m.connects.passes.first.sent.inner heard.peer (counted heard.heard.inner) m.waits.passes.1.sent m.their_answer.sent their_d.buffer.content m.back m.waits.passes.1.sends all)
 
   pub parts : ((part : Content) × (IsWithin part b.buffer.content × (their_d.buffer.content ≡ join their_b.buffer.content part))) × ((part : Content) × (IsWithin part their_d.buffer.content × (d.buffer.content ≡ join b.buffer.content part)))
   parts = ((_, (told_within m.connects.passes.first.peer b.buffer.content, their_join)), (_, (told_within m.waits.passes.0.peer their_d.buffer.content, our_join)))
 
   -- where what each told is as good as all
-  meet_by : join their_b.buffer.content (told_content m.connects.passes.first.peer b.buffer.content) ≡ join their_b.buffer.content b.buffer.content
+  meet_by : Agree their_b.buffer.content b.buffer.content → join their_b.buffer.content (told_content m.connects.passes.first.peer b.buffer.content) ≡ join their_b.buffer.content b.buffer.content
       → (their_d.buffer.content ≡ join their_b.buffer.content b.buffer.content → join b.buffer.content (told_content m.waits.passes.0.peer their_d.buffer.content) ≡ join b.buffer.content their_d.buffer.content)
       → (d.buffer.content ≡ join b.buffer.content their_b.buffer.content) × (their_d.buffer.content ≡ d.buffer.content)
-  meet_by enough enough_back =
+  meet_by agree enough enough_back =
       let c : Content = b.buffer.content in
       let e : Content = their_b.buffer.content in
-      let theirs : their_d.buffer.content ≡ join c e = their_join ∙ enough ∙ sym (join_swap c e agree) in
+      let theirs : their_d.buffer.content ≡ join c e = their_join ∙ enough ∙ join_swap e c agree in
       let ours : d.buffer.content ≡ join c e = our_join ∙ enough_back (their_join ∙ enough) ∙ ap (join c) theirs ∙ sym (join_assoc c c e) ∙ ap (λ x. join x e) (join_same c) in
       (ours, theirs ∙ sym ours)
 
@@ -175,25 +194,29 @@ heard_as_told remaining contents link new old next c peer t told learns =
 
 module _ {L M : Type 0} (a : Account L) (b d : OpenState) (their : Account M) (their_b their_d : OpenState) where
   pub meet : Meet a b d their their_b their_d → b.brief ≡ false → their_b.brief ≡ false → IsSound b.buffer.content → IsSound their_b.buffer.content
-      → Agree b.buffer.content their_b.buffer.content → (d.buffer.content ≡ join b.buffer.content their_b.buffer.content) × (their_d.buffer.content ≡ d.buffer.content)
-  meet m whole their_whole sound their_sound agree =
+      → (d.buffer.content ≡ join b.buffer.content their_b.buffer.content) × (their_d.buffer.content ≡ d.buffer.content)
+  meet m whole their_whole sound their_sound =
       let ours = m.connects.passes.first.begins in
       let theirs = m.waits.passes.0.begins in
-      meet_by a b d their their_b their_d m sound their_sound agree
-      (ap (λ p. join their_b.buffer.content (told_content p b.buffer.content)) (no_peer a.wire Connects b (counted ours.link) ours.asked _ whole ours.asks))
+      let none : m.connects.passes.first.peer ≡ None = no_peer a.wire Connects b (counted ours.link) ours.asked _ whole ours.asks in
+      meet_by a b d their their_b their_d m sound their_sound
+      (subst (λ p. Agree their_b.buffer.content (told_content p b.buffer.content)) none (their_agree a b d their their_b their_d m sound their_sound))
+      (ap (λ p. join their_b.buffer.content (told_content p b.buffer.content)) none)
       (λ _. ap (λ p. join b.buffer.content (told_content p their_d.buffer.content)) (no_peer their.wire Waits their_b (counted theirs.link) theirs.asked _ their_whole theirs.asks))
 
   pub meet_briefly : HaveMetBriefly a b d their their_b their_d → IsSound b.buffer.content → IsSound their_b.buffer.content
-      → Agree b.buffer.content their_b.buffer.content → DigestsTellApart b.buffer.content their_b.buffer.content → DigestsTellApart (join their_b.buffer.content b.buffer.content) b.buffer.content
+      → DigestsTellApart b.buffer.content their_b.buffer.content → DigestsTellApart (join their_b.buffer.content b.buffer.content) b.buffer.content
       → (d.buffer.content ≡ join b.buffer.content their_b.buffer.content) × (their_d.buffer.content ≡ d.buffer.content)
-  meet_briefly h sound their_sound agree apart apart_then =
+  meet_briefly h sound their_sound apart apart_then =
       let c : Content = b.buffer.content in
       let e : Content = their_b.buffer.content in
       let ours = h.meet.connects.passes.first.begins in
       let theirs = h.meet.waits.passes.0.begins in
       let known : IsSummary c h.their_peer = heard_as_told their.wire.remaining a.wire.contents (counted theirs.link) h.answers.mid (counted ours.link) h.asks.mid c h.their_peer h.asked h.asks.says.told h.answers.learns in
       let their_known : IsSummary e h.peer = heard_as_told a.wire.remaining their.wire.contents h.asks.mid ours.asked h.answers.mid theirs.asked e h.peer h.answered h.answers.says.told h.asks.learns in
-      meet_by a b d their their_b their_d h.meet sound their_sound agree
-      (ap (λ p. join e (told_content p c)) h.knows ∙ missing_suffices_later c e e h.peer their_known (within_itself e) apart)
+      meet_by a b d their their_b their_d h.meet sound their_sound
+      (missing_agrees c e h.peer their_known apart
+      (subst (λ p. Agree e (told_content p c)) h.knows (their_agree a b d their their_b their_d h.meet sound their_sound)))
+      (ap (λ p. join e (told_content p c)) h.knows ∙ missing_suffices c e e h.peer their_known (within_itself e) apart)
       (λ theirs. ap (λ p. join c (told_content p their_d.buffer.content)) h.they_know
-      ∙ missing_suffices_later their_d.buffer.content c c h.their_peer known (within_itself c) (subst (λ x. DigestsTellApart x c) (sym theirs) apart_then))
+      ∙ missing_suffices their_d.buffer.content c c h.their_peer known (within_itself c) (subst (λ x. DigestsTellApart x c) (sym theirs) apart_then))

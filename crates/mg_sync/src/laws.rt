@@ -1,6 +1,6 @@
 //! Theorems about exchanges. Each function does nothing: its contract is the theorem.
 ghost use Rattle.std.specs.Prelude.{◌≡◌, false, ℕ, List, Some, Ok};
-ghost use Rattle.rga_ops.specs.Content.{Content, Agree, IsWithin, IsSound, join, content_of};
+ghost use Rattle.rga_ops.specs.Content.{Content, IsWithin, IsSound, join, content_of};
 ghost use Rattle.rga_lines.specs.Log.{stream_operations};
 ghost use Rattle.rga_digest.specs.Summary.{DigestsTellApart};
 ghost use Rattle.mg_buffer.specs.OpenState.{OpenState};
@@ -33,25 +33,24 @@ pub fn what_a_link_tells_is_joined<P: Port>()
 {}
 
 /// Two replicas that meet, the one by `exchange` and the other by `serve`, each over a link that
-/// tells what the other wrote, and neither of them briefly, hold one content behind it, where their
-/// operations are well-formed and agree: the join of both.
+/// tells what the other wrote, and neither of them briefly, hold one content after it, if their
+/// operations are well-formed: the join of both. Had they not agreed, one would have been refused.
 pub fn two_that_meet_hold_one_content<P: Port, Q: Port>()
     ensures { (a : Account P.Link) (b d : OpenState) (their : Account Q.Link)
         (their_b their_d : OpenState) → Meet a b d their their_b their_d
         → b.brief ≡ false → their_b.brief ≡ false
         → IsSound b.buffer.content → IsSound their_b.buffer.content
-        → Agree b.buffer.content their_b.buffer.content
         → (d.buffer.content ≡ join b.buffer.content their_b.buffer.content)
         × (their_d.buffer.content ≡ d.buffer.content) }
 {}
 
-/// The same of two that meet briefly, each of which tells truly what it knows, where digests tell
-/// their deletions apart: of both as they were, and of the one that connected and both joined.
+/// The same of two that meet briefly, each of which tells truly what it knows, if digests tell their
+/// blocks apart, insertions and deletions: those of both as they were, and those of the one that
+/// connected and of both joined.
 pub fn two_that_meet_briefly_hold_one_content<P: Port, Q: Port>()
     ensures { (a : Account P.Link) (b d : OpenState) (their : Account Q.Link)
         (their_b their_d : OpenState) → HaveMetBriefly a b d their their_b their_d
         → IsSound b.buffer.content → IsSound their_b.buffer.content
-        → Agree b.buffer.content their_b.buffer.content
         → DigestsTellApart b.buffer.content their_b.buffer.content
         → DigestsTellApart (join their_b.buffer.content b.buffer.content) b.buffer.content
         → (d.buffer.content ≡ join b.buffer.content their_b.buffer.content)
@@ -64,7 +63,6 @@ pub fn what_is_taken_is_the_peers<P: Port, Q: Port>()
     ensures { (a : Account P.Link) (b d : OpenState) (their : Account Q.Link)
         (their_b their_d : OpenState) → Meet a b d their their_b their_d
         → IsSound b.buffer.content → IsSound their_b.buffer.content
-        → Agree b.buffer.content their_b.buffer.content
         → ((part : Content) × (IsWithin part b.buffer.content
         × (their_d.buffer.content ≡ join their_b.buffer.content part)))
         × ((part : Content) × (IsWithin part their_d.buffer.content

@@ -1,5 +1,6 @@
 -- How the JSON of a claim is spelled.
 use Rattle.std.proofs.Common.{◌≡◌, ◌≢◌, ℕ, ◌+◌, ◌/◌, ◌%◌, ◌^◌, ◌<◌, Bool, true, false, not, ◌&&◌, ◌==◌, List, [], ◌∷◌, ◌++◌, codes, decimal, refl, sym, ap, ◌∙◌, arith, true≢false}
+use Rattle.std.specs.Prelude.{Option, Some, None}
 use Rattle.std.specs.List.{All, list_all}
 use Rattle.std.proofs.lemmas.Bool.Decides.{nat_tests}
 use Rattle.std.proofs.Math.Nat.{div-le_self, mod-le}
@@ -8,18 +9,39 @@ use Rattle.std.proofs.lemmas.List.Folds.{list_all-append}
 use Rattle.std.proofs.lemmas.List.Sums.{AllPass-from_list_all}
 use Rattle.serde_json.specs.Written.{has_float, compact_text}
 use Rattle.serde_json.proofs.OnLiterals.{serde_json_on_literals}
+use Rattle.rga_digest.specs.declared.block.Block.{Block}
 use Rattle.rga_brief.specs.declared.claim.Claim.{Claim}
-use Rattle.rga_brief.specs.declared.claim.Claim.TheVariants.{Known, Deleted}
-use Rattle.rga_brief.specs.Claims.{claim_data, claim_line, IsInRange}
+use Rattle.rga_brief.specs.Claims.{IsDigest, IsInRange, claim_data, claim_line, pair_text, part_text, with_digests}
+
+without_float : (b : Block) (e i : Option ℕ) → has_float (claim_data (with_digests b e i)) ≡ false
+without_float b None None = refl
+without_float b (Some d) None = refl
+without_float b None (Some d) = refl
+without_float b (Some d) (Some f) = refl
 
 pub no_float : (claim : Claim) → has_float (claim_data claim) ≡ false
-no_float (Known r) = refl
-no_float (Deleted b digest) = refl
+no_float claim = without_float claim.block claim.digests.deleted claim.digests.inserted
+
+spelled : (b : Block) (e i : Option ℕ) → compact_text (claim_data (with_digests b e i)) ≡ claim_line (with_digests b e i)
+unfolding serde_json_on_literals claim_line
+spelled b None None = refl
+spelled b (Some d) None = refl
+spelled b None (Some d) = refl
+spelled b (Some d) (Some f) = refl
 
 pub line_of : (claim : Claim) → compact_text (claim_data claim) ≡ claim_line claim
-unfolding serde_json_on_literals claim_line
-line_of (Known r) = refl
-line_of (Deleted b digest) = refl
+line_of claim = spelled claim.block claim.digests.deleted claim.digests.inserted
+
+-- ---- the halves of a digest are numbers of the types
+
+half_small : (n d : ℕ) → d < 2 ^ 64 → d / n < 2 ^ 64
+half_small n d h = omega (arith, div-le_self d n)
+
+rest_small : (n d : ℕ) → d < 2 ^ 64 → d % n < 2 ^ 64
+rest_small n d h = omega (arith, mod-le d n)
+
+pub halves : (digest : ℕ) → digest < 2 ^ 64 → (digest / 4294967296 < 2 ^ 64) × (digest % 4294967296 < 2 ^ 64)
+halves digest h = (half_small 4294967296 digest h, rest_small 4294967296 digest h)
 
 -- ---- no newline
 
@@ -36,23 +58,19 @@ none-decimal : (n : ℕ) → n < 2 ^ 64 → none (decimal n) ≡ true
 none-decimal n h =
     decimal_by_steps (λ _ ds. none ds ≡ true) (λ k lt. (λ i. digit k i && true)) (λ k ds le done. both ds ((48 + k % 10) ∷ []) done (λ i. digit (k % 10) i && true)) n h
 
+none-pair : (a b : ℕ) → a < 2 ^ 64 → b < 2 ^ 64 → none (pair_text a b) ≡ true
+none-pair a b f g = both (decimal a) _ (none-decimal a f) (both (decimal b) (codes "]") (none-decimal b g) refl)
+
+none-part : (name : List ℕ) (digest : Option ℕ) (more : List ℕ) → none name ≡ true → IsDigest digest → none more ≡ true → none (part_text name digest more) ≡ true
+none-part name None more n h m = m
+none-part name (Some d) more n h m =
+    both name _ n (both (pair_text (d / 4294967296) (d % 4294967296)) more (none-pair (d / 4294967296) (d % 4294967296) (halves d h).0 (halves d h).1) m)
+
 none-line : (claim : Claim) → IsInRange claim → none (claim_line claim) ≡ true
 unfolding claim_line
-none-line (Known r) h =
-    both (decimal r.first) _ (none-decimal r.first h.1)
-    (both (decimal r.last) _ (none-decimal r.last h.2)
-    (both (decimal r.replica) (codes "}") (none-decimal r.replica (omega (arith, h.0))) refl))
-none-line (Deleted b digest) h =
-    both (decimal b.number) _ (none-decimal b.number h.1)
-    (both (decimal (digest / 4294967296)) _ (none-decimal (digest / 4294967296) (high 4294967296 digest h.2))
-    (both (decimal (digest % 4294967296)) _ (none-decimal (digest % 4294967296) (low 4294967296 digest h.2))
-    (both (decimal b.replica) (codes "}") (none-decimal b.replica (omega (arith, h.0))) refl)))
-  where
-    high : (n d : ℕ) → d < 2 ^ 64 → d / n < 2 ^ 64
-    high n d h = omega (arith, div-le_self d n)
-
-    low : (n d : ℕ) → d < 2 ^ 64 → d % n < 2 ^ 64
-    low n d h = omega (arith, mod-le d n)
+none-line claim h =
+    both (pair_text claim.block.replica claim.block.number) _ (none-pair claim.block.replica claim.block.number (omega (arith, h.0)) h.1)
+    (none-part (codes "del") claim.digests.deleted _ refl h.2 (none-part (codes "ins") claim.digests.inserted (codes "}") refl h.3 refl))
 
 pub one_line : (claim : Claim) → IsInRange claim → All (λ b. b ≢ 10) (claim_line claim)
 one_line claim h k d l e =

@@ -5,3 +5,5 @@ pub mod LineLaws
 pub mod TellingLaws
 pub mod HearingLaws
 pub mod SentLaws
+pub mod HeardLaws
+pub mod ReceivedLaws

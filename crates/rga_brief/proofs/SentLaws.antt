@@ -1,7 +1,9 @@
 -- What is missing is received by what agrees with it.
 use Rattle.std.proofs.Common.{◌≡◌, ℕ, ◌≤◌, List, Result, Ok, Err, subst}
 use Rattle.std.specs.Prelude.{IfOk}
-use Rattle.rga_ops.specs.Content.{Content, Agree, IsSound, IsWithin, join, content_of, known_count}
+use Rattle.rga_ops.specs.Content.{Content, Agree, IsSound, join, content_of, known_count}
+use Rattle.rga_ops.proofs.AgreeLaws.{agree_within}
+use Rattle.rga_ops.proofs.ContentLaws.{within_itself}
 use Rattle.rga_ops.specs.ListAnswer.{AreWellFormed, IsJoinable}
 use Rattle.rga_ops.specs.declared.op.Op.{Op}
 use Rattle.rga_exchange.specs.Receiving.{exchange_outcome}
@@ -10,15 +12,11 @@ use Rattle.rga_exchange.specs.declared.fault.SendFault.{SendFault}
 use Rattle.rga_digest.specs.Summary.{Summary, missing}
 use Rattle.rga_digest.proofs.SentLaws.{sent_holds, sent_within, sent_agreed}
 
--- what agrees with a content agrees with each part of it
-pub agree_part : (d c e : Content) → Agree d c → IsWithin e c → Agree d e
-agree_part d c e agree within id x y f g = agree id x y f (within.inserted id y g)
-
 pub missing_well_formed : (c : Content) (s : Summary) → IsSound c → AreWellFormed (missing c s)
 missing_well_formed c s sound op m = sound op (sent_holds c s op m)
 
 missing_joinable : (d c : Content) (s : Summary) → Agree d c → IsJoinable d (missing c s)
-missing_joinable d c s agree = record { agreed = sent_agreed c s; agree = agree_part d c (content_of (missing c s)) agree (sent_within c s) }
+missing_joinable d c s agree = record { agreed = sent_agreed c s; agree = agree_within d (content_of (missing c s)) d c (within_itself d) (sent_within c s) agree }
 
 -- what is said of a list that was sent, where it is what a peer lacks
 pub missing_received : (r : Result ℕ SendFault) (c : Content) (s : Summary) (ops : List Op) → ops ≡ missing c s

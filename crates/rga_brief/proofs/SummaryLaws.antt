@@ -1,70 +1,97 @@
--- A summary comes back from its claims.
-use Rattle.std.proofs.Common.{◌≡◌, ℕ, cond, List, [], ◌∷◌, ◌++◌, map, refl, sym, ap, ◌∙◌, subst, append_assoc}
-use Rattle.std.specs.Prelude.{Some, None}
-use Rattle.std.specs.List.{filter_map, AllByRecursion}
+-- A summary comes back from its claims, and of claims the last of each block counts.
+use Rattle.std.proofs.Common.{◌≡◌, Bool, true, false, cond, List, [], ◌∷◌, ◌++◌, map, refl, sym, ap, ◌∙◌, subst, append_assoc, true≢false}
+use Rattle.std.specs.Prelude.{Option, Some, None}
+use Rattle.std.specs.Option.{option_or}
+use Rattle.std.specs.List.{AllByRecursion}
 use Rattle.std.specs.List.Sorted.{IsStrictlySortedBy}
 use Rattle.std.specs.BTreeMap.{insert_entry}
 use Rattle.std.specs.Map.{keys_of}
-use Rattle.std.specs.Ordering.{match_ordering, ordering_reverse}
-use Rattle.std.specs.declared.cmp.Ordering.TheVariants.{Less}
+use Rattle.std.specs.Ordering.{eq_by_cmp, is_eq, match_ordering, ordering_reverse}
+use Rattle.std.specs.declared.cmp.Ordering.{Ordering}
+use Rattle.std.specs.declared.cmp.Ordering.TheVariants.{Less, Equal, Greater}
 use Rattle.std.proofs.lemmas.List.{append-nil}
-use Rattle.std.proofs.lemmas.List.Elements.{filter_map-append}
 use Rattle.rga_ops.specs.Content.{Content}
 use Rattle.rga_digest.specs.declared.block.Block.{Block}
-use Rattle.rga_digest.specs.declared.ranges.KnownRange.{KnownRange}
-use Rattle.rga_digest.specs.Ranges.{are_rising}
+use Rattle.rga_digest.specs.declared.digests.Digests.{Digests}
 use Rattle.rga_digest.specs.Digest.{block_cmp}
-use Rattle.rga_digest.specs.Summary.{Summary, IsSummary, claimed}
+use Rattle.rga_digest.specs.Summary.{Summary, IsSummary, digests_at}
 use Rattle.rga_digest.proofs.OneSummary.{blocks_total}
 use Rattle.rga_brief.specs.declared.claim.Claim.{Claim}
-use Rattle.rga_brief.specs.declared.claim.Claim.TheVariants.{Known}
-use Rattle.rga_brief.specs.Summaries.{digest_claim, claims_of, range_in, put_claims, summary_from}
+use Rattle.rga_brief.specs.Summaries.{entry_claim, claims_of, put_claims, summary_from, last_claimed}
 
--- ---- ranges
-
-ranges_back : (rs : List KnownRange) → filter_map range_in (map Known rs) ≡ rs
-ranges_back [] = refl
-ranges_back (r ∷ rs) = ap (λ xs. r ∷ xs) (ranges_back rs)
-
-no_ranges : (es : List (Block × ℕ)) → filter_map range_in (map digest_claim es) ≡ []
-no_ranges [] = refl
-no_ranges (e ∷ es) = no_ranges es
-
-ranges_of_claims : (s : Summary) → filter_map range_in (claims_of s) ≡ s.ranges
-ranges_of_claims s =
-    filter_map-append range_in (map Known s.ranges) (map digest_claim s.digests)
-    ∙ (λ k. ranges_back s.ranges k ++ no_ranges s.digests k) ∙ append-nil s.ranges
-
--- ---- digests
-
-passed : (digests : List (Block × ℕ)) (rs : List KnownRange) (claims : List Claim) → put_claims digests (map Known rs ++ claims) ≡ put_claims digests claims
-passed digests [] claims = refl
-passed digests (r ∷ rs) claims = passed digests rs claims
+-- ---- what comes back
 
 -- a block behind all others goes to the end
-put_last : (es : List (Block × ℕ)) (b : Block) (digest : ℕ) → AllByRecursion (λ k. block_cmp k b ≡ Less) (keys_of es) → insert_entry block_cmp es b digest ≡ es ++ (b, digest) ∷ []
-put_last [] b digest h = refl
-put_last (e ∷ es) b digest h =
-    ap (λ o. match_ordering o ((b, digest) ∷ e ∷ es) ((e.0, digest) ∷ es) (e ∷ insert_entry block_cmp es b digest)) (blocks_total.antisymm b e.0 ∙ ap ordering_reverse h.0)
-    ∙ ap (λ xs. e ∷ xs) (put_last es b digest h.1)
+put_last : (es : Summary) (b : Block) (d : Digests) → AllByRecursion (λ k. block_cmp k b ≡ Less) (keys_of es) → insert_entry block_cmp es b d ≡ es ++ (b, d) ∷ []
+put_last [] b d h = refl
+put_last (e ∷ es) b d h =
+    ap (λ o. match_ordering o ((b, d) ∷ e ∷ es) ((e.0, d) ∷ es) (e ∷ insert_entry block_cmp es b d)) (blocks_total.antisymm b e.0 ∙ ap ordering_reverse h.0)
+    ∙ ap (λ xs. e ∷ xs) (put_last es b d h.1)
 
-in_middle : (P : Block → Type 0) (es : List (Block × ℕ)) (f : Block × ℕ) (fs : List (Block × ℕ)) → AllByRecursion P (keys_of (es ++ f ∷ fs)) → P f.0
+in_middle : (P : Block → Type 0) (es : Summary) (f : Block × Digests) (fs : Summary) → AllByRecursion P (keys_of (es ++ f ∷ fs)) → P f.0
 in_middle P [] f fs h = h.0
 in_middle P (e ∷ es) f fs h = in_middle P es f fs h.1
 
-all_before : (es : List (Block × ℕ)) (f : Block × ℕ) (fs : List (Block × ℕ)) → IsStrictlySortedBy block_cmp (keys_of (es ++ f ∷ fs)) → AllByRecursion (λ k. block_cmp k f.0 ≡ Less) (keys_of es)
+all_before : (es : Summary) (f : Block × Digests) (fs : Summary) → IsStrictlySortedBy block_cmp (keys_of (es ++ f ∷ fs)) → AllByRecursion (λ k. block_cmp k f.0 ≡ Less) (keys_of es)
 unfolding IsStrictlySortedBy
 all_before [] f fs up = tt
 all_before (e ∷ es) f fs up = (in_middle (λ y. block_cmp e.0 y ≡ Less) es f fs up.0, all_before es f fs up.1)
 
-digests_back : (es fs : List (Block × ℕ)) → IsStrictlySortedBy block_cmp (keys_of (es ++ fs)) → put_claims es (map digest_claim fs) ≡ es ++ fs
+digests_back : (es fs : Summary) → IsStrictlySortedBy block_cmp (keys_of (es ++ fs)) → put_claims es (map entry_claim fs) ≡ es ++ fs
 digests_back es [] up = sym (append-nil es)
 digests_back es (f ∷ fs) up =
-    ap (λ xs. put_claims xs (map digest_claim fs)) (put_last es f.0 f.1 (all_before es f fs up))
+    ap (λ xs. put_claims xs (map entry_claim fs)) (put_last es f.0 f.1 (all_before es f fs up))
     ∙ digests_back (es ++ f ∷ []) fs (subst (λ xs. IsStrictlySortedBy block_cmp (keys_of xs)) (sym (append_assoc es (f ∷ []) fs)) up)
     ∙ append_assoc es (f ∷ []) fs
 
-pub comes_back : (c : Content) (s : Summary) → IsSummary c s → summary_from (claims_of s) ≡ Some s
-comes_back c s is =
-    (λ k. cond (are_rising (ranges_of_claims s k)) (Some (claimed (ranges_of_claims s k) (put_claims [] (claims_of s)))) None)
-    ∙ (λ k. cond (is.rising k) (Some (claimed s.ranges ((passed [] s.ranges (map digest_claim s.digests) ∙ digests_back [] s.digests is.in_order) k))) None)
+pub comes_back : (c : Content) (s : Summary) → IsSummary c s → summary_from (claims_of s) ≡ s
+comes_back c s is = digests_back [] s is.in_order
+
+-- ---- the last claim of a block
+
+same_key : (b c : Bool) (x y z : Option Digests) → b ≡ c → cond c x z ≡ cond b x (cond c y z)
+same_key true true x y z h = refl
+same_key true false x y z h = absurd (true≢false h)
+same_key false true x y z h = absurd (true≢false (sym h))
+same_key false false x y z h = refl
+
+-- a key that is above another equals no key that the other equals
+other_key : (q k f : Block) (x y z : Option Digests) → block_cmp k f ≡ Greater → cond (eq_by_cmp block_cmp q f) y (cond (eq_by_cmp block_cmp q k) x z) ≡ cond (eq_by_cmp block_cmp q k) x (cond (eq_by_cmp block_cmp q f) y z)
+other_key q k f x y z above = by (block_cmp q k) refl
+  where
+    by : (o : Ordering) → block_cmp q k ≡ o → cond (eq_by_cmp block_cmp q f) y (cond (is_eq o) x z) ≡ cond (is_eq o) x (cond (eq_by_cmp block_cmp q f) y z)
+    by Less h = refl
+    by Equal h = ap (λ o. cond (is_eq o) y x) (blocks_total.congr q k f h ∙ above)
+    by Greater h = refl
+
+alike : (q k f : Block) → block_cmp k f ≡ Equal → eq_by_cmp block_cmp q k ≡ eq_by_cmp block_cmp q f
+alike q k f same = ap is_eq (blocks_total.antisymm q k ∙ ap ordering_reverse (blocks_total.congr k f q same) ∙ sym (blocks_total.antisymm q f))
+
+found_put : (q k : Block) (d : Digests) (es : Summary) → digests_at (insert_entry block_cmp es k d) q ≡ cond (eq_by_cmp block_cmp q k) (Some d) (digests_at es q)
+found_put q k d [] = refl
+found_put q k d (e ∷ es) = by (block_cmp k e.0) refl (found_put q k d es)
+  where
+    by : (o : Ordering) → block_cmp k e.0 ≡ o → digests_at (insert_entry block_cmp es k d) q ≡ cond (eq_by_cmp block_cmp q k) (Some d) (digests_at es q)
+        → digests_at (match_ordering o ((k, d) ∷ e ∷ es) ((e.0, d) ∷ es) (e ∷ insert_entry block_cmp es k d)) q ≡ cond (eq_by_cmp block_cmp q k) (Some d) (cond (eq_by_cmp block_cmp q e.0) (Some e.1) (digests_at es q))
+    by Less h rest = refl
+    by Equal h rest = same_key (eq_by_cmp block_cmp q k) (eq_by_cmp block_cmp q e.0) (Some d) (Some e.1) (digests_at es q) (alike q k e.0 h)
+    by Greater h rest = ap (cond (eq_by_cmp block_cmp q e.0) (Some e.1)) rest ∙ other_key q k e.0 (Some d) (Some e.1) (digests_at es q) h
+
+chosen : (o p : Option Digests) (b : Bool) (d : Digests) → option_or o (cond b (Some d) p) ≡ option_or (option_or o (cond b (Some d) None)) p
+chosen None p true d = refl
+chosen None p false d = refl
+chosen (Some e) p b d = refl
+
+last_put : (q : Block) (es : Summary) (claims : List Claim) → digests_at (put_claims es claims) q ≡ option_or (last_claimed q claims) (digests_at es q)
+last_put q es [] = refl
+last_put q es (claim ∷ claims) =
+    last_put q (insert_entry block_cmp es claim.block claim.digests) claims
+    ∙ ap (option_or (last_claimed q claims)) (found_put q claim.block claim.digests es)
+    ∙ chosen (last_claimed q claims) (digests_at es q) (eq_by_cmp block_cmp q claim.block) claim.digests
+
+or_none : (o : Option Digests) → option_or o None ≡ o
+or_none None = refl
+or_none (Some d) = refl
+
+pub last_counts : (claims : List Claim) (q : Block) → digests_at (summary_from claims) q ≡ last_claimed q claims
+last_counts claims q = last_put q [] claims ∙ or_none (last_claimed q claims)

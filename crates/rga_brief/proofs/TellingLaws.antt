@@ -3,7 +3,6 @@ use Rattle.std.proofs.Common.{◌≡◌, ℕ, ◌+◌, ◌/◌, ◌%◌, ◌<◌
 use Rattle.std.specs.Prelude.{All, Option, Some, None, Result, Ok, Err, IfOk, OnOk, Vec, option_and_then}
 use Rattle.std.specs.List.{AllByRecursion}
 use Rattle.std.specs.Str.{IsUtf8, is_utf8}
-use Rattle.std.proofs.Math.Nat.{div-le_self, mod-le}
 use Rattle.std.proofs.lemmas.Bool.{eq-eqb}
 use Rattle.std.proofs.lemmas.Fmt.{length-decimal-le}
 use Rattle.std.proofs.lemmas.List.{length-append}
@@ -34,26 +33,16 @@ use Rattle.rga_exchange.specs.declared.fault.ReceiveFault.TheVariants.{Count}
 use Rattle.rga_digest.specs.Summary.{Summary, IsSummary}
 use Rattle.rga_digest.proofs.OneSummary.{one_summary}
 use Rattle.rga_brief.specs.declared.claim.Claim.{Claim}
-use Rattle.rga_brief.specs.declared.claim.Claim.TheVariants.{Known, Deleted}
-use Rattle.rga_brief.specs.Claims.{claim_of, claim_in, claim_data, claim_line, IsInRange}
+use Rattle.rga_digest.specs.declared.block.Block.{Block}
+use Rattle.rga_brief.specs.Claims.{claim_of, claim_in, claim_data, claim_line, digest_data, pair_data, pair_text, part_text, with_digests, IsDigest, IsInRange}
 use Rattle.rga_brief.specs.Summaries.{claims_of, summary_from}
 use Rattle.rga_brief.proofs.ClaimLaws.{claim_back}
-use Rattle.rga_brief.proofs.ClaimLineLaws.{line_of, one_line}
+use Rattle.rga_brief.proofs.ClaimLineLaws.{halves, line_of, one_line}
 use Rattle.rga_brief.proofs.SummaryLaws.{comes_back}
 use Rattle.rga_brief.specs.Lines.{claim_line_at, end_said}
 use Rattle.rga_brief.proofs.LineLaws.{said}
-use Rattle.rga_brief.specs.Told.{IsTold, TellsSummary, claim_lines, summary_text, summary_or, after_claim_line, lines_heard, summary_heard}
+use Rattle.rga_brief.specs.Told.{IsTold, TellsSummary, claim_lines, summary_text, after_claim_line, lines_heard, summary_heard}
 use Rattle.rga_brief.specs.declared.claim_line.ClaimLine.TheVariants.{One, Last}
-
--- the halves of a digest are numbers of the types
-halves : (digest : ℕ) → digest < 2 ^ 64 → (digest / 4294967296 < 2 ^ 64) × (digest % 4294967296 < 2 ^ 64)
-halves digest h = (small 4294967296 digest h, rest 4294967296 digest h)
-  where
-    small : (n d : ℕ) → d < 2 ^ 64 → d / n < 2 ^ 64
-    small n d h = omega (arith, div-le_self d n)
-
-    rest : (n d : ℕ) → d < 2 ^ 64 → d % n < 2 ^ 64
-    rest n d h = omega (arith, mod-le d n)
 
 -- ---- what a written value reads as
 
@@ -61,15 +50,37 @@ read_back : (d : Data) (text : List ℕ) → compact_text d ≡ text → tree.Ha
 read_back d text is numbers shallow parsed =
     read_tokens text (outline d) d (ap tokens (sym is ∙ sym (print-outline d)) ∙ tokens-print (tree.json_tokens (outline d)) (ArePrintable-json_tokens (outline d) numbers)) shallow parsed
 
+pair_numbers : (a b : ℕ) → a < 2 ^ 64 → b < 2 ^ 64 → tree.HasNumbers (outline (pair_data a b))
+pair_numbers a b f g = (IsNumber-decimal a f, (IsNumber-decimal b g, tt))
+
+digest_numbers : (d : ℕ) → d < 2 ^ 64 → tree.HasNumbers (outline (digest_data d))
+digest_numbers d h = pair_numbers (d / 4294967296) (d % 4294967296) (halves d h).0 (halves d h).1
+
+pair_json : (a b : ℕ) → a < 2 ^ 64 → b < 2 ^ 64 → of_json (outline (pair_data a b)) ≡ Some (pair_data a b)
+pair_json a b f g = rw (number_of-decimal a f, number_of-decimal b g)
+
+digest_json : (d : ℕ) → d < 2 ^ 64 → of_json (outline (digest_data d)) ≡ Some (digest_data d)
+digest_json d h = pair_json (d / 4294967296) (d % 4294967296) (halves d h).0 (halves d h).1
+
+abbrev Reads : Claim → Type 0
+Reads claim = read (claim_line claim) ≡ Some (claim_data claim)
+
+value_read : (b : Block) (e i : Option ℕ) → IsInRange (with_digests b e i) → Reads (with_digests b e i)
+value_read b None None h =
+    read_back (claim_data (with_digests b None None)) (claim_line (with_digests b None None)) (line_of (with_digests b None None)) (pair_numbers b.replica b.number (omega (arith, h.0)) h.1, tt) (lit≤ tt)
+    (rw (pair_json b.replica b.number (omega (arith, h.0)) h.1))
+value_read b (Some d) None h =
+    read_back (claim_data (with_digests b (Some d) None)) (claim_line (with_digests b (Some d) None)) (line_of (with_digests b (Some d) None)) (pair_numbers b.replica b.number (omega (arith, h.0)) h.1, (digest_numbers d h.2, tt)) (lit≤ tt)
+    (rw (pair_json b.replica b.number (omega (arith, h.0)) h.1, digest_json d h.2))
+value_read b None (Some d) h =
+    read_back (claim_data (with_digests b None (Some d))) (claim_line (with_digests b None (Some d))) (line_of (with_digests b None (Some d))) (pair_numbers b.replica b.number (omega (arith, h.0)) h.1, (digest_numbers d h.3, tt)) (lit≤ tt)
+    (rw (pair_json b.replica b.number (omega (arith, h.0)) h.1, digest_json d h.3))
+value_read b (Some d) (Some f) h =
+    read_back (claim_data (with_digests b (Some d) (Some f))) (claim_line (with_digests b (Some d) (Some f))) (line_of (with_digests b (Some d) (Some f))) (pair_numbers b.replica b.number (omega (arith, h.0)) h.1, (digest_numbers d h.2, (digest_numbers f h.3, tt))) (lit≤ tt)
+    (rw (pair_json b.replica b.number (omega (arith, h.0)) h.1, digest_json d h.2, digest_json f h.3))
+
 claim_read : (claim : Claim) → IsInRange claim → claim_in (claim_line claim) ≡ Some claim
-claim_read (Known r) h =
-    ap (option_and_then claim_of) (read_back (claim_data (Known r)) (claim_line (Known r)) (line_of (Known r)) (IsNumber-decimal r.first h.1, (IsNumber-decimal r.last h.2, (tt, (IsNumber-decimal r.replica (omega (arith, h.0)), tt)))) (lit≤ tt)
-    (rw (number_of-decimal r.first h.1, number_of-decimal r.last h.2, number_of-decimal r.replica (omega (arith, h.0)))))
-    ∙ claim_back (Known r) h
-claim_read (Deleted b digest) h =
-    ap (option_and_then claim_of) (read_back (claim_data (Deleted b digest)) (claim_line (Deleted b digest)) (line_of (Deleted b digest)) (IsNumber-decimal b.number h.1, (IsNumber-decimal (digest / 4294967296) (halves digest h.2).0, (IsNumber-decimal (digest % 4294967296) (halves digest h.2).1, (tt, (IsNumber-decimal b.replica (omega (arith, h.0)), tt))))) (lit≤ tt)
-    (rw (number_of-decimal b.number h.1, number_of-decimal (digest / 4294967296) (halves digest h.2).0, number_of-decimal (digest % 4294967296) (halves digest h.2).1, number_of-decimal b.replica (omega (arith, h.0)))))
-    ∙ claim_back (Deleted b digest) h
+claim_read claim h = ap (option_and_then claim_of) (value_read claim.block claim.digests.deleted claim.digests.inserted h) ∙ claim_back claim h
 
 end_read : (n : ℕ) → n < 2 ^ 64 → claim_in (end_line n) ≡ None
 end_read n h =
@@ -80,44 +91,45 @@ end_read n h =
 digits : (n : ℕ) → n < 2 ^ 64 → length (decimal n) ≤ 20
 digits n h = length-decimal-le 20 n (omega arith) (omega (arith, h)) h
 
+pair_utf8 : (a b : ℕ) → a < 2 ^ 64 → b < 2 ^ 64 → IsUtf8 (pair_text a b)
+pair_utf8 a b f g =
+    IsUtf8-append (codes "[") _ (IsUtf8-are_ascii _ refl) (IsUtf8-append _ _ (IsUtf8-decimal a f)
+    (IsUtf8-append (codes ",") _ (IsUtf8-are_ascii _ refl) (IsUtf8-append _ _ (IsUtf8-decimal b g) (IsUtf8-are_ascii (codes "]") refl))))
+
+part_utf8 : (name : List ℕ) (digest : Option ℕ) (more : List ℕ) → IsUtf8 name → IsDigest digest → IsUtf8 more → IsUtf8 (part_text name digest more)
+part_utf8 name None more n h m = m
+part_utf8 name (Some d) more n h m =
+    IsUtf8-append (codes ",\"") _ (IsUtf8-are_ascii _ refl) (IsUtf8-append name _ n
+    (IsUtf8-append (codes "\":") _ (IsUtf8-are_ascii _ refl) (IsUtf8-append _ _ (pair_utf8 (d / 4294967296) (d % 4294967296) (halves d h).0 (halves d h).1) m)))
+
 claim_utf8 : (claim : Claim) → IsInRange claim → IsUtf8 (claim_line claim)
 unfolding claim_line
-claim_utf8 (Known r) h =
-    IsUtf8-append (codes "{\"first\":") _ (IsUtf8-are_ascii _ refl) (IsUtf8-append _ _ (IsUtf8-decimal r.first h.1)
-    (IsUtf8-append (codes ",\"last\":") _ (IsUtf8-are_ascii _ refl) (IsUtf8-append _ _ (IsUtf8-decimal r.last h.2)
-    (IsUtf8-append (codes ",\"op\":\"known\",\"replica\":") _ (IsUtf8-are_ascii _ refl) (IsUtf8-append _ _ (IsUtf8-decimal r.replica (omega (arith, h.0))) (IsUtf8-are_ascii (codes "}") refl))))))
-claim_utf8 (Deleted b digest) h =
-    IsUtf8-append (codes "{\"block\":") _ (IsUtf8-are_ascii _ refl) (IsUtf8-append _ _ (IsUtf8-decimal b.number h.1)
-    (IsUtf8-append (codes ",\"high\":") _ (IsUtf8-are_ascii _ refl) (IsUtf8-append _ _ (IsUtf8-decimal (digest / 4294967296) (halves digest h.2).0)
-    (IsUtf8-append (codes ",\"low\":") _ (IsUtf8-are_ascii _ refl) (IsUtf8-append _ _ (IsUtf8-decimal (digest % 4294967296) (halves digest h.2).1)
-    (IsUtf8-append (codes ",\"op\":\"deleted\",\"replica\":") _ (IsUtf8-are_ascii _ refl) (IsUtf8-append _ _ (IsUtf8-decimal b.replica (omega (arith, h.0))) (IsUtf8-are_ascii (codes "}") refl))))))))
+claim_utf8 claim h =
+    IsUtf8-append (codes "{\"block\":") _ (IsUtf8-are_ascii _ refl) (IsUtf8-append _ _ (pair_utf8 claim.block.replica claim.block.number (omega (arith, h.0)) h.1)
+    (part_utf8 (codes "del") claim.digests.deleted _ (IsUtf8-are_ascii _ refl) h.2
+    (part_utf8 (codes "ins") claim.digests.inserted (codes "}") (IsUtf8-are_ascii _ refl) h.3 (IsUtf8-are_ascii _ refl))))
+
+pair_short : (a b : ℕ) → a < 2 ^ 64 → b < 2 ^ 64 → length (pair_text a b) ≤ 43
+pair_short a b f g =
+    omega (arith, length-append (decimal a) (44 ∷ (decimal b ++ 93 ∷ [])), length-append (decimal b) (93 ∷ []), digits a f, digits b g)
+
+part_short : (name : List ℕ) (digest : Option ℕ) (more : List ℕ) → IsDigest digest → length (part_text name digest more) ≤ (length name + 47) + length more
+part_short name None more h = omega arith
+part_short name (Some d) more h =
+    let pair : List ℕ = pair_text (d / 4294967296) (d % 4294967296) in
+    omega (arith, length-append name (34 ∷ 58 ∷ (pair ++ more)), length-append pair more, pair_short (d / 4294967296) (d % 4294967296) (halves d h).0 (halves d h).1)
 
 claim_short : (claim : Claim) → IsInRange claim → length (claim_line claim) ≤ MAX_LINE
 unfolding claim_line
-claim_short (Known r) h =
-    let after = codes ",\"op\":\"known\",\"replica\":" ++ (decimal r.replica ++ codes "}") in
+claim_short claim h =
+    let last : List ℕ = part_text (codes "ins") claim.digests.inserted (codes "}") in
+    let both : List ℕ = part_text (codes "del") claim.digests.deleted last in
     omega (
       arith,
-      length-append (decimal r.first) (codes ",\"last\":" ++ (decimal r.last ++ after)),
-      length-append (decimal r.last) after,
-      length-append (decimal r.replica) (codes "}"),
-      digits r.first h.1,
-      digits r.last h.2,
-      digits r.replica (omega (arith, h.0)),
-    )
-claim_short (Deleted b digest) h =
-    let last = codes ",\"op\":\"deleted\",\"replica\":" ++ (decimal b.replica ++ codes "}") in
-    let low = codes ",\"low\":" ++ (decimal (digest % 4294967296) ++ last) in
-    omega (
-      arith,
-      length-append (decimal b.number) (codes ",\"high\":" ++ (decimal (digest / 4294967296) ++ low)),
-      length-append (decimal (digest / 4294967296)) low,
-      length-append (decimal (digest % 4294967296)) last,
-      length-append (decimal b.replica) (codes "}"),
-      digits b.number h.1,
-      digits (digest / 4294967296) (halves digest h.2).0,
-      digits (digest % 4294967296) (halves digest h.2).1,
-      digits b.replica (omega (arith, h.0)),
+      length-append (pair_text claim.block.replica claim.block.number) both,
+      pair_short claim.block.replica claim.block.number (omega (arith, h.0)) h.1,
+      part_short (codes "del") claim.digests.deleted last h.2,
+      part_short (codes "ins") claim.digests.inserted (codes "}") h.3,
     )
 
 claim_at : (claim : Claim) → IsInRange claim → claim_line_at (claim_line claim) ≡ Ok (One claim)
@@ -158,8 +170,8 @@ told_is_heard c s is range few =
     (λ k. lines_heard [] (sym cut.0 k) (sym cut.1 k))
     ∙ claims_heard [] claims (end_line n ∷ []) [] range
     ∙ ap (λ r. after_claim_line claims r (λ more. lines_heard more [] [])) (end_at n few)
-    ∙ ap (λ b. cond b (summary_or (n + 1) (summary_from claims)) (failed Count)) (eq-eqb n n refl)
-    ∙ ap (summary_or (n + 1)) (comes_back c s is)
+    ∙ ap (λ b. cond b (Ok (summary_from claims)) (failed Count)) (eq-eqb n n refl)
+    ∙ ap Ok (comes_back c s is)
   where
     claims : List Claim
     claims = claims_of s

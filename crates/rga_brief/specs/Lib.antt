@@ -3,3 +3,4 @@ pub mod Summaries
 pub mod Lines
 pub mod Told
 pub mod Heard
+pub mod Alike

@@ -1,5 +1,5 @@
 -- How a summary is told, and what it is told for.
-use Rattle.std.specs.Prelude.{◌≡◌, ℕ, ◌+◌, ◌==◌, nat_lt, List, [], ◌∷◌, ◌++◌, map, length, Option, Some, None, Result, Ok, Err, if◌then◌else◌}
+use Rattle.std.specs.Prelude.{◌≡◌, ◌≢◌, ℕ, ◌+◌, ◌<◌, ◌≤◌, ◌==◌, nat_lt, List, [], ◌∷◌, ◌++◌, map, length, Option, Result, Ok, Err, if◌then◌else◌}
 use Rattle.rga_ops.specs.Content.{Content}
 use Rattle.rga_devices.specs.Counting.{Calls, Writes}
 use Rattle.rga_lines.specs.Spelling.{end_line}
@@ -29,14 +29,9 @@ summary_text s = bytes_of_lines (claim_lines (claims_of s))
 
 -- ---- what is heard
 
--- claims that make no summary, as ranges that do not rise, are the fault of the line that ends them
-abbrev pub summary_or : ℕ → Option Summary → Result Summary ReceiveFault
-summary_or n (Some s) = Ok s
-summary_or n None = Err (fault.Line n line_fault.Order)
-
 -- the summary of claims that end with this number
 abbrev pub ended : List Claim → ℕ → Result Summary ReceiveFault
-ended claims number = if number == length claims then summary_or (length claims + 1) (summary_from claims) else Err fault.Count
+ended claims number = if number == length claims then Ok (summary_from claims) else Err fault.Count
 
 -- behind these claims, what comes of a line, and then of the lines behind it
 abbrev pub after_claim_line : List Claim → Result ClaimLine LineFault → (List Claim → Result Summary ReceiveFault) → Result Summary ReceiveFault
@@ -60,6 +55,32 @@ bytes_heard claims bytes = lines_heard claims (lines_of bytes) (rest_of bytes)
 -- what a peer's bytes say that it knows, or their first fault; what stands behind the end line is dropped
 abbrev pub summary_heard : List ℕ → Result Summary ReceiveFault
 summary_heard bytes = bytes_heard [] bytes
+
+-- ---- the same in words
+
+-- the lines say these claims, one each
+abbrev pub SayClaims : List (List ℕ) → List Claim → Type 0
+SayClaims lines claims = map claim_line_at lines ≡ map (λ claim. Ok (One claim)) claims
+
+-- What is answered where these claims were read, and these lines and this rest stand behind them: a summary by an end line
+-- that counts the claims; `Count` by one that does not; `Line` with the fault of a line that is neither a claim nor the end,
+-- or of a rest that is too long; and `Cut` where nothing else stands.
+abbrev pub StopsAs : List Claim → List (List ℕ) → List ℕ → Result Summary ReceiveFault → Type 0
+StopsAs claims (line ∷ later) rest (Ok s) = (claim_line_at line ≡ Ok (Last (length claims))) × (s ≡ summary_from claims)
+StopsAs claims (line ∷ later) rest (Err fault.Count) = (number : ℕ) × (claim_line_at line ≡ Ok (Last number)) × (number ≢ length claims)
+StopsAs claims (line ∷ later) rest (Err (fault.Line n e)) = (claim_line_at line ≡ Err e) × (n ≡ length claims + 1)
+StopsAs claims [] rest (Err (fault.Line n e)) = (MAX_LINE < length rest) × (e ≡ line_fault.Long) × (n ≡ length claims + 1)
+StopsAs claims [] rest (Err fault.Cut) = length rest ≤ MAX_LINE
+StopsAs claims lines rest answer = ⊥
+
+-- The first lines say claims, and behind them the reading stops so. Behind an end line nothing counts.
+pub record IsHeardAs (bytes : List ℕ) (answer : Result Summary ReceiveFault) : Type 0 where
+  pub front : List (List ℕ)
+  pub later : List (List ℕ)
+  pub claims : List Claim
+  pub lines : lines_of bytes ≡ front ++ later
+  pub say : SayClaims front claims
+  pub stops : StopsAs claims later (rest_of bytes) answer
 
 -- ---- what is told of a content
 

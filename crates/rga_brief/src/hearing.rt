@@ -25,10 +25,9 @@ use std::io::Read;
 /// follows the one that brought that line, and what stands behind it in that read is dropped.
 ///
 /// Faults, of which the first in the order of the lines is answered, a rest of more than 65536
-/// bytes counting as one: `Line`, where a line is neither a claim nor the end; `Count`, where the
-/// end names another number; `Line` with `Order` of the end line, where the ranges do not rise. Then
-/// `Cut`, where there is no end. `Read` and `Memory` come where the device fails and where a growth
-/// is refused.
+/// bytes counting as one: `Line`, if a line is neither a claim nor the end; `Count`, if the end names
+/// another number. Then `Cut`, if there is no end. `Read` and `Memory` come where the device fails
+/// and where a growth is refused.
 pub fn hear_summary<R: Read>(
     alloc: Global,
     reader: &mut Counted<R>,
@@ -131,8 +130,7 @@ fn end_claims(alloc: Global, claims: &[Claim], number: u64) -> Result<Summary, R
         return Err(ReceiveFault::Count);
     }
     match summary_from(alloc, claims) {
-        Ok(Some(summary)) => Ok(summary),
-        Ok(None) => Err(ReceiveFault::Line(claims.len() as u64 + 1, LineFault::Order)),
+        Ok(summary) => Ok(summary),
         Err(_) => Err(ReceiveFault::Memory),
     }
 }

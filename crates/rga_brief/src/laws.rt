@@ -1,22 +1,55 @@
-//! Theorems about claims and about what is told.
+//! Theorems about claims, about what is told, and about what is sent by it.
 //!
 //! The functions do nothing: their contracts are theorems that the check proves.
-ghost use Rattle.std.specs.Prelude.{◌≡◌, ◌<◌, ◌^◌, length, Ok, Some};
+ghost use Rattle.std.specs.Prelude.{◌≡◌, ◌↔◌, ℕ, ◌<◌, ◌^◌, List, length, Result, Ok};
 ghost use Rattle.std.specs.List.{AllByRecursion};
-ghost use Rattle.rga_ops.specs.Content.{Content};
-ghost use Rattle.rga_digest.specs.Summary.{Summary, IsSummary};
+ghost use Rattle.rga_ops.specs.Content.{Content, IsSound, IsWithin};
+ghost use Rattle.rga_ops.specs.Operations.{operations};
+ghost use Rattle.rga_exchange.specs.Receiving.{exchange_outcome};
+ghost use Rattle.rga_exchange.specs.Sending.{AreWritable, exchange_text, stream_text};
+ghost use Rattle.rga_exchange.specs.declared.fault.ReceiveFault.{ReceiveFault as Fault};
+ghost use Rattle.rga_digest.specs.Summary.{Summary, IsSummary, DigestsTellApart, digests_at, missing};
+ghost use Rattle.rga_digest.specs.declared.block.Block.{Block};
+ghost use Rattle.rga_brief.specs.Alike.{AreReceivedAlike};
 ghost use Rattle.rga_brief.specs.Claims.{IsInRange};
-ghost use Rattle.rga_brief.specs.Summaries.{claims_of, summary_from};
-ghost use Rattle.rga_brief.specs.Told.{summary_heard, summary_text};
+ghost use Rattle.rga_brief.specs.Summaries.{claims_of, last_claimed, summary_from};
+ghost use Rattle.rga_brief.specs.Told.{IsHeardAs, summary_heard, summary_text};
+ghost use Rattle.rga_brief.specs.declared.claim.Claim.{Claim};
+
+/// Claims mean, of each block, what the last claim of it says; of a block without one they say that
+/// nothing is there.
+pub fn the_last_claim_of_a_block_counts()
+    ensures { (claims : List Claim) (block : Block) →
+        digests_at (summary_from claims) block ≡ last_claimed block claims }
+{}
+
+/// What is heard of bytes: their first lines say claims, and what stands behind these is the end
+/// line, which counts them, or the one fault that is answered.
+pub fn what_is_heard_in_words()
+    ensures { (bytes : List ℕ) (answer : Result Summary Fault) →
+        (summary_heard bytes ≡ answer) ↔ IsHeardAs bytes answer }
+{}
 
 /// The claims of a content's summary are those of no other: from them it comes back.
 pub fn a_summary_comes_back_from_its_claims()
-    ensures { (c : Content) (s : Summary) → IsSummary c s → summary_from (claims_of s) ≡ Some s }
+    ensures { (c : Content) (s : Summary) → IsSummary c s → summary_from (claims_of s) ≡ s }
 {}
 
-/// The summary of a content is heard of what is told of it, where its numbers are those of the
-/// types: it has at most 2^64 - 1 ranges and digests.
+/// The summary of a content is heard of what is told of it, if its numbers are those of the types:
+/// it has at most 2^64 - 1 blocks.
 pub fn a_summary_is_heard_as_it_was_told()
     ensures { (c : Content) (s : Summary) → IsSummary c s → AllByRecursion IsInRange (claims_of s)
         → length (claims_of s) < 2 ^ 64 → summary_heard (summary_text s) ≡ Ok s }
+{}
+
+/// If the summary is that of a replica, and digests tell its blocks and the sender's apart, an
+/// exchange of what is missing there leads to what an exchange of all leads to, also if the replica
+/// has grown since: to the same content, and to the same refusal, if there is one. Numbers of lines
+/// and of operations may differ.
+pub fn what_is_missing_is_received_as_all_is()
+    ensures { (limit : ℕ) (c d now : Content) (s : Summary) → IsSound c
+        → AreWritable (operations c) → length (operations c) < 2 ^ 64
+        → IsSummary d s → IsWithin d now → DigestsTellApart c d
+        → AreReceivedAlike (exchange_outcome limit now (exchange_text (missing c s)))
+        (exchange_outcome limit now (stream_text c)) }
 {}

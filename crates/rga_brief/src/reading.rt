@@ -1,26 +1,27 @@
 //! Lines read.
 ghost use Rattle.std.specs.Prelude.{◌≡◌, IfOk, IfErr};
-ghost use Rattle.serde_json.specs.View.{view};
-ghost use Rattle.rga_brief.specs.Claims.{claim_in, claim_of, deleted_claim, has_members, known_in, number_member};
+ghost use Rattle.serde_json.specs.View.{items_view, view};
+ghost use Rattle.rga_lines.specs.Table.{two_numbers};
+ghost use Rattle.rga_brief.specs.Claims as spec;
 
 use crate::claim::{Claim, HALF};
-use rga_digest::{Block, KnownRange};
+use rga_digest::{Block, Digests};
 use rga_ops::Refusal;
 use serde_json::Value;
 use std::alloc::Global;
 
 /// What a line of a summary says, given without its newline: a JSON object (RFC 8259), in any
-/// spelling, with exactly the members of one of
+/// spelling, with exactly these members, of which `del` and `ins` may be left out
 ///
 /// ```text
-/// {"first":1,"last":50,"op":"known","replica":1}
-/// {"block":0,"high":2942549068,"low":2248259116,"op":"deleted","replica":1}
+/// {"block":[1,195],"del":[2942549068,2248259116],"ins":[147009959,2768625435]}
 /// ```
 ///
-/// The digest of a block is `high * 2 ^ 32 + low`, both below 2 ^ 32: so each number is one that
-/// each JSON reader keeps exactly. `None` where it is neither. `Memory` is the only refusal.
+/// The block is that of a replica and a number. A digest is two numbers below 2 ^ 32, and is
+/// `first * 2 ^ 32 + second`: so each number is one that each JSON reader keeps exactly. `None` if
+/// it is no such object. `Memory` is the only refusal.
 pub fn read_claim(alloc: Global, text: &str) -> Result<Option<Claim>, Refusal>
-    ensures ok { IfOk result (λ claim. claim ≡ claim_in text.now) }
+    ensures ok { IfOk result (λ claim. claim ≡ spec.claim_in text.now) }
     ensures memory { IfErr result (λ e. e ≡ Refusal.Memory) }
 {
     match Value::from_str(alloc, text) {
@@ -36,56 +37,72 @@ pub fn read_claim(alloc: Global, text: &str) -> Result<Option<Claim>, Refusal>
 }
 
 fn claim_of(value: &Value) -> Option<Claim>
-    ensures { result ≡ claim_of (view value.now) }
+    ensures { result ≡ spec.claim_of (view value.now) }
 {
-    let name = value.get("op")?.as_str()?;
-    if name == "known" {
-        known(value)
-    } else if name == "deleted" {
-        deleted(value)
-    } else {
-        None
-    }
-}
-
-fn known(value: &Value) -> Option<Claim>
-    ensures { result ≡ known_in (view value.now) }
-{
-    if !has_members(value, 4) {
+    let Some(block) = block_in(value) else {
+        return None;
+    };
+    let Some(deleted) = digest_in(value, "del") else {
+        return None;
+    };
+    let Some(inserted) = digest_in(value, "ins") else {
+        return None;
+    };
+    if !has_members(value, 1 + one(deleted) + one(inserted)) {
         return None;
     }
-    let replica = u16::try_from(number(value, "replica")?).ok()?;
-    let first = number(value, "first")?;
-    let last = number(value, "last")?;
-    Some(Claim::Known(KnownRange {
-        replica,
-        first,
-        last,
-    }))
+    let digests = Digests { inserted, deleted };
+    Some(Claim { block, digests })
 }
 
-fn deleted(value: &Value) -> Option<Claim>
-    ensures { result ≡ deleted_claim (view value.now) }
+/// The block that is named.
+fn block_in(value: &Value) -> Option<Block>
+    ensures { result ≡ spec.block_in (view value.now) }
 {
-    if !has_members(value, 5) {
+    let Some(member) = value.get("block") else {
         return None;
+    };
+    let Some((replica, number)) = two_numbers(member) else {
+        return None;
+    };
+    let Ok(replica) = u16::try_from(replica) else {
+        return None;
+    };
+    Some(Block { replica, number })
+}
+
+/// The digest that a member is, if the member is there. `None` if it is no digest.
+fn digest_in(value: &Value, name: &str) -> Option<Option<u64>>
+    ensures { result ≡ spec.digest_in name.now (view value.now) }
+{
+    let Some(member) = value.get(name) else {
+        return Some(None);
+    };
+    let Some((high, low)) = two_numbers(member) else {
+        return None;
+    };
+    let Ok(high) = u32::try_from(high) else {
+        return None;
+    };
+    let Ok(low) = u32::try_from(low) else {
+        return None;
+    };
+    Some(Some(u64::from(high) * HALF + u64::from(low)))
+}
+
+/// How many members a digest takes.
+fn one(digest: Option<u64>) -> usize
+    ensures { result ≡ spec.one digest }
+{
+    match digest {
+        Some(_) => 1,
+        None => 0,
     }
-    let replica = u16::try_from(number(value, "replica")?).ok()?;
-    let block = number(value, "block")?;
-    let high = u32::try_from(number(value, "high")?).ok()?;
-    let low = u32::try_from(number(value, "low")?).ok()?;
-    Some(Claim::Deleted(
-        Block {
-            replica,
-            number: block,
-        },
-        u64::from(high) * HALF + u64::from(low),
-    ))
 }
 
 /// Whether the value is an object of so many members.
 fn has_members(value: &Value, count: usize) -> bool
-    ensures { result ≡ has_members count (view value.now) }
+    ensures { result ≡ spec.has_members count (view value.now) }
 {
     match value.as_object() {
         Some(members) => members.len() == count,
@@ -93,9 +110,27 @@ fn has_members(value: &Value, count: usize) -> bool
     }
 }
 
-/// The whole number below 2 ^ 64 that a member is.
-fn number(value: &Value, name: &str) -> Option<u64>
-    ensures { result ≡ number_member name.now (view value.now) }
+/// The two whole numbers that an array is of exactly these.
+fn two_numbers(value: &Value) -> Option<(u64, u64)>
+    ensures { result ≡ spec.numbers_of (view value.now) }
 {
-    value.get(name)?.as_u64()
+    let Some(items) = value.as_array() else {
+        return None;
+    };
+    two_of(items)
+}
+
+fn two_of(items: &Vec<Value>) -> Option<(u64, u64)>
+    ensures { result ≡ two_numbers (items_view items.now.items) }
+{
+    let [first, second] = items.as_slice() else {
+        return None;
+    };
+    let Some(first) = first.as_u64() else {
+        return None;
+    };
+    let Some(second) = second.as_u64() else {
+        return None;
+    };
+    Some((first, second))
 }

@@ -1,19 +1,17 @@
 //! Lines written.
 ghost use Rattle.std.specs.Prelude.{◌≡◌, ◌≢◌, Some, IfOk, IfErr, OnOk, string_bytes};
 ghost use Rattle.std.specs.List.{All};
-ghost use Rattle.rga_brief.specs.Claims.{IsInRange, claim_data, claim_in, claim_line};
-ghost use Rattle.rga_brief.specs.declared.claim.Claim.TheVariants.{Deleted, Known};
 ghost use Rattle.serde_json.specs.View.{view};
+ghost use Rattle.rga_brief.specs.Claims.{IsInRange, claim_data, claim_in, claim_line, digest_data, pair_data};
 
 use crate::claim::{Claim, HALF};
-use rga_digest::{Block, KnownRange};
 use rga_ops::Refusal;
 use serde_json::{Value, json};
 use std::alloc::{AllocError, Global};
 
 /// The line of a claim, without its newline, as `claim_line` of `specs/Claims.antt` has it: no
-/// blanks, no newline, and the members by their names. `read_claim` gives the claim back. `Memory`
-/// is the only refusal.
+/// blanks, no newline, the members by their names, and no member for a digest that is not there.
+/// `read_claim` gives the claim back. `Memory` is the only refusal.
 pub fn write_claim(alloc: Global, claim: Claim) -> Result<String, Refusal>
     ensures ok { IfOk result (λ text. string_bytes text ≡ claim_line claim) }
     ensures one_line { IfOk result (λ text. All (λ b. b ≢ 10) (string_bytes text)) }
@@ -30,31 +28,37 @@ fn value_of(alloc: Global, claim: Claim) -> Result<Value, AllocError>
     ensures data { IfOk result (λ value. view value ≡ claim_data claim) }
     ensures range { OnOk result (IsInRange claim) }
 {
-    match claim {
-        Claim::Known(range) => known(alloc, range),
-        Claim::Deleted(block, digest) => deleted(alloc, block, digest),
+    let block = pair(alloc, u64::from(claim.block.replica), claim.block.number)?;
+    match claim.digests.deleted {
+        None => match claim.digests.inserted {
+            None => json!(in alloc; {"block": block}),
+            Some(inserted) => {
+                let inserted = digest(alloc, inserted)?;
+                json!(in alloc; {"block": block, "ins": inserted})
+            }
+        },
+        Some(deleted) => {
+            let deleted = digest(alloc, deleted)?;
+            match claim.digests.inserted {
+                None => json!(in alloc; {"block": block, "del": deleted}),
+                Some(inserted) => {
+                    let inserted = digest(alloc, inserted)?;
+                    json!(in alloc; {"block": block, "del": deleted, "ins": inserted})
+                }
+            }
+        }
     }
 }
 
-fn known(alloc: Global, range: KnownRange) -> Result<Value, AllocError>
-    ensures data { IfOk result (λ value. view value ≡ claim_data (Known range)) }
-    ensures range { OnOk result (IsInRange (Known range)) }
+/// A digest, as its two halves.
+fn digest(alloc: Global, digest: u64) -> Result<Value, AllocError>
+    ensures data { IfOk result (λ value. view value ≡ digest_data digest) }
 {
-    let replica = u64::from(range.replica);
-    let first = range.first;
-    let last = range.last;
-    json!(in alloc; {"first": first, "last": last, "op": "known", "replica": replica})
+    pair(alloc, digest / HALF, digest % HALF)
 }
 
-fn deleted(alloc: Global, block: Block, digest: u64) -> Result<Value, AllocError>
-    ensures data { IfOk result (λ value. view value ≡ claim_data (Deleted block digest)) }
-    ensures range { OnOk result (IsInRange (Deleted block digest)) }
+fn pair(alloc: Global, first: u64, second: u64) -> Result<Value, AllocError>
+    ensures data { IfOk result (λ value. view value ≡ pair_data first second) }
 {
-    let replica = u64::from(block.replica);
-    let number = block.number;
-    let high = digest / HALF;
-    let low = digest % HALF;
-    json!(in alloc; {
-        "block": number, "high": high, "low": low, "op": "deleted", "replica": replica
-    })
+    json!(in alloc; [first, second])
 }

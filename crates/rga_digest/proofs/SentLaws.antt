@@ -1,28 +1,34 @@
 -- What is sent, and what comes of it.
-use Rattle.std.proofs.Common.{◌≡◌, ℕ, ◌/◌, Bool, true, false, cond, not, ◌&&◌, ◌||◌, ◌==◌, eqb-true, eq-eqb, List, [], ◌∷◌, map, filter, refl, sym, ap, ◌∙◌, subst, inl, inr, true≢false}
-use Rattle.std.specs.Prelude.{Option, Some, None, Contains, is_some}
+use Rattle.std.proofs.Common.{◌≡◌, ℕ, Bool, true, false, cond, not, ◌==◌, eqb-true, List, [], ◌∷◌, ◌++◌, filter, refl, sym, ap, ◌∙◌, subst, inl, inr, true≢false}
+use Rattle.std.specs.Prelude.{Option, Some, None, Result, Ok, Err, Contains}
 use Rattle.std.specs.Option.{option_or, option_eq}
-use Rattle.std.specs.List.{list_any}
 use Rattle.std.specs.FinMap as finite_map
 use Rattle.std.specs.FinSet as finite_set
-use Rattle.std.proofs.lemmas.Bool.{or_cases, or_left, or_right, false_from_ne_true}
-use Rattle.rga_ops.specs.Identifier.{Identifier}
-use Rattle.rga_ops.specs.Content.{Element, Content, join, content_of, Holds, Agree, IsAgreed, IsWithin}
-use Rattle.rga_ops.specs.Operations.{operations, rising}
-use Rattle.rga_ops.proofs.IdentifierLaws.{is, is_id-same}
-use Rattle.rga_ops.proofs.ContentLaws.{get-join, contains-join, within_both, within_itself, within_join, join_least, join_swap, join_assoc}
-use Rattle.rga_ops.proofs.OperationLaws.{Contains-first, Contains-later, Contains-cases, content_inserted, content_deleted, inserted-iff, deleted-iff}
-use Rattle.rga_ops.proofs.OperationsLaws.{content_of-operations, operations_hold, any-rising}
+use Rattle.std.proofs.lemmas.Bool.{or_cases, or_left, or_right}
+use Rattle.std.proofs.lemmas.Option.{same_Some}
+use Rattle.rga_ops.specs.Operation.{checked, id_of}
+use Rattle.rga_ops.specs.Content.{Element, Content, join, single, content_of, Holds, Agree, IsAgreed, IsSound, IsWithin}
+use Rattle.rga_ops.specs.Operations.{operations}
+use Rattle.rga_ops.specs.Answer.{after_answer, taken}
+use Rattle.rga_ops.proofs.AnswerLaws.{known-iff}
+use Rattle.rga_ops.proofs.ContentLaws.{get-join, contains-join, within_itself, within_join, join_swap, join_assoc}
+use Rattle.rga_ops.proofs.OperationLaws.{Contains-first, Contains-later, Contains-cases, content_inserted, content_deleted, inserted-iff}
+use Rattle.rga_ops.proofs.OperationsLaws.{content_of-operations, operations_hold}
 use Rattle.rga_ops.proofs.AgreeLaws.{held_agree}
+use Rattle.rga_ops.proofs.TakenLaws.{held_adds_nothing, held_stays, taken_is}
 use Rattle.rga_ops.specs.declared.op.Op.{Op}
 use Rattle.rga_ops.specs.declared.op.Op.TheVariants.{Insert, Delete}
-use Rattle.rga_digest.specs.declared.block.TheConstants.Block.{COUNTERS}
-use Rattle.rga_digest.specs.Digest.{block_of, is_block, deleted_in, own_digest, digest_at}
-use Rattle.rga_digest.specs.Summary.{Summary, IsSummary, lacks, missing, DigestsTellApart}
+use Rattle.rga_ops.specs.declared.refusal.Refusal.{Refusal}
+use Rattle.rga_digest.specs.declared.block.Block.{Block}
+use Rattle.rga_digest.specs.Digest.{block_of, inserts_in, deletes_in, inserted_in, deleted_in, digest, own_digests, inserted, deleted}
+use Rattle.rga_digest.specs.Summary.{Summary, IsSummary, digests_at, lacks_by, lacks, missing, DigestsTellApart}
+use Rattle.rga_digest.specs.Lacking.{Lacking, Lacks, lacks_between}
+use Rattle.rga_digest.specs.Taking.{go_on, taken_in_turn}
+use Rattle.rga_digest.proofs.DigestLaws.{block_itself, inserted_back, deleted_back}
 
 -- ---- what is chosen of a list
 
-from_chosen : (p : Op → Bool) (ops : List Op) (op : Op) → Contains (filter p ops) op → Contains ops op
+pub from_chosen : (p : Op → Bool) (ops : List Op) (op : Op) → Contains (filter p ops) op → Contains ops op
 from_chosen p [] op m = m
 from_chosen p (x ∷ xs) op m =
     elim (p x) as (λ b. Contains (cond b (x ∷ filter p xs) (filter p xs)) op → Contains (x ∷ xs) op) [
@@ -45,6 +51,14 @@ is_chosen p (x ∷ xs) op m h = elim (Contains-cases x op xs m) [
     behind : (b : Bool) → Contains (filter p xs) op → Contains (cond b (x ∷ filter p xs) (filter p xs)) op
     behind true k = Contains-later x op (filter p xs) k
     behind false k = k
+
+-- ---- what is kept of what is told is what is missing
+
+pub missing_kept : (c : Content) (own peer : Summary) (first last : Lacking) → IsSummary c own → first ≡ record { own = own; peer = peer; ops = [] } → Lacks first (operations c) last → last.ops ≡ missing c peer
+missing_kept c own peer first last is start told =
+    told.chosen
+    ∙ (λ k. (start k).ops ++ filter (lacks_between (start k).own (start k).peer) (operations c))
+    ∙ (λ k. filter (λ op. lacks_by (is.digests (block_of (id_of op)) k) (digests_at peer (block_of (id_of op))) op) (operations c))
 
 -- ---- what is sent is held
 
@@ -78,89 +92,103 @@ joined_within d c s = record {
       ];
 }
 
--- ---- a block has its deletions
+-- ---- what is left out is held
 
-by_counter : (r q e : Bool) → (e ≡ true → q ≡ true) → ((r && q) && e) ≡ (e && r)
-by_counter true true true h = refl
-by_counter true true false h = refl
-by_counter true false true h = h refl
-by_counter true false false h = refl
-by_counter false q true h = refl
-by_counter false q false h = refl
+not_false : (b : Bool) → not b ≡ false → b ≡ true
+not_false true h = refl
+not_false false h = absurd (true≢false h)
 
--- of the identifiers of its block, one is known by its counter
-in_its_block : (x id : Identifier) → (is_block (block_of x) (block_of id) && (x.counter == id.counter)) ≡ is id x
-in_its_block x id =
-    by_counter (x.replica == id.replica) ((x.counter / COUNTERS) == (id.counter / COUNTERS)) (x.counter == id.counter)
-    (λ e. eq-eqb (x.counter / COUNTERS) (id.counter / COUNTERS) (ap (λ n. n / COUNTERS) (eqb-true x.counter id.counter e)))
-    ∙ is_id-same x id
+same_digest : (a b : Option ℕ) → not (option_eq (λ m n. m == n) a b) ≡ false → a ≡ b
+same_digest None None h = refl
+same_digest None (Some n) h = absurd (true≢false h)
+same_digest (Some m) None h = absurd (true≢false h)
+same_digest (Some m) (Some n) h = ap Some (eqb-true m n (not_false (m == n) h))
 
-any_chosen : (b : Bool) (n : ℕ) (x : Identifier) (xs : List Identifier) → list_any (λ k. k == n) (map (λ y. y.counter) (cond b (x ∷ xs) xs)) ≡ ((b && (x.counter == n)) || list_any (λ k. k == n) (map (λ y. y.counter) xs))
-any_chosen true n x xs = refl
-any_chosen false n x xs = refl
+left_out_held : (c d : Content) (s : Summary) → IsSummary d s → DigestsTellApart c d → (op : Op) → Contains (operations c) op → lacks c s op ≡ false → Holds d op
+left_out_held c d s is tell (Insert id parent ch) m h =
+    let op : Op = Insert id parent ch in
+    let b : Block = block_of id in
+    let same : inserted (digests_at s b) ≡ inserted (own_digests c b) = same_digest (inserted (digests_at s b)) (inserted (own_digests c b)) h in
+    let alike : digest (inserted_in c b) ≡ digest (inserted_in d b) =
+    sym (inserted_back (digest (inserted_in c b)) (digest (deleted_in c b))) ∙ sym same ∙ ap inserted (is.digests b) ∙ inserted_back (digest (inserted_in d b)) (digest (deleted_in d b)) in
+    let own : Contains (inserted_in c b) op = is_chosen (inserts_in b) (operations c) op m (block_itself b) in
+    operations_hold d op (from_chosen (inserts_in b) (operations d) op (subst (λ ops. Contains ops op) (tell.insertions b alike) own))
+left_out_held c d s is tell (Delete id) m h =
+    let op : Op = Delete id in
+    let b : Block = block_of id in
+    let same : deleted (digests_at s b) ≡ deleted (own_digests c b) = same_digest (deleted (digests_at s b)) (deleted (own_digests c b)) h in
+    let alike : digest (deleted_in c b) ≡ digest (deleted_in d b) =
+    sym (deleted_back (digest (inserted_in c b)) (digest (deleted_in c b))) ∙ sym same ∙ ap deleted (is.digests b) ∙ deleted_back (digest (inserted_in d b)) (digest (deleted_in d b)) in
+    let own : Contains (deleted_in c b) op = is_chosen (deletes_in b) (operations c) op m (block_itself b) in
+    operations_hold d op (from_chosen (deletes_in b) (operations d) op (subst (λ ops. Contains ops op) (tell.deletions b alike) own))
 
-counted : (ids : List Identifier) (id : Identifier) → list_any (λ n. n == id.counter) (map (λ x. x.counter) (filter (λ x. is_block (block_of x) (block_of id)) ids)) ≡ list_any (is id) ids
-counted [] id = refl
-counted (x ∷ ids) id =
-    any_chosen (is_block (block_of x) (block_of id)) id.counter x (filter (λ y. is_block (block_of y) (block_of id)) ids)
-    ∙ (λ k. in_its_block x id k || counted ids id k)
+-- ---- what may be left out of a list
 
-block_has : (c : Content) (id : Identifier) → list_any (λ n. n == id.counter) (deleted_in c (block_of id)) ≡ finite_set.contains c.deleted id
-block_has c id = counted (rising (finite_set.items c.deleted)) id ∙ any-rising (finite_set.items c.deleted) id ∙ sym (finite_set.contains-items c.deleted id)
+-- what is held is known, and changes nothing
+known_taken : (limit : ℕ) (c : Content) (op : Op) → checked op ≡ Ok tt → Holds c op → taken limit c op ≡ Ok c
+known_taken limit c op well held = ap (after_answer c op) ((known-iff limit c op).1 (well, held))
+
+-- so the others are taken, or refused, as all would be
+left_out_taken : (limit : ℕ) (p : Op → Bool) (ops : List Op) (c : Content) → ((op : Op) → Contains ops op → checked op ≡ Ok tt) → ((op : Op) → Contains ops op → p op ≡ false → Holds c op)
+    → taken_in_turn limit c (filter p ops) ≡ taken_in_turn limit c ops
+left_out_taken limit p [] c well held = refl
+left_out_taken limit p (op ∷ ops) c well held =
+    by (p op) refl (λ d within. left_out_taken limit p ops d (λ o m. well o (Contains-later op o ops m)) (λ o m h. held_stays c d o within (held o (Contains-later op o ops m) h)))
+  where
+    after : (r : Result Content Refusal) → taken limit c op ≡ r → ((d : Content) → IsWithin c d → taken_in_turn limit d (filter p ops) ≡ taken_in_turn limit d ops)
+        → go_on c r (λ d. taken_in_turn limit d (filter p ops)) ≡ go_on c r (λ d. taken_in_turn limit d ops)
+    after (Ok d) h rest = rest d (subst (IsWithin c) (sym (taken_is limit c op d h).joined) (within_join c (single op)))
+    after (Err e) h rest = refl
+
+    by : (b : Bool) → p op ≡ b → ((d : Content) → IsWithin c d → taken_in_turn limit d (filter p ops) ≡ taken_in_turn limit d ops)
+        → taken_in_turn limit c (cond b (op ∷ filter p ops) (filter p ops)) ≡ taken_in_turn limit c (op ∷ ops)
+    by true h rest = after (taken limit c op) refl rest
+    by false h rest =
+        rest c (within_itself c)
+        ∙ sym (ap (λ r. go_on c r (λ d. taken_in_turn limit d ops)) (known_taken limit c op (well op (Contains-first op ops)) (held op (Contains-first op ops) h)))
+
+left_out_joined : (p : Op → Bool) (ops : List Op) (c : Content) → ((op : Op) → Contains ops op → p op ≡ false → Holds c op) → join c (content_of (filter p ops)) ≡ join c (content_of ops)
+left_out_joined p [] c held = refl
+left_out_joined p (op ∷ ops) c held =
+    by (p op) refl (λ d within. left_out_joined p ops d (λ o m h. held_stays c d o within (held o (Contains-later op o ops m) h)))
+  where
+    by : (b : Bool) → p op ≡ b → ((d : Content) → IsWithin c d → join d (content_of (filter p ops)) ≡ join d (content_of ops))
+        → join c (content_of (cond b (op ∷ filter p ops) (filter p ops))) ≡ join c (content_of (op ∷ ops))
+    by true h rest =
+        sym (join_assoc c (single op) (content_of (filter p ops))) ∙ rest (join c (single op)) (within_join c (single op)) ∙ join_assoc c (single op) (content_of ops)
+    by false h rest =
+        rest c (within_itself c)
+        ∙ ap (λ d. join d (content_of ops)) (sym (held_adds_nothing c op (held op (Contains-first op ops) h)))
+        ∙ join_assoc c (single op) (content_of ops)
 
 -- ---- what is missing is enough
 
-same_digest : (a b : Option ℕ) → option_eq (λ m n. m == n) a b ≡ true → a ≡ b
-same_digest None None h = refl
-same_digest None (Some n) h = absurd (true≢false (sym h))
-same_digest (Some m) None h = absurd (true≢false (sym h))
-same_digest (Some m) (Some n) h = ap Some (eqb-true m n h)
+-- also for a content that has grown since it gave the summary
+pub missing_taken : (limit : ℕ) (c d e : Content) (s : Summary) → IsSound c → IsSummary d s → IsWithin d e → DigestsTellApart c d → taken_in_turn limit e (missing c s) ≡ taken_in_turn limit e (operations c)
+missing_taken limit c d e s sound is grown tell =
+    left_out_taken limit (lacks c s) (operations c) e (λ op m. sound op (operations_hold c op m)) (λ op m h. held_stays d e op grown (left_out_held c d s is tell op m h))
 
--- an insertion that the other has not is sent
-insertion_sent : (c d : Content) (s : Summary) → IsSummary d s → (id : Identifier) (x : Element) → finite_map.get d.inserted id ≡ None → finite_map.get c.inserted id ≡ Some x → finite_map.get (content_of (missing c s)).inserted id ≡ Some x
-insertion_sent c d s is id x none held =
-    let listed : Contains (operations c) (Insert id x.parent x.ch) = content_inserted (operations c) id x (ap (λ (e : Content). finite_map.get e.inserted id) (content_of-operations c) ∙ held) in
-    let lacked : lacks c s (Insert id x.parent x.ch) ≡ true = ap not (is.known id ∙ ap is_some none) in
-    (inserted-iff (missing c s) (sent_agreed c s) id x).1 (is_chosen (lacks c s) (operations c) (Insert id x.parent x.ch) listed lacked)
+pub missing_suffices : (c d e : Content) (s : Summary) → IsSummary d s → IsWithin d e → DigestsTellApart c d → join e (content_of (missing c s)) ≡ join e c
+missing_suffices c d e s is grown tell =
+    left_out_joined (lacks c s) (operations c) e (λ op m h. held_stays d e op grown (left_out_held c d s is tell op m h)) ∙ ap (join e) (content_of-operations c)
 
--- and so is a deletion
-deletion_sent : (c d : Content) (s : Summary) → IsSummary d s → DigestsTellApart c d → (id : Identifier) → finite_set.contains d.deleted id ≡ false → finite_set.contains c.deleted id ≡ true → finite_set.contains (content_of (missing c s)).deleted id ≡ true
-deletion_sent c d s is tell id absent held =
-    let listed : Contains (operations c) (Delete id) = content_deleted (operations c) id (ap (λ (e : Content). finite_set.contains e.deleted id) (content_of-operations c) ∙ held) in
-    let lacked : lacks c s (Delete id) ≡ true = ap not (false_from_ne_true (option_eq (λ m n. m == n) (digest_at s.digests (block_of id)) (own_digest c (block_of id))) differs) in
-    (deleted-iff (missing c s) id).1 (is_chosen (lacks c s) (operations c) (Delete id) listed lacked)
+-- what agrees with what is missing there agrees with all
+pub missing_agrees : (c d : Content) (s : Summary) → IsSummary d s → DigestsTellApart c d → Agree d (content_of (missing c s)) → Agree d c
+missing_agrees c d s is tell agree id x y f g = by (lacks c s op) refl
   where
-    differs : option_eq (λ m n. m == n) (digest_at s.digests (block_of id)) (own_digest c (block_of id)) ≡ true → ⊥
-    differs h =
-        let same : deleted_in c (block_of id) ≡ deleted_in d (block_of id) = tell (block_of id) (sym (sym (is.digests (block_of id)) ∙ same_digest (digest_at s.digests (block_of id)) (own_digest c (block_of id)) h)) in
-        true≢false (sym held ∙ sym (block_has c id) ∙ ap (list_any (λ n. n == id.counter)) same ∙ block_has d id ∙ absent)
+    op : Op
+    op = Insert id y.parent y.ch
 
-or_has : (a b e : Bool) → (a ≡ false → b ≡ true → e ≡ true) → (a || b) ≡ true → (a || e) ≡ true
-or_has true b e f h = refl
-or_has false b e f h = f refl h
+    listed : Contains (operations c) op
+    listed = content_inserted (operations c) id y (ap (λ (e : Content). finite_map.get e.inserted id) (content_of-operations c) ∙ g)
 
-missing_suffices : (c d : Content) (s : Summary) → IsSummary d s → DigestsTellApart c d → join d (content_of (missing c s)) ≡ join d c
-missing_suffices c d s is tell = within_both _ _ (joined_within d c s) (record {
-  inserted = λ id x h.
-      get-join d (content_of (missing c s)) id
-      ∙ or_grows (finite_map.get d.inserted id) (finite_map.get c.inserted id) (finite_map.get (content_of (missing c s)).inserted id) x (insertion_sent c d s is id x) (sym (get-join d c id) ∙ h);
-  deleted = λ id h.
-      contains-join d (content_of (missing c s)) id
-      ∙ or_has (finite_set.contains d.deleted id) (finite_set.contains c.deleted id) (finite_set.contains (content_of (missing c s)).deleted id) (deletion_sent c d s is tell id) (sym (contains-join d c id) ∙ h);
-})
+    by : (b : Bool) → lacks c s op ≡ b → x ≡ y
+    by true h = agree id x y f ((inserted-iff (missing c s) (sent_agreed c s) id y).1 (is_chosen (lacks c s) (operations c) op listed h))
+    by false h = same_Some x y (sym f ∙ left_out_held c d s is tell op listed h)
 
--- the same for a content that has grown since
-pub missing_suffices_later : (c d e : Content) (s : Summary) → IsSummary d s → IsWithin d e → DigestsTellApart c d → join e (content_of (missing c s)) ≡ join e c
-missing_suffices_later c d e s is grown tell =
-    ap (λ x. join x (content_of (missing c s))) (sym whole)
-    ∙ join_assoc e d (content_of (missing c s))
-    ∙ ap (join e) (missing_suffices c d s is tell)
-    ∙ sym (join_assoc e d c)
-    ∙ ap (λ x. join x c) whole
-  where
-    whole : join e d ≡ e
-    whole = within_both (join e d) e (join_least e d e (within_itself e) grown) (within_join e d)
+pub apart_swap : (c d : Content) → DigestsTellApart c d → DigestsTellApart d c
+apart_swap c d tell = record { insertions = λ block e. sym (tell.insertions block (sym e)); deletions = λ block e. sym (tell.deletions block (sym e)) }
 
 pub both_end_alike : (c d : Content) (s t : Summary) → Agree c d → DigestsTellApart c d → IsSummary c s → IsSummary d t → join d (content_of (missing c t)) ≡ join c (content_of (missing d s))
 both_end_alike c d s t agree tell here there =
-    missing_suffices c d t there tell ∙ sym (join_swap c d agree) ∙ sym (missing_suffices d c s here (λ block e. sym (tell block (sym e))))
+    missing_suffices c d d t there (within_itself d) tell ∙ sym (join_swap c d agree) ∙ sym (missing_suffices d c c s here (within_itself c) (apart_swap c d tell))

@@ -1,36 +1,40 @@
 -- Those of the operations that are told one by one which another replica lacks.
-use Rattle.std.proofs.Common.{◌≡◌, ℕ, List, [], ◌++◌, filter, refl, sym, ap, ◌∙◌, append_assoc}
+use Rattle.std.proofs.Common.{◌≡◌, List, [], ◌++◌, filter, Bool, refl, sym, ap, ◌∙◌, append_assoc}
 use Rattle.std.proofs.lemmas.List.{append-nil}
 use Rattle.std.proofs.lemmas.List.Elements.{filter-append}
+use Rattle.rga_ops.specs.Operation.{id_of}
 use Rattle.rga_ops.specs.declared.op.Op.{Op}
-use Rattle.rga_digest.specs.declared.block.Block.{Block}
-use Rattle.rga_digest.specs.Digest.{digest_at}
-use Rattle.rga_digest.specs.Summary.{Summary, lacks_by}
+use Rattle.rga_digest.specs.Digest.{block_of}
+use Rattle.rga_digest.specs.Summary.{Summary, digests_at, lacks_by}
 
--- the own digests, the summary of the other, and the operations that it lacks
+-- who gave the second summary lacks the operation of who has the first
+abbrev pub lacks_between : Summary → Summary → Op → Bool
+lacks_between own peer op = lacks_by (digests_at own (block_of (id_of op))) (digests_at peer (block_of (id_of op))) op
+
+-- the own summary, that of the peer, and the operations that it lacks
 pub record Lacking : Type 0 where
-  pub own : List (Block × ℕ)
-  pub summary : Summary
+  pub own : Summary
+  pub peer : Summary
   pub ops : List Op
 
 -- the lacked among the operations came behind those before
 pub record Lacks (s : Lacking) (ops : List Op) (t : Lacking) : Type 0 where
   pub own : t.own ≡ s.own
-  pub summary : t.summary ≡ s.summary
-  pub chosen : t.ops ≡ s.ops ++ filter (lacks_by (digest_at s.own) s.summary) ops
+  pub peer : t.peer ≡ s.peer
+  pub chosen : t.ops ≡ s.ops ++ filter (lacks_between s.own s.peer) ops
 
 -- to be told nothing changes nothing
 pub lacks_nothing : (s : Lacking) → Lacks s [] s
-lacks_nothing s = record { own = refl; summary = refl; chosen = sym (append-nil s.ops) }
+lacks_nothing s = record { own = refl; peer = refl; chosen = sym (append-nil s.ops) }
 
 -- operations may be told in parts
 pub lacks_on : {s t u : Lacking} {xs ys : List Op} → Lacks s xs t → Lacks t ys u → Lacks s (xs ++ ys) u
 lacks_on {s} {t} {u} {xs} {ys} first second = record {
   own = second.own ∙ first.own;
-  summary = second.summary ∙ first.summary;
+  peer = second.peer ∙ first.peer;
   chosen =
       second.chosen
-      ∙ (λ k. first.chosen k ++ filter (lacks_by (digest_at (first.own k)) (first.summary k)) ys)
-      ∙ append_assoc s.ops (filter (lacks_by (digest_at s.own) s.summary) xs) (filter (lacks_by (digest_at s.own) s.summary) ys)
-      ∙ ap (λ ops. s.ops ++ ops) (sym (filter-append (lacks_by (digest_at s.own) s.summary) xs ys));
+      ∙ (λ k. first.chosen k ++ filter (lacks_between (first.own k) (first.peer k)) ys)
+      ∙ append_assoc s.ops (filter (lacks_between s.own s.peer) xs) (filter (lacks_between s.own s.peer) ys)
+      ∙ ap (λ ops. s.ops ++ ops) (sym (filter-append (lacks_between s.own s.peer) xs ys));
 }

@@ -1,5 +1,5 @@
-pub mod Ranges
 pub mod Digest
 pub mod Summary
+pub mod Taking
 pub mod Hearing
 pub mod Lacking

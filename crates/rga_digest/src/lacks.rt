@@ -1,73 +1,56 @@
 //! The operations that another replica lacks.
-ghost use Rattle.std.specs.Prelude.{◌≡◌, IfOk, IfErr};
-ghost use Rattle.std.specs.BTreeMap.{get};
-ghost use Rattle.rga_digest.specs.Digest.{block_cmp, digest_at};
-ghost use Rattle.rga_digest.specs.Summary.{lacks_block, lacks_by, missing};
+ghost use Rattle.std.specs.Prelude.{◌≡◌, [], IfOk, IfErr};
+ghost use Rattle.rga_digest.specs.Summary.{digests_at, lacks_by, missing};
+ghost use Rattle.rga_digest.specs.Lacking.{lacks_between};
 
 use crate::block::Block;
-use crate::digests::ToldDigests;
-use crate::summary::Summary;
+use crate::digests::{Digests, deleted, inserted};
+use crate::summary::{Summary, summary_of};
 use rga_ops::{Op, Refusal};
 use rga_store::{Listener, Teller};
 use std::alloc::Global;
-use std::collections::BTreeMap;
 use std::marker::Model;
 
-/// The operations of a store that another replica lacks, by the summary that it gives: the
-/// insertions that are in none of its ranges, and the deletions of each block whose digest there is
-/// not the own one. The insertions come first, each part by rising identifier. `Memory` alone.
+/// The operations of a store that another replica lacks, by the summary that it gives: those whose
+/// block has another digest of their kind there, or none. The insertions come first, each part by
+/// rising identifier. `Memory` alone.
 ///
-/// Whatever a summary claims, nothing else is sent. It takes n log n steps for n operations. The
-/// store tells its operations once, and where the digests are not the own ones its deletions again.
+/// Whatever a summary claims, nothing else is sent. It takes n log n steps for n operations, and the
+/// store tells them twice: for the own digests, and for what is lacked.
 pub fn missing<S: Teller>(alloc: Global, store: &S, summary: &Summary) -> Result<Vec<Op>, Refusal>
     ensures ok { IfOk result (λ ops. ops.items ≡ missing (S.content store.now) summary.now) }
     ensures memory { IfErr result (λ e. e ≡ Refusal.Memory) }
 {
-    // Which insertions are lacked depends on no digest.
-    let none = BTreeMap::new(alloc);
-    let mut inserted = Lacked::new(&none, summary, Vec::new(alloc));
-    let mut told = ToldDigests::new(alloc);
-    store.tell_both(&mut inserted, &mut told)?;
-    let own = told.whole()?;
-    if summary.has_digests(&own) {
-        return Ok(inserted.ops);
-    }
-    let mut all = Lacked::new(&own, summary, inserted.ops);
-    store.tell_deletions(&mut all)?;
-    Ok(all.ops)
+    let own = summary_of(alloc, store)?;
+    let mut lacked = Lacked::new(alloc, &own, summary);
+    store.tell_insertions(&mut lacked)?;
+    store.tell_deletions(&mut lacked)?;
+    Ok(lacked.ops)
 }
 
-/// Those of the operations that were told which a replica of this summary lacks, where these are the
-/// own digests. Where the last operations were found is kept: the next are mostly there too.
+/// Those of the operations that were told which a peer of this summary lacks, if the own summary is
+/// this one. The digests of the last operation's block are kept: the next are mostly there too.
 #[derive(Drop)]
 struct Lacked<'a> {
-    own: &'a BTreeMap<Block, u64>,
-    summary: &'a Summary,
+    own: &'a Summary,
+    peer: &'a Summary,
     ops: Vec<Op>,
-    /// The index of a range.
-    range: usize,
-    /// A block, and whether its deletions are lacked.
     block: Block,
-    lacks: bool,
+    own_digests: Option<Digests>,
+    peer_digests: Option<Digests>,
 }
 
 impl<'a> Model for Lacked<'a> {
     ghost use Rattle.std.specs.Prelude.{◌≡◌};
-    ghost use Rattle.std.specs.BTreeMap.{get};
-    ghost use Rattle.rga_digest.specs.Digest.{block_cmp};
-    ghost use Rattle.rga_digest.specs.Summary.{lacks_block};
+    ghost use Rattle.rga_digest.specs.Summary.{digests_at};
     ghost use Rattle.rga_digest.specs.Lacking.{Lacking};
 
     ghost Value = { Lacking };
 
-    ghost view = { λ l. record {
-      own = l.own.now.entries;
-      summary = l.summary.now;
-      ops = l.ops.items;
-    } };
+    ghost view = { λ l. record { own = l.own.now; peer = l.peer.now; ops = l.ops.items } };
 
-    ghost invariant = { λ l.
-        l.lacks ≡ lacks_block (get block_cmp l.own.now) l.summary.now l.block };
+    ghost invariant = { λ l. (l.own_digests ≡ digests_at l.own.now l.block)
+        × (l.peer_digests ≡ digests_at l.peer.now l.block) };
 }
 
 impl<'a> Listener for Lacked<'a> {
@@ -88,13 +71,9 @@ impl<'a> Listener for Lacked<'a> {
 }
 
 impl<'a> Lacked<'a> {
-    /// Those behind others that were found before.
-    fn new(own: &'a BTreeMap<Block, u64>, summary: &'a Summary, ops: Vec<Op>) -> Lacked<'a>
-        ensures { result ≡ record {
-          own = own.now.entries;
-          summary = summary.now;
-          ops = ops.items;
-        } }
+    /// None yet.
+    fn new(alloc: Global, own: &'a Summary, peer: &'a Summary) -> Lacked<'a>
+        ensures { result ≡ record { own = own.now; peer = peer.now; ops = [] } }
     {
         let block = Block {
             replica: 0,
@@ -102,37 +81,36 @@ impl<'a> Lacked<'a> {
         };
         Lacked {
             own,
-            summary,
-            ops,
-            range: 0,
+            peer,
+            ops: Vec::new(alloc),
             block,
-            lacks: lacks_block(own, summary, block),
+            own_digests: own.digests_of(block),
+            peer_digests: peer.digests_of(block),
         }
     }
 
     /// Whether an operation is lacked.
     fn is_lacked(&mut self, op: &Op) -> bool
-        ensures exact { result ≡ lacks_by (digest_at self.old.own) self.old.summary op.now }
+        ensures exact { result ≡ lacks_between self.old.own self.old.peer op.now }
         ensures same { self.new ≡ self.old }
     {
-        match op {
-            Op::Insert { id, .. } => !self.summary.knows(&mut self.range, *id),
-            Op::Delete { id } => {
-                let block = Block::of(*id);
-                if self.block == block {
-                    return self.lacks;
-                }
-                self.block = block;
-                self.lacks = lacks_block(self.own, self.summary, block);
-                self.lacks
-            }
+        let block = Block::of(op.id());
+        if self.block == block {
+            return lacks_by(self.own_digests, self.peer_digests, op);
         }
+        self.block = block;
+        self.own_digests = self.own.digests_of(block);
+        self.peer_digests = self.peer.digests_of(block);
+        lacks_by(self.own_digests, self.peer_digests, op)
     }
 }
 
-/// Whether it lacks the deletions of a block: the digest there is not the own one.
-fn lacks_block(own: &BTreeMap<Block, u64>, summary: &Summary, block: Block) -> bool
-    ensures { result ≡ lacks_block (get block_cmp own.now) summary.now block }
+/// Whether an operation is lacked, by the digests of its block here and at the peer.
+fn lacks_by(own: Option<Digests>, peer: Option<Digests>, op: &Op) -> bool
+    ensures { result ≡ lacks_by own peer op.now }
 {
-    summary.digest_of(block) != own.get(&block).copied()
+    match op {
+        Op::Insert { .. } => inserted(peer) != inserted(own),
+        Op::Delete { .. } => deleted(peer) != deleted(own),
+    }
 }

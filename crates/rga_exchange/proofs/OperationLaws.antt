@@ -125,9 +125,13 @@ stream_lines_end form limit n c d number bytes h =
     let stop : t.stop ≡ AtEnd number = before_rest t.lines (rest_of bytes) t.stop number (ap (λ (u : Progress). u.stop) h) in
     λ k. progress (lines k) (content k) (stop k)
 
+-- what is received up to the end was taken, operation by operation
+pub stream_is_taken : (limit n : ℕ) (c d : Content) (number : ℕ) (bytes : List ℕ) → stream_taken Exchange limit c bytes ≡ progress n d (AtEnd number) → taken_one_by_one limit c (stream_operations bytes) ≡ Ok d
+stream_is_taken limit n c d number bytes h =
+    lines_end Exchange limit 0 n c d number (lines_of bytes) (stream_lines_end Exchange limit n c d number bytes h)
+
 pub stream_joined : (limit n : ℕ) (c d : Content) (number : ℕ) (bytes : List ℕ) → stream_taken Exchange limit c bytes ≡ progress n d (AtEnd number) → d ≡ join c (content_of (stream_operations bytes))
-stream_joined limit n c d number bytes h =
-    (taken_list_is limit c (stream_operations bytes) d (lines_end Exchange limit 0 n c d number (lines_of bytes) (stream_lines_end Exchange limit n c d number bytes h))).joined
+stream_joined limit n c d number bytes h = (taken_list_is limit c (stream_operations bytes) d (stream_is_taken limit n c d number bytes h)).joined
 
 -- ---- a whole log
 

@@ -1,5 +1,5 @@
-use Rattle.rga_digest.proofs.SentLaws.{missing_suffices_later, both_end_alike}
+use Rattle.rga_digest.proofs.SentLaws.{missing_taken, missing_suffices, both_end_alike}
 use Rattle.rga_digest.proofs.laws.what_is_missing_is_enough.Goals as goal
 
 pub returns : goal.returns
-returns c = record { joined = missing_suffices_later; one_content = both_end_alike }
+returns c = record { taken = missing_taken; joined = missing_suffices; one_content = both_end_alike }
