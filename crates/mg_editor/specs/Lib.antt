@@ -1,6 +1,7 @@
 pub mod Editors
 pub mod Presses
 pub mod Opening
+pub mod Failing
 pub mod Telling
 pub mod Finding
 pub mod Meeting

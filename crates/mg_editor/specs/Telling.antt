@@ -18,8 +18,10 @@ use Rattle.mg_minibuffer.specs.declared.message.Message.{Message}
 use Rattle.mg_minibuffer.specs.declared.message.Message.TheVariants as message
 use Rattle.mg_workspace.specs.declared.fault.Cause.{Cause}
 use Rattle.mg_workspace.specs.declared.fault.Cause.TheVariants as cause
-use Rattle.mg_workspace.specs.Workspaces.{Workspace, workspace_buffer, with_workspace_buffer}
+use Rattle.mg_workspace.specs.Workspaces.{Workspace, workspace_buffer, with_workspace_buffer, with_task}
+use Rattle.mg_workspace.specs.declared.failures.Task.{Task}
 use Rattle.mg_editor.specs.Editors.{Editor}
+use Rattle.mg_editor.specs.Failing.{outcome_failure}
 use Rattle.mg_editor.specs.declared.fault.CarryFault.{CarryFault}
 use Rattle.mg_editor.specs.declared.fault.CarryFault.TheVariants.{Port, Load, Exchange}
 
@@ -120,7 +122,11 @@ pub record TellsOutcome {A : Type 0} (R : A → Workspace → Workspace → Type
   pub is : new ≡ editor_saying new.work (outcome_message (outcome came)) old
   pub done : r ≡ outcome_answer (outcome came)
 
--- the same of the current buffer, with what is to be written of it: nothing else changed
-abbrev pub ChangesCurrent : {A : Type 0} → (A → OpenState → OpenState → Type 0) → (A → CarryOutcome) → Editor → Editor → CarryAnswer → Type 0
-ChangesCurrent R outcome old new r =
-    TellsOutcome (λ came w v. (after : OpenState) × (v ≡ with_workspace_buffer w after) × R came (workspace_buffer w) after) outcome old new r
+-- the same of a task of the current buffer, with what is to be written of it: beside it, and that it was done or failed, nothing
+-- changed
+abbrev pub ChangesCurrent : {A : Type 0} → Task → (A → OpenState → OpenState → Type 0) → (A → CarryOutcome) → Editor → Editor → CarryAnswer → Type 0
+ChangesCurrent task R outcome old new r =
+    TellsOutcome
+    (λ came w v.
+    (after : OpenState) × (v ≡ with_task task (outcome_failure (outcome came)) (with_workspace_buffer w after)) × R came (workspace_buffer w) after)
+    outcome old new r

@@ -1,5 +1,6 @@
 //! Requests, carried to the files.
 ghost use Rattle.std.specs.Prelude.{◌≡◌, ◌<◌, length, IfSome, encode_utf8_all};
+ghost use Rattle.mg_workspace.specs.declared.failures.Task.TheVariants.{Exchange};
 ghost use Rattle.mg_workspace.specs.declared.workspace.TheConstants.{MAX_BUFFERS};
 ghost use Rattle.mg_sync.specs.Linking.{account, ExchangesOver};
 ghost use Rattle.mg_sync.specs.Meeting.{CountsFaults};
@@ -14,6 +15,7 @@ use crate::opening::{message_of_end, open};
 use mg_buffer::string_of;
 use mg_files::{Port, PortFault, save};
 use mg_minibuffer::{Message, Request};
+use mg_workspace::Task;
 use rga_exchange::LogEnd;
 use rga_store::Teller;
 
@@ -57,7 +59,7 @@ impl<S: Teller> Editor<S> {
             (P.calls port.old) (P.calls port.new) self.old self.new result }
         ensures met { let a =
             account P.Link.remaining P.Link.contents P.links P.calls port.old port.new in
-            IfSome (meeting.role_of request) (λ role. telling.ChangesCurrent
+            IfSome (meeting.role_of request) (λ role. telling.ChangesCurrent Exchange
             (λ answer b d. ExchangesOver a b d role answer) meeting.meeting_outcome
             self.old self.new result) }
         ensures device { CountsFaults (telling.port_outcome result)
@@ -80,7 +82,7 @@ impl<S: Teller> Editor<S> {
             (P.failures port.old) (P.failures port.new) }
     {
         let answer = save(self.alloc, self.work.current_mut(), port);
-        self.conclude(save_outcome(answer))
+        self.conclude_task(Task::Save, save_outcome(answer))
     }
 
     /// The buffer of a name is current, opened if need be.

@@ -15,6 +15,7 @@
 
 mod carrying;
 mod editor;
+mod failing;
 mod fault;
 mod framing;
 pub mod laws;

@@ -3,6 +3,7 @@ ghost use Rattle.std.specs.Prelude.{◌≡◌};
 ghost use Rattle.mg_sync.specs.Asking.{Connects, Waits};
 ghost use Rattle.mg_sync.specs.Linking.{account, ExchangesOver};
 ghost use Rattle.mg_sync.specs.Meeting.{CountsFaults};
+ghost use Rattle.mg_workspace.specs.declared.failures.Task.TheVariants.{Exchange};
 ghost use Rattle.mg_editor.specs.Carrying as carrying;
 ghost use Rattle.mg_editor.specs.Meeting as spec;
 ghost use Rattle.mg_editor.specs.Telling as telling;
@@ -12,6 +13,7 @@ use crate::fault::CarryFault;
 use mg_files::Port;
 use mg_minibuffer::{Message, Request};
 use mg_sync::{ExchangeFault, Exchanged};
+use mg_workspace::Task;
 use rga_store::Teller;
 
 /// What came of a meeting.
@@ -31,13 +33,13 @@ impl<S: Teller> Editor<S> {
             (P.calls port.old) (P.calls port.new) self.old self.new result }
         ensures over { let a =
             account P.Link.remaining P.Link.contents P.links P.calls port.old port.new in
-            telling.ChangesCurrent (λ answer b d. ExchangesOver a b d Connects answer)
+            telling.ChangesCurrent Exchange (λ answer b d. ExchangesOver a b d Connects answer)
             spec.meeting_outcome self.old self.new result }
         ensures device { CountsFaults (telling.port_outcome result)
             (P.failures port.old) (P.failures port.new) }
     {
         let answer = mg_sync::exchange(self.alloc, self.work.current_mut(), port);
-        self.conclude(meeting_outcome(answer))
+        self.conclude_task(Task::Exchange, meeting_outcome(answer))
     }
 
     /// The current buffer is exchanged with a peer that is waited for, which is said.
@@ -46,12 +48,12 @@ impl<S: Teller> Editor<S> {
             (P.calls port.old) (P.calls port.new) self.old self.new result }
         ensures over { let a =
             account P.Link.remaining P.Link.contents P.links P.calls port.old port.new in
-            telling.ChangesCurrent (λ answer b d. ExchangesOver a b d Waits answer)
+            telling.ChangesCurrent Exchange (λ answer b d. ExchangesOver a b d Waits answer)
             spec.meeting_outcome self.old self.new result }
         ensures device { CountsFaults (telling.port_outcome result)
             (P.failures port.old) (P.failures port.new) }
     {
         let answer = mg_sync::serve(self.alloc, self.work.current_mut(), port);
-        self.conclude(meeting_outcome(answer))
+        self.conclude_task(Task::Exchange, meeting_outcome(answer))
     }
 }

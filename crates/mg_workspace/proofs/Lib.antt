@@ -1,4 +1,5 @@
 pub mod NameLaws
+pub mod FailureLaws
 pub mod Moves
 pub mod InCurrent
 pub mod ViewportLaws

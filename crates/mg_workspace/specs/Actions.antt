@@ -20,6 +20,7 @@ use Rattle.mg_screen.specs.declared.size.TheConstants.{MIN_SPLIT_HEIGHT}
 use Rattle.mg_screen.specs.Layout.{Layout, current_height, split_layout, removed_layout, resized_layout, only_layout, other_layout}
 use Rattle.mg_screen.specs.Lines.{line_index, centred}
 use Rattle.mg_workspace.specs.Buffers as buffers
+use Rattle.mg_workspace.specs.Failures.{without_owner}
 use Rattle.mg_workspace.specs.Names.{buffer_named, asked, next_round}
 use Rattle.mg_workspace.specs.declared.fault.ActionFault.{ActionFault}
 use Rattle.mg_workspace.specs.declared.fault.ActionFault.TheVariants.{Refused, Memory}
@@ -113,9 +114,10 @@ switch_outcome name w =
     let next = next_round (length w.buffers.all) w.buffers.current in
     option_map_or (λ i. (gone_to i w, Ok tt)) (asked name next w.buffers.all) (refusal_outcome cause.NoSuchBuffer w)
 
--- without the buffer at an index: the windows that showed it show the first one of those left
+-- without the buffer at an index: the windows that showed it show the first one of those left, and what failed in it stands for
+-- good
 abbrev pub removed : ℕ → Workspace → Workspace
-removed i w = record w { buffers = buffers.without_buffer i w.buffers; windows = layout_without i w.windows }
+removed i w = record w { buffers = buffers.without_buffer i w.buffers; windows = layout_without i w.windows; failures = without_owner i w.failures }
 
 -- without it, unless it is changed or the only one
 abbrev pub removal_outcome : ℕ → Workspace → ActionOutcome

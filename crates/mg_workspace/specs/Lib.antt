@@ -1,5 +1,6 @@
 pub mod Names
 pub mod Buffers
+pub mod Failures
 pub mod Viewports
 pub mod Workspaces
 pub mod Actions

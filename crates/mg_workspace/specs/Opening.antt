@@ -21,6 +21,7 @@ workspace v b = record {
   limit = v.limit;
   runs = v.runs;
   brief = v.brief;
+  failures = [];
 }
 
 -- as many buffers are open as may be

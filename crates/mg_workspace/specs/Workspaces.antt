@@ -1,17 +1,21 @@
 -- What is worked on.
-use Rattle.std.specs.Prelude.{ℕ, Bool}
+use Rattle.std.specs.Prelude.{ℕ, Bool, List, Option}
 use Rattle.rga_ops.specs.Order.{text}
 use Rattle.mg_buffer.specs.Sight.{Notes, place_of}
 use Rattle.mg_buffer.specs.OpenState.{OpenState}
 use Rattle.mg_screen.specs.Layout.{Layout, current_height}
 use Rattle.mg_workspace.specs.Buffers as buffers
 use Rattle.mg_workspace.specs.Buffers.{are_changed}
+use Rattle.mg_workspace.specs.Failures.{noted}
+use Rattle.mg_workspace.specs.declared.failures.Failed.{Failed}
+use Rattle.mg_workspace.specs.declared.failures.Failure.{Failure}
+use Rattle.mg_workspace.specs.declared.failures.Task.{Task}
 use Rattle.mg_workspace.specs.declared.viewport.Viewport.{Viewport}
 use Rattle.mg_minibuffer.specs.Scenes as scenes
 
 -- the buffers, what commands leave for the next one, the windows with what they show, the fill column, the columns of the
--- screen, the replica and the limit of buffers that are opened, and whether saves of these append runs and their exchanges
--- are brief
+-- screen, the replica and the limit of buffers that are opened, whether saves of these append runs and their exchanges
+-- are brief, and what failed in buffers and still stands
 pub record Workspace : Type 0 where
   pub buffers : buffers.Buffers
   pub notes : Notes
@@ -22,6 +26,7 @@ pub record Workspace : Type 0 where
   pub limit : ℕ
   pub runs : Bool
   pub brief : Bool
+  pub failures : List Failed
 
 -- the current buffer
 abbrev pub workspace_buffer : Workspace → OpenState
@@ -30,6 +35,10 @@ workspace_buffer w = buffers.current_buffer w.buffers
 -- with another as the current buffer
 abbrev pub with_workspace_buffer : Workspace → OpenState → Workspace
 with_workspace_buffer w b = record w { buffers = buffers.with_current w.buffers b }
+
+-- a task of the current buffer was done, or failed for that
+abbrev pub with_task : Task → Option Failure → Workspace → Workspace
+with_task task why w = record w { failures = noted w.buffers.current task why w.failures }
 
 -- what a step is decided from
 abbrev pub scene_of : Workspace → scenes.Scene

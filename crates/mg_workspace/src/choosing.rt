@@ -74,7 +74,7 @@ impl<S: TextStore> Workspace<S> {
     }
 
     /// The buffer at an index is removed, unless it is changed or the only one. Its windows show the
-    /// first one that is left.
+    /// first one that is left, and what failed in it stands for good.
     fn remove(&mut self, index: usize) -> Result<(), ActionFault>
         requires { index < length self.old.buffers.all }
         ensures removed { (self.new, result) ≡ spec.removal_outcome index self.old }
@@ -88,6 +88,7 @@ impl<S: TextStore> Workspace<S> {
         }
         self.buffers.remove(index);
         leave(&mut self.windows, index);
+        self.failures.remove(index);
         Ok(())
     }
 

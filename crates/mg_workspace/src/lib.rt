@@ -6,18 +6,21 @@
 //! prompts and messages are above, as are files and peers. The crate stands on mg_buffer for
 //! buffers, on mg_minibuffer for actions, on mg_screen for windows, and is generic over any
 //! `TextStore`. The layer above may rest on `Done`: what each action leaves of the buffers and the
-//! windows, and why it is refused; want of memory changes nothing.
+//! windows, and why it is refused; want of memory changes nothing; and on `noted`: which saves and
+//! exchanges failed and still stand, and which of them is the first.
 #![tactic(auto)]
 
 mod actions;
 mod arranging;
 mod buffers;
 mod choosing;
+mod failures;
 mod fault;
 mod showing;
 mod viewport;
 mod workspace;
 
+pub use failures::{Failure, Task};
 pub use fault::{ActionFault, Cause};
 pub use viewport::Viewport;
 pub use workspace::{MAX_BUFFERS, Workspace};

@@ -1,10 +1,12 @@
 //! What is worked on: the buffers, what commands leave for the next one, and the windows.
 ghost use Rattle.std.specs.Prelude.{◌≡◌, ◌≤◌, IfOk, IfErr, IfSome};
 ghost use Rattle.mg_screen.specs.declared.size.TheConstants.{MIN_COLUMNS, MAX_COLUMNS};
+ghost use Rattle.mg_workspace.specs.Failures.{first_standing};
 ghost use Rattle.mg_workspace.specs.Opening.{workspace};
 ghost use Rattle.mg_workspace.specs.Workspaces as spec;
 
 use crate::buffers::Buffers;
+use crate::failures::{Failure, Failures, Task};
 use crate::viewport::Viewport;
 use mg_buffer::{Memo, VisitedBuffer};
 use mg_minibuffer::Scene;
@@ -35,6 +37,8 @@ pub struct Workspace<S: TextStore> {
     /// Whether saves of them append runs, and whether their exchanges are brief.
     pub(crate) runs: bool,
     pub(crate) brief: bool,
+    /// What failed in buffers and still stands.
+    pub(crate) failures: Failures,
 }
 
 /// The first buffer, from its first line on.
@@ -66,6 +70,7 @@ impl<S: TextStore> Model for Workspace<S> {
       limit = w.limit;
       runs = w.runs;
       brief = w.brief;
+      failures = w.failures;
     } };
 
     ghost invariant = { λ w.
@@ -102,6 +107,7 @@ impl<S: TextStore> Workspace<S> {
             limit: values.limit,
             runs: values.runs,
             brief: values.brief,
+            failures: Failures::new(),
         })
     }
 
@@ -119,6 +125,21 @@ impl<S: TextStore> Workspace<S> {
         ensures value { result.now ≡ spec.workspace_buffer self.old }
     {
         self.buffers.current_mut()
+    }
+
+    /// A task of the current buffer was done, or failed for that. Takes no memory.
+    pub fn note(&mut self, task: Task, why: Option<Failure>)
+        ensures { self.new ≡ spec.with_task task why self.old }
+    {
+        let index = self.buffers.current_index();
+        self.failures.note(index, task, why);
+    }
+
+    /// Why the first of the saves and exchanges failed that stand. Takes no memory.
+    pub fn failure(&self) -> Option<Failure>
+        ensures { result ≡ first_standing self.now.failures }
+    {
+        self.failures.first()
     }
 
     /// The index of the current window from the top, from 0. Takes no memory.
