@@ -8,7 +8,7 @@ use Rattle.rga_store.specs.Limit.{is_limit}
 use Rattle.rga_world.specs.Sites.{World}
 use Rattle.rga_world.specs.Steps.{outcome_then, stepped, ran, kept}
 use Rattle.rga_world.specs.Outcomes.{Happens}
-use Rattle.rga_world.specs.Together.{IsReached}
+use Rattle.rga_world.specs.Together.{PutsCharacters, IsReached}
 use Rattle.rga_world.specs.declared.event.Event.{Event}
 use Rattle.rga_world.specs.declared.refusal.WorldRefusal.{WorldRefusal}
 use Rattle.rga_world.specs.declared.refusal.WorldRefusal.TheVariants.{Store}
@@ -25,9 +25,9 @@ made_within limit w h = by (is_limit limit) refl
     by true e = refl
     by false e = absurd (clash (h e))
 
-pub step_reached : (r : Result (Unit {0}) WorldRefusal) (w v : World) (event : Event) → IsReached w → Happens r w v (stepped w event) → IsReached v
-step_reached (Ok u) w v event reached h = subst IsReached (ap (kept w) h) (reached_on w (event ∷ []) reached)
-step_reached (Err e) w v event reached h = subst IsReached (sym h.0) reached
+pub step_reached : (r : Result (Unit {0}) WorldRefusal) (w v : World) (event : Event) → IsReached w → PutsCharacters event → Happens r w v (stepped w event) → IsReached v
+step_reached (Ok u) w v event reached characters h = subst IsReached (ap (kept w) h) (reached_on w (event ∷ []) reached (characters, tt))
+step_reached (Err e) w v event reached characters h = subst IsReached (sym h.0) reached
 
 memory-conflict : (id : Identifier) → Store Memory ≡ Store (Conflict id) → ⊥
 memory-conflict id h = let inside : Memory ≡ Conflict id = cc in absurd (clash inside)

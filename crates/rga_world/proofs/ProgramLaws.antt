@@ -1,37 +1,41 @@
 -- What saves, restarts and exchanges of the program are in a world.
 use Rattle.std.proofs.Common.{◌≡◌, ℕ, zero, suc, ◌+◌, ◌≤◌, List, [], ◌∷◌, ◌++◌, length, Some, slice_get, slice_set, refl, sym, ap, ◌∙◌, subst, inl, inr, arith}
-use Rattle.std.specs.Prelude.{Result, Ok, Err}
+use Rattle.std.specs.Prelude.{◌↔◌, ◌⊎◌, Result, Ok, Err, Contains}
 use Rattle.std.specs.FinMap as finite_map
 use Rattle.std.specs.FinSet as finite_set
-use Rattle.std.proofs.lemmas.Option.{same_Some, none-some}
-use Rattle.rga_ops.specs.Identifier.{id_cmp}
-use Rattle.rga_ops.specs.Content.{Content, Agree, nothing, join, content_of, known_ids, known_count, IsSound}
+use Rattle.std.proofs.Math.Seq.{take-length}
+use Rattle.std.proofs.lemmas.Option.{same_Some}
+use Rattle.rga_ops.specs.Content.{element, Content, Agree, Holds, IsAgreed, IsWithin, nothing, join, content_of, known_ids, known_count}
 use Rattle.rga_ops.specs.Answer.{taken, and_take, taken_one_by_one}
-use Rattle.rga_ops.specs.ListAnswer.{AreWellFormed, IsJoinable}
+use Rattle.rga_ops.specs.ListAnswer.{IsJoinable, list_answer}
 use Rattle.rga_ops.specs.Operations.{operations}
 use Rattle.rga_ops.specs.declared.op.Op.{Op}
+use Rattle.rga_ops.specs.declared.op.Op.TheVariants.{Insert, Delete}
 use Rattle.rga_ops.specs.declared.refusal.Refusal.{Refusal}
-use Rattle.rga_ops.proofs.ContentLaws.{nothing_join}
-use Rattle.rga_ops.proofs.KnownLaws.{takeable_is_taken}
-use Rattle.rga_ops.proofs.OperationsLaws.{operations_hold, operations_agree, content_of-operations}
+use Rattle.rga_ops.proofs.AgreeLaws.{agree_nothing, agree_swap, agree_within, held_agree}
+use Rattle.rga_ops.proofs.ContentLaws.{nothing_join, join_least, within_both, within_join, within_join_second}
+use Rattle.rga_ops.proofs.ListAnswerLaws.{list_taken-iff, list_one_by_one}
+use Rattle.rga_ops.proofs.OperationLaws.{inserted-iff, deleted-iff}
+use Rattle.rga_ops.proofs.OperationsLaws.{operations_hold, content_of-operations}
 use Rattle.rga_lines.specs.Stream.{rest_of}
-use Rattle.rga_exchange.specs.Sending.{StandsFor, AreWritable, log_text}
+use Rattle.rga_exchange.specs.Sending.{StandsFor, log_text}
 use Rattle.rga_exchange.specs.Log.{log_outcome}
 use Rattle.rga_exchange.specs.declared.log.LogRead.{LogRead}
 use Rattle.rga_exchange.proofs.AppendedLaws.{stands_appended}
 use Rattle.rga_exchange.proofs.LogLaws.{log_that_stands}
 use Rattle.rga_world.specs.Sites.{Site, site, World}
-use Rattle.rga_world.specs.Steps.{stepped, ran, outcome_then, found, of_store, site_at, saved_operation, delivered, with_content}
+use Rattle.rga_world.specs.Steps.{stepped, ran, outcome_then, found, of_store, saved_operation, saved_list, delivered, list_delivered, given, with_content}
 use Rattle.rga_world.specs.Program.{deliveries}
 use Rattle.rga_world.specs.Together.{IsReached}
 use Rattle.rga_world.specs.Words.{with_site}
-use Rattle.rga_world.specs.declared.event.Event.TheVariants.{Save, Deliver, Restart}
-use Rattle.rga_world.specs.declared.refusal.WorldRefusal.TheVariants.{NoSite, NoOperation}
+use Rattle.rga_world.specs.declared.event.Event.TheVariants.{Save, Deliver, DeliverList, Restart}
+use Rattle.rga_world.specs.declared.refusal.WorldRefusal.TheVariants.{NoOperation}
+use Rattle.rga_world.proofs.Consistent.{IsConsistent}
 use Rattle.rga_world.proofs.ListPlaces.{set_here, set_old}
 use Rattle.rga_world.proofs.SiteSteps.{set_same}
-use Rattle.rga_world.proofs.WordLaws.{changed_to, saved-iff, restarted-iff}
-use Rattle.rga_world.proofs.RunLaws.{reached_consistent}
-use Rattle.rga_world.proofs.TogetherLaws.{saved_agrees}
+use Rattle.rga_world.proofs.WordLaws.{changed_to, gives, list_found, saved-iff, restarted-iff}
+use Rattle.rga_world.proofs.RunLaws.{reached_consistent, saved_joinable}
+use Rattle.rga_world.proofs.StoredLaws.{AreStorable, reached_storable, held_listed}
 
 -- ---- a save and a restart
 
@@ -39,30 +43,65 @@ use Rattle.rga_world.proofs.TogetherLaws.{saved_agrees}
 left_at : (w v : World) (number : ℕ) (x y t : Site) → slice_get w.sites number ≡ Some x → v ≡ with_site w number y → slice_get v.sites number ≡ Some t → t ≡ y
 left_at w v number x y t at is there = same_Some t y (sym there ∙ ap (λ (u : World). slice_get u.sites number) is ∙ set_here w.sites number x y at)
 
+-- a content that holds what another holds, and a list of operations, is the join of both
+module _ (c saved : Content) (ops : List Op) (within : IsWithin saved c) (holds : (op : Op) → Holds c op ↔ (Holds saved op ⊎ Contains ops op)) where
+  ops_agree : IsAgreed ops
+  ops_agree = held_agree c ops (λ id parent ch m. (holds (Insert id parent ch)).1 (inr m))
+
+  listed_within : IsWithin (content_of ops) c
+  listed_within = record {
+    inserted = λ id x h. (holds (Insert id x.parent x.ch)).1 (inr (held_listed ops (Insert id x.parent x.ch) h));
+    deleted = λ id h. (holds (Delete id)).1 (inr (held_listed ops (Delete id) h));
+  }
+
+  both_agree : Agree saved (content_of ops)
+  both_agree = agree_within saved (content_of ops) c c within listed_within (λ id x y h k. same_Some x y (sym h ∙ k))
+
+  rest_joinable : IsJoinable saved ops
+  rest_joinable = record { agreed = ops_agree; agree = both_agree }
+
+  is_joined : c ≡ join saved (content_of ops)
+  is_joined =
+      let first = within_join saved (content_of ops) in
+      let second = within_join_second saved (content_of ops) both_agree in
+      within_both c (join saved (content_of ops))
+      (record {
+        inserted = λ id x h. elim ((holds (Insert id x.parent x.ch)).0 h) [
+          | inl old ↦ first.inserted id x old
+          | inr new ↦ second.inserted id x ((inserted-iff ops ops_agree id x).1 new)
+        ];
+        deleted = λ id h. elim ((holds (Delete id)).0 h) [
+          | inl old ↦ first.deleted id old
+          | inr new ↦ second.deleted id ((deleted-iff ops id).1 new)
+        ];
+      })
+      (join_least saved (content_of ops) c within listed_within)
+
 pub save_in_log : (w v : World) (number : ℕ) (s t : Site) (bytes : List ℕ) (ops : List Op)
-    → stepped w (Save number) ≡ Ok v → slice_get w.sites number ≡ Some s → slice_get v.sites number ≡ Some t
-    → StandsFor bytes s.saved → rest_of bytes ≡ [] → AreWritable ops → AreWellFormed ops → IsJoinable s.saved ops → s.content ≡ join s.saved (content_of ops)
+    → IsReached w → stepped w (Save number) ≡ Ok v → slice_get w.sites number ≡ Some s → slice_get v.sites number ≡ Some t
+    → StandsFor bytes s.saved → rest_of bytes ≡ [] → ((op : Op) → Holds s.content op ↔ (Holds s.saved op ⊎ Contains ops op))
     → StandsFor (bytes ++ log_text ops) t.saved
-save_in_log w v number s t bytes ops step at there stands ended writable well joinable unsaved =
+save_in_log w v number s t bytes ops reached step at there stands ended holds =
     let i = (saved-iff w v number).0 step in
     let before : i.before ≡ s = same_Some i.before s (sym i.at ∙ at) in
     let left : t ≡ site i.before.content i.before.content = left_at w v number i.before (site i.before.content i.before.content) t i.at i.is there in
-    subst (StandsFor (bytes ++ log_text ops)) (sym unsaved ∙ sym (ap (λ (x : Site). x.content) before) ∙ sym (ap (λ (x : Site). x.saved) left))
-    (stands_appended bytes s.saved ops stands ended writable well joinable)
-
-agree_nothing : (c : Content) → Agree nothing c
-agree_nothing c id x y here there = absurd (none-some x (sym (finite_map.get-empty id_cmp id) ∙ here))
+    let within : IsWithin s.saved s.content = (reached_consistent w reached).held number s at in
+    let stored = (reached_storable w reached).content number s at in
+    let held : (op : Op) → Contains ops op → Holds s.content op = λ op m. (holds op).1 (inr m) in
+    subst (StandsFor (bytes ++ log_text ops)) (sym (is_joined s.content s.saved ops within holds) ∙ sym (ap (λ (x : Site). x.content) before) ∙ sym (ap (λ (x : Site). x.saved) left))
+    (stands_appended bytes s.saved ops stands ended (λ op m. stored.writable op (held op m)) (λ op m. stored.sound op (held op m)) (rest_joinable s.content s.saved ops within holds))
 
 pub restart_from_log : (w v : World) (number : ℕ) (s t : Site) (bytes : List ℕ)
-    → stepped w (Restart number) ≡ Ok v → slice_get w.sites number ≡ Some s → slice_get v.sites number ≡ Some t
-    → StandsFor bytes s.saved → known_count s.saved ≤ w.limit
+    → IsReached w → stepped w (Restart number) ≡ Ok v → slice_get w.sites number ≡ Some s → slice_get v.sites number ≡ Some t
+    → StandsFor bytes s.saved
     → (read : LogRead) × (log_outcome w.limit nothing bytes ≡ (t.content, Ok read))
-restart_from_log w v number s t bytes step at there stands fits =
+restart_from_log w v number s t bytes reached step at there stands =
     let i = (restarted-iff w v number).0 step in
     let before : i.before ≡ s = same_Some i.before s (sym i.at ∙ at) in
     let left : t ≡ site i.before.saved i.before.saved = left_at w v number i.before (site i.before.saved i.before.saved) t i.at i.is there in
     let same : join nothing s.saved ≡ t.content = nothing_join s.saved ∙ sym (ap (λ (x : Site). x.saved) before) ∙ sym (ap (λ (x : Site). x.content) left) in
-    let r = log_that_stands w.limit nothing s.saved bytes stands (agree_nothing s.saved) (subst (λ c. finite_set.len (known_ids c) ≤ w.limit) (sym (nothing_join s.saved)) fits) in
+    let fits = ((reached_storable w reached).saved number s at).within in
+    let r = log_that_stands w.limit nothing s.saved bytes stands (agree_swap s.saved nothing (agree_nothing s.saved)) (subst (λ c. finite_set.len (known_ids c) ≤ w.limit) (sym (nothing_join s.saved)) fits) in
     (r.0, r.1 ∙ ap (λ c. (c, Ok r.0)) same)
 
 -- ---- deliveries one by one
@@ -87,9 +126,8 @@ one_delivered : (w : World) (taker giver place : ℕ) (s g : Site) (op : Op) (c 
     → slice_get w.sites taker ≡ Some s → slice_get w.sites giver ≡ Some g → slice_get (operations g.saved) place ≡ Some op → taken w.limit s.content op ≡ Ok c
     → stepped w (Deliver taker giver place) ≡ Ok (with_site w taker (with_content s c))
 one_delivered w taker giver place s g op c at there saved took =
-    changed_to w taker (λ x. outcome_then (site_at w giver) (λ h. outcome_then (saved_operation h place) (λ o. delivered w.limit o x))) s (with_content s c) at
-    (ap (λ o. outcome_then (found NoSite o) (λ h. outcome_then (saved_operation h place) (λ p. delivered w.limit p s))) there
-    ∙ ap (λ o. outcome_then (found NoOperation o) (λ p. delivered w.limit p s)) saved
+    changed_to w taker (given w giver (λ h. saved_operation h place) (delivered w.limit)) s (with_content s c) at
+    (gives w taker giver (λ h. saved_operation h place) (delivered w.limit) s g op there (ap (found NoOperation) saved)
     ∙ ap (λ r. outcome_then (of_store r) (λ d. Ok (with_content s d))) took)
 
 -- the same of all from a place on
@@ -126,22 +164,29 @@ all_delivered (op ∷ ops) place taker giver w s g d at there each took =
 
 -- ---- an exchange
 
-all_taken : (limit : ℕ) (c d : Content) → IsSound c → Agree d c → finite_set.len (known_ids (join d c)) ≤ limit → taken_one_by_one limit d (operations c) ≡ Ok (join d c)
-all_taken limit c d sound agree fits =
-    let is : content_of (operations c) ≡ c = content_of-operations c in
-    takeable_is_taken limit d (operations c) (record {
-      well_formed = λ op m. sound op (operations_hold c op m);
-      joinable = record { agreed = operations_agree c; agree = subst (Agree d) (sym is) agree };
-      fits = subst (λ e. finite_set.len (known_ids (join d e)) ≤ limit) (sym is) fits;
-    })
-    ∙ ap (λ e. Ok (join d e)) is
+-- all that the giver has saved, where the taker has room for it
+module _ (w : World) (taker giver : ℕ) (s g : Site) (reached : IsReached w) (at : slice_get w.sites taker ≡ Some s) (there : slice_get w.sites giver ≡ Some g) (fits : known_count (join s.content g.saved) ≤ w.limit) where
+  all_allowed : list_answer w.limit s.content (operations g.saved) ≡ Ok tt
+  all_allowed =
+      let stored = (reached_storable w reached).saved giver g there in
+      (list_taken-iff w.limit s.content (operations g.saved)).1 (
+        λ op m. stored.sound op (operations_hold g.saved op m),
+        saved_joinable w.limit w.sites (reached_consistent w reached) taker giver s g at there (operations g.saved) (operations_hold g.saved),
+        subst (λ c. finite_set.len (known_ids (join s.content c)) ≤ w.limit) (sym (content_of-operations g.saved)) fits,
+      )
 
-pub exchange_delivers : (w : World) (taker giver : ℕ) (s g : Site) → IsReached w → slice_get w.sites taker ≡ Some s → slice_get w.sites giver ≡ Some g
-    → IsSound g.saved → known_count (join s.content g.saved) ≤ w.limit
-    → ran w (deliveries taker giver 0 (length (operations g.saved))) ≡ Ok (with_site w taker (with_content s (join s.content g.saved)))
-exchange_delivers w taker giver s g reached at there sound fits =
-    all_delivered (operations g.saved) 0 taker giver w s g (join s.content g.saved) at there (λ n op h. ap (slice_get (operations g.saved)) (none n) ∙ h)
-    (all_taken w.limit g.saved s.content sound (saved_agrees w (reached_consistent w reached) taker giver s g at there) fits)
-  where
-    none : (n : ℕ) → 0 + n ≡ n
-    none n = omega arith
+  pub exchange_delivers : ran w (deliveries taker giver 0 (length (operations g.saved))) ≡ Ok (with_site w taker (with_content s (join s.content g.saved)))
+  exchange_delivers =
+      all_delivered (operations g.saved) 0 taker giver w s g (join s.content g.saved) at there (λ n op h. ap (slice_get (operations g.saved)) (none n) ∙ h)
+      (list_one_by_one w.limit s.content (operations g.saved) all_allowed ∙ ap (λ c. Ok (join s.content c)) (content_of-operations g.saved))
+    where
+      none : (n : ℕ) → 0 + n ≡ n
+      none n = omega arith
+
+  pub exchange_is_list : stepped w (DeliverList taker giver 0 (length (operations g.saved))) ≡ Ok (with_site w taker (with_content s (join s.content g.saved)))
+  exchange_is_list =
+      let all : List Op = operations g.saved in
+      changed_to w taker (given w giver (λ h. saved_list h 0 (length all)) (list_delivered w.limit)) s (with_content s (join s.content g.saved)) at
+      (gives w taker giver (λ h. saved_list h 0 (length all)) (list_delivered w.limit) s g all there (list_found g 0 (length all) (omega arith) (omega arith) ∙ ap (λ ops. Ok ops) (take-length all))
+      ∙ ap (λ r. outcome_then (of_store r) (λ _. Ok (with_content s (join s.content (content_of all))))) all_allowed
+      ∙ ap (λ c. Ok (with_content s (join s.content c))) (content_of-operations g.saved))

@@ -1,25 +1,30 @@
 -- What events lead to, in words.
-use Rattle.std.proofs.Common.{◌≡◌, ℕ, List, Some, None, Vec, slice_get, refl, sym, ap, ◌∙◌, inl, inr}
+use Rattle.std.proofs.Common.{◌≡◌, ℕ, ◌<◌, ◌≤◌, ◌⊎◌, ◌&&◌, Bool, true, false, cond, nat_le, le-leb, List, take, drop, length, Some, None, Vec, slice_get, refl, sym, ap, ◌∙◌, subst, inl, inr}
 use Rattle.std.specs.Prelude.{◌↔◌, Option, Result, Ok, Err}
 use Rattle.std.specs.declared.alloc.Global.{Global}
+use Rattle.std.proofs.lemmas.Bool.{lt-leb}
+use Rattle.rga_ops.specs.Identifier.{Identifier}
 use Rattle.rga_ops.specs.Content.{Content, join, single, content_of}
 use Rattle.rga_ops.specs.Operations.{operations}
 use Rattle.rga_ops.specs.Answer.{answer, after_answer, taken}
+use Rattle.rga_ops.specs.ListAnswer.{Verdict, list_answer}
 use Rattle.rga_ops.proofs.TakenLaws.{taken_is}
 use Rattle.rga_ops.specs.declared.op.Op.{Op}
 use Rattle.rga_ops.specs.declared.refusal.Taken.{Taken}
 use Rattle.rga_ops.specs.declared.refusal.Taken.TheVariants.{New, Known}
 use Rattle.rga_ops.specs.declared.refusal.Refusal.{Refusal}
 use Rattle.rga_doc.specs.LocalEdit.{splice_answer, splice_operations}
+use Rattle.rga_doc.specs.Revert.{revert_answer, revert_operations}
 use Rattle.rga_world.specs.Sites.{Site, World}
-use Rattle.rga_world.specs.Steps.{Outcome, outcome_then, found, of_store, replica_of, site_at, saved_operation, with_content, edited, delivered, saved_site, restarted, changed, stepped}
-use Rattle.rga_world.specs.Words.{with_site, IsSavedSite, IsRestarted, IsEdited, IsDelivered, LacksSite, LacksOperation, IsRefusedByStore}
+use Rattle.rga_world.specs.Steps.{Outcome, outcome_then, found, of_store, replica_of, site_at, saved_operation, saved_list, with_content, with_operations, delivered, list_delivered, saved_site, restarted, changed, given, stepped}
+use Rattle.rga_world.specs.Words.{with_site, HasChanged, IsSavedSite, IsRestarted, IsEdited, IsReverted, IsGiven, IsDelivered, IsListGiven, IsListDelivered, LacksSite, LacksOperation, IsRefusedByStore}
 use Rattle.rga_world.specs.declared.event.Event.{Event}
-use Rattle.rga_world.specs.declared.event.Event.TheVariants.{Edit, Save, Deliver, Restart}
+use Rattle.rga_world.specs.declared.event.Event.TheVariants.{Edit, Revert, Save, Deliver, DeliverList, Restart}
 use Rattle.rga_world.specs.declared.refusal.WorldRefusal.{WorldRefusal}
 use Rattle.rga_world.specs.declared.refusal.WorldRefusal.TheVariants.{NoSite, NoOperation, Store}
-use Rattle.rga_world.proofs.StepLaws.{same_Ok, then_ok, found_ok, store_ok, is_changed}
-use Rattle.rga_world.proofs.RunLaws.{same_Err, ok-err, then_err, took_or}
+use Rattle.rga_world.proofs.StepLaws.{same_Ok, then_ok, found_ok, store_ok, is_changed, takes_given, joined_ok, saved_list_ok}
+use Rattle.rga_world.proofs.RefusalLaws.{ok-err, then_err, found_none, of_err, same_Store, site-operation, site-store, operation-store, joined_err, saved_list_err, IsRefusal, nowhere, within, refusal, IsUngiven, from_nowhere, of_nothing, not_taken, ungiven}
+use Rattle.rga_world.proofs.RunLaws.{took_or}
 
 -- ---- outcomes
 
@@ -42,41 +47,6 @@ changed_err w number change s e at is = changed_is w number change s at ∙ ap (
 changed_none : (w : World) (number : ℕ) (change : Site → Outcome Site) → slice_get w.sites number ≡ None → changed w number change ≡ Err NoSite
 changed_none w number change none = ap (λ r. outcome_then r (λ x. outcome_then (change x) (λ t. Ok (with_site w number t)))) (no_site_is w number none)
 
-found_none : {A : Type 0} (d e : WorldRefusal) (o : Option A) → found d o ≡ Err e → (o ≡ None) × (d ≡ e)
-found_none d e None h = (refl, same_Err d e h)
-found_none d e (Some x) h = absurd (ok-err x e h)
-
--- why a change is refused
-pub data IsRefusal (w : World) (number : ℕ) (change : Site → Outcome Site) (e : WorldRefusal) : Type 0 where
-  nowhere : slice_get w.sites number ≡ None → NoSite ≡ e → IsRefusal w number change e
-  within : (s : Site) → slice_get w.sites number ≡ Some s → change s ≡ Err e → IsRefusal w number change e
-
-refusal : (w : World) (number : ℕ) (change : Site → Outcome Site) (e : WorldRefusal) → changed w number change ≡ Err e → IsRefusal w number change e
-refusal w number change e h =
-    elim (then_err (site_at w number) (λ s. outcome_then (change s) (λ t. Ok (with_site w number t))) e h) [
-      | inl none ↦ let (lacks, is) = found_none NoSite e (slice_get w.sites number) none in nowhere lacks is
-      | inr (s, at, later) ↦ elim (then_err (change s) (λ t. Ok (with_site w number t)) e later) [
-        | inl refused ↦ within s (found_ok NoSite (slice_get w.sites number) s at) refused
-        | inr (t, is, done) ↦ absurd (ok-err (with_site w number t) e done)
-      ]
-    ]
-
-of_err : {A : Type 0} (r : Result A Refusal) (e : WorldRefusal) → of_store r ≡ Err e → (f : Refusal) × (r ≡ Err f) × (Store f ≡ e)
-of_err (Ok x) e h = absurd (ok-err x e h)
-of_err (Err f) e h = (f, refl, same_Err (Store f) e h)
-
-same_Store : (e f : Refusal) → Store e ≡ Store f → e ≡ f
-same_Store e f h = cc
-
-site-operation : NoSite ≡ NoOperation → ⊥
-site-operation h = cc
-
-site-store : (e : Refusal) → NoSite ≡ Store e → ⊥
-site-store e h = cc
-
-operation-store : (e : Refusal) → NoOperation ≡ Store e → ⊥
-operation-store e h = cc
-
 -- ---- saves and restarts
 
 pub saved-iff : (w v : World) (number : ℕ) → (stepped w (Save number) ≡ Ok v) ↔ IsSavedSite w v number
@@ -95,41 +65,109 @@ restarted-iff w v number = (
   λ i. changed_to w number (λ s. Ok (restarted s)) i.before (restarted i.before) i.at refl ∙ ap (λ x. Ok x) (sym i.is),
 )
 
--- ---- edits
+-- ---- edits and reverts
 
-module _ (w : World) (number lo hi : ℕ) (put : List ℕ) where
-  abbrev edit : Site → Outcome Site
-  edit = edited w.limit (replica_of number) lo hi put
+-- the site joins operations of its own, where they are allowed
+module _ (w : World) (number : ℕ) (verdict : Content → Verdict) (own : Content → List Op) where
+  abbrev change : Site → Outcome Site
+  change s = with_operations (verdict s.content) (own s.content) s
 
-  abbrev after_edit : Site → Site
-  after_edit s = with_content s (join s.content (content_of (splice_operations (replica_of number) s.content lo hi put)))
+  abbrev after_change : Site → Site
+  after_change s = with_content s (join s.content (content_of (own s.content)))
 
-  edit_ok : (v : World) → changed w number edit ≡ Ok v → IsEdited w v number lo hi put
-  edit_ok v h =
-      let c = is_changed w number edit v h in
-      let step = then_ok (of_store (splice_answer w.limit c.before.content lo hi put)) (λ _. Ok (after_edit c.before)) c.now c.change_is in
-      record {
-        before = c.before;
-        at = c.was;
-        allowed = store_ok (splice_answer w.limit c.before.content lo hi put) step.0 step.1;
-        is = c.is ∙ ap (with_site w number) (sym (same_Ok (after_edit c.before) c.now step.2));
-      }
+  changed-iff : (v : World) → (changed w number change ≡ Ok v) ↔ HasChanged w v number verdict own
+  changed-iff v = (
+    λ h.
+        let c = is_changed w number change v h in
+        let joined = joined_ok (verdict c.before.content) (own c.before.content) c.before c.now c.change_is in
+        record { before = c.before; at = c.was; allowed = joined.0; is = c.is ∙ ap (with_site w number) (sym joined.1) },
+    λ i.
+        changed_to w number change i.before (after_change i.before) i.at (ap (λ r. outcome_then (of_store r) (λ _. Ok (after_change i.before))) i.allowed)
+        ∙ ap (λ x. Ok x) (sym i.is),
+  )
 
-  edit_done : (v : World) → IsEdited w v number lo hi put → changed w number edit ≡ Ok v
-  edit_done v i =
-      changed_to w number edit i.before (after_edit i.before) i.at (ap (λ r. outcome_then (of_store r) (λ _. Ok (after_edit i.before))) i.allowed) ∙ ap (λ x. Ok x) (sym i.is)
+  -- only that the site is missing, and its store
+  change_no_site-iff : (changed w number change ≡ Err NoSite) ↔ (slice_get w.sites number ≡ None)
+  change_no_site-iff = (
+    λ h. elim (refusal w number change NoSite h) [
+      | nowhere none is ↦ none
+      | within s at refused ↦ let (f, by_store, is) = joined_err (verdict s.content) (own s.content) s NoSite refused in absurd (site-store f (sym is))
+    ],
+    changed_none w number change,
+  )
 
-  edit_err : (s : Site) (e : WorldRefusal) → edit s ≡ Err e → (f : Refusal) × (splice_answer w.limit s.content lo hi put ≡ Err f) × (Store f ≡ e)
-  edit_err s e h = elim (then_err (of_store (splice_answer w.limit s.content lo hi put)) (λ _. Ok (after_edit s)) e h) [
-    | inl refused ↦ of_err (splice_answer w.limit s.content lo hi put) e refused
-    | inr (u, is, done) ↦ absurd (ok-err (after_edit s) e done)
+  change_has_operation : changed w number change ≡ Err NoOperation → ⊥
+  change_has_operation h = elim (refusal w number change NoOperation h) [
+    | nowhere none is ↦ site-operation is
+    | within s at refused ↦ let (f, by_store, is) = joined_err (verdict s.content) (own s.content) s NoOperation refused in operation-store f (sym is)
   ]
 
-  edit_refused : (s : Site) (f : Refusal) → splice_answer w.limit s.content lo hi put ≡ Err f → edit s ≡ Err (Store f)
-  edit_refused s f h = ap (λ r. outcome_then (of_store r) (λ _. Ok (after_edit s))) h
+  change_store-iff : (e : Refusal) → (changed w number change ≡ Err (Store e)) ↔ ((s : Site) × (slice_get w.sites number ≡ Some s) × (verdict s.content ≡ Err e))
+  change_store-iff e = (
+    λ h. elim (refusal w number change (Store e) h) [
+      | nowhere none is ↦ absurd (site-store e is)
+      | within s at refused ↦
+          let (f, by_store, is) = joined_err (verdict s.content) (own s.content) s (Store e) refused in
+          (s, at, by_store ∙ ap (λ x. Err x) (same_Store f e is))
+    ],
+    λ (s, at, refused). changed_err w number change s (Store e) at (ap (λ r. outcome_then (of_store r) (λ _. Ok (after_change s))) refused),
+  )
+
+-- the operations of a splice, and those of a revert
+abbrev splices : World → ℕ → ℕ → List ℕ → Content → Verdict
+splices w lo hi put c = splice_answer w.limit c lo hi put
+
+abbrev spliced_by : ℕ → ℕ → ℕ → List ℕ → Content → List Op
+spliced_by number lo hi put c = splice_operations (replica_of number) c lo hi put
+
+abbrev reverts : World → List (Identifier × ℕ) → Content → Verdict
+reverts w back c = revert_answer w.limit c back
+
+abbrev reverted_by : ℕ → List Identifier → List (Identifier × ℕ) → Content → List Op
+reverted_by number gone back c = revert_operations (replica_of number) c gone back
 
 pub edited-iff : (w v : World) (number lo hi : ℕ) (put : Vec ℕ Global) → (stepped w (Edit number lo hi put) ≡ Ok v) ↔ IsEdited w v number lo hi put.items
-edited-iff w v number lo hi put = (edit_ok w number lo hi put.items v, edit_done w number lo hi put.items v)
+edited-iff w v number lo hi put = changed-iff w number (splices w lo hi put.items) (spliced_by number lo hi put.items) v
+
+pub reverted-iff : (w v : World) (number : ℕ) (gone : Vec Identifier Global) (back : Vec (Identifier × ℕ) Global) → (stepped w (Revert number gone back) ≡ Ok v) ↔ IsReverted w v number gone.items back.items
+reverted-iff w v number gone back = changed-iff w number (reverts w back.items) (reverted_by number gone.items back.items) v
+
+-- ---- what is given
+
+module _ {A : Type 0} (w : World) (taker giver : ℕ) (saved : Site → Outcome A) (take : A → Site → Outcome Site) where
+  abbrev give : Site → Outcome Site
+  give = given w giver saved take
+
+  given_is : (s g : Site) → slice_get w.sites giver ≡ Some g → give s ≡ outcome_then (saved g) (λ x. take x s)
+  given_is s g there = ap (λ r. outcome_then r (λ g. outcome_then (saved g) (λ x. take x s))) (site_is w giver g there)
+
+  -- where it is given, all goes by how it is taken
+  pub gives : (s g : Site) (x : A) → slice_get w.sites giver ≡ Some g → saved g ≡ Ok x → give s ≡ take x s
+  gives s g x there there_too = given_is s g there ∙ ap (λ r. outcome_then r (λ x. take x s)) there_too
+
+  gives_none : (s g : Site) (e : WorldRefusal) → slice_get w.sites giver ≡ Some g → saved g ≡ Err e → give s ≡ Err e
+  gives_none s g e there none = given_is s g there ∙ ap (λ r. outcome_then r (λ x. take x s)) none
+
+  -- the taker or the giver is missing, where nothing else is refused so
+  given_no_site-iff : ((g : Site) → saved g ≡ Err NoSite → ⊥) → ((x : A) (s : Site) → take x s ≡ Err NoSite → ⊥) → (changed w taker give ≡ Err NoSite) ↔ ((slice_get w.sites taker ≡ None) ⊎ (slice_get w.sites giver ≡ None))
+  given_no_site-iff never not = (
+    λ h. elim (refusal w taker give NoSite h) [
+      | nowhere none is ↦ inl none
+      | within s at refused ↦ elim (ungiven w giver saved take s NoSite refused) [
+        | from_nowhere none is ↦ inr none
+        | of_nothing g there none ↦ absurd (never g none)
+        | not_taken g x there saved_there answered ↦ absurd (not x s answered)
+      ]
+    ],
+    λ lacks. elim lacks [
+      | inl taker_none ↦ changed_none w taker give taker_none
+      | inr giver_none ↦ by (slice_get w.sites taker) refl giver_none
+    ],
+  )
+    where
+      by : (o : Option Site) → slice_get w.sites taker ≡ o → slice_get w.sites giver ≡ None → changed w taker give ≡ Err NoSite
+      by None at none = changed_none w taker give at
+      by (Some s) at none = changed_err w taker give s NoSite at (ap (λ r. outcome_then r (λ g. outcome_then (saved g) (λ x. take x s))) (no_site_is w giver none))
 
 -- ---- deliveries
 
@@ -153,98 +191,106 @@ taken_ok limit c op t h =
     by New = (join c (single op), refl)
     by Known = (c, refl)
 
+-- a store alone refuses what is delivered
+delivered_err : (limit : ℕ) (op : Op) (s : Site) (e : WorldRefusal) → delivered limit op s ≡ Err e → (f : Refusal) × (answer limit s.content op ≡ Err f) × (Store f ≡ e)
+delivered_err limit op s e h = elim (then_err (of_store (taken limit s.content op)) (λ c. Ok (with_content s c)) e h) [
+  | inl refused ↦
+      let (f, by_store, is) = of_err (taken limit s.content op) e refused in
+      (f, took_or s.content s.content op (answer limit s.content op) f by_store, is)
+  | inr (d, is, done) ↦ absurd (ok-err (with_content s d) e done)
+]
+
 module _ (w : World) (giver place : ℕ) where
-  abbrev give : Site → Outcome Site
-  give s = outcome_then (site_at w giver) (λ g. outcome_then (saved_operation g place) (λ op. delivered w.limit op s))
+  abbrev operation_of : Site → Outcome Op
+  operation_of g = saved_operation g place
+
+  abbrev give_operation : Site → Outcome Site
+  give_operation = given w giver operation_of (delivered w.limit)
 
   abbrev after_taking : Site → Op → Site
   after_taking s op = with_content s (join s.content (single op))
 
-  -- where an operation is given, all goes by the store
-  give_is : (s g : Site) (op : Op) → slice_get w.sites giver ≡ Some g → slice_get (operations g.saved) place ≡ Some op → give s ≡ delivered w.limit op s
-  give_is s g op there there_too =
-      ap (λ r. outcome_then r (λ g. outcome_then (saved_operation g place) (λ op. delivered w.limit op s))) (site_is w giver g there)
-      ∙ ap (λ r. outcome_then r (λ op. delivered w.limit op s)) (ap (found NoOperation) there_too)
-
-  give_done : (s g : Site) (op : Op) (t : Taken) → slice_get w.sites giver ≡ Some g → slice_get (operations g.saved) place ≡ Some op → answer w.limit s.content op ≡ Ok t → give s ≡ Ok (after_taking s op)
-  give_done s g op t there there_too took =
-      give_is s g op there there_too ∙ ap (λ r. outcome_then (of_store r) (λ c. Ok (with_content s c))) (taken_ok w.limit s.content op t took)
-
-  give_refused : (s g : Site) (op : Op) (e : Refusal) → slice_get w.sites giver ≡ Some g → slice_get (operations g.saved) place ≡ Some op → answer w.limit s.content op ≡ Err e → give s ≡ Err (Store e)
-  give_refused s g op e there there_too refused =
-      give_is s g op there there_too ∙ ap (λ r. outcome_then (of_store (after_answer s.content op r)) (λ c. Ok (with_content s c))) refused
-
-  give_nothing : (s g : Site) → slice_get w.sites giver ≡ Some g → slice_get (operations g.saved) place ≡ None → give s ≡ Err NoOperation
-  give_nothing s g there none =
-      ap (λ r. outcome_then r (λ g. outcome_then (saved_operation g place) (λ op. delivered w.limit op s))) (site_is w giver g there)
-      ∙ ap (λ r. outcome_then r (λ op. delivered w.limit op s)) (ap (found NoOperation) none)
-
-  give_nowhere : (s : Site) → slice_get w.sites giver ≡ None → give s ≡ Err NoSite
-  give_nowhere s none = ap (λ r. outcome_then r (λ g. outcome_then (saved_operation g place) (λ op. delivered w.limit op s))) (no_site_is w giver none)
-
-  record IsTaken (s t : Site) : Type 0 where
-    origin : Site
-    op : Op
-    how : Taken
-    there : slice_get w.sites giver ≡ Some origin
-    saved : slice_get (operations origin.saved) place ≡ Some op
-    took : answer w.limit s.content op ≡ Ok how
-    is : t ≡ after_taking s op
-
-  give_ok : (s t : Site) → give s ≡ Ok t → IsTaken s t
-  give_ok s t h =
-      let (g, there, later) = then_ok (site_at w giver) (λ g. outcome_then (saved_operation g place) (λ op. delivered w.limit op s)) t h in
-      let (op, op_there, last) = then_ok (saved_operation g place) (λ op. delivered w.limit op s) t later in
-      let (d, took, done) = then_ok (of_store (taken w.limit s.content op)) (λ c. Ok (with_content s c)) t last in
-      let stored = store_ok (taken w.limit s.content op) d took in
-      let (how, answered) = answered_ok w.limit s.content d op stored in
-      record {
-        origin = g;
-        op = op;
-        how = how;
-        there = found_ok NoSite (slice_get w.sites giver) g there;
-        saved = found_ok NoOperation (slice_get (operations g.saved) place) op op_there;
-        took = answered;
-        is = sym (same_Ok (with_content s d) t done) ∙ ap (with_content s) (taken_is w.limit s.content op d stored).joined;
-      }
-
-  data IsUngiven (s : Site) (e : WorldRefusal) : Type 0 where
-    from_nowhere : slice_get w.sites giver ≡ None → NoSite ≡ e → IsUngiven s e
-    of_nothing : (g : Site) → slice_get w.sites giver ≡ Some g → slice_get (operations g.saved) place ≡ None → NoOperation ≡ e → IsUngiven s e
-    not_taken : (g : Site) (op : Op) (f : Refusal) → slice_get w.sites giver ≡ Some g → slice_get (operations g.saved) place ≡ Some op → answer w.limit s.content op ≡ Err f → Store f ≡ e → IsUngiven s e
-
-  give_err : (s : Site) (e : WorldRefusal) → give s ≡ Err e → IsUngiven s e
-  give_err s e h =
-      elim (then_err (site_at w giver) (λ g. outcome_then (saved_operation g place) (λ op. delivered w.limit op s)) e h) [
-        | inl none ↦ let (lacks, is) = found_none NoSite e (slice_get w.sites giver) none in from_nowhere lacks is
-        | inr (g, g_there, later) ↦
-            let there = found_ok NoSite (slice_get w.sites giver) g g_there in
-            elim (then_err (saved_operation g place) (λ op. delivered w.limit op s) e later) [
-              | inl none ↦ let (lacks, is) = found_none NoOperation e (slice_get (operations g.saved) place) none in of_nothing g there lacks is
-              | inr (op, op_there, last) ↦ elim (then_err (of_store (taken w.limit s.content op)) (λ c. Ok (with_content s c)) e last) [
-                | inl refused ↦
-                    let (f, by_store, is) = of_err (taken w.limit s.content op) e refused in
-                    not_taken g op f there (found_ok NoOperation (slice_get (operations g.saved) place) op op_there) (took_or s.content s.content op (answer w.limit s.content op) f by_store) is
-                | inr (d, is, done) ↦ absurd (ok-err (with_content s d) e done)
-              ]
-            ]
-      ]
-
 pub delivered-iff : (w v : World) (taker giver place : ℕ) → (stepped w (Deliver taker giver place) ≡ Ok v) ↔ IsDelivered w v taker giver place
 delivered-iff w v taker giver place = (
   λ h.
-      let c = is_changed w taker (give w giver place) v h in
-      let t = give_ok w giver place c.before c.now c.change_is in
+      let c = is_changed w taker (give_operation w giver place) v h in
+      let t = takes_given w giver (operation_of w giver place) (delivered w.limit) c.before c.now c.change_is in
+      let (d, took, done) = then_ok (of_store (taken w.limit c.before.content t.item)) (λ x. Ok (with_content c.before x)) c.now t.took in
+      let stored = store_ok (taken w.limit c.before.content t.item) d took in
+      let (how, answered) = answered_ok w.limit c.before.content d t.item stored in
       record {
-        op = t.op;
-        given = record { before = c.before; origin = t.origin; at = c.was; there = t.there; saved = t.saved };
-        how = t.how;
-        took = t.took;
-        is = c.is ∙ ap (with_site w taker) t.is;
+        op = t.item;
+        given = record {
+          before = c.before;
+          origin = t.origin;
+          at = c.was;
+          there = t.there;
+          saved = found_ok NoOperation (slice_get (operations t.origin.saved) place) t.item t.saved_there;
+        };
+        how = how;
+        took = answered;
+        is =
+            c.is ∙ ap (with_site w taker) (sym (same_Ok (with_content c.before d) c.now done))
+            ∙ ap (λ x. with_site w taker (with_content c.before x)) (taken_is w.limit c.before.content t.item d stored).joined;
       },
   λ i.
       let s = i.given.before in
-      changed_to w taker (give w giver place) s (after_taking w giver place s i.op) i.given.at (give_done w giver place s i.given.origin i.op i.how i.given.there i.given.saved i.took)
+      changed_to w taker (give_operation w giver place) s (after_taking w giver place s i.op) i.given.at
+      (gives w taker giver (operation_of w giver place) (delivered w.limit) s i.given.origin i.op i.given.there (ap (found NoOperation) i.given.saved)
+      ∙ ap (λ r. outcome_then (of_store r) (λ c. Ok (with_content s c))) (taken_ok w.limit s.content i.op i.how i.took))
+      ∙ ap (λ x. Ok x) (sym i.is),
+)
+
+-- ---- lists that are delivered
+
+-- places that are in order, up to as many as there are, are found, and others are not
+pub list_found : (s : Site) (lo hi : ℕ) → lo ≤ hi → hi ≤ length (operations s.saved) → saved_list s lo hi ≡ Ok (drop lo (take hi (operations s.saved)))
+list_found s lo hi up within_saved =
+    (λ k. cond (le-leb lo hi up k && le-leb hi (length (operations s.saved)) within_saved k) (Ok (drop lo (take hi (operations s.saved)))) (Err NoOperation))
+
+list_missing : (s : Site) (lo hi : ℕ) → (hi < lo) ⊎ (length (operations s.saved) < hi) → saved_list s lo hi ≡ Err NoOperation
+list_missing s lo hi missing = by
+  where
+    none : (a b : Bool) → (a ≡ false) ⊎ (b ≡ false) → ◌≡◌ {A = Outcome (List Op)} (cond (a && b) (Ok (drop lo (take hi (operations s.saved)))) (Err NoOperation)) (Err NoOperation)
+    none a b (inl f) = ap (λ x. cond (x && b) (Ok (drop lo (take hi (operations s.saved)))) (Err NoOperation)) f
+    none true b (inr f) = ap (λ x. cond x (Ok (drop lo (take hi (operations s.saved)))) (Err NoOperation)) f
+    none false b (inr f) = refl
+
+    by : saved_list s lo hi ≡ Err NoOperation
+    by = none (nat_le lo hi) (nat_le hi (length (operations s.saved))) (elim missing [
+      | inl out_of_order ↦ inl (lt-leb lo hi out_of_order)
+      | inr fewer ↦ inr (lt-leb hi (length (operations s.saved)) fewer)
+    ])
+
+module _ (w : World) (giver lo hi : ℕ) where
+  abbrev list_of : Site → Outcome (List Op)
+  list_of g = saved_list g lo hi
+
+  abbrev give_list : Site → Outcome Site
+  give_list = given w giver list_of (list_delivered w.limit)
+
+  -- a list that is given is one that is found
+  given_found : (taker : ℕ) (ops : List Op) (g : IsListGiven w taker giver lo hi ops) → saved_list g.origin lo hi ≡ Ok ops
+  given_found taker ops g = list_found g.origin lo hi g.ordered g.within ∙ ap (λ os. Ok os) (sym g.saved)
+
+pub list_delivered-iff : (w v : World) (taker giver lo hi : ℕ) → (stepped w (DeliverList taker giver lo hi) ≡ Ok v) ↔ IsListDelivered w v taker giver lo hi
+list_delivered-iff w v taker giver lo hi = (
+  λ h.
+      let c = is_changed w taker (give_list w giver lo hi) v h in
+      let t = takes_given w giver (list_of w giver lo hi) (list_delivered w.limit) c.before c.now c.change_is in
+      let list = saved_list_ok t.origin lo hi t.item t.saved_there in
+      let joined = joined_ok (list_answer w.limit c.before.content t.item) t.item c.before c.now t.took in
+      record {
+        ops = t.item;
+        given = record { before = c.before; origin = t.origin; at = c.was; there = t.there; ordered = list.ordered; within = list.within; saved = list.is };
+        took = joined.0;
+        is = c.is ∙ ap (with_site w taker) (sym joined.1);
+      },
+  λ i.
+      let s = i.given.before in
+      changed_to w taker (give_list w giver lo hi) s (with_content s (join s.content (content_of i.ops))) i.given.at
+      (gives w taker giver (list_of w giver lo hi) (list_delivered w.limit) s i.given.origin i.ops i.given.there (given_found w giver lo hi taker i.ops i.given)
+      ∙ ap (λ r. outcome_then (of_store r) (λ _. Ok (with_content s (join s.content (content_of i.ops))))) i.took)
       ∙ ap (λ x. Ok x) (sym i.is),
 )
 
@@ -257,77 +303,94 @@ never_refused w number change e h = elim (refusal w number (λ s. Ok (change s))
 ]
 
 pub no_site-iff : (w : World) (event : Event) → (stepped w event ≡ Err NoSite) ↔ LacksSite w event
-no_site-iff w (Edit number lo hi put) = (
-  λ h. elim (refusal w number (edit w number lo hi put.items) NoSite h) [
-    | nowhere none is ↦ none
-    | within s at refused ↦ let (f, by_store, is) = edit_err w number lo hi put.items s NoSite refused in absurd (site-store f (sym is))
-  ],
-  changed_none w number (edit w number lo hi put.items),
-)
+no_site-iff w (Edit number lo hi put) = change_no_site-iff w number (splices w lo hi put.items) (spliced_by number lo hi put.items)
+no_site-iff w (Revert number gone back) = change_no_site-iff w number (reverts w back.items) (reverted_by number gone.items back.items)
 no_site-iff w (Save number) = (λ h. (never_refused w number saved_site NoSite h).0, changed_none w number (λ s. Ok (saved_site s)))
 no_site-iff w (Restart number) = (λ h. (never_refused w number restarted NoSite h).0, changed_none w number (λ s. Ok (restarted s)))
-no_site-iff w (Deliver taker giver place) = (
-  λ h. elim (refusal w taker (give w giver place) NoSite h) [
-    | nowhere none is ↦ inl none
-    | within s at refused ↦ elim (give_err w giver place s NoSite refused) [
-      | from_nowhere none is ↦ inr none
-      | of_nothing g at none is ↦ absurd (site-operation (sym is))
-      | not_taken g op f at saved answered is ↦ absurd (site-store f (sym is))
-    ]
-  ],
-  λ lacks. elim lacks [
-    | inl taker_none ↦ changed_none w taker (give w giver place) taker_none
-    | inr giver_none ↦ by (slice_get w.sites taker) refl giver_none
-  ],
-)
-  where
-    by : (o : Option Site) → slice_get w.sites taker ≡ o → slice_get w.sites giver ≡ None → changed w taker (give w giver place) ≡ Err NoSite
-    by None at none = changed_none w taker (give w giver place) at
-    by (Some s) at none = changed_err w taker (give w giver place) s NoSite at (give_nowhere w giver place s none)
+no_site-iff w (Deliver taker giver place) =
+    given_no_site-iff w taker giver (operation_of w giver place) (delivered w.limit)
+    (λ g none. site-operation (sym (found_none NoOperation NoSite (slice_get (operations g.saved) place) none).1))
+    (λ op s refused. let (f, by_store, is) = delivered_err w.limit op s NoSite refused in site-store f (sym is))
+no_site-iff w (DeliverList taker giver lo hi) =
+    given_no_site-iff w taker giver (list_of w giver lo hi) (list_delivered w.limit)
+    (λ g none. site-operation (sym (saved_list_err g lo hi NoSite none).1))
+    (λ ops s refused. let (f, by_store, is) = joined_err (list_answer w.limit s.content ops) ops s NoSite refused in site-store f (sym is))
 
 pub no_operation-iff : (w : World) (event : Event) → (stepped w event ≡ Err NoOperation) ↔ LacksOperation w event
-no_operation-iff w (Edit number lo hi put) = (
-  λ h. elim (refusal w number (edit w number lo hi put.items) NoOperation h) [
-    | nowhere none is ↦ site-operation is
-    | within s at refused ↦ let (f, by_store, is) = edit_err w number lo hi put.items s NoOperation refused in operation-store f (sym is)
-  ],
-  λ never. absurd never,
-)
+no_operation-iff w (Edit number lo hi put) = (change_has_operation w number (splices w lo hi put.items) (spliced_by number lo hi put.items), λ never. absurd never)
+no_operation-iff w (Revert number gone back) = (change_has_operation w number (reverts w back.items) (reverted_by number gone.items back.items), λ never. absurd never)
 no_operation-iff w (Save number) = (λ h. site-operation (never_refused w number saved_site NoOperation h).1, λ never. absurd never)
 no_operation-iff w (Restart number) = (λ h. site-operation (never_refused w number restarted NoOperation h).1, λ never. absurd never)
 no_operation-iff w (Deliver taker giver place) = (
-  λ h. elim (refusal w taker (give w giver place) NoOperation h) [
+  λ h. elim (refusal w taker (give_operation w giver place) NoOperation h) [
     | nowhere none is ↦ absurd (site-operation is)
-    | within s at refused ↦ elim (give_err w giver place s NoOperation refused) [
+    | within s at refused ↦ elim (ungiven w giver (operation_of w giver place) (delivered w.limit) s NoOperation refused) [
       | from_nowhere none is ↦ absurd (site-operation is)
-      | of_nothing g g_at none is ↦ record { before = s; origin = g; at = at; there = g_at; none = none }
-      | not_taken g op f g_at saved answered is ↦ absurd (operation-store f (sym is))
+      | of_nothing g there none ↦
+          record { before = s; origin = g; at = at; there = there; none = (found_none NoOperation NoOperation (slice_get (operations g.saved) place) none).0 }
+      | not_taken g op there saved answered ↦ let (f, by_store, is) = delivered_err w.limit op s NoOperation answered in absurd (operation-store f (sym is))
     ]
   ],
-  λ l. changed_err w taker (give w giver place) l.before NoOperation l.at (give_nothing w giver place l.before l.origin l.there l.none),
+  λ l.
+      changed_err w taker (give_operation w giver place) l.before NoOperation l.at
+      (gives_none w taker giver (operation_of w giver place) (delivered w.limit) l.before l.origin NoOperation l.there (ap (found NoOperation) l.none)),
+)
+no_operation-iff w (DeliverList taker giver lo hi) = (
+  λ h. elim (refusal w taker (give_list w giver lo hi) NoOperation h) [
+    | nowhere none is ↦ absurd (site-operation is)
+    | within s at refused ↦ elim (ungiven w giver (list_of w giver lo hi) (list_delivered w.limit) s NoOperation refused) [
+      | from_nowhere none is ↦ absurd (site-operation is)
+      | of_nothing g there none ↦ record { before = s; origin = g; at = at; there = there; missing = (saved_list_err g lo hi NoOperation none).0 }
+      | not_taken g ops there saved answered ↦
+          let (f, by_store, is) = joined_err (list_answer w.limit s.content ops) ops s NoOperation answered in absurd (operation-store f (sym is))
+    ]
+  ],
+  λ l.
+      changed_err w taker (give_list w giver lo hi) l.before NoOperation l.at
+      (gives_none w taker giver (list_of w giver lo hi) (list_delivered w.limit) l.before l.origin NoOperation l.there (list_missing l.origin lo hi l.missing)),
 )
 
 pub store-iff : (w : World) (event : Event) (e : Refusal) → (stepped w event ≡ Err (Store e)) ↔ IsRefusedByStore w event e
-store-iff w (Edit number lo hi put) e = (
-  λ h. elim (refusal w number (edit w number lo hi put.items) (Store e) h) [
-    | nowhere none is ↦ absurd (site-store e is)
-    | within s at refused ↦
-        let (f, by_store, is) = edit_err w number lo hi put.items s (Store e) refused in
-        (s, at, by_store ∙ ap (λ x. Err x) (same_Store f e is))
-  ],
-  λ (s, at, refused). changed_err w number (edit w number lo hi put.items) s (Store e) at (edit_refused w number lo hi put.items s e refused),
-)
+store-iff w (Edit number lo hi put) e = change_store-iff w number (splices w lo hi put.items) (spliced_by number lo hi put.items) e
+store-iff w (Revert number gone back) e = change_store-iff w number (reverts w back.items) (reverted_by number gone.items back.items) e
 store-iff w (Save number) e = (λ h. site-store e (never_refused w number saved_site (Store e) h).1, λ never. absurd never)
 store-iff w (Restart number) e = (λ h. site-store e (never_refused w number restarted (Store e) h).1, λ never. absurd never)
 store-iff w (Deliver taker giver place) e = (
-  λ h. elim (refusal w taker (give w giver place) (Store e) h) [
+  λ h. elim (refusal w taker (give_operation w giver place) (Store e) h) [
     | nowhere none is ↦ absurd (site-store e is)
-    | within s at refused ↦ elim (give_err w giver place s (Store e) refused) [
+    | within s at refused ↦ elim (ungiven w giver (operation_of w giver place) (delivered w.limit) s (Store e) refused) [
       | from_nowhere none is ↦ absurd (site-store e is)
-      | of_nothing g g_at none is ↦ absurd (operation-store e is)
-      | not_taken g op f g_at saved answered is ↦
-          (op, record { before = s; origin = g; at = at; there = g_at; saved = saved }, answered ∙ ap (λ x. Err x) (same_Store f e is))
+      | of_nothing g there none ↦ absurd (operation-store e (found_none NoOperation (Store e) (slice_get (operations g.saved) place) none).1)
+      | not_taken g op there saved answered ↦
+          let (f, by_store, is) = delivered_err w.limit op s (Store e) answered in (
+            op,
+            record { before = s; origin = g; at = at; there = there; saved = found_ok NoOperation (slice_get (operations g.saved) place) op saved },
+            by_store ∙ ap (λ x. Err x) (same_Store f e is),
+          )
     ]
   ],
-  λ (op, g, refused). changed_err w taker (give w giver place) g.before (Store e) g.at (give_refused w giver place g.before g.origin op e g.there g.saved refused),
+  λ (op, g, refused).
+      changed_err w taker (give_operation w giver place) g.before (Store e) g.at
+      (gives w taker giver (operation_of w giver place) (delivered w.limit) g.before g.origin op g.there (ap (found NoOperation) g.saved)
+      ∙ ap (λ r. outcome_then (of_store (after_answer g.before.content op r)) (λ c. Ok (with_content g.before c))) refused),
+)
+store-iff w (DeliverList taker giver lo hi) e = (
+  λ h. elim (refusal w taker (give_list w giver lo hi) (Store e) h) [
+    | nowhere none is ↦ absurd (site-store e is)
+    | within s at refused ↦ elim (ungiven w giver (list_of w giver lo hi) (list_delivered w.limit) s (Store e) refused) [
+      | from_nowhere none is ↦ absurd (site-store e is)
+      | of_nothing g there none ↦ absurd (operation-store e (saved_list_err g lo hi (Store e) none).1)
+      | not_taken g ops there saved answered ↦
+          let (f, by_store, is) = joined_err (list_answer w.limit s.content ops) ops s (Store e) answered in
+          let list = saved_list_ok g lo hi ops saved in (
+            ops,
+            record { before = s; origin = g; at = at; there = there; ordered = list.ordered; within = list.within; saved = list.is },
+            by_store ∙ ap (λ x. Err x) (same_Store f e is),
+          )
+    ]
+  ],
+  λ (ops, g, refused).
+      changed_err w taker (give_list w giver lo hi) g.before (Store e) g.at
+      (gives w taker giver (list_of w giver lo hi) (list_delivered w.limit) g.before g.origin ops g.there (given_found w giver lo hi taker ops g)
+      ∙ ap (λ r. outcome_then (of_store r) (λ _. Ok (with_content g.before (join g.before.content (content_of ops))))) refused),
 )

@@ -5,7 +5,7 @@ use Rattle.rga_doc.specs.LocalEdit.{room_answer}
 use Rattle.rga_world.specs.Sites.{Site, World}
 use Rattle.rga_world.specs.Steps.{Outcome}
 use Rattle.rga_world.specs.declared.event.Event.{Event}
-use Rattle.rga_world.specs.declared.event.Event.TheVariants.{Edit, Save, Deliver, Restart}
+use Rattle.rga_world.specs.declared.event.Event.TheVariants.{Edit, Revert, Save, Deliver, DeliverList, Restart}
 use Rattle.rga_world.specs.declared.refusal.WorldRefusal.{WorldRefusal}
 use Rattle.rga_world.specs.declared.refusal.WorldRefusal.TheVariants.{Store}
 use Rattle.rga_world.specs.declared.world.TheConstants.{MAX_SITES}
@@ -18,11 +18,14 @@ Happens r old new outcome = MatchResult r (λ _. outcome ≡ Ok new) (λ e. (new
 abbrev pub HasRoomAt : World → ℕ → ℕ → Type 0
 HasRoomAt w number count = (s : Site) × (slice_get w.sites number ≡ Some s) × (room_answer w.limit s.content count ≡ Ok tt)
 
--- The sites of the event are there; and of an edit there is room for what it puts, and its places are in order.
+-- The sites of the event are there; of an edit and of a revert there is room for what is put, and the places of an edit
+-- and of a list are in order.
 abbrev pub MayWantMemory : World → Event → Type 0
 MayWantMemory w (Edit number lo hi put) = HasRoomAt w number (length put.items) × (lo ≤ hi)
+MayWantMemory w (Revert number gone back) = HasRoomAt w number (length back.items)
 MayWantMemory w (Save number) = number < length w.sites
 MayWantMemory w (Deliver taker giver place) = (taker < length w.sites) × (giver < length w.sites)
+MayWantMemory w (DeliverList taker giver lo hi) = (taker < length w.sites) × (giver < length w.sites) × (lo ≤ hi)
 MayWantMemory w (Restart number) = number < length w.sites
 
 -- a world may have so many sites

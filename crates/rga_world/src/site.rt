@@ -5,12 +5,12 @@ ghost use Rattle.rga_doc.specs.LocalEdit.{room_answer};
 ghost use Rattle.rga_store.specs.Limit.{is_limit};
 ghost use Rattle.rga_world.specs.Outcomes.{Happens};
 ghost use Rattle.rga_world.specs.SiteStates.{new_site};
-ghost use Rattle.rga_world.specs.Steps.{edited, delivered, saved_site, restarted};
+ghost use Rattle.rga_world.specs.Steps.{edited, reverted, delivered, list_delivered, saved_list, saved_site, restarted};
 ghost use Rattle.std.specs.Prelude.{Ok, Err};
 
 use crate::refusal::WorldRefusal;
 use rga_doc::Doc;
-use rga_ops::{Op, Refusal};
+use rga_ops::{Id, Op, Refusal};
 use rga_store::{Taker, TextStore};
 use std::alloc::Global;
 use std::marker::Model;
@@ -64,6 +64,18 @@ impl<S: TextStore> Site<S> {
         Ok(())
     }
 
+    /// One revert.
+    pub(crate) fn revert(&mut self, gone: &[Id], back: &[(Id, char)]) -> Result<(), WorldRefusal>
+        ensures happens { Happens result self.old.site self.new.site
+            (reverted self.old.limit self.old.replica gone.now back.now self.old.site) }
+        ensures memory { result ≡ Err (WorldRefusal.Store Refusal.Memory) →
+            room_answer self.old.limit self.old.site.content (length back.now) ≡ Ok tt }
+        ensures rest { self.new ≡ record self.old { site = self.new.site } }
+    {
+        drop(self.document.revert(gone, back)?);
+        Ok(())
+    }
+
     /// What is held is saved.
     pub(crate) fn save(&mut self) -> Result<(), WorldRefusal>
         ensures happens { Happens result self.old.site self.new.site
@@ -94,6 +106,15 @@ impl<S: TextStore> Site<S> {
         Ok(())
     }
 
+    /// All operations of a list are taken, or none.
+    pub(crate) fn take_list(&mut self, ops: &[Op]) -> Result<(), WorldRefusal>
+        ensures happens { Happens result self.old.site self.new.site
+            (list_delivered self.old.limit ops.now self.old.site) }
+        ensures rest { self.new ≡ record self.old { site = self.new.site } }
+    {
+        Ok(self.document.apply_all(ops)?)
+    }
+
     /// The characters that are shown.
     pub(crate) fn text(&self) -> Result<Vec<char>, Refusal>
         ensures ok { IfOk result (λ chars. chars.items ≡ text self.now.site.content) }
@@ -121,6 +142,31 @@ impl<S: TextStore> Site<S> {
         match ops.as_slice().get(place) {
             Some(op) => Ok(*op),
             None => Err(WorldRefusal::NoOperation),
+        }
+    }
+
+    /// Those at the places `lo` to `hi - 1` of them.
+    pub(crate) fn saved_list(
+        &self,
+        alloc: Global,
+        lo: usize,
+        hi: usize,
+    ) -> Result<Vec<Op>, WorldRefusal>
+        ensures exact { let list = saved_list self.now.site lo hi in MatchResult result
+            (λ ops. list ≡ Ok ops.items)
+            (λ e. (e ≡ WorldRefusal.Store Refusal.Memory) ⊎ (list ≡ Err e)) }
+        ensures memory { result ≡ Err (WorldRefusal.Store Refusal.Memory) → lo ≤ hi }
+    {
+        if lo > hi {
+            return Err(WorldRefusal::NoOperation);
+        }
+        let all = self.saved_ops()?;
+        if hi > all.as_slice().len() {
+            return Err(WorldRefusal::NoOperation);
+        }
+        match Vec::from_slice(alloc, &all[lo..hi]) {
+            Ok(list) => Ok(list),
+            Err(_) => Err(WorldRefusal::Store(Refusal::Memory)),
         }
     }
 }

@@ -3,7 +3,7 @@ ghost use Rattle.std.specs.Prelude.{◌≡◌, ◌<◌, ◌≤◌, Some, None, O
 ghost use Rattle.rga_store.specs.Limit.{is_limit};
 ghost use Rattle.rga_world.specs.Outcomes.{Happens, HasRoomAt, MayWantMemory};
 ghost use Rattle.rga_world.specs.Sites.{new_world};
-ghost use Rattle.rga_world.specs.Steps.{edited, delivered, saved_site, restarted, replica_of, changed, stepped, outcome_then, site_at, saved_operation};
+ghost use Rattle.rga_world.specs.Steps.{edited, reverted, delivered, list_delivered, saved_site, restarted, replica_of, changed, given, stepped, saved_operation, saved_list};
 ghost use Rattle.rga_ops.specs.declared.refusal.Refusal.TheVariants.{Memory};
 ghost use Rattle.rga_world.specs.declared.refusal.WorldRefusal.TheVariants.{Store};
 
@@ -11,7 +11,7 @@ use crate::event::Event;
 use crate::refusal::WorldRefusal;
 use crate::site::Site;
 use crate::world::MAX_SITES;
-use rga_ops::{Op, Refusal};
+use rga_ops::{Id, Op, Refusal};
 use rga_store::TextStore;
 use std::alloc::Global;
 use std::marker::Model;
@@ -84,6 +84,23 @@ impl<S: TextStore> Sites<S> {
         self.all[number].edit(lo, hi, put)
     }
 
+    fn revert(
+        &mut self,
+        number: usize,
+        gone: &[Id],
+        back: &[(Id, char)],
+    ) -> Result<(), WorldRefusal>
+        ensures happens { Happens result self.old self.new (changed self.old number
+            (reverted self.old.limit (replica_of number) gone.now back.now)) }
+        ensures memory { result ≡ Err (Store Memory) →
+            HasRoomAt self.old number (length back.now) }
+    {
+        if number >= self.all.as_slice().len() {
+            return Err(WorldRefusal::NoSite);
+        }
+        self.all[number].revert(gone, back)
+    }
+
     fn save(&mut self, number: usize) -> Result<(), WorldRefusal>
         ensures happens { Happens result self.old self.new
             (changed self.old number (λ s. Ok (saved_site s))) }
@@ -118,9 +135,8 @@ impl<S: TextStore> Sites<S> {
     }
 
     fn deliver(&mut self, taker: usize, giver: usize, place: usize) -> Result<(), WorldRefusal>
-        ensures happens { Happens result self.old self.new (changed self.old taker (λ s.
-            outcome_then (site_at self.old giver) (λ g.
-            outcome_then (saved_operation g place) (λ op. delivered self.old.limit op s)))) }
+        ensures happens { Happens result self.old self.new (changed self.old taker
+            (given self.old giver (λ g. saved_operation g place) (delivered self.old.limit))) }
         ensures memory { result ≡ Err (Store Memory) →
             (taker < length self.old.sites) × (giver < length self.old.sites) }
     {
@@ -129,18 +145,53 @@ impl<S: TextStore> Sites<S> {
         self.take(taker, op)
     }
 
+    fn take_list(&mut self, number: usize, ops: &[Op]) -> Result<(), WorldRefusal>
+        ensures happens { Happens result self.old self.new
+            (changed self.old number (list_delivered self.old.limit ops.now)) }
+        ensures memory { result ≡ Err (Store Memory) → number < length self.old.sites }
+    {
+        if number >= self.all.as_slice().len() {
+            return Err(WorldRefusal::NoSite);
+        }
+        self.all[number].take_list(ops)
+    }
+
+    fn deliver_list(
+        &mut self,
+        taker: usize,
+        giver: usize,
+        lo: usize,
+        hi: usize,
+    ) -> Result<(), WorldRefusal>
+        ensures happens { Happens result self.old self.new (changed self.old taker
+            (given self.old giver (λ g. saved_list g lo hi) (list_delivered self.old.limit))) }
+        ensures memory { result ≡ Err (Store Memory) →
+            (taker < length self.old.sites) × (giver < length self.old.sites) × (lo ≤ hi) }
+    {
+        let _taker = self.at(taker)?;
+        let ops = self.at(giver)?.saved_list(self.alloc, lo, hi)?;
+        self.take_list(taker, &ops)
+    }
+
     pub(crate) fn step(&mut self, event: &Event) -> Result<(), WorldRefusal>
         ensures happens { Happens result self.old self.new (stepped self.old event.now) }
         ensures memory { result ≡ Err (Store Memory) → MayWantMemory self.old event.now }
     {
         match event {
             Event::Edit { site, lo, hi, put } => self.edit(*site, *lo, *hi, put),
+            Event::Revert { site, gone, back } => self.revert(*site, gone, back),
             Event::Save { site } => self.save(*site),
             Event::Deliver {
                 taker,
                 giver,
                 place,
             } => self.deliver(*taker, *giver, *place),
+            Event::DeliverList {
+                taker,
+                giver,
+                lo,
+                hi,
+            } => self.deliver_list(*taker, *giver, *lo, *hi),
             Event::Restart { site } => self.restart(*site),
         }
     }

@@ -10,6 +10,7 @@ ghost use Rattle.rga_ops.specs.declared.refusal.Refusal.TheVariants.{Memory, Con
 ghost use Rattle.rga_world.specs.declared.refusal.WorldRefusal.TheVariants.{NoSite, Store};
 ghost use Rattle.rga_world.specs.declared.event.Event.{Event};
 
+use crate::characters::puts_characters;
 use crate::event::Event;
 use crate::refusal::WorldRefusal;
 use crate::sites::Sites;
@@ -63,19 +64,21 @@ impl<S: TextStore> World<S> {
 
     /// One event happens, or is refused and changes nothing.
     ///
-    /// Refusals, in this order: `NoSite` where a site does not exist; `NoOperation` where the giver
-    /// has saved none at that place; `Store` where the site's store refuses, never with `Conflict`.
-    /// `Store` with `Memory` may come in the place of `NoOperation`.
+    /// Refusals, in this order: `NoSite` if a site does not exist; `NoOperation` if the giver has
+    /// saved none at that place, or fewer than a list asks for, or if the places of a list are out of
+    /// order; `Store` if the site's store refuses, never with `Conflict`. `Store` with `Memory` may
+    /// come in the place of `NoOperation`, unless the places are out of order.
     pub fn step(&mut self, event: &Event) -> Result<(), WorldRefusal>
         ensures happened { OnOk result (stepped self.old event.now ≡ Ok self.new) }
         ensures refused { IfErr result (λ e.
             (e ≡ Store Memory) ⊎ (stepped self.old event.now ≡ Err e)) }
         ensures same { OnErr result (self.new ≡ self.old) }
-        // Nothing asks for memory before the sites are found, and of an edit the room, and places
-        // that are in order.
+        // Nothing asks for memory before the sites are found; of an edit and of a revert the room;
+        // and of an edit and of a list places that are in order.
         ensures memory { result ≡ Err (Store Memory) → MayWantMemory self.old event.now }
         ensures no_conflict { (id : Identifier) → result ≢ Err (Store (Conflict id)) }
     {
+        puts_characters(event);
         self.sites.step(event)
     }
 
