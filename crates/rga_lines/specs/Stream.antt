@@ -2,7 +2,7 @@
 use Rattle.std.specs.Prelude.{◌≡◌, ◌≢◌, ℕ, ◌+◌, ◌<◌, ◌≤◌, ◌==◌, Bool, true, false, nat_lt, if◌then◌else◌, List, [], ◌∷◌, ◌++◌, length, take, drop, All, Option, Some, None, Result, Ok, Err, refl}
 use Rattle.std.specs.List.{flat_map}
 use Rattle.std.specs.Coded.{Coded, code_by, coded×, coded_list, coded_ℕ, coded_bool}
-use Rattle.rga_table.specs.declared.line.TheConstants.{MAX_LINE}
+use Rattle.rga_table.specs.Table.{longest_line}
 use Rattle.rga_table.specs.declared.fault.LineFault.{LineFault}
 use Rattle.rga_table.specs.declared.fault.LineFault.TheVariants as fault
 
@@ -48,8 +48,8 @@ pub record IsCut (bytes : List ℕ) (lines : List (List ℕ)) (rest : List ℕ) 
 
 -- the first of the lines, or where there is none the rest, has too many bytes
 abbrev pub BeginsLong : List (List ℕ) → List ℕ → Type 0
-BeginsLong [] rest = MAX_LINE < length rest
-BeginsLong (line ∷ lines) rest = MAX_LINE < length line
+BeginsLong [] rest = longest_line < length rest
+BeginsLong (line ∷ lines) rest = longest_line < length line
 
 -- ---- a splitter
 
@@ -91,10 +91,10 @@ Answer = Result (Option (List ℕ)) LineFault
 -- by the lines of what waits: all of it is the rest where there is none
 abbrev pub next_of_lines : List ℕ → List (List ℕ) → Answer × Splitting
 next_of_lines waiting [] =
-    if nat_lt MAX_LINE (length waiting) then (Err fault.Long, gave_up)
+    if nat_lt longest_line (length waiting) then (Err fault.Long, gave_up)
     else (Ok None, splitting_with waiting)
 next_of_lines waiting (line ∷ lines) =
-    if nat_lt MAX_LINE (length line) then (Err fault.Long, gave_up)
+    if nat_lt longest_line (length line) then (Err fault.Long, gave_up)
     else (Ok (Some line), splitting_with (drop (length line + 1) waiting))
 
 -- what the next line is, and what is left

@@ -10,9 +10,8 @@ ghost use Rattle.rga_lines.specs.Members.{name_of_kind, text_lexemes, number_lex
 ghost use Rattle.rga_lines.specs.Members.{BeginsWithLexemes, BeginsWithMember, ListsMembers};
 ghost use Rattle.rga_lines.specs.Members.{IsSoundMember, HasExactly};
 ghost use Rattle.rga_lines.specs.Spelling.{IsElement, IsElementOrRoot};
-ghost use Rattle.rga_table.specs.Table.{value_line, any_line_at};
+ghost use Rattle.rga_table.specs.Table.{value_line, any_line_at, longest_line};
 ghost use Rattle.rga_table.specs.declared.line.Line.TheVariants.{One};
-ghost use Rattle.rga_table.specs.declared.line.TheConstants.{MAX_LINE};
 
 use crate::lexed::{after_blanks, after_name, after_operator, after_text, number, only_character};
 use rga_ops::{Id, Op};
@@ -46,7 +45,7 @@ pub(crate) struct Found {
 /// The operation that a line says, where no name stands twice, nothing is escaped but in the
 /// character, and the numbers are digits alone. `None` says nothing of the line.
 pub(crate) fn by_members(bytes: &[u8]) -> Option<Op>
-    requires { length bytes.now ≤ MAX_LINE }
+    requires { length bytes.now ≤ longest_line }
     ensures { IfSome result (λ op. any_line_at bytes.now ≡ Ok (One op)) }
 {
     if str::from_utf8(bytes).is_err() {

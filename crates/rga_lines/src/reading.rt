@@ -1,7 +1,6 @@
 //! What the bytes of a line say.
 ghost use Rattle.std.specs.Prelude.{◌≡◌, ◌≢◌, ◌<◌, length, Ok, Err};
-ghost use Rattle.rga_table.specs.Table.{operation_alone, any_line_at, line_at};
-ghost use Rattle.rga_table.specs.declared.line.TheConstants.{MAX_LINE};
+ghost use Rattle.rga_table.specs.Table.{operation_alone, any_line_at, line_at, longest_line};
 ghost use Rattle.rga_table.specs.declared.fault.LineFault.TheVariants.{Memory, Long};
 
 use crate::members::by_members;
@@ -31,7 +30,7 @@ use std::alloc::Global;
 /// `LineFault` tells. `Long` takes no memory.
 pub fn read_any(alloc: Global, bytes: &[u8]) -> Result<Line, LineFault>
     ensures exact { result ≢ Err Memory → result ≡ any_line_at bytes.now }
-    ensures long { MAX_LINE < length bytes.now → result ≡ Err Long }
+    ensures long { longest_line < length bytes.now → result ≡ Err Long }
 {
     if bytes.len() > MAX_LINE {
         return Err(LineFault::Long);
@@ -58,7 +57,7 @@ pub fn read_any(alloc: Global, bytes: &[u8]) -> Result<Line, LineFault>
 /// for a run of either kind and for the head and the end of an exchange.
 pub fn read_line(alloc: Global, bytes: &[u8]) -> Result<Op, LineFault>
     ensures exact { result ≢ Err Memory → result ≡ line_at bytes.now }
-    ensures long { MAX_LINE < length bytes.now → result ≡ Err Long }
+    ensures long { longest_line < length bytes.now → result ≡ Err Long }
 {
     let line = read_any(alloc, bytes)?;
     alone(&line)

@@ -1,2 +1,3 @@
 mod ValueLemmas
 mod NextDeletion
+mod FaultLaws

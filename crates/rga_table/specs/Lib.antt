@@ -1,3 +1,4 @@
 pub mod Table
 pub mod Runs
 pub mod FaultName
+pub mod Faults

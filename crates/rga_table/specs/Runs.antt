@@ -6,8 +6,11 @@ use Rattle.rga_ops.specs.Identifier.{Identifier, identifier, identifier_code, is
 use Rattle.rga_ops.specs.declared.id.TheConstants.Id.{MAX_COUNTER}
 use Rattle.rga_ops.specs.declared.op.Op.{Op}
 use Rattle.rga_ops.specs.declared.op.Op.TheVariants.{Insert, Delete}
-use Rattle.rga_table.specs.declared.run.TheConstants.{MAX_RUN}
 use Rattle.rga_table.specs.declared.deletion_run.DeletionRun.{DeletionRun}
+
+-- the most operations of a run
+abbrev pub longest_run : ℕ
+longest_run = 4096
 
 -- what contracts see of a run: the identifier and the parent of its first character, and the characters
 pub record Stretch : Type 0 where
@@ -40,7 +43,7 @@ stretch_operations r = run_operations r.id r.parent r.chars
 -- There are 1 to 4096 characters, the last counter too is in range, and the first is above the parent's.
 pub record IsRun (r : Stretch) : Type 0 where
   pub some : 0 < length r.chars
-  pub few : length r.chars ≤ MAX_RUN
+  pub few : length r.chars ≤ longest_run
   pub end : r.id.counter + length r.chars ≤ MAX_COUNTER + 1
   pub rising : r.parent.counter < r.id.counter
 
@@ -62,5 +65,5 @@ run_deletions r = deletions_from r.id r.count
 pub record IsDeletionRun (r : DeletionRun) : Type 0 where
   pub element : is_in_range r.id.counter r.id.replica ≡ true
   pub some : 0 < r.count
-  pub few : r.count ≤ MAX_RUN
+  pub few : r.count ≤ longest_run
   pub end : r.id.counter + r.count ≤ MAX_COUNTER + 1

@@ -9,13 +9,10 @@ use Rattle.rga_ops.specs.Identifier.{Identifier, identifier, is_root, is_in_rang
 use Rattle.rga_ops.specs.declared.id.TheConstants.Id.{MAX_COUNTER}
 use Rattle.rga_ops.specs.declared.op.Op.{Op}
 use Rattle.rga_ops.specs.declared.op.Op.TheVariants.{Insert, Delete}
-use Rattle.rga_table.specs.declared.line.TheConstants.{MAX_LINE}
-use Rattle.rga_table.specs.declared.reading.TheConstants.{VERSION}
 use Rattle.rga_table.specs.declared.line.Line.{Line}
 use Rattle.rga_table.specs.declared.line.Line.TheVariants.{One, Run, Deletions, Head, Last}
-use Rattle.rga_table.specs.declared.run.TheConstants.{MAX_RUN}
 use Rattle.rga_table.specs.declared.deletion_run.DeletionRun.{DeletionRun}
-use Rattle.rga_table.specs.Runs.{stretch, deletion_run}
+use Rattle.rga_table.specs.Runs.{longest_run, stretch, deletion_run}
 use Rattle.rga_table.specs.declared.fault.LineFault.{LineFault}
 use Rattle.rga_table.specs.declared.fault.LineFault.TheVariants as fault
 
@@ -137,7 +134,7 @@ with_run_order id parent chars =
 
 abbrev pub with_run_chars : Identifier → Identifier → List ℕ → AnyReading
 with_run_chars id parent chars =
-    if (length chars == 0) || nat_lt MAX_RUN (length chars) then Err fault.Char
+    if (length chars == 0) || nat_lt longest_run (length chars) then Err fault.Char
     else with_run_order id parent chars
 
 -- the last character's counter is within the range, too
@@ -166,7 +163,7 @@ run count d =
 
 abbrev pub with_deletion_count : Identifier → ℕ → Result DeletionRun LineFault
 with_deletion_count id count =
-    if (count == 0) || nat_lt MAX_RUN count then Err fault.Char else Ok (deletion_run id count)
+    if (count == 0) || nat_lt longest_run count then Err fault.Char else Ok (deletion_run id count)
 
 -- the last element's counter is within the range, too
 abbrev pub with_deletion_end : Identifier → ℕ → Result DeletionRun LineFault
@@ -191,7 +188,7 @@ deletions_reading members d =
 -- ---- the head of an exchange
 
 abbrev pub with_version : Option ℕ → AnyReading
-with_version (Some version) = if version == VERSION then Ok Head else Err fault.Kind
+with_version (Some version) = if version == 2 then Ok Head else Err fault.Kind
 with_version None = Err fault.Kind
 
 abbrev pub heading : ℕ → Data → AnyReading
@@ -253,10 +250,14 @@ text_line true (Some d) = value_line d
 text_line true None = Err fault.Json
 text_line false d = Err fault.Json
 
+-- the most bytes of a line
+abbrev pub longest_line : ℕ
+longest_line = 65536
+
 -- what the bytes of a line say, its newline left out
 unfoldable pub any_line_at : List ℕ → AnyReading
 any_line_at bytes =
-    if nat_lt MAX_LINE (length bytes) then Err fault.Long
+    if nat_lt longest_line (length bytes) then Err fault.Long
     else text_line (is_utf8 bytes) (read bytes)
 
 -- where one operation alone may stand, a run of either kind, the head and the end of an exchange are lines of another kind

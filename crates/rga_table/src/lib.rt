@@ -6,12 +6,14 @@
 //! `DeletionRun`). The crate stands on rga_ops for the operations and on serde_json for the values.
 //!
 //! The layer above may rest on the table of `specs/Table.antt`, which each value meets or is at
-//! fault by, and which goes on to the bytes of a line; on the operations of a run, in
-//! `specs/Runs.antt`; and on `parts`, by which identifiers are known wherever they stand.
+//! fault by, and which goes on to the bytes of a line; on the law of its faults (`laws`); on the
+//! operations of a run, in `specs/Runs.antt`; and on `parts`, by which identifiers are known
+//! wherever they stand.
 #![tactic(auto)]
 
 mod deletion_run;
 mod fault;
+pub mod laws;
 mod line;
 pub mod parts;
 mod reading;
