@@ -4,14 +4,13 @@ use crate::disks::has_made;
 use crate::sending::{device, is_filled};
 use mgr_compact::compact_note;
 use mgr_show::{ShowFault, compact_log};
-use rga_compaction::compact_ops;
+use rga_compaction::compact;
 use rga_devices::Counted;
 use rga_exchange::SendFault;
 use rga_ops::Refusal;
 use rga_store::TextStore;
 use rga_tree::TreeStore;
 use std::alloc::Global;
-use std::io::Write;
 use test_fixtures::{chain, id, store_of};
 use test_ports::MemoryLogs;
 
@@ -27,24 +26,10 @@ const ALONE: &str = r#"{"char":"a","id":[1,1],"op":"ins","parent":[0,0]}
 {"char":"c","id":[4,2],"op":"ins","parent":[3,1]}
 "#;
 
-/// Compacts the operations of a store.
-fn compact<S: TextStore, W: Write>(
-    alloc: Global,
-    store: &S,
-    writer: &mut Counted<W>,
-) -> Result<u64, SendFault> {
-    // What is known is told with the fact that each operation is well-formed.
-    let _known = store.known();
-    let Ok(ops) = store.ops() else {
-        return Err(SendFault::Memory);
-    };
-    compact_ops(alloc, &ops, false, writer)
-}
-
 /// The lines to which a store is compacted, if there are so many.
 fn lines_of<S: TextStore>(alloc: Global, store: &S, lines: u64) -> Option<Vec<u8>> {
     let mut writer = Counted::new(Vec::new(alloc));
-    match compact(alloc, store, &mut writer) {
+    match compact(alloc, store, false, &mut writer) {
         Ok(written) if written == lines => Some(writer.into_inner()),
         _ => None,
     }
@@ -133,7 +118,7 @@ fn fills<S: TextStore>(alloc: Global, row: &Device) -> bool {
 
 fn fills_with<S: TextStore>(alloc: Global, store: &S, row: &Device) -> bool {
     let mut writer = Counted::new(device(alloc, row.0, 7, row.1));
-    let answer = compact(alloc, store, &mut writer);
+    let answer = compact(alloc, store, false, &mut writer);
     is_filled(writer, row.0, answer, row.2, THREE)
 }
 
