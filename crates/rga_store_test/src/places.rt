@@ -1,7 +1,7 @@
 //! Elements by index and by place: two people write at once, and then one element is deleted.
 use crate::words::store_one_by_one;
 use rga_ops::Refusal;
-use rga_store::TextStore;
+use rga_store::{TextStore, position_of};
 use std::alloc::Global;
 use std::process::Abort;
 use test_fixtures::{id, prints};
@@ -26,7 +26,7 @@ pub fn has_elements<S: TextStore>(alloc: Global) -> Result<bool, Refusal> {
     )
 }
 
-/// Whether the element has this place, and is the one at this index where it is visible.
+/// Whether the element has this place, and this index where it is visible.
 fn stands_at<S: TextStore>(
     alloc: Global,
     words: &str,
@@ -35,14 +35,14 @@ fn stands_at<S: TextStore>(
 ) -> Result<bool, Refusal> {
     let store = store_one_by_one::<S>(alloc, 100, words)?;
     let id = id(counter, replica)?;
-    let (ids, _chars) = store.visible(alloc)?;
-    let index = ids.iter().position(|x| *x == id);
-    Ok(prints(alloc, &(store.place_of(id), index), answers))
+    let answered = (store.place_of(id), position_of(&store, id));
+    Ok(prints(alloc, &answered, answers))
 }
 
 /// Each element has its place, and its index where it is visible.
 pub fn check_places<S: TextStore, R: Abort>(rt: &R, alloc: Global) {
     for (words, element, answers) in &[
+        (WRITTEN, (4, 1), "(Some(3), Some(2))"),
         (WRITTEN, (2, 2), "(Some(4), Some(3))"),
         (LEFT, (0, 0), "(Some(0), None)"),
         (LEFT, (1, 1), "(Some(1), Some(0))"),
