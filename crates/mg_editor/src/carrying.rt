@@ -1,7 +1,7 @@
 //! Requests, carried to the files.
 ghost use Rattle.std.specs.Prelude.{◌≡◌, ◌<◌, length, IfSome, encode_utf8_all};
+ghost use Rattle.mg_workspace.specs.Buffers.{most_buffers};
 ghost use Rattle.mg_workspace.specs.declared.failures.Task.TheVariants.{Exchange};
-ghost use Rattle.mg_workspace.specs.declared.workspace.TheConstants.{MAX_BUFFERS};
 ghost use Rattle.mg_sync.specs.Linking.{account, ExchangesOver};
 ghost use Rattle.mg_sync.specs.Meeting.{CountsFaults};
 ghost use Rattle.mg_editor.specs.Carrying as spec;
@@ -104,7 +104,7 @@ impl<S: Teller> Editor<S> {
 
     /// The buffer of a name is opened, or not, which is said.
     fn open<P: Port>(&mut self, name: &[char], port: &mut P) -> Result<(), CarryFault>
-        requires { length self.old.work.buffers.all < MAX_BUFFERS }
+        requires { length self.old.work.buffers.all < most_buffers }
         ensures opened { let name = encode_utf8_all name.now in
             telling.TellsOutcome (finding.Loads name (P.calls port.old) (P.calls port.new))
             finding.opening_outcome self.old self.new result }
@@ -117,7 +117,7 @@ impl<S: Teller> Editor<S> {
 
     /// Opens the buffer of a name by what the port finds under it, and answers how its log ends.
     fn load<P: Port>(&mut self, name: &[char], port: &mut P) -> Result<LogEnd, CarryFault>
-        requires { length self.old.work.buffers.all < MAX_BUFFERS }
+        requires { length self.old.work.buffers.all < most_buffers }
         ensures loads { finding.Loads (encode_utf8_all name.now)
             (P.calls port.old) (P.calls port.new) result self.old.work self.new.work }
         ensures talk { self.new.talk ≡ self.old.talk }

@@ -2,7 +2,7 @@
 ghost use Rattle.std.specs.Prelude.{◌≡◌, ◌≤◌, ◌↔◌, [], false};
 ghost use Rattle.mg_keys.specs.Begun.{HasBegun};
 ghost use Rattle.mg_screen.specs.Layout.{FillsRows};
-ghost use Rattle.mg_screen.specs.declared.size.TheConstants.{MIN_ROWS, MAX_ROWS, MIN_COLUMNS, MAX_COLUMNS};
+ghost use Rattle.mg_screen.specs.Size.{least_rows, most_rows, least_columns, most_columns};
 ghost use Rattle.mg_workspace.specs.Actions.{resized_work};
 
 use mg_dialogue::Dialogue;
@@ -54,10 +54,10 @@ impl<S: TextStore> Editor<S> {
     /// A screen of so many rows and columns, as `Workspace::resize` has it. What is talked stays: a
     /// prompt, a message, a key sequence that is not whole yet. Takes no memory.
     pub fn resize(&mut self, rows: usize, columns: usize)
-        requires rows_from { MIN_ROWS ≤ rows }
-        requires rows_to { rows ≤ MAX_ROWS }
-        requires columns_from { MIN_COLUMNS ≤ columns }
-        requires columns_to { columns ≤ MAX_COLUMNS }
+        requires rows_from { least_rows ≤ rows }
+        requires rows_to { rows ≤ most_rows }
+        requires columns_from { least_columns ≤ columns }
+        requires columns_to { columns ≤ most_columns }
         ensures exact { self.new ≡
             record self.old { work = resized_work rows columns self.old.work } }
         ensures filled { FillsRows rows self.new.work.windows }

@@ -4,7 +4,7 @@ ghost use Rattle.mg_screen.specs.Cursor as cursors;
 ghost use Rattle.mg_screen.specs.Frame.{screen_rows};
 ghost use Rattle.mg_screen.specs.Layout.{FillsRows};
 ghost use Rattle.mg_screen.specs.Written.{SpellRows};
-ghost use Rattle.mg_screen.specs.declared.size.TheConstants.{MAX_ROWS, MIN_COLUMNS};
+ghost use Rattle.mg_screen.specs.Size.{most_rows, least_columns};
 ghost use Rattle.mg_editor.specs.Frames as spec;
 
 use crate::editor::Editor;
@@ -21,8 +21,8 @@ pub struct Frame {
 
 /// The cursor at point, in the window at an index, which shows it.
 fn window_cursor(columns: usize, screen: &Screen<'_>, index: usize) -> Position
-    requires rows_to { screen_rows screen.now ≤ MAX_ROWS }
-    requires columns_from { MIN_COLUMNS ≤ columns }
+    requires rows_to { screen_rows screen.now ≤ most_rows }
+    requires columns_from { least_columns ≤ columns }
     requires shown { IsSome (cursors.cursor columns screen.now index) }
     ensures { cursors.cursor columns screen.now index ≡ Some result }
 {
@@ -35,7 +35,7 @@ fn window_cursor(columns: usize, screen: &Screen<'_>, index: usize) -> Position
 impl<S: TextStore> Editor<S> {
     /// The screen, once the windows are placed.
     fn screen<'a>(&'a self) -> Result<Screen<'a>, FrameFault>
-        requires { (rows : ℕ) × FillsRows rows self.now.work.windows × (rows ≤ MAX_ROWS) }
+        requires { (rows : ℕ) × FillsRows rows self.now.work.windows × (rows ≤ most_rows) }
         ensures { IfOk result (λ screen. screen ≡ spec.screen_of (spec.placed_editor self.now)) }
     {
         let echo = self.talk.echo(self.alloc, self.work.name())?;
@@ -47,7 +47,7 @@ impl<S: TextStore> Editor<S> {
 
     /// The cursor of the screen.
     fn cursor_in(&self, screen: &Screen<'_>) -> Position
-        requires rows_to { screen_rows screen.now ≤ MAX_ROWS }
+        requires rows_to { screen_rows screen.now ≤ most_rows }
         requires shown { let work = self.now.work in
             IsSome (cursors.cursor work.columns screen.now work.windows.current) }
         ensures { spec.cursor_in self.now screen.now ≡ Some result }

@@ -3,7 +3,7 @@ ghost use Rattle.std.specs.Prelude.{◌≡◌, ◌≢◌, ◌<◌, Err, IfOk, If
 ghost use Rattle.rga_ops.specs.Prelude.{text};
 ghost use Rattle.mg_files.specs.Loading.{load_outcome};
 ghost use Rattle.mg_files.specs.declared.fault.LoadFault.TheVariants.{Memory};
-ghost use Rattle.mg_workspace.specs.declared.workspace.TheConstants.{MAX_BUFFERS};
+ghost use Rattle.mg_workspace.specs.Buffers.{most_buffers};
 ghost use Rattle.mg_editor.specs.Finding as finding;
 ghost use Rattle.mg_editor.specs.Opening as spec;
 
@@ -50,7 +50,7 @@ pub(crate) fn open<S: TextStore>(
     name: String,
     found: Found,
 ) -> Result<LogEnd, LoadFault>
-    requires { length work.old.buffers.all < MAX_BUFFERS }
+    requires { length work.old.buffers.all < most_buffers }
     ensures exact { let w = work.old in result ≢ Err Memory → (work.new, result) ≡
         finding.open_outcome (load_outcome (string_bytes name) w.replica w.limit found) w }
     ensures same { OnErr result (work.new ≡ work.old) }

@@ -4,7 +4,6 @@ use Rattle.rga_ops.specs.Operations.{operations}
 use Rattle.rga_ops.specs.declared.op.Op.{Op}
 use Rattle.rga_exchange.specs.RunLines.{runs_text}
 use Rattle.rga_exchange.specs.Sending.{log_text}
-use Rattle.mg_files.specs.declared.lines.TheConstants.{MAX_SINGLE}
 use Rattle.mg_files.specs.declared.port.CallKind.TheVariants.{Append, Replace, PutText}
 use Rattle.mg_files.specs.declared.port.PortFault.{PortFault}
 use Rattle.mg_files.specs.Calls.{Call, call, refusals, Adds}
@@ -13,10 +12,14 @@ use Rattle.mg_buffer.specs.OpenState.{OpenState, has_unsaved, is_changed}
 
 -- ---- the calls of a save that are answered `Ok`
 
--- what is appended: a line an operation, but where runs are asked for and there are more than `MAX_SINGLE` operations, those in a
+-- the most operations of which each always has a line
+abbrev pub most_single : ℕ
+most_single = 32
+
+-- what is appended: a line an operation, but where runs are asked for and there are more than `most_single` operations, those in a
 -- row that are a run in one line
 abbrev pub appended_text : Bool → List Op → List ℕ
-appended_text runs ops = if runs && nat_lt MAX_SINGLE (length ops) then runs_text ops else log_text ops
+appended_text runs ops = if runs && nat_lt most_single (length ops) then runs_text ops else log_text ops
 
 -- the call that brings the log up to date: the lines of all operations, where it is to be written whole
 abbrev pub log_call : OpenState → Call

@@ -25,8 +25,7 @@ use Rattle.rga_exchange.proofs.BegunLogLaws.{stands_begun}
 use Rattle.rga_exchange.proofs.LogLaws.{log_that_stands}
 use Rattle.rga_exchange.proofs.RunLineLaws.{runs_appended, runs_ended, runs_begun}
 use Rattle.mg_buffer.specs.OpenState.{OpenState}
-use Rattle.mg_files.specs.Saving.{appended_text, unlogged, written}
-use Rattle.mg_files.specs.declared.lines.TheConstants.{MAX_SINGLE}
+use Rattle.mg_files.specs.Saving.{appended_text, most_single, unlogged, written}
 use Rattle.mg_files.specs.Loading.{loaded, of_log, log_loaded}
 use Rattle.mg_held.specs.Held.{log_bytes, BegunLog, EitherLog}
 use Rattle.mg_held.specs.Kept.{IsWritableWhole, IsLogged}
@@ -59,21 +58,21 @@ whole_ended c writable = rest_appended [] (operations c) refl (λ op m. writable
 -- ---- what is appended, in runs or a line an operation
 
 appended_stands : (runs : Bool) (bytes : List ℕ) (c : Content) (ops : List Op) → StandsFor bytes c → rest_of bytes ≡ [] → AreWritable ops → AreWellFormed ops → IsJoinable c ops → StandsFor (bytes ++ appended_text runs ops) (join c (content_of ops))
-appended_stands runs bytes c ops stands ended writable well joinable = by (runs && nat_lt MAX_SINGLE (length ops))
+appended_stands runs bytes c ops stands ended writable well joinable = by (runs && nat_lt most_single (length ops))
   where
     by : (many : Bool) → StandsFor (bytes ++ cond many (runs_text ops) (log_text ops)) (join c (content_of ops))
     by true = runs_appended bytes c ops stands ended writable well joinable
     by false = stands_appended bytes c ops stands ended writable well joinable
 
 appended_ended : (runs : Bool) (bytes : List ℕ) (ops : List Op) → rest_of bytes ≡ [] → AreWritable ops → AreWellFormed ops → rest_of (bytes ++ appended_text runs ops) ≡ []
-appended_ended runs bytes ops ended writable well = by (runs && nat_lt MAX_SINGLE (length ops))
+appended_ended runs bytes ops ended writable well = by (runs && nat_lt most_single (length ops))
   where
     by : (many : Bool) → rest_of (bytes ++ cond many (runs_text ops) (log_text ops)) ≡ []
     by true = runs_ended bytes ops ended writable well
     by false = rest_appended bytes ops ended writable
 
 appended_begun : (runs : Bool) (bytes : List ℕ) (c : Content) (ops : List Op) (front rest : List ℕ) → StandsFor bytes c → rest_of bytes ≡ [] → AreWritable ops → AreWellFormed ops → IsJoinable c ops → front ++ rest ≡ appended_text runs ops → GainsFirst bytes front c ops
-appended_begun runs bytes c ops front rest stands ended writable well joinable e = by (runs && nat_lt MAX_SINGLE (length ops)) e
+appended_begun runs bytes c ops front rest stands ended writable well joinable e = by (runs && nat_lt most_single (length ops)) e
   where
     by : (many : Bool) → front ++ rest ≡ cond many (runs_text ops) (log_text ops) → GainsFirst bytes front c ops
     by true cut = runs_begun bytes c ops front rest stands ended writable well joinable cut

@@ -9,7 +9,6 @@ use Rattle.mg_plain.specs.declared.steps.Direction.{Direction}
 use Rattle.mg_plain.specs.declared.steps.Direction.TheVariants.{Forward, Backward}
 use Rattle.mg_keys.specs.declared.step.Step.{Step}
 use Rattle.mg_keys.specs.declared.step.Step.TheVariants as step
-use Rattle.mg_minibuffer.specs.declared.answers.TheConstants.{MAX_ANSWER}
 use Rattle.mg_minibuffer.specs.declared.ending.Next as prompt_behind
 use Rattle.mg_minibuffer.specs.declared.ending.Next.TheVariants.{Same, Closed, Open}
 use Rattle.mg_minibuffer.specs.declared.ending.Reaction.{Reaction}
@@ -19,7 +18,7 @@ use Rattle.mg_minibuffer.specs.declared.message.Message.TheVariants as message
 use Rattle.mg_minibuffer.specs.declared.prompt.Prompt.TheVariants.{Searching}
 use Rattle.mg_minibuffer.specs.declared.prompt.Search.{Search}
 use Rattle.mg_minibuffer.specs.Endings.{shows, runs, unbound}
-use Rattle.mg_minibuffer.specs.Typing.{rubbed}
+use Rattle.mg_minibuffer.specs.Typing.{longest_answer, rubbed}
 
 -- the place before one, and the place behind it
 abbrev pub place_one_back : ℕ → Option ℕ
@@ -86,7 +85,7 @@ failed next = shows next (message.Refused SearchFailed)
 -- a character more; where there is no match then it is not added, and one past the greatest length changes nothing
 abbrev pub lengthened : Search → ℕ → List ℕ → Reaction
 lengthened s c text =
-    if nat_lt (length s.pattern) MAX_ANSWER
+    if nat_lt (length s.pattern) longest_answer
     then seek text (with_pattern s (s.pattern ++ c ∷ [])) (from_match s) (failed Same)
     else shows Same message.Nothing
 

@@ -2,11 +2,14 @@
 use Rattle.std.specs.Prelude.{ℕ, ◌-◌, Bool, true, false, List, [], ◌∷◌, ◌++◌, length, take, nat_lt, if◌then◌else◌}
 use Rattle.mg_keys.specs.declared.step.Step.{Step}
 use Rattle.mg_keys.specs.declared.step.Step.TheVariants.{Text, Rub, Next, Prev}
-use Rattle.mg_minibuffer.specs.declared.answers.TheConstants.{MAX_ANSWER}
+
+-- how many characters an answer or a pattern has at most
+abbrev pub longest_answer : ℕ
+longest_answer = 1024
 
 -- with a character more; one past the greatest length changes nothing
 abbrev pub typed : List ℕ → ℕ → List ℕ
-typed answer c = if nat_lt (length answer) MAX_ANSWER then answer ++ c ∷ [] else answer
+typed answer c = if nat_lt (length answer) longest_answer then answer ++ c ∷ [] else answer
 
 -- without the last character
 abbrev pub rubbed : List ℕ → List ℕ

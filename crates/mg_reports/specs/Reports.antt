@@ -1,6 +1,5 @@
 -- Reports of the screen's size among the keys: ESC [ 8 ; ROWS ; COLUMNS t, with one to four decimal digits for each number.
 use Rattle.std.specs.Prelude.{ℕ, ◌≡◌, ◌+◌, ◌-◌, ◌*◌, ◌^◌, ◌≤◌, ◌<◌, ⊤, Bool, List, [], ◌∷◌, ◌++◌, map, Option, Some, None, if◌then◌else◌, nat_eq, nat_lt, nat_le}
-use Rattle.mg_reports.specs.declared.reports.TheConstants.{ESCAPE, MAX_DIGITS}
 use Rattle.mg_reports.specs.declared.reports.Number.{Number}
 use Rattle.mg_reports.specs.declared.reports.Awaited.{Awaited}
 use Rattle.mg_reports.specs.declared.reports.Awaited.TheVariants.{Escape, Bracket, Eight, Semicolon, Rows, Columns}
@@ -22,6 +21,13 @@ keys bytes = map key bytes
 
 -- ---- a report
 
+abbrev pub escape_byte : ℕ
+escape_byte = 27
+
+-- of a number
+abbrev pub most_digits : ℕ
+most_digits = 4
+
 abbrev pub number : ℕ → ℕ → Number
 number digits value = record { digits = digits; value = value }
 
@@ -30,7 +36,7 @@ abbrev pub number_with : ℕ → Number → Option Number
 number_with b n =
     if nat_lt b 48 then None
     else (if nat_lt 57 b then None
-    else (if nat_le MAX_DIGITS n.digits then None
+    else (if nat_le most_digits n.digits then None
     else Some (number (n.digits + 1) (n.value * 10 + (b - 48)))))
 
 -- the byte that stands there in each report, and what is awaited behind it
@@ -49,7 +55,7 @@ columns_progress rows n b None = if nat_eq b 116 then (if nat_lt 0 n.digits then
 
 -- what a byte makes of a report of which this is awaited
 abbrev pub report_progress : Awaited → ℕ → Progress
-report_progress Escape b = sign_progress b ESCAPE Bracket
+report_progress Escape b = sign_progress b escape_byte Bracket
 report_progress Bracket b = sign_progress b 91 Eight
 report_progress Eight b = sign_progress b 56 Semicolon
 report_progress Semicolon b = sign_progress b 59 (Rows (number 0 0))
@@ -78,7 +84,7 @@ reads left events = record { left = left; events = events }
 -- The bytes that were held are keys, and so is this one, but that ESC begins a report.
 abbrev pub broken : Reports → ℕ → Read
 broken r b =
-    if nat_eq b ESCAPE then reads (record r { awaited = Bracket; held = b ∷ [] }) (keys r.held)
+    if nat_eq b escape_byte then reads (record r { awaited = Bracket; held = b ∷ [] }) (keys r.held)
     else reads (record r { awaited = Escape; held = [] }) (keys (r.held ++ b ∷ []))
 
 abbrev pub read_by : Progress → Reports → ℕ → Read
@@ -133,7 +139,7 @@ events_of (Keys held) = keys held.items
 events_of (Size rows columns) = size rows columns ∷ []
 
 abbrev pub IsNumber : Number → Type 0
-IsNumber n = (n.digits ≤ MAX_DIGITS) × (n.value < 10 ^ n.digits)
+IsNumber n = (n.digits ≤ most_digits) × (n.value < 10 ^ n.digits)
 
 abbrev pub IsNumbered : Awaited → Type 0
 IsNumbered (Rows n) = IsNumber n

@@ -8,7 +8,7 @@ use Rattle.mg_files.specs.Calls.{Adds, load_call, found_call, refused}
 use Rattle.mg_files.specs.Files.{Files}
 use Rattle.mg_files.specs.declared.fault.LoadFault.TheVariants as load
 use Rattle.mg_keys.specs.Begun.{HasBegun}
-use Rattle.mg_screen.specs.declared.size.TheConstants.{MIN_ROWS, MAX_ROWS, MIN_COLUMNS, MAX_COLUMNS}
+use Rattle.mg_screen.specs.Size.{least_rows, most_rows, least_columns, most_columns}
 use Rattle.mg_settings.specs.Settings.{Values}
 use Rattle.mg_workspace.specs.Actions.{resized_work}
 use Rattle.mg_editor.specs.Editors.{Editor}
@@ -28,7 +28,7 @@ use Rattle.mg_session.specs.declared.manner.Manner.{Manner}
 
 -- on a screen of so many rows and columns, each brought within its limits
 abbrev pub resized_editor : ℕ → ℕ → Editor → Editor
-resized_editor rows columns e = record e { work = resized_work (min (max rows MIN_ROWS) MAX_ROWS) (min (max columns MIN_COLUMNS) MAX_COLUMNS) e.work }
+resized_editor rows columns e = record e { work = resized_work (min (max rows least_rows) most_rows) (min (max columns least_columns) most_columns) e.work }
 
 -- A byte was taken, and where a frame follows each step, one behind each byte with which no key sequence is left begun; or
 -- the screen took a size, or a block ended.

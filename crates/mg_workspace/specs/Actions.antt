@@ -16,7 +16,7 @@ use Rattle.mg_minibuffer.specs.declared.ending.Arrangement.{Arrangement}
 use Rattle.mg_minibuffer.specs.declared.ending.Arrangement.TheVariants.{Split, Remove, Only, Other, Recenter}
 use Rattle.mg_minibuffer.specs.declared.ending.Action.{Action}
 use Rattle.mg_minibuffer.specs.declared.ending.Action.TheVariants.{Nothing, EndRun, Run, Undo, Arrange, Switch, Kill}
-use Rattle.mg_screen.specs.declared.size.TheConstants.{MIN_SPLIT_HEIGHT}
+use Rattle.mg_screen.specs.Size.{least_split_height}
 use Rattle.mg_screen.specs.Layout.{Layout, current_height, split_layout, removed_layout, resized_layout, only_layout, other_layout}
 use Rattle.mg_screen.specs.Lines.{line_index, centred}
 use Rattle.mg_workspace.specs.Buffers as buffers
@@ -76,7 +76,7 @@ ActsInCurrent verdict Becomes w o =
 
 -- as they become where that buffer is current, and the answer, want of memory aside
 abbrev pub window_outcome : Arrangement → OpenState → Layout Viewport → Layout Viewport × ActionVerdict
-window_outcome Split b l = if nat_lt (current_height l) MIN_SPLIT_HEIGHT then (l, Err (Refused cause.WindowTooSmall)) else (split_layout l, Ok tt)
+window_outcome Split b l = if nat_lt (current_height l) least_split_height then (l, Err (Refused cause.WindowTooSmall)) else (split_layout l, Ok tt)
 window_outcome Remove b l = if nat_le (length l.windows) 1 then (l, Err (Refused cause.OnlyOneWindow)) else (removed_layout l, Ok tt)
 window_outcome Only b l = (only_layout l, Ok tt)
 window_outcome Other b l = (other_layout l, Ok tt)

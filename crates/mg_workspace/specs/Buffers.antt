@@ -7,6 +7,10 @@ use Rattle.mg_buffer.specs.State.{State}
 use Rattle.mg_buffer.specs.OpenState.{OpenState, is_changed}
 use Rattle.mg_workspace.specs.Names.{moved}
 
+-- how many may be open
+abbrev pub most_buffers : ℕ
+most_buffers = 64
+
 -- in the order in which they were opened, of which one is current
 pub record Buffers : Type 0 where
   pub all : List OpenState

@@ -4,8 +4,7 @@ use Rattle.mg_plain.specs.declared.view.Kind.TheVariants.{Plain}
 use Rattle.mg_buffer.specs.OpenState.{OpenState, with_brief, with_runs}
 use Rattle.mg_screen.specs.Layout.{layout, window}
 use Rattle.mg_settings.specs.Settings.{Values}
-use Rattle.mg_workspace.specs.Buffers.{with_buffer}
-use Rattle.mg_workspace.specs.declared.workspace.TheConstants.{MAX_BUFFERS}
+use Rattle.mg_workspace.specs.Buffers.{most_buffers, with_buffer}
 use Rattle.mg_workspace.specs.Viewports.{viewport, turned_to_buffer}
 use Rattle.mg_workspace.specs.Workspaces.{Workspace}
 
@@ -26,7 +25,7 @@ workspace v b = record {
 
 -- as many buffers are open as may be
 abbrev pub is_full : Workspace → Bool
-is_full w = nat_le MAX_BUFFERS (length w.buffers.all)
+is_full w = nat_le most_buffers (length w.buffers.all)
 
 -- one more buffer, of which saves append runs or do not, and exchanges are brief or not, as the settings say, and which is
 -- current and shown by the current window

@@ -3,10 +3,9 @@ use Rattle.std.specs.Prelude.{◌≡◌, ℕ, ◌<◌, ◌≤◌, List, length, 
 use Rattle.std.specs.Coded.{Coded, code_by, coded×, coded_ℕ}
 use Rattle.std.specs.List.{AllByRecursion}
 use Rattle.mg_screen.specs.Layout.{Window, window, Layout, layout, all_shown, shown_layout}
-use Rattle.mg_workspace.specs.Buffers.{Buffers}
+use Rattle.mg_workspace.specs.Buffers.{Buffers, most_buffers}
 use Rattle.mg_workspace.specs.Names.{moved}
 use Rattle.mg_workspace.specs.declared.viewport.Viewport.{Viewport}
-use Rattle.mg_workspace.specs.declared.workspace.TheConstants.{MAX_BUFFERS}
 
 abbrev pub viewport : ℕ → ℕ → Viewport
 viewport buffer first = record { buffer = buffer; first = first }
@@ -40,6 +39,6 @@ ShowThese count ws = AllByRecursion (λ w. w.shown.buffer < count) ws
 
 -- there are no more buffers than there may be, each window shows one of them, and the current window shows the current one
 pub record AreShown (bs : Buffers) (l : Layout Viewport) : Type 0 where
-  pub few : length bs.all ≤ MAX_BUFFERS
+  pub few : length bs.all ≤ most_buffers
   pub each : ShowThese (length bs.all) l.windows
   pub current : (current_viewport l).buffer ≡ bs.current

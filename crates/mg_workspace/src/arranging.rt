@@ -2,11 +2,11 @@
 ghost use Rattle.std.specs.Prelude.{◌≡◌, ◌≢◌, ℕ, ◌<◌, ◌≤◌, Some, Err, length, slice_get, OnOk, OnErr, IfErr};
 ghost use Rattle.mg_minibuffer.specs.declared.ending.Action.TheVariants.{Arrange};
 ghost use Rattle.mg_screen.specs.Layout.{all_shown, heights, FillsRows};
-ghost use Rattle.mg_screen.specs.declared.size.TheConstants.{MIN_ROWS, MAX_ROWS, MIN_COLUMNS, MAX_COLUMNS};
+ghost use Rattle.mg_screen.specs.Size.{least_rows, most_rows, least_columns, most_columns};
 ghost use Rattle.mg_workspace.specs.declared.fault.ActionFault.TheVariants.{Memory};
 ghost use Rattle.mg_workspace.specs.Actions as spec;
 ghost use Rattle.mg_workspace.specs.Viewports.{current_viewport, ShowThese, AreShown};
-ghost use Rattle.mg_workspace.specs.declared.workspace.TheConstants.{MAX_BUFFERS};
+ghost use Rattle.mg_workspace.specs.Buffers.{most_buffers};
 
 use crate::buffers::Buffers;
 use crate::fault::ActionFault;
@@ -87,7 +87,7 @@ fn change_windows<S: TextStore>(
 
 /// The buffer of the current window is current.
 fn follow<S: TextStore>(buffers: &mut Buffers<S>, windows: &Windows<Viewport>)
-    requires few { length buffers.old.all ≤ MAX_BUFFERS }
+    requires few { length buffers.old.all ≤ most_buffers }
     requires each { ShowThese (length buffers.old.all) windows.now.windows }
     ensures exact { let shown = current_viewport windows.now in
         buffers.new ≡ record buffers.old { current = shown.buffer } }
@@ -120,10 +120,10 @@ impl<S: TextStore> Workspace<S> {
     /// A screen of so many rows and columns: the windows take the rows as `Windows::resize` does,
     /// and the buffer of the current window is current. A run of commands goes on. Takes no memory.
     pub fn resize(&mut self, rows: usize, columns: usize)
-        requires rows_from { MIN_ROWS ≤ rows }
-        requires rows_to { rows ≤ MAX_ROWS }
-        requires columns_from { MIN_COLUMNS ≤ columns }
-        requires columns_to { columns ≤ MAX_COLUMNS }
+        requires rows_from { least_rows ≤ rows }
+        requires rows_to { rows ≤ most_rows }
+        requires columns_from { least_columns ≤ columns }
+        requires columns_to { columns ≤ most_columns }
         ensures exact { self.new ≡ spec.resized_work rows columns self.old }
         ensures filled { FillsRows rows self.new.windows }
     {

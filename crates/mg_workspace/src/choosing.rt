@@ -1,7 +1,7 @@
 //! Buffers that are gone to, removed, opened.
 ghost use Rattle.std.specs.Prelude.{◌≡◌, ◌≢◌, ◌<◌, ◌≤◌, Err, length, OnOk, OnErr};
 ghost use Rattle.mg_workspace.specs.declared.fault.ActionFault.TheVariants.{Memory};
-ghost use Rattle.mg_workspace.specs.declared.workspace.TheConstants.{MAX_BUFFERS};
+ghost use Rattle.mg_workspace.specs.Buffers.{most_buffers};
 ghost use Rattle.mg_workspace.specs.Actions as spec;
 ghost use Rattle.mg_workspace.specs.Viewports as viewports;
 ghost use Rattle.mg_workspace.specs.Opening as opening;
@@ -18,7 +18,7 @@ use std::alloc::AllocError;
 
 /// The current window shows the current buffer, from the same line on.
 fn turn<S: TextStore>(windows: &mut Windows<Viewport>, buffers: &Buffers<S>)
-    requires few { length buffers.now.all ≤ MAX_BUFFERS }
+    requires few { length buffers.now.all ≤ most_buffers }
     requires each { viewports.ShowThese (length buffers.now.all) windows.old.windows }
     ensures exact { windows.new ≡ viewports.turned_to_buffer buffers.now.current windows.old }
     ensures shown { viewports.AreShown buffers.now windows.new }
@@ -115,7 +115,7 @@ impl<S: TextStore> Workspace<S> {
     /// say so. It is current then, and the current window shows it. `AllocError`
     /// alone, and nothing changes then.
     pub fn open(&mut self, mut opened: VisitedBuffer<S>) -> Result<(), AllocError>
-        requires { length self.old.buffers.all < MAX_BUFFERS }
+        requires { length self.old.buffers.all < most_buffers }
         ensures opened { OnOk result (self.new ≡ opening.with_opened opened self.old) }
         ensures same { OnErr result (self.new ≡ self.old) }
     {

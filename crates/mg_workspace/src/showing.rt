@@ -1,6 +1,6 @@
 //! Windows over buffers. Each is placed, and shown, by the buffer that it is over.
 ghost use Rattle.std.specs.Prelude.{◌≡◌, ◌<◌, ◌≤◌, ℕ, List, Some, IfOk, IfSome, OnOk, length, slice_get, ◌++◌, [], ◌∷◌};
-ghost use Rattle.mg_screen.specs.declared.size.TheConstants.{MAX_ROWS};
+ghost use Rattle.mg_screen.specs.Size.{most_rows};
 ghost use Rattle.mg_screen.specs.Layout.{all_shown, window, FillsRows};
 ghost use Rattle.mg_buffer.specs.OpenState.{OpenState};
 ghost use Rattle.mg_workspace.specs.Viewports.{ShowThese};
@@ -82,7 +82,7 @@ fn pane<'a, S: TextStore>(
     height: usize,
 ) -> Result<Pane<'a>, FrameFault>
     requires height_from { 1 ≤ height }
-    requires height_to { height ≤ MAX_ROWS }
+    requires height_to { height ≤ most_rows }
     ensures { IfOk result (λ p. p ≡ spec.pane_over (Some opened.now) (window height shown)) }
 {
     let (Some(view), Some(line)) = (opened.buffer.view(memo), opened.buffer.line()) else {
@@ -113,7 +113,7 @@ fn placed_pane<'a, S: TextStore>(
 ) -> Result<Pane<'a>, FrameFault>
     requires shown { ShowThese (length buffers.now.all) windows.now.windows }
     requires within { index < length windows.now.windows }
-    requires on_screen { (rows : ℕ) × FillsRows rows windows.now × (rows ≤ MAX_ROWS) }
+    requires on_screen { (rows : ℕ) × FillsRows rows windows.now × (rows ≤ most_rows) }
     ensures { let bs = buffers.now.all in
         let panes = spec.panes_of bs (spec.placed_windows bs windows.now) in
         IfOk result (λ p. slice_get panes index ≡ Some p) }
@@ -139,7 +139,7 @@ fn placed_panes<'a, S: TextStore>(
     memo: &'a Memo,
 ) -> Result<Vec<Pane<'a>>, FrameFault>
     requires shown { ShowThese (length buffers.now.all) windows.now.windows }
-    requires on_screen { (rows : ℕ) × FillsRows rows windows.now × (rows ≤ MAX_ROWS) }
+    requires on_screen { (rows : ℕ) × FillsRows rows windows.now × (rows ≤ most_rows) }
     ensures { let bs = buffers.now.all in
         let panes = spec.panes_of bs (spec.placed_windows bs windows.now) in
         IfOk result (λ ps. ps.items ≡ panes) }
@@ -163,7 +163,7 @@ impl<S: TextStore> Workspace<S> {
     /// The rows of the screen, which the windows and the echo line fill.
     pub fn rows(&self) -> usize
         ensures filled { FillsRows result self.now.windows }
-        ensures rows_to { result ≤ MAX_ROWS }
+        ensures rows_to { result ≤ most_rows }
     {
         self.windows.rows()
     }
@@ -188,7 +188,7 @@ impl<S: TextStore> Workspace<S> {
     /// The windows as they are shown once they are placed. `Memory`, also where one of the buffers
     /// is not listed.
     pub fn panes<'a>(&'a self, alloc: Global) -> Result<Vec<Pane<'a>>, FrameFault>
-        requires on_screen { (rows : ℕ) × FillsRows rows self.now.windows × (rows ≤ MAX_ROWS) }
+        requires on_screen { (rows : ℕ) × FillsRows rows self.now.windows × (rows ≤ most_rows) }
         ensures { IfOk result (λ ps. ps.items ≡ spec.work_panes (spec.placed_work self.now)) }
     {
         placed_panes(alloc, &self.windows, &self.buffers, &self.memo)

@@ -1,6 +1,6 @@
 //! What is worked on: the buffers, what commands leave for the next one, and the windows.
 ghost use Rattle.std.specs.Prelude.{◌≡◌, ◌≤◌, IfOk, IfErr, IfSome};
-ghost use Rattle.mg_screen.specs.declared.size.TheConstants.{MIN_COLUMNS, MAX_COLUMNS};
+ghost use Rattle.mg_screen.specs.Size.{least_columns, most_columns};
 ghost use Rattle.mg_workspace.specs.Failures.{first_standing};
 ghost use Rattle.mg_workspace.specs.Opening.{workspace};
 ghost use Rattle.mg_workspace.specs.Workspaces as spec;
@@ -49,7 +49,7 @@ const BEGINNING: Viewport = Viewport {
 
 impl<S: TextStore> Model for Workspace<S> {
     ghost use Rattle.std.specs.Prelude.{◌≤◌};
-    ghost use Rattle.mg_screen.specs.declared.size.TheConstants.{MIN_COLUMNS, MAX_COLUMNS};
+    ghost use Rattle.mg_screen.specs.Size.{least_columns, most_columns};
     ghost use Rattle.mg_workspace.specs.Workspaces as spec;
     ghost use Rattle.std.specs.Coded.{codes};
     ghost use Rattle.mg_buffer.specs.OpenState.{open_state_code};
@@ -74,7 +74,7 @@ impl<S: TextStore> Model for Workspace<S> {
     } };
 
     ghost invariant = { λ w.
-        (MIN_COLUMNS ≤ w.columns) × (w.columns ≤ MAX_COLUMNS) × AreShown w.buffers w.windows };
+        (least_columns ≤ w.columns) × (w.columns ≤ most_columns) × AreShown w.buffers w.windows };
 }
 
 impl<S: TextStore> Workspace<S> {
@@ -170,8 +170,8 @@ impl<S: TextStore> Workspace<S> {
     /// The columns of the screen.
     pub fn columns(&self) -> usize
         ensures exact { result ≡ self.now.columns }
-        ensures from { MIN_COLUMNS ≤ result }
-        ensures to { result ≤ MAX_COLUMNS }
+        ensures from { least_columns ≤ result }
+        ensures to { result ≤ most_columns }
     {
         self.columns
     }

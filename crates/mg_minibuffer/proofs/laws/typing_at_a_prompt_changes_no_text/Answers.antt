@@ -12,7 +12,6 @@ use Rattle.mg_plain.specs.Matches.{first_match, last_match}
 use Rattle.mg_plain.specs.Situation.{Situation}
 use Rattle.mg_keys.specs.declared.step.Step.{Step}
 use Rattle.mg_keys.specs.declared.step.Step.TheVariants as step
-use Rattle.mg_minibuffer.specs.declared.answers.TheConstants.{MAX_ANSWER}
 use Rattle.mg_minibuffer.specs.declared.ending.Action.{Action}
 use Rattle.mg_minibuffer.specs.declared.ending.Action.TheVariants as action
 use Rattle.mg_minibuffer.specs.declared.ending.Next.TheVariants.{Same, Open}
@@ -25,7 +24,7 @@ use Rattle.mg_minibuffer.specs.declared.prompt.Search.{Search}
 use Rattle.mg_minibuffer.specs.PromptStep.{prompt_step}
 use Rattle.mg_minibuffer.specs.Scenes.{Scene}
 use Rattle.mg_minibuffer.specs.SearchStep.{command_of, sought, goes_to, seek, failed, returns as goes_back, shorter, first_start, from_match, past_match, turned_search, with_pattern}
-use Rattle.mg_minibuffer.specs.Typing.{is_typing}
+use Rattle.mg_minibuffer.specs.Typing.{is_typing, longest_answer}
 use Rattle.mg_minibuffer.proofs.laws.typing_at_a_prompt_changes_no_text.Goals as goal
 
 -- ---- a search moves point alone
@@ -95,7 +94,7 @@ typing_moves (Replacement pattern answer) step.Rub scene last typing = nothing
 typing_moves (Replacement pattern answer) step.Next scene last typing = end
 typing_moves (Replacement pattern answer) step.Prev scene last typing = end
 typing_moves (Searching s) (step.Text c) scene last typing =
-    by_choice (nat_lt (length s.pattern) MAX_ANSWER) _ _ (sought_moves scene.text (with_pattern s (s.pattern ++ c ∷ [])) (from_match s) (failed Same) nothing) nothing
+    by_choice (nat_lt (length s.pattern) longest_answer) _ _ (sought_moves scene.text (with_pattern s (s.pattern ++ c ∷ [])) (from_match s) (failed Same) nothing) nothing
 typing_moves (Searching s) step.Rub scene last typing =
     sought_moves scene.text (shorter s) (first_start (shorter s)) (goes_back s.origin (Open (Searching (shorter s))) message.Nothing) (searched Forward [] s.origin)
 typing_moves (Searching s) step.Next scene last typing =

@@ -1,5 +1,5 @@
 use Rattle.std.proofs.Common.{rules, ◌≤◌, sym, ap, subst}
-use Rattle.mg_screen.specs.declared.size.TheConstants.{MAX_ROWS}
+use Rattle.mg_screen.specs.Size.{most_rows}
 use Rattle.mg_screen.specs.Layout.{FillsRows}
 use Rattle.mg_screen.specs.Screen.{Screen}
 use Rattle.mg_editor.proofs.FrameLaws.{screen_filled, rows_from}
@@ -17,7 +17,7 @@ pub cursor_in-requires-clause-rows_to : goal.cursor_in-requires-clause-rows_to
 cursor_in-requires-clause-rows_to g c =
     let work = c.args.self.now.work in
     let whole = screen_filled work.buffers.all work.windows c.rows-rows.result c.in_ok-screen.screen (ap (λ (s : Screen). s.panes) c.in_ok-screen.ensures) (search rules) in
-    subst (λ n. n ≤ MAX_ROWS) (sym whole) c.rows-rows.ensures.rows_to
+    subst (λ n. n ≤ most_rows) (sym whole) c.rows-rows.ensures.rows_to
 
 pub cursor_in-requires-clause-shown : goal.cursor_in-requires-clause-shown
 cursor_in-requires-clause-shown g c =
